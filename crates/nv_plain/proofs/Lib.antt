@@ -1,0 +1,3 @@
+pub mod FileLemmas
+pub mod HistoryLemmas
+pub mod PieceLemmas

@@ -1,0 +1,9 @@
+pub mod Files
+pub mod Calls
+pub mod Histories
+pub mod Pieces
+pub mod Layouts
+pub mod Images
+pub mod Recovered
+pub mod Faults
+pub mod Names

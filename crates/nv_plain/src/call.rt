@@ -1,0 +1,28 @@
+use crate::Bytes;
+
+/// A call on a file, by the file's number, which counts from 0. Offsets and lengths are in bytes,
+/// and no call reaches a byte at or above `2^60`.
+#[derive(Debug, Drop)]
+pub enum FileCall {
+    /// `pread` (POSIX.1-2017, read): up to `len` bytes from `at` on, fewer where the file ends before,
+    /// and none at or past its end.
+    Read { file: u64, at: u64, len: u64 },
+    /// `pwrite` (POSIX.1-2017, write): all of the bytes go to `at` and on. Where `at` is past the end
+    /// of the file, the gap reads as zeros (POSIX.1-2017, lseek). No bytes change nothing.
+    Write { file: u64, at: u64, bytes: Bytes },
+    /// `fsync` (POSIX.1-2017, fsync): what was written to the file is kept from then on. The bytes that
+    /// the file has stay as they are.
+    Sync { file: u64 },
+}
+
+/// What a call is answered. None of the calls fails on plain files: an error, as of memory, stands beside
+/// the reply, and not in it.
+#[derive(Debug, Drop)]
+pub enum Reply {
+    /// The bytes that a read gives: as many as it asked for, or those up to the end of the file.
+    Bytes(Bytes),
+    /// How many bytes a write wrote, which is all of them.
+    Count(u64),
+    /// A sync is done.
+    Done,
+}

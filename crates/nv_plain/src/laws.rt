@@ -1,0 +1,14 @@
+ghost use Rattle.nv_plain.specs.Histories.{GoesOnFrom, GoesOnLegally};
+ghost use Rattle.nv_plain.specs.Pieces.{WriteIsItsPieces};
+
+/// A write is the same as its pieces, one after another.
+pub fn write_is_its_pieces()
+    ensures { WriteIsItsPieces }
+{}
+
+/// A legal history goes on by one call: the files after it are those that the call leaves, and it is
+/// legal just where the call's reply is the right one on the files before.
+pub fn history_goes_on()
+    ensures files { GoesOnFrom }
+    ensures legal { GoesOnLegally }
+{}

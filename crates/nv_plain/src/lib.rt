@@ -1,0 +1,18 @@
+//! Plain files: what the calls of a file mean, and what the regions of NVCache stand for.
+#![tactic(auto)]
+
+mod bytes;
+mod call;
+mod laws;
+mod memory;
+mod name;
+mod plain_files;
+#[cfg(test)]
+mod tests;
+
+pub use bytes::Bytes;
+pub use call::{FileCall, Reply};
+pub use laws::{history_goes_on, write_is_its_pieces};
+pub use memory::NoMemory;
+pub use name::is_file_name;
+pub use plain_files::PlainFiles;
