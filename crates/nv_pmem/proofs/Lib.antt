@@ -1,0 +1,4 @@
+pub mod LineLaws
+pub mod Rooms
+pub mod Runs
+pub mod StepLaws

@@ -1,0 +1,91 @@
+ghost use Rattle.std.specs.Prelude.{◌≡◌, ℕ, ◌<◌, ◌≤◌, [], ◌∷◌, length, IfOk, OnOk};
+ghost use Rattle.nv_plain.specs.Faults.{HasCause};
+ghost use Rattle.nv_pmem.specs.Part.{Part, word_of};
+ghost use Rattle.nv_pmem.specs.Steps.{Store, Flush, Fence, History, Did, DidSome, Tells, line_stores};
+ghost use Rattle.nv_pmem.specs.Room.{Room, Keeps, Takes, Frees};
+
+use thiserror::Error;
+
+/// A call of a part failed. The part is as it was, or as if the call had gone well; after `store_line` some of
+/// the line's words may be stored.
+#[derive(Clone, Copy, Debug, PartialEq, Eq, Error)]
+#[error("a line of persistent memory failed")]
+pub struct LineFault;
+
+/// A part of persistent memory: lines of 64 bytes, eight words of 8 bytes each, little-endian. After a power
+/// failure a line holds one of the contents that it had since the one last made durable, that one included.
+/// No call takes memory.
+pub trait Lines {
+    /// Which device this is. No call changes it.
+    ghost device: { Self → ℕ };
+
+    /// The states that it has had, the present one first; empty where it doesn't tell.
+    ghost history: { Self → History };
+
+    /// How many lines it has, and how many more contents each can take.
+    ghost room: { Self → Room };
+
+    /// How often it has failed. The count stands still at 2^64 - 1.
+    ghost fault_count: { Self → ℕ };
+
+    /// The number of lines.
+    fn lines(&self) -> u64
+        ensures { result ≡ (room self.now).lines };
+
+    /// The value of a word.
+    fn load(&mut self, line: u64, word: u64) -> Result<u64, LineFault>
+        requires line { line < (room self.old).lines }
+        requires word { word < 8 }
+        ensures value { IfOk result (λ value. Tells (history self.old) (λ part. value ≡ word_of part line word)) }
+        ensures history { history self.new ≡ history self.old }
+        ensures room { Keeps (room self.old) (room self.new) }
+        ensures cause { HasCause (fault_count self.old) (fault_count self.new) result }
+        ensures device { device self.new ≡ device self.old };
+
+    /// Stores a word. The line can take one content less.
+    fn store(&mut self, line: u64, word: u64, value: u64) -> Result<(), LineFault>
+        requires line { line < (room self.old).lines }
+        requires word { word < 8 }
+        requires spare { 1 ≤ (room self.old).spare line }
+        ensures begun { DidSome (Store line word value ∷ []) (history self.old) (history self.new) }
+        ensures done { OnOk result (Did (Store line word value ∷ []) (history self.old) (history self.new)) }
+        ensures room { Takes 1 line (room self.old) (room self.new) }
+        ensures cause { HasCause (fault_count self.old) (fault_count self.new) result }
+        ensures device { device self.new ≡ device self.old };
+
+    /// Stores the eight words of a line, rising. The line can take eight contents less.
+    fn store_line(&mut self, line: u64, bytes: &[u8; 64]) -> Result<(), LineFault>
+        requires line { line < (room self.old).lines }
+        requires spare { 8 ≤ (room self.old).spare line }
+        ensures begun { DidSome (line_stores line bytes.now) (history self.old) (history self.new) }
+        ensures done { OnOk result (Did (line_stores line bytes.now) (history self.old) (history self.new)) }
+        ensures room { Takes 8 line (room self.old) (room self.new) }
+        ensures cause { HasCause (fault_count self.old) (fault_count self.new) result }
+        ensures device { device self.new ≡ device self.old };
+
+    /// Flushes a line: the next fence makes its content of now the oldest that it may have.
+    fn flush(&mut self, line: u64) -> Result<(), LineFault>
+        requires line { line < (room self.old).lines }
+        ensures begun { DidSome (Flush line ∷ []) (history self.old) (history self.new) }
+        ensures done { OnOk result (Did (Flush line ∷ []) (history self.old) (history self.new)) }
+        ensures room { Keeps (room self.old) (room self.new) }
+        ensures flushed { OnOk result (15 ≤ (room self.new).after_fence line) }
+        ensures cause { HasCause (fault_count self.old) (fault_count self.new) result }
+        ensures device { device self.new ≡ device self.old };
+
+    /// Makes the flushed contents durable.
+    fn fence(&mut self) -> Result<(), LineFault>
+        ensures begun { DidSome (Fence ∷ []) (history self.old) (history self.new) }
+        ensures done { OnOk result (Did (Fence ∷ []) (history self.old) (history self.new)) }
+        ensures room { Keeps (room self.old) (room self.new) }
+        ensures freed { OnOk result (Frees (room self.old) (room self.new)) }
+        ensures cause { HasCause (fault_count self.old) (fault_count self.new) result }
+        ensures device { device self.new ≡ device self.old };
+
+    /// How often it has failed; at most 2^64 - 1.
+    fn faults(&self) -> u64
+        ensures { result ≡ fault_count self.now };
+
+    /// The present state has the part's lines.
+    ghost told_lines: { (p : Self) (now : Part) (past : History) → history p ≡ now ∷ past → length now ≡ (room p).lines };
+}

@@ -1,0 +1,84 @@
+ghost use Rattle.std.specs.Prelude.{◌≡◌, ◌<◌, length};
+ghost use Rattle.nv_pmem.specs.Part.{blank_line, newest, word_at, stored, flushed, fenced};
+
+use arrayvec::ArrayVec;
+use std::marker::Model;
+
+/// How many contents a line can have had since its oldest.
+const LATER_CONTENTS: usize = 15;
+
+/// A line in memory. Contracts see it as the line that it is.
+#[derive(Drop)]
+pub(crate) struct MemLine {
+    oldest: [u64; 8],
+    later: ArrayVec<[u64; 8], LATER_CONTENTS>,
+    flushed: Option<usize>,
+}
+
+impl Model for MemLine {
+    ghost use Rattle.std.specs.Prelude.{◌≤◌, length, IfSome};
+    ghost use Rattle.nv_pmem.specs.Part.{Line};
+
+    ghost Value = { Line };
+
+    ghost view = { λ l. record { oldest = l.oldest; later = l.later.items; flushed = l.flushed } };
+
+    ghost invariant = { λ l. IfSome l.flushed (λ count. count ≤ length l.later.items) };
+}
+
+impl MemLine {
+    pub(crate) fn blank() -> Self
+        ensures { result ≡ blank_line }
+    {
+        MemLine {
+            oldest: [0; 8],
+            later: ArrayVec::new(),
+            flushed: None,
+        }
+    }
+
+    #[tactic(auto, unfolding(crate::specs::Part::newest))]
+    fn newest(&self) -> [u64; 8]
+        ensures { result ≡ newest self.now }
+    {
+        self.later.last().copied().unwrap_or(self.oldest)
+    }
+
+    #[tactic(auto, unfolding(crate::specs::Part::word_at))]
+    pub(crate) fn load(&self, word: usize) -> u64
+        requires { word < 8 }
+        ensures { result ≡ word_at (newest self.now) word }
+    {
+        self.newest()[word]
+    }
+
+    #[tactic(auto, unfolding(crate::specs::Part::stored, crate::specs::Part::with_word))]
+    pub(crate) fn store(&mut self, word: usize, value: u64)
+        requires word { word < 8 }
+        requires spare { length self.old.later < 15 }
+        ensures { self.new ≡ stored word value self.old }
+    {
+        let mut content = self.newest();
+        content[word] = value;
+        self.later.push(content);
+    }
+
+    #[tactic(auto, unfolding(crate::specs::Part::flushed))]
+    pub(crate) fn flush(&mut self)
+        ensures { self.new ≡ flushed self.old }
+    {
+        self.flushed = Some(self.later.len());
+    }
+
+    #[tactic(auto, unfolding(crate::specs::Part::fenced, crate::specs::Part::fenced_at))]
+    pub(crate) fn fence(&mut self)
+        ensures { self.new ≡ fenced self.old }
+    {
+        if let Some(count) = self.flushed.take() {
+            if let Some(content) = self.later[..count].last() {
+                self.oldest = *content;
+            }
+            drop(self.later.drain(..count));
+        }
+    }
+}

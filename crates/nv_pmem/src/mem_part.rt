@@ -1,0 +1,132 @@
+ghost use Rattle.std.specs.Prelude.{◌≡◌, ◌<◌, ◌≤◌, [], ◌∷◌, IfOk, OnOk, OnErr};
+ghost use Rattle.nv_plain.specs.Faults.{HasCause};
+ghost use Rattle.nv_pmem.specs.Steps.{Store, Flush, Fence, Did, DidSome, line_stores};
+ghost use Rattle.nv_pmem.specs.Room.{Keeps, Takes, Frees};
+
+use crate::health::Health;
+use crate::told::Told;
+use crate::{Fuse, LineFault, Lines};
+use nv_plain::NoMemory;
+use std::alloc::Global;
+
+/// A part in memory. Its contents end with it; it is for trying out what stands on `Lines`.
+#[derive(Drop)]
+pub struct MemPart {
+    told: Told,
+    health: Health,
+}
+
+impl MemPart {
+    ghost use Rattle.nv_pmem.specs.MemPart.{IsBlank};
+
+    /// A part of so many lines of zeros, durable, whose calls all go well. It takes about 1,050 bytes a line.
+    pub fn new(alloc: Global, lines: u64) -> Result<Self, NoMemory>
+        ensures { IfOk result (IsBlank lines) }
+    {
+        Self::blank(alloc, lines, None)
+    }
+
+    /// As `new`, but the calls that the fuse counts out fail. Each call of `Lines` but `lines` and `faults` counts
+    /// as one, and one that fails leaves the part as it was.
+    pub fn fused(alloc: Global, lines: u64, fuse: Fuse) -> Result<Self, NoMemory>
+        ensures { IfOk result (IsBlank lines) }
+    {
+        Self::blank(alloc, lines, Some(fuse))
+    }
+
+    fn blank(alloc: Global, lines: u64, fuse: Option<Fuse>) -> Result<Self, NoMemory>
+        ensures { IfOk result (IsBlank lines) }
+    {
+        Ok(MemPart {
+            told: Told::blank(alloc, lines as usize)?,
+            health: Health::new(fuse),
+        })
+    }
+}
+
+impl Lines for MemPart {
+    ghost use Rattle.nv_pmem.specs.MemPart.{part_device, part_history, part_room, part_faults, part_told_lines};
+
+    ghost device = { part_device };
+
+    ghost history = { part_history };
+
+    ghost room = { part_room };
+
+    ghost fault_count = { part_faults };
+
+    fn lines(&self) -> u64 {
+        self.told.len() as u64
+    }
+
+    fn load(&mut self, line: u64, word: u64) -> Result<u64, LineFault> {
+        self.health.begin()?;
+        Ok(self.told.load(line as usize, word as usize))
+    }
+
+    fn store(&mut self, line: u64, word: u64, value: u64) -> Result<(), LineFault>
+        requires line { line < (part_room self.old).lines }
+        requires word { word < 8 }
+        requires spare { 1 ≤ (part_room self.old).spare line }
+        ensures begun { DidSome (Store line word value ∷ []) (part_history self.old) (part_history self.new) }
+        ensures done { OnOk result (Did (Store line word value ∷ []) (part_history self.old) (part_history self.new)) }
+        ensures refused { OnErr result (part_history self.new ≡ part_history self.old) }
+        ensures room { Takes 1 line (part_room self.old) (part_room self.new) }
+        ensures cause { HasCause (part_faults self.old) (part_faults self.new) result }
+        ensures device { part_device self.new ≡ part_device self.old }
+    {
+        self.health.begin()?;
+        self.told.store(line as usize, word as usize, value);
+        Ok(())
+    }
+
+    fn store_line(&mut self, line: u64, bytes: &[u8; 64]) -> Result<(), LineFault>
+        requires line { line < (part_room self.old).lines }
+        requires spare { 8 ≤ (part_room self.old).spare line }
+        ensures begun { DidSome (line_stores line bytes.now) (part_history self.old) (part_history self.new) }
+        ensures done { OnOk result (Did (line_stores line bytes.now) (part_history self.old) (part_history self.new)) }
+        ensures refused { OnErr result (part_history self.new ≡ part_history self.old) }
+        ensures room { Takes 8 line (part_room self.old) (part_room self.new) }
+        ensures cause { HasCause (part_faults self.old) (part_faults self.new) result }
+        ensures device { part_device self.new ≡ part_device self.old }
+    {
+        self.health.begin()?;
+        self.told.store_line(line as usize, bytes);
+        Ok(())
+    }
+
+    fn flush(&mut self, line: u64) -> Result<(), LineFault>
+        requires line { line < (part_room self.old).lines }
+        ensures begun { DidSome (Flush line ∷ []) (part_history self.old) (part_history self.new) }
+        ensures done { OnOk result (Did (Flush line ∷ []) (part_history self.old) (part_history self.new)) }
+        ensures refused { OnErr result (part_history self.new ≡ part_history self.old) }
+        ensures room { Keeps (part_room self.old) (part_room self.new) }
+        ensures flushed { OnOk result (15 ≤ (part_room self.new).after_fence line) }
+        ensures cause { HasCause (part_faults self.old) (part_faults self.new) result }
+        ensures device { part_device self.new ≡ part_device self.old }
+    {
+        self.health.begin()?;
+        self.told.flush(line as usize);
+        Ok(())
+    }
+
+    fn fence(&mut self) -> Result<(), LineFault>
+        ensures begun { DidSome (Fence ∷ []) (part_history self.old) (part_history self.new) }
+        ensures done { OnOk result (Did (Fence ∷ []) (part_history self.old) (part_history self.new)) }
+        ensures refused { OnErr result (part_history self.new ≡ part_history self.old) }
+        ensures room { Keeps (part_room self.old) (part_room self.new) }
+        ensures freed { OnOk result (Frees (part_room self.old) (part_room self.new)) }
+        ensures cause { HasCause (part_faults self.old) (part_faults self.new) result }
+        ensures device { part_device self.new ≡ part_device self.old }
+    {
+        self.health.begin()?;
+        self.told.fence();
+        Ok(())
+    }
+
+    fn faults(&self) -> u64 {
+        self.health.faults()
+    }
+
+    ghost told_lines = { part_told_lines };
+}

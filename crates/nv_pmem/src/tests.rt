@@ -1,0 +1,95 @@
+use crate::{BadGeometry, Fuse, Geometry, GeometryField, LineFault, Lines, MemPart};
+use nv_plain::NoMemory;
+use std::array;
+
+fn may_cross_threads<T: Send>(_part: &T) -> bool {
+    true
+}
+
+#[test]
+fn a_word_is_stored_and_made_durable(rt: HostRuntime) -> Result<(), NoMemory> {
+    let mut part = MemPart::new(rt.alloc(), 4)?;
+    assert!(rt; may_cross_threads(&part));
+    assert_eq!(rt; part.lines(), 4);
+    assert_eq!(rt; part.load(3, 7), Ok(0));
+    assert_eq!(rt; part.store(3, 7, 9), Ok(()));
+    assert_eq!(rt; part.load(3, 7), Ok(9));
+    assert_eq!(rt; part.flush(3), Ok(()));
+    assert_eq!(rt; part.fence(), Ok(()));
+    assert_eq!(rt; part.load(3, 7), Ok(9));
+    assert_eq!(rt; part.load(3, 6), Ok(0));
+    assert_eq!(rt; part.faults(), 0);
+    Ok(())
+}
+
+#[test]
+fn a_line_is_stored_little_endian(rt: HostRuntime) -> Result<(), NoMemory> {
+    let bytes: [u8; 64] = array::from_fn(|i| (i % 64) as u8);
+    let words = [
+        0x0706_0504_0302_0100,
+        0x0f0e_0d0c_0b0a_0908,
+        0x1716_1514_1312_1110,
+        0x1f1e_1d1c_1b1a_1918,
+        0x2726_2524_2322_2120,
+        0x2f2e_2d2c_2b2a_2928,
+        0x3736_3534_3332_3130,
+        0x3f3e_3d3c_3b3a_3938,
+    ];
+    let mut part = MemPart::new(rt.alloc(), 2)?;
+    assert_eq!(rt; part.store_line(1, &bytes), Ok(()));
+    assert_eq!(rt; part.load(1, 0), Ok(words[0]));
+    assert_eq!(rt; part.load(1, 1), Ok(words[1]));
+    assert_eq!(rt; part.load(1, 2), Ok(words[2]));
+    assert_eq!(rt; part.load(1, 3), Ok(words[3]));
+    assert_eq!(rt; part.load(1, 4), Ok(words[4]));
+    assert_eq!(rt; part.load(1, 5), Ok(words[5]));
+    assert_eq!(rt; part.load(1, 6), Ok(words[6]));
+    assert_eq!(rt; part.load(1, 7), Ok(words[7]));
+    assert_eq!(rt; part.load(0, 7), Ok(0));
+    Ok(())
+}
+
+#[test]
+fn a_fuse_fails_the_third_call(rt: HostRuntime) -> Result<(), NoMemory> {
+    let fuse = Fuse::new(rt.alloc(), &[3])?;
+    let mut part = MemPart::fused(rt.alloc(), 1, fuse)?;
+    assert_eq!(rt; part.store(0, 0, 5), Ok(()));
+    assert_eq!(rt; part.flush(0), Ok(()));
+    assert_eq!(rt; part.store(0, 0, 6), Err(LineFault));
+    assert_eq!(rt; part.load(0, 0), Ok(5));
+    assert_eq!(rt; part.fence(), Ok(()));
+    assert_eq!(rt; part.faults(), 1);
+    Ok(())
+}
+
+#[test]
+fn copies_of_a_fuse_share_its_count(rt: HostRuntime) -> Result<(), NoMemory> {
+    let fuse = Fuse::new(rt.alloc(), &[3])?;
+    let mut first = MemPart::fused(rt.alloc(), 1, fuse.copy()?)?;
+    let mut second = MemPart::fused(rt.alloc(), 1, fuse)?;
+    assert_eq!(rt; first.load(0, 0), Ok(0));
+    assert_eq!(rt; second.store(0, 0, 1), Ok(()));
+    assert_eq!(rt; first.store(0, 0, 1), Err(LineFault));
+    assert_eq!(rt; second.load(0, 0), Ok(1));
+    assert_eq!(rt; first.load(0, 0), Ok(0));
+    assert_eq!(rt; first.faults(), 1);
+    assert_eq!(rt; second.faults(), 0);
+    Ok(())
+}
+
+#[test]
+fn geometries_are_within_their_limits(rt: HostRuntime) {
+    for (page, entries, bad) in [
+        (64, 2, None),
+        (4096, 1024, None),
+        (63, 2, Some((GeometryField::Page, 63))),
+        (96, 16, Some((GeometryField::Page, 96))),
+        (4160, 1, Some((GeometryField::Page, 4160))),
+        (64, 1, Some((GeometryField::Entries, 1))),
+        (64, 1025, Some((GeometryField::Entries, 1025))),
+    ] {
+        let found = Geometry::new(page, entries).err();
+        let bad = bad.map(|(field, found)| BadGeometry { field, found });
+        assert_eq!(rt; found, bad, "at {page}, {entries}");
+    }
+}

@@ -1,0 +1,100 @@
+ghost use Rattle.std.specs.Prelude.{◌≡◌, ◌<◌, ◌≤◌, [], ◌∷◌, replicate, IfOk};
+ghost use Rattle.nv_pmem.specs.Part.{blank_line, word_of};
+ghost use Rattle.nv_pmem.specs.Room.{Keeps, Takes, Frees};
+ghost use Rattle.nv_pmem.specs.Steps.{Store, Flush, Fence, grown, grown_by, line_stores, word_in};
+
+use crate::mem_line::MemLine;
+use crate::past::Past;
+use nv_plain::NoMemory;
+use std::alloc::Global;
+
+/// Lines in memory, and the states that they have had.
+#[derive(Drop)]
+pub(crate) struct Told {
+    lines: Vec<MemLine>,
+    past: Past,
+}
+
+impl Told {
+    ghost use Rattle.nv_pmem.specs.Told.{told_history, told_room};
+
+    pub(crate) fn blank(alloc: Global, count: usize) -> Result<Self, NoMemory>
+        ensures { IfOk result (λ told. told_history told ≡ replicate count blank_line ∷ []) }
+    {
+        let mut lines = Vec::with_capacity(alloc, count)?;
+        for _ in 0..count {
+            lines.push(MemLine::blank())?;
+        }
+        Ok(Told {
+            lines,
+            past: Past::new(),
+        })
+    }
+
+    pub(crate) fn len(&self) -> usize
+        ensures { result ≡ (told_room self.now).lines }
+    {
+        self.lines.len()
+    }
+
+    pub(crate) fn load(&self, line: usize, word: usize) -> u64
+        requires line { line < (told_room self.now).lines }
+        requires word { word < 8 }
+        ensures { result ≡ word_of self.now.lines.items line word }
+    {
+        self.lines[line].load(word)
+    }
+
+    pub(crate) fn store(&mut self, line: usize, word: usize, value: u64)
+        requires line { line < (told_room self.old).lines }
+        requires word { word < 8 }
+        requires spare { 1 ≤ (told_room self.old).spare line }
+        ensures history { told_history self.new ≡ grown (Store line word value) (told_history self.old) }
+        ensures room { Takes 1 line (told_room self.old) (told_room self.new) }
+    {
+        self.past.note(&self.lines);
+        self.lines[line].store(word, value);
+    }
+
+    /// Stores a line's words, rising.
+    pub(crate) fn store_line(&mut self, line: usize, bytes: &[u8; 64])
+        requires line { line < (told_room self.old).lines }
+        requires spare { 8 ≤ (told_room self.old).spare line }
+        ensures history { told_history self.new ≡ grown_by (line_stores line bytes.now) (told_history self.old) }
+        ensures room { Takes 8 line (told_room self.old) (told_room self.new) }
+    {
+        for word in 0..8 {
+            self.store(line, word, word_of_bytes(bytes, word));
+        }
+    }
+
+    pub(crate) fn flush(&mut self, line: usize)
+        requires { line < (told_room self.old).lines }
+        ensures history { told_history self.new ≡ grown (Flush line) (told_history self.old) }
+        ensures room { Keeps (told_room self.old) (told_room self.new) }
+        ensures flushed { 15 ≤ (told_room self.new).after_fence line }
+    {
+        self.past.note(&self.lines);
+        self.lines[line].flush();
+    }
+
+    pub(crate) fn fence(&mut self)
+        ensures history { told_history self.new ≡ grown Fence (told_history self.old) }
+        ensures room { Keeps (told_room self.old) (told_room self.new) }
+        ensures freed { Frees (told_room self.old) (told_room self.new) }
+    {
+        self.past.note(&self.lines);
+        for line in self.lines.iter_mut() {
+            line.fence();
+        }
+    }
+}
+
+fn word_of_bytes(bytes: &[u8; 64], word: usize) -> u64
+    requires { word < 8 }
+    ensures { result ≡ word_in bytes.now word }
+{
+    let mut little_endian = [0; 8];
+    little_endian.copy_from_slice(&bytes[8 * word..][..8]);
+    u64::from_le_bytes(little_endian)
+}
