@@ -1,0 +1,5 @@
+pub mod Ranges
+pub mod Data
+pub mod LoneGroup
+pub mod Rooms
+pub mod Filling

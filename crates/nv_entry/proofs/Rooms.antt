@@ -1,0 +1,39 @@
+-- Room after the steps of an entry.
+use Rattle.std.proofs.Common.{◌≡◌, ℕ, ◌+◌, ◌-◌, ◌≤◌, inl, inr, subst, sym, ◌∙◌, arith}
+use Rattle.std.proofs.lemmas.Bool.{cases_eq, cases_lt}
+use Rattle.nv_pmem.specs.Room.{Room, Keeps, Takes}
+use Rattle.nv_entry.specs.Ready.{WritesLines, FencesHead, StaysReady}
+
+-- one data line more
+pub writes_lines_more : {old between new : Room} (k : ℕ) → WritesLines k old between → Takes 8 (1 + k) between new → 15 ≤ new.after_fence (1 + k) → WritesLines (k + 1) old new
+writes_lines_more {old} {between} {new} k before line flushed = record {
+  written = λ j below. elim (cases_eq j k) [
+    | inl same ↦ let At : ℕ → Type 0 = λ i. 15 ≤ new.after_fence (1 + i) in subst At (sym same) flushed
+    | inr differs ↦ omega (arith, before.written j (omega arith), line.other_after_fence (1 + j) (omega arith))
+  ];
+  head = omega (arith, before.head, line.other_spare 0 (omega arith));
+  rest = λ other above. omega (arith, before.rest other (omega arith), line.other_spare other (omega arith));
+}
+
+-- the data lines written, the head fenced with them, and the commit word
+pub stays_ready : {old written fenced new : Room} (count : ℕ) → WritesLines count old written → FencesHead written fenced → FencesHead fenced new → StaysReady old new
+stays_ready {old} {written} {fenced} {new} count lines head commit = record {
+  spare = λ line ready. elim (cases_eq line 0) [
+    | inl first ↦ let At : ℕ → Type 0 = λ i. 15 ≤ new.spare i in subst At (sym first) commit.head
+    | inr differs ↦ elim (cases_lt count line) [
+      | inl above ↦ omega (arith, ready, lines.rest line above, head.rest line differs, commit.rest line differs)
+      | inr below ↦
+          let index : 1 + (line - 1) ≡ line = omega arith in
+          let At : ℕ → Type 0 = λ i. 15 ≤ written.after_fence i in
+          omega (arith, subst At index (lines.written (line - 1) (omega arith)), head.freed line differs, commit.rest line differs)
+    ]
+  ];
+}
+
+-- what is kept twice is kept
+pub keeps_keeps : {old between new : Room} → Keeps old between → Keeps between new → Keeps old new
+keeps_keeps first next = record {
+  lines = next.lines ∙ first.lines;
+  spare = λ line. omega (arith, first.spare line, next.spare line);
+  after_fence = λ line. omega (arith, first.after_fence line, next.after_fence line);
+}

@@ -1,0 +1,21 @@
+use Rattle.std.proofs.Common.{◌≡◌, ◌*◌, length, ap, subst, ◌∙◌, arith}
+use Rattle.nv_pmem.specs.Part.{word_of}
+use Rattle.nv_pmem.specs.Steps.{History, Tells}
+use Rattle.nv_entry.proofs.Filling.{length-put_mid, told_word_put}
+use Rattle.nv_entry.proofs.Rooms.{keeps_keeps}
+use Rattle.nv_entry.proofs.piece.load_line.Goals as goal
+
+pub loop-word-preserved : goal.loop-word-preserved
+loop-word-preserved g c =
+    let copy = c.copy_from_slice.ensures.after ∙ c.to_le_bytes.ensures in
+    let Loaded : History → Type 0 = λ history. Tells history (λ now. c.in_ok-value.value ≡ word_of now c.args.line c.loop-word.word) in
+    record {
+      size = length-put_mid (8 * c.loop-word.word) _ c.loop-word.bytes c.copy_from_slice.new.self (omega arith) (omega (arith, ap length copy)) ∙ c.loop-word.invariant.size;
+      loaded =
+          told_word_put (g.L.Lines.history c.args.part.now) c.args.line c.loop-word.word c.in_ok-value.value c.loop-word.bytes c.copy_from_slice.new.self
+          _ (omega arith) copy c.loop-word.invariant.loaded (subst Loaded c.loop-word.invariant.history c.in_ok-value.ensures.value);
+      history = c.in_ok-value.ensures.history ∙ c.loop-word.invariant.history;
+      room = keeps_keeps c.loop-word.invariant.room c.in_ok-value.ensures.room;
+      faults = c.in_ok-value.ensures.cause ∙ c.loop-word.invariant.faults;
+      device = c.in_ok-value.ensures.device ∙ c.loop-word.invariant.device;
+    }

@@ -1,0 +1,37 @@
+//! Log entries in persistent memory: a write is cut into pieces, its pieces are committed as a group, and an entry
+//! is read again.
+//!
+//! # An entry
+//!
+//! Each entry of the log has a part of its own: lines of 64 bytes, eight little-endian words of 8 bytes each. Line 0
+//! holds the commit word and five fields, and the lines from 1 on a page of data.
+//!
+//! | Word of line 0 | What it holds |
+//! |---|---|
+//! | 0 | the commit word: the entry's number and one, where that entry is committed |
+//! | 1 | the file's number |
+//! | 2 | where the bytes go in the file |
+//! | 3 | how many bytes there are |
+//! | 4 | how many entries the group has; 0 in a follower |
+//! | 5 | the number of the group's leader, its first entry |
+//!
+//! # A commit
+//!
+//! A write's pieces are a group, whose leader's commit word makes all of them count at once. So everything else is
+//! durable before that word is stored: each data line is stored and flushed, the fields are stored and flushed, and a
+//! fence makes both durable. Only then is the commit word stored, flushed and fenced, by itself. The contract of
+//! [`commit_group`] has these very device calls in their order, so what a power failure leaves follows from it.
+//!
+//! Groups of one entry are written so far.
+#![tactic(auto)]
+
+mod group;
+mod piece;
+mod span;
+
+pub use group::{RegionFault, commit_group, committed};
+pub use piece::{PieceHead, read_piece};
+pub use span::{Span, cut, piece_count};
+
+#[cfg(test)]
+mod tests;
