@@ -1,0 +1,22 @@
+use Rattle.std.proofs.Common.{◌+◌, [], ◌∙◌, sym, ap}
+use Rattle.std.specs.Option.{option_map_or}
+use Rattle.std.proofs.lemmas.Result.{err_from_is_err_and}
+use Rattle.nv_trace.specs.Reading.{Bad, after_line}
+use Rattle.nv_trace.specs.Pending.{ending_after}
+use Rattle.nv_trace.proofs.Endings.{line_ended}
+use Rattle.nv_trace.proofs.Refusals.{bad_line}
+use Rattle.nv_trace.proofs.reader.LineReader.end_line.Goals as goal
+
+pub returns-in_err-read_line-clause-bad : goal.returns-in_err-read_line-clause-bad
+returns-in_err-read_line-clause-bad c =
+    let p = err_from_is_err_and c.from_residual.result c.from_residual.ensures.1 in
+    rw (p.1, p.2) (bad_line c.args.self.now c.in_err-read_line.field-0.0 (rw c.deref.ensures.value at c.in_err-read_line.ensures.bad))
+
+pub returns-clause-goes_on : goal.returns-clause-goes_on
+returns-clause-goes_on c =
+    let reader = c.args.self.now in
+    let read = ap (after_line reader.trace reader.number) (sym c.deref.ensures.value) ∙ c.in_ok-read_line.ensures.read in
+    λ whole rest.
+    ap (λ line. ending_after whole c.read_line.new.trace (reader.number + 1) line rest) c.clear.ensures.items
+    ∙ sym (line_ended whole reader.trace reader.number reader.line.items rest
+    ∙ ap (λ after. option_map_or (λ next. ending_after whole next (reader.number + 1) [] rest) after (Bad reader.number)) read)

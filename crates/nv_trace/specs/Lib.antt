@@ -1,0 +1,11 @@
+pub mod Streams
+pub mod Lines
+pub mod Grammar
+pub mod Traced
+pub mod Reading
+pub mod Shape
+pub mod Refused
+pub mod Pending
+pub mod Report
+pub mod MemStreams
+pub mod RealStreams

@@ -1,0 +1,60 @@
+-- The report's lines.
+use Rattle.std.specs.Prelude.{ℕ, List, [], ◌∷◌, ◌++◌, length, codes}
+use Rattle.std.specs.Fmt.{decimal}
+use Rattle.hex.specs.Hex.{encode_lower}
+use Rattle.nv_plain.specs.declared.call.Reply.{Reply}
+use Rattle.nv_plain.specs.declared.call.Reply.TheVariants.{Bytes, Count, Done}
+use Rattle.nv_trace.specs.declared.trace.TraceCall.{TraceCall}
+use Rattle.nv_trace.specs.declared.trace.TraceCall.TheVariants.{Pread, Pwrite, Fsync}
+use Rattle.nv_trace.specs.declared.report.Refusal.{Refusal}
+use Rattle.nv_trace.specs.declared.report.Refusal.TheVariants.{TooFar, TooLong, Again}
+
+-- some fields, a space between each two
+abbrev pub spaced : List (List ℕ) → List ℕ
+spaced [] = []
+spaced (field ∷ []) = field
+spaced (field ∷ next ∷ rest) = field ++ 32 ∷ spaced (next ∷ rest)
+
+-- a line feed behind
+abbrev pub line_text : List (List ℕ) → List ℕ
+line_text fields = spaced fields ++ 10 ∷ []
+
+-- bytes in lower case hexadecimal; `-` for none
+abbrev pub hex_text : List ℕ → List ℕ
+hex_text [] = codes "-"
+hex_text (byte ∷ bytes) = encode_lower (byte ∷ bytes)
+
+-- the fields of a call
+abbrev pub call_fields : TraceCall → List (List ℕ)
+call_fields (Pread fd at len) = codes "pread" ∷ decimal fd ∷ decimal at ∷ decimal len ∷ []
+call_fields (Pwrite fd at bytes) = codes "pwrite" ∷ decimal fd ∷ decimal at ∷ decimal (length bytes) ∷ []
+call_fields (Fsync fd) = codes "fsync" ∷ decimal fd ∷ []
+
+abbrev pub reply_text : Reply → List ℕ
+reply_text (Bytes bytes) = hex_text bytes
+reply_text (Count count) = decimal count
+reply_text Done = codes "0"
+
+-- `PLACE T CALL = REPLY`
+unfoldable pub history_text : (place thread : ℕ) → TraceCall → Reply → List ℕ
+history_text place thread call reply =
+    line_text (decimal place ∷ decimal thread ∷ spaced (call_fields call) ∷ codes "=" ∷ reply_text reply ∷ [])
+
+abbrev pub refusal_text : Refusal → List ℕ
+refusal_text TooFar = codes "too far"
+refusal_text TooLong = codes "too long"
+refusal_text (Again head tail) = spaced (codes "again" ∷ decimal head ∷ decimal tail ∷ [])
+
+-- `refused T CALL: TEXT`
+unfoldable pub refused_text : (thread : ℕ) → TraceCall → Refusal → List ℕ
+refused_text thread call refusal =
+    line_text (codes "refused" ∷ decimal thread ∷ (spaced (call_fields call) ++ codes ":") ∷ refusal_text refusal ∷ [])
+
+-- `file NAME LEN HEX`
+unfoldable pub file_text : (name bytes : List ℕ) → List ℕ
+file_text name bytes = line_text (codes "file" ∷ name ∷ decimal (length bytes) ∷ hex_text bytes ∷ [])
+
+-- `end PLACED REFUSED OPEN`
+unfoldable pub end_text : (placed refused open_calls : ℕ) → List ℕ
+end_text placed refused open_calls =
+    line_text (codes "end" ∷ decimal placed ∷ decimal refused ∷ decimal open_calls ∷ [])

@@ -1,0 +1,287 @@
+ghost use Rattle.std.specs.Prelude.{◌≡◌, ◌≢◌, ℕ, ◌+◌, ◌^◌, ◌<◌, ◌≤◌, Bool, List, [], ◌∷◌, ◌++◌, length, slice_index, Some, Err, IfOk, IfErr, IfSome, IfNone, OnOk, OnErr, vec_len};
+ghost use Rattle.nv_plain.specs.Faults.{Rose};
+ghost use Rattle.nv_trace.specs.Reading as reading;
+ghost use Rattle.nv_trace.specs.Reading.{after_line, ending_of, Whole};
+ghost use Rattle.nv_trace.specs.Refused.{IsBadLine, IsRefusedAs, Tells, read_error};
+ghost use Rattle.nv_trace.specs.Pending.{input_ends, lines_end, room_for, IsWithin, EndsAt};
+ghost use Rattle.nv_trace.specs.declared.reader.LineError.TheVariants as line_errors;
+ghost use Rattle.nv_trace.specs.declared.reader.ReadError.TheVariants as read_errors;
+
+use crate::statement::parse_statement;
+use crate::{Failed, Source, Trace};
+use nv_plain::NoMemory;
+use std::alloc::{AllocError, Global};
+use thiserror::Error;
+
+/// Why a line is bad.
+#[derive(Clone, Copy, Debug, PartialEq, Eq)]
+pub enum Why {
+    /// It is in no form of a line, or may not stand there.
+    Form,
+}
+
+/// A line that isn't in the grammar of traces, by its number, counted from 1.
+#[derive(Clone, Copy, Debug, PartialEq, Eq, Error)]
+#[error("bad line {number}")]
+pub struct BadLine {
+    pub number: u64,
+    pub why: Why,
+}
+
+/// Why a line was not taken.
+#[derive(Clone, Copy, Debug, PartialEq, Eq, Error)]
+pub enum LineError {
+    #[error("{0}")]
+    Bad(BadLine),
+    #[error("no memory")]
+    NoMemory,
+}
+
+/// Why an input gave no trace.
+#[derive(Clone, Copy, Debug, PartialEq, Eq, Error)]
+pub enum ReadError {
+    #[error("{0}")]
+    Bad(BadLine),
+    #[error("the input is too long")]
+    InputLong,
+    #[error("the source failed")]
+    Failed,
+    #[error("no memory")]
+    NoMemory,
+}
+
+impl From<NoMemory> for LineError {
+    ghost from_gives = { λ _ error. error ≡ line_errors.NoMemory };
+
+    fn from(_: NoMemory) -> Self {
+        LineError::NoMemory
+    }
+}
+
+impl From<LineError> for ReadError {
+    ghost from_gives = { λ error given. given ≡ read_error error };
+
+    fn from(error: LineError) -> Self {
+        match error {
+            LineError::Bad(bad) => ReadError::Bad(bad),
+            LineError::NoMemory => ReadError::NoMemory,
+        }
+    }
+}
+
+impl From<Failed> for ReadError {
+    ghost from_gives = { λ _ error. error ≡ read_errors.Failed };
+
+    fn from(_: Failed) -> Self {
+        ReadError::Failed
+    }
+}
+
+impl From<AllocError> for ReadError {
+    ghost from_gives = { λ _ error. error ≡ read_errors.NoMemory };
+
+    fn from(_: AllocError) -> Self {
+        ReadError::NoMemory
+    }
+}
+
+/// The most bytes of a line that isn't skipped.
+const LONGEST_LINE: usize = 262_400;
+
+/// The most bytes of an input.
+const LARGEST_INPUT: u64 = 67_108_864;
+
+/// How many bytes one read asks for.
+const CHUNK: usize = 65_536;
+
+/// Takes a line, without its line feed, into the trace. A line that is empty or begins with `#` says nothing; any other
+/// has at most 262,400 bytes. After a refusal the trace is as before.
+#[tactic(auto, unfolding(crate::specs::Reading::after_line))]
+pub fn read_line(trace: &mut Trace, number: u64, line: &[u8]) -> Result<(), LineError>
+    ensures read { OnOk result (after_line trace.old number line.now ≡ Some trace.new) }
+    ensures bad { IfErr result (IsBadLine trace.old number line.now) }
+    ensures unchanged { OnErr result (trace.new ≡ trace.old) }
+{
+    if is_skipped(line) {
+        return Ok(());
+    }
+    let bad = LineError::Bad(BadLine {
+        number,
+        why: Why::Form,
+    });
+    if line.len() > LONGEST_LINE {
+        return Err(bad);
+    }
+    let Some(statement) = parse_statement(trace.alloc(), line)? else {
+        return Err(bad);
+    };
+    if trace.accept(number, statement)? {
+        Ok(())
+    } else {
+        Err(bad)
+    }
+}
+
+/// An empty line says nothing, and neither does one that begins with `#`.
+fn is_skipped(line: &[u8]) -> bool
+    ensures { result ≡ reading.is_skipped line.now }
+{
+    line.is_empty() || line[0] == b'#'
+}
+
+/// Reads a source to its end, in whatever pieces it comes, and takes its lines into a trace; the last of them may lack
+/// its line feed. Lines that are skipped aren't kept, however long they are. At most 67,108,864 bytes are taken.
+///
+/// The first bad line ends the reading. `InputLong` comes past the limit, unless a bad line ended before it, and `Failed`
+/// only from the source.
+pub fn read_trace<I: Source>(alloc: Global, src: &mut I) -> Result<Trace, ReadError>
+    ensures whole { IfOk result (λ trace. IfSome (I.left src.old) (λ input. ending_of input ≡ Whole trace)) }
+    ensures at_end { OnOk result (IfSome (I.left src.old) (λ _. I.left src.new ≡ Some [])) }
+    ensures refused { IfErr result (λ error. IfSome (I.left src.old) (IsRefusedAs error)) }
+    ensures failed { result ≡ Err read_errors.Failed → Rose (I.fault_count src.old) (I.fault_count src.new) }
+    ensures kept { result ≢ Err read_errors.Failed → I.fault_count src.new ≡ I.fault_count src.old }
+{
+    let mut reader = LineReader::new(alloc);
+    let mut buffer = zeros(alloc, CHUNK)?;
+    loop {
+        let count = src.read(&mut buffer)?;
+        if count == 0 {
+            return reader.finish();
+        }
+        reader.take(&buffer[..count as usize])?;
+    }
+}
+
+/// A trace that is being read.
+#[derive(Drop)]
+struct LineReader {
+    /// What the lines so far have said.
+    trace: Trace,
+    /// The number of the open line, the one that no line feed has ended yet.
+    number: u64,
+    /// The bytes of the open line. Of one that begins with `#` only that is kept, and of one that is too long one byte
+    /// too many.
+    line: Vec<u8>,
+    /// How many bytes of the input were taken.
+    taken: u64,
+}
+
+impl LineReader {
+    fn new(alloc: Global) -> Self
+        ensures start { (input : List ℕ) → input_ends result input ≡ ending_of input }
+        ensures within { IsWithin result }
+    {
+        LineReader {
+            trace: Trace::new(alloc),
+            number: 1,
+            line: Vec::new(alloc),
+            taken: 0,
+        }
+    }
+
+    /// Takes the next bytes of the input, up to the limit.
+    fn take(&mut self, bytes: &[u8]) -> Result<(), ReadError>
+        requires { IsWithin self.old }
+        ensures goes_on { OnOk result ((rest : List ℕ) → input_ends self.new rest ≡ input_ends self.old (bytes.now ++ rest)) }
+        ensures within { OnOk result (IsWithin self.new) }
+        ensures taken { OnOk result (self.new.taken ≡ self.old.taken + length bytes.now) }
+        ensures refused { IfErr result (λ error. (rest : List ℕ) → Tells error (input_ends self.old (bytes.now ++ rest))) }
+        ensures no_fault { result ≢ Err read_errors.Failed }
+    {
+        let room = LARGEST_INPUT - self.taken;
+        let count = bytes.len() as u64;
+        if count > room {
+            self.take_lines(&bytes[..room as usize])?;
+            return Err(ReadError::InputLong);
+        }
+        self.take_lines(bytes)?;
+        self.taken += count;
+        Ok(())
+    }
+
+    /// Takes the lines that these bytes end, and keeps the rest.
+    fn take_lines(&mut self, bytes: &[u8]) -> Result<(), LineError>
+        requires { self.old.number + length bytes.now < 2 ^ 64 }
+        ensures goes_on { OnOk result ((whole : Bool) (rest : List ℕ) → lines_end whole self.new rest ≡ lines_end whole self.old (bytes.now ++ rest)) }
+        ensures few { OnOk result (self.new.number ≤ self.old.number + length bytes.now) }
+        ensures taken { self.new.taken ≡ self.old.taken }
+        ensures bad { IfErr result (λ error. (whole : Bool) (rest : List ℕ) → EndsAt error (lines_end whole self.old (bytes.now ++ rest))) }
+    {
+        let mut rest = bytes;
+        while let Some(end) = first_feed(rest) {
+            self.keep(&rest[..end])?;
+            self.end_line()?;
+            rest = &rest[end + 1..];
+        }
+        self.keep(rest)?;
+        Ok(())
+    }
+
+    /// Keeps of more bytes of the open line what is needed.
+    fn keep(&mut self, part: &[u8]) -> Result<(), NoMemory>
+        requires { (k : ℕ) → k < length part.now → slice_index part.now k ≢ 10 }
+        ensures goes_on { OnOk result ((whole : Bool) (rest : List ℕ) → lines_end whole self.new rest ≡ lines_end whole self.old (part.now ++ rest)) }
+        ensures same { (self.new.number ≡ self.old.number) × (self.new.taken ≡ self.old.taken) }
+    {
+        let count = part.len().min(room(&self.line, part));
+        self.line.extend_from_slice(&part[..count])?;
+        Ok(())
+    }
+
+    /// Takes the open line, which a line feed ends.
+    fn end_line(&mut self) -> Result<(), LineError>
+        requires { self.old.number + 1 < 2 ^ 64 }
+        ensures goes_on { OnOk result ((whole : Bool) (rest : List ℕ) → lines_end whole self.new rest ≡ lines_end whole self.old (10 ∷ rest)) }
+        ensures number { OnOk result (self.new.number ≡ self.old.number + 1) }
+        ensures taken { self.new.taken ≡ self.old.taken }
+        ensures bad { IfErr result (λ error. (whole : Bool) (rest : List ℕ) → EndsAt error (lines_end whole self.old (10 ∷ rest))) }
+    {
+        read_line(&mut self.trace, self.number, &self.line)?;
+        self.number += 1;
+        self.line.clear();
+        Ok(())
+    }
+
+    /// The trace at the end of the input, where an open line that isn't empty is taken too.
+    fn finish(mut self) -> Result<Trace, ReadError>
+        requires { IsWithin self }
+        ensures whole { IfOk result (λ trace. input_ends self [] ≡ Whole trace) }
+        ensures refused { IfErr result (λ error. Tells error (input_ends self [])) }
+        ensures no_fault { result ≢ Err read_errors.Failed }
+    {
+        if !self.line.is_empty() {
+            read_line(&mut self.trace, self.number, &self.line)?;
+        }
+        Ok(self.trace)
+    }
+}
+
+/// So many bytes to read into.
+fn zeros(alloc: Global, len: usize) -> Result<Vec<u8>, AllocError>
+    ensures { IfOk result (λ buffer. vec_len buffer ≡ len) }
+{
+    vec![in alloc; 0; len]
+}
+
+/// How many more bytes are kept of an open line, of which some are kept and more have come.
+fn room(line: &[u8], part: &[u8]) -> usize
+    ensures { result ≡ room_for line.now part.now }
+{
+    let first = line.first().or(part.first());
+    let most = if first == Some(&b'#') {
+        1
+    } else {
+        LONGEST_LINE + 1
+    };
+    most.saturating_sub(line.len())
+}
+
+/// Where the first line feed stands.
+fn first_feed(bytes: &[u8]) -> Option<usize>
+    ensures none { IfNone result ((k : ℕ) → k < length bytes.now → slice_index bytes.now k ≢ 10) }
+    ensures within { IfSome result (λ end. end < length bytes.now) }
+    ensures feed { IfSome result (λ end. slice_index bytes.now end ≡ 10) }
+    ensures before { IfSome result (λ end. (k : ℕ) → k < end → slice_index bytes.now k ≢ 10) }
+{
+    bytes.iter().position(|byte| *byte == b'\n')
+}

@@ -1,0 +1,117 @@
+ghost use Rattle.std.specs.Prelude.{◌≡◌, ◌<◌, ◌≤◌, IfOk, IfSome, OnErr, Some, length, take};
+ghost use Rattle.std.specs.Io.{WritesAtMost};
+ghost use Rattle.std.specs.Io.KnownBytes as known;
+ghost use Rattle.nv_plain.specs.Faults.{HasCause};
+ghost use Rattle.nv_trace.specs.Streams.{HasRead, Appends, counted};
+ghost use Rattle.nv_trace.specs.RealStreams.{untold, reader_of, reader_faults, writer_of, writer_faults};
+
+use crate::{Failed, Sink, Source};
+use std::io;
+use std::io::{Read, Write};
+
+/// A source over a reader. It tells nothing of what is left.
+#[derive(Debug, Drop)]
+pub struct ReaderSource<R> {
+    reader: R,
+    faults: u64,
+}
+
+impl<R: Read + Drop> ReaderSource<R> {
+    /// A source of what the reader gives. Each error of the reader is a failed read.
+    pub fn new(reader: R) -> Self
+        ensures reader { reader_of result ≡ reader }
+        ensures faults { reader_faults result ≡ 0 }
+    {
+        ReaderSource { reader, faults: 0 }
+    }
+}
+
+impl<R: Read + Drop> Source for ReaderSource<R> {
+    ghost left = { untold };
+
+    ghost fault_count = { reader_faults };
+
+    fn read(&mut self, buf: &mut [u8]) -> Result<u64, Failed>
+        ensures count { IfOk result (λ count. count ≤ length buf.old) }
+        ensures told { IfOk result
+            (λ count. HasRead (untold self.old) (untold self.new) count buf.old buf.new) }
+        ensures cause { HasCause (reader_faults self.old) (reader_faults self.new) result }
+
+        // Where the reader itself tells its bytes.
+        ensures passes { known.ReadConsumes
+            (R.remaining (reader_of self.old)) (R.remaining (reader_of self.new)) result buf.new }
+        ensures failed { OnErr result (reader_faults self.new ≡ counted (reader_faults self.old)) }
+    {
+        match self.reader.read(buf) {
+            Ok(count) => Ok(count as u64),
+            Err(_) => {
+                self.faults = self.faults.saturating_add(1);
+                Err(Failed)
+            }
+        }
+    }
+
+    fn faults(&self) -> u64 {
+        self.faults
+    }
+}
+
+/// A sink over a writer, which it flushes after each write. It tells nothing of what is written.
+#[derive(Debug, Drop)]
+pub struct WriterSink<W> {
+    writer: W,
+    faults: u64,
+}
+
+impl<W: Write + Drop> WriterSink<W> {
+    /// A sink that gives to the writer. A write fails on each error of the writer, a failed flush among them, and where
+    /// the writer takes none of some bytes; how much the writer then took isn't known.
+    pub fn new(writer: W) -> Self
+        ensures writer { writer_of result ≡ writer }
+        ensures faults { writer_faults result ≡ 0 }
+    {
+        WriterSink { writer, faults: 0 }
+    }
+}
+
+impl<W: Write + Drop> Sink for WriterSink<W> {
+    ghost written = { untold };
+
+    ghost fault_count = { writer_faults };
+
+    fn write(&mut self, bytes: &[u8]) -> Result<u64, Failed>
+        ensures count { IfOk result (λ count. count ≤ length bytes.now) }
+        ensures some { IfOk result (λ count. 0 < length bytes.now → 0 < count) }
+        ensures told { IfOk result (λ count. Appends (untold self.old) (untold self.new) (take count bytes.now)) }
+        ensures unchanged { OnErr result (IfSome (untold self.old) (λ before. untold self.new ≡ Some before)) }
+        ensures cause { HasCause (writer_faults self.old) (writer_faults self.new) result }
+
+        // Where the writer itself tells its bytes.
+        ensures passes { IfOk result (λ count.
+            known.Appends (W.contents (writer_of self.old)) (W.contents (writer_of self.new)) (take count bytes.now)) }
+        ensures failed { OnErr result (writer_faults self.new ≡ counted (writer_faults self.old)) }
+    {
+        match write_and_flush(&mut self.writer, bytes) {
+            Ok(count) if count > 0 || bytes.is_empty() => Ok(count as u64),
+            _ => {
+                self.faults = self.faults.saturating_add(1);
+                Err(Failed)
+            }
+        }
+    }
+
+    fn faults(&self) -> u64 {
+        self.faults
+    }
+}
+
+// What stands in a buffer would be lost where the program ends.
+fn write_and_flush<W: Write>(writer: &mut W, bytes: &[u8]) -> io::Result<usize>
+    ensures count { WritesAtMost result bytes.now }
+    ensures passes { IfOk result
+        (λ count. known.Appends (W.contents writer.old) (W.contents writer.new) (take count bytes.now)) }
+{
+    let count = writer.write(bytes)?;
+    writer.flush()?;
+    Ok(count)
+}

@@ -1,0 +1,118 @@
+ghost use Rattle.std.specs.Prelude.{◌≡◌, IfOk, string_bytes};
+ghost use Rattle.nv_trace.specs.Report.{history_text, refused_text, file_text, end_text, call_fields, spaced, reply_text, refusal_text, hex_text};
+
+use crate::TraceCall;
+use nv_plain::{Bytes, NoMemory, Reply};
+use std::alloc::{AllocError, Global};
+
+/// Why a call was refused.
+#[derive(Clone, Copy, Debug, PartialEq, Eq)]
+pub enum Refusal {
+    /// The call ends past the largest length of a file.
+    TooFar,
+    /// It touches more pages than one call may.
+    TooLong,
+    /// The log has no room now: the next number, and the least whose entry isn't free.
+    Again { head: u64, tail: u64 },
+}
+
+/// The line of a call that was answered: `PLACE T CALL = REPLY`.
+pub fn history_line(
+    alloc: Global,
+    place: u64,
+    thread: u64,
+    call: &TraceCall,
+    reply: &Reply,
+) -> Result<Bytes, NoMemory>
+    ensures { IfOk result (λ line. line ≡ history_text place thread call.now reply.now) }
+{
+    let call = call_text(alloc, call)?;
+    let reply = reply_text(alloc, reply)?;
+    let line = format!(in alloc; "{place} {thread} {call} = {reply}\n")?;
+    Ok(Bytes::from_vec(line.into_bytes()))
+}
+
+/// The line of a call that was refused: `refused T CALL: TEXT`.
+pub fn refused_line(
+    alloc: Global,
+    thread: u64,
+    call: &TraceCall,
+    refusal: &Refusal,
+) -> Result<Bytes, NoMemory>
+    ensures { IfOk result (λ line. line ≡ refused_text thread call.now refusal.now) }
+{
+    let call = call_text(alloc, call)?;
+    let refusal = refusal_text(alloc, refusal)?;
+    let line = format!(in alloc; "refused {thread} {call}: {refusal}\n")?;
+    Ok(Bytes::from_vec(line.into_bytes()))
+}
+
+/// The line of a file: `file NAME LEN HEX`.
+pub fn file_line(alloc: Global, name: &[u8], bytes: &[u8]) -> Result<Bytes, NoMemory>
+    ensures { IfOk result (λ line. line ≡ file_text name.now bytes.now) }
+{
+    let hex = hex_text(alloc, bytes)?;
+    let rest = format!(in alloc; " {} {hex}\n", bytes.len())?;
+    let mut line = Vec::new(alloc);
+    line.extend_from_slice(b"file ")?;
+    line.extend_from_slice(name)?;
+    line.extend_from_slice(rest.as_bytes())?;
+    Ok(Bytes::from_vec(line))
+}
+
+/// The last line of a report: how many calls were placed, refused and left open.
+pub fn end_line(
+    alloc: Global,
+    placed: u64,
+    refused: u64,
+    unanswered: u64,
+) -> Result<Bytes, NoMemory>
+    ensures { IfOk result (λ line. line ≡ end_text placed refused unanswered) }
+{
+    let line = format!(in alloc; "end {placed} {refused} {unanswered}\n")?;
+    Ok(Bytes::from_vec(line.into_bytes()))
+}
+
+// Of a write only the length is printed.
+fn call_text(alloc: Global, call: &TraceCall) -> Result<String, AllocError>
+    ensures { IfOk result (λ text. string_bytes text ≡ spaced (call_fields call.now)) }
+{
+    match call {
+        TraceCall::Pread { fd, at, len } => format!(in alloc; "pread {fd} {at} {len}"),
+        TraceCall::Pwrite { fd, at, bytes } => {
+            format!(in alloc; "pwrite {fd} {at} {}", bytes.len())
+        }
+        TraceCall::Fsync { fd } => format!(in alloc; "fsync {fd}"),
+    }
+}
+
+fn reply_text(alloc: Global, reply: &Reply) -> Result<String, AllocError>
+    ensures { IfOk result (λ text. string_bytes text ≡ reply_text reply.now) }
+{
+    match reply {
+        Reply::Bytes(bytes) => hex_text(alloc, bytes.as_slice()),
+        Reply::Count(count) => count.to_string(alloc),
+        Reply::Done => String::from_str(alloc, "0"),
+    }
+}
+
+fn refusal_text(alloc: Global, refusal: &Refusal) -> Result<String, AllocError>
+    ensures { IfOk result (λ text. string_bytes text ≡ refusal_text refusal.now) }
+{
+    match refusal {
+        Refusal::TooFar => String::from_str(alloc, "too far"),
+        Refusal::TooLong => String::from_str(alloc, "too long"),
+        Refusal::Again { head, tail } => format!(in alloc; "again {head} {tail}"),
+    }
+}
+
+// No bytes are `-`, so that the line keeps its last field.
+fn hex_text(alloc: Global, bytes: &[u8]) -> Result<String, AllocError>
+    ensures { IfOk result (λ text. string_bytes text ≡ hex_text bytes.now) }
+{
+    if bytes.is_empty() {
+        String::from_str(alloc, "-")
+    } else {
+        hex::encode(alloc, bytes)
+    }
+}
