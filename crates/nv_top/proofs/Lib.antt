@@ -1,0 +1,10 @@
+pub mod EndingLemmas
+pub mod FaithfulLemmas
+pub mod HeadlineLemmas
+pub mod LogLemmas
+pub mod MemBenchLemmas
+pub mod NameLemmas
+pub mod ReadingLemmas
+pub mod RunLemmas
+pub mod TextLemmas
+pub mod WindowLemmas

@@ -1,0 +1,9 @@
+use Rattle.std.proofs.lemmas.Fmt.{decimal_injective}
+use Rattle.nv_top.proofs.ReadingLemmas.{one_reading}
+use Rattle.nv_top.proofs.laws.report_has_one_reading.Goals as goal
+
+pub returns-clause-lines : goal.returns-clause-lines
+returns-clause-lines c = one_reading
+
+pub returns-clause-numbers : goal.returns-clause-numbers
+returns-clause-numbers c = decimal_injective

@@ -1,0 +1,10 @@
+use Rattle.std.proofs.Common.{◌≡◌, ◌++◌, map, drop}
+use Rattle.nv_top.specs.Reports.{history_lines}
+use Rattle.nv_top.specs.Runs.{placed_call}
+use Rattle.nv_top.proofs.text.push_history.Given as goal
+
+-- what is there and what is to come are all
+abbrev pub invariant-loop-place : goal.invariant-loop-place
+invariant-loop-place l =
+    l.text.items ++ history_lines l.place (map placed_call (drop l.place l.placed))
+    ≡ l.initial.text.items ++ history_lines 0 (map placed_call l.placed)

@@ -1,0 +1,47 @@
+-- How a program ends: the line that says why.
+use Rattle.std.specs.Prelude.{◌≡◌, ℕ, List, [], ◌∷◌, ◌++◌, codes, take, Contains, Option}
+use Rattle.std.specs.Fmt.{decimal}
+use Rattle.nv_trace.specs.Streams.{Appends}
+use Rattle.nv_trace.specs.Traced.{Traced}
+use Rattle.nv_trace.specs.Reading.{Ending, Whole, Bad, Long, ending_of}
+
+-- a text and a line feed
+abbrev pub as_line : List ℕ → List ℕ
+as_line text = text ++ 10 ∷ []
+
+abbrev pub usage_line : List ℕ
+usage_line = as_line (codes "error usage")
+
+abbrev pub read_line : List ℕ
+read_line = as_line (codes "error read")
+
+abbrev pub device_line : List ℕ
+device_line = as_line (codes "error device")
+
+abbrev pub memory_line : List ℕ
+memory_line = as_line (codes "error no memory")
+
+abbrev pub bad_line : ℕ → List ℕ
+bad_line number = codes "error line " ++ (decimal number ++ as_line (codes " form"))
+
+abbrev pub long_line : List ℕ
+long_line = as_line (codes "error input long")
+
+-- what is said of an input that is no trace
+abbrev pub input_line : Ending → List ℕ
+input_line (Whole trace) = []
+input_line (Bad number) = bad_line number
+input_line Long = long_line
+
+-- an input that is a trace
+abbrev pub IsTrace : List ℕ → Type 0
+IsTrace input = (trace : Traced) × (ending_of input ≡ Whole trace)
+
+-- a line that says why there is no report
+abbrev pub IsErrorLine : List ℕ → Type 0
+IsErrorLine text =
+    (number : ℕ) × Contains (usage_line ∷ bad_line number ∷ long_line ∷ read_line ∷ device_line ∷ memory_line ∷ []) text
+
+-- what was written, where it is told, has a front of these bytes more
+abbrev pub AppendsFront : Option (List ℕ) → Option (List ℕ) → List ℕ → Type 0
+AppendsFront old new text = (count : ℕ) × Appends old new (take count text)

@@ -1,0 +1,10 @@
+pub mod Words
+pub mod Opening
+pub mod Endings
+pub mod Log
+pub mod MemBench
+pub mod Calls
+pub mod Reports
+pub mod Readings
+pub mod Runs
+pub mod Stops

@@ -1,0 +1,65 @@
+-- Readings: what a reader sees in the text of a report.
+use Rattle.std.specs.Prelude.{◌≡◌, ◌≢◌, ℕ, ◌+◌, ◌^◌, ◌<◌, List, [], ◌∷◌, ◌++◌, length, map, All, codes}
+use Rattle.std.specs.Fmt.{decimal}
+use Rattle.nv_trace.specs.declared.report.Refusal.{Refusal}
+use Rattle.nv_trace.specs.declared.report.Refusal.TheVariants.{TooFar, TooLong, Again}
+use Rattle.nv_trace.specs.Report.{call_fields, reply_text, hex_text}
+use Rattle.nv_top.specs.Reports.{PlacedCall, RefusedCall, NamedFile, Report, report_text}
+
+-- a text behind the last of some fields
+abbrev pub behind_last : List (List ℕ) → List ℕ → List (List ℕ)
+behind_last [] text = []
+behind_last (last ∷ []) text = (last ++ text) ∷ []
+behind_last (first ∷ second ∷ rest) text = first ∷ behind_last (second ∷ rest) text
+
+-- the words of a refusal
+abbrev pub refusal_fields : Refusal → List (List ℕ)
+refusal_fields TooFar = codes "too" ∷ codes "far" ∷ []
+refusal_fields TooLong = codes "too" ∷ codes "long" ∷ []
+refusal_fields (Again head tail) = codes "again" ∷ decimal head ∷ decimal tail ∷ []
+
+-- the fields of a placed call's line
+abbrev pub placed_fields : ℕ → PlacedCall → List (List ℕ)
+placed_fields place placed =
+    decimal place ∷ decimal placed.call.thread ∷ (call_fields placed.call.call ++ codes "=" ∷ reply_text placed.reply ∷ [])
+
+-- the fields of the lines of placed calls, the first of them at this place
+abbrev pub history_listing : ℕ → List PlacedCall → List (List (List ℕ))
+history_listing place [] = []
+history_listing place (placed ∷ later) = placed_fields place placed ∷ history_listing (place + 1) later
+
+-- the fields of a refused call's line
+abbrev pub refused_fields : RefusedCall → List (List ℕ)
+refused_fields refused =
+    codes "refused" ∷ decimal refused.call.thread
+    ∷ (behind_last (call_fields refused.call.call) (codes ":") ++ refusal_fields refused.refusal)
+
+-- the fields of a file's line
+abbrev pub file_fields : NamedFile → List (List ℕ)
+file_fields file = codes "file" ∷ file.name ∷ decimal (length file.bytes) ∷ hex_text file.bytes ∷ []
+
+-- the fields of the last line
+abbrev pub end_fields : Report → List (List ℕ)
+end_fields report = codes "end" ∷ decimal (length report.history) ∷ decimal (length report.refused) ∷ decimal 0 ∷ []
+
+-- the lines of a report, each as its fields
+abbrev pub listing : Report → List (List (List ℕ))
+listing report =
+    history_listing 0 report.history ++ map refused_fields report.refused ++ map file_fields report.files ++ end_fields report ∷ []
+
+-- neither a space nor a line feed
+abbrev pub IsPlainByte : ℕ → Type 0
+IsPlainByte byte = (byte ≢ 32) × (byte ≢ 10)
+
+-- no name of a file has a space or a line feed
+abbrev pub HasPlainNames : Report → Type 0
+HasPlainNames report = All (λ file. All IsPlainByte file.name) report.files
+
+-- A text has one reading: reports of one text list the same lines, field by field.
+abbrev pub OneReading : Type 0
+OneReading =
+    (report other : Report) → HasPlainNames report → HasPlainNames other → report_text report ≡ report_text other → listing report ≡ listing other
+
+-- A number's field has one reading.
+abbrev pub OneNumber : Type 0
+OneNumber = (number other : ℕ) → number < 2 ^ 64 → other < 2 ^ 64 → decimal number ≡ decimal other → number ≡ other
