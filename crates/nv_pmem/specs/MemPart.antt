@@ -20,7 +20,7 @@ part_room part = told_room part.told
 
 -- how often it has failed
 abbrev pub part_faults : MemPart → ℕ
-part_faults part = part.health.faults
+part_faults part = part.health
 
 -- lines of zeros, durable, that have had no other state and have never failed
 pub record IsBlank (lines : ℕ) (part : MemPart) : Type 0 where

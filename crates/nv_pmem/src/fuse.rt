@@ -1,9 +1,12 @@
+ghost use Rattle.std.specs.Prelude.{◌≤◌};
+
 use nv_plain::NoMemory;
 use std::alloc::Global;
 use std::sync::Arc;
 use std::sync::atomic::{AtomicU64, Ordering};
 
-/// Decides which calls of the devices that share it fail.
+/// Decides which calls of the devices that share it fail: those of a list, and, while it is armed, all from one on.
+/// Calls are counted from 1, over all copies of the fuse.
 #[derive(Drop)]
 pub struct Fuse {
     shared: Arc<Shared, Global>,
@@ -12,28 +15,47 @@ pub struct Fuse {
 #[derive(Drop)]
 struct Shared {
     calls: AtomicU64,
+    // The last call that arming lets through; 2^64 - 1 where the fuse isn't armed.
+    last: AtomicU64,
     fails: Vec<u64>,
 }
 
 impl Fuse {
-    /// The fuse at which the calls of these numbers fail. Calls are counted from 1, over all copies of the fuse.
+    /// The fuse at which the calls of these numbers fail.
     pub fn new(alloc: Global, fails: &[u64]) -> Result<Self, NoMemory> {
         let fails = Vec::from_slice(alloc, fails)?;
         let shared = Arc::new(
             alloc,
             Shared {
                 calls: AtomicU64::new(0),
+                last: AtomicU64::new(u64::MAX),
                 fails,
             },
         )?;
         Ok(Fuse { shared })
     }
 
-    /// A fuse with the same count and the same numbers.
+    /// A fuse with the same count, the same numbers and the same arming.
     pub fn copy(&self) -> Result<Self, NoMemory> {
         Ok(Fuse {
             shared: Arc::try_clone(&self.shared)?,
         })
+    }
+
+    /// Arms the fuse: call `k` from now and each later one fails, until it is disarmed. Where it is armed already,
+    /// the earlier of the two limits stays. Takes no memory.
+    pub fn arm(&self, k: u64)
+        requires { 1 ≤ k }
+    {
+        let calls = self.shared.calls.load(Ordering::SeqCst);
+        self.shared
+            .last
+            .fetch_min(calls.saturating_add(k - 1), Ordering::SeqCst);
+    }
+
+    /// Disarms the fuse: the calls of the list alone fail from now on. Takes no memory.
+    pub fn disarm(&self) {
+        self.shared.last.store(u64::MAX, Ordering::SeqCst);
     }
 
     /// Counts one call, and says whether it fails.
@@ -43,6 +65,6 @@ impl Fuse {
             .calls
             .fetch_add(1, Ordering::SeqCst)
             .wrapping_add(1);
-        self.shared.fails.contains(&call)
+        call > self.shared.last.load(Ordering::SeqCst) || self.shared.fails.contains(&call)
     }
 }

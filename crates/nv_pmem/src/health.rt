@@ -1,35 +1,53 @@
 ghost use Rattle.std.specs.Prelude.{◌≡◌};
 ghost use Rattle.nv_plain.specs.Faults.{HasCause};
 
-use crate::{Fuse, LineFault};
+use crate::Fuse;
+use std::marker::Model;
+use thiserror::Error;
 
-/// Whether the calls of a device go well, and how often they didn't.
+/// The fuse refused a call of a device in memory.
+#[derive(Clone, Copy, Debug, PartialEq, Eq, Error)]
+#[error("the call was refused")]
+pub struct Refused;
+
+/// Whether the calls of a device in memory go well, and how often they didn't. Contracts see the count alone.
 #[derive(Drop)]
-pub(crate) struct Health {
+pub struct Health {
     fuse: Option<Fuse>,
     faults: u64,
 }
 
+impl Model for Health {
+    ghost use Rattle.std.specs.Prelude.{ℕ};
+
+    ghost Value = { ℕ };
+
+    ghost view = { λ health. health.faults };
+}
+
 impl Health {
-    pub(crate) fn new(fuse: Option<Fuse>) -> Self
-        ensures { result.faults ≡ 0 }
+    /// A device that has never failed, and whose calls fail as the fuse says; with no fuse they all go well.
+    pub fn new(fuse: Option<Fuse>) -> Self
+        ensures { result ≡ 0 }
     {
         Health { fuse, faults: 0 }
     }
 
-    /// Begins a call: the fuse counts it, and may refuse it.
-    pub(crate) fn begin(&mut self) -> Result<(), LineFault>
-        ensures { HasCause self.old.faults self.new.faults result }
+    /// Begins a call: the fuse counts it, and may refuse it. A refused call raises the count of faults, which stands
+    /// still at 2^64 - 1. Takes no memory.
+    pub fn begin(&mut self) -> Result<(), Refused>
+        ensures { HasCause self.old self.new result }
     {
         if self.fuse.as_ref().is_some_and(Fuse::blows) {
             self.faults = self.faults.saturating_add(1);
-            return Err(LineFault);
+            return Err(Refused);
         }
         Ok(())
     }
 
-    pub(crate) fn faults(&self) -> u64
-        ensures { result ≡ self.now.faults }
+    /// How often a call was refused.
+    pub fn faults(&self) -> u64
+        ensures { result ≡ self.now }
     {
         self.faults
     }

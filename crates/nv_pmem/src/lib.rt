@@ -8,12 +8,15 @@ mod lines;
 mod mem_line;
 mod mem_part;
 mod past;
+mod picker;
 mod told;
 
 pub use fuse::Fuse;
 pub use geometry::{BadGeometry, Geometry, GeometryField};
 pub use lines::{LineFault, Lines};
+pub use health::{Health, Refused};
 pub use mem_part::MemPart;
+pub use picker::{Pick, Picker};
 
 #[cfg(test)]
 mod tests;

@@ -4,6 +4,7 @@ ghost use Rattle.nv_pmem.specs.Part.{Part, word_of};
 ghost use Rattle.nv_pmem.specs.Steps.{Store, Flush, Fence, History, Did, DidSome, Tells, line_stores};
 ghost use Rattle.nv_pmem.specs.Room.{Room, Keeps, Takes, Frees};
 
+use crate::Refused;
 use thiserror::Error;
 
 /// A call of a part failed. The part is as it was, or as if the call had gone well; after `store_line` some of
@@ -11,6 +12,12 @@ use thiserror::Error;
 #[derive(Clone, Copy, Debug, PartialEq, Eq, Error)]
 #[error("a line of persistent memory failed")]
 pub struct LineFault;
+
+impl From<Refused> for LineFault {
+    fn from(_: Refused) -> Self {
+        LineFault
+    }
+}
 
 /// A part of persistent memory: lines of 64 bytes, eight words of 8 bytes each, little-endian. After a power
 /// failure a line holds one of the contents that it had since the one last made durable, that one included.

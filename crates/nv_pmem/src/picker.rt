@@ -1,0 +1,67 @@
+ghost use Rattle.std.specs.Prelude.{◌≡◌};
+
+use rand_core::SeedableRng;
+use rand_core::utils::NextWord;
+use rand_xoshiro::SplitMix64;
+use std::marker::Model;
+
+/// Which of the images that a power failure may leave is taken.
+#[derive(Clone, Copy, Debug, PartialEq, Eq)]
+pub enum Pick {
+    /// The content last made durable, of lines and of stores.
+    Old,
+    /// The newest content, of lines and of stores.
+    New,
+    /// The oldest content of lines; of stores the newest length, with the byte a5 wherever a byte isn't certain.
+    Torn,
+    /// One by draws from SplitMix64, which begins in this state.
+    Seed(u64),
+}
+
+/// A pick, and the generator that draws for it: one stream of words for all the devices that are powered off together.
+#[derive(Drop)]
+pub struct Picker {
+    pick: Pick,
+    words: SplitMix64,
+}
+
+impl Model for Picker {
+    ghost use Rattle.nv_pmem.specs.Draws.{Draws};
+
+    ghost Value = { Draws };
+
+    ghost view = { λ picker. record { pick = picker.pick; state = picker.words } };
+}
+
+impl Picker {
+    ghost use Rattle.nv_pmem.specs.Draws.{draws_of, next_word, after_draw};
+
+    /// The picker of a pick, before its first draw.
+    pub fn new(pick: Pick) -> Self
+        ensures { result ≡ draws_of pick }
+    {
+        let state = match pick {
+            Pick::Seed(state) => state,
+            Pick::Old | Pick::New | Pick::Torn => 0,
+        };
+        Picker {
+            pick,
+            words: SplitMix64::seed_from_u64(state),
+        }
+    }
+
+    /// Which images it takes.
+    pub fn pick(&self) -> Pick
+        ensures { result ≡ self.now.pick }
+    {
+        self.pick
+    }
+
+    /// Draws the next word.
+    pub fn draw(&mut self) -> u64
+        ensures word { result ≡ next_word self.old }
+        ensures after { self.new ≡ after_draw self.old }
+    {
+        self.words.next_word()
+    }
+}
