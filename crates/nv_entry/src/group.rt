@@ -7,7 +7,8 @@ ghost use Rattle.nv_plain.specs.Pieces.{pages_touched};
 ghost use Rattle.nv_pmem.specs.Limits.{IsPageSize};
 ghost use Rattle.nv_pmem.specs.Part.{word_of};
 ghost use Rattle.nv_pmem.specs.Room.{Keeps, Takes};
-ghost use Rattle.nv_pmem.specs.Steps.{Did, DidSome, Flush, Tells, line_stores};
+ghost use Rattle.nv_pmem.specs.Moments.{Tells};
+ghost use Rattle.nv_pmem.specs.Steps.{Did, DidSome, Flush, line_stores};
 ghost use Rattle.nv_entry.specs.Group.{lone_group_steps, data_steps, field_steps, commit_steps, HoldsLoneGroup, IsReady};
 ghost use Rattle.nv_entry.specs.Ready.{WritesLines, FencesHead, StaysReady};
 

@@ -1,9 +1,11 @@
 -- Laws about steps: lists of steps joined, and what a part that tells has come to.
-use Rattle.std.proofs.Common.{◌≡◌, ◌+◌, List, [], ◌∷◌, ◌++◌, length, take, refl, sym, ap, ◌∙◌, subst, arith, length-append}
+use Rattle.std.proofs.Common.{◌≡◌, ◌≤◌, ℕ, ◌+◌, List, [], ◌∷◌, ◌++◌, length, take, All, zero, suc, refl, sym, ap, ◌∙◌, subst, arith, append_assoc, length-append}
 use Rattle.std.proofs.Math.Seq.{take-append-add}
 use Rattle.std.proofs.lemmas.List.{take_all, take-append-le}
+use Rattle.std.proofs.lemmas.List.Elements.{All-nil, All-cons, All-append}
 use Rattle.nv_pmem.specs.Part.{Part}
-use Rattle.nv_pmem.specs.Steps.{Step, History, after_step, grown, grown_by, Did, DidSome, Tells}
+use Rattle.nv_pmem.specs.Moments.{Tells, EachMoment}
+use Rattle.nv_pmem.specs.Steps.{Step, History, after_step, grown, grown_by, Did, DidSome}
 
 -- no step leaves the states as they are
 pub grown_by-none : (history : History) → grown_by [] history ≡ history
@@ -101,3 +103,73 @@ tells_both (now ∷ past) P Q a b = (a, b)
 pub tells_told : (history : History) (P : Part → Type 0) → ((now : Part) (past : History) → history ≡ now ∷ past → P now) → Tells history P
 tells_told [] P each = tt
 tells_told (now ∷ past) P each = each now past refl
+
+-- the states that some steps lead to, the last first
+states_after : List Step → Part → List Part
+states_after [] now = []
+states_after (step ∷ steps) now = states_after steps (after_step step now) ++ after_step step now ∷ []
+
+grown_by-states : (steps : List Step) (now : Part) (past : History) → grown_by steps (now ∷ past) ≡ states_after steps now ++ now ∷ past
+unfolding grown_by states_after
+grown_by-states [] now past = refl
+grown_by-states (step ∷ steps) now past =
+    grown_by-states steps (after_step step now) (now ∷ past)
+    ∙ sym (append_assoc (states_after steps (after_step step now)) (after_step step now ∷ []) (now ∷ past))
+
+-- A property holds before each of some steps and after the last.
+abbrev pub Always : (Part → Type 0) → List Step → Part → Type 0
+Always P [] now = P now
+Always P (step ∷ steps) now = P now × Always P steps (after_step step now)
+
+pub always_first : (P : Part → Type 0) (steps : List Step) (now : Part) → Always P steps now → P now
+always_first P [] now always = always
+always_first P (step ∷ steps) now always = always.0
+
+pub always_last : (P : Part → Type 0) (steps : List Step) (now : Part) → Always P steps now → P (after_steps steps now)
+unfolding after_steps
+always_last P [] now always = always
+always_last P (step ∷ steps) now always = always_last P steps (after_step step now) always.1
+
+-- It may be shown after each front of them.
+pub always_by_fronts : (P : Part → Type 0) (steps : List Step) (now : Part) → ((count : ℕ) → count ≤ length steps → P (after_steps (take count steps) now)) → Always P steps now
+unfolding after_steps
+always_by_fronts P [] now each = each 0 (omega arith)
+always_by_fronts P (step ∷ steps) now each =
+    (each 0 (omega arith), always_by_fronts P steps (after_step step now) (λ count few. each (suc count) (omega arith)))
+
+-- along two lists of steps, one after the other
+pub always_append : (P : Part → Type 0) (first rest : List Step) (now : Part) → Always P first now → Always P rest (after_steps first now) → Always P (first ++ rest) now
+unfolding after_steps
+always_append P [] rest now a b = b
+always_append P (step ∷ steps) rest now a b = (a.0, always_append P steps rest (after_step step now) a.1 b)
+
+each_state_after : (P : Part → Type 0) (steps : List Step) (now : Part) → Always P steps now → All P (states_after steps now)
+unfolding states_after
+each_state_after P [] now always = All-nil P
+each_state_after P (step ∷ steps) now always =
+    All-append P (states_after steps (after_step step now)) (after_step step now ∷ []) (each_state_after P steps (after_step step now) always.1)
+    (All-cons P (after_step step now) [] (always_first P steps (after_step step now) always.1) (All-nil P))
+
+always_take : (P : Part → Type 0) (count : ℕ) (steps : List Step) (now : Part) → Always P steps now → Always P (take count steps) now
+always_take P zero steps now always = always_first P steps now always
+always_take P (suc count) [] now always = always
+always_take P (suc count) (step ∷ steps) now always = (always.0, always_take P count steps (after_step step now) always.1)
+
+-- What holds along some steps holds at each moment of a call that made the first so many of them.
+pub each_moment : (P : Part → Type 0) {steps : List Step} {old new : History} → Tells old (Always P steps) → DidSome steps old new → EachMoment P old new
+each_moment P {steps} {old = []} told did = record { since = []; states = did.states ∙ grown_by-untold (take did.count steps); at_first = tt; each = All-nil P }
+each_moment P {steps} {old = now ∷ past} told did = record {
+  since = states_after (take did.count steps) now;
+  states = did.states ∙ grown_by-states (take did.count steps) now past;
+  at_first = always_first P steps now told;
+  each = each_state_after P (take did.count steps) now (always_take P did.count steps now told);
+}
+
+-- the moments of one call, and then those of another
+pub moments_moments : {S : Type 0} (P : S → Type 0) {old between new : List S} → EachMoment P old between → EachMoment P between new → EachMoment P old new
+moments_moments P {old} a b = record {
+  since = b.since ++ a.since;
+  states = b.states ∙ ap (λ before. b.since ++ before) a.states ∙ sym (append_assoc b.since a.since old);
+  at_first = a.at_first;
+  each = All-append P b.since a.since b.each a.each;
+}

@@ -1,5 +1,7 @@
 pub mod Part
+pub mod Moments
 pub mod Steps
+pub mod Images
 pub mod Room
 pub mod Limits
 pub mod Draws

@@ -39,11 +39,6 @@ pub record DidSome (steps : List Step) (old new : History) : Type 0 where
   pub no_more : count ≤ length steps
   pub states : new ≡ grown_by (take count steps) old
 
--- the present state, where the part tells, has a property
-abbrev pub Tells : History → (Part → Type 0) → Type 0
-Tells [] P = Unit {0}
-Tells (now ∷ past) P = P now
-
 -- word i of eight, of 64 bytes, little-endian
 abbrev pub word_in : List ℕ → ℕ → ℕ
 word_in bytes i = from_le_bytes w64 (take 8 (drop (8 * i) bytes))

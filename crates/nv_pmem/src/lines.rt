@@ -1,7 +1,8 @@
 ghost use Rattle.std.specs.Prelude.{◌≡◌, ℕ, ◌<◌, ◌≤◌, [], ◌∷◌, length, IfOk, OnOk};
 ghost use Rattle.nv_plain.specs.Faults.{HasCause};
 ghost use Rattle.nv_pmem.specs.Part.{Part, word_of};
-ghost use Rattle.nv_pmem.specs.Steps.{Store, Flush, Fence, History, Did, DidSome, Tells, line_stores};
+ghost use Rattle.nv_pmem.specs.Moments.{Tells};
+ghost use Rattle.nv_pmem.specs.Steps.{Store, Flush, Fence, History, Did, DidSome, line_stores};
 ghost use Rattle.nv_pmem.specs.Room.{Room, Keeps, Takes, Frees};
 
 use crate::Refused;
