@@ -13,19 +13,7 @@ ghost use Rattle.nv_entry.specs.Group.{lone_group_steps, data_steps, field_steps
 ghost use Rattle.nv_entry.specs.Ready.{WritesLines, FencesHead, StaysReady};
 
 use crate::PieceHead;
-use nv_pmem::{LineFault, Lines};
-use thiserror::Error;
-
-/// A call of a region's part failed, and so that part's count of faults rose.
-#[derive(Clone, Copy, Debug, PartialEq, Eq, Error)]
-#[error("a part of the region failed")]
-pub struct RegionFault;
-
-impl From<LineFault> for RegionFault {
-    fn from(_: LineFault) -> Self {
-        RegionFault
-    }
-}
+use nv_pmem::{Lines, RegionFault};
 
 /// Writes the pieces of a write as the entries from number `first` on, and commits them as a group. `parts` are the
 /// parts of these entries, and so far there is one: the bytes go to `at` of `file`, all in one page of `page` bytes.

@@ -7,8 +7,8 @@ ghost use Rattle.nv_pmem.specs.Moments.{Tells};
 ghost use Rattle.nv_entry.specs.Group.{words_of};
 ghost use Rattle.nv_entry.specs.Reading.{head_of, IsFilled};
 
-use crate::group::{RegionFault, load};
-use nv_pmem::Lines;
+use crate::group::load;
+use nv_pmem::{Lines, RegionFault};
 
 /// What an entry says of its piece.
 #[derive(Clone, Copy, Debug, PartialEq, Eq)]

@@ -6,6 +6,7 @@ use Rattle.std.proofs.lemmas.List.{get_or_append_left, get_or_past, get_or_push,
 use Rattle.nv_plain.specs.Images.{PartImage}
 use Rattle.nv_pmem.specs.Part.{Line, Part, blank_line, newest, word_at, with_word, stored, flushed, fenced_at, fenced, line_of, word_of}
 use Rattle.nv_pmem.specs.Images.{MayLeave, IsImage, InEachImage, IsQuietLine, IsQuiet}
+use Rattle.nv_pmem.specs.Runs.{run}
 use Rattle.nv_pmem.specs.Steps.{Step, Store, Flush, Fence, after_step}
 use Rattle.nv_pmem.proofs.StepLaws.{after_steps}
 use Rattle.nv_pmem.proofs.LineLaws.{last_of, line_of-set_same, line_of-set_other, line_of-map, fenced-blank, newest-fenced, word_at-with_word_same, word_at-with_word_other}
@@ -203,7 +204,7 @@ goes_back step steps i j found between was (inl same) (inr (inr none)) = absurd 
 
 -- An image after some steps: each word is as in an image of before, or is one of the values stored to it since.
 pub image_comes_from : (steps : List Step) (part : Part) (image : PartImage) → IsImage (after_steps steps part) image → ComesFrom part steps image
-unfolding after_steps
+unfolding run
 image_comes_from [] part image is = same_image part [] image is
 image_comes_from (step ∷ steps) part image is =
     let later = image_comes_from steps (after_step step part) image is in
@@ -336,7 +337,7 @@ has_after_step i Fence part mark has =
 
 -- The marks say what is so.
 pub has_mark : (i : ℕ) (steps : List Step) (part : Part) (mark : Mark) → HasMark mark (line_of part i) → HasMark (mark_after_all i steps mark) (line_of (after_steps steps part) i)
-unfolding after_steps
+unfolding run
 has_mark i [] part mark has = has
 has_mark i (step ∷ steps) part mark has = has_mark i steps (after_step step part) (mark_after i step mark) (has_after_step i step part mark has)
 

@@ -3,6 +3,7 @@ use Rattle.std.proofs.Common.{◌≡◌, ◌≢◌, ℕ, ◌+◌, ◌-◌, ◌<�
 use Rattle.std.proofs.lemmas.Bool.{cases_eq, cases_lt, eq-eqb, ne_eqb}
 use Rattle.std.proofs.lemmas.List.{length-set, length-map, length-replicate, get_or-set_same, get_or-set_other, get_or_append_left, get_or-append_right, get_or-replicate, get_or_default, get_or_past, get_or_push, get_or-map, length_push, length-drop, get_or-drop, set_past}
 use Rattle.nv_pmem.specs.Part.{Line, Part, blank_line, newest, word_at, with_word, stored, flushed, fenced_at, fenced, line_of, word_of}
+use Rattle.nv_pmem.specs.Runs.{run}
 use Rattle.nv_pmem.specs.Steps.{Step, Store, Flush, Fence, after_step}
 use Rattle.nv_pmem.proofs.StepLaws.{after_steps, after_steps-append}
 
@@ -152,7 +153,7 @@ length-after_step (Flush line) part = length-set part line (flushed (line_of par
 length-after_step Fence part = length-map part fenced
 
 pub length-after_steps : (steps : List Step) (part : Part) → length (after_steps steps part) ≡ length part
-unfolding after_steps
+unfolding run
 length-after_steps [] part = refl
 length-after_steps (step ∷ steps) part = length-after_steps steps (after_step step part) ∙ length-after_step step part
 
@@ -189,7 +190,7 @@ still_inside step steps part inside = let At : ℕ → Type 0 = λ lines. AreIns
 
 -- a word after some steps
 pub word_of-after_steps : (steps : List Step) (part : Part) (i j : ℕ) → AreInside (length part) steps → word_of (after_steps steps part) i j ≡ overlaid steps i j (word_of part i j)
-unfolding after_steps
+unfolding run
 word_of-after_steps [] part i j inside = refl
 word_of-after_steps (Store line word value ∷ steps) part i j inside =
     let step = Store line word value in

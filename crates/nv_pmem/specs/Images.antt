@@ -1,5 +1,5 @@
 -- Images: what a power failure may leave of a part.
-use Rattle.std.specs.Prelude.{◌≡◌, ℕ, ◌≤◌, [], ◌∷◌, length, slice_index_or}
+use Rattle.std.specs.Prelude.{◌≡◌, ◌≢◌, ◌⊎◌, ℕ, ◌≤◌, [], ◌∷◌, length, slice_index_or}
 use Rattle.nv_plain.specs.Images.{PartImage}
 use Rattle.nv_pmem.specs.Part.{Line, Part, word_at, line_of}
 
@@ -24,3 +24,10 @@ IsQuietLine line = line.later ≡ []
 
 pub record IsQuiet (part : Part) : Type 0 where
   pub lines : (line : ℕ) → IsQuietLine (line_of part line)
+
+-- An image is one of an earlier state, but that this word may have this value.
+pub record IsOldOrStored (was : Part) (line word value : ℕ) (image : PartImage) : Type 0 where
+  pub before : PartImage
+  pub is : IsImage was before
+  pub stored : (image line word ≡ before line word) ⊎ (image line word ≡ value)
+  pub others : (i j : ℕ) → (i ≢ line) ⊎ (j ≢ word) → image i j ≡ before i j

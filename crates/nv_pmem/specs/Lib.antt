@@ -1,7 +1,9 @@
 pub mod Part
 pub mod Moments
+pub mod Runs
 pub mod Steps
 pub mod Images
+pub mod Rows
 pub mod Room
 pub mod Limits
 pub mod Draws

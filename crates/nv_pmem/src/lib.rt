@@ -1,6 +1,7 @@
 //! Persistent memory as a row of lines: the trait that a region's parts keep, and one in memory.
 #![tactic(auto)]
 
+mod durable;
 mod fuse;
 mod geometry;
 mod health;
@@ -11,9 +12,10 @@ mod past;
 mod picker;
 mod told;
 
+pub use durable::store_durably;
 pub use fuse::Fuse;
 pub use geometry::{BadGeometry, Geometry, GeometryField};
-pub use lines::{LineFault, Lines};
+pub use lines::{LineFault, Lines, RegionFault};
 pub use health::{Health, Refused};
 pub use mem_part::MemPart;
 pub use picker::{Pick, Picker};

@@ -14,6 +14,17 @@ use thiserror::Error;
 #[error("a line of persistent memory failed")]
 pub struct LineFault;
 
+/// A call of one of a region's parts failed, and so that part's count of faults rose.
+#[derive(Clone, Copy, Debug, PartialEq, Eq, Error)]
+#[error("a part of the region failed")]
+pub struct RegionFault;
+
+impl From<LineFault> for RegionFault {
+    fn from(_: LineFault) -> Self {
+        RegionFault
+    }
+}
+
 impl From<Refused> for LineFault {
     fn from(_: Refused) -> Self {
         LineFault
