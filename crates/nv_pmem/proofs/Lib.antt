@@ -1,3 +1,4 @@
+pub mod DurableLaws
 pub mod ImageLaws
 pub mod LineLaws
 pub mod Rooms
