@@ -7,5 +7,6 @@ pub mod Rows
 pub mod Room
 pub mod Limits
 pub mod Draws
+pub mod Picked
 pub mod Told
 pub mod MemPart

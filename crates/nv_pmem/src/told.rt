@@ -1,9 +1,11 @@
 ghost use Rattle.std.specs.Prelude.{◌≡◌, ◌<◌, ◌≤◌, [], ◌∷◌, replicate, IfOk};
 ghost use Rattle.nv_pmem.specs.Part.{blank_line, word_of};
+ghost use Rattle.nv_pmem.specs.Picked.{picked};
 ghost use Rattle.nv_pmem.specs.Room.{Keeps, Takes, Frees};
 ghost use Rattle.nv_pmem.specs.Runs.{run, grown};
 ghost use Rattle.nv_pmem.specs.Steps.{Store, Flush, Fence, after_step, line_stores, word_in};
 
+use crate::Picker;
 use crate::mem_line::MemLine;
 use crate::past::Past;
 use nv_plain::NoMemory;
@@ -87,6 +89,17 @@ impl Told {
         self.past.note(&self.lines);
         for line in self.lines.iter_mut() {
             line.fence();
+        }
+    }
+
+    /// Loses power: each line is left as the picker takes it, and its contents are one.
+    pub(crate) fn lose_power(&mut self, picker: &mut Picker)
+        ensures history { told_history self.new ≡ (picked picker.old self.old.lines.items).0 ∷ told_history self.old }
+        ensures draws { picker.new ≡ (picked picker.old self.old.lines.items).1 }
+    {
+        self.past.note(&self.lines);
+        for line in self.lines.iter_mut() {
+            line.lose_power(picker);
         }
     }
 }
