@@ -1,15 +1,15 @@
 -- Laws about images: what steps add to what a power failure may leave, and which lines are quiet after them. Nothing above
 -- this crate opens the words of a line.
-use Rattle.std.proofs.Common.{◌≡◌, ◌≢◌, ℕ, ◌+◌, ◌-◌, ◌<◌, ◌≤◌, ◌==◌, if◌then◌else◌, ◌⊎◌, inl, inr, List, [], ◌∷◌, ◌++◌, length, map, get_or, drop, slice_set, Option, Some, None, zero, suc, refl, sym, ap, ◌∙◌, subst, arith, length-append}
+use Rattle.std.proofs.Common.{◌≡◌, ◌≢◌, ℕ, ◌+◌, ◌<◌, ◌≤◌, ◌==◌, if◌then◌else◌, ◌⊎◌, inl, inr, List, [], ◌∷◌, ◌++◌, length, get_or, drop, slice_set, Option, Some, None, zero, suc, refl, sym, ap, ◌∙◌, subst, arith}
 use Rattle.std.proofs.lemmas.Bool.{cases_eq, cases_lt, eq-eqb, ne_eqb}
 use Rattle.std.proofs.lemmas.List.{get_or_append_left, get_or_past, get_or_push, get_or_default, get_or-drop, length-drop, length-set, drop_all, length_push, set_past}
 use Rattle.nv_plain.specs.Images.{PartImage}
 use Rattle.nv_pmem.specs.Part.{Line, Part, blank_line, newest, word_at, with_word, stored, flushed, fenced_at, fenced, line_of, word_of}
-use Rattle.nv_pmem.specs.Images.{MayLeave, IsImage, InEachImage, IsQuietLine, IsQuiet}
+use Rattle.nv_pmem.specs.Images.{MayLeave, IsImage, InEachImage, IsQuietLine}
 use Rattle.nv_pmem.specs.Runs.{run}
 use Rattle.nv_pmem.specs.Steps.{Step, Store, Flush, Fence, after_step}
 use Rattle.nv_pmem.proofs.StepLaws.{after_steps}
-use Rattle.nv_pmem.proofs.LineLaws.{last_of, line_of-set_same, line_of-set_other, line_of-map, fenced-blank, newest-fenced, word_at-with_word_same, word_at-with_word_other}
+use Rattle.nv_pmem.proofs.LineLaws.{last_of, line_of-set_same, line_of-set_other, line_of-map, fenced-blank, word_at-with_word_same, word_at-with_word_other}
 
 -- ---- one line
 
@@ -44,9 +44,13 @@ may_leave_stored word value line words (count, there, are) =
       | inr earlier ↦
           record {
             before = words;
-            may = (count, earlier, λ other.
-                are other
-                ∙ ap (λ these. word_at these other) (get_or_append_left (line.oldest ∷ line.later) (content ∷ []) line.oldest count (omega arith)));
+            may = (
+              count,
+              earlier,
+              λ other.
+                  are other
+                  ∙ ap (λ these. word_at these other) (get_or_append_left (line.oldest ∷ line.later) (content ∷ []) line.oldest count (omega arith)),
+            );
             stored = inl refl;
             others = λ other differs. refl;
           }
@@ -60,21 +64,30 @@ may_leave_fenced_at : (line : Line) (noted : Option ℕ) (words : ℕ → ℕ) �
 unfolding MayLeave fenced_at newest
 may_leave_fenced_at line None words may = may
 may_leave_fenced_at line (Some count) words (zero, there, are) = elim (cases_lt (length line.later) count) [
-  | inl beyond ↦
-      (length line.later, omega arith, λ word.
-      are word
-      ∙ ap (λ these. word_at these word)
-      (get_or_past (line.oldest ∷ line.later) count _ (omega arith) ∙ sym (last_of line.oldest line.later (length line.later) refl)))
-  | inr within ↦
-      (count, within, λ word.
-      are word ∙ ap (λ these. word_at these word) (get_or_default (line.oldest ∷ line.later) count _ line.oldest (omega arith)))
+  | inl beyond ↦ (
+    length line.later,
+    omega arith,
+    λ word.
+        are word
+        ∙ ap (λ these. word_at these word)
+        (get_or_past (line.oldest ∷ line.later) count _ (omega arith) ∙ sym (last_of line.oldest line.later (length line.later) refl)),
+  )
+  | inr within ↦ (
+    count,
+    within,
+    λ word.
+        are word ∙ ap (λ these. word_at these word) (get_or_default (line.oldest ∷ line.later) count _ line.oldest (omega arith)),
+  )
 ]
 may_leave_fenced_at line (Some count) words (suc k, there, are) =
-    let within : k + count < length line.later = omega (arith, there, length-drop count line.later) in
-    (suc (count + k), omega arith, λ word.
-    are word
-    ∙ ap (λ these. word_at these word)
-    (get_or-drop count line.later k _ ∙ get_or_default line.later (count + k) _ line.oldest (omega arith)))
+    let within : k + count < length line.later = omega (arith, there, length-drop count line.later) in (
+      suc (count + k),
+      omega arith,
+      λ word.
+          are word
+          ∙ ap (λ these. word_at these word)
+          (get_or-drop count line.later k _ ∙ get_or_default line.later (count + k) _ line.oldest (omega arith)),
+    )
 
 may_leave_fenced : (line : Line) (words : ℕ → ℕ) → MayLeave (fenced line) words → MayLeave line words
 unfolding fenced
@@ -132,17 +145,19 @@ image_after_store part line word value image inside is =
     let here = may_leave_stored word value (line_of part line) (image line) (subst At (line_of-set_same part line (stored word value (line_of part line)) inside) (is.lines line)) in
     record {
       before = with_line image line here.before;
-      is = record { lines = λ i. elim (cases_eq i line) [
-        | inl same ↦
-            let Line_at : ℕ → Type 0 = λ k. MayLeave (line_of part k) here.before in
-            let Words : (ℕ → ℕ) → Type 0 = MayLeave (line_of part i) in
-            subst Words (sym (with_line-same image line i here.before same)) (subst Line_at (sym same) here.may)
-        | inr differs ↦
-            let Content : Line → Type 0 = λ content. MayLeave content (image i) in
-            let Words : (ℕ → ℕ) → Type 0 = MayLeave (line_of part i) in
-            subst Words (sym (with_line-other image line i here.before differs))
-            (subst Content (line_of-set_other part line i (stored word value (line_of part line)) differs) (is.lines i))
-      ] };
+      is = record {
+        lines = λ i. elim (cases_eq i line) [
+          | inl same ↦
+              let Line_at : ℕ → Type 0 = λ k. MayLeave (line_of part k) here.before in
+              let Words : (ℕ → ℕ) → Type 0 = MayLeave (line_of part i) in
+              subst Words (sym (with_line-same image line i here.before same)) (subst Line_at (sym same) here.may)
+          | inr differs ↦
+              let Content : Line → Type 0 = λ content. MayLeave content (image i) in
+              let Words : (ℕ → ℕ) → Type 0 = MayLeave (line_of part i) in
+              subst Words (sym (with_line-other image line i here.before differs))
+              (subst Content (line_of-set_other part line i (stored word value (line_of part line)) differs) (is.lines i))
+        ];
+      };
       words = λ i j. elim (cases_eq i line) [
         | inl same ↦
             let was = ap (λ words. words j) (with_line-same image line i here.before same) in
@@ -161,28 +176,32 @@ image_after_store part line word value image inside is =
 same_image : (part : Part) (steps : List Step) (image : PartImage) → IsImage part image → ComesFrom part steps image
 same_image part steps image is = record { before = image; is = is; words = λ i j. inl refl }
 
-image_after_flush : (part : Part) (line : ℕ) (image : PartImage) → IsImage (after_step (Flush line) part) image → IsImage part image
-image_after_flush part line image is = record { lines = λ i. elim (cases_eq i line) [
-  | inl same ↦ elim (cases_lt line (length part)) [
-    | inl inside ↦
-        let Line_at : ℕ → Type 0 = λ k. MayLeave (line_of part k) (image i) in
+pub image_after_flush : (part : Part) (line : ℕ) (image : PartImage) → IsImage (after_step (Flush line) part) image → IsImage part image
+image_after_flush part line image is = record {
+  lines = λ i. elim (cases_eq i line) [
+    | inl same ↦ elim (cases_lt line (length part)) [
+      | inl inside ↦
+          let Line_at : ℕ → Type 0 = λ k. MayLeave (line_of part k) (image i) in
+          let Content : Line → Type 0 = λ content. MayLeave content (image i) in
+          subst Line_at (sym same)
+          (may_leave_flushed (line_of part line) (image i)
+          (subst Content (ap (line_of (after_step (Flush line) part)) same ∙ line_of-set_same part line (flushed (line_of part line)) inside) (is.lines i)))
+      | inr past ↦
+          let At : Part → Type 0 = λ these. MayLeave (line_of these i) (image i) in
+          subst At (set_past part line (flushed (line_of part line)) past) (is.lines i)
+    ]
+    | inr differs ↦
         let Content : Line → Type 0 = λ content. MayLeave content (image i) in
-        subst Line_at (sym same)
-        (may_leave_flushed (line_of part line) (image i)
-        (subst Content (ap (line_of (after_step (Flush line) part)) same ∙ line_of-set_same part line (flushed (line_of part line)) inside) (is.lines i)))
-    | inr past ↦
-        let At : Part → Type 0 = λ these. MayLeave (line_of these i) (image i) in
-        subst At (set_past part line (flushed (line_of part line)) past) (is.lines i)
-  ]
-  | inr differs ↦
-      let Content : Line → Type 0 = λ content. MayLeave content (image i) in
-      subst Content (line_of-set_other part line i (flushed (line_of part line)) differs) (is.lines i)
-] }
+        subst Content (line_of-set_other part line i (flushed (line_of part line)) differs) (is.lines i)
+  ];
+}
 
-image_after_fence : (part : Part) (image : PartImage) → IsImage (after_step Fence part) image → IsImage part image
-image_after_fence part image is = record { lines = λ i.
-  let Content : Line → Type 0 = λ content. MayLeave content (image i) in
-  may_leave_fenced (line_of part i) (image i) (subst Content (line_of-map fenced part i fenced-blank) (is.lines i)) }
+pub image_after_fence : (part : Part) (image : PartImage) → IsImage (after_step Fence part) image → IsImage part image
+image_after_fence part image is = record {
+  lines = λ i.
+      let Content : Line → Type 0 = λ content. MayLeave content (image i) in
+      may_leave_fenced (line_of part i) (image i) (subst Content (line_of-map fenced part i fenced-blank) (is.lines i));
+}
 
 image_after_step : (step : Step) (part : Part) (image : PartImage) → IsImage (after_step step part) image → ComesFrom part (step ∷ []) image
 image_after_step (Store line word value) part image is = elim (cases_lt line (length part)) [

@@ -1,13 +1,12 @@
 -- Laws about picked images: they are images, and quiet; and one more line.
-use Rattle.std.proofs.Common.{◌≡◌, ◌≢◌, ℕ, ◌+◌, ◌-◌, ◌%◌, ◌<◌, ◌≤◌, ◌==◌, if◌then◌else◌, List, [], ◌∷◌, ◌++◌, length, get_or, set, take, drop, zero, suc, refl, sym, ap, ◌∙◌, subst, arith, append_assoc}
+use Rattle.std.proofs.Common.{◌≡◌, ◌≢◌, ℕ, ◌+◌, ◌-◌, ◌%◌, ◌<◌, ◌≤◌, ◌==◌, if◌then◌else◌, [], ◌∷◌, ◌++◌, length, get_or, set, take, drop, zero, suc, refl, sym, ap, ◌∙◌, arith, append_assoc}
 use Rattle.std.proofs.lemmas.Bool.{ne_eqb}
 use Rattle.std.proofs.lemmas.List.{take_more, drop_more, get_or_at, set_at, length-take, take_all, drop_all, append-nil}
 use Rattle.std.specs.List.{refill}
-use Rattle.nv_plain.specs.Images.{PartImage}
 use Rattle.nv_pmem.specs.Draws.{Draws, next_word, after_draw}
 use Rattle.nv_pmem.specs.Images.{MayLeave, IsImage, IsQuietLine, IsQuiet}
-use Rattle.nv_pmem.specs.Part.{Line, Part, blank_line, newest, word_at, line_of, word_of}
-use Rattle.nv_pmem.specs.Picked.{content_of, taken, settled, picked_line, picked}
+use Rattle.nv_pmem.specs.Part.{Line, Part, newest, word_at, line_of, word_of}
+use Rattle.nv_pmem.specs.Picked.{content_of, taken, picked_line, picked}
 use Rattle.nv_pmem.specs.declared.picker.Pick.{Pick}
 use Rattle.nv_pmem.specs.declared.picker.Pick.TheVariants.{Old, New, Torn, Seed}
 use Rattle.nv_pmem.specs.Told.{spare_of}

@@ -4,6 +4,7 @@ pub mod Runs
 pub mod Steps
 pub mod Images
 pub mod Rows
+pub mod Laws
 pub mod Room
 pub mod Limits
 pub mod Draws

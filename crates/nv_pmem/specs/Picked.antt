@@ -1,7 +1,7 @@
 -- Picked images: what a picker leaves of lines that lose power.
 use Rattle.std.specs.Prelude.{ℕ, ◌+◌, ◌%◌, ◌==◌, if◌then◌else◌, List, [], ◌∷◌, length, slice_index_or, None}
 use Rattle.nv_pmem.specs.Draws.{Draws, next_word, after_draw}
-use Rattle.nv_pmem.specs.Part.{Line, Part, newest}
+use Rattle.nv_pmem.specs.Part.{Line, Part}
 use Rattle.nv_pmem.specs.declared.picker.Pick.{Pick}
 use Rattle.nv_pmem.specs.declared.picker.Pick.TheVariants.{Old, New, Torn, Seed}
 

@@ -1,5 +1,5 @@
 -- Rows: parts that are written together. The parts of a row are counted from 0, and the calls on them have one order.
-use Rattle.std.specs.Prelude.{◌≡◌, ℕ, ◌≤◌, List, [], ◌∷◌, length, take, slice_index_or, slice_set}
+use Rattle.std.specs.Prelude.{ℕ, ◌≤◌, List, [], ◌∷◌, length, take, slice_index_or, slice_set}
 use Rattle.nv_plain.specs.Images.{Image}
 use Rattle.nv_pmem.specs.Images.{IsImage}
 use Rattle.nv_pmem.specs.Part.{Part}

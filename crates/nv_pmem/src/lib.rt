@@ -5,6 +5,7 @@ mod durable;
 mod fuse;
 mod geometry;
 mod health;
+mod laws;
 mod lines;
 mod mem_line;
 mod mem_part;
@@ -15,8 +16,9 @@ mod told;
 pub use durable::store_durably;
 pub use fuse::Fuse;
 pub use geometry::{BadGeometry, Geometry, GeometryField};
-pub use lines::{LineFault, Lines, RegionFault};
 pub use health::{Health, Refused};
+pub use laws::images_follow_calls;
+pub use lines::{LineFault, Lines, RegionFault};
 pub use mem_part::MemPart;
 pub use picker::{Pick, Picker};
 

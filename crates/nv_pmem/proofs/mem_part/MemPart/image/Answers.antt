@@ -1,7 +1,6 @@
-use Rattle.std.proofs.Common.{◌≡◌, ◌∷◌, List, [], sym, ap, subst, arith}
+use Rattle.std.proofs.Common.{◌≡◌, ◌∷◌, [], sym, ap, subst}
 use Rattle.nv_pmem.specs.Images.{IsImage, IsQuiet}
 use Rattle.nv_pmem.specs.Part.{Part, word_of}
-use Rattle.nv_pmem.specs.Picked.{picked}
 use Rattle.nv_pmem.specs.Steps.{History}
 use Rattle.nv_pmem.proofs.PickedLaws.{length-picked, picked_is_image, picked_is_quiet, quiet_spare}
 use Rattle.nv_pmem.proofs.mem_part.MemPart.image.Goals as goal
