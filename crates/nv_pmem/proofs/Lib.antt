@@ -5,3 +5,4 @@ pub mod PickedLaws
 pub mod Rooms
 pub mod RowLaws
 pub mod StepLaws
+pub mod ReadLaws
