@@ -1,7 +1,7 @@
-ghost use Rattle.std.specs.Prelude.{◌≡◌, [], vec_len, IfOk};
+ghost use Rattle.std.specs.Prelude.{◌≡◌, ◌+◌, ◌<◌, ◌≤◌, [], length, vec_len, IfOk};
 
 use crate::{Bounds, EntryWords, GroupCheck, PieceHead, check_group, entry_words};
-use nv_pmem::{LineFault, Lines};
+use nv_pmem::{LineFault, Lines, RegionFault};
 use std::alloc::{AllocError, Global};
 
 // A part of two lines that tells nothing: the words of line 0, and one word for all others.
@@ -91,6 +91,14 @@ fn an_entry_is_read_as_it_stands(rt: HostRuntime) {
     assert_eq!(rt; entry_words(&mut part), Ok(EntryWords { commit: 6, head }));
 }
 
+// What a check of entry 5 says, over parts that tell nothing.
+fn checked(parts: &mut [Untold], bounds: &Bounds) -> Result<GroupCheck, RegionFault>
+    requires parts { 1 + bounds.now.entries ≤ length parts.old }
+    requires number { 5 < bounds.now.tail + bounds.now.entries }
+{
+    check_group(parts, bounds, 5)
+}
+
 // A log of four entries of pages of 64 bytes, one file, and tail 5: entry 5 stands in slot 1, entry 6 in slot 2.
 #[test]
 fn the_least_number_that_breaks_a_rule_is_named(rt: HostRuntime) -> Result<(), AllocError> {
@@ -146,7 +154,7 @@ fn the_least_number_that_breaks_a_rule_is_named(rt: HostRuntime) -> Result<(), A
         ),
     ] {
         let mut parts = region(rt.alloc(), [[0; 8], first, second, [0; 8]])?;
-        assert_eq!(rt; check_group(&mut parts, &bounds, 5), Ok(check));
+        assert_eq!(rt; checked(&mut parts, &bounds), Ok(check));
     }
     Ok(())
 }
