@@ -1,0 +1,6 @@
+pub mod Flags
+pub mod Choices
+pub mod StoreLaws
+pub mod ImageLaws
+pub mod WriteLaws
+pub mod Runs
