@@ -8,7 +8,8 @@ use Rattle.std.specs.List.{flat_map, range_with_len}
 use borrow.Rule.Slice.PartMut.{put_mid}
 use Rattle.nv_plain.specs.Images.{PartImage, line_bytes, lines_bytes}
 use Rattle.nv_pmem.specs.Part.{word_of}
-use Rattle.nv_pmem.specs.Steps.{History, Tells}
+use Rattle.nv_pmem.specs.Moments.{Tells}
+use Rattle.nv_pmem.specs.Steps.{History}
 use Rattle.nv_entry.specs.Group.{words_of}
 use Rattle.nv_entry.proofs.Ranges.{flat_map-more}
 

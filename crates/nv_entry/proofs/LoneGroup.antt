@@ -4,7 +4,8 @@ use Rattle.std.proofs.lemmas.Bool.{cases_eq, eq-eqb, ne_eqb}
 use Rattle.std.specs.List.{flat_map, range_with_len}
 use Rattle.nv_plain.specs.Images.{entry_of, lines_for}
 use Rattle.nv_pmem.specs.Part.{Part, word_of}
-use Rattle.nv_pmem.specs.Steps.{Step, Store, Flush, Fence, History, Did, DidSome, Tells, line_stores, word_in}
+use Rattle.nv_pmem.specs.Moments.{Tells}
+use Rattle.nv_pmem.specs.Steps.{Step, Store, Flush, Fence, History, Did, DidSome, line_stores, word_in}
 use Rattle.nv_pmem.proofs.StepLaws.{after_steps, after_steps-append, did_did, did_did_some, did_some_front, tells_after}
 use Rattle.nv_pmem.proofs.LineLaws.{IsSound, sound_after_last_flush, sound_after_steps, length-after_steps, overlaid, overlaid-append, AreInside, inside_append, HasNoFence, no_fence_append, word_of-after_steps}
 use Rattle.nv_entry.specs.Group.{data_line, data_steps, field_steps, commit_steps, lone_group_steps, words_of, HoldsLoneGroup}

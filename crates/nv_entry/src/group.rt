@@ -7,24 +7,13 @@ ghost use Rattle.nv_plain.specs.Pieces.{pages_touched};
 ghost use Rattle.nv_pmem.specs.Limits.{IsPageSize};
 ghost use Rattle.nv_pmem.specs.Part.{word_of};
 ghost use Rattle.nv_pmem.specs.Room.{Keeps, Takes};
-ghost use Rattle.nv_pmem.specs.Steps.{Did, DidSome, Flush, Tells, line_stores};
+ghost use Rattle.nv_pmem.specs.Moments.{Tells};
+ghost use Rattle.nv_pmem.specs.Steps.{Did, DidSome, Flush, line_stores};
 ghost use Rattle.nv_entry.specs.Group.{lone_group_steps, data_steps, field_steps, commit_steps, HoldsLoneGroup, IsReady};
 ghost use Rattle.nv_entry.specs.Ready.{WritesLines, FencesHead, StaysReady};
 
 use crate::PieceHead;
-use nv_pmem::{LineFault, Lines};
-use thiserror::Error;
-
-/// A call of a region's part failed, and so that part's count of faults rose.
-#[derive(Clone, Copy, Debug, PartialEq, Eq, Error)]
-#[error("a part of the region failed")]
-pub struct RegionFault;
-
-impl From<LineFault> for RegionFault {
-    fn from(_: LineFault) -> Self {
-        RegionFault
-    }
-}
+use nv_pmem::{Lines, RegionFault};
 
 /// Writes the pieces of a write as the entries from number `first` on, and commits them as a group. `parts` are the
 /// parts of these entries, and so far there is one: the bytes go to `at` of `file`, all in one page of `page` bytes.

@@ -29,7 +29,8 @@ mod group;
 mod piece;
 mod span;
 
-pub use group::{RegionFault, commit_group, committed};
+pub use group::{commit_group, committed};
+pub use nv_pmem::RegionFault;
 pub use piece::{PieceHead, read_piece};
 pub use span::{Span, cut, piece_count};
 

@@ -3,12 +3,12 @@ ghost use Rattle.nv_plain.specs.Faults.{HasCause};
 ghost use Rattle.nv_plain.specs.Images.{entry_of, data_of, line_bytes, lines_for};
 ghost use Rattle.nv_pmem.specs.Part.{word_of};
 ghost use Rattle.nv_pmem.specs.Room.{Keeps};
-ghost use Rattle.nv_pmem.specs.Steps.{Tells};
+ghost use Rattle.nv_pmem.specs.Moments.{Tells};
 ghost use Rattle.nv_entry.specs.Group.{words_of};
 ghost use Rattle.nv_entry.specs.Reading.{head_of, IsFilled};
 
-use crate::group::{RegionFault, load};
-use nv_pmem::Lines;
+use crate::group::load;
+use nv_pmem::{Lines, RegionFault};
 
 /// What an entry says of its piece.
 #[derive(Clone, Copy, Debug, PartialEq, Eq)]

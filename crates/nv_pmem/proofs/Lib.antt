@@ -1,4 +1,6 @@
+pub mod DurableLaws
+pub mod ImageLaws
 pub mod LineLaws
+pub mod PickedLaws
 pub mod Rooms
-pub mod Runs
 pub mod StepLaws

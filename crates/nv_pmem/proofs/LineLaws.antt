@@ -1,10 +1,11 @@
--- Laws about lines: what a load gives after each step, and what a fence needs for that. Nothing above this crate opens the words of a line.
-use Rattle.std.proofs.Common.{◌≡◌, ◌≢◌, ℕ, ◌+◌, ◌-◌, ◌<◌, ◌≤◌, ◌==◌, ◌&&◌, if◌then◌else◌, ◌⊎◌, inl, inr, List, [], ◌∷◌, ◌++◌, length, map, replicate, get_or, drop, slice_set, Option, Some, None, zero, suc, refl, sym, ap, ◌∙◌, subst, arith, length-append}
+-- Laws about lines: what a load gives after steps. Nothing above this crate opens the words of a line.
+use Rattle.std.proofs.Common.{◌≡◌, ◌≢◌, ℕ, ◌+◌, ◌-◌, ◌<◌, ◌==◌, ◌&&◌, if◌then◌else◌, inl, inr, List, [], ◌∷◌, ◌++◌, length, map, replicate, get_or, drop, slice_set, Option, Some, None, zero, suc, refl, sym, ap, ◌∙◌, subst, arith, length-append}
 use Rattle.std.proofs.lemmas.Bool.{cases_eq, cases_lt, eq-eqb, ne_eqb}
 use Rattle.std.proofs.lemmas.List.{length-set, length-map, length-replicate, get_or-set_same, get_or-set_other, get_or_append_left, get_or-append_right, get_or-replicate, get_or_default, get_or_past, get_or_push, get_or-map, length_push, length-drop, get_or-drop, set_past}
 use Rattle.nv_pmem.specs.Part.{Line, Part, blank_line, newest, word_at, with_word, stored, flushed, fenced_at, fenced, line_of, word_of}
+use Rattle.nv_pmem.specs.Runs.{run}
 use Rattle.nv_pmem.specs.Steps.{Step, Store, Flush, Fence, after_step}
-use Rattle.nv_pmem.proofs.StepLaws.{after_steps, after_steps-append}
+use Rattle.nv_pmem.proofs.StepLaws.{after_steps}
 
 newest-stored : (word value : ℕ) (line : Line) → newest (stored word value line) ≡ with_word (newest line) word value
 unfolding newest stored
@@ -30,14 +31,14 @@ with_zeros content count i = elim (cases_lt i (length content)) [
       ∙ zeros count (i - length content) ∙ sym (get_or_past content i 0 past)
 ]
 
-word_at-with_word_same : (content : List ℕ) (word value : ℕ) → word_at (with_word content word value) word ≡ value
+pub word_at-with_word_same : (content : List ℕ) (word value : ℕ) → word_at (with_word content word value) word ≡ value
 unfolding word_at with_word
 word_at-with_word_same content word value =
     let more = replicate (word + 1 - length content) 0 in
     get_or-set_same (content ++ more) word value 0
     (omega (arith, length-append content more, length-replicate {A = ℕ} (word + 1 - length content) 0))
 
-word_at-with_word_other : (content : List ℕ) (word value other : ℕ) → other ≢ word → word_at (with_word content word value) other ≡ word_at content other
+pub word_at-with_word_other : (content : List ℕ) (word value other : ℕ) → other ≢ word → word_at (with_word content word value) other ≡ word_at content other
 unfolding word_at with_word
 word_at-with_word_other content word value other differs =
     get_or-set_other (content ++ replicate (word + 1 - length content) 0) word other value 0 differs
@@ -52,42 +53,40 @@ word_at-with_word content word value other = elim (cases_eq other word) [
 ]
 
 -- the last of some things, or the first of them all
-last_of : {X : Type 0} (first : X) (rest : List X) (count : ℕ) → count ≡ length rest → get_or (first ∷ rest) count first ≡ get_or rest (count - 1) first
+pub last_of : {X : Type 0} (first : X) (rest : List X) (count : ℕ) → count ≡ length rest → get_or (first ∷ rest) count first ≡ get_or rest (count - 1) first
 last_of first rest zero end = sym (get_or_past rest (0 - 1) first (omega arith))
 last_of first rest (suc count) end = ap (λ i. get_or rest i first) (omega arith)
 
--- where a flush found a content that the line has, a fence leaves the newest one
-newest-fenced_at : (line : Line) (count : ℕ) → count ≤ length line.later → newest (fenced_at line (Some count)) ≡ newest line
+-- a fence leaves the newest content
+newest-fenced_at : (line : Line) (noted : Option ℕ) → newest (fenced_at line noted) ≡ newest line
 unfolding newest fenced_at
-newest-fenced_at line count within = elim (cases_lt count (length line.later)) [
-  | inl less ↦
-      get_or-drop count line.later (length (drop count line.later) - 1) (get_or (line.oldest ∷ line.later) count line.oldest)
-      ∙ get_or_default line.later (count + (length (drop count line.later) - 1)) _ line.oldest (omega (arith, length-drop count line.later))
-      ∙ ap (λ i. get_or line.later i line.oldest) (omega (arith, length-drop count line.later))
-  | inr past ↦
-      get_or_past (drop count line.later) (length (drop count line.later) - 1) _ (omega (arith, length-drop count line.later))
-      ∙ last_of line.oldest line.later count (omega arith)
-      ∙ ap (λ i. get_or line.later i line.oldest) (omega arith)
-]
+newest-fenced_at line None = refl
+newest-fenced_at line (Some count) =
+    let newest_of = get_or line.later (length line.later - 1) line.oldest in
+    elim (cases_lt count (length line.later)) [
+      | inl less ↦
+          get_or-drop count line.later (length (drop count line.later) - 1) (get_or (line.oldest ∷ line.later) count newest_of)
+          ∙ get_or_default line.later (count + (length (drop count line.later) - 1)) _ line.oldest (omega (arith, length-drop count line.later))
+          ∙ ap (λ i. get_or line.later i line.oldest) (omega (arith, length-drop count line.later))
+      | inr past ↦
+          get_or_past (drop count line.later) (length (drop count line.later) - 1) _ (omega (arith, length-drop count line.later))
+          ∙ elim (cases_lt (length line.later) count) [
+            | inl beyond ↦ get_or_past (line.oldest ∷ line.later) count newest_of (omega arith)
+            | inr last ↦
+                get_or_default (line.oldest ∷ line.later) count newest_of line.oldest (omega arith)
+                ∙ last_of line.oldest line.later count (omega arith)
+                ∙ ap (λ i. get_or line.later i line.oldest) (omega arith)
+          ]
+    ]
 
--- a flush found a content that there is
-abbrev pub IsWithin : Option ℕ → ℕ → Type 0
-IsWithin None len = Unit {0}
-IsWithin (Some count) len = count ≤ len
+pub newest-fenced : (line : Line) → newest (fenced line) ≡ newest line
+unfolding fenced
+newest-fenced line = newest-fenced_at line line.flushed
 
--- The flush that a line notes found a content that it has. So it is from a line's first flush or the part's first fence on.
-pub record IsSound (part : Part) (line : ℕ) : Type 0 where
-  pub noted : IsWithin (line_of part line).flushed (length (line_of part line).later)
-
-newest-fenced : (line : Line) (noted : Option ℕ) → line.flushed ≡ noted → IsWithin noted (length line.later) → newest (fenced line) ≡ newest line
-unfolding fenced fenced_at
-newest-fenced line None is within = ap (λ noted. newest (fenced_at line noted)) is
-newest-fenced line (Some count) is within = ap (λ noted. newest (fenced_at line noted)) is ∙ newest-fenced_at line count within
-
-line_of-set_same : (part : Part) (line : ℕ) (content : Line) → line < length part → line_of (slice_set part line content) line ≡ content
+pub line_of-set_same : (part : Part) (line : ℕ) (content : Line) → line < length part → line_of (slice_set part line content) line ≡ content
 line_of-set_same part line content inside = get_or-set_same part line content blank_line inside
 
-line_of-set_other : (part : Part) (line other : ℕ) (content : Line) → other ≢ line → line_of (slice_set part line content) other ≡ line_of part other
+pub line_of-set_other : (part : Part) (line other : ℕ) (content : Line) → other ≢ line → line_of (slice_set part line content) other ≡ line_of part other
 line_of-set_other part line other content differs = get_or-set_other part line other content blank_line differs
 
 -- a line changed, its newest content as it was
@@ -102,7 +101,7 @@ newest-set part line content i same = elim (cases_eq i line) [
   | inr differs ↦ ap newest (line_of-set_other part line i content differs)
 ]
 
-line_of-map : (f : Line → Line) (part : Part) (line : ℕ) → f blank_line ≡ blank_line → line_of (map f part) line ≡ f (line_of part line)
+pub line_of-map : (f : Line → Line) (part : Part) (line : ℕ) → f blank_line ≡ blank_line → line_of (map f part) line ≡ f (line_of part line)
 line_of-map f part line blank = elim (cases_lt line (length part)) [
   | inl less ↦ get_or-map f part line blank_line blank_line less
   | inr past ↦
@@ -110,7 +109,7 @@ line_of-map f part line blank = elim (cases_lt line (length part)) [
       ∙ sym blank ∙ ap f (sym (get_or_past part line blank_line past))
 ]
 
-fenced-blank : fenced blank_line ≡ blank_line
+pub fenced-blank : fenced blank_line ≡ blank_line
 unfolding fenced fenced_at
 fenced-blank = refl
 
@@ -139,13 +138,13 @@ pub word_of-after_flush : (part : Part) (line i j : ℕ) → word_of (after_step
 word_of-after_flush part line i j =
     ap (λ content. word_at content j) (newest-set part line (flushed (line_of part line)) i (newest-flushed (line_of part line)))
 
--- and so does a fence, in a sound line
-pub word_of-after_fence : (part : Part) (i j : ℕ) → IsSound part i → word_of (after_step Fence part) i j ≡ word_of part i j
-word_of-after_fence part i j sound =
+-- and so does a fence
+pub word_of-after_fence : (part : Part) (i j : ℕ) → word_of (after_step Fence part) i j ≡ word_of part i j
+word_of-after_fence part i j =
     ap (λ content. word_at (newest content) j) (line_of-map fenced part i fenced-blank)
-    ∙ ap (λ content. word_at content j) (newest-fenced (line_of part i) (line_of part i).flushed refl sound.noted)
+    ∙ ap (λ content. word_at content j) (newest-fenced (line_of part i))
 
--- ---- the number of lines, and sound lines
+-- ---- the number of lines
 
 -- each step keeps the number of lines
 pub length-after_step : (step : Step) (part : Part) → length (after_step step part) ≡ length part
@@ -154,85 +153,9 @@ length-after_step (Flush line) part = length-set part line (flushed (line_of par
 length-after_step Fence part = length-map part fenced
 
 pub length-after_steps : (steps : List Step) (part : Part) → length (after_steps steps part) ≡ length part
-unfolding after_steps
+unfolding run
 length-after_steps [] part = refl
 length-after_steps (step ∷ steps) part = length-after_steps steps (after_step step part) ∙ length-after_step step part
-
--- a line of its own is sound
-record IsSoundLine (line : Line) : Type 0 where
-  pub noted : IsWithin line.flushed (length line.later)
-
-within_more : (noted : Option ℕ) (less more : ℕ) → less ≤ more → IsWithin noted less → IsWithin noted more
-within_more None less more rises within = tt
-within_more (Some count) less more rises within = omega (arith, within)
-
-sound_stored : (word value : ℕ) (line : Line) → IsSoundLine line → IsSoundLine (stored word value line)
-unfolding stored
-sound_stored word value line sound = record {
-  noted = within_more line.flushed _ _ (omega (arith, length-append line.later (with_word (newest line) word value ∷ []))) sound.noted;
-}
-
-sound_flushed : (line : Line) → IsSoundLine (flushed line)
-unfolding flushed
-sound_flushed line = record { noted = omega arith }
-
-sound_fenced_at : (line : Line) (noted : Option ℕ) → line.flushed ≡ noted → IsSoundLine line → IsSoundLine (fenced_at line noted)
-unfolding fenced_at
-sound_fenced_at line None is sound = sound
-sound_fenced_at line (Some count) is sound = record { noted = tt }
-
-sound_fenced : (line : Line) → IsSoundLine line → IsSoundLine (fenced line)
-unfolding fenced
-sound_fenced line sound = sound_fenced_at line line.flushed refl sound
-
-sound_line : (part : Part) (line : ℕ) → IsSound part line → IsSoundLine (line_of part line)
-sound_line part line sound = record { noted = sound.noted }
-
-sound_part : (part : Part) (line : ℕ) (content : Line) → line_of part line ≡ content → IsSoundLine content → IsSound part line
-sound_part part line content is sound = record { noted = (subst IsSoundLine (sym is) sound).noted }
-
--- after a flush its line is sound
-pub sound_after_flush : (part : Part) (line : ℕ) → line < length part → IsSound (after_step (Flush line) part) line
-sound_after_flush part line inside =
-    sound_part (after_step (Flush line) part) line (flushed (line_of part line))
-    (line_of-set_same part line (flushed (line_of part line)) inside) (sound_flushed (line_of part line))
-
--- steps that end in a flush leave its line sound
-pub sound_after_last_flush : (steps : List Step) (part : Part) (line : ℕ) → line < length part → IsSound (after_steps (steps ++ Flush line ∷ []) part) line
-unfolding after_steps
-sound_after_last_flush steps part line inside =
-    let At : Part → Type 0 = λ after. IsSound after line in
-    subst At (sym (after_steps-append steps (Flush line ∷ []) part))
-    (sound_after_flush (after_steps steps part) line (omega (arith, length-after_steps steps part)))
-
--- a line changed to a sound one if it was sound
-sound_set : (part : Part) (line i : ℕ) (content : Line) → (IsSoundLine (line_of part line) → IsSoundLine content) → IsSound part i → IsSound (slice_set part line content) i
-sound_set part line i content kept sound = elim (cases_eq i line) [
-  | inl here ↦ elim (cases_lt line (length part)) [
-    | inl inside ↦
-        sound_part (slice_set part line content) i content
-        (ap (line_of (slice_set part line content)) here ∙ line_of-set_same part line content inside)
-        (kept (let At : ℕ → Type 0 = λ k. IsSoundLine (line_of part k) in subst At here (sound_line part i sound)))
-    | inr past ↦ let At : Part → Type 0 = λ these. IsSound these i in subst At (sym (set_past part line content past)) sound
-  ]
-  | inr differs ↦
-      sound_part (slice_set part line content) i (line_of part i) (line_of-set_other part line i content differs) (sound_line part i sound)
-]
-
--- each step keeps a line sound
-pub sound_after_step : (step : Step) (part : Part) (i : ℕ) → IsSound part i → IsSound (after_step step part) i
-sound_after_step (Store line word value) part i sound =
-    sound_set part line i (stored word value (line_of part line)) (sound_stored word value (line_of part line)) sound
-sound_after_step (Flush line) part i sound =
-    sound_set part line i (flushed (line_of part line)) (λ _. sound_flushed (line_of part line)) sound
-sound_after_step Fence part i sound =
-    sound_part (map fenced part) i (fenced (line_of part i)) (line_of-map fenced part i fenced-blank)
-    (sound_fenced (line_of part i) (sound_line part i sound))
-
-pub sound_after_steps : (steps : List Step) (part : Part) (i : ℕ) → IsSound part i → IsSound (after_steps steps part) i
-unfolding after_steps
-sound_after_steps [] part i sound = sound
-sound_after_steps (step ∷ steps) part i sound = sound_after_steps steps (after_step step part) i (sound_after_step step part i sound)
 
 -- ---- what a load gives after a list of steps
 
@@ -262,38 +185,20 @@ inside_append lines (Store line word value ∷ steps) rest a b = (a.0, inside_ap
 inside_append lines (Flush line ∷ steps) rest a b = inside_append lines steps rest a b
 inside_append lines (Fence ∷ steps) rest a b = inside_append lines steps rest a b
 
--- there is no fence among some steps
-abbrev pub HasNoFence : List Step → Type 0
-HasNoFence [] = Unit {0}
-HasNoFence (Store line word value ∷ steps) = HasNoFence steps
-HasNoFence (Flush line ∷ steps) = HasNoFence steps
-HasNoFence (Fence ∷ steps) = ⊥
-
-pub no_fence_append : (first rest : List Step) → HasNoFence first → HasNoFence rest → HasNoFence (first ++ rest)
-no_fence_append [] rest a b = b
-no_fence_append (Store line word value ∷ steps) rest a b = no_fence_append steps rest a b
-no_fence_append (Flush line ∷ steps) rest a b = no_fence_append steps rest a b
-no_fence_append (Fence ∷ steps) rest a b = absurd a
-
 still_inside : (step : Step) (steps : List Step) (part : Part) → AreInside (length part) steps → AreInside (length (after_step step part)) steps
 still_inside step steps part inside = let At : ℕ → Type 0 = λ lines. AreInside lines steps in subst At (sym (length-after_step step part)) inside
 
--- A word after some steps, in a line that is sound or meets no fence.
-pub word_of-after_steps : (steps : List Step) (part : Part) (i j : ℕ) → AreInside (length part) steps → IsSound part i ⊎ HasNoFence steps → word_of (after_steps steps part) i j ≡ overlaid steps i j (word_of part i j)
-unfolding after_steps
-word_of-after_steps [] part i j inside can = refl
-word_of-after_steps (Store line word value ∷ steps) part i j inside can =
+-- a word after some steps
+pub word_of-after_steps : (steps : List Step) (part : Part) (i j : ℕ) → AreInside (length part) steps → word_of (after_steps steps part) i j ≡ overlaid steps i j (word_of part i j)
+unfolding run
+word_of-after_steps [] part i j inside = refl
+word_of-after_steps (Store line word value ∷ steps) part i j inside =
     let step = Store line word value in
     word_of-after_steps steps (after_step step part) i j (still_inside step steps part inside.1)
-    (elim can [ inl sound ↦ inl (sound_after_step step part i sound) | inr no_fence ↦ inr no_fence ])
     ∙ ap (overlaid steps i j) (word_of-after_store part line word value i j inside.0)
-word_of-after_steps (Flush line ∷ steps) part i j inside can =
+word_of-after_steps (Flush line ∷ steps) part i j inside =
     word_of-after_steps steps (after_step (Flush line) part) i j (still_inside (Flush line) steps part inside)
-    (elim can [ inl sound ↦ inl (sound_after_step (Flush line) part i sound) | inr no_fence ↦ inr no_fence ])
     ∙ ap (overlaid steps i j) (word_of-after_flush part line i j)
-word_of-after_steps (Fence ∷ steps) part i j inside can = elim can [
-  | inl sound ↦
-      word_of-after_steps steps (after_step Fence part) i j (still_inside Fence steps part inside) (inl (sound_after_step Fence part i sound))
-      ∙ ap (overlaid steps i j) (word_of-after_fence part i j sound)
-  | inr no_fence ↦ absurd no_fence
-]
+word_of-after_steps (Fence ∷ steps) part i j inside =
+    word_of-after_steps steps (after_step Fence part) i j (still_inside Fence steps part inside)
+    ∙ ap (overlaid steps i j) (word_of-after_fence part i j)

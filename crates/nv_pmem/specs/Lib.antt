@@ -1,7 +1,13 @@
 pub mod Part
+pub mod Moments
+pub mod Runs
 pub mod Steps
+pub mod Images
+pub mod Rows
+pub mod Laws
 pub mod Room
 pub mod Limits
 pub mod Draws
+pub mod Picked
 pub mod Told
 pub mod MemPart

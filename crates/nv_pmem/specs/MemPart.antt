@@ -14,6 +14,10 @@ part_device part = 0
 abbrev pub part_history : MemPart → History
 part_history part = told_history part.told
 
+-- its present state
+abbrev pub part_now : MemPart → Part
+part_now part = part.told.lines.items
+
 -- its lines, and what each can take
 abbrev pub part_room : MemPart → Room
 part_room part = told_room part.told

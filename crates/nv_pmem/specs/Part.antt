@@ -41,7 +41,7 @@ flushed line = record { oldest = line.oldest; later = line.later; flushed = Some
 unfoldable pub fenced_at : Line → Option ℕ → Line
 fenced_at line None = line
 fenced_at line (Some count) = record {
-  oldest = slice_index_or (line.oldest ∷ line.later) count line.oldest;
+  oldest = slice_index_or (line.oldest ∷ line.later) count (newest line);
   later = drop count line.later;
   flushed = None;
 }

@@ -24,3 +24,9 @@ pub record Takes (count line : ℕ) (old new : Room) : Type 0 where
 -- each line can take now what it could after a fence
 pub record Frees (old new : Room) : Type 0 where
   pub spare : (line : ℕ) → old.after_fence line ≤ new.spare line
+
+-- one line can take 15 contents, and each other line what it could, or could after a fence
+pub record Settles (line : ℕ) (old new : Room) : Type 0 where
+  pub spare : 15 ≤ new.spare line
+  pub other_spare : (other : ℕ) → other ≢ line → old.spare other ≤ new.spare other
+  pub freed : (other : ℕ) → other ≢ line → old.after_fence other ≤ new.spare other

@@ -1,7 +1,8 @@
 -- Steps: what the calls of a part do, one after another, and the states that it has had.
-use Rattle.std.specs.Prelude.{◌≡◌, ℕ, ◌*◌, ◌≤◌, List, [], ◌∷◌, length, take, drop, map, slice_set}
+use Rattle.std.specs.Prelude.{ℕ, ◌*◌, List, [], ◌∷◌, take, drop, map, slice_set}
 use Rattle.std.specs.Int.{from_le_bytes, w64}
 use Rattle.nv_pmem.specs.Part.{Part, line_of, stored, flushed, fenced}
+use Rattle.nv_pmem.specs.Runs.{Ran, RanSome, grown}
 
 -- what one call does to a part
 pub data Step : Type 0 where
@@ -19,30 +20,13 @@ after_step Fence part = map fenced part
 abbrev pub History : Type 0
 History = List Part
 
--- the states after one more step
-abbrev pub grown : Step → History → History
-grown step [] = []
-grown step (now ∷ past) = after_step step now ∷ now ∷ past
-
--- the states after more steps, the first of them first
-unfoldable pub grown_by : List Step → History → History
-grown_by [] history = history
-grown_by (step ∷ steps) history = grown_by steps (grown step history)
-
 -- all of the steps were made, in their order
-pub record Did (steps : List Step) (old new : History) : Type 0 where
-  pub states : new ≡ grown_by steps old
+abbrev pub Did : List Step → History → History → Type 0
+Did steps old new = Ran (grown after_step) steps old new
 
 -- some of the steps were made, in their order: the first so many
-pub record DidSome (steps : List Step) (old new : History) : Type 0 where
-  pub count : ℕ
-  pub no_more : count ≤ length steps
-  pub states : new ≡ grown_by (take count steps) old
-
--- the present state, where the part tells, has a property
-abbrev pub Tells : History → (Part → Type 0) → Type 0
-Tells [] P = Unit {0}
-Tells (now ∷ past) P = P now
+abbrev pub DidSome : List Step → History → History → Type 0
+DidSome steps old new = RanSome (grown after_step) steps old new
 
 -- word i of eight, of 64 bytes, little-endian
 abbrev pub word_in : List ℕ → ℕ → ℕ
@@ -51,3 +35,7 @@ word_in bytes i = from_le_bytes w64 (take 8 (drop (8 * i) bytes))
 -- the stores of a whole line: its eight words, rising
 unfoldable pub line_stores : ℕ → List ℕ → List Step
 line_stores line bytes = map (λ i. Store line i (word_in bytes i)) (0 ∷ 1 ∷ 2 ∷ 3 ∷ 4 ∷ 5 ∷ 6 ∷ 7 ∷ [])
+
+-- a word is stored and made durable
+unfoldable pub durable_store : (line word value : ℕ) → List Step
+durable_store line word value = Store line word value ∷ Flush line ∷ Fence ∷ []

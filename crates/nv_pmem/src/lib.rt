@@ -1,9 +1,11 @@
 //! Persistent memory as a row of lines: the trait that a region's parts keep, and one in memory.
 #![tactic(auto)]
 
+mod durable;
 mod fuse;
 mod geometry;
 mod health;
+mod laws;
 mod lines;
 mod mem_line;
 mod mem_part;
@@ -11,10 +13,12 @@ mod past;
 mod picker;
 mod told;
 
+pub use durable::store_durably;
 pub use fuse::Fuse;
 pub use geometry::{BadGeometry, Geometry, GeometryField};
-pub use lines::{LineFault, Lines};
 pub use health::{Health, Refused};
+pub use laws::images_follow_calls;
+pub use lines::{LineFault, Lines, RegionFault};
 pub use mem_part::MemPart;
 pub use picker::{Pick, Picker};
 

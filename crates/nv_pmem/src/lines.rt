@@ -1,7 +1,8 @@
 ghost use Rattle.std.specs.Prelude.{◌≡◌, ℕ, ◌<◌, ◌≤◌, [], ◌∷◌, length, IfOk, OnOk};
 ghost use Rattle.nv_plain.specs.Faults.{HasCause};
 ghost use Rattle.nv_pmem.specs.Part.{Part, word_of};
-ghost use Rattle.nv_pmem.specs.Steps.{Store, Flush, Fence, History, Did, DidSome, Tells, line_stores};
+ghost use Rattle.nv_pmem.specs.Moments.{Tells};
+ghost use Rattle.nv_pmem.specs.Steps.{Store, Flush, Fence, History, Did, DidSome, line_stores};
 ghost use Rattle.nv_pmem.specs.Room.{Room, Keeps, Takes, Frees};
 
 use crate::Refused;
@@ -12,6 +13,17 @@ use thiserror::Error;
 #[derive(Clone, Copy, Debug, PartialEq, Eq, Error)]
 #[error("a line of persistent memory failed")]
 pub struct LineFault;
+
+/// A call of one of a region's parts failed, and so that part's count of faults rose.
+#[derive(Clone, Copy, Debug, PartialEq, Eq, Error)]
+#[error("a part of the region failed")]
+pub struct RegionFault;
+
+impl From<LineFault> for RegionFault {
+    fn from(_: LineFault) -> Self {
+        RegionFault
+    }
+}
 
 impl From<Refused> for LineFault {
     fn from(_: Refused) -> Self {

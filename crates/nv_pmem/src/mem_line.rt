@@ -1,6 +1,8 @@
-ghost use Rattle.std.specs.Prelude.{◌≡◌, ◌<◌, length};
+ghost use Rattle.std.specs.Prelude.{◌≡◌, ◌<◌, ◌≤◌, length};
 ghost use Rattle.nv_pmem.specs.Part.{blank_line, newest, word_at, stored, flushed, fenced};
+ghost use Rattle.nv_pmem.specs.Picked.{content_of, taken, picked_line};
 
+use crate::{Pick, Picker};
 use arrayvec::ArrayVec;
 use std::marker::Model;
 
@@ -79,6 +81,39 @@ impl MemLine {
                 self.oldest = *content;
             }
             drop(self.later.drain(..count));
+        }
+    }
+
+    /// Loses power: the content that the picker takes is left.
+    #[tactic(auto, unfolding(crate::specs::Picked::picked_line))]
+    pub(crate) fn lose_power(&mut self, picker: &mut Picker)
+        ensures { (self.new, picker.new) ≡ picked_line picker.old self.old }
+    {
+        self.oldest = self.content(self.taken(picker));
+        self.later.clear();
+        self.flushed = None;
+    }
+
+    fn taken(&self, picker: &mut Picker) -> usize
+        ensures taken { (result, picker.new) ≡ taken picker.old.pick picker.old self.now }
+        ensures within { result ≤ length self.now.later }
+    {
+        match picker.pick() {
+            Pick::Old | Pick::Torn => 0,
+            Pick::New => self.later.len(),
+            Pick::Seed(_) if self.later.is_empty() => 0,
+            Pick::Seed(_) => (picker.draw() % (self.later.len() as u64 + 1)) as usize,
+        }
+    }
+
+    #[tactic(auto, unfolding(crate::specs::Picked::content_of))]
+    fn content(&self, count: usize) -> [u64; 8]
+        requires { count ≤ length self.now.later }
+        ensures { result ≡ content_of self.now count }
+    {
+        match count {
+            0 => self.oldest,
+            _ => self.later[count - 1],
         }
     }
 }

@@ -1,11 +1,14 @@
-ghost use Rattle.std.specs.Prelude.{◌≡◌, ◌<◌, ◌≤◌, [], ◌∷◌, IfOk, OnOk, OnErr};
+ghost use Rattle.std.specs.Prelude.{◌≡◌, ℕ, ◌<◌, ◌≤◌, [], ◌∷◌, IfOk, OnOk, OnErr};
 ghost use Rattle.nv_plain.specs.Faults.{HasCause};
+ghost use Rattle.nv_pmem.specs.Images.{IsImage, IsQuiet};
+ghost use Rattle.nv_pmem.specs.Part.{word_of};
+ghost use Rattle.nv_pmem.specs.Picked.{picked};
 ghost use Rattle.nv_pmem.specs.Steps.{Store, Flush, Fence, Did, DidSome, line_stores};
 ghost use Rattle.nv_pmem.specs.Room.{Keeps, Takes, Frees};
 
 use crate::health::Health;
 use crate::told::Told;
-use crate::{Fuse, LineFault, Lines};
+use crate::{Fuse, LineFault, Lines, Picker};
 use nv_plain::NoMemory;
 use std::alloc::Global;
 
@@ -17,7 +20,7 @@ pub struct MemPart {
 }
 
 impl MemPart {
-    ghost use Rattle.nv_pmem.specs.MemPart.{IsBlank};
+    ghost use Rattle.nv_pmem.specs.MemPart.{IsBlank, part_now, part_history, part_room, part_faults, part_device};
 
     /// A part of so many lines of zeros, durable, whose calls all go well. It takes about 1,050 bytes a line.
     pub fn new(alloc: Global, lines: u64) -> Result<Self, NoMemory>
@@ -41,6 +44,22 @@ impl MemPart {
             told: Told::blank(alloc, lines as usize)?,
             health: Health::new(fuse),
         })
+    }
+
+    /// Loses power: each line is left with one of the contents that it may have, the one that the picker takes, and the
+    /// part is quiet. Lines of several contents are drawn for in their order. It isn't a call of `Lines`: no fuse counts
+    /// it, and it takes no memory.
+    pub fn image(&mut self, picker: &mut Picker)
+        ensures picked { part_history self.new ≡ (picked picker.old (part_now self.old)).0 ∷ part_history self.old }
+        ensures draws { picker.new ≡ (picked picker.old (part_now self.old)).1 }
+        ensures image { IsImage (part_now self.old) (word_of (part_now self.new)) }
+        ensures quiet { IsQuiet (part_now self.new) }
+        ensures lines { (part_room self.new).lines ≡ (part_room self.old).lines }
+        ensures spare { (line : ℕ) → (part_room self.new).spare line ≡ 15 }
+        ensures faults { part_faults self.new ≡ part_faults self.old }
+        ensures device { part_device self.new ≡ part_device self.old }
+    {
+        self.told.lose_power(picker);
     }
 }
 

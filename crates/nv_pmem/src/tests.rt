@@ -1,4 +1,7 @@
-use crate::{BadGeometry, Fuse, Geometry, GeometryField, LineFault, Lines, MemPart};
+use crate::{
+    BadGeometry, Fuse, Geometry, GeometryField, LineFault, Lines, MemPart, Pick, Picker,
+    store_durably,
+};
 use nv_plain::NoMemory;
 use std::array;
 
@@ -74,6 +77,76 @@ fn copies_of_a_fuse_share_its_count(rt: HostRuntime) -> Result<(), NoMemory> {
     assert_eq!(rt; first.load(0, 0), Ok(0));
     assert_eq!(rt; first.faults(), 1);
     assert_eq!(rt; second.faults(), 0);
+    Ok(())
+}
+
+#[test]
+fn an_armed_fuse_fails_that_call_and_all_later_ones(rt: HostRuntime) -> Result<(), NoMemory> {
+    let fuse = Fuse::new(rt.alloc(), &[])?;
+    let mut first = MemPart::fused(rt.alloc(), 1, fuse.copy()?)?;
+    let mut second = MemPart::fused(rt.alloc(), 1, fuse.copy()?)?;
+    assert_eq!(rt; first.load(0, 0), Ok(0));
+    fuse.arm(3);
+    assert_eq!(rt; first.load(0, 0), Ok(0));
+    assert_eq!(rt; second.load(0, 0), Ok(0));
+    assert_eq!(rt; first.store(0, 0, 1), Err(LineFault));
+    assert_eq!(rt; second.load(0, 0), Err(LineFault));
+    assert_eq!(rt; first.fence(), Err(LineFault));
+    fuse.disarm();
+    assert_eq!(rt; first.load(0, 0), Ok(0));
+    // The earlier of two limits stays.
+    fuse.arm(2);
+    fuse.arm(5);
+    assert_eq!(rt; second.load(0, 0), Ok(0));
+    assert_eq!(rt; second.load(0, 0), Err(LineFault));
+    Ok(())
+}
+
+#[test]
+fn words_are_drawn_from_splitmix64(rt: HostRuntime) {
+    let mut picker = Picker::new(Pick::Seed(0));
+    assert_eq!(rt; picker.draw(), 0xe220_a839_7b1d_cdaf);
+    assert_eq!(rt; picker.draw(), 0x6e78_9e6a_a1b9_65f4);
+    assert_eq!(rt; picker.draw(), 0x06c4_5d18_8009_454f);
+}
+
+// Word 0 of line 1 has had the contents 0 and 1 since it was last durable, that of line 2 the contents 0, 1 and 2, and
+// line 0 has one content. A seed draws a word for line 1, modulo 2, and then one for line 2, modulo 3:
+//
+// | Seed | The words | modulo 2, 3 |
+// |---|---|---|
+// | 0 | e220a8397b1dcdaf, 6e789e6aa1b965f4 | 1, 0 |
+// | 1 | 910a2dec89025cc1, beeb8da1658eec67 | 1, 1 |
+// | 2 | 975835de1c9756ce, bfc846100bfc1e42 | 0, 2 |
+// | 3 | 1d0b14e4db018fed, b3466f8a7b81a989 | 1, 0 |
+#[test]
+fn a_part_that_loses_power_is_left_as_it_is_picked(rt: HostRuntime) -> Result<(), NoMemory> {
+    for (pick, left) in [
+        (Pick::Old, [0, 0, 0]),
+        (Pick::New, [0, 1, 2]),
+        (Pick::Torn, [0, 0, 0]),
+        (Pick::Seed(0), [0, 1, 0]),
+        (Pick::Seed(1), [0, 1, 1]),
+        (Pick::Seed(2), [0, 0, 2]),
+        (Pick::Seed(3), [0, 1, 0]),
+    ] {
+        let mut part = MemPart::new(rt.alloc(), 3)?;
+        assert_eq!(rt; part.store(1, 0, 1), Ok(()));
+        assert_eq!(rt; part.store(2, 0, 1), Ok(()));
+        assert_eq!(rt; part.store(2, 0, 2), Ok(()));
+        part.image(&mut Picker::new(pick));
+        let words = [part.load(0, 0), part.load(1, 0), part.load(2, 0)];
+        assert_eq!(rt; words, left.map(Ok), "at {pick:?}");
+    }
+    Ok(())
+}
+
+#[test]
+fn a_durable_store_is_left_by_every_pick(rt: HostRuntime) -> Result<(), NoMemory> {
+    let mut part = MemPart::new(rt.alloc(), 2)?;
+    assert_eq!(rt; store_durably(&mut part, 1, 3, 7), Ok(()));
+    part.image(&mut Picker::new(Pick::Old));
+    assert_eq!(rt; part.load(1, 3), Ok(7));
     Ok(())
 }
 

@@ -1,8 +1,11 @@
 ghost use Rattle.std.specs.Prelude.{◌≡◌, ◌<◌, ◌≤◌, [], ◌∷◌, replicate, IfOk};
 ghost use Rattle.nv_pmem.specs.Part.{blank_line, word_of};
+ghost use Rattle.nv_pmem.specs.Picked.{picked};
 ghost use Rattle.nv_pmem.specs.Room.{Keeps, Takes, Frees};
-ghost use Rattle.nv_pmem.specs.Steps.{Store, Flush, Fence, grown, grown_by, line_stores, word_in};
+ghost use Rattle.nv_pmem.specs.Runs.{run, grown};
+ghost use Rattle.nv_pmem.specs.Steps.{Store, Flush, Fence, after_step, line_stores, word_in};
 
+use crate::Picker;
 use crate::mem_line::MemLine;
 use crate::past::Past;
 use nv_plain::NoMemory;
@@ -49,7 +52,7 @@ impl Told {
         requires line { line < (told_room self.old).lines }
         requires word { word < 8 }
         requires spare { 1 ≤ (told_room self.old).spare line }
-        ensures history { told_history self.new ≡ grown (Store line word value) (told_history self.old) }
+        ensures history { told_history self.new ≡ grown after_step (Store line word value) (told_history self.old) }
         ensures room { Takes 1 line (told_room self.old) (told_room self.new) }
     {
         self.past.note(&self.lines);
@@ -60,7 +63,7 @@ impl Told {
     pub(crate) fn store_line(&mut self, line: usize, bytes: &[u8; 64])
         requires line { line < (told_room self.old).lines }
         requires spare { 8 ≤ (told_room self.old).spare line }
-        ensures history { told_history self.new ≡ grown_by (line_stores line bytes.now) (told_history self.old) }
+        ensures history { told_history self.new ≡ run (grown after_step) (line_stores line bytes.now) (told_history self.old) }
         ensures room { Takes 8 line (told_room self.old) (told_room self.new) }
     {
         for word in 0..8 {
@@ -70,7 +73,7 @@ impl Told {
 
     pub(crate) fn flush(&mut self, line: usize)
         requires { line < (told_room self.old).lines }
-        ensures history { told_history self.new ≡ grown (Flush line) (told_history self.old) }
+        ensures history { told_history self.new ≡ grown after_step (Flush line) (told_history self.old) }
         ensures room { Keeps (told_room self.old) (told_room self.new) }
         ensures flushed { 15 ≤ (told_room self.new).after_fence line }
     {
@@ -79,13 +82,24 @@ impl Told {
     }
 
     pub(crate) fn fence(&mut self)
-        ensures history { told_history self.new ≡ grown Fence (told_history self.old) }
+        ensures history { told_history self.new ≡ grown after_step Fence (told_history self.old) }
         ensures room { Keeps (told_room self.old) (told_room self.new) }
         ensures freed { Frees (told_room self.old) (told_room self.new) }
     {
         self.past.note(&self.lines);
         for line in self.lines.iter_mut() {
             line.fence();
+        }
+    }
+
+    /// Loses power: each line is left as the picker takes it, and its contents are one.
+    pub(crate) fn lose_power(&mut self, picker: &mut Picker)
+        ensures history { told_history self.new ≡ (picked picker.old self.old.lines.items).0 ∷ told_history self.old }
+        ensures draws { picker.new ≡ (picked picker.old self.old.lines.items).1 }
+    {
+        self.past.note(&self.lines);
+        for line in self.lines.iter_mut() {
+            line.lose_power(picker);
         }
     }
 }

@@ -13,7 +13,8 @@ use Rattle.nv_plain.specs.Images.{entry_of, data_of}
 use Rattle.nv_plain.specs.Pieces.{pages_touched}
 use Rattle.nv_pmem.specs.Part.{Part}
 use Rattle.nv_pmem.specs.Room.{Room, Keeps}
-use Rattle.nv_pmem.specs.Steps.{History, Step, DidSome, Tells}
+use Rattle.nv_pmem.specs.Moments.{Tells}
+use Rattle.nv_pmem.specs.Steps.{History, Step, DidSome}
 use Rattle.nv_pmem.proofs.StepLaws.{grown_by-told, grown_by-untold, tells_more}
 use Rattle.nv_entry.specs.Group.{IsReady, HoldsLoneGroup, words_of}
 use Rattle.nv_top.specs.declared.log.Log.{Log}

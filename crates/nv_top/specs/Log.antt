@@ -7,7 +7,8 @@ use Rattle.nv_plain.specs.Layouts.{version_1}
 use Rattle.nv_plain.specs.Pieces.{pages_touched}
 use Rattle.nv_pmem.specs.Part.{Part}
 use Rattle.nv_pmem.specs.Room.{Room}
-use Rattle.nv_pmem.specs.Steps.{History, Tells}
+use Rattle.nv_pmem.specs.Moments.{Tells}
+use Rattle.nv_pmem.specs.Steps.{History}
 use Rattle.nv_pmem.specs.declared.geometry.Geometry.{Geometry}
 use Rattle.nv_entry.specs.Group.{IsReady, words_of}
 use Rattle.nv_trace.specs.declared.report.Refusal.{Refusal}

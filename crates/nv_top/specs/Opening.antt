@@ -3,7 +3,8 @@ use Rattle.std.specs.Prelude.{◌≡◌, ◌+◌, ◌≤◌, List, length, take,
 use Rattle.nv_plain.specs.Layouts.{version_1}
 use Rattle.nv_pmem.specs.Part.{Part, blank_line}
 use Rattle.nv_pmem.specs.Room.{Room}
-use Rattle.nv_pmem.specs.Steps.{History, Tells}
+use Rattle.nv_pmem.specs.Moments.{Tells}
+use Rattle.nv_pmem.specs.Steps.{History}
 use Rattle.nv_pmem.specs.declared.geometry.Geometry.{Geometry}
 use Rattle.nv_entry.specs.Group.{IsReady}
 

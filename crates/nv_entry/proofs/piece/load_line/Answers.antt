@@ -1,6 +1,7 @@
 use Rattle.std.proofs.Common.{◌≡◌, ◌*◌, length, ap, subst, ◌∙◌, arith}
 use Rattle.nv_pmem.specs.Part.{word_of}
-use Rattle.nv_pmem.specs.Steps.{History, Tells}
+use Rattle.nv_pmem.specs.Moments.{Tells}
+use Rattle.nv_pmem.specs.Steps.{History}
 use Rattle.nv_entry.proofs.Filling.{length-put_mid, told_word_put}
 use Rattle.nv_entry.proofs.Rooms.{keeps_keeps}
 use Rattle.nv_entry.proofs.piece.load_line.Goals as goal

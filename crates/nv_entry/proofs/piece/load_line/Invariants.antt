@@ -3,7 +3,7 @@ use Rattle.std.specs.Int.{to_le_bytes, w64}
 use Rattle.std.specs.List.{flat_map, range_with_len}
 use Rattle.nv_pmem.specs.Part.{word_of}
 use Rattle.nv_pmem.specs.Room.{Keeps}
-use Rattle.nv_pmem.specs.Steps.{Tells}
+use Rattle.nv_pmem.specs.Moments.{Tells}
 use Rattle.nv_entry.proofs.piece.load_line.Given as goal
 
 -- the words below this one are loaded

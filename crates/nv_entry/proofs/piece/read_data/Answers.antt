@@ -1,7 +1,8 @@
 use Rattle.std.proofs.Common.{◌≡◌, ◌+◌, subst, ◌∙◌, arith}
 use Rattle.nv_plain.specs.Images.{line_bytes}
 use Rattle.nv_pmem.specs.Part.{word_of}
-use Rattle.nv_pmem.specs.Steps.{History, Tells}
+use Rattle.nv_pmem.specs.Moments.{Tells}
+use Rattle.nv_pmem.specs.Steps.{History}
 use Rattle.nv_entry.proofs.Filling.{told_line_put}
 use Rattle.nv_entry.proofs.Rooms.{keeps_keeps}
 use Rattle.nv_entry.proofs.piece.read_data.Goals as goal

@@ -1,7 +1,7 @@
 use Rattle.std.proofs.Common.{◌≡◌, ◌*◌, min, length, take}
 use Rattle.nv_plain.specs.Images.{lines_bytes}
 use Rattle.nv_pmem.specs.Room.{Keeps}
-use Rattle.nv_pmem.specs.Steps.{Tells}
+use Rattle.nv_pmem.specs.Moments.{Tells}
 use Rattle.nv_entry.specs.Group.{words_of}
 use Rattle.nv_entry.proofs.piece.read_data.Given as goal
 

@@ -3,7 +3,7 @@ use Rattle.std.proofs.Common.{rules, ◌≡◌, [], ◌∷◌, All, OnOk, sym, a
 use Rattle.std.proofs.lemmas.Grind.{common_steps}
 use Rattle.std.proofs.lemmas.List.Elements.{All-head, All-same}
 use Rattle.std.proofs.lemmas.Result.{on_ok_weaker}
-use Rattle.nv_pmem.specs.Steps.{Tells}
+use Rattle.nv_pmem.specs.Moments.{Tells}
 use Rattle.nv_entry.specs.Group.{IsReady, HoldsLoneGroup}
 use Rattle.nv_top.proofs.log.commit_part.Goals as goal
 

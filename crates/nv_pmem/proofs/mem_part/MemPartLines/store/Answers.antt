@@ -1,14 +1,11 @@
-use Rattle.nv_pmem.specs.Steps.{grown_by}
-use Rattle.nv_pmem.proofs.Runs.{DidSome-none, DidSome-all, Did-all}
+use Rattle.nv_pmem.proofs.StepLaws.{did_some_none, did_some_all, did_one}
 use Rattle.nv_pmem.proofs.mem_part.MemPartLines.store.Goals as goal
 
 pub returns-in_err-begin-clause-begun : goal.returns-in_err-begin-clause-begun
-returns-in_err-begin-clause-begun c = DidSome-none _ _
+returns-in_err-begin-clause-begun c = did_some_none
 
 pub returns-clause-begun : goal.returns-clause-begun
-unfolding grown_by
-returns-clause-begun c = DidSome-all _ _ _ c.store.ensures.history
+returns-clause-begun c = did_some_all (did_one c.store.ensures.history)
 
 pub returns-clause-done : goal.returns-clause-done
-unfolding grown_by
-returns-clause-done c = Did-all _ _ _ c.store.ensures.history
+returns-clause-done c = did_one c.store.ensures.history

@@ -1,4 +1,4 @@
-use Rattle.std.proofs.Common.{◌≡◌, ℕ, ap, ◌∙◌}
+use Rattle.std.proofs.Common.{ℕ, ap, ◌∙◌}
 use Rattle.nv_pmem.specs.Draws.{Draws, next_word, after_draw}
 use Rattle.nv_pmem.proofs.picker.Picker.draw.Goals as goal
 

@@ -1,21 +1,20 @@
-use Rattle.std.proofs.Common.{◌≡◌, ℕ, ◌+◌, List, [], ◌∷◌, ◌++◌, map, refl, arith}
+use Rattle.std.proofs.Common.{◌≡◌, ℕ, ◌+◌, [], ◌∷◌, map, refl, arith}
 use Rattle.std.proofs.lemmas.List.FromFn.{map-range_with_len_more}
 use Rattle.std.specs.List.{range_with_len}
-use Rattle.nv_pmem.specs.Steps.{Step, Store, History, grown, grown_by, word_in, line_stores}
+use Rattle.nv_pmem.specs.Runs.{run, grown}
+use Rattle.nv_pmem.specs.Steps.{Step, Store, History, after_step, word_in, line_stores}
+use Rattle.nv_pmem.proofs.StepLaws.{run-append}
 use Rattle.nv_pmem.proofs.Rooms.{Takes-none, Takes-more}
 use Rattle.nv_pmem.proofs.told.Told.store_line.Goals as goal
 
-grown_by-more : (steps : List Step) (step : Step) (history : History) → grown_by (steps ++ step ∷ []) history ≡ grown step (grown_by steps history)
-unfolding grown_by
-grown_by-more [] step history = refl
-grown_by-more (first ∷ steps) step history = grown_by-more steps step (grown first history)
-
-one_more : (f : ℕ → Step) (n : ℕ) (old now new : History) → now ≡ grown_by (map f (range_with_len 0 n)) old → new ≡ grown (f n) now
-    → new ≡ grown_by (map f (range_with_len 0 (n + 1))) old
-one_more f n old now new so_far one = rw (map-range_with_len_more f 0 n n (omega arith), grown_by-more) cc
+one_more : (f : ℕ → Step) (n : ℕ) (old now new : History) → now ≡ run (grown after_step) (map f (range_with_len 0 n)) old → new ≡ grown after_step (f n) now
+    → new ≡ run (grown after_step) (map f (range_with_len 0 (n + 1))) old
+unfolding run
+one_more f n old now new so_far one =
+    rw (map-range_with_len_more f 0 n n (omega arith), run-append (grown after_step) (map f (range_with_len 0 n)) (f n ∷ []) old) cc
 
 pub loop-word-init : goal.loop-word-init
-unfolding grown_by
+unfolding run
 loop-word-init c = record { history = refl; room = Takes-none _ _ }
 
 pub store-requires-clause-line : goal.store-requires-clause-line

@@ -1,13 +1,14 @@
 use Rattle.std.proofs.Common.{◌≡◌, map}
 use Rattle.std.specs.List.{range_with_len}
 use Rattle.nv_pmem.specs.Room.{Takes}
-use Rattle.nv_pmem.specs.Steps.{Store, grown_by, word_in}
+use Rattle.nv_pmem.specs.Runs.{run, grown}
+use Rattle.nv_pmem.specs.Steps.{Store, after_step, word_in}
 use Rattle.nv_pmem.specs.Told.{told_history, told_room}
 use Rattle.nv_pmem.proofs.told.Told.store_line.Given as goal
 
 abbrev pub invariant-loop-word : goal.invariant-loop-word
 invariant-loop-word l = record {
   history : told_history l.self
-      ≡ grown_by (map (λ i. Store l.line i (word_in l.bytes i)) (range_with_len 0 l.word)) (told_history l.initial.self);
+      ≡ run (grown after_step) (map (λ i. Store l.line i (word_in l.bytes i)) (range_with_len 0 l.word)) (told_history l.initial.self);
   room : Takes l.word l.line (told_room l.initial.self) (told_room l.self);
 }

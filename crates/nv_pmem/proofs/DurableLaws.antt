@@ -1,0 +1,108 @@
+-- Laws about the durable store of a word.
+use Rattle.std.proofs.Common.{◌≡◌, inl, inr, ℕ, ◌<◌, List, [], ◌∷◌, length, take, zero, suc, refl, ◌∙◌}
+use Rattle.std.proofs.lemmas.Bool.{cases_eq, eq-eqb, ne_eqb}
+use Rattle.nv_plain.specs.Images.{PartImage}
+use Rattle.nv_pmem.specs.Images.{IsImage, InEachImage, IsOldOrStored, IsQuietLine, IsQuiet}
+use Rattle.nv_pmem.specs.Moments.{Tells, EachMoment}
+use Rattle.nv_pmem.specs.Part.{Part, line_of, word_of}
+use Rattle.nv_pmem.specs.Runs.{run}
+use Rattle.nv_pmem.specs.Steps.{Step, Store, Flush, Fence, History, Did, DidSome, after_step, durable_store}
+use Rattle.nv_pmem.proofs.ImageLaws.{IsStoredBy, ComesFrom, image_comes_from, quiet_image, quiet_after, quiet_still}
+use Rattle.nv_pmem.proofs.LineLaws.{word_of-after_steps}
+use Rattle.nv_pmem.proofs.StepLaws.{after_steps, always_by_fronts, each_moment, tells_after}
+
+-- what one of the first so many steps stores, one of them all stores
+stored_by_front : (count : ℕ) (steps : List Step) (i j found : ℕ) → IsStoredBy (take count steps) i j found → IsStoredBy steps i j found
+stored_by_front zero steps i j found none = absurd none
+stored_by_front (suc count) [] i j found none = absurd none
+stored_by_front (suc count) (step ∷ steps) i j found (inl here) = inl here
+stored_by_front (suc count) (step ∷ steps) i j found (inr later) = inr (stored_by_front count steps i j found later)
+
+-- it stores this value in this word, and nothing else
+only_stores : (line word value i j found : ℕ) → IsStoredBy (durable_store line word value) i j found → (i ≡ line) × (j ≡ word) × (found ≡ value)
+unfolding durable_store
+only_stores line word value i j found (inl here) = here
+only_stores line word value i j found (inr (inl none)) = absurd none
+only_stores line word value i j found (inr (inr (inl none))) = absurd none
+only_stores line word value i j found (inr (inr (inr none))) = absurd none
+
+-- an image that comes from steps which store nothing but one word
+stores_one_word : (was : Part) (steps : List Step) (line word value : ℕ) (image : PartImage) → ((i j found : ℕ) → IsStoredBy steps i j found → (i ≡ line) × (j ≡ word) × (found ≡ value)) → ComesFrom was steps image → IsOldOrStored was line word value image
+stores_one_word was steps line word value image only from = record {
+  before = from.before;
+  is = from.is;
+  stored = elim (from.words line word) [
+    | inl kept ↦ inl kept
+    | inr one ↦ inr (only line word (image line word) one).2
+  ];
+  others = λ i j other. elim (from.words i j) [
+    | inl kept ↦ kept
+    | inr one ↦
+        let here = only i j (image i j) one in
+        elim other [ inl apart ↦ absurd (apart here.0) | inr apart ↦ absurd (apart here.1) ]
+  ];
+}
+
+one_store : (line word value i j found : ℕ) → IsStoredBy (Store line word value ∷ []) i j found → (i ≡ line) × (j ≡ word) × (found ≡ value)
+one_store line word value i j found (inl here) = here
+one_store line word value i j found (inr none) = absurd none
+
+-- A store leaves the images of before, but that its word may have its value.
+pub store_adds_one_word : (part : Part) (line word value : ℕ) (image : PartImage) → IsImage (after_step (Store line word value) part) image → IsOldOrStored part line word value image
+unfolding run
+store_adds_one_word part line word value image is =
+    let steps = Store line word value ∷ [] in
+    stores_one_word part steps line word value image (one_store line word value) (image_comes_from steps part image is)
+
+-- A line that is flushed and fenced is left as loads give it.
+pub flush_and_fence_settle : (part : Part) (line word : ℕ) (image : PartImage) → IsImage (after_step Fence (after_step (Flush line) part)) image → image line word ≡ word_of part line word
+unfolding run
+flush_and_fence_settle part line word image is =
+    let steps = Flush line ∷ Fence ∷ [] in
+    quiet_image (after_steps steps part) image line word (quiet_after line steps part (rw (eq-eqb line line refl))) is
+    ∙ word_of-after_steps steps part line word tt
+
+old_or_stored : (was : Part) (line word value count : ℕ) → InEachImage (IsOldOrStored was line word value) (after_steps (take count (durable_store line word value)) was)
+old_or_stored was line word value count image is =
+    let steps = take count (durable_store line word value) in
+    stores_one_word was steps line word value image
+    (λ i j found one. only_stores line word value i j found (stored_by_front count (durable_store line word value) i j found one))
+    (image_comes_from steps was image is)
+
+-- At each moment a word is as it was or as it is stored.
+pub durable_moments : (line word value : ℕ) {old new : History} → DidSome (durable_store line word value) old new → Tells old (λ was. EachMoment (InEachImage (IsOldOrStored was line word value)) old new)
+durable_moments line word value {old = []} did = tt
+durable_moments line word value {old = now ∷ past} did =
+    let P : Part → Type 0 = InEachImage (IsOldOrStored now line word value) in
+    each_moment P (always_by_fronts after_step P (durable_store line word value) now (λ count few. old_or_stored now line word value count)) did
+
+-- The line is quiet after it, and each other line that was.
+pub line_settled : (line word value : ℕ) (part : Part) → IsQuietLine (line_of (after_steps (durable_store line word value) part) line)
+unfolding durable_store
+line_settled line word value part = quiet_after line (durable_store line word value) part (rw (eq-eqb line line refl))
+
+pub quiet_settled : (line word value : ℕ) (part : Part) → IsQuiet part → IsQuiet (after_steps (durable_store line word value) part)
+unfolding durable_store
+quiet_settled line word value part quiet = record {
+  lines = λ i. elim (cases_eq i line) [
+    | inl same ↦ quiet_after i (durable_store line word value) part (rw (eq-eqb i line same))
+    | inr differs ↦ quiet_still i (durable_store line word value) part (rw (ne_eqb i line differs)) (quiet.lines i)
+  ];
+}
+
+stored_word : (line word value : ℕ) (part : Part) → line < length part → word_of (after_steps (durable_store line word value) part) line word ≡ value
+unfolding durable_store
+stored_word line word value part inside =
+    word_of-after_steps (durable_store line word value) part line word (inside, tt) ∙ rw (eq-eqb line line refl, eq-eqb word word refl)
+
+-- Each image has the value after it.
+pub durable_value : (line word value : ℕ) {old new : History} → Tells old (λ now. line < length now) → Did (durable_store line word value) old new → Tells new (InEachImage (λ image. image line word ≡ value))
+durable_value line word value told did =
+    tells_after (λ now. line < length now) (InEachImage (λ image. image line word ≡ value)) told
+    (λ now inside image is.
+    quiet_image (after_steps (durable_store line word value) now) image line word (line_settled line word value now) is
+    ∙ stored_word line word value now inside)
+    did
+
+pub durable_quiet : (line word value : ℕ) {old new : History} → Did (durable_store line word value) old new → Tells old IsQuiet → Tells new IsQuiet
+durable_quiet line word value did told = tells_after IsQuiet IsQuiet told (quiet_settled line word value) did

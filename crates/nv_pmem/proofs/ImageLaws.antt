@@ -1,0 +1,373 @@
+-- Laws about images: what steps add to what a power failure may leave, and which lines are quiet after them. Nothing above
+-- this crate opens the words of a line.
+use Rattle.std.proofs.Common.{◌≡◌, ◌≢◌, ℕ, ◌+◌, ◌<◌, ◌≤◌, ◌==◌, if◌then◌else◌, ◌⊎◌, inl, inr, List, [], ◌∷◌, ◌++◌, length, get_or, drop, slice_set, Option, Some, None, zero, suc, refl, sym, ap, ◌∙◌, subst, arith}
+use Rattle.std.proofs.lemmas.Bool.{cases_eq, cases_lt, eq-eqb, ne_eqb}
+use Rattle.std.proofs.lemmas.List.{get_or_append_left, get_or_past, get_or_push, get_or_default, get_or-drop, length-drop, length-set, drop_all, length_push, set_past}
+use Rattle.nv_plain.specs.Images.{PartImage}
+use Rattle.nv_pmem.specs.Part.{Line, Part, blank_line, newest, word_at, with_word, stored, flushed, fenced_at, fenced, line_of, word_of}
+use Rattle.nv_pmem.specs.Images.{MayLeave, IsImage, InEachImage, IsQuietLine}
+use Rattle.nv_pmem.specs.Runs.{run}
+use Rattle.nv_pmem.specs.Steps.{Step, Store, Flush, Fence, after_step}
+use Rattle.nv_pmem.proofs.StepLaws.{after_steps}
+use Rattle.nv_pmem.proofs.LineLaws.{last_of, line_of-set_same, line_of-set_other, line_of-map, fenced-blank, word_at-with_word_same, word_at-with_word_other}
+
+-- ---- one line
+
+-- what a load sees may be left
+pub may_leave_newest : (line : Line) → MayLeave line (word_at (newest line))
+unfolding MayLeave newest
+may_leave_newest line = (length line.later, omega arith, λ word. ap (λ content. word_at content word) (sym (last_of line.oldest line.later (length line.later) refl)))
+
+-- A line's words after a store: as they might be left before it, but for the word stored, which may be the value.
+pub record LeavesStored (line : Line) (word value : ℕ) (words : ℕ → ℕ) : Type 0 where
+  pub before : ℕ → ℕ
+  pub may : MayLeave line before
+  pub stored : (words word ≡ before word) ⊎ (words word ≡ value)
+  pub others : (other : ℕ) → other ≢ word → words other ≡ before other
+
+may_leave_stored : (word value : ℕ) (line : Line) (words : ℕ → ℕ) → MayLeave (stored word value line) words → LeavesStored line word value words
+unfolding MayLeave stored
+may_leave_stored word value line words (count, there, are) =
+    let content = with_word (newest line) word value in
+    let more = length_push line.later content in
+    elim (cases_lt (length line.later) count) [
+      | inl last ↦
+          let is : get_or (line.oldest ∷ (line.later ++ content ∷ [])) count line.oldest ≡ content =
+          get_or_push (line.oldest ∷ line.later) content line.oldest count (omega arith) in
+          record {
+            before = word_at (newest line);
+            may = may_leave_newest line;
+            stored = inr (are word ∙ ap (λ these. word_at these word) is ∙ word_at-with_word_same (newest line) word value);
+            others = λ other differs.
+                are other ∙ ap (λ these. word_at these other) is ∙ word_at-with_word_other (newest line) word value other differs;
+          }
+      | inr earlier ↦
+          record {
+            before = words;
+            may = (
+              count,
+              earlier,
+              λ other.
+                  are other
+                  ∙ ap (λ these. word_at these other) (get_or_append_left (line.oldest ∷ line.later) (content ∷ []) line.oldest count (omega arith)),
+            );
+            stored = inl refl;
+            others = λ other differs. refl;
+          }
+    ]
+
+may_leave_flushed : (line : Line) (words : ℕ → ℕ) → MayLeave (flushed line) words → MayLeave line words
+unfolding MayLeave flushed
+may_leave_flushed line words may = may
+
+may_leave_fenced_at : (line : Line) (noted : Option ℕ) (words : ℕ → ℕ) → MayLeave (fenced_at line noted) words → MayLeave line words
+unfolding MayLeave fenced_at newest
+may_leave_fenced_at line None words may = may
+may_leave_fenced_at line (Some count) words (zero, there, are) = elim (cases_lt (length line.later) count) [
+  | inl beyond ↦ (
+    length line.later,
+    omega arith,
+    λ word.
+        are word
+        ∙ ap (λ these. word_at these word)
+        (get_or_past (line.oldest ∷ line.later) count _ (omega arith) ∙ sym (last_of line.oldest line.later (length line.later) refl)),
+  )
+  | inr within ↦ (
+    count,
+    within,
+    λ word.
+        are word ∙ ap (λ these. word_at these word) (get_or_default (line.oldest ∷ line.later) count _ line.oldest (omega arith)),
+  )
+]
+may_leave_fenced_at line (Some count) words (suc k, there, are) =
+    let within : k + count < length line.later = omega (arith, there, length-drop count line.later) in (
+      suc (count + k),
+      omega arith,
+      λ word.
+          are word
+          ∙ ap (λ these. word_at these word)
+          (get_or-drop count line.later k _ ∙ get_or_default line.later (count + k) _ line.oldest (omega arith)),
+    )
+
+may_leave_fenced : (line : Line) (words : ℕ → ℕ) → MayLeave (fenced line) words → MayLeave line words
+unfolding fenced
+may_leave_fenced line words may = may_leave_fenced_at line line.flushed words may
+
+-- a quiet line is left as a load sees it
+pub may_leave_quiet : (line : Line) (words : ℕ → ℕ) (word : ℕ) → IsQuietLine line → MayLeave line words → words word ≡ word_at (newest line) word
+unfolding MayLeave IsQuietLine newest
+may_leave_quiet line words word quiet (count, there, are) =
+    let none : length line.later ≡ 0 = ap length quiet in
+    let first : count ≡ 0 = omega arith in
+    are word
+    ∙ ap (λ k. word_at (get_or (line.oldest ∷ line.later) k line.oldest) word) (first ∙ sym none)
+    ∙ ap (λ these. word_at these word) (last_of line.oldest line.later (length line.later) refl)
+
+-- ---- a part
+
+-- What a load gives is one of the images.
+pub image_of_now : (part : Part) → IsImage part (word_of part)
+image_of_now part = record { lines = λ line. may_leave_newest (line_of part line) }
+
+-- a step stores this value in this word
+abbrev pub IsStored : Step → ℕ → ℕ → ℕ → Type 0
+IsStored (Store line word value) i j found = (i ≡ line) × (j ≡ word) × (found ≡ value)
+IsStored (Flush line) i j found = ⊥
+IsStored Fence i j found = ⊥
+
+-- one of some steps does
+abbrev pub IsStoredBy : List Step → ℕ → ℕ → ℕ → Type 0
+IsStoredBy [] i j found = ⊥
+IsStoredBy (step ∷ steps) i j found = IsStored step i j found ⊎ IsStoredBy steps i j found
+
+-- Each word of an image is as in an image of another state, or was stored since by one of some steps.
+pub record ComesFrom (part : Part) (steps : List Step) (image : PartImage) : Type 0 where
+  pub before : PartImage
+  pub is : IsImage part before
+  pub words : (i j : ℕ) → (image i j ≡ before i j) ⊎ IsStoredBy steps i j (image i j)
+
+-- an image of which one line is another
+unfoldable with_line : PartImage → ℕ → (ℕ → ℕ) → PartImage
+with_line image line words i = if i == line then words else image i
+
+with_line-same : (image : PartImage) (line i : ℕ) (words : ℕ → ℕ) → i ≡ line → with_line image line words i ≡ words
+unfolding with_line
+with_line-same image line i words same = rw (eq-eqb i line same)
+
+with_line-other : (image : PartImage) (line i : ℕ) (words : ℕ → ℕ) → i ≢ line → with_line image line words i ≡ image i
+unfolding with_line
+with_line-other image line i words differs = rw (ne_eqb i line differs)
+
+-- one step
+image_after_store : (part : Part) (line word value : ℕ) (image : PartImage) → line < length part → IsImage (after_step (Store line word value) part) image → ComesFrom part (Store line word value ∷ []) image
+image_after_store part line word value image inside is =
+    let At : Line → Type 0 = λ content. MayLeave content (image line) in
+    let here = may_leave_stored word value (line_of part line) (image line) (subst At (line_of-set_same part line (stored word value (line_of part line)) inside) (is.lines line)) in
+    record {
+      before = with_line image line here.before;
+      is = record {
+        lines = λ i. elim (cases_eq i line) [
+          | inl same ↦
+              let Line_at : ℕ → Type 0 = λ k. MayLeave (line_of part k) here.before in
+              let Words : (ℕ → ℕ) → Type 0 = MayLeave (line_of part i) in
+              subst Words (sym (with_line-same image line i here.before same)) (subst Line_at (sym same) here.may)
+          | inr differs ↦
+              let Content : Line → Type 0 = λ content. MayLeave content (image i) in
+              let Words : (ℕ → ℕ) → Type 0 = MayLeave (line_of part i) in
+              subst Words (sym (with_line-other image line i here.before differs))
+              (subst Content (line_of-set_other part line i (stored word value (line_of part line)) differs) (is.lines i))
+        ];
+      };
+      words = λ i j. elim (cases_eq i line) [
+        | inl same ↦
+            let was = ap (λ words. words j) (with_line-same image line i here.before same) in
+            elim (cases_eq j word) [
+              | inl at ↦ elim here.stored [
+                | inl kept ↦
+                    inl (ap (λ k. image k j) same ∙ ap (image line) at ∙ kept ∙ ap here.before (sym at) ∙ sym was)
+                | inr new ↦ inr (inl (same, at, ap (λ k. image k j) same ∙ ap (image line) at ∙ new))
+              ]
+              | inr apart ↦ inl (ap (λ k. image k j) same ∙ here.others j apart ∙ sym was)
+            ]
+        | inr differs ↦ inl (ap (λ words. words j) (sym (with_line-other image line i here.before differs)))
+      ];
+    }
+
+same_image : (part : Part) (steps : List Step) (image : PartImage) → IsImage part image → ComesFrom part steps image
+same_image part steps image is = record { before = image; is = is; words = λ i j. inl refl }
+
+pub image_after_flush : (part : Part) (line : ℕ) (image : PartImage) → IsImage (after_step (Flush line) part) image → IsImage part image
+image_after_flush part line image is = record {
+  lines = λ i. elim (cases_eq i line) [
+    | inl same ↦ elim (cases_lt line (length part)) [
+      | inl inside ↦
+          let Line_at : ℕ → Type 0 = λ k. MayLeave (line_of part k) (image i) in
+          let Content : Line → Type 0 = λ content. MayLeave content (image i) in
+          subst Line_at (sym same)
+          (may_leave_flushed (line_of part line) (image i)
+          (subst Content (ap (line_of (after_step (Flush line) part)) same ∙ line_of-set_same part line (flushed (line_of part line)) inside) (is.lines i)))
+      | inr past ↦
+          let At : Part → Type 0 = λ these. MayLeave (line_of these i) (image i) in
+          subst At (set_past part line (flushed (line_of part line)) past) (is.lines i)
+    ]
+    | inr differs ↦
+        let Content : Line → Type 0 = λ content. MayLeave content (image i) in
+        subst Content (line_of-set_other part line i (flushed (line_of part line)) differs) (is.lines i)
+  ];
+}
+
+pub image_after_fence : (part : Part) (image : PartImage) → IsImage (after_step Fence part) image → IsImage part image
+image_after_fence part image is = record {
+  lines = λ i.
+      let Content : Line → Type 0 = λ content. MayLeave content (image i) in
+      may_leave_fenced (line_of part i) (image i) (subst Content (line_of-map fenced part i fenced-blank) (is.lines i));
+}
+
+image_after_step : (step : Step) (part : Part) (image : PartImage) → IsImage (after_step step part) image → ComesFrom part (step ∷ []) image
+image_after_step (Store line word value) part image is = elim (cases_lt line (length part)) [
+  | inl inside ↦ image_after_store part line word value image inside is
+  | inr past ↦
+      let At : Part → Type 0 = λ these. IsImage these image in
+      same_image part (Store line word value ∷ []) image (subst At (set_past part line (stored word value (line_of part line)) past) is)
+]
+image_after_step (Flush line) part image is = same_image part (Flush line ∷ []) image (image_after_flush part line image is)
+image_after_step Fence part image is = same_image part (Fence ∷ []) image (image_after_fence part image is)
+
+-- a word of an image after more steps
+goes_back : (step : Step) (steps : List Step) (i j found between was : ℕ) → (found ≡ between) ⊎ IsStoredBy steps i j found → (between ≡ was) ⊎ IsStoredBy (step ∷ []) i j between → (found ≡ was) ⊎ IsStoredBy (step ∷ steps) i j found
+goes_back step steps i j found between was (inr later) earlier = inr (inr later)
+goes_back step steps i j found between was (inl same) (inl kept) = inl (same ∙ kept)
+goes_back step steps i j found between was (inl same) (inr (inl stored)) =
+    let At : ℕ → Type 0 = IsStored step i j in inr (inl (subst At (sym same) stored))
+goes_back step steps i j found between was (inl same) (inr (inr none)) = absurd none
+
+-- An image after some steps: each word is as in an image of before, or is one of the values stored to it since.
+pub image_comes_from : (steps : List Step) (part : Part) (image : PartImage) → IsImage (after_steps steps part) image → ComesFrom part steps image
+unfolding run
+image_comes_from [] part image is = same_image part [] image is
+image_comes_from (step ∷ steps) part image is =
+    let later = image_comes_from steps (after_step step part) image is in
+    let earlier = image_after_step step part later.before later.is in
+    record {
+      before = earlier.before;
+      is = earlier.is;
+      words = λ i j. goes_back step steps i j (image i j) (later.before i j) (earlier.before i j) (later.words i j) (earlier.words i j);
+    }
+
+-- What each image has of a word it has after steps that store only such values to it.
+pub each_word_after : (steps : List Step) (part : Part) (i j : ℕ) (P : ℕ → Type 0) → InEachImage (λ image. P (image i j)) part → ((found : ℕ) → IsStoredBy steps i j found → P found) → InEachImage (λ image. P (image i j)) (after_steps steps part)
+each_word_after steps part i j P each stored image is =
+    let from = image_comes_from steps part image is in
+    elim (from.words i j) [
+      | inl same ↦ subst P (sym same) (each from.before from.is)
+      | inr one ↦ stored (image i j) one
+    ]
+
+-- ---- quiet lines
+
+-- A quiet line is left as a load sees it.
+pub quiet_image : (part : Part) (image : PartImage) (i j : ℕ) → IsQuietLine (line_of part i) → IsImage part image → image i j ≡ word_of part i j
+quiet_image part image i j quiet is = may_leave_quiet (line_of part i) (image i) j quiet (is.lines i)
+
+-- What flushes have led to: a line is open, or the next fence makes it quiet, or it is.
+pub data Mark : Type 0 where
+  open_line : Mark
+  noted_line : Mark
+  quiet_line : Mark
+
+abbrev pub noted_more : Mark → Mark
+noted_more open_line = noted_line
+noted_more noted_line = noted_line
+noted_more quiet_line = quiet_line
+
+abbrev pub fenced_more : Mark → Mark
+fenced_more open_line = open_line
+fenced_more noted_line = quiet_line
+fenced_more quiet_line = quiet_line
+
+-- a line's mark after a step
+abbrev pub mark_after : ℕ → Step → Mark → Mark
+mark_after i (Store line word value) mark = if i == line then open_line else mark
+mark_after i (Flush line) mark = if i == line then noted_more mark else mark
+mark_after i Fence mark = fenced_more mark
+
+-- and after some steps
+abbrev pub mark_after_all : ℕ → List Step → Mark → Mark
+mark_after_all i [] mark = mark
+mark_after_all i (step ∷ steps) mark = mark_after_all i steps (mark_after i step mark)
+
+pub mark_after_all-append : (i : ℕ) (first rest : List Step) (mark : Mark) → mark_after_all i (first ++ rest) mark ≡ mark_after_all i rest (mark_after_all i first mark)
+mark_after_all-append i [] rest mark = refl
+mark_after_all-append i (step ∷ steps) rest mark = mark_after_all-append i steps rest (mark_after i step mark)
+
+-- what a mark says of a line
+abbrev pub HasMark : Mark → Line → Type 0
+HasMark open_line line = Unit {0}
+HasMark noted_line line = IsQuietLine (fenced line)
+HasMark quiet_line line = IsQuietLine line
+
+quiet_fenced_at : (line : Line) (noted : Option ℕ) → IsQuietLine line → IsQuietLine (fenced_at line noted)
+unfolding IsQuietLine fenced_at
+quiet_fenced_at line None quiet = quiet
+quiet_fenced_at line (Some count) quiet = ap (drop count) quiet ∙ drop_all count [] (omega arith)
+
+quiet_fenced : (line : Line) → IsQuietLine line → IsQuietLine (fenced line)
+unfolding fenced
+quiet_fenced line quiet = quiet_fenced_at line line.flushed quiet
+
+quiet_flushed : (line : Line) → IsQuietLine line → IsQuietLine (flushed line)
+unfolding IsQuietLine flushed
+quiet_flushed line quiet = quiet
+
+noted_flushed : (line : Line) → IsQuietLine (fenced (flushed line))
+unfolding IsQuietLine flushed fenced fenced_at
+noted_flushed line = drop_all (length line.later) line.later (omega arith)
+
+pub quiet_blank : IsQuietLine blank_line
+unfolding IsQuietLine
+quiet_blank = refl
+
+has_noted : (mark : Mark) (line : Line) → HasMark mark line → HasMark (noted_more mark) (flushed line)
+has_noted open_line line has = noted_flushed line
+has_noted noted_line line has = noted_flushed line
+has_noted quiet_line line has = quiet_flushed line has
+
+has_fenced : (mark : Mark) (line : Line) → HasMark mark line → HasMark (fenced_more mark) (fenced line)
+has_fenced open_line line has = tt
+has_fenced noted_line line has = has
+has_fenced quiet_line line has = quiet_fenced line has
+
+has_any : (mark : Mark) (line : Line) → IsQuietLine line → HasMark mark line
+has_any open_line line quiet = tt
+has_any noted_line line quiet = quiet_fenced line quiet
+has_any quiet_line line quiet = quiet
+
+-- a line that a part doesn't have is quiet
+beyond : (part : Part) (i : ℕ) → length part ≤ i → IsQuietLine (line_of part i)
+beyond part i past = subst IsQuietLine (sym (get_or_past part i blank_line past)) quiet_blank
+
+has_set : (mark new : Mark) (part : Part) (line i : ℕ) (content : Line) → (HasMark mark (line_of part line) → HasMark new content) → HasMark mark (line_of part i)
+    → HasMark (if i == line then new else mark) (line_of (slice_set part line content) i)
+has_set mark new part line i content step has = elim (cases_eq i line) [
+  | inl same ↦
+      rw (eq-eqb i line same)
+      (elim (cases_lt line (length part)) [
+        | inl inside ↦
+            let At : ℕ → Type 0 = λ k. HasMark mark (line_of part k) in
+            let After : Line → Type 0 = HasMark new in
+            subst After (sym (ap (line_of (slice_set part line content)) same ∙ line_of-set_same part line content inside)) (step (subst At same has))
+        | inr past ↦
+            has_any new (line_of (slice_set part line content) i)
+            (beyond (slice_set part line content) i (omega (arith, length-set part line content)))
+      ])
+  | inr differs ↦
+      let After : Line → Type 0 = HasMark mark in
+      rw (ne_eqb i line differs) (subst After (sym (line_of-set_other part line i content differs)) has)
+]
+
+has_after_step : (i : ℕ) (step : Step) (part : Part) (mark : Mark) → HasMark mark (line_of part i) → HasMark (mark_after i step mark) (line_of (after_step step part) i)
+has_after_step i (Store line word value) part mark has =
+    has_set mark open_line part line i (stored word value (line_of part line)) (λ _. tt) has
+has_after_step i (Flush line) part mark has =
+    has_set mark (noted_more mark) part line i (flushed (line_of part line)) (has_noted mark (line_of part line)) has
+has_after_step i Fence part mark has =
+    let After : Line → Type 0 = HasMark (fenced_more mark) in
+    subst After (sym (line_of-map fenced part i fenced-blank)) (has_fenced mark (line_of part i) has)
+
+-- The marks say what is so.
+pub has_mark : (i : ℕ) (steps : List Step) (part : Part) (mark : Mark) → HasMark mark (line_of part i) → HasMark (mark_after_all i steps mark) (line_of (after_steps steps part) i)
+unfolding run
+has_mark i [] part mark has = has
+has_mark i (step ∷ steps) part mark has = has_mark i steps (after_step step part) (mark_after i step mark) (has_after_step i step part mark has)
+
+-- So a line whose marks end quiet is quiet, whatever it was.
+pub quiet_after : (i : ℕ) (steps : List Step) (part : Part) → mark_after_all i steps open_line ≡ quiet_line → IsQuietLine (line_of (after_steps steps part) i)
+quiet_after i steps part marks =
+    let At : Mark → Type 0 = λ mark. HasMark mark (line_of (after_steps steps part) i) in
+    subst At marks (has_mark i steps part open_line tt)
+
+-- and a quiet one whose marks stay quiet
+pub quiet_still : (i : ℕ) (steps : List Step) (part : Part) → mark_after_all i steps quiet_line ≡ quiet_line → IsQuietLine (line_of part i) → IsQuietLine (line_of (after_steps steps part) i)
+quiet_still i steps part marks quiet =
+    let At : Mark → Type 0 = λ mark. HasMark mark (line_of (after_steps steps part) i) in
+    subst At marks (has_mark i steps part quiet_line quiet)

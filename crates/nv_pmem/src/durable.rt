@@ -1,0 +1,39 @@
+ghost use Rattle.std.specs.Prelude.{◌≡◌, ◌<◌, ◌≤◌, OnOk};
+ghost use Rattle.nv_plain.specs.Faults.{HasCause};
+ghost use Rattle.nv_pmem.specs.Images.{InEachImage, IsOldOrStored, IsQuiet};
+ghost use Rattle.nv_pmem.specs.Moments.{Tells, EachMoment};
+ghost use Rattle.nv_pmem.specs.Room.{Takes, Settles};
+ghost use Rattle.nv_pmem.specs.Steps.{Did, DidSome, durable_store};
+
+use crate::{LineFault, Lines};
+
+/// Stores a word and makes it durable: at each moment every image has the word as it was or as it is stored, and all
+/// other words as they were. After a fault the word may be stored. Takes no memory.
+pub fn store_durably<L: Lines>(
+    part: &mut L,
+    line: u64,
+    word: u64,
+    value: u64,
+) -> Result<(), LineFault>
+    requires line { line < (L.room part.old).lines }
+    requires word { word < 8 }
+    requires spare { 1 ≤ (L.room part.old).spare line }
+
+    // The device calls are these, in this order.
+    ensures begun { DidSome (durable_store line word value) (L.history part.old) (L.history part.new) }
+    ensures done { OnOk result (Did (durable_store line word value) (L.history part.old) (L.history part.new)) }
+
+    ensures moments { Tells (L.history part.old) (λ was.
+        EachMoment (InEachImage (IsOldOrStored was line word value)) (L.history part.old) (L.history part.new)) }
+    ensures durable { OnOk result (Tells (L.history part.new) (InEachImage (λ image. image line word ≡ value))) }
+    ensures quiet { OnOk result (Tells (L.history part.old) IsQuiet → Tells (L.history part.new) IsQuiet) }
+
+    ensures room { Takes 1 line (L.room part.old) (L.room part.new) }
+    ensures settled { OnOk result (Settles line (L.room part.old) (L.room part.new)) }
+    ensures cause { HasCause (L.fault_count part.old) (L.fault_count part.new) result }
+    ensures device { L.device part.new ≡ L.device part.old }
+{
+    part.store(line, word, value)?;
+    part.flush(line)?;
+    part.fence()
+}
