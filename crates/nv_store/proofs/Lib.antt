@@ -3,4 +3,3 @@ pub mod Choices
 pub mod StoreLaws
 pub mod ImageLaws
 pub mod WriteLaws
-pub mod Runs

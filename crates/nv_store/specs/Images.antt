@@ -8,3 +8,7 @@ pub record IsImage (store : Store) (image : List ℕ) : Type 0 where
   pub no_shorter : length store.durable ≤ length image
   pub no_longer : length image ≤ length store.seen
   pub synced : (i : ℕ) → is_unsynced store i ≡ false → slice_index image i ≡ durable_byte store i
+
+-- each image of a store has a property
+abbrev pub InEachImage : (List ℕ → Type 0) → Store → Type 0
+InEachImage P store = (image : List ℕ) → IsImage store image → P image

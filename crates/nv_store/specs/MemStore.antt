@@ -16,8 +16,8 @@ abbrev pub store_history : MemStore → History
 store_history store = told_history store.told
 
 -- its present state
-abbrev pub present : MemStore → Store
-present store = store_of store.told.disk
+abbrev pub store_now : MemStore → Store
+store_now store = store_of store.told.disk
 
 -- how often it has failed
 abbrev pub store_faults : MemStore → ℕ

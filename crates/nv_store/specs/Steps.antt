@@ -1,6 +1,7 @@
 -- Steps: what the calls of a store do, one after another, and the states that it has had.
-use Rattle.std.specs.Prelude.{◌≡◌, ℕ, List, [], ◌∷◌, length}
+use Rattle.std.specs.Prelude.{ℕ, List, length}
 use Rattle.nv_plain.specs.Files.{overwritten}
+use Rattle.nv_pmem.specs.Runs.{Ran, grown}
 use Rattle.nv_store.specs.Store.{Store, quiet_store, marked}
 
 -- what one call does to a store
@@ -19,21 +20,6 @@ after_step Sync store = quiet_store store.seen
 abbrev pub History : Type 0
 History = List Store
 
--- the states after one more step
-abbrev pub grown : Step → History → History
-grown step [] = []
-grown step (now ∷ past) = after_step step now ∷ now ∷ past
-
--- the states after more steps, the first of them first
-unfoldable pub grown_by : List Step → History → History
-grown_by [] history = history
-grown_by (step ∷ steps) history = grown_by steps (grown step history)
-
 -- all of the steps were made, in their order
-pub record Did (steps : List Step) (old new : History) : Type 0 where
-  pub states : new ≡ grown_by steps old
-
--- the present state, where the store tells, has a property
-abbrev pub Tells : History → (Store → Type 0) → Type 0
-Tells [] P = Unit {0}
-Tells (now ∷ past) P = P now
+abbrev pub Did : List Step → History → History → Type 0
+Did steps old new = Ran (grown after_step) steps old new

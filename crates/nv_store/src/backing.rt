@@ -1,11 +1,12 @@
 ghost use Rattle.std.specs.Prelude.{◌≡◌, ℕ, ◌≤◌, ◌++◌, [], ◌∷◌, drop, length, Err, IfOk, OnOk, OnErr};
 ghost use Rattle.nv_plain.specs.Faults.{HasCause};
 ghost use Rattle.nv_plain.specs.Files.{bytes_at};
+ghost use Rattle.nv_pmem.specs.Moments.{Tells};
 ghost use Rattle.nv_store.specs.Store.{Store, IsWhole};
-ghost use Rattle.nv_store.specs.Steps.{Write, Sync, History, Did, Tells};
+ghost use Rattle.nv_store.specs.Steps.{Write, Sync, History, Did};
 ghost use Rattle.nv_store.specs.Torn.{LeftOrTore};
 ghost use Rattle.nv_store.specs.Causes.{HasWriteCause};
-ghost use Rattle.nv_store.specs.declared.backing.StoreError.TheVariants.{Fault, NoMemory as NoRoom};
+ghost use Rattle.nv_store.specs.declared.backing.StoreError.TheVariants.{NoMemory as NoRoom};
 
 use nv_pmem::Refused;
 use thiserror::Error;
@@ -66,7 +67,7 @@ pub trait Backing {
     /// Writes from an offset on, past the end too; a gap reads as zeros. No bytes change nothing.
     fn pwrite(&mut self, at: u64, bytes: &[u8]) -> Result<(), StoreError>
         ensures done { OnOk result (Did (Write at bytes.now ∷ []) (history self.old) (history self.new)) }
-        ensures fault { result ≡ Err Fault → LeftOrTore at (length bytes.now) (history self.old) (history self.new) }
+        ensures failed { OnErr result (LeftOrTore at (length bytes.now) (history self.old) (history self.new)) }
         ensures memory { result ≡ Err NoRoom → history self.new ≡ history self.old }
         ensures cause { HasWriteCause (fault_count self.old) (fault_count self.new) result }
         ensures device { device self.new ≡ device self.old };
@@ -74,7 +75,7 @@ pub trait Backing {
     /// Makes durable what reads give.
     fn sync(&mut self) -> Result<(), StoreFault>
         ensures done { OnOk result (Did (Sync ∷ []) (history self.old) (history self.new)) }
-        ensures fault { OnErr result (history self.new ≡ history self.old) }
+        ensures failed { OnErr result (history self.new ≡ history self.old) }
         ensures cause { HasCause (fault_count self.old) (fault_count self.new) result }
         ensures device { device self.new ≡ device self.old };
 

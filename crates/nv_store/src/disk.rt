@@ -105,8 +105,8 @@ impl Disk {
         self.unsynced.fill(false);
     }
 
-    /// Leaves the image that a pick names.
-    pub(crate) fn power_off(&mut self, picker: &mut Picker)
+    /// Leaves the image that a picker takes, durable.
+    pub(crate) fn lose_power(&mut self, picker: &mut Picker)
         ensures image { store_of self.new ≡ quiet_store (picked_image (store_of self.old) picker.old) }
         ensures draws { picker.new ≡ draws_after (store_of self.old) picker.old }
     {

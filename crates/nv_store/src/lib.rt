@@ -11,3 +11,6 @@ mod told;
 pub use backing::{Backing, StoreError, StoreFault};
 pub use laws::{store_images, store_writes};
 pub use mem_store::MemStore;
+
+#[cfg(test)]
+mod tests;

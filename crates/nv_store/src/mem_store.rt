@@ -22,7 +22,7 @@ pub struct MemStore {
 }
 
 impl MemStore {
-    ghost use Rattle.nv_store.specs.MemStore.{IsNew, present, store_device, store_faults, store_history};
+    ghost use Rattle.nv_store.specs.MemStore.{IsNew, store_now, store_device, store_faults, store_history};
 
     /// A store that holds these bytes, durable, and whose calls all go well. It takes three bytes for each of them.
     pub fn new(alloc: Global, bytes: &[u8]) -> Result<Self, NoMemory>
@@ -48,23 +48,23 @@ impl MemStore {
         })
     }
 
-    /// Powers the store off and on again: it then holds the image that the pick names, durable. Takes no memory, and
-    /// counts as no call.
+    /// Loses power: the store is left with the image that the picker takes, and is quiet. It isn't a call of `Backing`: no
+    /// fuse counts it, and it takes no memory.
     pub fn image(&mut self, picker: &mut Picker)
-        ensures history { store_history self.new
-            ≡ quiet_store (picked_image (present self.old) picker.old) ∷ store_history self.old }
-        ensures draws { picker.new ≡ draws_after (present self.old) picker.old }
-        ensures image { IsImage (present self.old) (present self.new).seen }
-        ensures quiet { IsQuiet (present self.new) }
+        ensures picked { store_history self.new
+            ≡ quiet_store (picked_image (store_now self.old) picker.old) ∷ store_history self.old }
+        ensures draws { picker.new ≡ draws_after (store_now self.old) picker.old }
+        ensures image { IsImage (store_now self.old) (store_now self.new).seen }
+        ensures quiet { IsQuiet (store_now self.new) }
         ensures faults { store_faults self.new ≡ store_faults self.old }
         ensures device { store_device self.new ≡ store_device self.old }
     {
-        self.told.power_off(picker);
+        self.told.lose_power(picker);
     }
 }
 
 impl Backing for MemStore {
-    ghost use Rattle.nv_store.specs.MemStore.{present, store_device, store_history, store_faults, store_told_whole};
+    ghost use Rattle.nv_store.specs.MemStore.{store_now, store_device, store_history, store_faults, store_told_whole};
 
     ghost device = { store_device };
 
@@ -84,12 +84,12 @@ impl Backing for MemStore {
 
     fn pwrite(&mut self, at: u64, bytes: &[u8]) -> Result<(), StoreError>
         ensures done { OnOk result (Did (Write at bytes.now ∷ []) (store_history self.old) (store_history self.new)) }
-        ensures fault { result ≡ Err Fault → LeftOrTore at (length bytes.now) (store_history self.old) (store_history self.new) }
+        ensures failed { OnErr result (LeftOrTore at (length bytes.now) (store_history self.old) (store_history self.new)) }
         ensures refused { result ≡ Err Fault
-            → store_history self.new ≡ with_marks at (length bytes.now) (present self.old) ∷ store_history self.old }
+            → store_history self.new ≡ with_marks at (length bytes.now) (store_now self.old) ∷ store_history self.old }
         ensures memory { result ≡ Err NoRoom → store_history self.new ≡ store_history self.old }
         ensures some { result ≡ Err NoRoom → 0 < length bytes.now }
-        ensures grows { result ≡ Err NoRoom → length (present self.old).seen < at + length bytes.now }
+        ensures grows { result ≡ Err NoRoom → length (store_now self.old).seen < at + length bytes.now }
         ensures cause { HasWriteCause (store_faults self.old) (store_faults self.new) result }
         ensures device { store_device self.new ≡ store_device self.old }
     {

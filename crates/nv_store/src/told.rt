@@ -1,7 +1,8 @@
 ghost use Rattle.std.specs.Prelude.{◌≡◌, ◌+◌, ◌<◌, ◌≤◌, ◌++◌, [], ◌∷◌, drop, length, IfOk, OnOk, OnErr};
 ghost use Rattle.nv_plain.specs.Files.{bytes_at};
 ghost use Rattle.nv_store.specs.Store.{quiet_store};
-ghost use Rattle.nv_store.specs.Steps.{Write, Sync, grown};
+ghost use Rattle.nv_pmem.specs.Runs.{grown};
+ghost use Rattle.nv_store.specs.Steps.{Write, Sync, after_step};
 ghost use Rattle.nv_store.specs.Torn.{with_marks};
 ghost use Rattle.nv_store.specs.Picked.{picked_image, draws_after};
 ghost use Rattle.nv_store.specs.Disk.{store_of};
@@ -47,7 +48,7 @@ impl Told {
 
     /// Writes from an offset on. Memory is asked for before anything changes.
     pub(crate) fn write(&mut self, at: usize, bytes: &[u8]) -> Result<(), NoMemory>
-        ensures done { OnOk result (told_history self.new ≡ grown (Write at bytes.now) (told_history self.old)) }
+        ensures done { OnOk result (told_history self.new ≡ grown after_step (Write at bytes.now) (told_history self.old)) }
         ensures same { OnErr result (told_history self.new ≡ told_history self.old) }
         ensures some { OnErr result (0 < length bytes.now) }
         ensures grows { OnErr result (length (store_of self.old.disk).seen < at + length bytes.now) }
@@ -67,17 +68,17 @@ impl Told {
     }
 
     pub(crate) fn sync(&mut self)
-        ensures { told_history self.new ≡ grown Sync (told_history self.old) }
+        ensures { told_history self.new ≡ grown after_step Sync (told_history self.old) }
     {
         self.past.note(&self.disk);
         self.disk.sync();
     }
 
-    pub(crate) fn power_off(&mut self, picker: &mut Picker)
+    pub(crate) fn lose_power(&mut self, picker: &mut Picker)
         ensures image { told_history self.new ≡ quiet_store (picked_image (store_of self.old.disk) picker.old) ∷ told_history self.old }
         ensures draws { picker.new ≡ draws_after (store_of self.old.disk) picker.old }
     {
         self.past.note(&self.disk);
-        self.disk.power_off(picker);
+        self.disk.lose_power(picker);
     }
 }
