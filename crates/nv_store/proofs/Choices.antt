@@ -4,7 +4,8 @@ use Rattle.std.proofs.lemmas.List.{get_or-set_same, get_or-set_other}
 use Rattle.std.proofs.lemmas.List.Sums.{count_by_more_yes, count_by_more_no}
 use Rattle.std.proofs.lemmas.List.FromFn.{length-map-range_with_len, get_or-map-range_with_len, fill_by_all}
 use Rattle.nv_pmem.specs.Draws.{Draws, after_draw}
-use Rattle.nv_store.specs.Picked.{after_draws, count_below, replaced}
+use Rattle.nv_store.specs.Picked.{after_draws, count_below}
+use Rattle.nv_store.specs.Replaced.{replaced}
 
 -- a byte, or another where its flag is set
 abbrev pub chosen : List Bool → (ℕ → ℕ) → List ℕ → ℕ → ℕ

@@ -8,7 +8,8 @@ use Rattle.nv_pmem.specs.declared.picker.Pick.TheVariants.{Old, New, Torn, Seed}
 use Rattle.nv_pmem.specs.Draws.{Draws, after_draw}
 use Rattle.nv_store.specs.Store.{Store, is_unsynced, durable_byte, IsWhole, IsQuiet}
 use Rattle.nv_store.specs.Images.{IsImage}
-use Rattle.nv_store.specs.Picked.{replaced, image_with, has_unsynced, drawn_len, redrawn, image_by, picked_image}
+use Rattle.nv_store.specs.Picked.{image_with, has_unsynced, drawn_len, redrawn, image_by, picked_image}
+use Rattle.nv_store.specs.Replaced.{replaced}
 use Rattle.nv_store.proofs.Choices.{chosen, chosen_other, chosen_same, length-replaced, byte-replaced}
 
 -- what reads give of a whole store is an image

@@ -3,3 +3,5 @@ pub mod Choices
 pub mod StoreLaws
 pub mod ImageLaws
 pub mod WriteLaws
+pub mod MomentLaws
+pub mod Overwrites

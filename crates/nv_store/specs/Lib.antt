@@ -4,6 +4,7 @@ pub mod Torn
 pub mod Causes
 pub mod Images
 pub mod Picked
+pub mod Replaced
 pub mod Disk
 pub mod Told
 pub mod Laws

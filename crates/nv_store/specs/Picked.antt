@@ -1,5 +1,5 @@
 -- Picked images: the image of a store that a pick names.
-use Rattle.std.specs.Prelude.{ℕ, zero, suc, ◌+◌, ◌-◌, ◌%◌, Bool, false, if◌then◌else◌, List, length, map, take, count_by, slice_index, slice_index_or}
+use Rattle.std.specs.Prelude.{ℕ, zero, suc, ◌+◌, ◌-◌, ◌%◌, Bool, if◌then◌else◌, List, length, map, take, count_by}
 use Rattle.std.specs.List.{range_with_len, list_any}
 use Rattle.nv_pmem.specs.declared.picker.Pick.{Pick}
 use Rattle.nv_pmem.specs.declared.picker.Pick.TheVariants.{Old, New, Torn, Seed}
@@ -18,11 +18,6 @@ count_below flags i = count_by (λ flag. flag) (take i flags)
 -- The byte that is drawn for a marked one: a word for each of them, in rising offset.
 abbrev pub redrawn : List Bool → Draws → ℕ → ℕ
 redrawn flags draws i = next_word (after_draws (count_below flags i) draws) % 256
-
--- the bytes, others in place of those that are marked
-unfoldable pub replaced : List Bool → (ℕ → ℕ) → List ℕ → List ℕ
-replaced flags other bytes =
-    map (λ i. if slice_index_or flags i false then other i else slice_index bytes i) (range_with_len 0 (length bytes))
 
 -- The image of a length that has these bytes where one was written since the last sync.
 unfoldable pub image_with : Store → ℕ → (ℕ → ℕ) → List ℕ

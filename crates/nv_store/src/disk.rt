@@ -1,7 +1,8 @@
 ghost use Rattle.std.specs.Prelude.{◌≡◌, ◌+◌, ◌<◌, ◌≤◌, ◌++◌, drop, max, length, IfOk, OnOk, OnErr, vec_len, vec_capacity};
 ghost use Rattle.nv_plain.specs.Files.{bytes_at, overwritten};
 ghost use Rattle.nv_store.specs.Store.{Store, IsWhole, quiet_store, marked};
-ghost use Rattle.nv_store.specs.Picked.{replaced, redrawn, count_below, after_draws};
+ghost use Rattle.nv_store.specs.Picked.{redrawn, count_below, after_draws};
+ghost use Rattle.nv_store.specs.Replaced.{replaced};
 
 use nv_plain::NoMemory;
 use nv_pmem::{Pick, Picker};
@@ -16,7 +17,8 @@ pub(crate) struct Disk {
     seen: Vec<u8>,
     durable: Vec<u8>,
     unsynced: Vec<bool>,
-    pub ghost whole: { let store : Store = record { seen = seen.items; durable = durable.items; unsynced = unsynced.items } in IsWhole store },
+    pub ghost whole: { let store : Store = record { seen = seen.items; durable = durable.items; unsynced = unsynced.items } in
+        IsWhole store },
     // So a sync needs no memory.
     pub ghost room: { vec_len seen ≤ vec_capacity durable },
 }

@@ -1,7 +1,8 @@
 use Rattle.std.proofs.Common.{◌≡◌, false, length, take, refl, ap, ◌∙◌, arith}
 use Rattle.std.proofs.lemmas.List.{with_items_is, length-take, get_or-take}
 use Rattle.nv_store.specs.Disk.{store_of}
-use Rattle.nv_store.specs.Picked.{replaced, redrawn, image_with}
+use Rattle.nv_store.specs.Picked.{redrawn, image_with}
+use Rattle.nv_store.specs.Replaced.{replaced}
 use Rattle.nv_store.proofs.StoreLaws.{whole_same}
 use Rattle.nv_store.proofs.ImageLaws.{whole_replaced, front_is_first, replaced_is_image_with}
 use Rattle.nv_store.proofs.disk.Disk.cut.Goals as goal

@@ -1,7 +1,7 @@
 use Rattle.std.proofs.Common.{◌≡◌, refl, ap, ◌∙◌, arith}
 use Rattle.std.proofs.lemmas.List.{with_items_is}
 use Rattle.nv_store.specs.Disk.{store_of}
-use Rattle.nv_store.specs.Picked.{replaced}
+use Rattle.nv_store.specs.Replaced.{replaced}
 use Rattle.nv_store.proofs.StoreLaws.{whole_same}
 use Rattle.nv_store.proofs.ImageLaws.{whole_replaced, all_are_first, replaced_is_image_with}
 use Rattle.nv_store.proofs.disk.Disk.tear.Goals as goal
