@@ -1,0 +1,7 @@
+pub mod Flags
+pub mod Choices
+pub mod StoreLaws
+pub mod ImageLaws
+pub mod WriteLaws
+pub mod MomentLaws
+pub mod Overwrites

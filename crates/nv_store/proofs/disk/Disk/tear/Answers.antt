@@ -1,0 +1,35 @@
+use Rattle.std.proofs.Common.{◌≡◌, refl, ap, ◌∙◌, arith}
+use Rattle.std.proofs.lemmas.List.{with_items_is}
+use Rattle.nv_store.specs.Disk.{store_of}
+use Rattle.nv_store.specs.Replaced.{replaced}
+use Rattle.nv_store.proofs.StoreLaws.{whole_same}
+use Rattle.nv_store.proofs.ImageLaws.{whole_replaced, all_are_first, replaced_is_image_with}
+use Rattle.nv_store.proofs.disk.Disk.tear.Goals as goal
+
+pub invariant_of-self : goal.invariant_of-self
+invariant_of-self c =
+    let disk = c.args.self.now in
+    let store = store_of disk in
+    let now : c.tear.new.bytes ≡ replaced store.unsynced (λ i. 0xa5) store.seen =
+    c.tear.ensures
+    ∙ ap (λ flags. replaced flags (λ i. 0xa5) c.deref_mut.result.now) c.deref.ensures.value
+    ∙ ap (replaced store.unsynced (λ i. 0xa5)) c.deref_mut.ensures.value in
+    let back = with_items_is disk.seen c.tear.new.bytes (omega (arith, c.tear.auto.bytes, c.deref_mut.ensures.len)) in
+    let first = all_are_first store disk.whole in
+    record {
+      whole =
+          whole_same _ _ (back ∙ now) refl refl
+          (whole_replaced store store.seen (λ i. 0xa5) store.unsynced disk.whole first disk.whole.flags (λ i inside. refl));
+      room = disk.room;
+    }
+
+pub returns : goal.returns
+returns c =
+    let disk = c.args.self.now in
+    let store = store_of disk in
+    let now : c.tear.new.bytes ≡ replaced store.unsynced (λ i. 0xa5) store.seen =
+    c.tear.ensures
+    ∙ ap (λ flags. replaced flags (λ i. 0xa5) c.deref_mut.result.now) c.deref.ensures.value
+    ∙ ap (replaced store.unsynced (λ i. 0xa5)) c.deref_mut.ensures.value in
+    let back = with_items_is disk.seen c.tear.new.bytes (omega (arith, c.tear.auto.bytes, c.deref_mut.ensures.len)) in
+    back ∙ now ∙ replaced_is_image_with store store.seen (λ i. 0xa5) disk.whole (all_are_first store disk.whole)

@@ -1,0 +1,11 @@
+pub mod Store
+pub mod Steps
+pub mod Torn
+pub mod Causes
+pub mod Images
+pub mod Picked
+pub mod Replaced
+pub mod Disk
+pub mod Told
+pub mod Laws
+pub mod MemStore

@@ -1,0 +1,235 @@
+ghost use Rattle.std.specs.Prelude.{◌≡◌, ◌+◌, ◌<◌, ◌≤◌, ◌++◌, drop, max, length, IfOk, OnOk, OnErr, vec_len, vec_capacity};
+ghost use Rattle.nv_plain.specs.Files.{bytes_at, overwritten};
+ghost use Rattle.nv_store.specs.Store.{Store, IsWhole, quiet_store, marked};
+ghost use Rattle.nv_store.specs.Picked.{redrawn, count_below, after_draws};
+ghost use Rattle.nv_store.specs.Replaced.{replaced};
+
+use nv_plain::NoMemory;
+use nv_pmem::{Pick, Picker};
+use std::alloc::Global;
+
+/// What a torn image has wherever a byte isn't certain.
+const TORN: u8 = 0xa5;
+
+/// A disk in memory: what reads give of its one file, what of it is durable, and which bytes were written since.
+#[derive(Drop)]
+pub(crate) struct Disk {
+    seen: Vec<u8>,
+    durable: Vec<u8>,
+    unsynced: Vec<bool>,
+    pub ghost whole: { let store : Store = record { seen = seen.items; durable = durable.items; unsynced = unsynced.items } in
+        IsWhole store },
+    // So a sync needs no memory.
+    pub ghost room: { vec_len seen ≤ vec_capacity durable },
+}
+
+impl Disk {
+    ghost use Rattle.nv_store.specs.Disk.{store_of, HasRoom};
+    ghost use Rattle.nv_store.specs.Steps.{Write, Sync, after_step};
+    ghost use Rattle.nv_store.specs.Torn.{with_marks};
+    ghost use Rattle.nv_pmem.specs.Draws.{after_draw};
+    ghost use Rattle.nv_store.specs.Picked.{image_with, torn_image, has_unsynced, drawn_len, drawn_image, after_drawn, picked_image, draws_after};
+
+    /// A disk that holds these bytes, durable.
+    pub(crate) fn new(alloc: Global, bytes: &[u8]) -> Result<Self, NoMemory>
+        ensures { IfOk result (λ disk. store_of disk ≡ quiet_store bytes.now) }
+    {
+        Ok(Disk {
+            seen: Vec::from_slice(alloc, bytes)?,
+            durable: Vec::from_slice(alloc, bytes)?,
+            unsynced: vec![in alloc; false; bytes.len()]?,
+        })
+    }
+
+    /// How many bytes reads give.
+    pub(crate) fn len(&self) -> usize
+        ensures { result ≡ length (store_of self.now).seen }
+    {
+        self.seen.len()
+    }
+
+    /// Reads from an offset on, and says how many bytes there were.
+    pub(crate) fn read(&self, at: usize, buf: &mut [u8]) -> usize
+        ensures count { result ≡ length (bytes_at (store_of self.now).seen at (length buf.old)) }
+        ensures bytes { buf.new ≡ bytes_at (store_of self.now).seen at (length buf.old) ++ drop result buf.old }
+        ensures limit { result ≤ length buf.old }
+    {
+        let from = at.min(self.seen.len());
+        let count = buf.len().min(self.seen.len() - from);
+        buf[..count].copy_from_slice(&self.seen[from..from + count]);
+        count
+    }
+
+    /// Takes the room for a write of so many bytes, and for the sync of all that reads give after it.
+    pub(crate) fn reserve(&mut self, at: usize, count: usize) -> Result<(), NoMemory>
+        ensures room { OnOk result (0 < count → HasRoom (at + count) self.new) }
+        ensures same { store_of self.new ≡ store_of self.old }
+        ensures some { OnErr result (0 < count) }
+        ensures grows { OnErr result (length (store_of self.old).seen < at + count) }
+    {
+        if count == 0 {
+            return Ok(());
+        }
+        let len = at.checked_add(count).ok_or(NoMemory)?;
+        self.seen.reserve(len.saturating_sub(self.seen.len()))?;
+        self.unsynced
+            .reserve(len.saturating_sub(self.unsynced.len()))?;
+        self.durable
+            .reserve(len.saturating_sub(self.durable.len()))?;
+        Ok(())
+    }
+
+    /// Writes from an offset on, past the end too.
+    pub(crate) fn write(&mut self, at: usize, bytes: &[u8])
+        requires { 0 < length bytes.now → HasRoom (at + length bytes.now) self.old }
+        ensures { store_of self.new ≡ after_step (Write at bytes.now) (store_of self.old) }
+    {
+        if !bytes.is_empty() {
+            overwrite(&mut self.seen, at, bytes);
+            flag(&mut self.unsynced, at, bytes.len());
+        }
+    }
+
+    /// Counts the bytes of a range as written since the last sync.
+    pub(crate) fn mark(&mut self, at: usize, count: usize)
+        ensures { store_of self.new ≡ with_marks at count (store_of self.old) }
+    {
+        mark(&mut self.unsynced, at, count);
+    }
+
+    /// Makes durable what reads give.
+    pub(crate) fn sync(&mut self)
+        ensures { store_of self.new ≡ after_step Sync (store_of self.old) }
+    {
+        self.durable.clear();
+        let copied = self.durable.extend_from_slice(&self.seen).is_ok();
+        prove!(copied);
+        self.unsynced.fill(false);
+    }
+
+    /// Leaves the image that a picker takes, durable.
+    pub(crate) fn lose_power(&mut self, picker: &mut Picker)
+        ensures image { store_of self.new ≡ quiet_store (picked_image (store_of self.old) picker.old) }
+        ensures draws { picker.new ≡ draws_after (store_of self.old) picker.old }
+    {
+        match picker.pick() {
+            Pick::Old => self.forget(),
+            Pick::New => {}
+            Pick::Torn => self.tear(),
+            Pick::Seed(_) => self.draw(picker),
+        }
+        self.sync();
+    }
+
+    fn forget(&mut self)
+        ensures { (store_of self.new).seen ≡ (store_of self.old).durable }
+    {
+        self.seen.truncate(self.durable.len());
+        self.unsynced.truncate(self.durable.len());
+        self.seen.copy_from_slice(&self.durable);
+    }
+
+    fn tear(&mut self)
+        ensures { (store_of self.new).seen ≡ torn_image (store_of self.old) }
+    {
+        tear(&mut self.seen, &self.unsynced);
+    }
+
+    fn draw(&mut self, picker: &mut Picker)
+        ensures seen { (store_of self.new).seen ≡ drawn_image (store_of self.old) picker.old }
+        ensures draws { picker.new ≡ after_drawn (store_of self.old) picker.old }
+    {
+        if self.has_unsynced() {
+            let len = self.draw_len(picker);
+            self.cut(len, picker);
+        }
+    }
+
+    fn has_unsynced(&self) -> bool
+        ensures { result ≡ has_unsynced (store_of self.now) }
+    {
+        self.unsynced.iter().any(|flag| *flag)
+    }
+
+    // A length from the durable to the present one.
+    fn draw_len(&self, picker: &mut Picker) -> usize
+        ensures len { result ≡ drawn_len (store_of self.now) picker.old }
+        ensures draws { picker.new ≡ after_draw picker.old }
+    {
+        let grown = (self.seen.len() - self.durable.len()) as u64;
+        self.durable.len() + (picker.draw() % (grown + 1)) as usize
+    }
+
+    // Cuts what reads give, and draws each byte of it that isn't synced.
+    fn cut(&mut self, len: usize, picker: &mut Picker)
+        requires durable { length (store_of self.old).durable ≤ len }
+        requires seen { len ≤ length (store_of self.old).seen }
+        ensures seen { (store_of self.new).seen
+            ≡ image_with (store_of self.old) len (redrawn (store_of self.old).unsynced picker.old) }
+        ensures draws { picker.new ≡ after_draws (count_below (store_of self.old).unsynced len) picker.old }
+    {
+        self.seen.truncate(len);
+        redraw(&mut self.seen, &self.unsynced, picker);
+        self.unsynced.truncate(len);
+    }
+}
+
+// Writes over some bytes, past their end too, where there is room.
+fn overwrite(bytes: &mut Vec<u8>, at: usize, source: &[u8])
+    requires some { 0 < length source.now }
+    requires room { at + length source.now ≤ vec_capacity bytes.old }
+    ensures { bytes.new.items ≡ overwritten bytes.old.items at source.now }
+{
+    let end = at + source.len();
+    if end > bytes.len() {
+        let grown = bytes.resize(end, 0).is_ok();
+        prove!(grown);
+    }
+    bytes[at..end].copy_from_slice(source);
+}
+
+// Marks a range, past the end of the flags too, where there is room.
+fn flag(flags: &mut Vec<bool>, at: usize, count: usize)
+    requires { at + count ≤ vec_capacity flags.old }
+    ensures { flags.new.items ≡ marked at count (max (length flags.old.items) (at + count)) flags.old.items }
+{
+    let end = at + count;
+    if end > flags.len() {
+        let grown = flags.resize(end, false).is_ok();
+        prove!(grown);
+    }
+    mark(flags, at, count);
+}
+
+// Marks what there is of a range.
+fn mark(flags: &mut [bool], at: usize, count: usize)
+    ensures { flags.new ≡ marked at count (length flags.old) flags.old }
+{
+    let end = at.saturating_add(count).min(flags.len());
+    if at < end {
+        flags[at..end].fill(true);
+    }
+}
+
+fn tear(bytes: &mut [u8], unsynced: &[bool])
+    requires { length bytes.old ≤ length unsynced.now }
+    ensures { bytes.new ≡ replaced unsynced.now (λ i. 0xa5) bytes.old }
+{
+    for i in 0..bytes.len() {
+        if unsynced[i] {
+            bytes[i] = TORN;
+        }
+    }
+}
+
+fn redraw(bytes: &mut [u8], unsynced: &[bool], picker: &mut Picker)
+    requires { length bytes.old ≤ length unsynced.now }
+    ensures bytes { bytes.new ≡ replaced unsynced.now (redrawn unsynced.now picker.old) bytes.old }
+    ensures draws { picker.new ≡ after_draws (count_below unsynced.now (length bytes.old)) picker.old }
+{
+    for i in 0..bytes.len() {
+        if unsynced[i] {
+            bytes[i] = (picker.draw() % 256) as u8;
+        }
+    }
+}
