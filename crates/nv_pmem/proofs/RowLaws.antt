@@ -164,20 +164,20 @@ did_some_row_at i {steps} {old} did = record {
 -- ---- what a row tells
 
 -- what the present states have more, by what they have
-pub row_tells_more : (row : List History) (P Q : List Part → Type 0) → ((parts : List Part) → P parts → Q parts) → RowTells row P → RowTells row Q
+pub row_tells_more : {S : Type 0} (row : List (List S)) (P Q : List S → Type 0) → ((parts : List S) → P parts → Q parts) → RowTells row P → RowTells row Q
 row_tells_more [] P Q step told = step [] told
 row_tells_more ([] ∷ row) P Q step told = tt
 row_tells_more ((now ∷ past) ∷ row) P Q step told =
     row_tells_more row (λ parts. P (now ∷ parts)) (λ parts. Q (now ∷ parts)) (λ parts. step (now ∷ parts)) told
 
 -- what holds of all parts
-pub row_tells_any : (row : List History) (P : List Part → Type 0) → ((parts : List Part) → P parts) → RowTells row P
+pub row_tells_any : {S : Type 0} (row : List (List S)) (P : List S → Type 0) → ((parts : List S) → P parts) → RowTells row P
 row_tells_any [] P each = each []
 row_tells_any ([] ∷ row) P each = tt
 row_tells_any ((now ∷ past) ∷ row) P each = row_tells_any row (λ parts. P (now ∷ parts)) (λ parts. each (now ∷ parts))
 
 -- what they have, and what they have besides
-pub row_tells_both : (row : List History) (P Q : List Part → Type 0) → RowTells row P → RowTells row Q → RowTells row (λ parts. P parts × Q parts)
+pub row_tells_both : {S : Type 0} (row : List (List S)) (P Q : List S → Type 0) → RowTells row P → RowTells row Q → RowTells row (λ parts. P parts × Q parts)
 row_tells_both [] P Q a b = (a, b)
 row_tells_both ([] ∷ row) P Q a b = tt
 row_tells_both ((now ∷ past) ∷ row) P Q a b = row_tells_both row (λ parts. P (now ∷ parts)) (λ parts. Q (now ∷ parts)) a b

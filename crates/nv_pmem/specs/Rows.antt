@@ -34,11 +34,11 @@ DidRow steps old new = Ran row_grown steps old new
 abbrev pub DidSomeRow : List RowStep → List History → List History → Type 0
 DidSomeRow steps old new = RanSome row_grown steps old new
 
--- the present states, where all parts tell, have a property
-abbrev pub RowTells : List History → (List Part → Type 0) → Type 0
+-- the present states, where all devices of a row tell, have a property
+abbrev pub RowTells : {S : Type 0} → List (List S) → (List S → Type 0) → Type 0
 RowTells [] P = P []
 RowTells ([] ∷ row) P = Unit {0}
-RowTells ((now ∷ past) ∷ row) P = RowTells row (λ parts. P (now ∷ parts))
+RowTells ((now ∷ past) ∷ row) P = RowTells row (λ others. P (now ∷ others))
 
 -- An image of a row: one of each of its parts, freely.
 pub record IsRowImage (parts : List Part) (image : Image) : Type 0 where
