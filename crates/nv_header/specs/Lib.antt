@@ -1,0 +1,5 @@
+pub mod Heads
+pub mod Refusals
+pub mod Fields
+pub mod NextName
+pub mod Needs
