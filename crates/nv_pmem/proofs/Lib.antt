@@ -3,4 +3,5 @@ pub mod ImageLaws
 pub mod LineLaws
 pub mod PickedLaws
 pub mod Rooms
+pub mod RowLaws
 pub mod StepLaws
