@@ -3,3 +3,7 @@ pub mod Records
 pub mod Limits
 pub mod Firsts
 pub mod Counts
+pub mod InRow
+pub mod Joined
+pub mod Clearing
+pub mod FormatLaws

@@ -3,3 +3,5 @@ pub mod Refusals
 pub mod Fields
 pub mod NextName
 pub mod Needs
+pub mod HeaderSteps
+pub mod Regions

@@ -19,16 +19,22 @@
 #![tactic(auto)]
 
 mod fields;
+mod formatting;
 mod head;
 mod lines;
 mod names;
 mod read;
 mod record;
+mod region;
+mod tail;
 
+pub use formatting::format;
 pub use head::{Head, HeadError, HeadField};
 pub use lines::{Truncated, check_lines};
 pub use names::Names;
 pub use read::{is_blank, read_head};
+pub use region::Region;
+pub use tail::move_tail;
 
 #[cfg(test)]
 mod tests;
