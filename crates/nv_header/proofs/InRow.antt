@@ -3,7 +3,8 @@ use Rattle.std.proofs.Common.{◌≡◌, ℕ, ◌+◌, ◌-◌, ◌^◌, ◌<◌
 use Rattle.std.proofs.Math.Seq.{map-set_same}
 use Rattle.std.proofs.lemmas.Bool.{cases_eq, cases_lt}
 use Rattle.std.proofs.lemmas.List.{get_or_default, get_or-map, map-set, length-map, length-set, get_or-set_same, get_or-set_other}
-use Rattle.std.proofs.lemmas.List.Sums.{sum_by-set}
+use Rattle.std.proofs.lemmas.List.Sums.{sum_by-set, get_or-le-sum_by}
+use Rattle.nv_plain.specs.Faults.{Rose}
 use Rattle.nv_plain.specs.Layouts.{Layout, version_1}
 use Rattle.nv_pmem.specs.Moments.{Tells}
 use Rattle.nv_pmem.specs.Part.{Part}
@@ -47,6 +48,16 @@ same_in_row f parts i was new is same = map-set_same f parts i new was (same ∙
 pub same_sum_in_row : {X : Type 0} (f : X → ℕ) (parts : List X) (i : ℕ) (was new : X) → i < length parts → was ≡ get_or parts i was → f new ≡ f was → sum_by f (slice_set parts i new) ≡ sum_by f parts
 same_sum_in_row f parts i was new inside is same =
     omega (arith, sum_by-set f parts i new was inside, same, ap f is)
+
+-- and of one whose part's count rose
+pub rose_in_row : {X : Type 0} (f : X → ℕ) (parts : List X) (i : ℕ) (was new : X) → i < length parts → was ≡ get_or parts i was → Rose (f was) (f new) → Rose (sum_by f parts) (sum_by f (slice_set parts i new))
+rose_in_row f parts i was new inside is rose =
+    let sum = sum_by-set f parts i new was inside in
+    let old = ap f is in
+    let part : f (get_or (slice_set parts i new) i was) ≤ sum_by f (slice_set parts i new) =
+    get_or-le-sum_by f (slice_set parts i new) i was (omega (arith, length-set parts i new)) in
+    let new_is = ap f (get_or-set_same parts i new was inside) in
+    record { never_falls = omega (arith, rose.never_falls); more = omega (arith, rose.more, rose.never_falls) }
 
 -- ---- room
 

@@ -1,8 +1,8 @@
-ghost use Rattle.std.specs.Prelude.{◌≡◌, ◌<◌, ◌≤◌, [], map, sum_by, IfOk, IfErr, MatchResult, OnOk, vec_len};
+ghost use Rattle.std.specs.Prelude.{◌≡◌, ◌<◌, ◌≤◌, [], map, sum_by, IfOk, IfErr, MatchResult, OnOk};
 ghost use Rattle.nv_plain.specs.Faults.{HasCause, Rose};
 ghost use Rattle.nv_plain.specs.Layouts.{version_1};
-ghost use Rattle.nv_pmem.specs.Rows.{on_part, DidRow, DidSomeRow, RowTells, InEachRowImage, EachRowMoment};
-ghost use Rattle.nv_pmem.specs.Steps.{Did, DidSome, durable_store};
+ghost use Rattle.nv_pmem.specs.Rows.{DidRow, DidSomeRow, RowTells, InEachRowImage, EachRowMoment};
+ghost use Rattle.nv_pmem.specs.Steps.{Did, DidSome};
 ghost use Rattle.nv_header.specs.HeaderSteps.{clear_steps, field_steps, blank_header_steps, format_steps};
 ghost use Rattle.nv_header.specs.Regions.{HasParts, IsRoomy, IsBlankRow, IsBlankOrFormatted, StaysRoomy};
 
@@ -84,28 +84,9 @@ fn clear_commit_words<L: Lines>(parts: &mut Vec<L>, geometry: Geometry) -> Resul
     ensures cause { HasCause (sum_by L.fault_count parts.old.items) (sum_by L.fault_count parts.new.items) result }
     ensures devices { map L.device parts.new.items ≡ map L.device parts.old.items }
 {
-    for i in 1..parts.len() {
-        clear_commit_word(parts, i, geometry)?;
+    for entry in 0..geometry.entries as usize {
+        store_durably(&mut parts[1 + entry], 0, 0, 0)?;
     }
-    Ok(())
-}
-
-// The commit word of the entry in this part.
-fn clear_commit_word<L: Lines>(
-    parts: &mut Vec<L>,
-    i: usize,
-    _geometry: Geometry,
-) -> Result<(), RegionFault>
-    requires parts { HasParts version_1 _geometry.page _geometry.entries (map L.room parts.old.items) }
-    requires part { i < vec_len parts.old }
-    ensures begun { DidSomeRow (on_part i (durable_store 0 0 0)) (map L.history parts.old.items) (map L.history parts.new.items) }
-    ensures done { OnOk result (DidRow (on_part i (durable_store 0 0 0)) (map L.history parts.old.items) (map L.history parts.new.items)) }
-    ensures parts { OnOk result (HasParts version_1 _geometry.page _geometry.entries (map L.room parts.new.items)) }
-    ensures lines { map (λ part. (L.room part).lines) parts.new.items ≡ map (λ part. (L.room part).lines) parts.old.items }
-    ensures cause { HasCause (sum_by L.fault_count parts.old.items) (sum_by L.fault_count parts.new.items) result }
-    ensures devices { map L.device parts.new.items ≡ map L.device parts.old.items }
-{
-    store_durably(&mut parts[i], 0, 0, 0)?;
     Ok(())
 }
 
