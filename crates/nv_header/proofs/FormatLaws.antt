@@ -400,9 +400,11 @@ at_rest : (page entries : ℕ) (parts : List Part) → IsPageSize page → IsEnt
 at_rest page entries parts page_ok entries_ok blank room =
     let P : List Part → Type 0 = InEachRowImage (IsBlankOrFormatted version_1 page entries) in
     record {
-      quiet = record { each = λ i.
-          subst IsQuiet (sym (part_after page entries i parts))
-          (quiet_magic i (after_steps (steps_on i (filling page entries)) (slice_index_or parts i [])) (quiet_filled page entries i (slice_index_or parts i []) (blank.quiet.each i))) };
+      quiet = record {
+        each = λ i.
+            subst IsQuiet (sym (part_after page entries i parts))
+            (quiet_magic i (after_steps (steps_on i (filling page entries)) (slice_index_or parts i [])) (quiet_filled page entries i (slice_index_or parts i []) (blank.quiet.each i)));
+      };
       empty = λ image is.
           is_formatted page entries image (magic_is page entries parts image room is)
           (always_last row_after P (format_steps page entries) parts (format_always page entries parts page_ok entries_ok blank room) image is);

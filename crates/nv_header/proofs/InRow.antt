@@ -8,7 +8,7 @@ use Rattle.nv_plain.specs.Faults.{Rose}
 use Rattle.nv_plain.specs.Layouts.{Layout, version_1}
 use Rattle.nv_pmem.specs.Moments.{Tells}
 use Rattle.nv_pmem.specs.Part.{Part}
-use Rattle.nv_pmem.specs.Room.{Room, Takes, Settles}
+use Rattle.nv_pmem.specs.Room.{Room, Keeps, Takes, Frees, Settles}
 use Rattle.nv_pmem.specs.Rows.{on_part, DidRow, DidSomeRow, RowTells}
 use Rattle.nv_pmem.specs.Steps.{Step, History, Did, DidSome}
 use Rattle.nv_pmem.proofs.StepLaws.{tells_told}
@@ -146,3 +146,13 @@ told_room history room layout page entries parts told has =
     let count : length (map history parts) ≡ 1 + entries = omega (arith, length-map parts history, length-map parts room, has.count) in
     let At : ℕ → Type 0 = λ n. RowTells (map history parts) (EachPart (λ i now. part_lines layout page i ≤ length now) n) in
     subst At count (told_lines history room layout page entries parts told has)
+
+-- a line stored to, flushed and fenced
+pub stays_stored : {old stored flushed new : Room} (count line : ℕ) → Takes count line old stored → Keeps stored flushed → 15 ≤ flushed.after_fence line → Keeps flushed new → Frees flushed new → StaysRoomy old new
+stays_stored {old} {stored} {flushed} {new} count line takes flush ready fence frees = record {
+  lines_are = fence.lines ∙ flush.lines ∙ takes.lines;
+  spare = λ other enough. elim (cases_eq other line) [
+    | inl same ↦ let At : ℕ → Type 0 = λ k. 15 ≤ new.spare k in subst At (sym same) (omega (arith, ready, frees.spare line))
+    | inr differs ↦ omega (arith, takes.other_spare other differs, flush.spare other, fence.spare other)
+  ];
+}

@@ -7,3 +7,5 @@ pub mod InRow
 pub mod Joined
 pub mod Clearing
 pub mod FormatLaws
+pub mod AddLaws
+pub mod NewNames

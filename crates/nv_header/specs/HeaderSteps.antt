@@ -1,9 +1,13 @@
 -- The device calls that write a region's header, one after another.
-use Rattle.std.specs.Prelude.{ℕ, List, [], ◌∷◌, ◌++◌}
+use Rattle.std.specs.Prelude.{ℕ, ◌+◌, ◌-◌, ◌*◌, List, [], ◌∷◌, ◌++◌, length}
+use Rattle.std.specs.Int.{to_le_bytes, w64}
 use Rattle.std.specs.List.{flat_map, range_with_len}
+use Rattle.nv_plain.specs.Files.{padded}
 use Rattle.nv_plain.specs.Images.{header_magic}
+use Rattle.nv_plain.specs.Layouts.{Layout}
 use Rattle.nv_pmem.specs.Rows.{RowStep, on_part}
-use Rattle.nv_pmem.specs.Steps.{Step, Store, Flush, Fence, durable_store}
+use Rattle.nv_pmem.specs.Steps.{Step, Store, Flush, Fence, line_stores, durable_store}
+use Rattle.nv_header.specs.Heads.{record_line}
 
 -- the tail is stored and made durable
 abbrev pub tail_steps : ℕ → List Step
@@ -25,3 +29,16 @@ blank_header_steps page entries = field_steps page entries ++ durable_store 0 0 
 -- A blank region is formatted: the entries first, and then the header.
 unfoldable pub format_steps : (page entries : ℕ) → List RowStep
 format_steps page entries = clear_steps entries ++ on_part 0 (blank_header_steps page entries)
+
+-- a name's record, of one line: its length, its bytes, and zeros behind them
+unfoldable pub name_record : Layout → List ℕ → List ℕ
+name_record layout name = to_le_bytes w64 (length name) ++ padded name (64 * layout.lines_per_name - 8)
+
+-- the record of name i is stored and made durable
+unfoldable pub record_steps : Layout → (i : ℕ) → List ℕ → List Step
+record_steps layout i name =
+    line_stores (record_line layout i) (name_record layout name) ++ Flush (record_line layout i) ∷ Fence ∷ []
+
+-- A name is added as name i: its record first, and then the count of the names.
+unfoldable pub add_file_steps : Layout → (i : ℕ) → List ℕ → List Step
+add_file_steps layout i name = record_steps layout i name ++ durable_store 0 4 (i + 1)

@@ -5,3 +5,4 @@ pub mod NextName
 pub mod Needs
 pub mod HeaderSteps
 pub mod Regions
+pub mod Additions

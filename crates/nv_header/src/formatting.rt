@@ -28,9 +28,9 @@ pub fn format<L: Lines + Drop>(
 
     ensures moments { MatchResult result
         (λ region. EachRowMoment (InEachRowImage (IsBlankOrFormatted version_1 geometry.page geometry.entries))
-            (map L.history parts.items) (map L.history region.parts.items))
+        (map L.history parts.items) (map L.history region.parts.items))
         (λ failed. EachRowMoment (InEachRowImage (IsBlankOrFormatted version_1 geometry.page geometry.entries))
-            (map L.history parts.items) (map L.history failed.0.items)) }
+        (map L.history parts.items) (map L.history failed.0.items)) }
     ensures geometry { IfOk result (λ region. region.geometry ≡ geometry) }
     ensures names { IfOk result (λ region. region.names ≡ []) }
     ensures next { IfOk result (λ region. region.next ≡ 0) }

@@ -18,6 +18,7 @@
 //! No other word of it is read. Each entry has a part of its own behind it, with a line of fields and a page of data.
 #![tactic(auto)]
 
+mod adding;
 mod fields;
 mod formatting;
 mod head;
@@ -28,6 +29,7 @@ mod record;
 mod region;
 mod tail;
 
+pub use adding::{AddError, add_file};
 pub use formatting::format;
 pub use head::{Head, HeadError, HeadField};
 pub use lines::{Truncated, check_lines};

@@ -15,8 +15,7 @@ pub struct Region<L: Lines> {
     pub(crate) geometry: Geometry,
     pub(crate) names: Names,
     pub(crate) next: u64,
-    pub ghost is_region: { IsRegion version_1 geometry.page geometry.entries names next (map L.room parts.items) (map L.history parts.items) }
-        by { IsRegion-prop version_1 geometry.page geometry.entries names next (map L.room parts.items) (map L.history parts.items) },
+    pub ghost is_region: { IsRegion version_1 geometry.page geometry.entries names next (map L.room parts.items) (map L.history parts.items) } by { IsRegion-prop version_1 geometry.page geometry.entries names next (map L.room parts.items) (map L.history parts.items) },
 }
 
 impl<L: Lines> Region<L> {
