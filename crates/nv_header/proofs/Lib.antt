@@ -1,5 +1,5 @@
+pub mod Keeping
 pub mod Ranges
 pub mod Records
-pub mod Limits
 pub mod Firsts
 pub mod Counts

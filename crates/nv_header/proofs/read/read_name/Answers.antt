@@ -1,0 +1,1 @@
+use Rattle.nv_header.proofs.read.read_name.Goals as goal
