@@ -69,12 +69,16 @@ found-has_lines layout page entries (header ∷ others) has =
     omega (arith, has.header, sum_of_full (entry_lines page) entries others (omega (arith, has.count)) has.each)
 
 -- the header's lines, and those of the entries' parts behind it
-pub found-first : {X : Type 0} (lines : X → ℕ) → (layout : Layout) (page entries : ℕ) (parts : List X) (header : X) (first rest count : ℕ) → 1 ≤ length parts → header ≡ get_or parts 0 header → first ≡ min layout.header_lines (lines header) → count ≡ min (length (drop 1 parts)) entries → rest ≡ sum_by (λ part. min (entry_lines page) (lines part)) (take count (drop 1 parts)) → first + rest ≡ lines_found layout page entries (map lines parts)
-found-first lines layout page entries [] header first rest count some header_is first_is count_is rest_is = absurd (omega arith)
-found-first {X} lines layout page entries (one ∷ others) header first rest count some header_is first_is count_is rest_is =
+pub found-first : {X : Type 0} (lines : X → ℕ) → (layout : Layout) (page entries : ℕ) (parts others : List X) (header : X) (first rest count : ℕ) → 1 ≤ length parts → header ≡ get_or parts 0 header → others ≡ drop 1 parts → first ≡ min layout.header_lines (lines header) → count ≡ min (length others) entries → rest ≡ sum_by (λ part. min (entry_lines page) (lines part)) (take count others) → first + rest ≡ lines_found layout page entries (map lines parts)
+found-first lines layout page entries [] others header first rest count some header_is others_are first_is count_is rest_is = absurd (omega arith)
+found-first {X} lines layout page entries (one ∷ behind) others header first rest count some header_is others_are first_is count_is rest_is =
     let same : lines header ≡ lines one = ap lines header_is in
     let front : first ≡ min layout.header_lines (lines one) = first_is ∙ ap (min layout.header_lines) same in
-    let back = rest_is ∙ ap (λ n. sum_by (λ part. min (entry_lines page) (lines part)) (take n others)) count_is ∙ sum_by-take_min lines (entry_lines page) entries others in
+    let back =
+    rest_is
+    ∙ ap (λ n. sum_by (λ part. min (entry_lines page) (lines part)) (take n others)) count_is
+    ∙ sum_by-take_min lines (entry_lines page) entries others
+    ∙ ap (λ these. sum_by (λ have. min (entry_lines page) have) (take entries (map lines these))) others_are in
     ap (λ n. n + rest) front ∙ ap (λ n. min layout.header_lines (lines one) + n) back
 
 -- few lines of few parts
