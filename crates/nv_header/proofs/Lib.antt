@@ -1,6 +1,6 @@
+pub mod Keeping
 pub mod Ranges
 pub mod Records
-pub mod Limits
 pub mod Firsts
 pub mod Counts
 pub mod InRow

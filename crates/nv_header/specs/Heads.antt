@@ -27,7 +27,7 @@ room_of_name layout image i =
     flat_map (λ k. to_le_bytes w64 (image 0 (record_line layout i + k / 8) (k % 8))) (range_with_len 1 (layout.lines_per_name * 8 - 1))
 
 -- a record holds a name: it isn't too long, its bytes are allowed, and zeros pad it
-unfoldable pub is_record : (most length : ℕ) → List ℕ → Bool
+abbrev pub is_record : (most length : ℕ) → List ℕ → Bool
 is_record most length room =
     nat_le length most && is_name most (take length room) && list_all (λ byte. byte == 0) (drop length room)
 

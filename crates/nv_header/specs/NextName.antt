@@ -1,5 +1,5 @@
 -- The next name of a header, after those before it.
-use Rattle.std.specs.Prelude.{◌≡◌, ℕ, List, Option, Some, None}
+use Rattle.std.specs.Prelude.{◌≡◌, ℕ, ◌<◌, List, Option, Some, None}
 use Rattle.nv_plain.specs.Images.{Image, name_of}
 use Rattle.nv_plain.specs.Layouts.{Layout}
 use Rattle.nv_header.specs.Heads.{IsGoodName, first_names}

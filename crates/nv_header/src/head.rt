@@ -1,7 +1,7 @@
 use crate::Names;
 use nv_plain::NoMemory;
 use nv_pmem::{BadGeometry, Geometry, GeometryField, RegionFault};
-use std::alloc::AllocError;
+use std::alloc::{AllocError, AllocFailed};
 use thiserror::Error;
 
 /// Lines of the header's part.
@@ -128,6 +128,17 @@ impl From<AllocError> for HeadError {
     ghost from_gives = { λ _ e. e ≡ error.NoMemory };
 
     fn from(_: AllocError) -> Self {
+        HeadError::NoMemory
+    }
+}
+
+impl<T: Drop> From<AllocFailed<T>> for HeadError {
+    ghost use Rattle.std.specs.Prelude.{◌≡◌};
+    ghost use Rattle.nv_header.specs.declared.head.HeadError.TheVariants as error;
+
+    ghost from_gives = { λ _ e. e ≡ error.NoMemory };
+
+    fn from(_: AllocFailed<T>) -> Self {
         HeadError::NoMemory
     }
 }

@@ -1,9 +1,10 @@
 ghost use Rattle.std.specs.Prelude.{◌≡◌, ◌*◌, ◌≤◌, ◌↔◌, length, map, min, sum_by, IfErr, IsOk};
+ghost use Rattle.nv_pmem.specs.Limits.{entry_lines as needed};
 ghost use Rattle.nv_plain.specs.Layouts.{version_1};
 ghost use Rattle.nv_header.specs.Needs.{HasLines, lines_wanted, lines_found};
 
 use crate::head::{HEADER_LINES, Head};
-use nv_pmem::Lines;
+use nv_pmem::{Geometry, Lines};
 use thiserror::Error;
 
 /// The parts of a region lack lines that it needs.
@@ -25,10 +26,8 @@ pub fn check_lines<L: Lines>(parts: &[L], head: &Head) -> Result<(), Truncated>
         (map (λ part. (L.room part).lines) parts.now)) }
     ensures wanted { IfErr result (λ lack. lack.wanted ≡ lines_wanted version_1 head.now.geometry.page head.now.geometry.entries) }
 {
-    let entry_lines = 1 + head.geometry.page / 64;
-    let entries = head.geometry.entries;
-    let wanted = HEADER_LINES + entries * entry_lines;
-    let found = found_lines(parts, entries, entry_lines);
+    let found = found_lines(parts, &head.geometry);
+    let wanted = HEADER_LINES + head.geometry.entries * entry_lines(head.geometry.page);
     if found == wanted {
         Ok(())
     } else {
@@ -36,25 +35,32 @@ pub fn check_lines<L: Lines>(parts: &[L], head: &Head) -> Result<(), Truncated>
     }
 }
 
-fn found_lines<L: Lines>(parts: &[L], entries: u64, entry_lines: u64) -> u64
-    requires entries { entries ≤ 1024 }
-    requires lines { entry_lines ≤ 65 }
+// Of the lines that a region needs, those that its parts have.
+fn found_lines<L: Lines>(parts: &[L], geometry: &Geometry) -> u64
+    ensures { result ≡ lines_found version_1 geometry.now.page geometry.now.entries (map (λ part. (L.room part).lines) parts.now) }
 {
     match parts {
         [] => 0,
         [header, others @ ..] => {
-            let count = others.len().min(entries as usize);
-            HEADER_LINES.min(header.lines()) + lines_up_to(&others[..count], entry_lines)
+            let count = others.len().min(geometry.entries as usize);
+            HEADER_LINES.min(header.lines())
+                + lines_up_to(&others[..count], entry_lines(geometry.page))
         }
     }
+}
+
+// Lines of an entry's part: one of fields, and a page.
+fn entry_lines(page: u64) -> u64
+    ensures { result ≡ needed page }
+{
+    1 + page / 64
 }
 
 // The lines of some parts, of each at most so many.
 fn lines_up_to<L: Lines>(parts: &[L], most: u64) -> u64
     requires parts { length parts.now ≤ 1024 }
     requires most { most ≤ 65 }
-    ensures sum { result ≡ sum_by (λ part. min most (L.room part).lines) parts.now }
-    ensures bound { result ≤ length parts.now * most }
+    ensures { result ≡ sum_by (λ part. min most (L.room part).lines) parts.now }
 {
     parts.iter().map(|part| most.min(part.lines())).sum()
 }

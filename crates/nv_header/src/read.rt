@@ -1,4 +1,5 @@
-ghost use Rattle.std.specs.Prelude.{◌≡◌, ℕ, ◌<◌, ◌≤◌, ◌==◌, true, map, sum_by, AllZip, Ok, Err, IfOk, IfErr};
+ghost use Rattle.std.specs.Prelude.{◌≡◌, ℕ, ◌<◌, ◌≤◌, ◌==◌, true, map, sum_by, Ok, Err, IfOk, IfErr};
+ghost use Rattle.std.specs.List.{AllZip};
 ghost use Rattle.nv_plain.specs.Faults.{HasCause};
 ghost use Rattle.nv_plain.specs.Images.{header_of};
 ghost use Rattle.nv_plain.specs.Layouts.{version_1};
@@ -144,11 +145,12 @@ fn read_name<L: Lines>(
     ensures device { L.device part.new ≡ L.device part.old }
 {
     let record = Record::load(part, i)?;
-    match record.name() {
-        Some(name) if !earlier.contains(name) => {
-            let bytes = Vec::from_slice(alloc, name)?;
-            Ok(Some(Bytes::from_vec(bytes)))
-        }
-        _ => Ok(None),
+    let Some(name) = record.name() else {
+        return Ok(None);
+    };
+    if earlier.contains(name) {
+        return Ok(None);
     }
+    let bytes = Vec::from_slice(alloc, name)?;
+    Ok(Some(Bytes::from_vec(bytes)))
 }

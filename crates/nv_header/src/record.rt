@@ -1,4 +1,4 @@
-ghost use Rattle.std.specs.Prelude.{◌≡◌, ◌≤◌, ◌<◌, take, true, false, IfOk, IfNone, IfSome};
+ghost use Rattle.std.specs.Prelude.{◌≡◌, ◌≤◌, ◌<◌, ◌==◌, take, true, false, IfOk, IfNone, IfSome};
 ghost use Rattle.std.specs.List.{list_all};
 ghost use Rattle.nv_plain.specs.Faults.{HasCause};
 ghost use Rattle.nv_plain.specs.Layouts.{version_1};
@@ -51,10 +51,16 @@ impl Record {
             return None;
         }
         let (name, padding) = self.room.split_at(self.length as usize);
-        if is_file_name(name, NAME_LIMIT) && padding.iter().all(|byte| *byte == 0) {
+        if is_file_name(name, NAME_LIMIT) && is_zeros(padding) {
             Some(name)
         } else {
             None
         }
     }
+}
+
+fn is_zeros(bytes: &[u8]) -> bool
+    ensures { result ≡ list_all (λ byte. byte == 0) bytes.now }
+{
+    bytes.iter().all(|byte| *byte == 0)
 }
