@@ -1,0 +1,11 @@
+pub mod Keeping
+pub mod Ranges
+pub mod Records
+pub mod Firsts
+pub mod Counts
+pub mod InRow
+pub mod Joined
+pub mod Clearing
+pub mod FormatLaws
+pub mod AddLaws
+pub mod NewNames

@@ -1,0 +1,50 @@
+use Rattle.std.proofs.Common.{◌≡◌, ℕ, ◌+◌, ◌<◌, ◌≤◌, [], ◌∷◌, ◌++◌, subst, arith}
+use Rattle.nv_plain.specs.Layouts.{version_1}
+use Rattle.nv_pmem.specs.Steps.{Flush, Fence, Did, DidSome, line_stores, durable_store}
+use Rattle.nv_pmem.proofs.StepLaws.{did_did, did_did_some, did_some_all, did_some_front}
+use Rattle.nv_header.specs.Heads.{record_line}
+use Rattle.nv_header.specs.HeaderSteps.{name_record, record_steps, add_file_steps}
+use Rattle.nv_header.proofs.InRow.{stays_settled, stays_stays}
+use Rattle.nv_header.proofs.adding.store_name.Goals as goal
+
+pub store_record-requires-clause-line : goal.store_record-requires-clause-line
+store_record-requires-clause-line g c = omega (arith, c.requires.room.there, c.requires.index)
+
+pub store_record-requires-clause-spare : goal.store_record-requires-clause-spare
+store_record-requires-clause-spare g c =
+    omega (arith, c.requires.room.spare (2 + c.args.index) (omega (arith, c.requires.index)))
+
+pub store_durably-requires-clause-line : goal.store_durably-requires-clause-line
+store_durably-requires-clause-line g c = omega (arith, c.requires.room.there, c.store_record.ensures.lines)
+
+pub store_durably-requires-clause-spare : goal.store_durably-requires-clause-spare
+store_durably-requires-clause-spare g c =
+    omega (arith, c.in_ok-store_record.ensures.room.spare 0 (c.requires.room.spare 0 (omega arith)))
+
+pub returns-in_err-store_record-clause-begun : goal.returns-in_err-store_record-clause-begun
+unfolding add_file_steps record_steps
+returns-in_err-store_record-clause-begun g c =
+    let here : 2 + c.args.index ≡ record_line version_1 c.args.index = omega arith in
+    let At : ℕ → Type 0 = λ line. DidSome (line_stores line (name_record version_1 c.args.name.now) ++ Flush line ∷ Fence ∷ []) (g.L.Lines.history c.args.header.now) (g.L.Lines.history c.store_record.new.header) in
+    did_some_front (durable_store 0 4 (c.args.index + 1)) (subst At here c.store_record.ensures.begun)
+
+pub returns-in_err-store_durably-clause-begun : goal.returns-in_err-store_durably-clause-begun
+unfolding add_file_steps record_steps
+returns-in_err-store_durably-clause-begun g c =
+    let here : 2 + c.args.index ≡ record_line version_1 c.args.index = omega arith in
+    let At : ℕ → Type 0 = λ line. Did (line_stores line (name_record version_1 c.args.name.now) ++ Flush line ∷ Fence ∷ []) (g.L.Lines.history c.args.header.now) (g.L.Lines.history c.store_record.new.header) in
+    did_did_some (subst At here c.in_ok-store_record.ensures.done) c.store_durably.ensures.begun
+
+pub returns-clause-done : goal.returns-clause-done
+unfolding add_file_steps record_steps
+returns-clause-done g c =
+    let here : 2 + c.args.index ≡ record_line version_1 c.args.index = omega arith in
+    let At : ℕ → Type 0 = λ line. Did (line_stores line (name_record version_1 c.args.name.now) ++ Flush line ∷ Fence ∷ []) (g.L.Lines.history c.args.header.now) (g.L.Lines.history c.store_record.new.header) in
+    did_did (subst At here c.in_ok-store_record.ensures.done) c.in_ok-store_durably.ensures.done
+
+pub returns-clause-begun : goal.returns-clause-begun
+returns-clause-begun g c = did_some_all (returns-clause-done g c)
+
+pub returns-clause-room : goal.returns-clause-room
+returns-clause-room g c =
+    stays_stays c.in_ok-store_record.ensures.room (stays_settled 1 0 c.store_durably.ensures.room c.in_ok-store_durably.ensures.settled)

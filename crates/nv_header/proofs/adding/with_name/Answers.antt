@@ -1,0 +1,47 @@
+use Rattle.std.proofs.Common.{◌≡◌, ℕ, ◌<◌, true, false, List, length, rules, arith}
+use Rattle.std.specs.Prelude.{nat_eq}
+use Rattle.std.specs.List.{list_any}
+use lib.Pointwise.{pointwise}
+use Rattle.nv_plain.specs.Names.{is_name}
+use Rattle.nv_plain.specs.Layouts.{version_1}
+use Rattle.nv_header.specs.Additions.{CanAdd, IsNewName}
+use Rattle.nv_header.proofs.NewNames.{unknown_name, known_name}
+use Rattle.nv_header.proofs.adding.with_name.Goals as goal
+use Rattle.nv_header.proofs.adding.with_name.Goals.{then-not-is_file_name-via-then-not-is_file_name, then-not-is_file_name-via-else-not-is_file_name+then-contains}
+
+not_new : (names : List (List ℕ)) (name : List ℕ) → is_name 56 name ≡ false → IsNewName version_1 names name → ⊥
+not_new names name bad new = let allowed = new.allowed in cc
+
+pub returns-then-not-is_file_name-clause-refused : goal.returns-then-not-is_file_name-clause-refused
+returns-then-not-is_file_name-clause-refused c =
+    let names = c.args.names in
+    let name = c.args.name.now in
+    let few : length names < 16 = omega (arith, c.len.ensures) in
+    let bad : IsNewName version_1 names name → ⊥ = elim c.then-not-is_file_name.branch [
+      | then-not-is_file_name-via-then-not-is_file_name w ↦
+          let bad : is_name 56 name ≡ false = search rules in not_new names name bad
+      | then-not-is_file_name-via-else-not-is_file_name+then-contains w ↦
+          let known : list_any (λ one. pointwise nat_eq one name) names ≡ true = search rules in
+          λ (new : IsNewName version_1 names name). known_name names name known new.new
+    ] in
+    (few, bad, c.len-then-not-is_file_name.ensures)
+
+pub returns-in-Ok-clause-added : goal.returns-in-Ok-clause-added
+returns-in-Ok-clause-added c =
+    let names = c.args.names in
+    let name = c.args.name.now in
+    let unknown : list_any (λ one. pointwise nat_eq one name) names ≡ false = search rules in
+    record {
+      few = omega (arith, c.len.ensures);
+      is_new = record { allowed = search rules; new = unknown_name names name unknown };
+    }
+
+pub returns-in-Err-clause-refused : goal.returns-in-Err-clause-refused
+returns-in-Err-clause-refused c =
+    let names = c.args.names in
+    let name = c.args.name.now in
+    let unknown : list_any (λ one. pointwise nat_eq one name) names ≡ false = search rules in
+    record {
+      few = omega (arith, c.len.ensures);
+      is_new = record { allowed = search rules; new = unknown_name names name unknown };
+    }

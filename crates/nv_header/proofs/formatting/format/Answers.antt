@@ -1,0 +1,35 @@
+use Rattle.std.proofs.Common.{◌≡◌, ◌≤◌, [], ◌∷◌, List, length, sym, subst, ℕ, arith, map}
+use Rattle.nv_plain.specs.Layouts.{version_1}
+use Rattle.nv_header.specs.Regions.{IsRegion}
+use Rattle.nv_header.proofs.FormatLaws.{format_moments, format_tells}
+use Rattle.nv_header.proofs.InRow.{told_room}
+use Rattle.nv_header.proofs.formatting.format.Goals as goal
+
+pub invariant_of-result : goal.invariant_of-result
+invariant_of-result g c =
+    let page = c.args.geometry.page in
+    let entries = c.args.geometry.entries in
+    let At : List (List ℕ) → Type 0 = λ names. IsRegion version_1 page entries names 0 (map g.L.Lines.room c.write_region.new.parts.items) (map g.L.Lines.history c.write_region.new.parts.items) in
+    record {
+      is_region = subst At (sym c.new-names.ensures) (record {
+        parts = c.in-Ok.ensures.parts;
+        few = omega arith;
+        number = omega arith;
+        tells =
+            format_tells page entries c.args.geometry.page_in_limits c.args.geometry.entries_in_limits c.requires.blank
+            (told_room g.L.Lines.history g.L.Lines.room version_1 page entries c.args.parts.items g.met.L.Lines.told_lines c.requires.parts)
+            c.in-Ok.ensures.done;
+      });
+    }
+
+pub returns-in-Ok-clause-moments : goal.returns-in-Ok-clause-moments
+returns-in-Ok-clause-moments g c =
+    format_moments c.args.geometry.page c.args.geometry.entries c.args.geometry.page_in_limits c.args.geometry.entries_in_limits c.requires.blank
+    (told_room g.L.Lines.history g.L.Lines.room version_1 c.args.geometry.page c.args.geometry.entries c.args.parts.items g.met.L.Lines.told_lines c.requires.parts)
+    c.write_region.ensures.begun
+
+pub returns-in-Err-clause-moments : goal.returns-in-Err-clause-moments
+returns-in-Err-clause-moments g c =
+    format_moments c.args.geometry.page c.args.geometry.entries c.args.geometry.page_in_limits c.args.geometry.entries_in_limits c.requires.blank
+    (told_room g.L.Lines.history g.L.Lines.room version_1 c.args.geometry.page c.args.geometry.entries c.args.parts.items g.met.L.Lines.told_lines c.requires.parts)
+    c.write_region.ensures.begun

@@ -1,0 +1,21 @@
+use Rattle.std.proofs.Common.{◌≡◌, ap, sym, ◌∙◌}
+use Rattle.std.specs.Prelude.{nat_eq}
+use Rattle.std.specs.List.{list_any}
+use lib.Pointwise.{pointwise}
+use Rattle.nv_header.proofs.Records.{next_good, next_known}
+use Rattle.nv_header.proofs.read.read_name.Goals as goal
+
+pub returns-then-contains-clause-next : goal.returns-then-contains-clause-next
+returns-then-contains-clause-next g c =
+    next_known (g.L.Lines.history c.args.part.now) c.args.earlier.now c.args.i c.in_ok-record.record.length c.in_ok-record.record.room c.in-Some.name.now
+    (record { length_is = c.in_ok-record.ensures.length; room_is = c.in_ok-record.ensures.bytes })
+    c.in-Some.ensures.name (sym c.contains.ensures ∙ c.if-contains.true)
+
+pub returns-clause-next : goal.returns-clause-next
+returns-clause-next g c =
+    let name_is : c.from_vec.result ≡ c.in-Some.name.now = c.from_vec.ensures ∙ c.in_ok-bytes.ensures.items in
+    next_good (g.L.Lines.history c.args.part.now) c.args.earlier.now c.args.i c.in_ok-record.record.length c.in_ok-record.record.room c.from_vec.result
+    (record { length_is = c.in_ok-record.ensures.length; room_is = c.in_ok-record.ensures.bytes })
+    c.in-Some.ensures.good
+    (name_is ∙ c.in-Some.ensures.name)
+    (ap (λ name. list_any (λ known. pointwise nat_eq known name) c.args.earlier.now) name_is ∙ sym c.contains.ensures ∙ c.if-contains.false)

@@ -1,0 +1,36 @@
+use Rattle.std.proofs.Common.{◌+◌, ℕ, List, Option, Some, refl, subst, sym, ◌∙◌}
+use Rattle.nv_plain.specs.Layouts.{version_1}
+use Rattle.nv_pmem.specs.Moments.{Tells}
+use Rattle.nv_pmem.specs.Steps.{History}
+use Rattle.nv_header.specs.Heads.{header_image}
+use Rattle.nv_header.specs.NextName.{AreNames, IsNextName}
+use Rattle.nv_header.proofs.Keeping.{keeps_keeps, keeps_same}
+use Rattle.nv_header.proofs.Records.{no_names, names_more}
+use Rattle.nv_header.proofs.read.read_names.Goals as goal
+
+pub loop-i-init : goal.loop-i-init
+loop-i-init g c =
+    let Are : List (List ℕ) → Type 0 = λ names. Tells (g.L.Lines.history c.args.part.now) (λ now. AreNames version_1 (header_image now) 0 names) in
+    record {
+      names = subst Are (sym c.new-names.ensures) (no_names (g.L.Lines.history c.args.part.now));
+      history = refl;
+      room = keeps_same _;
+      faults = refl;
+      device = refl;
+    }
+
+pub loop-i-preserved : goal.loop-i-preserved
+loop-i-preserved g c =
+    let Next : Option (List ℕ) → History → Type 0 = λ next history. Tells history (λ now. IsNextName version_1 (header_image now) c.loop-i.names c.loop-i.i next) in
+    let At : Option (List ℕ) → Type 0 = λ next. Next next (g.L.Lines.history c.loop-i.part) in
+    let Are : List (List ℕ) → Type 0 = λ names. Tells (g.L.Lines.history c.args.part.now) (λ now. AreNames version_1 (header_image now) (c.loop-i.i + 1) names) in
+    let next = subst (Next (Some c.in-Some.name)) c.loop-i.invariant.history (subst At c.in-Some.is c.in_ok-name.ensures.next) in
+    record {
+      names =
+          subst Are (sym c.in_ok-push.ensures.ok)
+          (names_more (g.L.Lines.history c.args.part.now) c.loop-i.names c.loop-i.i c.in-Some.name c.loop-i.invariant.names next);
+      history = c.in_ok-name.ensures.history ∙ c.loop-i.invariant.history;
+      room = keeps_keeps c.loop-i.invariant.room c.in_ok-name.ensures.room;
+      faults = c.in_ok-name.ensures.cause ∙ c.loop-i.invariant.faults;
+      device = c.in_ok-name.ensures.device ∙ c.loop-i.invariant.device;
+    }

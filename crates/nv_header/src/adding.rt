@@ -1,0 +1,192 @@
+ghost use Rattle.std.specs.Prelude.{◌≡◌, ℕ, ◌<◌, ◌≤◌, [], ◌∷◌, ◌++◌, length, slice_index_or, map, sum_by, IfOk, IfErr, MatchResult, OnOk};
+ghost use Rattle.nv_plain.specs.Faults.{HasCause};
+ghost use Rattle.nv_plain.specs.Layouts.{version_1};
+ghost use Rattle.nv_pmem.specs.Rows.{on_part, DidRow, DidSomeRow, InEachRowImage, EachRowMoment};
+ghost use Rattle.nv_pmem.specs.Steps.{Flush, Fence, Did, DidSome, line_stores};
+ghost use Rattle.nv_pmem.specs.Room.{Room};
+ghost use Rattle.nv_header.specs.Additions.{CanAdd, IsNotAdded, IsUnwritten, AddHasCause, HasNamesOrOneMore};
+ghost use Rattle.nv_header.specs.HeaderSteps.{name_record, add_file_steps};
+ghost use Rattle.nv_header.specs.Regions.{HasParts, IsRoomy, StaysRoomy};
+
+use crate::head::{FILE_LIMIT, NAME_LIMIT, NAME_LINE};
+use crate::{Names, Region};
+use nv_plain::{Bytes, NoMemory, is_file_name};
+use nv_pmem::{Lines, RegionFault, store_durably};
+use std::alloc::Global;
+use thiserror::Error;
+
+/// Why a name isn't added to a region, in the order of the tests.
+#[derive(Clone, Copy, Debug, PartialEq, Eq, Error)]
+pub enum AddError {
+    /// The region has 16 names.
+    #[error("too many files")]
+    TooManyFiles,
+    /// The name that would have this index isn't allowed, or the region has it already.
+    #[error("bad name {index}")]
+    BadName { index: u64 },
+    /// There was not enough memory for the name.
+    #[error("no memory")]
+    NoMemory,
+    /// The header's part failed, and its count of faults rose.
+    #[error("a part of the region failed")]
+    RegionFault,
+}
+
+/// Adds a name behind those of the region, and says its index. At each moment every image has the names, or this one
+/// more. Where the name isn't added the parts come back, in their order: nothing is written unless the header's part
+/// failed, and then the name is there or not.
+pub fn add_file<L: Lines + Drop>(
+    region: Region<L>,
+    alloc: Global,
+    name: &[u8],
+) -> Result<(Region<L>, u64), (Vec<L>, AddError)>
+    ensures added { IfOk result (λ added. CanAdd version_1 region.names name.now) }
+    ensures refused { IfErr result (λ failed. IsNotAdded version_1 region.names name.now failed.1) }
+    ensures index { IfOk result (λ added. added.1 ≡ length region.names) }
+    ensures names { IfOk result (λ added. added.0.names ≡ region.names ++ name.now ∷ []) }
+    ensures geometry { IfOk result (λ added. added.0.geometry ≡ region.geometry) }
+    ensures next { IfOk result (λ added. added.0.next ≡ region.next) }
+    ensures unwritten { IfErr result (λ failed. IsUnwritten failed.1 → failed.0 ≡ region.parts) }
+
+    // The device calls are these, in this order.
+    ensures begun { MatchResult result
+        (λ added. DidSomeRow (on_part 0 (add_file_steps version_1 (length region.names) name.now))
+        (map L.history region.parts.items) (map L.history added.0.parts.items))
+        (λ failed. DidSomeRow (on_part 0 (add_file_steps version_1 (length region.names) name.now))
+        (map L.history region.parts.items) (map L.history failed.0.items)) }
+    ensures done { IfOk result (λ added. DidRow (on_part 0 (add_file_steps version_1 (length region.names) name.now))
+        (map L.history region.parts.items) (map L.history added.0.parts.items)) }
+
+    ensures moments { MatchResult result
+        (λ added. EachRowMoment
+        (InEachRowImage (HasNamesOrOneMore version_1 region.geometry.page region.geometry.entries region.names name.now region.next))
+        (map L.history region.parts.items) (map L.history added.0.parts.items))
+        (λ failed. EachRowMoment
+        (InEachRowImage (HasNamesOrOneMore version_1 region.geometry.page region.geometry.entries region.names name.now region.next))
+        (map L.history region.parts.items) (map L.history failed.0.items)) }
+
+    ensures lines { MatchResult result
+        (λ added. map (λ part. (L.room part).lines) added.0.parts.items ≡ map (λ part. (L.room part).lines) region.parts.items)
+        (λ failed. map (λ part. (L.room part).lines) failed.0.items ≡ map (λ part. (L.room part).lines) region.parts.items) }
+    ensures cause { MatchResult result
+        (λ added. sum_by L.fault_count added.0.parts.items ≡ sum_by L.fault_count region.parts.items)
+        (λ failed. AddHasCause (sum_by L.fault_count region.parts.items) (sum_by L.fault_count failed.0.items) failed.1) }
+    ensures devices { MatchResult result
+        (λ added. map L.device added.0.parts.items ≡ map L.device region.parts.items)
+        (λ failed. map L.device failed.0.items ≡ map L.device region.parts.items) }
+{
+    let Region {
+        mut parts,
+        geometry,
+        names,
+        next,
+    } = region;
+    let index = names.len() as u64;
+    let names = match with_name(names, alloc, name) {
+        Ok(names) => names,
+        Err(error) => return Err((parts, error)),
+    };
+    match write_name(&mut parts, index, name) {
+        Ok(()) => {
+            let region = Region {
+                parts,
+                geometry,
+                names,
+                next,
+            };
+            Ok((region, index))
+        }
+        Err(RegionFault) => Err((parts, AddError::RegionFault)),
+    }
+}
+
+// The names and this one behind them, where it may stand there.
+fn with_name(names: Names, alloc: Global, name: &[u8]) -> Result<Names, AddError>
+    ensures added { IfOk result (λ all. CanAdd version_1 names name.now) }
+    ensures names { IfOk result (λ all. all ≡ names ++ name.now ∷ []) }
+    ensures refused { IfErr result (IsNotAdded version_1 names name.now) }
+    ensures unwritten { IfErr result IsUnwritten }
+{
+    let mut names = names;
+    if names.len() as u64 >= FILE_LIMIT {
+        return Err(AddError::TooManyFiles);
+    }
+    if !is_file_name(name, NAME_LIMIT) || names.contains(name) {
+        return Err(AddError::BadName {
+            index: names.len() as u64,
+        });
+    }
+    match push_name(&mut names, alloc, name) {
+        Ok(()) => Ok(names),
+        Err(NoMemory) => Err(AddError::NoMemory),
+    }
+}
+
+fn push_name(names: &mut Names, alloc: Global, name: &[u8]) -> Result<(), NoMemory>
+    ensures { OnOk result (names.new ≡ names.old ++ name.now ∷ []) }
+{
+    let bytes = Vec::from_slice(alloc, name)?;
+    names.push(Bytes::from_vec(bytes))
+}
+
+// The record of a name, and then the count of the names, in the header of a region.
+fn write_name<L: Lines>(parts: &mut Vec<L>, index: u64, name: &[u8]) -> Result<(), RegionFault>
+    requires header { 0 < length parts.old.items }
+    requires room { (none : Room) → IsRoomy version_1.header_lines (slice_index_or (map L.room parts.old.items) 0 none) }
+    requires index { index < version_1.file_limit }
+    requires size { length name.now ≤ version_1.name_limit }
+    ensures begun { DidSomeRow (on_part 0 (add_file_steps version_1 index name.now)) (map L.history parts.old.items) (map L.history parts.new.items) }
+    ensures done { OnOk result (DidRow (on_part 0 (add_file_steps version_1 index name.now)) (map L.history parts.old.items) (map L.history parts.new.items)) }
+    ensures parts { OnOk result ((page entries : ℕ) → HasParts version_1 page entries (map L.room parts.old.items) → HasParts version_1 page entries (map L.room parts.new.items)) }
+    ensures lines { map (λ part. (L.room part).lines) parts.new.items ≡ map (λ part. (L.room part).lines) parts.old.items }
+    ensures cause { HasCause (sum_by L.fault_count parts.old.items) (sum_by L.fault_count parts.new.items) result }
+    ensures devices { map L.device parts.new.items ≡ map L.device parts.old.items }
+{
+    store_name(&mut parts[0], index, name)
+}
+
+fn store_name<L: Lines>(header: &mut L, index: u64, name: &[u8]) -> Result<(), RegionFault>
+    requires room { IsRoomy version_1.header_lines (L.room header.old) }
+    requires index { index < version_1.file_limit }
+    requires size { length name.now ≤ version_1.name_limit }
+    ensures begun { DidSome (add_file_steps version_1 index name.now) (L.history header.old) (L.history header.new) }
+    ensures done { OnOk result (Did (add_file_steps version_1 index name.now) (L.history header.old) (L.history header.new)) }
+    ensures room { OnOk result (StaysRoomy (L.room header.old) (L.room header.new)) }
+    ensures lines { (L.room header.new).lines ≡ (L.room header.old).lines }
+    ensures cause { HasCause (L.fault_count header.old) (L.fault_count header.new) result }
+    ensures device { L.device header.new ≡ L.device header.old }
+{
+    store_record(header, NAME_LINE + index, name)?;
+    store_durably(header, 0, 4, index + 1)?;
+    Ok(())
+}
+
+// A name's record in this line, durable at `Ok`.
+fn store_record<L: Lines>(header: &mut L, line: u64, name: &[u8]) -> Result<(), RegionFault>
+    requires line { line < (L.room header.old).lines }
+    requires spare { 8 ≤ (L.room header.old).spare line }
+    requires size { length name.now ≤ version_1.name_limit }
+    ensures begun { DidSome (line_stores line (name_record version_1 name.now) ++ Flush line ∷ Fence ∷ []) (L.history header.old) (L.history header.new) }
+    ensures done { OnOk result (Did (line_stores line (name_record version_1 name.now) ++ Flush line ∷ Fence ∷ []) (L.history header.old) (L.history header.new)) }
+    ensures room { OnOk result (StaysRoomy (L.room header.old) (L.room header.new)) }
+    ensures lines { (L.room header.new).lines ≡ (L.room header.old).lines }
+    ensures cause { HasCause (L.fault_count header.old) (L.fault_count header.new) result }
+    ensures device { L.device header.new ≡ L.device header.old }
+{
+    let record = record_of(name);
+    header.store_line(line, &record)?;
+    header.flush(line)?;
+    header.fence()?;
+    Ok(())
+}
+
+// A name's record: its length, its bytes, and zeros.
+fn record_of(name: &[u8]) -> [u8; 64]
+    requires { length name.now ≤ version_1.name_limit }
+    ensures { result ≡ name_record version_1 name.now }
+{
+    let mut record = [0; 64];
+    record[..8].copy_from_slice(&(name.len() as u64).to_le_bytes());
+    record[8..8 + name.len()].copy_from_slice(name);
+    record
+}

@@ -1,0 +1,127 @@
+ghost use Rattle.std.specs.Prelude.{◌≡◌, ◌<◌, ◌≤◌, [], map, sum_by, IfOk, IfErr, MatchResult, OnOk};
+ghost use Rattle.nv_plain.specs.Faults.{HasCause, Rose};
+ghost use Rattle.nv_plain.specs.Layouts.{version_1};
+ghost use Rattle.nv_pmem.specs.Rows.{DidRow, DidSomeRow, RowTells, InEachRowImage, EachRowMoment};
+ghost use Rattle.nv_pmem.specs.Steps.{Did, DidSome};
+ghost use Rattle.nv_header.specs.HeaderSteps.{clear_steps, field_steps, blank_header_steps, format_steps};
+ghost use Rattle.nv_header.specs.Regions.{HasParts, IsRoomy, IsBlankRow, IsBlankOrFormatted, StaysRoomy};
+
+use crate::head::{MAGIC, VERSION};
+use crate::{Names, Region};
+use nv_pmem::{Geometry, Lines, RegionFault, store_durably};
+
+/// Formats a blank region whose parts are those of this geometry: with no file, tail 0 and an empty log. At each moment
+/// every image is blank, or is formatted so. After a fault the parts come back, in their order. Takes no memory.
+pub fn format<L: Lines + Drop>(
+    parts: Vec<L>,
+    geometry: Geometry,
+) -> Result<Region<L>, (Vec<L>, RegionFault)>
+    requires parts { HasParts version_1 geometry.page geometry.entries (map L.room parts.items) }
+    requires blank { RowTells (map L.history parts.items) IsBlankRow }
+
+    // The device calls are these, in this order.
+    ensures begun { MatchResult result
+        (λ region. DidSomeRow (format_steps geometry.page geometry.entries) (map L.history parts.items) (map L.history region.parts.items))
+        (λ failed. DidSomeRow (format_steps geometry.page geometry.entries) (map L.history parts.items) (map L.history failed.0.items)) }
+    ensures done { IfOk result (λ region.
+        DidRow (format_steps geometry.page geometry.entries) (map L.history parts.items) (map L.history region.parts.items)) }
+
+    ensures moments { MatchResult result
+        (λ region. EachRowMoment (InEachRowImage (IsBlankOrFormatted version_1 geometry.page geometry.entries))
+        (map L.history parts.items) (map L.history region.parts.items))
+        (λ failed. EachRowMoment (InEachRowImage (IsBlankOrFormatted version_1 geometry.page geometry.entries))
+        (map L.history parts.items) (map L.history failed.0.items)) }
+    ensures geometry { IfOk result (λ region. region.geometry ≡ geometry) }
+    ensures names { IfOk result (λ region. region.names ≡ []) }
+    ensures next { IfOk result (λ region. region.next ≡ 0) }
+
+    ensures lines { MatchResult result
+        (λ region. map (λ part. (L.room part).lines) region.parts.items ≡ map (λ part. (L.room part).lines) parts.items)
+        (λ failed. map (λ part. (L.room part).lines) failed.0.items ≡ map (λ part. (L.room part).lines) parts.items) }
+    ensures cause { MatchResult result
+        (λ region. sum_by L.fault_count region.parts.items ≡ sum_by L.fault_count parts.items)
+        (λ failed. Rose (sum_by L.fault_count parts.items) (sum_by L.fault_count failed.0.items)) }
+    ensures devices { MatchResult result
+        (λ region. map L.device region.parts.items ≡ map L.device parts.items)
+        (λ failed. map L.device failed.0.items ≡ map L.device parts.items) }
+{
+    let mut parts = parts;
+    match write_region(&mut parts, geometry) {
+        Ok(()) => {
+            let names = Names::new(*parts.allocator());
+            Ok(Region {
+                parts,
+                geometry,
+                names,
+                next: 0,
+            })
+        }
+        Err(fault) => Err((parts, fault)),
+    }
+}
+
+// The entries are cleared, and then the header is written.
+fn write_region<L: Lines>(parts: &mut Vec<L>, geometry: Geometry) -> Result<(), RegionFault>
+    requires parts { HasParts version_1 geometry.page geometry.entries (map L.room parts.old.items) }
+    ensures begun { DidSomeRow (format_steps geometry.page geometry.entries) (map L.history parts.old.items) (map L.history parts.new.items) }
+    ensures done { OnOk result (DidRow (format_steps geometry.page geometry.entries) (map L.history parts.old.items) (map L.history parts.new.items)) }
+    ensures parts { OnOk result (HasParts version_1 geometry.page geometry.entries (map L.room parts.new.items)) }
+    ensures lines { map (λ part. (L.room part).lines) parts.new.items ≡ map (λ part. (L.room part).lines) parts.old.items }
+    ensures cause { HasCause (sum_by L.fault_count parts.old.items) (sum_by L.fault_count parts.new.items) result }
+    ensures devices { map L.device parts.new.items ≡ map L.device parts.old.items }
+{
+    clear_commit_words(parts, geometry)?;
+    write_header(&mut parts[0], geometry)
+}
+
+// The commit word of each entry, cleared and durable.
+fn clear_commit_words<L: Lines>(parts: &mut Vec<L>, geometry: Geometry) -> Result<(), RegionFault>
+    requires parts { HasParts version_1 geometry.page geometry.entries (map L.room parts.old.items) }
+    ensures begun { DidSomeRow (clear_steps geometry.entries) (map L.history parts.old.items) (map L.history parts.new.items) }
+    ensures done { OnOk result (DidRow (clear_steps geometry.entries) (map L.history parts.old.items) (map L.history parts.new.items)) }
+    ensures parts { OnOk result (HasParts version_1 geometry.page geometry.entries (map L.room parts.new.items)) }
+    ensures lines { map (λ part. (L.room part).lines) parts.new.items ≡ map (λ part. (L.room part).lines) parts.old.items }
+    ensures cause { HasCause (sum_by L.fault_count parts.old.items) (sum_by L.fault_count parts.new.items) result }
+    ensures devices { map L.device parts.new.items ≡ map L.device parts.old.items }
+{
+    for entry in 0..geometry.entries as usize {
+        store_durably(&mut parts[1 + entry], 0, 0, 0)?;
+    }
+    Ok(())
+}
+
+// The header of a region with no file and tail 0: its fields, and then its magic.
+fn write_header<L: Lines>(header: &mut L, geometry: Geometry) -> Result<(), RegionFault>
+    requires room { IsRoomy version_1.header_lines (L.room header.old) }
+    ensures begun { DidSome (blank_header_steps geometry.page geometry.entries) (L.history header.old) (L.history header.new) }
+    ensures done { OnOk result (Did (blank_header_steps geometry.page geometry.entries) (L.history header.old) (L.history header.new)) }
+    ensures room { OnOk result (StaysRoomy (L.room header.old) (L.room header.new)) }
+    ensures lines { (L.room header.new).lines ≡ (L.room header.old).lines }
+    ensures cause { HasCause (L.fault_count header.old) (L.fault_count header.new) result }
+    ensures device { L.device header.new ≡ L.device header.old }
+{
+    write_fields(header, geometry)?;
+    store_durably(header, 0, 0, MAGIC)?;
+    Ok(())
+}
+
+// The fields of such a header but for the magic, durable at `Ok`.
+fn write_fields<L: Lines>(header: &mut L, geometry: Geometry) -> Result<(), RegionFault>
+    requires room { IsRoomy version_1.header_lines (L.room header.old) }
+    ensures begun { DidSome (field_steps geometry.page geometry.entries) (L.history header.old) (L.history header.new) }
+    ensures done { OnOk result (Did (field_steps geometry.page geometry.entries) (L.history header.old) (L.history header.new)) }
+    ensures room { OnOk result (StaysRoomy (L.room header.old) (L.room header.new)) }
+    ensures lines { (L.room header.new).lines ≡ (L.room header.old).lines }
+    ensures cause { HasCause (L.fault_count header.old) (L.fault_count header.new) result }
+    ensures device { L.device header.new ≡ L.device header.old }
+{
+    header.store(0, 1, VERSION)?;
+    header.store(0, 2, geometry.page)?;
+    header.store(0, 3, geometry.entries)?;
+    header.store(0, 4, 0)?;
+    header.store(1, 0, 0)?;
+    header.flush(0)?;
+    header.flush(1)?;
+    header.fence()?;
+    Ok(())
+}

@@ -1,0 +1,42 @@
+//! The header of a region: its geometry, the names of its files, and the persistent tail of its log.
+//!
+//! # The header's part
+//!
+//! Part 0 of a region has 18 lines of eight little-endian words.
+//!
+//! | Line | Word | What it holds |
+//! |---|---|---|
+//! | 0 | 0 | the magic, `NVCACHE1` |
+//! | 0 | 1 | the version, 1 |
+//! | 0 | 2 | the page size |
+//! | 0 | 3 | the number of entries |
+//! | 0 | 4 | the number of files, 0 to 16 |
+//! | 1 | 0 | the persistent tail, at most 2^60 |
+//! | 2 + i | 0 | the length of name i, 1 to 56 |
+//! | 2 + i | 1 to 7 | the name's bytes, then zeros |
+//!
+//! No other word of it is read. Each entry has a part of its own behind it, with a line of fields and a page of data.
+#![tactic(auto)]
+
+mod adding;
+mod fields;
+mod formatting;
+mod head;
+mod lines;
+mod names;
+mod read;
+mod record;
+mod region;
+mod tail;
+
+pub use adding::{AddError, add_file};
+pub use formatting::format;
+pub use head::{Head, HeadError, HeadField};
+pub use lines::{Truncated, check_lines};
+pub use names::Names;
+pub use read::{is_blank, read_head};
+pub use region::Region;
+pub use tail::move_tail;
+
+#[cfg(test)]
+mod tests;

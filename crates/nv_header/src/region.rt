@@ -1,0 +1,53 @@
+ghost use Rattle.std.specs.Prelude.{map};
+ghost use Rattle.nv_plain.specs.Layouts.{version_1};
+ghost use Rattle.nv_header.specs.Regions.{IsRegion, IsRegion-prop};
+
+use crate::Names;
+use nv_pmem::{Geometry, Lines};
+
+/// The parts of a region whose log is empty: part 0 is the header, and part 1 + i the slot of each entry whose number
+/// is i modulo the number of entries. Each part is quiet, and each line that the layout has can take 15 contents. The
+/// header says the geometry, the names and the next entry number, and in no image is an entry from that number on
+/// committed, whatever tail the header comes to have.
+#[derive(Drop)]
+pub struct Region<L: Lines> {
+    pub(crate) parts: Vec<L>,
+    pub(crate) geometry: Geometry,
+    pub(crate) names: Names,
+    pub(crate) next: u64,
+    pub ghost is_region: { IsRegion version_1 geometry.page geometry.entries names next (map L.room parts.items) (map L.history parts.items) } by { IsRegion-prop version_1 geometry.page geometry.entries names next (map L.room parts.items) (map L.history parts.items) },
+}
+
+impl<L: Lines> Region<L> {
+    ghost use Rattle.std.specs.Prelude.{◌≡◌};
+
+    /// The sizes of a page and of the log.
+    pub fn geometry(&self) -> Geometry
+        ensures { result ≡ self.now.geometry }
+    {
+        self.geometry
+    }
+
+    /// The names of the files, in their order.
+    pub fn names(&self) -> &Names
+        ensures { result.now ≡ self.now.names }
+    {
+        &self.names
+    }
+
+    /// The number of the next entry of the log; at most 2^60.
+    pub fn next(&self) -> u64
+        ensures { result ≡ self.now.next }
+    {
+        self.next
+    }
+
+    /// The parts, in their order. Takes no memory.
+    pub fn into_parts(self) -> Vec<L>
+        ensures parts { result ≡ self.parts }
+        ensures region { IsRegion version_1 self.geometry.page self.geometry.entries self.names self.next
+            (map L.room result.items) (map L.history result.items) }
+    {
+        self.parts
+    }
+}
