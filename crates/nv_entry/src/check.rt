@@ -87,8 +87,8 @@ pub fn check_group<L: Lines>(
     Ok(GroupCheck::Whole { count })
 }
 
-// The words of the entry of a number.
-fn read_entry<L: Lines>(
+/// Reads the words of the entry of a number, in the slot that it stands in. Takes no memory.
+pub fn read_entry<L: Lines>(
     parts: &mut [L],
     bounds: &Bounds,
     number: u64,

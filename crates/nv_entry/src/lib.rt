@@ -32,7 +32,7 @@ mod piece;
 mod span;
 
 pub use bounds::Bounds;
-pub use check::{EntryWords, GroupCheck, check_group, entry_words};
+pub use check::{EntryWords, GroupCheck, check_group, entry_words, read_entry};
 pub use group::{commit_group, committed};
 pub use nv_pmem::RegionFault;
 pub use piece::{PieceHead, read_piece};

@@ -1,1 +1,5 @@
 pub mod Alike
+pub mod Standing
+pub mod Groups
+pub mod Causes
+pub mod Telling
