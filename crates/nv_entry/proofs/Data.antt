@@ -15,13 +15,13 @@ use Rattle.nv_entry.proofs.Ranges.{flat_map-same, flat_map-after_one, parts_join
 abbrev pub AreBytes : List ℕ → Type 0
 AreBytes bytes = (i : ℕ) → get_or bytes i 0 < 256
 
-bytes_taken : (count : ℕ) (bytes : List ℕ) → AreBytes bytes → AreBytes (take count bytes)
+pub bytes_taken : (count : ℕ) (bytes : List ℕ) → AreBytes bytes → AreBytes (take count bytes)
 bytes_taken count bytes are i = elim (cases_lt i count) [
   | inl less ↦ rw (get_or-take count bytes i 0 less) (are i)
   | inr past ↦ rw (get_or_past (take count bytes) i 0 (omega (arith, length-take count bytes))) (omega arith)
 ]
 
-bytes_dropped : (count : ℕ) (bytes : List ℕ) → AreBytes bytes → AreBytes (drop count bytes)
+pub bytes_dropped : (count : ℕ) (bytes : List ℕ) → AreBytes bytes → AreBytes (drop count bytes)
 bytes_dropped count bytes are i = rw (get_or-drop count bytes i 0) (are (count + i))
 
 zeros_are_bytes : (count : ℕ) → AreBytes (replicate count 0)

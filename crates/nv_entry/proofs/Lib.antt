@@ -1,6 +1,11 @@
-pub mod Ranges
-pub mod Data
-pub mod LoneGroup
-pub mod Rooms
-pub mod Filling
 pub mod Checking
+pub mod Data
+pub mod Filling
+pub mod GroupLaws
+pub mod GroupSteps
+pub mod PartRows
+pub mod PieceRanges
+pub mod PieceSteps
+pub mod Ranges
+pub mod Rooms
+pub mod TestParts

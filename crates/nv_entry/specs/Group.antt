@@ -1,12 +1,16 @@
--- Groups: the device calls that write one, and what a part then holds.
-use Rattle.std.specs.Prelude.{◌≡◌, ℕ, ◌+◌, ◌*◌, ◌<◌, ◌≤◌, List, [], ◌∷◌, ◌++◌, length, take, drop}
+-- Groups: the device calls that write one, and what the parts of its entries then say. The entries of a group, and their parts,
+-- are counted from 0, the leader first.
+use Rattle.std.specs.Prelude.{◌≡◌, ◌≢◌, ◌⊎◌, ℕ, ◌+◌, ◌*◌, ◌<◌, ◌≤◌, ◌==◌, if◌then◌else◌, List, [], ◌∷◌, ◌++◌, length, take, drop, slice_index_or}
 use Rattle.std.specs.List.{flat_map, range_with_len}
 use Rattle.nv_plain.specs.Files.{padded}
-use Rattle.nv_plain.specs.Images.{PartImage, entry_of, data_of, lines_for}
+use Rattle.nv_plain.specs.Images.{PartImage, Image, Entry, entry_of, data_of, lines_for}
+use Rattle.nv_plain.specs.Pieces.{Piece, pages_touched, piece_of, piece_bytes}
+use Rattle.nv_pmem.specs.Images.{IsQuiet}
 use Rattle.nv_pmem.specs.Limits.{entry_lines}
 use Rattle.nv_pmem.specs.Part.{Part, word_of}
 use Rattle.nv_pmem.specs.Room.{Room}
-use Rattle.nv_pmem.specs.Steps.{Step, Store, Flush, Fence, line_stores}
+use Rattle.nv_pmem.specs.Rows.{RowStep, on_part, IsRowImage}
+use Rattle.nv_pmem.specs.Steps.{Step, Store, Flush, Fence, line_stores, durable_store}
 
 -- data line i of some bytes, the last one padded with zeros
 abbrev pub data_line : List ℕ → ℕ → List ℕ
@@ -22,23 +26,81 @@ unfoldable pub field_steps : (file at size count leader : ℕ) → List Step
 field_steps file at size count leader =
     Store 0 1 file ∷ Store 0 2 at ∷ Store 0 3 size ∷ Store 0 4 count ∷ Store 0 5 leader ∷ Flush 0 ∷ Fence ∷ []
 
--- last the commit word, by itself
-unfoldable pub commit_steps : ℕ → List Step
-commit_steps number = Store 0 0 (number + 1) ∷ Flush 0 ∷ Fence ∷ []
+-- the number of entries that an entry of a group gives: all of them in the leader, none in a follower
+abbrev pub count_at : (entries i : ℕ) → ℕ
+count_at entries i = if i == 0 then entries else 0
 
--- what is done to the part of a group of one entry
-unfoldable pub lone_group_steps : (first file at : ℕ) → List ℕ → List Step
-lone_group_steps first file at bytes =
-    data_steps bytes ++ field_steps file at (length bytes) 1 first ++ commit_steps first
+-- the entry of piece i of a write to a file, in a group from number first on, with some commit word
+abbrev pub piece_entry : (page first file at : ℕ) → List ℕ → (i commit : ℕ) → Entry
+piece_entry page first file at bytes i commit =
+    let piece = piece_of at (length bytes) page i in
+    record {
+      commit = commit;
+      file = file;
+      at = piece.at;
+      size = piece.size;
+      count = count_at (pages_touched at (length bytes) page) i;
+      leader = first;
+    }
+
+-- what is done to the part of that entry before the commit
+unfoldable pub piece_steps : (page first file at : ℕ) → List ℕ → ℕ → List Step
+piece_steps page first file at bytes i =
+    let piece = piece_of at (length bytes) page i in
+    data_steps (piece_bytes bytes piece)
+    ++ field_steps file piece.at piece.size (count_at (pages_touched at (length bytes) page) i) first
+
+-- the first so many entries are written, part by part
+unfoldable pub pieces_steps : (page first file at : ℕ) → List ℕ → ℕ → List RowStep
+pieces_steps page first file at bytes count =
+    flat_map (λ i. on_part i (piece_steps page first file at bytes i)) (range_with_len 0 count)
+
+-- What is done to the parts of a group: each entry is written, and last the leader's commit word, by itself.
+unfoldable pub group_steps : (page first file at : ℕ) → List ℕ → List RowStep
+group_steps page first file at bytes =
+    pieces_steps page first file at bytes (pages_touched at (length bytes) page) ++ on_part 0 (durable_store 0 0 (first + 1))
 
 -- the words of a part's present state
 abbrev pub words_of : Part → PartImage
 words_of part = word_of part
 
--- A part reads as the committed entry of a group of one.
-pub record HoldsLoneGroup (part : Part) (first file at : ℕ) (bytes : List ℕ) : Type 0 where
-  pub fields : entry_of (words_of part) ≡ record { commit = first + 1; file = file; at = at; size = length bytes; count = 1; leader = first }
-  pub bytes_are : data_of (words_of part) (length bytes) ≡ bytes
+-- the words of the present states of a row
+abbrev pub row_words : List Part → Image
+row_words parts i = words_of (slice_index_or parts i [])
+
+-- each part of a row is quiet
+abbrev pub AreQuiet : List Part → Type 0
+AreQuiet parts = (i : ℕ) → IsQuiet (slice_index_or parts i [])
+
+-- none of so many entries is committed: no commit word is its entry's number and one
+abbrev pub IsUncommitted : (first count : ℕ) → Image → Type 0
+IsUncommitted first count image = (i : ℕ) → i < count → (entry_of (image i)).commit ≢ first + i + 1
+
+-- A part holds the entry of piece i of a write, with whatever commit word.
+pub record HoldsEntry (page first file at : ℕ) (bytes : List ℕ) (i : ℕ) (part : PartImage) : Type 0 where
+  pub fields : entry_of part ≡ piece_entry page first file at bytes i (entry_of part).commit
+  pub bytes_are : data_of part (piece_of at (length bytes) page i).size ≡ piece_bytes bytes (piece_of at (length bytes) page i)
+
+-- A whole group: its leader is committed, no follower is by itself, and each part holds its entry.
+pub record IsWhole (page first file at : ℕ) (bytes : List ℕ) (image : Image) : Type 0 where
+  pub committed : (entry_of (image 0)).commit ≡ first + 1
+  pub followers : (i : ℕ) → 1 ≤ i → i < pages_touched at (length bytes) page → (entry_of (image i)).commit ≢ first + i + 1
+  pub entries : (i : ℕ) → i < pages_touched at (length bytes) page → HoldsEntry page first file at bytes i (image i)
+
+-- a group is there as a whole or not at all
+abbrev pub IsUncommittedOrWhole : (page first file at : ℕ) → List ℕ → Image → Type 0
+IsUncommittedOrWhole page first file at bytes image =
+    IsUncommitted first (pages_touched at (length bytes) page) image ⊎ IsWhole page first file at bytes image
+
+-- An image is one of earlier states, but for what a group's writing stores: the data, the fields, and the leader's commit word.
+pub record StoresOnly (page first file at : ℕ) (bytes : List ℕ) (was : List Part) (image : Image) : Type 0 where
+  pub before : Image
+  pub is : IsRowImage was before
+  pub leader : (image 0 0 0 ≡ before 0 0 0) ⊎ (image 0 0 0 ≡ first + 1)
+  pub followers : (i : ℕ) → 1 ≤ i → i < pages_touched at (length bytes) page → image i 0 0 ≡ before i 0 0
+  pub behind_fields : (i word : ℕ) → i < pages_touched at (length bytes) page → 6 ≤ word → image i 0 word ≡ before i 0 word
+  pub behind_data : (i line word : ℕ) → i < pages_touched at (length bytes) page
+      → lines_for (piece_of at (length bytes) page i).size < line → image i line word ≡ before i line word
 
 -- there is room in an entry's part for its lines, and each can take a whole entry's stores
 pub record IsReady (page : ℕ) (room : Room) : Type 0 where

@@ -1,5 +1,4 @@
 ghost use Rattle.std.specs.Prelude.{◌≡◌, ℕ, ◌+◌, ◌^◌, ◌<◌, ◌≤◌, ◌↔◌, [], ◌∷◌, ◌++◌, length, map, sum_by, vec_len, IfOk, OnOk, IsTrue, All};
-ghost use Rattle.std.specs.List.{AllZip};
 ghost use Rattle.nv_plain.specs.Faults.{HasCause};
 ghost use Rattle.nv_plain.specs.Files.{padded};
 ghost use Rattle.nv_plain.specs.Images.{lines_for};
@@ -8,17 +7,18 @@ ghost use Rattle.nv_pmem.specs.Limits.{IsPageSize};
 ghost use Rattle.nv_pmem.specs.Part.{word_of};
 ghost use Rattle.nv_pmem.specs.Room.{Keeps, Takes};
 ghost use Rattle.nv_pmem.specs.Moments.{Tells};
-ghost use Rattle.nv_pmem.specs.Steps.{Did, DidSome, Flush, line_stores};
-ghost use Rattle.nv_entry.specs.Group.{lone_group_steps, data_steps, field_steps, commit_steps, HoldsLoneGroup, IsReady};
+ghost use Rattle.nv_pmem.specs.Rows.{DidRow, DidSomeRow, RowTells, EachRowMoment, InEachRowImage, on_part};
+ghost use Rattle.nv_pmem.specs.Steps.{Did, DidSome, Flush, line_stores, durable_store};
+ghost use Rattle.nv_entry.specs.Group.{group_steps, pieces_steps, count_at, data_steps, field_steps, row_words, AreQuiet, IsUncommitted, IsUncommittedOrWhole, IsWhole, StoresOnly, IsReady};
 ghost use Rattle.nv_entry.specs.Ready.{WritesLines, FencesHead, StaysReady};
 
-use crate::PieceHead;
-use nv_pmem::{Lines, RegionFault};
+use crate::{PieceHead, cut};
+use nv_pmem::{Lines, RegionFault, store_durably};
 
 /// Writes the pieces of a write as the entries from number `first` on, and commits them as a group. `parts` are the
-/// parts of these entries, and so far there is one: the bytes go to `at` of `file`, all in one page of `page` bytes.
-/// At `Ok` the group is committed and durable. After a fault only the first so many of the device calls were made,
-/// so it is there as a whole or not at all. Takes no memory.
+/// parts of these entries, one for each piece: the bytes go to `at` of `file`, cut at the boundaries of pages of `page`
+/// bytes. At each moment the group is there as a whole or not at all, and at `Ok` it is there. After a fault only the
+/// first so many of the device calls were made. Takes no memory.
 pub fn commit_group<L: Lines>(
     parts: &mut Vec<L>,
     page: u64,
@@ -28,59 +28,99 @@ pub fn commit_group<L: Lines>(
     bytes: &[u8],
 ) -> Result<(), RegionFault>
     requires page { IsPageSize page }
-    requires one { vec_len parts.old ≡ 1 }
+    requires some { 1 ≤ vec_len parts.old }
     requires pieces { pages_touched at (length bytes.now) page ≡ vec_len parts.old }
     requires range { at + length bytes.now ≤ 2 ^ 60 }
     requires numbers { first + vec_len parts.old ≤ 2 ^ 60 }
     requires ready { All (λ part. IsReady page (L.room part)) parts.old.items }
+    requires uncommitted { RowTells (map L.history parts.old.items) (InEachRowImage (IsUncommitted first (vec_len parts.old))) }
 
     // The device calls are these, in this order.
-    ensures begun { AllZip (λ old new. DidSome (lone_group_steps first file at bytes.now) (L.history old) (L.history new))
-        parts.old.items parts.new.items }
-    ensures done { OnOk result (AllZip (λ old new. Did (lone_group_steps first file at bytes.now) (L.history old) (L.history new))
-        parts.old.items parts.new.items) }
+    ensures begun { DidSomeRow (group_steps page first file at bytes.now) (map L.history parts.old.items) (map L.history parts.new.items) }
+    ensures done { OnOk result
+        (DidRow (group_steps page first file at bytes.now) (map L.history parts.old.items) (map L.history parts.new.items)) }
 
-    // After them the part reads as the committed entry, and has room for another one.
-    ensures holds { OnOk result (All (λ part. Tells (L.history part) (λ now. HoldsLoneGroup now first file at bytes.now))
-        parts.new.items) }
+    // What a power failure may leave: the group as a whole or not at all, and everything else as it was.
+    ensures moments { EachRowMoment (InEachRowImage (IsUncommittedOrWhole page first file at bytes.now))
+        (map L.history parts.old.items) (map L.history parts.new.items) }
+    ensures others { RowTells (map L.history parts.old.items) (λ was.
+        EachRowMoment (InEachRowImage (StoresOnly page first file at bytes.now was))
+        (map L.history parts.old.items) (map L.history parts.new.items)) }
+    ensures whole { OnOk result (RowTells (map L.history parts.new.items) (InEachRowImage (IsWhole page first file at bytes.now))) }
+    ensures quiet { OnOk result (RowTells (map L.history parts.old.items) AreQuiet → RowTells (map L.history parts.new.items) AreQuiet) }
+
+    // After them the parts read as the group, and have room for other entries.
+    ensures holds { OnOk result
+        (RowTells (map L.history parts.new.items) (λ now. IsWhole page first file at bytes.now (row_words now))) }
     ensures ready { OnOk result (All (λ part. IsReady page (L.room part)) parts.new.items) }
 
-    ensures lines { AllZip (λ old new. (L.room new).lines ≡ (L.room old).lines) parts.old.items parts.new.items }
+    ensures lines { map (λ part. (L.room part).lines) parts.new.items ≡ map (λ part. (L.room part).lines) parts.old.items }
     ensures cause { HasCause (sum_by L.fault_count parts.old.items) (sum_by L.fault_count parts.new.items) result }
     ensures devices { map L.device parts.new.items ≡ map L.device parts.old.items }
 {
-    commit_alone(&mut parts[0], first, file, at, bytes)
+    write_pieces(parts, page, first, file, at, bytes)?;
+    commit(parts, page, first)
 }
 
-// Writes and commits the only entry of a group.
-fn commit_alone<L: Lines>(
-    part: &mut L,
+// The entries of a group, but for the leader's commit word.
+fn write_pieces<L: Lines>(
+    parts: &mut [L],
+    page: u64,
     first: u64,
     file: u64,
     at: u64,
     bytes: &[u8],
 ) -> Result<(), RegionFault>
+    requires page { IsPageSize page }
+    requires pieces { pages_touched at (length bytes.now) page ≡ length parts.old }
+    requires range { at + length bytes.now ≤ 2 ^ 60 }
+    requires ready { All (λ part. IsReady page (L.room part)) parts.old }
+    ensures begun { DidSomeRow (pieces_steps page first file at bytes.now (length parts.old)) (map L.history parts.old) (map L.history parts.new) }
+    ensures done { OnOk result
+        (DidRow (pieces_steps page first file at bytes.now (length parts.old)) (map L.history parts.old) (map L.history parts.new)) }
+    ensures ready { OnOk result (All (λ part. IsReady page (L.room part)) parts.new) }
+    ensures lines { map (λ part. (L.room part).lines) parts.new ≡ map (λ part. (L.room part).lines) parts.old }
+    ensures cause { HasCause (sum_by L.fault_count parts.old) (sum_by L.fault_count parts.new) result }
+    ensures devices { map L.device parts.new ≡ map L.device parts.old }
+{
+    let entries = parts.len() as u64;
+    for (i, part) in parts.iter_mut().enumerate() {
+        let span = cut(at, bytes.len() as u64, page, i as u64);
+        let head = PieceHead {
+            file,
+            at: span.at,
+            size: span.size,
+            count: group_count(entries, i),
+            leader: first,
+        };
+        let end = span.from + span.size;
+        write_entry(part, head, &bytes[span.from as usize..end as usize])?;
+    }
+    Ok(())
+}
+
+// The number of entries that entry `i` of a group gives.
+fn group_count(entries: u64, i: usize) -> u64
+    ensures { result ≡ count_at entries i }
+{
+    if i == 0 { entries } else { 0 }
+}
+
+// The data and the fields of an entry; durable at `Ok`.
+fn write_entry<L: Lines>(part: &mut L, head: PieceHead, bytes: &[u8]) -> Result<(), RegionFault>
     requires lines { 1 + lines_for (length bytes.now) ≤ (L.room part.old).lines }
     requires spare { (line : ℕ) → line < 1 + lines_for (length bytes.now) → 15 ≤ (L.room part.old).spare line }
-    requires number { first + 1 ≤ 2 ^ 60 }
-    ensures begun { DidSome (lone_group_steps first file at bytes.now) (L.history part.old) (L.history part.new) }
-    ensures done { OnOk result (Did (lone_group_steps first file at bytes.now) (L.history part.old) (L.history part.new)) }
-    ensures holds { OnOk result (Tells (L.history part.new) (λ now. HoldsLoneGroup now first file at bytes.now)) }
+    ensures begun { DidSome (data_steps bytes.now ++ field_steps head.file head.at head.size head.count head.leader)
+        (L.history part.old) (L.history part.new) }
+    ensures done { OnOk result (Did (data_steps bytes.now ++ field_steps head.file head.at head.size head.count head.leader)
+        (L.history part.old) (L.history part.new)) }
     ensures ready { OnOk result (StaysReady (L.room part.old) (L.room part.new)) }
     ensures lines { (L.room part.new).lines ≡ (L.room part.old).lines }
     ensures cause { HasCause (L.fault_count part.old) (L.fault_count part.new) result }
     ensures device { L.device part.new ≡ L.device part.old }
 {
     write_data(part, bytes)?;
-    let head = PieceHead {
-        file,
-        at,
-        size: bytes.len() as u64,
-        count: 1,
-        leader: first,
-    };
-    write_head(part, head)?;
-    commit(part, first)
+    write_head(part, head)
 }
 
 // The data lines of an entry, stored and flushed.
@@ -150,22 +190,20 @@ fn write_head<L: Lines>(part: &mut L, head: PieceHead) -> Result<(), RegionFault
     Ok(())
 }
 
-// The commit word of a number, durable at `Ok`.
-fn commit<L: Lines>(part: &mut L, number: u64) -> Result<(), RegionFault>
-    requires lines { 1 ≤ (L.room part.old).lines }
-    requires spare { 1 ≤ (L.room part.old).spare 0 }
-    requires number { number + 1 ≤ 2 ^ 60 }
-    ensures begun { DidSome (commit_steps number) (L.history part.old) (L.history part.new) }
-    ensures done { OnOk result (Did (commit_steps number) (L.history part.old) (L.history part.new)) }
-    ensures room { OnOk result (FencesHead (L.room part.old) (L.room part.new)) }
-    ensures lines { (L.room part.new).lines ≡ (L.room part.old).lines }
-    ensures cause { HasCause (L.fault_count part.old) (L.fault_count part.new) result }
-    ensures device { L.device part.new ≡ L.device part.old }
+// The commit word of a group's leader; durable at `Ok`.
+fn commit<L: Lines>(parts: &mut Vec<L>, page: u64, first: u64) -> Result<(), RegionFault>
+    requires some { 1 ≤ vec_len parts.old }
+    requires number { first + 1 ≤ 2 ^ 60 }
+    requires ready { All (λ part. IsReady page (L.room part)) parts.old.items }
+    ensures begun { DidSomeRow (on_part 0 (durable_store 0 0 (first + 1))) (map L.history parts.old.items) (map L.history parts.new.items) }
+    ensures done { OnOk result
+        (DidRow (on_part 0 (durable_store 0 0 (first + 1))) (map L.history parts.old.items) (map L.history parts.new.items)) }
+    ensures ready { OnOk result (All (λ part. IsReady page (L.room part)) parts.new.items) }
+    ensures lines { map (λ part. (L.room part).lines) parts.new.items ≡ map (λ part. (L.room part).lines) parts.old.items }
+    ensures cause { HasCause (sum_by L.fault_count parts.old.items) (sum_by L.fault_count parts.new.items) result }
+    ensures devices { map L.device parts.new.items ≡ map L.device parts.old.items }
 {
-    part.store(0, 0, number + 1)?;
-    part.flush(0)?;
-    part.fence()?;
-    Ok(())
+    Ok(store_durably(&mut parts[0], 0, 0, first + 1)?)
 }
 
 /// Whether the part holds the committed entry of this number: a leader, since only its commit word is stored. Takes

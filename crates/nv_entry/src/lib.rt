@@ -18,11 +18,10 @@
 //! # A commit
 //!
 //! A write's pieces are a group, whose leader's commit word makes all of them count at once. So everything else is
-//! durable before that word is stored: each data line is stored and flushed, the fields are stored and flushed, and a
-//! fence makes both durable. Only then is the commit word stored, flushed and fenced, by itself. The contract of
-//! [`commit_group`] has these very device calls in their order, so what a power failure leaves follows from it.
-//!
-//! Groups of one entry are written so far.
+//! durable before that word is stored. Part by part, each data line is stored and flushed, the fields are stored and
+//! flushed, and a fence makes both durable. Only then is the leader's commit word stored, flushed and fenced, by itself.
+//! A follower's commit word is never stored. The contract of [`commit_group`] has these very device calls in their order,
+//! and says what a power failure leaves at each moment: the group as a whole or not at all.
 #![tactic(auto)]
 
 mod bounds;

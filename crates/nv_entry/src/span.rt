@@ -34,6 +34,7 @@ pub fn cut(at: u64, len: u64, page: u64, i: u64) -> Span
     ensures at { result.at ≡ (piece_of at len page i).at }
     ensures from { result.from ≡ (piece_of at len page i).from }
     ensures size { result.size ≡ (piece_of at len page i).size }
+    ensures inside { result.from + result.size ≤ len }
 {
     let first_page = at / page;
     let start = at.max((first_page + i) * page);

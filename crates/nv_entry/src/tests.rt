@@ -1,21 +1,51 @@
-ghost use Rattle.std.specs.Prelude.{◌≡◌, ◌≤◌, vec_len, All, IfOk};
-ghost use Rattle.nv_pmem.specs.MemPart.{part_room};
-ghost use Rattle.nv_entry.specs.Group.{IsReady};
+ghost use Rattle.std.specs.Prelude.{◌≡◌, ◌+◌, ◌<◌, ◌≤◌, length, map, vec_len, All, IfOk, IfSome};
+ghost use Rattle.nv_plain.specs.Images.{entry_of};
+ghost use Rattle.nv_plain.specs.Pieces.{pages_touched};
+ghost use Rattle.nv_pmem.specs.MemPart.{part_history, part_room};
+ghost use Rattle.nv_pmem.specs.Moments.{Tells};
+ghost use Rattle.nv_pmem.specs.Rows.{RowTells, InEachRowImage};
+ghost use Rattle.nv_entry.specs.Group.{IsReady, IsUncommitted, words_of};
 
 use crate::{PieceHead, RegionFault, Span, commit_group, committed, cut, piece_count, read_piece};
 use nv_plain::NoMemory;
 use nv_pmem::{Fuse, LineFault, Lines, MemPart};
 use std::alloc::Global;
 
-// The part of an entry of a page of 64 bytes, whose calls of these numbers fail.
-fn entry_part(alloc: Global, fails: &[u64]) -> Result<Vec<MemPart>, NoMemory>
-    ensures one { IfOk result (λ parts. vec_len parts ≡ 1) }
+// The parts of so many entries of a page of 64 bytes, whose calls of these numbers fail.
+fn entry_parts(alloc: Global, count: u64, fails: &[u64]) -> Result<Vec<MemPart>, NoMemory>
+    ensures count { IfOk result (λ parts. vec_len parts ≡ count) }
     ensures ready { IfOk result (λ parts. All (λ part. IsReady 64 (part_room part)) parts.items) }
+    ensures uncommitted { IfOk result (λ parts.
+        RowTells (map part_history parts.items) (InEachRowImage (IsUncommitted 5 (vec_len parts)))) }
 {
     let fuse = Fuse::new(alloc, fails)?;
     let mut parts = Vec::new(alloc);
-    parts.push(MemPart::fused(alloc, 2, fuse)?)?;
+    for _ in 0..count {
+        parts.push(MemPart::fused(alloc, 2, fuse.copy()?)?)?;
+    }
     Ok(parts)
+}
+
+// Part `i` of a group from number 5 on, of so many entries, that writes the bytes to file 1; none where it fails.
+fn committed_part(
+    alloc: Global,
+    entries: u64,
+    at: u64,
+    bytes: &[u8],
+    i: usize,
+) -> Result<Option<MemPart>, NoMemory>
+    requires some { i < entries }
+    requires few { entries ≤ 16 }
+    requires range { at + length bytes.now ≤ 1024 }
+    requires pieces { pages_touched at (length bytes.now) 64 ≡ entries }
+    ensures lines { IfOk result (λ part. IfSome part (λ part. 2 ≤ (part_room part).lines)) }
+    ensures size { IfOk result (λ part. IfSome part (λ part. Tells (part_history part) (λ now. (entry_of (words_of now)).size ≤ 64))) }
+{
+    let mut parts = entry_parts(alloc, entries, &[])?;
+    if commit_group(&mut parts, 64, 5, 1, at, bytes).is_err() {
+        return Ok(None);
+    }
+    Ok(Some(parts.remove(i)))
 }
 
 // Words 0 to 5 of line 0.
@@ -32,14 +62,15 @@ fn first_words(part: &mut MemPart) -> Result<[u64; 6], LineFault>
     ])
 }
 
+// The bytes of those words.
+fn bytes_of(words: [u64; 6]) -> [[u8; 8]; 6] {
+    words.map(u64::to_le_bytes)
+}
+
 #[test]
 fn a_group_of_one_is_written_and_read(rt: HostRuntime) -> Result<(), NoMemory> {
-    let mut parts = entry_part(rt.alloc(), &[])?;
-    let reply = commit_group(&mut parts, 64, 5, 1, 130, b"abc");
-    assert!(rt; reply.is_ok());
-
-    let part = &mut parts[0];
-    let mut into = [b'.'; 8];
+    let mut part = committed_part(rt.alloc(), 1, 130, b"abc", 0)?.expect(&rt, "committed");
+    let mut into = [b'.'; 64];
     let head = PieceHead {
         file: 1,
         at: 130,
@@ -47,24 +78,79 @@ fn a_group_of_one_is_written_and_read(rt: HostRuntime) -> Result<(), NoMemory> {
         count: 1,
         leader: 5,
     };
-    assert_eq!(rt; read_piece(part, &mut into), Ok(head));
-    assert_eq!(rt; into, *b"abc.....");
-    assert_eq!(rt; committed(part, 5), Ok(true));
-    assert_eq!(rt; committed(part, 21), Ok(false));
-    assert_eq!(rt; first_words(part), Ok([6, 1, 130, 3, 1, 5]));
+    assert_eq!(rt; read_piece(&mut part, &mut into), Ok(head));
+    assert_eq!(rt; &into[..8], b"abc.....".as_slice());
+    assert_eq!(rt; committed(&mut part, 5), Ok(true));
+    assert_eq!(rt; committed(&mut part, 21), Ok(false));
+    assert_eq!(rt; first_words(&mut part), Ok([6, 1, 130, 3, 1, 5]));
+    assert_eq!(rt;
+        bytes_of([6, 1, 130, 3, 1, 5]),
+        [
+            *b"\x06\0\0\0\0\0\0\0",
+            *b"\x01\0\0\0\0\0\0\0",
+            *b"\x82\0\0\0\0\0\0\0",
+            *b"\x03\0\0\0\0\0\0\0",
+            *b"\x01\0\0\0\0\0\0\0",
+            *b"\x05\0\0\0\0\0\0\0",
+        ]
+    );
+    Ok(())
+}
+
+// Whether a group of the bytes goes well where only the call of this number fails.
+fn commits(alloc: Global, entries: u64, bytes: &[u8], fails: u64) -> Result<bool, NoMemory>
+    requires some { 1 ≤ entries }
+    requires few { entries ≤ 16 }
+    requires pieces { pages_touched 128 (length bytes.now) 64 ≡ entries }
+    requires size { length bytes.now ≤ 1024 }
+{
+    let mut parts = entry_parts(alloc, entries, &[fails])?;
+    Ok(commit_group(&mut parts, 64, 5, 1, 128, bytes).is_ok())
+}
+
+#[test]
+fn a_group_of_n_short_pieces_takes_nine_n_and_three_calls(rt: HostRuntime) -> Result<(), NoMemory> {
+    assert_eq!(rt; commits(rt.alloc(), 1, &[7; 64], 12), Ok(false));
+    assert_eq!(rt; commits(rt.alloc(), 1, &[7; 64], 13), Ok(true));
+    assert_eq!(rt; commits(rt.alloc(), 2, &[7; 128], 21), Ok(false));
+    assert_eq!(rt; commits(rt.alloc(), 2, &[7; 128], 22), Ok(true));
+    assert_eq!(rt; commits(rt.alloc(), 3, &[7; 130], 30), Ok(false));
+    assert_eq!(rt; commits(rt.alloc(), 3, &[7; 130], 31), Ok(true));
     Ok(())
 }
 
 #[test]
-fn a_group_of_one_takes_twelve_calls(rt: HostRuntime) -> Result<(), NoMemory> {
-    for (fails, reply) in [(12, Err(RegionFault)), (13, Ok(()))] {
-        let mut parts = entry_part(rt.alloc(), &[fails])?;
-        assert_eq!(rt;
-            commit_group(&mut parts, 64, 5, 1, 130, b"abc"),
-            reply,
-            "call {fails} fails"
-        );
-    }
+fn a_group_of_two_is_written_and_read(rt: HostRuntime) -> Result<(), NoMemory> {
+    let mut bytes = [b'a'; 70];
+    bytes[62] = b'b';
+    bytes[69] = b'z';
+    let mut leader = committed_part(rt.alloc(), 2, 130, &bytes, 0)?.expect(&rt, "committed");
+    let mut into = [b'.'; 64];
+    let head = PieceHead {
+        file: 1,
+        at: 130,
+        size: 62,
+        count: 2,
+        leader: 5,
+    };
+    assert_eq!(rt; read_piece(&mut leader, &mut into), Ok(head));
+    assert_eq!(rt; &into[..62], [b'a'; 62].as_slice());
+    assert_eq!(rt; &into[62..], b"..".as_slice());
+    assert_eq!(rt; first_words(&mut leader), Ok([6, 1, 130, 62, 2, 5]));
+
+    let mut follower = committed_part(rt.alloc(), 2, 130, &bytes, 1)?.expect(&rt, "committed");
+    let mut into = [b'.'; 64];
+    let head = PieceHead {
+        file: 1,
+        at: 192,
+        size: 8,
+        count: 0,
+        leader: 5,
+    };
+    assert_eq!(rt; read_piece(&mut follower, &mut into), Ok(head));
+    assert_eq!(rt; &into[..9], b"baaaaaaz.".as_slice());
+    assert_eq!(rt; committed(&mut follower, 6), Ok(false));
+    assert_eq!(rt; first_words(&mut follower), Ok([0, 1, 192, 8, 0, 5]));
     Ok(())
 }
 

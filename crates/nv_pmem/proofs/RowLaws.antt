@@ -1,15 +1,16 @@
 -- Laws about rows: what steps on several parts make of each of them, of their histories and of their images.
-use Rattle.std.proofs.Common.{◌≡◌, ◌≢◌, ℕ, ◌<◌, ◌≤◌, ◌==◌, if◌then◌else◌, ◌⊎◌, inl, inr, List, [], ◌∷◌, ◌++◌, length, take, drop, slice_set, slice_index_or, zero, suc, refl, sym, ap, ◌∙◌, subst, arith}
+use Rattle.std.proofs.Common.{◌≡◌, ◌≢◌, ℕ, ◌<◌, ◌≤◌, ◌==◌, if◌then◌else◌, ◌⊎◌, inl, inr, List, [], ◌∷◌, ◌++◌, All, length, take, drop, replicate, slice_set, slice_index_or, zero, suc, refl, sym, ap, ◌∙◌, subst, arith}
 use Rattle.std.proofs.lemmas.Bool.{cases_eq, cases_lt, eq-eqb, ne_eqb}
-use Rattle.std.proofs.lemmas.List.{get_or-set_same, get_or-set_other, get_or_past, length-set, length-take, set_past, set-get_or, set-set, take-append-drop, take-take, take_at}
-use Rattle.nv_plain.specs.Images.{Image}
+use Rattle.std.proofs.lemmas.List.{get_or-replicate, get_or-set_same, get_or-set_other, get_or_past, length-set, length-take, set_past, set-get_or, set-set, take-append-drop, take-take, take_at}
+use Rattle.std.proofs.lemmas.List.Elements.{All-head, All-tail}
+use Rattle.nv_plain.specs.Images.{PartImage, Image}
 use Rattle.nv_pmem.specs.Images.{IsImage, IsQuietLine}
 use Rattle.nv_pmem.specs.Moments.{Tells}
-use Rattle.nv_pmem.specs.Part.{Part, line_of, word_of}
-use Rattle.nv_pmem.specs.Rows.{RowStep, on_part, row_after, row_grown, DidRow, DidSomeRow, RowTells, IsRowImage, EachRowMoment}
+use Rattle.nv_pmem.specs.Part.{Part, blank_line, newest, word_at, line_of, word_of}
+use Rattle.nv_pmem.specs.Rows.{RowStep, on_part, row_after, row_grown, DidRow, DidSomeRow, RowTells, IsRowImage, InEachRowImage, EachRowMoment}
 use Rattle.nv_pmem.specs.Runs.{run, grown}
 use Rattle.nv_pmem.specs.Steps.{Step, Store, Flush, Fence, History, after_step, Did, DidSome}
-use Rattle.nv_pmem.proofs.ImageLaws.{image_of_now, IsStoredBy, image_comes_from, open_line, quiet_line, mark_after_all, quiet_after, quiet_still}
+use Rattle.nv_pmem.proofs.ImageLaws.{image_of_now, IsStoredBy, image_comes_from, open_line, quiet_line, mark_after_all, quiet_image, quiet_after, quiet_blank, quiet_still}
 use Rattle.nv_pmem.proofs.StepLaws.{after_steps, Always, always_front}
 
 -- ---- the steps on one part
@@ -204,6 +205,15 @@ row_tells_each ((now ∷ past) ∷ row) P each =
     })
     (row_tells_each row (λ i. P (suc i)) (λ i below. each (suc i) (omega arith)))
 
+-- the present states are the present states
+pub row_tells_itself : (row : List History) → RowTells row (λ was. RowTells row (λ parts. parts ≡ was))
+row_tells_itself [] = refl
+row_tells_itself ([] ∷ row) = tt
+row_tells_itself ((now ∷ past) ∷ row) =
+    row_tells_more row (λ was. RowTells row (λ parts. parts ≡ was)) (λ was. RowTells row (λ parts. now ∷ parts ≡ now ∷ was))
+    (λ was. row_tells_more row (λ parts. parts ≡ was) (λ parts. now ∷ parts ≡ now ∷ was) (λ parts same. ap (λ rest. now ∷ rest) same))
+    (row_tells_itself row)
+
 -- A row of one part tells what the part does.
 pub row_tells_lone : (history : History) (P : List Part → Type 0) → RowTells (history ∷ []) P → Tells history (λ now. P (now ∷ []))
 row_tells_lone [] P told = tt
@@ -212,6 +222,23 @@ row_tells_lone (now ∷ past) P told = told
 pub lone_tells_row : (history : History) (P : List Part → Type 0) → Tells history (λ now. P (now ∷ [])) → RowTells (history ∷ []) P
 lone_tells_row [] P told = tt
 lone_tells_row (now ∷ past) P told = told
+
+row_tells_fact : (row : List History) (A : Type 0) → All (λ history. 0 < length history) row → RowTells row (λ parts. A) → A
+row_tells_fact [] A tell told = told
+row_tells_fact ([] ∷ row) A tell told = absurd (omega (arith, All-head (λ (history : History). 0 < length history) [] row tell))
+row_tells_fact ((now ∷ past) ∷ row) A tell told = row_tells_fact row A (All-tail (λ (history : History). 0 < length history) (now ∷ past) row tell) told
+
+-- What a row of which all parts tell says of one of them, the part tells.
+pub row_tells_part : (row : List History) (i : ℕ) (P : List Part → Type 0) (Q : Part → Type 0) → i < length row → All (λ history. 0 < length history) row
+    → ((parts : List Part) → P parts → Q (slice_index_or parts i [])) → RowTells row P → Tells (slice_index_or row i []) Q
+row_tells_part [] i P Q inside tell step told = absurd (omega arith)
+row_tells_part ([] ∷ row) i P Q inside tell step told = absurd (omega (arith, All-head (λ (history : History). 0 < length history) [] row tell))
+row_tells_part ((now ∷ past) ∷ row) zero P Q inside tell step told =
+    row_tells_fact row (Q now) (All-tail (λ (history : History). 0 < length history) (now ∷ past) row tell)
+    (row_tells_more row (λ parts. P (now ∷ parts)) (λ parts. Q now) (λ parts. step (now ∷ parts)) told)
+row_tells_part ((now ∷ past) ∷ row) (suc i) P Q inside tell step told =
+    row_tells_part row i (λ parts. P (now ∷ parts)) Q (omega arith) (All-tail (λ (history : History). 0 < length history) (now ∷ past) row tell)
+    (λ parts. step (now ∷ parts)) told
 
 row_tells_step : (row : List History) (i : ℕ) (step : Step) (P : List Part → Type 0) → RowTells row (λ parts. P (slice_set parts i (after_step step (slice_index_or parts i []))))
     → RowTells (slice_set row i (grown after_step step (slice_index_or row i []))) P
@@ -318,3 +345,43 @@ pub row_quiet_still : (i line : ℕ) (steps : List RowStep) (parts : List Part) 
 row_quiet_still i line steps parts marks quiet =
     let At : Part → Type 0 = λ part. IsQuietLine (line_of part line) in
     subst At (sym (row_at i steps parts)) (quiet_still line (steps_on i steps) (slice_index_or parts i []) marks quiet)
+
+-- ---- blank parts
+
+-- a line of zeros has no other word
+blank_word : (word : ℕ) → word_at (newest blank_line) word ≡ 0
+unfolding word_at newest
+blank_word word = elim (cases_lt word 8) [
+  | inl inside ↦ get_or-replicate 8 word 0 0 inside
+  | inr past ↦ get_or_past (replicate 8 0) word 0 past
+]
+
+-- An image of a part of which each line is zeros, durable, has no other word.
+pub blank_image : (part : Part) (image : PartImage) → ((line : ℕ) → line_of part line ≡ blank_line) → IsImage part image → (line word : ℕ) → image line word ≡ 0
+blank_image part image blank is line word =
+    quiet_image part image line word (subst IsQuietLine (sym (blank line)) quiet_blank) is
+    ∙ ap (λ content. word_at (newest content) word) (blank line)
+    ∙ blank_word word
+
+pub all_blank : (part : Part) → All (λ line. line ≡ blank_line) part → (line : ℕ) → line_of part line ≡ blank_line
+all_blank part all line = elim (cases_lt line (length part)) [
+  | inl inside ↦ all line blank_line inside
+  | inr past ↦ get_or_past part line blank_line past
+]
+
+-- And so an image of a row of such parts.
+pub row_blank_images : (row : List History) → ((i : ℕ) → i < length row → Tells (slice_index_or row i []) (λ now. (line : ℕ) → line_of now line ≡ blank_line))
+    → RowTells row (InEachRowImage (λ image. (i line word : ℕ) → image i line word ≡ 0))
+row_blank_images row each =
+    row_tells_more row (EachPart (λ i now. (line : ℕ) → line_of now line ≡ blank_line) (length row))
+    (InEachRowImage (λ image. (i line word : ℕ) → image i line word ≡ 0))
+    (λ parts blank image is i.
+    blank_image (slice_index_or parts i []) (image i)
+    (elim (cases_lt i (length row)) [
+      | inl inside ↦ blank.has i inside
+      | inr past ↦
+          let Blank : Part → Type 0 = λ part. (line : ℕ) → line_of part line ≡ blank_line in
+          subst Blank (sym (get_or_past parts i [] (omega (arith, blank.long)))) (λ line. refl)
+    ])
+    (is.each i))
+    (row_tells_each row (λ i now. (line : ℕ) → line_of now line ≡ blank_line) each)

@@ -1,13 +1,15 @@
 use Rattle.std.proofs.Common.{refl, ◌∙◌, arith}
+use Rattle.nv_pmem.specs.Runs.{grown}
+use Rattle.nv_pmem.specs.Steps.{after_step}
 use Rattle.nv_pmem.proofs.StepLaws.{did_none, did_some_all}
 use Rattle.nv_entry.proofs.Data.{data_line-cut}
-use Rattle.nv_entry.proofs.LoneGroup.{did_data, did_lines_more, did_some_lines_more}
+use Rattle.nv_entry.proofs.PieceSteps.{did_data, did_lines_more, did_some_lines_more}
 use Rattle.nv_entry.proofs.Rooms.{writes_lines_more}
 use Rattle.nv_entry.proofs.group.write_data.Goals as goal
 
 pub loop-k-init : goal.loop-k-init
 loop-k-init g c = record {
-  did = did_none (g.L.Lines.history c.args.part.now);
+  did = did_none (grown after_step) (g.L.Lines.history c.args.part.now);
   room = record { written = λ k below. absurd (omega arith); head = omega arith; rest = λ line above. omega arith };
   lines = refl;
   faults = refl;

@@ -1,7 +1,7 @@
 use Rattle.std.proofs.Common.{◌≡◌}
 use Rattle.nv_pmem.specs.Steps.{Did}
 use Rattle.nv_entry.specs.Ready.{WritesLines}
-use Rattle.nv_entry.proofs.LoneGroup.{lines_steps}
+use Rattle.nv_entry.proofs.PieceSteps.{lines_steps}
 use Rattle.nv_entry.proofs.group.write_data.Given as goal
 
 -- the lines below this one are written

@@ -3,7 +3,7 @@ use Rattle.nv_pmem.specs.Part.{word_of}
 use Rattle.nv_pmem.specs.Moments.{Tells}
 use Rattle.nv_pmem.specs.Steps.{History}
 use Rattle.nv_entry.proofs.Filling.{length-put_mid, told_word_put}
-use Rattle.nv_entry.proofs.Rooms.{keeps_keeps}
+use Rattle.nv_pmem.proofs.Rooms.{Keeps-more}
 use Rattle.nv_entry.proofs.piece.load_line.Goals as goal
 
 pub loop-word-preserved : goal.loop-word-preserved
@@ -16,7 +16,7 @@ loop-word-preserved g c =
           told_word_put (g.L.Lines.history c.args.part.now) c.args.line c.loop-word.word c.in_ok-value.value c.loop-word.bytes c.copy_from_slice.new.self
           _ (omega arith) copy c.loop-word.invariant.loaded (subst Loaded c.loop-word.invariant.history c.in_ok-value.ensures.value);
       history = c.in_ok-value.ensures.history ∙ c.loop-word.invariant.history;
-      room = keeps_keeps c.loop-word.invariant.room c.in_ok-value.ensures.room;
+      room = Keeps-more c.loop-word.invariant.room c.in_ok-value.ensures.room;
       faults = c.in_ok-value.ensures.cause ∙ c.loop-word.invariant.faults;
       device = c.in_ok-value.ensures.device ∙ c.loop-word.invariant.device;
     }

@@ -4,7 +4,7 @@ use Rattle.nv_pmem.specs.Part.{word_of}
 use Rattle.nv_pmem.specs.Moments.{Tells}
 use Rattle.nv_pmem.specs.Steps.{History}
 use Rattle.nv_entry.proofs.Filling.{told_line_put}
-use Rattle.nv_entry.proofs.Rooms.{keeps_keeps}
+use Rattle.nv_pmem.proofs.Rooms.{Keeps-more}
 use Rattle.nv_entry.proofs.piece.read_data.Goals as goal
 
 pub loop-k-preserved : goal.loop-k-preserved
@@ -16,7 +16,7 @@ loop-k-preserved g c =
           (omega arith) (omega arith) c.copy_from_slice.ensures.after c.copy_from_slice.ensures.len
           (subst Loaded c.loop-k.invariant.history c.in_ok-line.ensures.bytes) c.loop-k.invariant.read;
       history = c.in_ok-line.ensures.history ∙ c.loop-k.invariant.history;
-      room = keeps_keeps c.loop-k.invariant.room c.in_ok-line.ensures.room;
+      room = Keeps-more c.loop-k.invariant.room c.in_ok-line.ensures.room;
       faults = c.in_ok-line.ensures.cause ∙ c.loop-k.invariant.faults;
       device = c.in_ok-line.ensures.device ∙ c.loop-k.invariant.device;
     }

@@ -1,0 +1,112 @@
+-- Laws about groups: what their steps, all or the first so many, make of parts that tell.
+use Rattle.std.proofs.Common.{◌≡◌, ℕ, ◌+◌, ◌≤◌, List, ◌∷◌, ◌++◌, All, length, take, drop, map, ap, sym, subst, ◌∙◌, arith}
+use Rattle.std.proofs.lemmas.List.{take_at}
+use Rattle.std.proofs.lemmas.List.Elements.{All-weaker}
+use Rattle.nv_plain.specs.Pieces.{pages_touched}
+use Rattle.nv_pmem.specs.Limits.{IsPageSize, entry_lines}
+use Rattle.nv_pmem.specs.Part.{Part}
+use Rattle.nv_pmem.specs.Room.{Room}
+use Rattle.nv_pmem.specs.Rows.{on_part, row_after, DidRow, DidSomeRow, RowTells, InEachRowImage, EachRowMoment}
+use Rattle.nv_pmem.specs.Steps.{History, durable_store}
+use Rattle.nv_pmem.proofs.RowLaws.{row_tells_more, row_tells_both, row_tells_itself, row_tells_did, each_row_moment, row_image_of_now}
+use Rattle.nv_pmem.proofs.StepLaws.{did_some_front, Always, always_by_fronts}
+use Rattle.nv_entry.specs.Group.{pieces_steps, group_steps, row_words, AreQuiet, IsReady, IsUncommitted, IsWhole, IsUncommittedOrWhole, StoresOnly}
+use Rattle.nv_entry.proofs.Data.{AreBytes}
+use Rattle.nv_entry.proofs.GroupSteps.{all_pieces, HaveLines, group_always, group_whole, group_stores, group_quiet}
+use Rattle.nv_entry.proofs.PartRows.{row_tells_lines}
+
+-- Parts that are ready for the entries of a group, none of which is committed.
+module _ {X : Type 0} (history : X → History) (room : X → Room) (told : (x : X) (now : Part) (past : History) → history x ≡ now ∷ past → length now ≡ (room x).lines)
+    (page first file at : ℕ) (bytes : List ℕ) (is_page : IsPageSize page) (are : AreBytes bytes) (parts : List X) (count : ℕ) (some : 1 ≤ count)
+    (pieces : pages_touched at (length bytes) page ≡ count) (long : length parts ≡ count) (ready : All (λ x. IsReady page (room x)) parts)
+    (uncommitted : RowTells (map history parts) (InEachRowImage (IsUncommitted first count))) (new : List History) where
+  tells_lines : RowTells (map history parts) (HaveLines page (pages_touched at (length bytes) page))
+  tells_lines =
+      row_tells_lines history (λ x. (room x).lines) (entry_lines page) (pages_touched at (length bytes) page) told parts (long ∙ sym pieces)
+      (All-weaker (λ x. IsReady page (room x)) (λ x. entry_lines page ≤ (room x).lines) (λ x is. is.lines) parts ready)
+
+  tells_both : RowTells (map history parts) (λ now. HaveLines page (pages_touched at (length bytes) page) now × InEachRowImage (IsUncommitted first (pages_touched at (length bytes) page)) now)
+  tells_both =
+      let Open : ℕ → Type 0 = λ n. RowTells (map history parts) (InEachRowImage (IsUncommitted first n)) in
+      row_tells_both (map history parts) (HaveLines page (pages_touched at (length bytes) page)) (InEachRowImage (IsUncommitted first (pages_touched at (length bytes) page)))
+      tells_lines (subst Open (sym pieces) uncommitted)
+
+  -- At each moment the group is there as a whole or not at all.
+  pub parts_moments : DidSomeRow (group_steps page first file at bytes) (map history parts) new
+      → EachRowMoment (InEachRowImage (IsUncommittedOrWhole page first file at bytes)) (map history parts) new
+  parts_moments did =
+      let P : List Part → Type 0 = InEachRowImage (IsUncommittedOrWhole page first file at bytes) in
+      each_row_moment P
+      (row_tells_more (map history parts) _ (Always row_after P (group_steps page first file at bytes))
+      (λ now both. group_always page first file at bytes is_page now are both.0 both.1)
+      tells_both)
+      did
+
+  -- At each moment nothing else is stored.
+  pub parts_others : DidSomeRow (group_steps page first file at bytes) (map history parts) new
+      → RowTells (map history parts) (λ was. EachRowMoment (InEachRowImage (StoresOnly page first file at bytes was)) (map history parts) new)
+  parts_others did =
+      let group = group_steps page first file at bytes in
+      row_tells_more (map history parts) (λ was. RowTells (map history parts) (λ now. now ≡ was))
+      (λ was. EachRowMoment (InEachRowImage (StoresOnly page first file at bytes was)) (map history parts) new)
+      (λ was same.
+      let P : List Part → Type 0 = InEachRowImage (StoresOnly page first file at bytes was) in
+      let Along : List Part → Type 0 = Always row_after P group in
+      each_row_moment P
+      (row_tells_more (map history parts) (λ now. now ≡ was) Along
+      (λ now is.
+      subst Along (sym is)
+      (always_by_fronts row_after P group was (λ steps few. group_stores page first file at bytes is_page was steps (omega (arith, some, pieces)))))
+      same)
+      did)
+      (row_tells_itself (map history parts))
+
+  -- At the end the group is there.
+  pub parts_whole : DidRow (group_steps page first file at bytes) (map history parts) new → RowTells new (InEachRowImage (IsWhole page first file at bytes))
+  parts_whole did =
+      row_tells_did _ (InEachRowImage (IsWhole page first file at bytes)) tells_both
+      (λ now both. group_whole page first file at bytes is_page now are (omega (arith, some, pieces)) both.0 both.1)
+      did
+
+  -- And it is what the parts read as.
+  pub parts_hold : DidRow (group_steps page first file at bytes) (map history parts) new → RowTells new (λ now. IsWhole page first file at bytes (row_words now))
+  parts_hold did =
+      row_tells_more new (InEachRowImage (IsWhole page first file at bytes)) (λ now. IsWhole page first file at bytes (row_words now))
+      (λ now whole. whole (row_words now) (row_image_of_now now))
+      (parts_whole did)
+
+  -- Quiet parts are quiet again.
+  pub parts_quiet : DidRow (group_steps page first file at bytes) (map history parts) new → RowTells (map history parts) AreQuiet → RowTells new AreQuiet
+  parts_quiet did quiet =
+      let Lines : List Part → Type 0 = HaveLines page (pages_touched at (length bytes) page) in
+      row_tells_did (λ now. Lines now × AreQuiet now) AreQuiet (row_tells_both (map history parts) Lines AreQuiet tells_lines quiet)
+      (λ now both. group_quiet page first file at bytes is_page now both.0.long both.1)
+      did
+
+-- ---- parts that were lent as a slice
+
+-- The entries of a group, or some of them, are written, as the vector of the parts sees it.
+module _ {X : Type 0} (history : X → History) (page first file at : ℕ) (bytes : List ℕ) (items now new : List X) (len : ℕ) (same : now ≡ items)
+    (long : length items ≡ len) (pieces : pages_touched at (length bytes) page ≡ len) (still : length new ≡ length now) where
+  given_back : map history (take len (new ++ drop (length new) items)) ≡ map history new
+  given_back = ap (map history) (take_at new (drop (length new) items) len (omega (arith, ap length same)))
+
+  count_is : length now ≡ pages_touched at (length bytes) page
+  count_is = omega (arith, ap length same)
+
+  pub some_written : DidSomeRow (pieces_steps page first file at bytes (length now)) (map history now) (map history new)
+      → DidSomeRow (group_steps page first file at bytes) (map history items) (map history (take len (new ++ drop (length new) items)))
+  unfolding group_steps
+  some_written did =
+      let From : List X → Type 0 = λ before. DidSomeRow (pieces_steps page first file at bytes (length now)) (map history before) (map history new) in
+      let Count : ℕ → Type 0 = λ count. DidSomeRow (pieces_steps page first file at bytes count) (map history items) (map history new) in
+      let To : List History → Type 0 = λ after. DidSomeRow (all_pieces page first file at bytes) (map history items) after in
+      did_some_front (on_part 0 (durable_store 0 0 (first + 1))) (subst To (sym given_back) (subst Count count_is (subst From same did)))
+
+  pub all_written : DidRow (pieces_steps page first file at bytes (length now)) (map history now) (map history new)
+      → DidRow (all_pieces page first file at bytes) (map history items) (map history (take len (new ++ drop (length new) items)))
+  all_written did =
+      let From : List X → Type 0 = λ before. DidRow (pieces_steps page first file at bytes (length now)) (map history before) (map history new) in
+      let Count : ℕ → Type 0 = λ count. DidRow (pieces_steps page first file at bytes count) (map history items) (map history new) in
+      let To : List History → Type 0 = λ after. DidRow (all_pieces page first file at bytes) (map history items) after in
+      subst To (sym given_back) (subst Count count_is (subst From same did))
