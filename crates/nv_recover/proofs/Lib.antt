@@ -1,2 +1,3 @@
 pub mod Overlays
 pub mod AlikeLaws
+pub mod Finding

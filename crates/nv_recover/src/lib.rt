@@ -4,5 +4,6 @@
 
 mod error;
 mod group;
+mod groups;
 
 pub use error::RecoverError;

@@ -1,0 +1,68 @@
+ghost use Rattle.std.specs.Prelude.{◌≡◌, ◌≢◌, ℕ, ◌+◌, ◌<◌, ◌≤◌, length, map, sum_by, All, Err, IfOk};
+ghost use Rattle.nv_plain.specs.Images.{entry_at};
+ghost use Rattle.nv_plain.specs.Layouts.{version_1};
+ghost use Rattle.nv_plain.specs.Recovered.{IsGroup};
+ghost use Rattle.nv_pmem.specs.Rows.{RowTells, AreOnlyRead};
+ghost use Rattle.nv_entry.specs.Checks.{IsFirstBad, SaysBounds, region_words};
+ghost use Rattle.nv_recover.specs.Causes.{HasRegionCause};
+ghost use Rattle.nv_recover.specs.Groups.{AreGroups, IsLeastBad};
+ghost use Rattle.nv_recover.specs.declared.error.RecoverError.TheVariants as error;
+
+use crate::RecoverError;
+use crate::group::Group;
+use nv_entry::{Bounds, GroupCheck, check_group, read_entry};
+use nv_pmem::Lines;
+use std::alloc::Global;
+
+/// The committed groups of the log, rising. All their entries are checked, and the least that breaks a rule is named.
+pub(crate) fn find_groups<L: Lines>(
+    alloc: Global,
+    parts: &mut [L],
+    bounds: &Bounds,
+) -> Result<Vec<Group>, RecoverError>
+    requires parts { 1 + bounds.now.entries ≤ length parts.old }
+    requires lines { All (λ part. 1 ≤ (L.room part).lines) parts.old }
+    requires header { RowTells (map L.history parts.old) (λ parts. SaysBounds bounds.now (region_words parts)) }
+    ensures found { IfOk result (λ groups. RowTells (map L.history parts.old) (λ parts. AreGroups (region_words parts) groups.items)) }
+    ensures bad { (number : ℕ) → result ≡ Err (error.BadEntry number)
+        → RowTells (map L.history parts.old) (λ parts. IsLeastBad version_1 (region_words parts) number) }
+    ensures read { AreOnlyRead L.history L.room L.device parts.old parts.new }
+    ensures cause { HasRegionCause (sum_by L.fault_count parts.old) (sum_by L.fault_count parts.new) result }
+    ensures no_store { result ≢ Err error.StoreFault }
+{
+    let mut groups = Vec::new(alloc);
+    for number in bounds.tail..bounds.tail + bounds.entries {
+        let entry = read_entry(parts, bounds, number)?;
+        if entry.commit == number + 1 {
+            let group = checked(parts, bounds, number)?;
+            groups.push(group)?;
+        }
+    }
+    Ok(groups)
+}
+
+// The committed group of a leader, if it is whole.
+fn checked<L: Lines>(
+    parts: &mut [L],
+    bounds: &Bounds,
+    leader: u64,
+) -> Result<Group, RecoverError>
+    requires parts { 1 + bounds.now.entries ≤ length parts.old }
+    requires lines { All (λ part. 1 ≤ (L.room part).lines) parts.old }
+    requires header { RowTells (map L.history parts.old) (λ parts. SaysBounds bounds.now (region_words parts)) }
+    requires number { leader < bounds.now.tail + bounds.now.entries }
+    ensures leader { IfOk result (λ group. group.leader ≡ leader) }
+    ensures whole { IfOk result (λ group. RowTells (map L.history parts.old) (λ parts.
+        IsGroup version_1 (region_words parts) leader × (group.count ≡ (entry_at (region_words parts) leader).count))) }
+    ensures bad { (number : ℕ) → result ≡ Err (error.BadEntry number)
+        → RowTells (map L.history parts.old) (λ parts. IsFirstBad version_1 (region_words parts) leader number) }
+    ensures read { AreOnlyRead L.history L.room L.device parts.old parts.new }
+    ensures cause { HasRegionCause (sum_by L.fault_count parts.old) (sum_by L.fault_count parts.new) result }
+    ensures no_store { result ≢ Err error.StoreFault }
+    ensures no_memory { result ≢ Err error.NoMemory }
+{
+    match check_group(parts, bounds, leader)? {
+        GroupCheck::Whole { count } => Ok(Group { leader, count }),
+        GroupCheck::Bad { number } => Err(RecoverError::BadEntry { number }),
+    }
+}
