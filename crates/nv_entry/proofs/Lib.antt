@@ -3,3 +3,4 @@ pub mod Data
 pub mod LoneGroup
 pub mod Rooms
 pub mod Filling
+pub mod Checking

@@ -1,3 +1,4 @@
 pub mod Group
 pub mod Reading
 pub mod Ready
+pub mod Checks

@@ -25,10 +25,14 @@
 //! Groups of one entry are written so far.
 #![tactic(auto)]
 
+mod bounds;
+mod check;
 mod group;
 mod piece;
 mod span;
 
+pub use bounds::Bounds;
+pub use check::{EntryWords, GroupCheck, check_group, entry_words};
 pub use group::{commit_group, committed};
 pub use nv_pmem::RegionFault;
 pub use piece::{PieceHead, read_piece};

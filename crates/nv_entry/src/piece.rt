@@ -46,7 +46,7 @@ pub fn read_piece<L: Lines>(part: &mut L, into: &mut [u8]) -> Result<PieceHead, 
 }
 
 // The fields behind the commit word, as they read.
-fn read_head<L: Lines>(part: &mut L) -> Result<PieceHead, RegionFault>
+pub(crate) fn read_head<L: Lines>(part: &mut L) -> Result<PieceHead, RegionFault>
     requires lines { 1 ≤ (L.room part.old).lines }
     ensures head { IfOk result (λ head. Tells (L.history part.old) (λ now. head ≡ head_of now)) }
     ensures history { L.history part.new ≡ L.history part.old }

@@ -3,4 +3,6 @@ pub mod ImageLaws
 pub mod LineLaws
 pub mod PickedLaws
 pub mod Rooms
+pub mod RowLaws
 pub mod StepLaws
+pub mod ReadLaws

@@ -105,3 +105,14 @@ Takes-more {at = at} p q = record {
   other_spare = λ other ne. omega (arith, p.other_spare other ne, q.other_spare other ne);
   other_after_fence = λ other ne. omega (arith, p.other_after_fence other ne, q.other_after_fence other ne);
 }
+
+-- what is kept, twice too
+pub Keeps-none : (room : Room) → Keeps room room
+Keeps-none room = record { lines = refl; spare = λ line. omega arith; after_fence = λ line. omega arith }
+
+pub Keeps-more : {a b c : Room} → Keeps a b → Keeps b c → Keeps a c
+Keeps-more p q = record {
+  lines = q.lines ∙ p.lines;
+  spare = λ line. omega (arith, p.spare line, q.spare line);
+  after_fence = λ line. omega (arith, p.after_fence line, q.after_fence line);
+}

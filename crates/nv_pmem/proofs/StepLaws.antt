@@ -87,6 +87,12 @@ unfolding run
 grown-untold after [] = refl
 grown-untold after (step ∷ steps) = grown-untold after steps
 
+pub did_untold : {T S : Type 0} (after : T → S → S) (steps : List T) → Ran (grown after) steps [] []
+did_untold after steps = record { states = sym (grown-untold after steps) }
+
+pub did_some_untold : {T S : Type 0} (after : T → S → S) (steps : List T) → RanSome (grown after) steps [] []
+did_some_untold after steps = did_some_none
+
 -- what the present state has after some steps, by what the one before them had
 pub tells_after : {T S : Type 0} {after : T → S → S} {steps : List T} {old new : List S} (P Q : S → Type 0) → Tells old P → ((now : S) → P now → Q (run after steps now)) → Ran (grown after) steps old new → Tells new Q
 tells_after {S = S} {after} {steps} {old = []} P Q told step did =

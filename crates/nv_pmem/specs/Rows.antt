@@ -1,8 +1,10 @@
 -- Rows: parts that are written together. The parts of a row are counted from 0, and the calls on them have one order.
-use Rattle.std.specs.Prelude.{ℕ, ◌≤◌, List, [], ◌∷◌, length, take, slice_index_or, slice_set}
+use Rattle.std.specs.Prelude.{◌≡◌, ℕ, ◌≤◌, List, [], ◌∷◌, length, map, take, slice_index_or, slice_set}
+use Rattle.std.specs.List.{AllZip}
 use Rattle.nv_plain.specs.Images.{Image}
 use Rattle.nv_pmem.specs.Images.{IsImage}
 use Rattle.nv_pmem.specs.Part.{Part}
+use Rattle.nv_pmem.specs.Room.{Room, Keeps}
 use Rattle.nv_pmem.specs.Runs.{run, Ran, RanSome, grown}
 use Rattle.nv_pmem.specs.Steps.{Step, History, after_step}
 
@@ -53,3 +55,9 @@ pub record EachRowMoment (P : List Part → Type 0) (old new : List History) : T
   pub steps : List RowStep
   pub did : DidRow steps old new
   pub each : (count : ℕ) → count ≤ length steps → RowTells (run row_grown (take count steps) old) P
+
+-- Parts were read and not written: they are the same devices in the same states, and no line can take less than before.
+pub record AreOnlyRead {P : Type 0} (history : P → History) (room : P → Room) (device : P → ℕ) (old new : List P) : Type 0 where
+  pub histories : map history new ≡ map history old
+  pub rooms : AllZip (λ before now. Keeps (room before) (room now)) old new
+  pub devices : map device new ≡ map device old
