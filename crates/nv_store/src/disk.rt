@@ -28,7 +28,8 @@ impl Disk {
     ghost use Rattle.nv_store.specs.Steps.{Write, Sync, after_step};
     ghost use Rattle.nv_store.specs.Torn.{with_marks};
     ghost use Rattle.nv_pmem.specs.Draws.{after_draw};
-    ghost use Rattle.nv_store.specs.Picked.{image_with, torn_image, has_unsynced, drawn_len, drawn_image, after_drawn, picked_image, draws_after};
+    ghost use Rattle.nv_store.specs.Picked.{image_with, torn_image, picked_image, draws_after};
+    ghost use Rattle.nv_store.specs.Picked.{has_unsynced, drawn_len, drawn_image, after_drawn};
 
     /// A disk that holds these bytes, durable.
     pub(crate) fn new(alloc: Global, bytes: &[u8]) -> Result<Self, NoMemory>

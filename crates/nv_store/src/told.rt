@@ -75,7 +75,8 @@ impl Told {
     }
 
     pub(crate) fn lose_power(&mut self, picker: &mut Picker)
-        ensures image { told_history self.new ≡ quiet_store (picked_image (store_of self.old.disk) picker.old) ∷ told_history self.old }
+        ensures image { told_history self.new
+            ≡ quiet_store (picked_image (store_of self.old.disk) picker.old) ∷ told_history self.old }
         ensures draws { picker.new ≡ draws_after (store_of self.old.disk) picker.old }
     {
         self.past.note(&self.disk);
