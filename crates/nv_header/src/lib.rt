@@ -20,12 +20,14 @@
 
 mod fields;
 mod head;
+mod laws;
 mod lines;
 mod names;
 mod read;
 mod record;
 
 pub use head::{Head, HeadError, HeadField};
+pub use laws::a_good_header_is_not_refused;
 pub use lines::{Truncated, check_lines};
 pub use names::Names;
 pub use read::{is_blank, read_head};
