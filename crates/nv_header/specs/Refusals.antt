@@ -92,3 +92,10 @@ abbrev pub ReadIsNotRefused : Type 0
 ReadIsNotRefused =
     (version : ℕ) (layout : Layout) (lines : ℕ) (image : Image) (refusal : HeadError)
     → IsHead version layout lines image → SpeaksOfImage refusal → ¬ (IsRefused version layout lines image refusal)
+
+-- And no header has two of them: the first test that fails is one.
+abbrev pub IsRefusedOnce : Type 0
+IsRefusedOnce =
+    (version : ℕ) (layout : Layout) (lines : ℕ) (image : Image) (one other : HeadError)
+    → SpeaksOfImage one → SpeaksOfImage other
+    → IsRefused version layout lines image one → IsRefused version layout lines image other → one ≡ other

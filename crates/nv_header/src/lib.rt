@@ -27,7 +27,7 @@ mod read;
 mod record;
 
 pub use head::{Head, HeadError, HeadField};
-pub use laws::a_good_header_is_not_refused;
+pub use laws::a_header_has_one_answer;
 pub use lines::{Truncated, check_lines};
 pub use names::Names;
 pub use read::{is_blank, read_head};
