@@ -1,25 +1,25 @@
 -- Groups: what their steps do to each part, and what a power failure may leave of all of them.
-use Rattle.std.proofs.Common.{◌≡◌, ◌≢◌, ℕ, ◌+◌, ◌-◌, ◌<◌, ◌≤◌, ◌⊎◌, inl, inr, List, [], ◌∷◌, ◌++◌, length, take, drop, slice_index_or, zero, suc, refl, sym, ap, ◌∙◌, subst, arith, append_assoc, zero-add}
+use Rattle.std.proofs.Common.{◌≡◌, ◌≢◌, ℕ, ◌+◌, ◌-◌, ◌<◌, ◌≤◌, ◌⊎◌, inl, inr, List, [], ◌++◌, length, take, drop, slice_index_or, zero, suc, refl, sym, ap, ◌∙◌, subst, arith, zero-add}
 use Rattle.std.proofs.lemmas.Bool.{cases_eq, cases_lt, eq-eqb, ne_eqb}
 use Rattle.std.proofs.lemmas.List.{append-nil, get_or_past}
 use Rattle.std.specs.List.{flat_map, range_with_len}
 use Rattle.nv_plain.specs.Images.{PartImage, Image, data_of, lines_for}
 use Rattle.nv_plain.specs.Pieces.{pages_touched, piece_of, piece_bytes}
-use Rattle.nv_pmem.specs.Images.{IsImage, IsQuietLine, IsQuiet}
+use Rattle.nv_pmem.specs.Images.{IsImage, IsQuiet}
 use Rattle.nv_pmem.specs.Limits.{IsPageSize, entry_lines}
-use Rattle.nv_pmem.specs.Part.{Part, line_of, word_of}
+use Rattle.nv_pmem.specs.Part.{Part, word_of}
 use Rattle.nv_pmem.specs.Rows.{RowStep, on_part, row_after, row_grown, DidRow, DidSomeRow, IsRowImage, InEachRowImage}
 use Rattle.nv_pmem.specs.Runs.{run}
 use Rattle.nv_pmem.specs.Steps.{Step, History, durable_store}
 use Rattle.nv_pmem.proofs.DurableLaws.{line_settled}
 use Rattle.nv_pmem.proofs.ImageLaws.{IsStoredBy, Mark, quiet_line, open_line, mark_after_all, mark_after_all-append, quiet_image, quiet_after, quiet_blank}
 use Rattle.nv_pmem.proofs.LineLaws.{length-after_steps, word_of-after_steps}
-use Rattle.nv_pmem.proofs.RowLaws.{steps_on, steps_on-append, steps_on-same, steps_on-other, take-on_part, row_at, length-row_after, EachPart, row_image_at, row_image_of_now, row_image_comes_from, stored_by-append, stored_by-take, stored_by_row-take, row_quiet_still}
+use Rattle.nv_pmem.proofs.RowLaws.{steps_on, steps_on-append, steps_on-same, steps_on-other, take-on_part, row_at, length-row_after, EachPart, row_image_at, row_image_comes_from, stored_by-append, stored_by-take, stored_by_row-take, row_quiet_still}
 use Rattle.nv_pmem.proofs.StepLaws.{run-append, did_none, did_did, did_did_some, did_some_front, after_steps, Always, always_by_fronts, always_append}
-use Rattle.nv_entry.specs.Group.{piece_entry, count_at, data_steps, field_steps, piece_steps, pieces_steps, group_steps, AreQuiet, IsUncommitted, HoldsEntry, IsWhole, IsUncommittedOrWhole, StoresOnly}
+use Rattle.nv_entry.specs.Group.{count_at, data_steps, field_steps, piece_steps, pieces_steps, group_steps, AreQuiet, IsUncommitted, HoldsEntry, IsWhole, IsUncommittedOrWhole, StoresOnly}
 use Rattle.nv_entry.proofs.Data.{AreBytes, bytes_taken, bytes_dropped}
 use Rattle.nv_entry.proofs.PieceRanges.{length-piece_bytes, piece_small, lines_fit}
-use Rattle.nv_entry.proofs.PieceSteps.{entry_steps, entry_fields, entry_data, stored_by_entry, mark-entry, mark-entry_still}
+use Rattle.nv_entry.proofs.PieceSteps.{entry_fields, entry_data, stored_by_entry, mark-entry, mark-entry_still}
 use Rattle.nv_entry.proofs.Ranges.{flat_map-more, flat_map-split}
 
 -- ---- steps part by part

@@ -4,7 +4,7 @@ use Rattle.std.proofs.lemmas.Bool.{cases_eq, cases_lt, eq-eqb, ne_eqb}
 use Rattle.std.specs.List.{flat_map, range_with_len}
 use Rattle.nv_plain.specs.Images.{PartImage, entry_of, data_of, lines_for}
 use Rattle.nv_pmem.specs.Part.{Part, word_of}
-use Rattle.nv_pmem.specs.Steps.{Step, Store, Flush, Fence, History, Did, DidSome, line_stores, word_in}
+use Rattle.nv_pmem.specs.Steps.{Step, Store, Flush, History, Did, DidSome, line_stores, word_in}
 use Rattle.nv_pmem.proofs.ImageLaws.{IsStoredBy, Mark, open_line, noted_line, quiet_line, fenced_more, mark_after_all, mark_after_all-append}
 use Rattle.nv_pmem.proofs.RowLaws.{stored_by-append}
 use Rattle.nv_pmem.proofs.StepLaws.{after_steps, did_did, did_did_some, did_some_front}

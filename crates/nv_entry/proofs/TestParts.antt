@@ -1,18 +1,18 @@
 -- Parts in memory that are all zeros, and groups that they hold.
-use Rattle.std.proofs.Common.{Result, Ok, Err, OnOk, false, ◌≡◌, ◌≢◌, ℕ, ◌+◌, ◌*◌, ◌<◌, ◌≤◌, List, [], ◌∷◌, All, length, get_or, map, sum_by, replicate, sym, ap, ◌∙◌, subst, refl, inl, inr, arith}
+use Rattle.std.proofs.Common.{Result, Ok, Err, OnOk, false, ◌≡◌, ℕ, ◌<◌, ◌≤◌, List, [], All, length, get_or, map, replicate, sym, ap, ◌∙◌, subst, refl, arith}
 use Rattle.std.specs.Result.{is_err}
 use Rattle.std.proofs.lemmas.List.{get_or-map, length-map}
 use Rattle.std.proofs.lemmas.List.Elements.{All-map, All-replicate}
 use Rattle.nv_plain.specs.Images.{entry_of}
 use Rattle.nv_plain.specs.Pieces.{pages_touched}
-use Rattle.nv_pmem.specs.MemPart.{part_history, part_room, IsBlank}
+use Rattle.nv_pmem.specs.MemPart.{part_history, IsBlank}
 use Rattle.nv_pmem.specs.Moments.{Tells}
 use Rattle.nv_pmem.specs.Part.{Line, Part, blank_line, line_of}
 use Rattle.nv_pmem.specs.Rows.{RowTells, InEachRowImage}
 use Rattle.nv_pmem.specs.Steps.{History}
 use Rattle.nv_pmem.specs.declared.mem_part.MemPart.{MemPart}
 use Rattle.nv_pmem.proofs.RowLaws.{all_blank, row_blank_images, row_tells_more, row_tells_part}
-use Rattle.nv_entry.specs.Group.{row_words, words_of, IsReady, IsUncommitted, IsWhole}
+use Rattle.nv_entry.specs.Group.{row_words, words_of, IsUncommitted, IsWhole}
 use Rattle.nv_entry.proofs.PieceRanges.{piece_small}
 
 -- a part of zeros tells lines of zeros

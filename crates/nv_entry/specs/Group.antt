@@ -4,7 +4,7 @@ use Rattle.std.specs.Prelude.{◌≡◌, ◌≢◌, ◌⊎◌, ℕ, ◌+◌, ◌
 use Rattle.std.specs.List.{flat_map, range_with_len}
 use Rattle.nv_plain.specs.Files.{padded}
 use Rattle.nv_plain.specs.Images.{PartImage, Image, Entry, entry_of, data_of, lines_for}
-use Rattle.nv_plain.specs.Pieces.{Piece, pages_touched, piece_of, piece_bytes}
+use Rattle.nv_plain.specs.Pieces.{pages_touched, piece_of, piece_bytes}
 use Rattle.nv_pmem.specs.Images.{IsQuiet}
 use Rattle.nv_pmem.specs.Limits.{entry_lines}
 use Rattle.nv_pmem.specs.Part.{Part, word_of}

@@ -36,7 +36,8 @@ pub fn commit_group<L: Lines>(
     requires uncommitted { RowTells (map L.history parts.old.items) (InEachRowImage (IsUncommitted first (vec_len parts.old))) }
 
     // The device calls are these, in this order.
-    ensures begun { DidSomeRow (group_steps page first file at bytes.now) (map L.history parts.old.items) (map L.history parts.new.items) }
+    ensures begun { DidSomeRow (group_steps page first file at bytes.now)
+        (map L.history parts.old.items) (map L.history parts.new.items) }
     ensures done { OnOk result
         (DidRow (group_steps page first file at bytes.now) (map L.history parts.old.items) (map L.history parts.new.items)) }
 
@@ -47,7 +48,8 @@ pub fn commit_group<L: Lines>(
         EachRowMoment (InEachRowImage (StoresOnly page first file at bytes.now was))
         (map L.history parts.old.items) (map L.history parts.new.items)) }
     ensures whole { OnOk result (RowTells (map L.history parts.new.items) (InEachRowImage (IsWhole page first file at bytes.now))) }
-    ensures quiet { OnOk result (RowTells (map L.history parts.old.items) AreQuiet → RowTells (map L.history parts.new.items) AreQuiet) }
+    ensures quiet { OnOk result
+        (RowTells (map L.history parts.old.items) AreQuiet → RowTells (map L.history parts.new.items) AreQuiet) }
 
     // After them the parts read as the group, and have room for other entries.
     ensures holds { OnOk result
@@ -75,9 +77,11 @@ fn write_pieces<L: Lines>(
     requires pieces { pages_touched at (length bytes.now) page ≡ length parts.old }
     requires range { at + length bytes.now ≤ 2 ^ 60 }
     requires ready { All (λ part. IsReady page (L.room part)) parts.old }
-    ensures begun { DidSomeRow (pieces_steps page first file at bytes.now (length parts.old)) (map L.history parts.old) (map L.history parts.new) }
+    ensures begun { DidSomeRow (pieces_steps page first file at bytes.now (length parts.old))
+        (map L.history parts.old) (map L.history parts.new) }
     ensures done { OnOk result
-        (DidRow (pieces_steps page first file at bytes.now (length parts.old)) (map L.history parts.old) (map L.history parts.new)) }
+        (DidRow (pieces_steps page first file at bytes.now (length parts.old))
+        (map L.history parts.old) (map L.history parts.new)) }
     ensures ready { OnOk result (All (λ part. IsReady page (L.room part)) parts.new) }
     ensures lines { map (λ part. (L.room part).lines) parts.new ≡ map (λ part. (L.room part).lines) parts.old }
     ensures cause { HasCause (sum_by L.fault_count parts.old) (sum_by L.fault_count parts.new) result }
@@ -195,7 +199,8 @@ fn commit<L: Lines>(parts: &mut Vec<L>, page: u64, first: u64) -> Result<(), Reg
     requires some { 1 ≤ vec_len parts.old }
     requires number { first + 1 ≤ 2 ^ 60 }
     requires ready { All (λ part. IsReady page (L.room part)) parts.old.items }
-    ensures begun { DidSomeRow (on_part 0 (durable_store 0 0 (first + 1))) (map L.history parts.old.items) (map L.history parts.new.items) }
+    ensures begun { DidSomeRow (on_part 0 (durable_store 0 0 (first + 1)))
+        (map L.history parts.old.items) (map L.history parts.new.items) }
     ensures done { OnOk result
         (DidRow (on_part 0 (durable_store 0 0 (first + 1))) (map L.history parts.old.items) (map L.history parts.new.items)) }
     ensures ready { OnOk result (All (λ part. IsReady page (L.room part)) parts.new.items) }

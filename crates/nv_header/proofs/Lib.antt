@@ -2,6 +2,7 @@ pub mod Keeping
 pub mod Ranges
 pub mod Records
 pub mod Firsts
+pub mod RefusalLaws
 pub mod Counts
 pub mod InRow
 pub mod Joined

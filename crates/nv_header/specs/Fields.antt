@@ -4,6 +4,7 @@ use Rattle.nv_pmem.specs.Part.{Part}
 use Rattle.nv_header.specs.declared.fields.Fields.{Fields}
 use Rattle.nv_header.specs.Heads.{header_image}
 
+-- the header that these fields are
 abbrev pub header_in : Fields → Header
 header_in fields = record {
   magic = fields.magic;

@@ -24,7 +24,8 @@ length_of layout image i = image 0 (record_line layout i) 0
 -- the bytes of name i's record behind its length: the name, and its padding
 abbrev pub room_of_name : Layout → Image → ℕ → List ℕ
 room_of_name layout image i =
-    flat_map (λ k. to_le_bytes w64 (image 0 (record_line layout i + k / 8) (k % 8))) (range_with_len 1 (layout.lines_per_name * 8 - 1))
+    flat_map (λ k. to_le_bytes w64 (image 0 (record_line layout i + k / 8) (k % 8)))
+    (range_with_len 1 (layout.lines_per_name * 8 - 1))
 
 -- a record holds a name: it isn't too long, its bytes are allowed, and zeros pad it
 abbrev pub is_record : (most length : ℕ) → List ℕ → Bool

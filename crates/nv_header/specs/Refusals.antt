@@ -10,7 +10,7 @@ use Rattle.nv_header.specs.declared.head.HeadError.{HeadError}
 use Rattle.nv_header.specs.declared.head.HeadError.TheVariants.{Truncated, BadMagic, BadVersion, BadGeometry, BadName, RegionFault, NoMemory}
 use Rattle.nv_header.specs.declared.head.HeadField.{HeadField}
 use Rattle.nv_header.specs.declared.head.HeadField.TheVariants.{Page, Entries, Files, Tail}
-use Rattle.nv_header.specs.Heads.{IsGoodName, HasFields}
+use Rattle.nv_header.specs.Heads.{IsGoodName, HasFields, IsHead}
 
 -- a geometry's field, as a header's
 abbrev pub head_field : GeometryField → HeadField
@@ -76,3 +76,26 @@ HeadHasCause before now (Err (BadGeometry field found)) = now ≡ before
 HeadHasCause before now (Err (BadName i)) = now ≡ before
 HeadHasCause before now (Err RegionFault) = Rose before now
 HeadHasCause before now (Err NoMemory) = now ≡ before
+
+-- the refusal says something of the image, and isn't a fault or want of memory
+abbrev pub SpeaksOfImage : HeadError → Type 0
+SpeaksOfImage (Truncated found wanted) = Unit {0}
+SpeaksOfImage BadMagic = Unit {0}
+SpeaksOfImage (BadVersion found) = Unit {0}
+SpeaksOfImage (BadGeometry field found) = Unit {0}
+SpeaksOfImage (BadName i) = Unit {0}
+SpeaksOfImage RegionFault = ⊥
+SpeaksOfImage NoMemory = ⊥
+
+-- A header that can be read has no such refusal.
+abbrev pub ReadIsNotRefused : Type 0
+ReadIsNotRefused =
+    (version : ℕ) (layout : Layout) (lines : ℕ) (image : Image) (refusal : HeadError)
+    → IsHead version layout lines image → SpeaksOfImage refusal → ¬ (IsRefused version layout lines image refusal)
+
+-- And no header has two of them: the first test that fails is one.
+abbrev pub IsRefusedOnce : Type 0
+IsRefusedOnce =
+    (version : ℕ) (layout : Layout) (lines : ℕ) (image : Image) (one other : HeadError)
+    → SpeaksOfImage one → SpeaksOfImage other
+    → IsRefused version layout lines image one → IsRefused version layout lines image other → one ≡ other

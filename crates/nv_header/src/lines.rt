@@ -24,7 +24,8 @@ pub fn check_lines<L: Lines>(parts: &[L], head: &Head) -> Result<(), Truncated>
         (map (λ part. (L.room part).lines) parts.now) }
     ensures found { IfErr result (λ lack. lack.found ≡ lines_found version_1 head.now.geometry.page head.now.geometry.entries
         (map (λ part. (L.room part).lines) parts.now)) }
-    ensures wanted { IfErr result (λ lack. lack.wanted ≡ lines_wanted version_1 head.now.geometry.page head.now.geometry.entries) }
+    ensures wanted { IfErr result (λ lack. lack.wanted ≡
+        lines_wanted version_1 head.now.geometry.page head.now.geometry.entries) }
 {
     let found = found_lines(parts, &head.geometry);
     let wanted = HEADER_LINES + head.geometry.entries * entry_lines(head.geometry.page);
@@ -37,7 +38,8 @@ pub fn check_lines<L: Lines>(parts: &[L], head: &Head) -> Result<(), Truncated>
 
 // Of the lines that a region needs, those that its parts have.
 fn found_lines<L: Lines>(parts: &[L], geometry: &Geometry) -> u64
-    ensures { result ≡ lines_found version_1 geometry.now.page geometry.now.entries (map (λ part. (L.room part).lines) parts.now) }
+    ensures { result ≡ lines_found version_1 geometry.now.page geometry.now.entries
+        (map (λ part. (L.room part).lines) parts.now) }
 {
     match parts {
         [] => 0,

@@ -1,24 +1,28 @@
 -- Lists of which one element is changed, and what a log's entries stand for.
-use Rattle.std.proofs.Common.{vec_len, ◌≡◌, ℕ, zero, suc, ◌+◌, ◌-◌, ◌/◌, ◌<◌, ◌≤◌, ◌↔◌, sum_by, Result, Ok, Err, List, [], ◌∷◌, ◌++◌, All, length, get_or, take, drop, map, refl, ap, sym, subst, ◌∙◌, arith, set}
+use Rattle.std.proofs.Common.{vec_len, ◌≡◌, ℕ, zero, suc, ◌+◌, ◌-◌, ◌*◌, ◌/◌, ◌<◌, ◌≤◌, ◌↔◌, sum_by, Result, Ok, Err, List, [], ◌∷◌, ◌++◌, All, length, get_or, take, drop, map, refl, ap, sym, subst, ◌∙◌, arith, set}
 use Rattle.std.specs.List.{insert, remove}
 use Rattle.std.specs.Vec.{with_items}
 use Rattle.std.proofs.Math.Nat.{mul-le-mul_right, div-mul-le_self}
 use Rattle.std.proofs.lemmas.Bool.Decides.{nat_tests}
-use Rattle.std.proofs.lemmas.List.{map-append, take-append-drop, length-set, get_or-set_same, get_or-map, set-set, set-get_or, take-set, drop-set-lt, take_more, map_push, with_items_is}
-use Rattle.std.proofs.lemmas.List.Elements.{All-set, All-push, All-same}
+use Rattle.std.proofs.lemmas.List.{map-append, take-append-drop, length-set, get_or-set_same, get_or-map, set-set, set-get_or, take-set, drop-set-lt, take_more, map_push, with_items_is, take_all, drop_more}
+use Rattle.std.proofs.lemmas.List.Elements.{All-set, All-push, All-same, All-rest, All-map}
 use Rattle.std.proofs.lemmas.List.Sums.{fold_push, sum_by-append, sum_by-take-drop, sum_by-set, get_or-le-sum_by}
 use Rattle.nv_plain.specs.Faults.{HasCause, Rose}
 use Rattle.nv_plain.specs.Files.{overwritten}
 use Rattle.nv_plain.specs.Images.{entry_of, data_of}
-use Rattle.nv_plain.specs.Pieces.{pages_touched}
-use Rattle.nv_pmem.specs.Part.{Part}
+use Rattle.nv_plain.specs.Pieces.{pages_touched, piece_of}
+use Rattle.nv_pmem.specs.Images.{InEachImage}
+use Rattle.nv_pmem.specs.Part.{Part, blank_line}
 use Rattle.nv_pmem.specs.Room.{Room, Keeps}
 use Rattle.nv_pmem.specs.Moments.{Tells}
-use Rattle.nv_pmem.specs.Steps.{History, Step, DidSome}
-use Rattle.nv_pmem.proofs.StepLaws.{grown_by-told, grown_by-untold, tells_more}
-use Rattle.nv_entry.specs.Group.{IsReady, HoldsLoneGroup, words_of}
+use Rattle.nv_pmem.specs.Rows.{RowStep, DidSomeRow, RowTells, InEachRowImage}
+use Rattle.nv_pmem.specs.Steps.{History, after_step}
+use Rattle.nv_pmem.proofs.RowLaws.{did_some_row_at, lone_tells_row, all_blank, blank_image}
+use Rattle.nv_pmem.proofs.StepLaws.{grown-told, grown-untold, tells_more}
+use Rattle.nv_entry.specs.Group.{IsReady, IsUncommitted, IsWhole, count_at, row_words, words_of}
 use Rattle.nv_top.specs.declared.log.Log.{Log}
-use Rattle.nv_top.specs.Log.{IsLog, slots_of, OnlyAt, AllTell, HoldsPiece, present, with_entry, overlaid}
+use Rattle.nv_top.specs.Opening.{IsBlank}
+use Rattle.nv_top.specs.Log.{IsLog, slots_of, OnlyAt, AllTell, HoldsPiece, HoldsLoneGroup, HasNoCommit, present, with_entry, overlaid}
 
 -- an element taken out, and another put into its place
 pub insert-remove : {X : Type 0} (xs : List X) (i : ℕ) (y : X) → i < length xs → insert (remove xs i) i y ≡ set xs i y
@@ -68,33 +72,49 @@ pub only_at_set : {X : Type 0} (xs : List X) (i : ℕ) (y : X) → OnlyAt i xs (
 only_at_set xs i y = record { before = take-set xs i y; after = drop-set-lt (i + 1) xs i y (omega arith) }
 
 -- Parts that tell go on telling, and others don't begin to.
-pub told_after : (steps : List Step) (old new : History) → DidSome steps old new → 0 < length old → 0 < length new
-told_after steps [] new did told = absurd (omega arith)
-told_after steps (now ∷ past) new did told =
+told_after : {steps : List RowStep} (old new : History) → DidSomeRow steps (old ∷ []) (new ∷ []) → 0 < length old → 0 < length new
+told_after [] new did told = absurd (omega arith)
+told_after (now ∷ past) new did told =
+    let one = did_some_row_at 0 did in
     let H : History → Type 0 = λ history. 0 < length history in
-    subst H (sym (did.states ∙ (grown_by-told (take did.count steps) now past).1)) (omega arith)
+    subst H (sym (one.states ∙ (grown-told after_step _ now past).1)) (omega arith)
 
-pub told_before : (steps : List Step) (old new : History) → DidSome steps old new → 0 < length new → 0 < length old
-told_before steps [] new did told =
-    let none : new ≡ [] = did.states ∙ grown_by-untold (take did.count steps) in
+told_before : {steps : List RowStep} (old new : History) → DidSomeRow steps (old ∷ []) (new ∷ []) → 0 < length new → 0 < length old
+told_before [] new did told =
+    let one = did_some_row_at 0 did in
+    let none : new ≡ [] = one.states ∙ grown-untold after_step _ in
     absurd (omega (arith, ap (λ (history : History). length history) none))
-told_before steps (now ∷ past) new did told = omega arith
+told_before (now ∷ past) new did told = omega arith
+
+pub told_both : {steps : List RowStep} (old new : History) → DidSomeRow steps (old ∷ []) (new ∷ []) → (0 < length old) ↔ (0 < length new)
+told_both old new did = (told_after old new did, told_before old new did)
+
+-- a part with no commit word is not committed
+pub lone_uncommitted : (history : History) (number : ℕ) → HasNoCommit history → RowTells (history ∷ []) (InEachRowImage (IsUncommitted number 1))
+lone_uncommitted history number free =
+    lone_tells_row history (InEachRowImage (IsUncommitted number 1))
+    (tells_more history (InEachImage (λ image. (entry_of image).commit ≡ 0)) (λ now. InEachRowImage (IsUncommitted number 1) (now ∷ []))
+    (λ now none image is i below committed.
+    let first : i ≡ 0 = omega arith in
+    let At : ℕ → Type 0 = λ k. image k 0 0 ≡ number + k + 1 in
+    absurd (omega (arith, none (image 0) (is.each 0), subst At first committed)))
+    free)
 
 all_tell_set : (histories : List History) (i : ℕ) (history : History) → (0 < length (get_or histories i []) → 0 < length history) → i < length histories → AllTell histories → AllTell (set histories i history)
 all_tell_set histories i history stays within tell =
     All-set (λ (history : History). 0 < length history) histories i history (stays (tell i [] within)) tell
 
-pub all_tell_changed : (histories : List History) (steps : List Step) (i : ℕ) (history : History) → i < length histories → DidSome steps (get_or histories i []) history → AllTell histories ↔ AllTell (set histories i history)
-all_tell_changed histories steps i history within did =
+pub all_tell_changed : (histories : List History) (i : ℕ) (history : History) → i < length histories → (0 < length (get_or histories i [])) ↔ (0 < length history) → AllTell histories ↔ AllTell (set histories i history)
+all_tell_changed histories i history within both =
     let was = get_or histories i [] in
     let changed = set histories i history in
     let back : set changed i was ≡ histories = set-set histories i history was ∙ set-get_or histories i [] in
     let here : get_or changed i [] ≡ history = get_or-set_same histories i history [] within in
     let Told : History → Type 0 = λ h. 0 < length h in (
-      all_tell_set histories i history (told_after steps was history did) within,
+      all_tell_set histories i history both.0 within,
       λ tell. subst AllTell back
           (all_tell_set changed i was
-          (λ told. told_before steps was history did (subst Told here told))
+          (λ told. both.1 (subst Told here told))
           (omega (arith, length-set histories i history))
           tell),
     )
@@ -140,6 +160,12 @@ module _ (old new : List History) (number at : ℕ) (written : List ℕ) (only :
       (All-same (HoldsPiece page) (take number new) (take number old) only.before sizes)
       last)
 
+  -- the slots behind it are free as they were
+  pub free_committed : length new ≡ length old → All HasNoCommit (drop number old) → All HasNoCommit (drop (number + 1) new)
+  free_committed long free =
+      All-same HasNoCommit (drop (number + 1) new) (drop (number + 1) old) only.after
+      (All-rest HasNoCommit (get_or old number []) (drop (number + 1) old) (drop number old) (drop_more old number [] (omega arith)) free)
+
 -- a log after a read of its slots into its page
 pub is_log_read : {P : Type 0} (history : P → History) (room : P → Room) (log : Log P) (slots : List P) (page : List ℕ) → IsLog history room log
     → length slots ≡ vec_len log.slots → map history slots ≡ slots_of history log → All (λ part. IsReady log.geometry.page (room part)) slots
@@ -148,6 +174,7 @@ is_log_read history room log slots page was long same ready =
     let items = with_items_is log.slots slots long in
     let seen : map history (with_items log.slots slots).items ≡ slots_of history log = ap (map history) items ∙ same in
     let Fit : List History → Type 0 = λ histories. All (HoldsPiece log.geometry.page) (take log.head histories) in
+    let Free : List History → Type 0 = λ histories. All HasNoCommit (drop log.head histories) in
     record {
       slots = was.slots;
       head = was.head;
@@ -156,11 +183,15 @@ is_log_read history room log slots page was long same ready =
       page = was.page;
       ready = All-same (λ part. IsReady log.geometry.page (room part)) _ slots items ready;
       sizes = subst Fit (sym seen) was.sizes;
+      free = subst Free (sym seen) was.free;
       length = λ tell.
           was.length (subst AllTell seen tell)
           ∙ ap (λ (histories : List History). length (overlaid [] (map present (take log.head histories)))) (sym seen);
       small = was.small;
     }
+
+some_touched : (at len page : ℕ) → pages_touched at len page ≡ 1 → 0 < len
+some_touched at len page one = grind (arith, nat_tests)
 
 pages_touched_some : (at len page : ℕ) → 0 < len → pages_touched at len page ≡ (at + len - 1) / page - at / page + 1
 pages_touched_some at len page some = grind (arith, nat_tests)
@@ -170,3 +201,41 @@ pub one_page : (at len page : ℕ) → 1 ≤ page → 1 ≤ len → pages_touche
 one_page at len page some_page some one =
     let same : (at + len - 1) / page ≤ at / page = omega (arith, pages_touched_some at len page some) in
     omega (arith, mul-le-mul_right page same, div-mul-le_self at page)
+
+-- a write of one piece has all its bytes there
+one_size : (at len page : ℕ) → 1 ≤ page → pages_touched at len page ≡ 1 → (piece_of at len page 0).size ≡ len
+one_size at len page some_page one =
+    let some : 0 < len = some_touched at len page one in
+    let same : (at + len - 1) / page ≤ at / page = omega (arith, pages_touched_some at len page some) in
+    let ends : at + len ≤ (at / page + 1) * page = omega (arith, mul-le-mul_right page same) in
+    omega (arith, div-mul-le_self at page)
+
+-- a group of one is held by its part
+pub lone_held : (page first file at : ℕ) (bytes : List ℕ) (now : Part) → 1 ≤ page → pages_touched at (length bytes) page ≡ 1
+    → IsWhole page first file at bytes (row_words (now ∷ [])) → HoldsLoneGroup now first file at bytes
+lone_held page first file at bytes now some_page one whole =
+    let held = whole.entries 0 (omega arith) in
+    let piece = piece_of at (length bytes) page 0 in
+    let starts : piece.at ≡ at = omega (arith, div-mul-le_self at page) in
+    let from : piece.from ≡ 0 = omega (arith, div-mul-le_self at page) in
+    let size : piece.size ≡ length bytes = one_size at (length bytes) page some_page one in
+    let count : count_at (pages_touched at (length bytes) page) 0 ≡ 1 = one in
+    record {
+      fields =
+          held.fields
+          ∙ λ i. record { commit = whole.committed i; file = file; at = starts i; size = size i; count = count i; leader = first };
+      bytes_are =
+          ap (data_of (words_of now)) (sym size)
+          ∙ held.bytes_are
+          ∙ ap (λ n. take piece.size (drop n bytes)) from
+          ∙ take_all piece.size bytes (omega arith);
+    }
+
+-- the slots of a blank region are free
+pub blank_free : {P : Type 0} (history : P → History) (slots : List P) → All (λ part. Tells (history part) IsBlank) slots → All HasNoCommit (map history slots)
+blank_free {P} history slots blank =
+    All-map HasNoCommit history slots
+    (λ k d inside.
+    tells_more (history (get_or slots k d)) IsBlank (InEachImage (λ image. (entry_of image).commit ≡ 0))
+    (λ now zeros image is. blank_image now image (all_blank now zeros) is 0 0)
+    (blank k d inside))

@@ -5,6 +5,7 @@ use Rattle.nv_plain.specs.Files.{overwritten}
 use Rattle.nv_plain.specs.Images.{entry_of, data_of}
 use Rattle.nv_plain.specs.Layouts.{version_1}
 use Rattle.nv_plain.specs.Pieces.{pages_touched}
+use Rattle.nv_pmem.specs.Images.{InEachImage}
 use Rattle.nv_pmem.specs.Part.{Part}
 use Rattle.nv_pmem.specs.Room.{Room}
 use Rattle.nv_pmem.specs.Moments.{Tells}
@@ -37,6 +38,15 @@ window_of bytes at count = map (λ k. slice_index bytes k) (range_with_len at co
 -- the bytes of a file, where the part of an entry tells, fit a page
 abbrev pub HoldsPiece : ℕ → History → Type 0
 HoldsPiece page history = Tells history (λ now. (entry_of (words_of now)).size ≤ page)
+
+-- a part reads as the committed entry of a group of one
+pub record HoldsLoneGroup (part : Part) (first file at : ℕ) (bytes : List ℕ) : Type 0 where
+  pub fields : entry_of (words_of part) ≡ record { commit = first + 1; file = file; at = at; size = length bytes; count = 1; leader = first }
+  pub bytes_are : data_of (words_of part) (length bytes) ≡ bytes
+
+-- no image of a part, where it tells, has a commit word
+abbrev pub HasNoCommit : History → Type 0
+HasNoCommit history = Tells history (InEachImage (λ image. (entry_of image).commit ≡ 0))
 
 -- each of these parts tells
 abbrev pub AllTell : List History → Type 0
@@ -87,6 +97,7 @@ pub record IsLog {P : Type 0} (history : P → History) (room : P → Room) (log
   pub page : vec_len log.page ≡ log.geometry.page
   pub ready : All (λ part. IsReady log.geometry.page (room part)) log.slots.items
   pub sizes : All (HoldsPiece log.geometry.page) (take log.head (slots_of history log))
+  pub free : All HasNoCommit (drop log.head (slots_of history log))
   pub length : AllTell (slots_of history log) → log.length ≡ length (file_of history log)
   pub small : log.length ≤ file_limit log.geometry
 

@@ -5,10 +5,9 @@ ghost use Rattle.nv_plain.specs.Images.{lines_for};
 ghost use Rattle.nv_plain.specs.Pieces.{pages_touched};
 ghost use Rattle.nv_pmem.specs.Limits.{IsPageSize};
 ghost use Rattle.nv_pmem.specs.Moments.{Tells};
-ghost use Rattle.nv_pmem.specs.Steps.{DidSome};
 ghost use Rattle.nv_pmem.specs.Room.{Keeps};
-ghost use Rattle.nv_entry.specs.Group.{IsReady, HoldsLoneGroup, lone_group_steps};
-ghost use Rattle.nv_top.specs.Log.{AllTell, slots_of, file_of, faults_of, IsLog, StaysOver, HoldsPiece, read_refusal, write_refusal, window_of, overlaid, present, with_entry, file_limit, OnlyAt};
+ghost use Rattle.nv_entry.specs.Group.{IsReady};
+ghost use Rattle.nv_top.specs.Log.{AllTell, slots_of, file_of, faults_of, IsLog, StaysOver, HoldsPiece, HoldsLoneGroup, HasNoCommit, read_refusal, write_refusal, window_of, overlaid, present, with_entry, file_limit, OnlyAt};
 ghost use Rattle.nv_top.specs.Calls.{IsRefusedBy};
 ghost use Rattle.nv_trace.specs.declared.report.Refusal.{Refusal};
 ghost use Rattle.nv_trace.specs.declared.report.Refusal.TheVariants.{TooFar, TooLong};
@@ -193,6 +192,7 @@ fn commit_in<L: Lines>(
     requires piece { pages_touched at (length bytes.now) page ≡ 1 }
     requires range { at + length bytes.now ≤ 2 ^ 60 }
     requires ready { All (λ part. IsReady page (L.room part)) slots.old.items }
+    requires free { HasNoCommit (slice_index_or (map L.history slots.old.items) slot []) }
     ensures hand { vec_len hand.new ≡ 0 }
     ensures hand_room { 1 ≤ vec_capacity hand.new }
     ensures slots { vec_len slots.new ≡ vec_len slots.old }
@@ -226,11 +226,12 @@ fn commit_part<L: Lines>(
     requires piece { pages_touched at (length bytes.now) page ≡ 1 }
     requires range { at + length bytes.now ≤ 2 ^ 60 }
     requires ready { IsReady page (L.room part) }
+    requires free { HasNoCommit (L.history part) }
     ensures hand { vec_len hand.new ≡ 0 }
     ensures hand_room { 1 ≤ vec_capacity hand.new }
     ensures ready { OnOk result.1 (IsReady page (L.room result.0)) }
     ensures device { L.device result.0 ≡ L.device part }
-    ensures begun { DidSome (lone_group_steps number 0 at bytes.now) (L.history part) (L.history result.0) }
+    ensures tells { (0 < length (L.history part)) ↔ (0 < length (L.history result.0)) }
     ensures holds { OnOk result.1 (Tells (L.history result.0) (λ now. HoldsLoneGroup now number 0 at bytes.now)) }
     ensures fault { OnErr result.1 (result.1 ≡ Err Fault) }
     ensures cause { HasCause (L.fault_count part) (L.fault_count result.0) result.1 }

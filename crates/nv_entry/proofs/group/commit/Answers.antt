@@ -1,5 +1,4 @@
-use Rattle.std.proofs.Common.{length, arith}
-use Rattle.std.proofs.lemmas.Result.{on_ok_weaker}
+use Rattle.std.proofs.Common.{arith}
 use Rattle.nv_entry.proofs.PartRows.{did_row_one, did_some_row_one}
 use Rattle.nv_entry.proofs.group.commit.Goals as goal
 

@@ -1,5 +1,5 @@
 -- One entry more, by the part at hand.
-use Rattle.std.proofs.Common.{◌≡◌, ℕ, ◌+◌, ◌-◌, ◌<◌, List, All, ◌++◌, length, get_or, take, drop, map, sum_by, refl, ap, sym, subst, ◌∙◌, arith}
+use Rattle.std.proofs.Common.{◌≡◌, ℕ, ◌<◌, List, length, get_or, map, refl, ap, sym, subst, ◌∙◌, arith}
 use Rattle.std.proofs.lemmas.List.Elements.{All-set}
 use Rattle.nv_pmem.specs.Rows.{DidRow}
 use Rattle.nv_pmem.specs.Steps.{Step, Did, DidSome}

@@ -1,10 +1,13 @@
-use Rattle.std.proofs.Common.{arith, ◌<◌, List, map, length, subst, refl}
+use Rattle.std.proofs.Common.{arith, ◌<◌, List, drop, map, length, subst, refl}
 use Rattle.std.specs.Prelude.{All}
 use Rattle.std.proofs.lemmas.Grind.{common_steps}
 use Rattle.std.proofs.lemmas.List.{drop-map}
 use Rattle.std.proofs.lemmas.List.Elements.{All-drop}
+use Rattle.nv_pmem.specs.Moments.{Tells}
 use Rattle.nv_pmem.specs.Steps.{History}
 use Rattle.nv_top.specs.Log.{overlaid}
+use Rattle.nv_top.specs.Opening.{IsBlank}
+use Rattle.nv_top.proofs.LogLemmas.{blank_free}
 use Rattle.nv_top.proofs.region.over.Goals as goal
 
 pub returns-clause-log : goal.returns-clause-log
@@ -17,6 +20,9 @@ returns-clause-log g c = record {
   page = c.requires.page;
   ready = rw c.remove-header.ensures.items c.requires.region.entries;
   sizes = λ k d inside. absurd (omega arith);
+  free = rw c.remove-header.ensures.items
+      (blank_free g.L.Lines.history (drop 1 c.args.parts.items)
+      (All-drop (λ (part : g.row.L.Denot). Tells (g.L.Lines.history part) IsBlank) 1 c.args.parts.items c.requires.region.blank));
   length = λ _. refl;
   small = omega arith;
 }

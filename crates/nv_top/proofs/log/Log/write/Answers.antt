@@ -1,12 +1,12 @@
 -- A write that is not refused adds the entry of the next number.
-use Rattle.std.proofs.Common.{◌≡◌, ◌+◌, ◌<◌, ◌≤◌, List, length, map, max, ap, sym, ◌∙◌, arith}
+use Rattle.std.proofs.Common.{◌≡◌, ◌+◌, ◌<◌, ◌≤◌, List, [], length, get_or, drop, map, max, ap, sym, subst, ◌∙◌, arith, add-zero, length-drop}
 use Rattle.std.proofs.lemmas.Grind.{common_steps}
-use Rattle.std.proofs.lemmas.List.{length-map}
+use Rattle.std.proofs.lemmas.List.{length-map, get_or-drop}
 use Rattle.nv_plain.specs.Pieces.{pages_touched}
 use Rattle.nv_plain.proofs.FileLemmas.{length-overwritten}
 use Rattle.nv_pmem.specs.Steps.{History}
-use Rattle.nv_top.specs.Log.{file_of, slots_of, file_limit}
-use Rattle.nv_top.proofs.LogLemmas.{overlaid_committed, sizes_committed, one_page}
+use Rattle.nv_top.specs.Log.{file_of, slots_of, file_limit, HasNoCommit}
+use Rattle.nv_top.proofs.LogLemmas.{overlaid_committed, sizes_committed, free_committed, one_page}
 use Rattle.nv_top.proofs.log.Log.write.Goals as goal
 
 pub returns-clause-log : goal.returns-clause-log
@@ -18,6 +18,7 @@ returns-clause-log g c = λ _.
     let slots : length c.commit_in.new.slots.items ≡ log.geometry.entries = grind (arith, common_steps) in
     let room : log.head + 1 ≤ log.geometry.entries = c.if-self.false in
     let within : log.head < length new = omega (arith, length-map c.commit_in.new.slots.items g.L.Lines.history) in
+    let long : length new ≡ length old = grind (arith, common_steps) in
     let holds = c.in_ok-commit_in.ensures.holds in
     let only = c.commit_in.ensures.others in
     let one : pages_touched c.args.at (length bytes) log.geometry.page ≤ 1 = grind (arith, common_steps) in
@@ -31,6 +32,7 @@ returns-clause-log g c = λ _.
       page = c.requires.log.page;
       ready = c.in_ok-commit_in.ensures.ready;
       sizes = sizes_committed old new log.head c.args.at bytes only within holds log.geometry.page fits c.requires.log.sizes;
+      free = free_committed old new log.head c.args.at bytes only within holds long c.requires.log.free;
       length = λ tell.
           let file = overlaid_committed old new log.head c.args.at bytes only within holds tell in
           let was = c.requires.log.length (c.commit_in.ensures.tells.1 tell) in
@@ -48,3 +50,11 @@ returns-clause-file g c = λ tell.
     let within : log.head < length new = omega (arith, length-map c.commit_in.new.slots.items g.L.Lines.history) in
     overlaid_committed (slots_of g.L.Lines.history log) new log.head c.args.at c.args.bytes.now c.commit_in.ensures.others within
     c.in_ok-commit_in.ensures.holds (c.commit_in.ensures.tells.0 tell)
+
+pub commit_in-requires-clause-free : goal.commit_in-requires-clause-free
+commit_in-requires-clause-free g c =
+    let log = c.args.self.now in
+    let slots : List History = slots_of g.L.Lines.history log in
+    let within : log.head < length slots = omega (arith, c.if-self.false, c.requires.log.slots, length-map log.slots.items g.L.Lines.history, log.slots.ok.0) in
+    let here : get_or (drop log.head slots) 0 [] ≡ get_or slots log.head [] = get_or-drop log.head slots 0 [] ∙ ap (λ i. get_or slots i []) (add-zero log.head) in
+    subst HasNoCommit here (c.requires.log.free 0 [] (omega (arith, length-drop log.head slots)))

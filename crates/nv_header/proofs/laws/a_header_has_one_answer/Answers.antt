@@ -1,0 +1,5 @@
+use Rattle.nv_header.proofs.RefusalLaws.{head_not_refused, one_refusal}
+use Rattle.nv_header.proofs.laws.a_header_has_one_answer.Goals as goal
+
+pub returns : goal.returns
+returns c = record { read = head_not_refused; refused = one_refusal }
