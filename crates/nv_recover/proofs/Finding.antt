@@ -9,25 +9,17 @@ use Rattle.nv_plain.specs.Images.{Image, header_of, entry_at}
 use Rattle.nv_plain.specs.Layouts.{Layout, version_1}
 use Rattle.nv_plain.specs.Recovered.{IsCommitted, IsInGroup, IsGroup, committed}
 use Rattle.nv_entry.specs.Checks.{IsGood, IsFirstBad}
+use Rattle.nv_recover.specs.Finding.{commits_at, HasFound}
 use Rattle.nv_recover.specs.Groups.{leaders_of, AreGroups, IsLeastBad}
 use Rattle.nv_recover.specs.declared.group.Group.{Group}
-
--- whether a number is committed, where it is in the window
-abbrev pub commits_at : Image → ℕ → Bool
-commits_at image number = (entry_at image number).commit == number + 1
-
--- What a walk has found of the numbers from the tail up to this one.
-pub record HasFound (image : Image) (tail number : ℕ) (groups : List Group) : Type 0 where
-  pub tail_is : (header_of image).tail ≡ tail
-  pub fits : (leader : ℕ) → IsCommitted image leader → leader < number → IsGroup version_1 image leader
-  pub leaders : leaders_of groups ≡ filter (commits_at image) (range_with_len tail (number - tail))
-  pub counts : All (λ group. group.count ≡ (entry_at image group.leader).count) groups
 
 -- a range with one number more
 range_more : (from count : ℕ) → range_with_len from (count + 1) ≡ range_with_len from count ++ (from + count) ∷ []
 range_more from zero = ap (λ n. n ∷ []) (sym (add-zero from))
 range_more from (suc count) =
-    ap (λ rest. from ∷ rest)
+    let more : suc count + 1 ≡ suc (count + 1) = omega arith in
+    ap (range_with_len from) more
+    ∙ ap (λ rest. from ∷ rest)
     (range_more (from + 1) count ∙ ap (λ n. range_with_len (from + 1) count ++ n ∷ []) (omega arith))
 
 filter_more : (image : Image) (tail number : ℕ) → tail ≤ number → filter (commits_at image) (range_with_len tail (number + 1 - tail)) ≡ filter (commits_at image) (range_with_len tail (number - tail)) ++ filter (commits_at image) (number ∷ [])
@@ -140,3 +132,10 @@ least_bad layout image leader bad commits breaks earlier = record {
     ]
   ];
 }
+
+-- so it is where a walk has found the groups before that one
+pub found_bad : (image : Image) (tail number bad : ℕ) (groups : List Group) → tail ≤ number → number < tail + (header_of image).entries → (entry_at image number).commit ≡ number + 1 → IsFirstBad version_1 image number bad → HasFound image tail number groups → IsLeastBad version_1 image bad
+found_bad image tail number bad groups from below commit breaks so_far =
+    least_bad version_1 image number bad
+    (record { from_tail = omega (arith, so_far.tail_is); in_window = omega (arith, so_far.tail_is); commit = commit })
+    breaks so_far.fits

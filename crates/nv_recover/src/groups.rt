@@ -1,10 +1,11 @@
-ghost use Rattle.std.specs.Prelude.{◌≡◌, ◌≢◌, ℕ, ◌+◌, ◌<◌, ◌≤◌, length, map, sum_by, All, Err, IfOk};
+ghost use Rattle.std.specs.Prelude.{◌≡◌, ◌≢◌, ℕ, ◌+◌, ◌<◌, ◌≤◌, length, map, sum_by, All, Err, IfOk, OnOk};
 ghost use Rattle.nv_plain.specs.Images.{entry_at};
 ghost use Rattle.nv_plain.specs.Layouts.{version_1};
 ghost use Rattle.nv_plain.specs.Recovered.{IsGroup};
 ghost use Rattle.nv_pmem.specs.Rows.{RowTells, AreOnlyRead};
 ghost use Rattle.nv_entry.specs.Checks.{IsFirstBad, SaysBounds, region_words};
 ghost use Rattle.nv_recover.specs.Causes.{HasRegionCause};
+ghost use Rattle.nv_recover.specs.Finding.{HasFound};
 ghost use Rattle.nv_recover.specs.Groups.{AreGroups, IsLeastBad};
 ghost use Rattle.nv_recover.specs.declared.error.RecoverError.TheVariants as error;
 
@@ -32,13 +33,39 @@ pub(crate) fn find_groups<L: Lines>(
 {
     let mut groups = Vec::new(alloc);
     for number in bounds.tail..bounds.tail + bounds.entries {
-        let entry = read_entry(parts, bounds, number)?;
-        if entry.commit == number + 1 {
-            let group = checked(parts, bounds, number)?;
-            groups.push(group)?;
-        }
+        look_at(parts, bounds, number, &mut groups)?;
     }
     Ok(groups)
+}
+
+// Looks at the next number: where it is committed, its group is one more.
+fn look_at<L: Lines>(
+    parts: &mut [L],
+    bounds: &Bounds,
+    number: u64,
+    groups: &mut Vec<Group>,
+) -> Result<(), RecoverError>
+    requires parts { 1 + bounds.now.entries ≤ length parts.old }
+    requires lines { All (λ part. 1 ≤ (L.room part).lines) parts.old }
+    requires header { RowTells (map L.history parts.old) (λ parts. SaysBounds bounds.now (region_words parts)) }
+    requires from { bounds.now.tail ≤ number }
+    requires below { number < bounds.now.tail + bounds.now.entries }
+    ensures found { OnOk result (RowTells (map L.history parts.old) (λ parts.
+        HasFound (region_words parts) bounds.now.tail number groups.old.items
+        → HasFound (region_words parts) bounds.now.tail (number + 1) groups.new.items)) }
+    ensures bad { (bad : ℕ) → result ≡ Err (error.BadEntry bad) → RowTells (map L.history parts.old) (λ parts.
+        HasFound (region_words parts) bounds.now.tail number groups.old.items → IsLeastBad version_1 (region_words parts) bad) }
+    ensures read { AreOnlyRead L.history L.room L.device parts.old parts.new }
+    ensures cause { HasRegionCause (sum_by L.fault_count parts.old) (sum_by L.fault_count parts.new) result }
+    ensures no_store { result ≢ Err error.StoreFault }
+{
+    let entry = read_entry(parts, bounds, number)?;
+    if entry.commit != number + 1 {
+        return Ok(());
+    }
+    let group = checked(parts, bounds, number)?;
+    groups.push(group)?;
+    Ok(())
 }
 
 // The committed group of a leader, if it is whole.

@@ -1,7 +1,7 @@
 use Rattle.std.proofs.Common.{◌≡◌, map, sum_by}
 use Rattle.nv_pmem.specs.Rows.{RowTells, AreOnlyRead}
 use Rattle.nv_entry.specs.Checks.{region_words}
-use Rattle.nv_recover.proofs.Finding.{HasFound}
+use Rattle.nv_recover.specs.Finding.{HasFound}
 use Rattle.nv_recover.proofs.groups.find_groups.Given as goal
 
 -- the groups below this number are found
