@@ -1,2 +1,7 @@
 pub mod Overlays
 pub mod AlikeLaws
+pub mod Present
+pub mod StoreRows
+pub mod Pieces
+pub mod Entries
+pub mod ApplyLaws
