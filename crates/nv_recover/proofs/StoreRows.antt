@@ -7,14 +7,19 @@ use Rattle.nv_pmem.specs.Rows.{RowTells}
 use Rattle.nv_pmem.specs.Runs.{run, grown}
 use Rattle.nv_pmem.specs.Steps as lines
 use Rattle.nv_entry.specs.Checks.{region_words}
+use Rattle.nv_plain.specs.Files.{Files, contents_of}
 use Rattle.nv_plain.specs.Images.{Image}
-use Rattle.nv_store.specs.Steps.{History, Step, Write, Did, after_step}
+use Rattle.nv_pmem.proofs.RowLaws.{row_tells_more}
+use Rattle.nv_store.specs.Images.{IsImage}
+use Rattle.nv_store.specs.Steps.{History, Step, Write, Sync, Did, after_step}
 use Rattle.nv_store.specs.Store.{Store, IsWhole}
 use Rattle.nv_store.specs.Torn.{IsTorn, LeftOrTore}
-use Rattle.nv_store.proofs.StoreLaws.{write_is_torn}
+use Rattle.nv_store.proofs.ImageLaws.{image_of_quiet, seen_is_image}
+use Rattle.nv_store.proofs.StoreLaws.{write_is_torn, quiet_is_quiet}
 use Rattle.nv_recover.specs.Applying.{AcrossTells, OneWritten, OneTorn, LeftOrOneTorn}
+use Rattle.nv_recover.specs.Standing.{AreStoreImages, files_of}
 use Rattle.nv_recover.specs.Telling.{AllTell}
-use Rattle.nv_recover.proofs.Present.{IsNow, AreNow, now_same, row_tells_from, row_tells_at, presents, presents_tell, presents_long, present_at, OneChanged, one_changed}
+use Rattle.nv_recover.proofs.Present.{IsNow, AreNow, now_same, row_tells_from, row_tells_at, presents, presents_tell, presents_long, are_now_same, OneChanged, one_changed}
 
 -- ---- one store
 
@@ -152,3 +157,124 @@ across_tells parts old between new A B C tells step first second =
     across old between new (A image) (B image) (C image) tells (step image)
     (row_tells_at parts (λ these. RowTells old (λ was. RowTells between (A (region_words these) was))) these are first)
     (row_tells_at parts (λ these. RowTells between (λ was. RowTells new (B (region_words these) was))) these are second))
+
+-- ---- syncs
+
+-- the stores, of which the first so many are synced
+abbrev pub synced_front : ℕ → List Store → List Store
+synced_front count stores = map (after_step Sync) (take count stores) ++ drop count stores
+
+length-synced : (count : ℕ) (stores : List Store) → length (synced_front count stores) ≡ length stores
+length-synced zero stores = refl
+length-synced (suc count) [] = refl
+length-synced (suc count) (store ∷ stores) = ap suc (length-synced count stores)
+
+-- each of them is synced, or is as it was
+synced_at : (count : ℕ) (stores : List Store) (i : ℕ) (none : Store) → i < length stores
+    → (get_or (synced_front count stores) i none ≡ after_step Sync (get_or stores i none)) ⊎ (get_or (synced_front count stores) i none ≡ get_or stores i none)
+synced_at zero stores i none inside = inr refl
+synced_at (suc count) [] i none inside = absurd (omega arith)
+synced_at (suc count) (store ∷ stores) zero none inside = inl refl
+synced_at (suc count) (store ∷ stores) (suc i) none inside = synced_at count stores i none (omega arith)
+
+-- one more
+synced_more : (count : ℕ) (stores : List Store) (none : Store) → count < length stores
+    → set (synced_front count stores) count (after_step Sync (get_or (synced_front count stores) count none)) ≡ synced_front (suc count) stores
+synced_more zero [] none inside = absurd (omega arith)
+synced_more zero (store ∷ stores) none inside = refl
+synced_more (suc count) [] none inside = absurd (omega arith)
+synced_more (suc count) (store ∷ stores) none inside = ap (λ later. after_step Sync store ∷ later) (synced_more count stores none (omega arith))
+
+-- and all
+pub synced_all : (count : ℕ) (stores : List Store) → length stores ≤ count → synced_front count stores ≡ map (after_step Sync) stores
+synced_all zero [] over = refl
+synced_all zero (store ∷ stores) over = absurd (omega arith)
+synced_all (suc count) [] over = refl
+synced_all (suc count) (store ∷ stores) over = ap (λ later. after_step Sync store ∷ later) (synced_all count stores (omega arith))
+
+-- Reads give what they gave.
+pub synced_seen : (count : ℕ) (stores : List Store) → files_of (synced_front count stores) ≡ files_of stores
+synced_seen zero stores = refl
+synced_seen (suc count) [] = refl
+synced_seen (suc count) (store ∷ stores) =
+    ap (λ (files : Files). let more : Files = record { contents = store.seen ∷ files.contents } in more) (synced_seen count stores)
+
+-- An image of them is one of before.
+pub synced_images : (count : ℕ) (stores now : List Store) (bytes : Files) → now ≡ synced_front count stores → ((i : ℕ) (none : Store) → i < length stores → IsWhole (slice_index_or stores i none))
+    → AreStoreImages now bytes → AreStoreImages stores bytes
+synced_images count stores now bytes is whole are =
+    let long : length now ≡ length stores = ap length is ∙ length-synced count stores in
+    record {
+      count = are.count ∙ long;
+      each = λ i none inside.
+          let store = slice_index_or stores i none in
+          let Of : Store → Type 0 = λ store. IsImage store (contents_of bytes i) in
+          let one : IsImage (slice_index_or (synced_front count stores) i none) (contents_of bytes i) =
+          subst Of (ap (λ these. slice_index_or these i none) is) (are.each i none (omega arith)) in
+          elim (synced_at count stores i none inside) [
+            | inl same ↦
+                subst (IsImage store) (sym (image_of_quiet (after_step Sync store) (contents_of bytes i) (quiet_is_quiet store.seen) (subst Of same one)))
+                (seen_is_image store (whole i none inside))
+            | inr same ↦ subst Of same one
+          ];
+    }
+
+-- a row of which the first so many stores are synced
+abbrev pub RowSynced : ℕ → List History → List History → Type 0
+RowSynced count old new = RowTells old (λ was. RowTells new (λ now. now ≡ synced_front count was))
+
+pub row_unsynced : (row : List History) → RowSynced 0 row row
+row_unsynced row =
+    row_tells_from row (λ was. RowTells row (λ now. now ≡ was))
+    (λ was are. row_tells_from row (λ now. now ≡ was) (λ now were. are_now_same row now was were are))
+
+pub row_synced_images : {X : Type 0} (history : X → History) → ((x : X) (now : Store) (past : History) → history x ≡ now ∷ past → IsWhole now)
+    → (old : List X) (new : List History) (count : ℕ) → RowSynced count (map history old) new
+    → RowTells (map history old) (λ was. RowTells new (λ now. (bytes : Files) → AreStoreImages now bytes → AreStoreImages was bytes))
+row_synced_images history told old new count synced =
+    row_tells_from (map history old) (λ was. RowTells new (λ now. (bytes : Files) → AreStoreImages now bytes → AreStoreImages was bytes))
+    (λ was are.
+    row_tells_more new (λ now. now ≡ synced_front count was) (λ now. (bytes : Files) → AreStoreImages now bytes → AreStoreImages was bytes)
+    (λ now is bytes.
+    synced_images count was now bytes is
+    (λ i none inside. row_whole history told old was are i none (omega (arith, presents_long (map history old) was are, length-map old history))))
+    (row_tells_at (map history old) (λ was. RowTells new (λ now. now ≡ synced_front count was)) was are synced))
+
+pub row_synced_seen : (old new : List History) (count : ℕ) → RowSynced count old new → RowTells old (λ was. RowTells new (λ now. files_of now ≡ files_of was))
+row_synced_seen old new count synced =
+    row_tells_more old (λ was. RowTells new (λ now. now ≡ synced_front count was)) (λ was. RowTells new (λ now. files_of now ≡ files_of was))
+    (λ was. row_tells_more new (λ now. now ≡ synced_front count was) (λ now. files_of now ≡ files_of was)
+    (λ now is. ap files_of is ∙ synced_seen count was))
+    synced
+
+pub row_synced_all : (old new : List History) (count : ℕ) → length old ≤ count → RowSynced count old new → RowTells old (λ was. RowTells new (λ now. now ≡ map (after_step Sync) was))
+row_synced_all old new count over synced =
+    row_tells_from old (λ was. RowTells new (λ now. now ≡ map (after_step Sync) was))
+    (λ was are.
+    row_tells_more new (λ now. now ≡ synced_front count was) (λ now. now ≡ map (after_step Sync) was)
+    (λ now is. is ∙ synced_all count was (omega (arith, presents_long old was are)))
+    (row_tells_at old (λ was. RowTells new (λ now. now ≡ synced_front count was)) was are synced))
+
+-- one more store is synced
+pub row_synced_more : {X : Type 0} (history : X → History) (old : List History) (stores : List X) (i : ℕ) (d new : X) → i < length stores → length stores ≡ length old → (AllTell old → AllTell (map history stores))
+    → Did (Sync ∷ []) (history (get_or stores i d)) (history new) → RowSynced i old (map history stores) → RowSynced (i + 1) old (map history (slice_set stores i new))
+row_synced_more history old stores i d new inside long tells did synced =
+    let between : List History = map history stores in
+    let after : List History = map history (slice_set stores i new) in
+    let Count : ℕ → Type 0 = λ n. RowSynced n old after in
+    let count : suc i ≡ i + 1 = omega arith in
+    subst Count count
+    (row_tells_from old (λ was. RowTells after (λ now. now ≡ synced_front (suc i) was))
+    (λ was are. row_tells_from after (λ now. now ≡ synced_front (suc i) was)
+    (λ now were.
+    let mid = presents between (tells (presents_tell old was are)) in
+    let so_far : mid.states ≡ synced_front i was =
+    row_tells_at between (λ now. now ≡ synced_front i was) mid.states mid.are
+    (row_tells_at old (λ was. RowTells between (λ now. now ≡ synced_front i was)) was are synced) in
+    let one = row_changed history stores i d new inside mid.states now mid.are were in
+    let step : one.new ≡ after_step Sync one.old =
+    now_did Sync (history (get_or stores i d)) (history new) one.old one.new (row_was history stores i d new inside mid.states now one) one.is_now did in
+    one.is
+    ∙ ap (set mid.states i) (step ∙ ap (after_step Sync) (sym (one.old_is one.old)))
+    ∙ ap (λ these. set these i (after_step Sync (get_or these i one.old))) so_far
+    ∙ synced_more i was one.old (omega (arith, presents_long old was are)))))
