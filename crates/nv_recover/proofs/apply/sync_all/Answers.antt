@@ -1,7 +1,7 @@
-use Rattle.std.proofs.Common.{◌≡◌, ℕ, ◌+◌, ◌<◌, ◌≤◌, List, length, map, get_or, refl, sym, ◌∙◌, subst, arith}
+use Rattle.std.proofs.Common.{◌≡◌, ℕ, ◌+◌, ◌<◌, ◌≤◌, List, length, map, get_or, slice_set, refl, sym, ◌∙◌, subst, arith}
 use Rattle.std.proofs.Math.Seq.{map-set_same}
 use Rattle.std.proofs.lemmas.List.{length-map}
-use Rattle.nv_header.proofs.InRow.{same_sum_in_row}
+use Rattle.nv_pmem.proofs.ReadLaws.{faults_set_same}
 use Rattle.nv_store.specs.Steps.{History, Sync}
 use Rattle.nv_recover.specs.Telling.{AllTell}
 use Rattle.nv_recover.proofs.StoreRows.{RowSynced, row_unsynced, row_synced_more, row_synced_images, row_synced_seen, row_synced_all, row_goes_on, did_tells}
@@ -16,7 +16,7 @@ returns-in_err-sync-clause-images g c =
     let old : List History = map g.B.Backing.history c.args.stores.now in
     let i = c.loop-store.store-index in
     let At : List History → Type 0 = λ row. RowSynced i old row in
-    row_synced_images g.B.Backing.history g.met.B.Backing.told_whole c.args.stores.now _ i
+    row_synced_images g.B.Backing.history g.met.B.Backing.told_whole c.args.stores.now (map g.B.Backing.history (slice_set c.loop-store.stores i c.sync.new.self)) i
     (subst At (sym (map-set_same g.B.Backing.history c.loop-store.stores i c.sync.new.self c.store-item.result c.in_err-sync.ensures.failed)) c.loop-store.invariant.synced)
 
 pub returns-in_err-sync-clause-seen : goal.returns-in_err-sync-clause-seen
@@ -24,7 +24,7 @@ returns-in_err-sync-clause-seen g c =
     let old : List History = map g.B.Backing.history c.args.stores.now in
     let i = c.loop-store.store-index in
     let At : List History → Type 0 = λ row. RowSynced i old row in
-    row_synced_seen old _ i
+    row_synced_seen old (map g.B.Backing.history (slice_set c.loop-store.stores i c.sync.new.self)) i
     (subst At (sym (map-set_same g.B.Backing.history c.loop-store.stores i c.sync.new.self c.store-item.result c.in_err-sync.ensures.failed)) c.loop-store.invariant.synced)
 
 pub returns-in_err-sync-clause-tells : goal.returns-in_err-sync-clause-tells
@@ -54,8 +54,7 @@ loop-store-preserved g c =
           (did_tells Sync (g.B.Backing.history (get_or stores i c.store-item.result)) (g.B.Backing.history c.sync.new.self) c.in_ok-sync.ensures.done)
           (c.loop-store.invariant.tells tell);
       faults =
-          same_sum_in_row g.B.Backing.fault_count stores i (get_or stores i c.store-item.result) c.sync.new.self inside
-          refl c.in_ok-sync.ensures.cause
+          faults_set_same g.B.Backing.fault_count stores i c.sync.new.self c.store-item.result inside c.in_ok-sync.ensures.cause
           ∙ c.loop-store.invariant.faults;
       devices =
           map-set_same g.B.Backing.device stores i c.sync.new.self c.store-item.result c.sync.ensures.device
@@ -64,13 +63,13 @@ loop-store-preserved g c =
 
 pub returns-clause-images : goal.returns-clause-images
 returns-clause-images g c =
-    row_synced_images g.B.Backing.history g.met.B.Backing.told_whole c.args.stores.now _ c.loop-store.store-index c.loop-store.invariant.synced
+    row_synced_images g.B.Backing.history g.met.B.Backing.told_whole c.args.stores.now (map g.B.Backing.history c.loop-store.stores) c.loop-store.store-index c.loop-store.invariant.synced
 
 pub returns-clause-synced : goal.returns-clause-synced
 returns-clause-synced g c =
-    row_synced_all (map g.B.Backing.history c.args.stores.now) _ c.loop-store.store-index
+    row_synced_all (map g.B.Backing.history c.args.stores.now) (map g.B.Backing.history c.loop-store.stores) c.loop-store.store-index
     (omega (arith, length-map c.args.stores.now g.B.Backing.history)) c.loop-store.invariant.synced
 
 pub returns-clause-seen : goal.returns-clause-seen
 returns-clause-seen g c =
-    row_synced_seen (map g.B.Backing.history c.args.stores.now) _ c.loop-store.store-index c.loop-store.invariant.synced
+    row_synced_seen (map g.B.Backing.history c.args.stores.now) (map g.B.Backing.history c.loop-store.stores) c.loop-store.store-index c.loop-store.invariant.synced
