@@ -1,21 +1,17 @@
 -- Laws about the pieces of a log, written to the stores one after another.
-use Rattle.std.proofs.Common.{◌≡◌, ◌≢◌, ◌⊎◌, inl, inr, ℕ, ◌+◌, ◌-◌, ◌<◌, ◌≤◌, List, [], ◌∷◌, ◌++◌, All, length, take, drop, get_or, map, set, slice_set, slice_index_or, zero, suc, refl, sym, ap, ◌∙◌, subst, arith, append_assoc}
-use Rattle.std.proofs.lemmas.Bool.{cases_eq, cases_lt}
-use Rattle.std.proofs.lemmas.List.{ext_get_or, length-map, get_or-map, map-set, set-set, set-get_or, get_or-set_same, get_or-set_other, length-set}
-use Rattle.std.proofs.lemmas.List.Sums.{fold-append}
+use Rattle.std.proofs.Common.{◌≡◌, inl, inr, ℕ, ◌<◌, List, [], ◌∷◌, length, map, set, slice_index_or, refl, sym, ap, ◌∙◌, subst, arith}
+use Rattle.std.proofs.lemmas.Bool.{cases_eq}
+use Rattle.std.proofs.lemmas.List.{ext_get_or, length-map, get_or-map, map-set, set-set, get_or-set_same, get_or-set_other, length-set}
 use Rattle.std.specs.Prelude.{fold}
-use Rattle.std.specs.List.{flat_map, range_with_len}
 use Rattle.nv_plain.specs.Files.{Files, contents_of, with_contents, overwritten}
 use Rattle.nv_plain.specs.Images.{Image, entry_at, slot_part, data_of}
-use Rattle.nv_plain.specs.Recovered.{with_entry, recovered, committed, group_numbers}
+use Rattle.nv_plain.specs.Recovered.{with_entry, recovered}
 use Rattle.nv_store.specs.Images.{IsImage}
-use Rattle.nv_store.specs.Laws.{IsCovered}
-use Rattle.nv_store.specs.Steps.{History, Step, Write, Sync, after_step}
-use Rattle.nv_store.specs.Store.{Store, IsWhole, IsQuiet}
-use Rattle.nv_store.specs.Torn.{IsTorn}
-use Rattle.nv_store.proofs.ImageLaws.{image_of_quiet, seen_is_image}
+use Rattle.nv_store.specs.Steps.{Write, after_step}
+use Rattle.nv_store.specs.Store.{Store, IsWhole}
+use Rattle.nv_store.proofs.ImageLaws.{image_of_quiet}
 use Rattle.nv_store.proofs.WriteLaws.{covered}
-use Rattle.nv_recover.specs.Applying.{AreAmong, HasPiece, RecoversAsSome, StaysAlike, OneWritten, OneTorn, LeftOrOneTorn, recovered_numbers}
+use Rattle.nv_recover.specs.Applying.{AreAmong, HasPiece, StaysAlike, OneWritten, OneTorn, LeftOrOneTorn}
 use Rattle.nv_recover.specs.Standing.{AreStoreImages, AreQuietStores, RecoverAlike, files_of}
 use Rattle.nv_recover.proofs.Overlays.{same_after_all}
 

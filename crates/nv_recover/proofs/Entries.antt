@@ -1,10 +1,10 @@
 -- The pieces of entries, of groups and of all groups, written to stores that may tell or not.
-use Rattle.std.proofs.Common.{◌≡◌, ◌≢◌, ◌⊎◌, inl, inr, ℕ, ◌+◌, ◌-◌, ◌%◌, ◌^◌, ◌<◌, ◌≤◌, List, [], ◌∷◌, ◌++◌, length, take, map, get_or, slice_index_or, zero, suc, refl, sym, ap, ◌∙◌, subst, arith}
+use Rattle.std.proofs.Common.{◌≡◌, ℕ, ◌+◌, ◌-◌, ◌^◌, ◌<◌, ◌≤◌, List, ◌∷◌, length, take, map, get_or, sym, ap, ◌∙◌, subst, arith}
 use Rattle.std.proofs.lemmas.List.{length-map, take_all}
 use Rattle.std.specs.Prelude.{fold}
 use Rattle.std.specs.List.{range_with_len}
-use Rattle.nv_plain.specs.Images.{Image, entry_at, header_of}
-use Rattle.nv_plain.specs.Recovered.{with_entry, recovered, IsPiece}
+use Rattle.nv_plain.specs.Images.{Image, entry_at}
+use Rattle.nv_plain.specs.Recovered.{with_entry, recovered}
 use Rattle.nv_pmem.specs.Part.{Part}
 use Rattle.nv_pmem.specs.Rows.{RowTells}
 use Rattle.nv_pmem.specs.Steps as lines
@@ -19,7 +19,7 @@ use Rattle.nv_recover.specs.Standing.{AreQuietStores, RecoverAlike, files_of}
 use Rattle.nv_recover.specs.declared.group.Group.{Group}
 use Rattle.nv_recover.proofs.ApplyLaws.{alike_left_or_torn, alike_from_quiet, written_files}
 use Rattle.nv_recover.proofs.GroupLaws.{number_of, group_of, all_files}
-use Rattle.nv_recover.proofs.Present.{AreNow, row_tells_from, row_tells_at, presents_long, are_now_same}
+use Rattle.nv_recover.proofs.Present.{row_tells_from, row_tells_at, presents_long, are_now_same}
 use Rattle.nv_recover.proofs.StoreRows.{row_whole}
 
 -- stores that nothing was done to

@@ -1,18 +1,18 @@
 -- The numbers of groups, and where each stands among those that an image recovers from.
-use Rattle.std.proofs.Common.{◌≡◌, ◌≢◌, ◌⊎◌, inl, inr, ℕ, ◌+◌, ◌-◌, ◌<◌, ◌≤◌, ◌==◌, Bool, true, List, [], ◌∷◌, ◌++◌, All, length, take, drop, get_or, map, zero, suc, refl, sym, ap, ◌∙◌, subst, arith, append_assoc}
+use Rattle.std.proofs.Common.{◌≡◌, ℕ, ◌+◌, ◌-◌, ◌<◌, ◌≤◌, ◌==◌, Bool, List, [], ◌∷◌, ◌++◌, All, length, take, drop, get_or, zero, suc, refl, sym, ap, ◌∙◌, subst, arith, append_assoc}
 use Rattle.std.proofs.Math.Seq.{drop-cons}
 use Rattle.std.proofs.lemmas.Bool.{eqb-true}
-use Rattle.std.proofs.lemmas.List.{length-map, get_or-map, take-append-drop, take_more, append-nil, take_all}
+use Rattle.std.proofs.lemmas.List.{length-map, get_or-map, take-append-drop, take_more, append-nil}
 use Rattle.std.proofs.lemmas.List.Concat.{flat_map-append}
 use Rattle.std.proofs.lemmas.List.Elements.{All-head, All-tail, All-filter, filter_passes}
 use Rattle.std.proofs.lemmas.List.FromFn.{length-range_with_len, get_or-range_with_len}
 use Rattle.std.proofs.lemmas.List.Sums.{fold-append}
-use Rattle.std.specs.Prelude.{fold, filter}
+use Rattle.std.specs.Prelude.{fold}
 use Rattle.std.specs.List.{flat_map, range_with_len}
 use Rattle.nv_plain.specs.Files.{Files}
 use Rattle.nv_plain.specs.Images.{Image, entry_at, header_of}
-use Rattle.nv_plain.specs.Recovered.{IsCommitted, IsInGroup, with_entry, recovered, committed, group_numbers}
-use Rattle.nv_recover.specs.Applying.{AreAmong, IsGroupOf, IsNumberOf, recovered_numbers}
+use Rattle.nv_plain.specs.Recovered.{IsCommitted, with_entry, recovered, committed, group_numbers}
+use Rattle.nv_recover.specs.Applying.{IsGroupOf, IsNumberOf, recovered_numbers}
 use Rattle.nv_recover.specs.Groups.{AreGroups, leaders_of, numbers_of}
 use Rattle.nv_recover.specs.declared.group.Group.{Group}
 

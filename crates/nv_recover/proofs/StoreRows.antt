@@ -1,8 +1,7 @@
 -- Rows of stores: what a call on one of them is of the row.
-use Rattle.std.proofs.Common.{◌≡◌, ◌≢◌, ◌⊎◌, inl, inr, ℕ, ◌+◌, ◌<◌, ◌≤◌, List, [], ◌∷◌, ◌++◌, All, length, take, drop, get_or, map, set, slice_set, slice_index_or, Result, Ok, Err, OnOk, OnErr, zero, suc, refl, sym, ap, ◌∙◌, subst, arith}
-use Rattle.std.proofs.lemmas.List.{length-map, get_or-map, map-set, set-get_or, length-set}
+use Rattle.std.proofs.Common.{◌≡◌, ◌⊎◌, inl, inr, ℕ, ◌+◌, ◌<◌, ◌≤◌, List, [], ◌∷◌, ◌++◌, All, length, take, drop, get_or, map, set, slice_set, slice_index_or, Result, Ok, Err, OnOk, OnErr, zero, suc, refl, sym, ap, ◌∙◌, subst, arith}
+use Rattle.std.proofs.lemmas.List.{length-map, get_or-map, map-set, set-get_or}
 use Rattle.std.proofs.lemmas.List.Elements.{All-set}
-use Rattle.nv_pmem.specs.Moments.{Tells}
 use Rattle.nv_pmem.specs.Rows.{RowTells}
 use Rattle.nv_pmem.specs.Runs.{run, grown}
 use Rattle.nv_pmem.specs.Steps as lines
@@ -16,7 +15,7 @@ use Rattle.nv_store.specs.Store.{Store, IsWhole}
 use Rattle.nv_store.specs.Torn.{IsTorn, LeftOrTore}
 use Rattle.nv_store.proofs.ImageLaws.{image_of_quiet, seen_is_image}
 use Rattle.nv_store.proofs.StoreLaws.{write_is_torn, quiet_is_quiet}
-use Rattle.nv_recover.specs.Applying.{AcrossTells, OneWritten, OneTorn, LeftOrOneTorn}
+use Rattle.nv_recover.specs.Applying.{AcrossTells, OneWritten, LeftOrOneTorn}
 use Rattle.nv_recover.specs.Standing.{AreStoreImages, files_of}
 use Rattle.nv_recover.specs.Telling.{AllTell}
 use Rattle.nv_recover.proofs.Present.{IsNow, AreNow, now_same, row_tells_from, row_tells_at, presents, presents_tell, presents_long, are_now_same, OneChanged, one_changed}

@@ -1,4 +1,4 @@
-ghost use Rattle.std.specs.Prelude.{◌≡◌, ◌≢◌, ℕ, ◌+◌, ◌<◌, ◌≤◌, length, map, take, fold, sum_by, All, Err, IfOk, OnOk, MatchOption};
+ghost use Rattle.std.specs.Prelude.{◌≡◌, ◌≢◌, ℕ, ◌+◌, ◌<◌, ◌≤◌, length, map, take, drop, fold, sum_by, All, Err, IfOk, OnOk, MatchOption};
 ghost use Rattle.std.specs.List.{range_with_len};
 ghost use Rattle.nv_plain.specs.Faults.{HasCause};
 ghost use Rattle.nv_plain.specs.Images.{entry_at, entry_of, lines_for};
@@ -39,7 +39,7 @@ pub(crate) fn write_groups<L: Lines, B: Backing>(
     page: &mut [u8],
 ) -> Result<(), RecoverError>
     requires parts { 1 + bounds.now.entries ≤ length parts.old }
-    requires lines { All (λ part. entry_lines bounds.now.page ≤ (L.room part).lines) parts.old }
+    requires lines { All (λ part. entry_lines bounds.now.page ≤ (L.room part).lines) (take bounds.now.entries (drop 1 parts.old)) }
     requires page { length page.old ≡ bounds.now.page }
     requires header { RowTells (map L.history parts.old) (λ parts. SaysBounds bounds.now (region_words parts)) }
     requires groups { RowTells (map L.history parts.old) (λ parts. AreGroups (region_words parts) groups.now) }
@@ -71,7 +71,7 @@ fn write_group<L: Lines, B: Backing>(
     page: &mut [u8],
 ) -> Result<(), RecoverError>
     requires parts { 1 + bounds.now.entries ≤ length parts.old }
-    requires lines { All (λ part. entry_lines bounds.now.page ≤ (L.room part).lines) parts.old }
+    requires lines { All (λ part. entry_lines bounds.now.page ≤ (L.room part).lines) (take bounds.now.entries (drop 1 parts.old)) }
     requires page { length page.old ≡ bounds.now.page }
     requires header { RowTells (map L.history parts.old) (λ parts. SaysBounds bounds.now (region_words parts)) }
     requires group { RowTells (map L.history parts.old) (λ parts. IsGroupOf (region_words parts) group) }
@@ -102,7 +102,7 @@ fn write_entry<L: Lines, B: Backing>(
     page: &mut [u8],
 ) -> Result<(), RecoverError>
     requires parts { 1 + bounds.now.entries ≤ length parts.old }
-    requires lines { All (λ part. entry_lines bounds.now.page ≤ (L.room part).lines) parts.old }
+    requires lines { All (λ part. entry_lines bounds.now.page ≤ (L.room part).lines) (take bounds.now.entries (drop 1 parts.old)) }
     requires page { length page.old ≡ bounds.now.page }
     requires header { RowTells (map L.history parts.old) (λ parts. SaysBounds bounds.now (region_words parts)) }
     requires number { RowTells (map L.history parts.old) (λ parts. IsNumberOf (region_words parts) number) }
@@ -137,7 +137,7 @@ fn load_piece<L: Lines>(
     page: &mut [u8],
 ) -> Result<PieceHead, RecoverError>
     requires parts { 1 + bounds.now.entries ≤ length parts.old }
-    requires lines { All (λ part. entry_lines bounds.now.page ≤ (L.room part).lines) parts.old }
+    requires lines { All (λ part. entry_lines bounds.now.page ≤ (L.room part).lines) (take bounds.now.entries (drop 1 parts.old)) }
     requires page { length page.old ≡ bounds.now.page }
     requires header { RowTells (map L.history parts.old) (λ parts. SaysBounds bounds.now (region_words parts)) }
     requires size { RowTells (map L.history parts.old) (λ parts. (entry_at (region_words parts) number).size ≤ bounds.now.page) }

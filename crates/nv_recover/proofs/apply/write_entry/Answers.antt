@@ -1,4 +1,4 @@
-use Rattle.std.proofs.Common.{◌≡◌, ℕ, ◌<◌, length, map, take, sym, subst, arith}
+use Rattle.std.proofs.Common.{map, take, arith}
 use Rattle.nv_recover.proofs.ApplyLaws.{alike_none}
 use Rattle.nv_recover.proofs.Entries.{unwritten, size_within, file_there, entry_alike, entry_written}
 use Rattle.nv_recover.specs.Applying.{StaysAlike}

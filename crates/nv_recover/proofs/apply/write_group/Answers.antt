@@ -1,8 +1,9 @@
-use Rattle.std.proofs.Common.{◌≡◌, ℕ, ◌+◌, ◌-◌, ◌^◌, ◌<◌, ◌≤◌, min, List, length, map, refl, sym, ◌∙◌, subst, arith}
+use Rattle.std.proofs.Common.{◌≡◌, ◌+◌, List, map, refl, sym, ◌∙◌, subst, arith}
 use Rattle.nv_pmem.specs.Rows.{RowTells}
 use Rattle.nv_pmem.specs.Steps as lines
 use Rattle.nv_pmem.specs.Limits.{entry_lines}
-use Rattle.nv_pmem.proofs.ReadLaws.{only_read_none, only_read_more, lines_still}
+use Rattle.nv_pmem.proofs.ReadLaws.{only_read_none, only_read_more}
+use Rattle.nv_recover.proofs.Pieces.{slots_still}
 use Rattle.nv_entry.specs.Checks.{region_words}
 use Rattle.nv_plain.specs.Images.{Image}
 use Rattle.nv_plain.specs.Recovered.{with_entry}
@@ -32,7 +33,7 @@ loop-number-init g c =
 
 pub write_entry-requires-clause-lines : goal.write_entry-requires-clause-lines
 write_entry-requires-clause-lines g c =
-    lines_still g.L.Lines.room (entry_lines c.args.bounds.now.page) c.args.parts.now c.loop-number.parts c.loop-number.invariant.read.rooms c.requires.lines
+    slots_still g.L.Lines.room (entry_lines c.args.bounds.now.page) c.args.bounds.now.entries c.args.parts.now c.loop-number.parts c.loop-number.invariant.read.rooms c.requires.lines
 
 pub write_entry-requires-clause-number : goal.write_entry-requires-clause-number
 write_entry-requires-clause-number g c =

@@ -1,4 +1,4 @@
-use Rattle.std.proofs.Common.{◌≡◌, ◌-◌, length, map, sum_by}
+use Rattle.std.proofs.Common.{◌≡◌, ◌-◌, map, sum_by}
 use Rattle.std.specs.Prelude.{fold}
 use Rattle.std.specs.List.{range_with_len}
 use Rattle.nv_plain.specs.Recovered.{with_entry}

@@ -1,10 +1,11 @@
-use Rattle.std.proofs.Common.{◌≡◌, ℕ, ◌+◌, ◌-◌, ◌<◌, ◌≤◌, List, length, map, get_or, refl, sym, ◌∙◌, subst, arith}
+use Rattle.std.proofs.Common.{◌≡◌, ◌+◌, List, map, get_or, refl, sym, ◌∙◌, subst, arith}
 use Rattle.std.specs.Prelude.{fold}
 use Rattle.std.specs.List.{range_with_len}
 use Rattle.nv_pmem.specs.Rows.{RowTells}
 use Rattle.nv_pmem.specs.Steps as lines
 use Rattle.nv_pmem.specs.Limits.{entry_lines}
-use Rattle.nv_pmem.proofs.ReadLaws.{only_read_none, only_read_more, lines_still}
+use Rattle.nv_pmem.proofs.ReadLaws.{only_read_none, only_read_more}
+use Rattle.nv_recover.proofs.Pieces.{slots_still}
 use Rattle.nv_entry.specs.Checks.{region_words}
 use Rattle.nv_plain.specs.Images.{Image}
 use Rattle.nv_plain.specs.Recovered.{with_entry}
@@ -36,7 +37,7 @@ loop-group-init g c =
 
 pub write_group-requires-clause-lines : goal.write_group-requires-clause-lines
 write_group-requires-clause-lines g c =
-    lines_still g.L.Lines.room (entry_lines c.args.bounds.now.page) c.args.parts.now c.loop-group.parts c.loop-group.invariant.read.rooms c.requires.lines
+    slots_still g.L.Lines.room (entry_lines c.args.bounds.now.page) c.args.bounds.now.entries c.args.parts.now c.loop-group.parts c.loop-group.invariant.read.rooms c.requires.lines
 
 pub write_group-requires-clause-group : goal.write_group-requires-clause-group
 write_group-requires-clause-group g c =
@@ -69,7 +70,7 @@ loop-group-preserved g c =
     let i = c.loop-group.group-index in
     let none : Group = record { leader = 0; count = 0 } in
     let Next : Image → List Store → List Store → Type 0 = λ image was now.
-        files_of now ≡ fold (with_entry image) (files_of was) (range_with_len (get_or groups i none).leader (get_or groups i none).count) in
+    files_of now ≡ fold (with_entry image) (files_of was) (range_with_len (get_or groups i none).leader (get_or groups i none).count) in
     let Alike : List lines.History → Type 0 = λ parts. AcrossTells parts between new StaysAlike in
     let Wrote : List lines.History → Type 0 = λ parts. AcrossTells parts between new Next in
     record {

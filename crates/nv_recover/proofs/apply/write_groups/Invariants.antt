@@ -1,4 +1,4 @@
-use Rattle.std.proofs.Common.{◌≡◌, length, map, take, sum_by}
+use Rattle.std.proofs.Common.{◌≡◌, map, take, sum_by}
 use Rattle.std.specs.Prelude.{fold}
 use Rattle.nv_plain.specs.Recovered.{with_entry}
 use Rattle.nv_pmem.specs.Rows.{AreOnlyRead}

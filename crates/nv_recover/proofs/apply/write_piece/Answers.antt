@@ -1,4 +1,4 @@
-use Rattle.std.proofs.Common.{◌≡◌, get_or}
+use Rattle.std.proofs.Common.{get_or}
 use Rattle.std.proofs.Math.Seq.{map-set_same}
 use Rattle.nv_recover.proofs.StoreRows.{row_torn, row_written_ok, row_goes_on, wrote_tells}
 use Rattle.nv_recover.proofs.apply.write_piece.Goals as goal
