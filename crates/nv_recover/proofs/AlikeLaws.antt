@@ -1,13 +1,12 @@
 -- Images that say the same of the log recover to the same files, and an image whose log is empty to what the stores hold.
-use Rattle.std.proofs.Common.{◌≡◌, ◌≢◌, ◌⊎◌, ◌↔◌, inl, inr, ℕ, ◌+◌, ◌*◌, ◌%◌, ◌<◌, ◌≤◌, ◌==◌, Bool, true, false, min, if◌then◌else◌, List, [], ◌∷◌, ◌++◌, zero, suc, refl, sym, ap, ◌∙◌, subst, arith}
-use Rattle.std.proofs.lemmas.Bool.{cases_eq, eq-eqb, ne_eqb, false≢true}
-use Rattle.std.proofs.lemmas.Bool.Decides.{nat_tests}
+use Rattle.std.proofs.Common.{◌≡◌, ◌≢◌, ◌⊎◌, ◌↔◌, inl, inr, ℕ, ◌+◌, ◌*◌, ◌%◌, ◌<◌, ◌≤◌, ◌==◌, Bool, false, if◌then◌else◌, List, [], ◌∷◌, ◌++◌, zero, suc, refl, sym, ap, ◌∙◌, subst, arith}
+use Rattle.std.proofs.lemmas.Bool.{cases_eq, eq-eqb, ne_eqb}
 use Rattle.std.specs.Prelude.{filter, fold, take}
 use Rattle.std.specs.List.{flat_map, range_with_len}
 use Rattle.nv_plain.specs.Files.{Files, contents_of, with_contents, overwritten}
-use Rattle.nv_plain.specs.Images.{Image, PartImage, Header, header_of, entry_of, entry_at, slot_part, data_of, lines_bytes, line_bytes, lines_for}
+use Rattle.nv_plain.specs.Images.{Image, Header, header_of, entry_at, slot_part, data_of, line_bytes, lines_for}
 use Rattle.nv_plain.specs.Layouts.{Layout}
-use Rattle.nv_plain.specs.Recovered.{IsCommitted, IsInGroup, IsLeader, IsFollower, IsPiece, GoesOn, IsGroup, Fits, committed, group_numbers, next_after, with_entry, Recovered, recovered}
+use Rattle.nv_plain.specs.Recovered.{IsCommitted, IsInGroup, IsLeader, IsFollower, IsPiece, IsGroup, Fits, committed, group_numbers, next_after, with_entry, recovered}
 use Rattle.nv_recover.specs.Alike.{SayTheSame}
 
 -- ---- lists that are made alike

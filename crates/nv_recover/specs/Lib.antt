@@ -4,3 +4,4 @@ pub mod Groups
 pub mod Causes
 pub mod Telling
 pub mod Finding
+pub mod Applying

@@ -1,0 +1,120 @@
+-- The present states of a row of devices that all tell.
+use Rattle.std.proofs.Common.{◌≡◌, ◌≢◌, ℕ, ◌<◌, List, [], ◌∷◌, length, get_or, set, zero, suc, refl, sym, ap, ◌∙◌, subst, arith}
+use Rattle.std.proofs.lemmas.List.Elements.{All-head, All-tail, All-nil, All-cons}
+use Rattle.nv_pmem.specs.Rows.{RowTells}
+use Rattle.nv_recover.specs.Telling.{AllTell}
+
+-- the present state of a device
+pub record IsNow {S : Type 0} (history : List S) (now : S) : Type 0 where
+  pub past : List S
+  pub is : history ≡ now ∷ past
+
+-- the present states of a row
+abbrev pub AreNow : {S : Type 0} → List (List S) → List S → Type 0
+AreNow [] [] = Unit {0}
+AreNow [] (now ∷ states) = ⊥
+AreNow (history ∷ row) [] = ⊥
+AreNow (history ∷ row) (now ∷ states) = IsNow history now × AreNow row states
+
+nil_no_cons : {S : Type 0} (now : S) (past : List S) → [] ≢ now ∷ past
+nil_no_cons now past is = cc
+
+cons_same : {S : Type 0} (a b : S) (past other : List S) → a ∷ past ≡ b ∷ other → a ≡ b
+cons_same a b past other is = cc
+
+pub now_same : {S : Type 0} {history : List S} {a b : S} → IsNow history a → IsNow history b → a ≡ b
+now_same {history} {a} {b} one other = cons_same a b one.past other.past (sym one.is ∙ other.is)
+
+pub are_now_same : {S : Type 0} (row : List (List S)) (a b : List S) → AreNow row a → AreNow row b → a ≡ b
+are_now_same [] [] [] one other = refl
+are_now_same [] [] (y ∷ b) one other = absurd other
+are_now_same [] (x ∷ a) b one other = absurd one
+are_now_same (history ∷ row) [] b one other = absurd one
+are_now_same (history ∷ row) (x ∷ a) [] one other = absurd other
+are_now_same (history ∷ row) (x ∷ a) (y ∷ b) one other =
+    ap (λ s. s ∷ a) (now_same one.0 other.0) ∙ ap (λ rest. y ∷ rest) (are_now_same row a b one.1 other.1)
+
+-- What the present states have, the row tells, and the other way round.
+pub row_tells_from : {S : Type 0} (row : List (List S)) (P : List S → Type 0) → ((states : List S) → AreNow row states → P states) → RowTells row P
+row_tells_from [] P each = each [] tt
+row_tells_from ([] ∷ row) P each = tt
+row_tells_from ((now ∷ past) ∷ row) P each =
+    row_tells_from row (λ others. P (now ∷ others)) (λ others are. each (now ∷ others) (record { past = past; is = refl }, are))
+
+pub row_tells_at : {S : Type 0} (row : List (List S)) (P : List S → Type 0) (states : List S) → AreNow row states → RowTells row P → P states
+row_tells_at [] P [] are told = told
+row_tells_at [] P (now ∷ states) are told = absurd are
+row_tells_at ([] ∷ row) P [] are told = absurd are
+row_tells_at ([] ∷ row) P (now ∷ states) are told = absurd (nil_no_cons now are.0.past are.0.is)
+row_tells_at ((n ∷ past) ∷ row) P [] are told = absurd are
+row_tells_at {S} ((n ∷ past) ∷ row) P (now ∷ states) are told =
+    let Told : S → Type 0 = λ s. RowTells row (λ others. P (s ∷ others)) in
+    row_tells_at row (λ others. P (now ∷ others)) states are.1
+    (subst Told (cons_same n now past are.0.past are.0.is) told)
+
+-- a row of which all tell has present states, and a row that has them tells
+pub record Presents {S : Type 0} (row : List (List S)) : Type 0 where
+  pub states : List S
+  pub are : AreNow row states
+
+pub presents : {S : Type 0} (row : List (List S)) → AllTell row → Presents row
+presents [] tell = record { states = []; are = tt }
+presents {S} ([] ∷ row) tell = absurd (omega (arith, All-head (λ (history : List S). 0 < length history) [] row tell))
+presents {S} ((now ∷ past) ∷ row) tell =
+    let rest = presents row (All-tail (λ (history : List S). 0 < length history) (now ∷ past) row tell) in
+    record { states = now ∷ rest.states; are = (record { past = past; is = refl }, rest.are) }
+
+now_tells : {S : Type 0} (history : List S) (now : S) → IsNow history now → 0 < length history
+now_tells history now one = omega (arith, ap length one.is)
+
+pub presents_tell : {S : Type 0} (row : List (List S)) (states : List S) → AreNow row states → AllTell row
+presents_tell {S} [] states are = All-nil (λ (history : List S). 0 < length history)
+presents_tell (history ∷ row) [] are = absurd are
+presents_tell {S} (history ∷ row) (now ∷ states) are =
+    All-cons (λ (history : List S). 0 < length history) history row (now_tells history now are.0) (presents_tell row states are.1)
+
+pub presents_long : {S : Type 0} (row : List (List S)) (states : List S) → AreNow row states → length states ≡ length row
+presents_long [] [] are = refl
+presents_long [] (now ∷ states) are = absurd are
+presents_long (history ∷ row) [] are = absurd are
+presents_long (history ∷ row) (now ∷ states) are = ap suc (presents_long row states are.1)
+
+pub present_at : {S : Type 0} (row : List (List S)) (states : List S) (i : ℕ) (d : S) → i < length row → AreNow row states → IsNow (get_or row i []) (get_or states i d)
+present_at [] states i d inside are = absurd (omega arith)
+present_at (history ∷ row) [] i d inside are = absurd are
+present_at (history ∷ row) (now ∷ states) zero d inside are = are.0
+present_at (history ∷ row) (now ∷ states) (suc i) d inside are = present_at row states i d (omega arith) are.1
+
+-- the present states before and after one history of a row changed
+pub record OneChanged {S : Type 0} (row : List (List S)) (i : ℕ) (history : List S) (was now : List S) : Type 0 where
+  pub old : S
+  pub new : S
+  pub was_now : IsNow (get_or row i []) old
+  pub is_now : IsNow history new
+  pub old_is : (none : S) → get_or was i none ≡ old
+  pub is : now ≡ set was i new
+
+pub one_changed : {S : Type 0} (row : List (List S)) (i : ℕ) (history : List S) (was now : List S) → i < length row → AreNow row was → AreNow (set row i history) now → OneChanged row i history was now
+one_changed [] i history was now inside are were = absurd (omega arith)
+one_changed (h ∷ row) zero history [] now inside are were = absurd are
+one_changed (h ∷ row) zero history (w ∷ was) [] inside are were = absurd were
+one_changed (h ∷ row) zero history (w ∷ was) (n ∷ now) inside are were = record {
+  old = w;
+  new = n;
+  was_now = are.0;
+  is_now = were.0;
+  old_is = λ none. refl;
+  is = ap (λ rest. n ∷ rest) (are_now_same row now was were.1 are.1);
+}
+one_changed (h ∷ row) (suc i) history [] now inside are were = absurd are
+one_changed (h ∷ row) (suc i) history (w ∷ was) [] inside are were = absurd were
+one_changed (h ∷ row) (suc i) history (w ∷ was) (n ∷ now) inside are were =
+    let later = one_changed row i history was now (omega arith) are.1 were.1 in
+    record {
+      old = later.old;
+      new = later.new;
+      was_now = later.was_now;
+      is_now = later.is_now;
+      old_is = later.old_is;
+      is = ap (λ s. s ∷ now) (now_same were.0 are.0) ∙ ap (λ rest. w ∷ rest) later.is;
+    }

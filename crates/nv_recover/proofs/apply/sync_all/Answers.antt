@@ -1,0 +1,75 @@
+use Rattle.std.proofs.Common.{◌<◌, List, length, map, get_or, slice_set, refl, sym, ◌∙◌, subst, arith}
+use Rattle.std.proofs.Math.Seq.{map-set_same}
+use Rattle.std.proofs.lemmas.List.{length-map}
+use Rattle.nv_pmem.proofs.ReadLaws.{faults_set_same}
+use Rattle.nv_store.specs.Steps.{History, Sync}
+use Rattle.nv_recover.specs.Telling.{AllTell}
+use Rattle.nv_recover.proofs.StoreRows.{RowSynced, row_unsynced, row_synced_more, row_synced_images, row_synced_seen, row_synced_all, row_goes_on, did_tells}
+use Rattle.nv_recover.proofs.apply.sync_all.Goals as goal
+
+pub loop-store-init : goal.loop-store-init
+loop-store-init g c =
+    record { synced = row_unsynced (map g.B.Backing.history c.args.stores.now); tells = λ tell. tell; faults = refl; devices = refl }
+
+pub returns-in_err-sync-clause-images : goal.returns-in_err-sync-clause-images
+returns-in_err-sync-clause-images g c =
+    let old : List History = map g.B.Backing.history c.args.stores.now in
+    let i = c.loop-store.store-index in
+    let At : List History → Type 0 = λ row. RowSynced i old row in
+    row_synced_images g.B.Backing.history g.met.B.Backing.told_whole c.args.stores.now (map g.B.Backing.history (slice_set c.loop-store.stores i c.sync.new.self)) i
+    (subst At (sym (map-set_same g.B.Backing.history c.loop-store.stores i c.sync.new.self c.store-item.result c.in_err-sync.ensures.failed)) c.loop-store.invariant.synced)
+
+pub returns-in_err-sync-clause-seen : goal.returns-in_err-sync-clause-seen
+returns-in_err-sync-clause-seen g c =
+    let old : List History = map g.B.Backing.history c.args.stores.now in
+    let i = c.loop-store.store-index in
+    let At : List History → Type 0 = λ row. RowSynced i old row in
+    row_synced_seen old (map g.B.Backing.history (slice_set c.loop-store.stores i c.sync.new.self)) i
+    (subst At (sym (map-set_same g.B.Backing.history c.loop-store.stores i c.sync.new.self c.store-item.result c.in_err-sync.ensures.failed)) c.loop-store.invariant.synced)
+
+pub returns-in_err-sync-clause-tells : goal.returns-in_err-sync-clause-tells
+returns-in_err-sync-clause-tells g c =
+    let Tell : List History → Type 0 = λ row. AllTell (map g.B.Backing.history c.args.stores.now) → AllTell row in
+    subst Tell (sym (map-set_same g.B.Backing.history c.loop-store.stores c.loop-store.store-index c.sync.new.self c.store-item.result c.in_err-sync.ensures.failed))
+    c.loop-store.invariant.tells
+
+pub returns-in_err-sync-clause-devices : goal.returns-in_err-sync-clause-devices
+returns-in_err-sync-clause-devices g c =
+    map-set_same g.B.Backing.device c.loop-store.stores c.loop-store.store-index c.sync.new.self c.store-item.result c.sync.ensures.device
+    ∙ c.loop-store.invariant.devices
+
+pub loop-store-preserved : goal.loop-store-preserved
+loop-store-preserved g c =
+    let old : List History = map g.B.Backing.history c.args.stores.now in
+    let stores = c.loop-store.stores in
+    let i = c.loop-store.store-index in
+    let inside : i < length stores = omega arith in
+    record {
+      synced =
+          row_synced_more g.B.Backing.history old stores i c.store-item.result c.sync.new.self inside
+          (omega (arith, c.loop-store.auto.stores, length-map c.args.stores.now g.B.Backing.history)) c.loop-store.invariant.tells
+          c.in_ok-sync.ensures.done c.loop-store.invariant.synced;
+      tells = λ tell.
+          row_goes_on g.B.Backing.history stores i c.store-item.result c.sync.new.self inside
+          (did_tells Sync (g.B.Backing.history (get_or stores i c.store-item.result)) (g.B.Backing.history c.sync.new.self) c.in_ok-sync.ensures.done)
+          (c.loop-store.invariant.tells tell);
+      faults =
+          faults_set_same g.B.Backing.fault_count stores i c.sync.new.self c.store-item.result inside c.in_ok-sync.ensures.cause
+          ∙ c.loop-store.invariant.faults;
+      devices =
+          map-set_same g.B.Backing.device stores i c.sync.new.self c.store-item.result c.sync.ensures.device
+          ∙ c.loop-store.invariant.devices;
+    }
+
+pub returns-clause-images : goal.returns-clause-images
+returns-clause-images g c =
+    row_synced_images g.B.Backing.history g.met.B.Backing.told_whole c.args.stores.now (map g.B.Backing.history c.loop-store.stores) c.loop-store.store-index c.loop-store.invariant.synced
+
+pub returns-clause-synced : goal.returns-clause-synced
+returns-clause-synced g c =
+    row_synced_all (map g.B.Backing.history c.args.stores.now) (map g.B.Backing.history c.loop-store.stores) c.loop-store.store-index
+    (omega (arith, length-map c.args.stores.now g.B.Backing.history)) c.loop-store.invariant.synced
+
+pub returns-clause-seen : goal.returns-clause-seen
+returns-clause-seen g c =
+    row_synced_seen (map g.B.Backing.history c.args.stores.now) (map g.B.Backing.history c.loop-store.stores) c.loop-store.store-index c.loop-store.invariant.synced
