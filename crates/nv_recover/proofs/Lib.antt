@@ -1,2 +1,7 @@
 pub mod Overlays
 pub mod AlikeLaws
+pub mod TellLaws
+pub mod EmptyLaws
+pub mod EmptyParts
+pub mod EmptyRows
+pub mod MoveRows

@@ -3,3 +3,4 @@ pub mod Standing
 pub mod Groups
 pub mod Causes
 pub mod Telling
+pub mod Emptying

@@ -2,6 +2,7 @@
 //! emptied. Recovery may lose power itself, at any device call, and is then begun again.
 #![tactic(auto)]
 
+mod empty;
 mod error;
 mod group;
 
