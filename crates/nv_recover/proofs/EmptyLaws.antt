@@ -1,17 +1,14 @@
 -- Words that are cleared and a tail that moves: what images then say of the log.
-use Rattle.std.proofs.Common.{◌≡◌, ◌≢◌, ◌⊎◌, ◌↔◌, inl, inr, ℕ, ◌+◌, ◌*◌, ◌/◌, ◌%◌, ◌^◌, ◌<◌, ◌≤◌, List, take, map, refl, sym, ap, ◌∙◌, subst, arith}
-use Rattle.std.proofs.lemmas.Bool.{cases_eq}
+use Rattle.std.proofs.Common.{◌≡◌, ◌≢◌, ◌⊎◌, ◌↔◌, inl, inr, ℕ, ◌+◌, ◌*◌, ◌/◌, ◌%◌, ◌^◌, ◌<◌, ◌≤◌, List, take, map, sym, ap, ◌∙◌, subst, arith}
 use Rattle.std.specs.Prelude.{IsTrue}
 use Rattle.std.specs.Int.{to_le_bytes, w64}
 use Rattle.std.specs.List.{flat_map, range_with_len}
-use Rattle.nv_plain.specs.Images.{Image, PartImage, Header, header_of, entry_of, entry_at, name_of}
+use Rattle.nv_plain.specs.Images.{Image, header_of, entry_at, name_of}
 use Rattle.nv_plain.specs.Layouts.{version_1}
 use Rattle.nv_plain.specs.Recovered.{IsCommitted}
 use Rattle.nv_pmem.specs.Limits.{IsPageSize, IsEntryCount}
-use Rattle.nv_entry.specs.declared.bounds.Bounds.{Bounds}
-use Rattle.nv_entry.specs.Checks.{SaysBounds}
-use Rattle.nv_header.specs.Heads.{IsHead, HasFields, IsGoodName, first_names, length_of, room_of_name, is_record}
-use Rattle.nv_header.specs.Regions.{ReadsAs, HasNoneFrom, HasEmptyLog}
+use Rattle.nv_header.specs.Heads.{IsGoodName, first_names, length_of, room_of_name, is_record}
+use Rattle.nv_header.specs.Regions.{ReadsAs, HasEmptyLog}
 use Rattle.nv_recover.specs.Alike.{SayTheSame}
 use Rattle.nv_recover.specs.Emptying.{IsTrimmed, HasNoneAbove, CommitsNoneFrom}
 

@@ -1,5 +1,5 @@
 -- One part whose commit word is cleared, or whose tail moves: what its images are.
-use Rattle.std.proofs.Common.{◌≡◌, ◌≢◌, ◌⊎◌, ◌↔◌, inl, inr, ℕ, ◌<◌, ◌≤◌, List, [], ◌∷◌, length, refl, sym, ap, ◌∙◌, subst, arith}
+use Rattle.std.proofs.Common.{◌≡◌, ◌≢◌, ◌⊎◌, inl, inr, ℕ, ◌<◌, ◌≤◌, sym, ap, ◌∙◌, subst, arith}
 use Rattle.nv_plain.specs.Images.{PartImage}
 use Rattle.nv_pmem.specs.Images.{IsImage, InEachImage, IsOldOrStored, IsQuiet}
 use Rattle.nv_pmem.specs.Moments.{Tells, EachMoment}

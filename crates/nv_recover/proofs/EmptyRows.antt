@@ -1,25 +1,23 @@
 -- The parts of a region whose commit words are cleared, and whose tail moves then.
-use Rattle.std.proofs.Common.{◌≡◌, ◌≢◌, ◌⊎◌, ◌↔◌, inl, inr, ℕ, ◌+◌, ◌^◌, ◌<◌, ◌≤◌, List, [], ◌∷◌, length, map, get_or, slice_index_or, slice_set, zero, suc, refl, sym, ap, ◌∙◌, subst, arith}
+use Rattle.std.proofs.Common.{◌≡◌, ◌⊎◌, ◌↔◌, inl, inr, ℕ, ◌+◌, ◌<◌, ◌≤◌, List, [], length, map, get_or, slice_index_or, slice_set, refl, sym, ap, ◌∙◌, subst, arith}
 use Rattle.std.proofs.lemmas.Bool.{cases_eq, cases_lt}
 use Rattle.std.proofs.lemmas.List.{get_or_default, get_or-map, get_or_past, get_or-set_same, get_or-set_other, length-map, length-set, map-set}
 use Rattle.nv_plain.specs.Images.{Image}
-use Rattle.nv_plain.specs.Layouts.{version_1}
-use Rattle.nv_pmem.specs.Images.{IsImage, InEachImage, IsQuiet}
-use Rattle.nv_pmem.specs.Moments.{Tells}
+use Rattle.nv_pmem.specs.Images.{IsImage, IsQuiet}
 use Rattle.nv_pmem.specs.Part.{Part, word_of}
-use Rattle.nv_pmem.specs.Rows.{RowTells, IsRowImage, InEachRowImage}
+use Rattle.nv_pmem.specs.Rows.{RowTells, InEachRowImage}
 use Rattle.nv_pmem.specs.Steps.{History}
 use Rattle.nv_pmem.proofs.ImageLaws.{quiet_image}
-use Rattle.nv_pmem.proofs.RowLaws.{row_image_of_now, row_tells_more, row_tells_both}
+use Rattle.nv_pmem.proofs.RowLaws.{row_tells_both}
 use Rattle.nv_entry.specs.declared.bounds.Bounds.{Bounds}
 use Rattle.nv_entry.specs.Checks.{SaysBounds, region_words}
-use Rattle.nv_header.specs.Regions.{AreQuiet, ReadsAs, HasEmptyLog, IsAtRest}
+use Rattle.nv_header.specs.Regions.{AreQuiet}
 use Rattle.nv_recover.specs.Alike.{SayTheSame}
-use Rattle.nv_recover.specs.Emptying.{BothTell, RowsTell, IsTrimmed, MayBeTrimmed, HasSmallWord, HasNoneAbove, CommitsNoneFrom, SaysTheSameOrEmpty}
+use Rattle.nv_recover.specs.Emptying.{BothTell, RowsTell, MayBeTrimmed, HasSmallWord, HasNoneAbove}
 use Rattle.nv_recover.specs.Telling.{AllTell}
-use Rattle.nv_recover.proofs.EmptyLaws.{same_words, same_trimmed, same_same, none_too, reads_too, moved_empty}
-use Rattle.nv_recover.proofs.EmptyParts.{IsMoved, MayBeMoved, HasTail, same_untrimmed, untrimmed}
-use Rattle.nv_recover.proofs.TellLaws.{both_itself, both_more, both_both, EachPair, rows_each, rows_more, rows_new, rows_rows, tells_set}
+use Rattle.nv_recover.proofs.EmptyLaws.{same_trimmed}
+use Rattle.nv_recover.proofs.EmptyParts.{same_untrimmed, untrimmed}
+use Rattle.nv_recover.proofs.TellLaws.{both_itself, both_more, both_both, EachPair, rows_each, rows_more, rows_new, tells_set}
 
 -- ---- a part in its row
 
@@ -54,8 +52,8 @@ cleared_more most count old between history before inside trimmed small tells =
     record {
       long = length-set between i history ∙ before.long;
       untouched = λ j apart.
-          get_or-set_other between i j history [] (elim apart [ | inl first ↦ omega arith | inr past ↦ omega arith ])
-          ∙ before.untouched j (elim apart [ | inl first ↦ inl first | inr past ↦ inr (omega arith) ]);
+          get_or-set_other between i j history [] (elim apart [ inl first ↦ omega arith | inr past ↦ omega arith ])
+          ∙ before.untouched j (elim apart [ inl first ↦ inl first | inr past ↦ inr (omega arith) ]);
       cleared = λ j some few. elim (cases_eq j i) [
         | inl same ↦
             let Old : History → Type 0 = λ these. BothTell these history Both in

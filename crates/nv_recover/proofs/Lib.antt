@@ -5,3 +5,4 @@ pub mod EmptyLaws
 pub mod EmptyParts
 pub mod EmptyRows
 pub mod MoveRows
+pub mod HeadRows

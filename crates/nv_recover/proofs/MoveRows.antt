@@ -1,17 +1,16 @@
 -- The parts of a region whose tail moves.
-use Rattle.std.proofs.Common.{◌≡◌, ◌≢◌, ◌⊎◌, ◌↔◌, inl, inr, ℕ, ◌+◌, ◌^◌, ◌<◌, ◌≤◌, List, [], ◌∷◌, length, map, get_or, slice_index_or, slice_set, zero, suc, refl, sym, ap, ◌∙◌, subst, arith}
+use Rattle.std.proofs.Common.{◌≡◌, ◌≢◌, inl, inr, ℕ, ◌^◌, ◌≤◌, List, [], length, map, get_or, slice_index_or, slice_set, zero, suc, refl, sym, ap, ◌∙◌, subst, arith}
 use Rattle.std.proofs.lemmas.Bool.{cases_eq, cases_lt}
 use Rattle.std.proofs.lemmas.List.{get_or_past, get_or-set_same, get_or-set_other, length-map, length-set, map-set}
 use Rattle.nv_plain.specs.Images.{Image}
 use Rattle.nv_plain.specs.Layouts.{version_1}
-use Rattle.nv_pmem.specs.Images.{IsImage, InEachImage, IsQuiet}
-use Rattle.nv_pmem.specs.Part.{Part, word_of}
+use Rattle.nv_pmem.specs.Images.{IsQuiet}
+use Rattle.nv_pmem.specs.Part.{Part}
 use Rattle.nv_pmem.specs.Rows.{RowTells, IsRowImage, InEachRowImage}
 use Rattle.nv_pmem.specs.Steps.{History}
 use Rattle.nv_pmem.proofs.RowLaws.{row_image_of_now, row_tells_more, row_tells_both}
-use Rattle.nv_entry.specs.declared.bounds.Bounds.{Bounds}
-use Rattle.nv_entry.specs.Checks.{SaysBounds, region_words}
-use Rattle.nv_header.specs.Regions.{AreQuiet, ReadsAs, HasEmptyLog, IsAtRest}
+use Rattle.nv_entry.specs.Checks.{region_words}
+use Rattle.nv_header.specs.Regions.{AreQuiet, ReadsAs, IsAtRest}
 use Rattle.nv_recover.specs.Alike.{SayTheSame}
 use Rattle.nv_recover.specs.Emptying.{BothTell, RowsTell, HasNoneAbove, CommitsNoneFrom, SaysTheSameOrEmpty}
 use Rattle.nv_recover.specs.Telling.{AllTell}

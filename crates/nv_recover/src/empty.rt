@@ -1,4 +1,4 @@
-ghost use Rattle.std.specs.Prelude.{◌≡◌, ℕ, ◌+◌, ◌^◌, ◌<◌, ◌≤◌, ◌↔◌, List, [], length, map, sum_by, slice_index_or, OnOk};
+ghost use Rattle.std.specs.Prelude.{◌≡◌, ℕ, ◌+◌, ◌^◌, ◌<◌, ◌≤◌, ◌↔◌, List, length, map, sum_by, OnOk};
 ghost use Rattle.nv_plain.specs.Faults.{HasCause};
 ghost use Rattle.nv_plain.specs.Layouts.{version_1};
 ghost use Rattle.nv_pmem.specs.Rows.{RowTells, InEachRowImage};
@@ -29,7 +29,7 @@ pub(crate) fn empty_log<L: Lines>(
     ensures same { (names : List (List ℕ))
         → RowTells (map L.history parts.old) (λ was. ReadsAs version_1 bounds.now.page bounds.now.entries names bounds.now.tail (region_words was))
         → RowsTell (map L.history parts.old) (map L.history parts.new) (λ was.
-            InEachRowImage (SaysTheSameOrEmpty bounds.now.page bounds.now.entries names next (region_words was))) }
+        InEachRowImage (SaysTheSameOrEmpty bounds.now.page bounds.now.entries names next (region_words was))) }
     ensures rest { OnOk result ((names : List (List ℕ))
         → RowTells (map L.history parts.old) (λ was. ReadsAs version_1 bounds.now.page bounds.now.entries names bounds.now.tail (region_words was))
         → RowTells (map L.history parts.new) (IsAtRest version_1 bounds.now.page bounds.now.entries names next)) }
@@ -51,7 +51,6 @@ fn clear_words<L: Lines>(parts: &mut [L], bounds: &Bounds) -> Result<(), RegionF
     ensures same { RowsTell (map L.history parts.old) (map L.history parts.new) (λ was. InEachRowImage (SayTheSame (region_words was))) }
     ensures cleared { OnOk result (RowTells (map L.history parts.new) (λ now. HasNoneAbove (region_words now))) }
     ensures quiet { OnOk result (RowTells (map L.history parts.new) AreQuiet) }
-    ensures header { slice_index_or (map L.history parts.new) 0 [] ≡ slice_index_or (map L.history parts.old) 0 [] }
     ensures parts { OnOk result (HasParts version_1 bounds.now.page bounds.now.entries (map L.room parts.new)) }
     ensures lines { map (λ part. (L.room part).lines) parts.new ≡ map (λ part. (L.room part).lines) parts.old }
     ensures tells { AllTell (map L.history parts.old) ↔ AllTell (map L.history parts.new) }

@@ -1,4 +1,4 @@
-use Rattle.std.proofs.Common.{◌≡◌, ◌↔◌, ◌<◌, length, ap, subst}
+use Rattle.std.proofs.Common.{◌↔◌, ◌<◌, length, subst}
 use Rattle.nv_pmem.specs.Steps.{History}
 use Rattle.nv_recover.proofs.EmptyParts.{same_untrimmed, stored_trimmed, stored_small, same_small}
 use Rattle.nv_recover.proofs.TellLaws.{some_tells}
@@ -36,3 +36,8 @@ returns-in_ok-store_durably-clause-tells g c =
 pub returns-else-branch-most-clause-trimmed : goal.returns-else-branch-most-clause-trimmed
 returns-else-branch-most-clause-trimmed g c =
     same_untrimmed c.args.most (g.L.Lines.history c.args.part.now) (g.L.Lines.history c.load.new.self) c.load.ensures.history
+
+pub returns-else-branch-most-clause-cleared : goal.returns-else-branch-most-clause-cleared
+returns-else-branch-most-clause-cleared g c =
+    same_small c.args.most c.in_ok-load.field-0 (g.L.Lines.history c.args.part.now) (g.L.Lines.history c.load.new.self) c.load.ensures.history
+    c.if-branch-most.false c.in_ok-load.ensures.value
