@@ -7,7 +7,8 @@ use Rattle.nv_pmem.specs.Images.{InEachImage, IsQuiet}
 use Rattle.nv_pmem.specs.Moments.{Tells}
 use Rattle.nv_pmem.specs.Part.{Part, word_of}
 use Rattle.nv_pmem.specs.Rows.{RowTells}
-use Rattle.nv_header.specs.Regions.{HasEmptyLog}
+use Rattle.nv_entry.specs.declared.bounds.Bounds.{Bounds}
+use Rattle.nv_header.specs.Regions.{ReadsAs, HasEmptyLog}
 use Rattle.nv_recover.specs.Alike.{SayTheSame}
 
 -- what a call makes of a device's state, where the device tells
@@ -33,12 +34,18 @@ HasSmallWord most was now = IsQuiet was → IsQuiet now × (word_of now 0 0 ≤ 
 
 -- No entry has a commit word past the window of the tail.
 pub record HasNoneAbove (image : Image) : Type 0 where
-  pub low : (slot : ℕ) → 1 ≤ slot → slot ≤ (header_of image).entries → (entry_of (image slot)).commit ≤ (header_of image).tail + (header_of image).entries
+  pub low : (slot : ℕ) → 1 ≤ slot → slot ≤ (header_of image).entries
+      → (entry_of (image slot)).commit ≤ (header_of image).tail + (header_of image).entries
 
 -- no number from this one on is committed
 abbrev pub CommitsNoneFrom : ℕ → Image → Type 0
 CommitsNoneFrom next image = (number : ℕ) → next ≤ number → ¬ IsCommitted image number
 
+-- the header can be read, and it says these bounds and names
+abbrev pub SaysBoundsAndNames : Bounds → List (List ℕ) → Image → Type 0
+SaysBoundsAndNames bounds names image = ReadsAs version_1 bounds.page bounds.entries names bounds.tail image
+
 -- an image says the same of the log as another, or the log is empty and goes on with this number
 abbrev pub SaysTheSameOrEmpty : (page entries : ℕ) → List (List ℕ) → (next : ℕ) → Image → Image → Type 0
-SaysTheSameOrEmpty page entries names next was image = SayTheSame was image ⊎ HasEmptyLog version_1 page entries names next image
+SaysTheSameOrEmpty page entries names next was image =
+    SayTheSame was image ⊎ HasEmptyLog version_1 page entries names next image

@@ -3,9 +3,9 @@ ghost use Rattle.nv_plain.specs.Faults.{HasCause};
 ghost use Rattle.nv_plain.specs.Layouts.{version_1};
 ghost use Rattle.nv_pmem.specs.Rows.{RowTells, InEachRowImage};
 ghost use Rattle.nv_entry.specs.Checks.{SaysBounds, region_words};
-ghost use Rattle.nv_header.specs.Regions.{AreQuiet, HasParts, IsAtRest, ReadsAs, StaysRoomy};
+ghost use Rattle.nv_header.specs.Regions.{AreQuiet, HasParts, IsAtRest, StaysRoomy};
 ghost use Rattle.nv_recover.specs.Alike.{SayTheSame};
-ghost use Rattle.nv_recover.specs.Emptying.{BothTell, RowsTell, MayBeTrimmed, HasSmallWord, HasNoneAbove, CommitsNoneFrom, SaysTheSameOrEmpty};
+ghost use Rattle.nv_recover.specs.Emptying.{BothTell, RowsTell, MayBeTrimmed, HasSmallWord, HasNoneAbove, CommitsNoneFrom, SaysBoundsAndNames, SaysTheSameOrEmpty};
 ghost use Rattle.nv_recover.specs.Telling.{AllTell};
 
 use nv_entry::Bounds;
@@ -27,11 +27,11 @@ pub(crate) fn empty_log<L: Lines>(
     requires from_tail { bounds.now.tail ≤ next }
     requires number { next ≤ 2 ^ 60 }
     ensures same { (names : List (List ℕ))
-        → RowTells (map L.history parts.old) (λ was. ReadsAs version_1 bounds.now.page bounds.now.entries names bounds.now.tail (region_words was))
+        → RowTells (map L.history parts.old) (λ was. SaysBoundsAndNames bounds.now names (region_words was))
         → RowsTell (map L.history parts.old) (map L.history parts.new) (λ was.
         InEachRowImage (SaysTheSameOrEmpty bounds.now.page bounds.now.entries names next (region_words was))) }
     ensures rest { OnOk result ((names : List (List ℕ))
-        → RowTells (map L.history parts.old) (λ was. ReadsAs version_1 bounds.now.page bounds.now.entries names bounds.now.tail (region_words was))
+        → RowTells (map L.history parts.old) (λ was. SaysBoundsAndNames bounds.now names (region_words was))
         → RowTells (map L.history parts.new) (IsAtRest version_1 bounds.now.page bounds.now.entries names next)) }
     ensures parts { OnOk result (HasParts version_1 bounds.now.page bounds.now.entries (map L.room parts.new)) }
     ensures lines { map (λ part. (L.room part).lines) parts.new ≡ map (λ part. (L.room part).lines) parts.old }
@@ -48,7 +48,8 @@ fn clear_words<L: Lines>(parts: &mut [L], bounds: &Bounds) -> Result<(), RegionF
     requires parts { HasParts version_1 bounds.now.page bounds.now.entries (map L.room parts.old) }
     requires header { RowTells (map L.history parts.old) (λ parts. SaysBounds bounds.now (region_words parts)) }
     requires quiet { RowTells (map L.history parts.old) AreQuiet }
-    ensures same { RowsTell (map L.history parts.old) (map L.history parts.new) (λ was. InEachRowImage (SayTheSame (region_words was))) }
+    ensures same { RowsTell (map L.history parts.old) (map L.history parts.new)
+        (λ was. InEachRowImage (SayTheSame (region_words was))) }
     ensures cleared { OnOk result (RowTells (map L.history parts.new) (λ now. HasNoneAbove (region_words now))) }
     ensures quiet { OnOk result (RowTells (map L.history parts.new) AreQuiet) }
     ensures parts { OnOk result (HasParts version_1 bounds.now.page bounds.now.entries (map L.room parts.new)) }
