@@ -27,7 +27,8 @@ use Rattle.nv_header.specs.HeaderSteps.{name_record, record_steps, add_file_step
 use Rattle.nv_header.specs.Heads.{IsHead, HasFields, IsGoodName, first_names, record_line, length_of, room_of_name, is_record}
 use Rattle.nv_header.specs.Regions.{part_lines, AreQuiet, ReadsAs, HasNoneFrom, HasEmptyLog, IsAtRest}
 use Rattle.nv_header.proofs.FormatLaws.{HasRoom, only_stores}
-use Rattle.nv_header.proofs.Joined.{joined-same, joined-parts, joined-after_one, map-same}
+use Rattle.nv_header.proofs.Joined.{joined-parts, joined-after_one, map-same}
+use Rattle.nv_header.proofs.Ranges.{flat_map-same}
 
 -- ---- a record in words
 
@@ -64,7 +65,7 @@ record_room name words fits are each =
     let back = padded name 56 in
     let long = length-padded name 56 fits in
     joined-after_one (λ k. to_le_bytes w64 (words k)) 0 7
-    ∙ joined-same (λ k. to_le_bytes w64 (words (1 + k))) (λ k. take 8 (drop (8 * k) back)) 0 7 (λ k low high.
+    ∙ flat_map-same (λ k. to_le_bytes w64 (words (1 + k))) (λ k. take 8 (drop (8 * k) back)) 0 7 (λ k low high.
     let index : 8 * (1 + k) ≡ 8 + 8 * k = omega arith in
     let part : drop (8 * (1 + k)) (front ++ back) ≡ drop (8 * k) back = ap (λ n. drop n (front ++ back)) index ∙ drop-append-add front back (8 * k) in
     le_bytes_8 (take 8 (drop (8 * k) back)) (words (1 + k)) (omega (arith, length-take 8 (drop (8 * k) back), length-drop (8 * k) back))
@@ -89,7 +90,7 @@ SameRecord image before j = (k : ℕ) → k < 8 → image 0 (record_line version
 
 room_in_line : (image : Image) (j : ℕ) → room_of_name version_1 image j ≡ flat_map (λ k. to_le_bytes w64 (image 0 (record_line version_1 j) k)) (range_with_len 1 7)
 room_in_line image j =
-    joined-same (λ k. to_le_bytes w64 (image 0 (record_line version_1 j + k / 8) (k % 8))) (λ k. to_le_bytes w64 (image 0 (record_line version_1 j) k)) 1 7 (λ k low high.
+    flat_map-same (λ k. to_le_bytes w64 (image 0 (record_line version_1 j + k / 8) (k % 8))) (λ k. to_le_bytes w64 (image 0 (record_line version_1 j) k)) 1 7 (λ k low high.
     let line : record_line version_1 j + k / 8 ≡ record_line version_1 j = omega arith in
     let word : k % 8 ≡ k = omega arith in
     ap (λ n. to_le_bytes w64 (image 0 n (k % 8))) line ∙ ap (λ n. to_le_bytes w64 (image 0 (record_line version_1 j) n)) word)
@@ -97,7 +98,7 @@ room_in_line image j =
 same_room : (image before : Image) (j : ℕ) → SameRecord image before j → room_of_name version_1 image j ≡ room_of_name version_1 before j
 same_room image before j same =
     room_in_line image j
-    ∙ joined-same (λ k. to_le_bytes w64 (image 0 (record_line version_1 j) k)) (λ k. to_le_bytes w64 (before 0 (record_line version_1 j) k)) 1 7 (λ k low high. ap (to_le_bytes w64) (same k (omega arith)))
+    ∙ flat_map-same (λ k. to_le_bytes w64 (image 0 (record_line version_1 j) k)) (λ k. to_le_bytes w64 (before 0 (record_line version_1 j) k)) 1 7 (λ k low high. ap (to_le_bytes w64) (same k (omega arith)))
     ∙ sym (room_in_line before j)
 
 same_name : (image before : Image) (j : ℕ) → SameRecord image before j → name_of version_1 image j ≡ name_of version_1 before j
@@ -207,7 +208,6 @@ and_all : (a b c : Bool) → a ≡ true → b ≡ true → c ≡ true → (a && 
 and_all a b c p q r = rw (p, q, r) refl
 
 record_good : (name room : List ℕ) (count : ℕ) → IsTrue (is_name 56 name) → count ≡ length name → room ≡ padded name 56 → IsTrue (is_record 56 count room)
-unfolding is_record
 record_good name room count allowed count_is_length room_is =
     let fits = name_fits name allowed in
     let front : take count room ≡ name = ap (λ n. take n room) count_is_length ∙ ap (take (length name)) room_is ∙ take_at name (replicate (56 - length name) 0) (length name) refl in

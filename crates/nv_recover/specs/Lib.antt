@@ -5,3 +5,4 @@ pub mod Causes
 pub mod Telling
 pub mod Finding
 pub mod Applying
+pub mod Emptying

@@ -3,6 +3,7 @@
 #![tactic(auto)]
 
 mod apply;
+mod empty;
 mod error;
 mod group;
 mod groups;

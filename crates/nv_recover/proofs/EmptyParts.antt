@@ -1,0 +1,105 @@
+-- One part whose commit word is cleared, or whose tail moves: what its images are.
+use Rattle.std.proofs.Common.{◌≡◌, ◌≢◌, ◌⊎◌, inl, inr, ℕ, ◌<◌, ◌≤◌, sym, ap, ◌∙◌, subst, arith}
+use Rattle.nv_plain.specs.Images.{PartImage}
+use Rattle.nv_pmem.specs.Images.{IsImage, InEachImage, IsOldOrStored, IsQuiet}
+use Rattle.nv_pmem.specs.Moments.{Tells, EachMoment}
+use Rattle.nv_pmem.specs.Part.{Part, word_of}
+use Rattle.nv_pmem.specs.Steps.{History}
+use Rattle.nv_pmem.proofs.ImageLaws.{image_of_now, quiet_image}
+use Rattle.nv_recover.specs.Emptying.{BothTell, IsTrimmed, MayBeTrimmed, HasSmallWord}
+use Rattle.nv_recover.proofs.TellLaws.{both_itself, both_more, both_both, both_old, both_new, both_step, both_moments}
+
+-- ---- a part that isn't changed
+
+pub untrimmed : (most : ℕ) (was now : Part) → now ≡ was → MayBeTrimmed most was now
+untrimmed most was now same quiet image is =
+    let At : Part → Type 0 = λ part. IsImage part image in
+    let words = λ (line word : ℕ). quiet_image was image line word (quiet.lines line) (subst At same is) in
+    record { others = λ line word apart. words line word; commit = inl (words 0 0) }
+
+pub same_untrimmed : (most : ℕ) (old new : History) → new ≡ old → BothTell old new (MayBeTrimmed most)
+same_untrimmed most old new same =
+    let At : History → Type 0 = λ history. BothTell old history (MayBeTrimmed most) in
+    subst At (sym same) (both_more old old (λ was now. now ≡ was) (MayBeTrimmed most) (untrimmed most) (both_itself old))
+
+-- its word was small
+pub same_small : (most value : ℕ) (old new : History) → new ≡ old → value ≤ most → Tells old (λ was. value ≡ word_of was 0 0) → BothTell old new (HasSmallWord most)
+same_small most value old new same small loaded =
+    let At : History → Type 0 = λ history. BothTell old history (HasSmallWord most) in
+    subst At (sym same)
+    (both_more old old (λ was now. (value ≡ word_of was 0 0) × (now ≡ was)) (HasSmallWord most)
+    (λ was now both quiet.
+    let Quiet : Part → Type 0 = IsQuiet in
+    (subst Quiet (sym both.1) quiet, omega (arith, both.0, ap (λ (part : Part). word_of part 0 0) both.1)))
+    (both_both old old (λ was now. value ≡ word_of was 0 0) (λ was now. now ≡ was) (both_old old old (λ was. value ≡ word_of was 0 0) loaded) (both_itself old)))
+
+-- ---- a part whose commit word is cleared
+
+trimmed : (most value : ℕ) (was : Part) (image : PartImage) → value ≡ word_of was 0 0 → most < value → IsQuiet was → IsOldOrStored was 0 0 0 image → IsTrimmed most (word_of was) image
+trimmed most value was image loaded above quiet stored =
+    let before = λ (line word : ℕ). quiet_image was stored.before line word (quiet.lines line) stored.is in
+    record {
+      others = λ line word apart. stored.others line word apart ∙ before line word;
+      commit = elim stored.stored [
+        | inl kept ↦ inl (kept ∙ before 0 0)
+        | inr cleared ↦ inr (cleared, omega (arith, loaded))
+      ];
+    }
+
+pub stored_trimmed : (most value : ℕ) (old between new : History) → between ≡ old → most < value → Tells old (λ was. value ≡ word_of was 0 0) → Tells between (λ was. EachMoment (InEachImage (IsOldOrStored was 0 0 0)) between new) → BothTell old new (MayBeTrimmed most)
+stored_trimmed most value old between new same above loaded moments =
+    let At : History → Type 0 = λ history. Tells history (λ was. EachMoment (InEachImage (IsOldOrStored was 0 0 0)) history new) in
+    let Loaded : Part → Part → Type 0 = λ was now. value ≡ word_of was 0 0 in
+    let Stored : Part → Part → Type 0 = λ was. InEachImage (IsOldOrStored was 0 0 0) in
+    both_more old new (λ was now. Loaded was now × Stored was now) (MayBeTrimmed most)
+    (λ was now both quiet image is. trimmed most value was image both.0 above quiet (both.1 image is))
+    (both_both old new Loaded Stored (both_old old new (λ was. value ≡ word_of was 0 0) loaded)
+    (both_moments old new Stored (subst At same moments)))
+
+-- and its word is small then
+pub stored_small : (most : ℕ) (old between new : History) → between ≡ old → Tells new (InEachImage (λ image. image 0 0 ≡ 0)) → (Tells between IsQuiet → Tells new IsQuiet) → BothTell old new (HasSmallWord most)
+stored_small most old between new same cleared quiet =
+    let Still : History → Type 0 = λ history. Tells history IsQuiet → Tells new IsQuiet in
+    let Quiet : Part → Part → Type 0 = λ was now. IsQuiet was → IsQuiet now in
+    let Cleared : Part → Type 0 = InEachImage (λ image. image 0 0 ≡ 0) in
+    both_more old new (λ was now. Quiet was now × Cleared now) (HasSmallWord most)
+    (λ was now both was_quiet. (both.0 was_quiet, omega (arith, both.1 (word_of now) (image_of_now now))))
+    (both_both old new Quiet (λ was now. Cleared now) (both_step old new IsQuiet IsQuiet (subst Still same quiet)) (both_new old new Cleared cleared))
+
+-- ---- a part whose tail moves
+
+-- its words are those of before, but that the tail may be this one
+pub record IsMoved (next : ℕ) (was image : PartImage) : Type 0 where
+  pub others : (line word : ℕ) → (line ≢ 1) ⊎ (word ≢ 0) → image line word ≡ was line word
+  pub tail : (image 1 0 ≡ was 1 0) ⊎ (image 1 0 ≡ next)
+
+abbrev pub MayBeMoved : ℕ → Part → Part → Type 0
+MayBeMoved next was now = IsQuiet was → InEachImage (IsMoved next (word_of was)) now
+
+moved : (next : ℕ) (was : Part) (image : PartImage) → IsQuiet was → IsOldOrStored was 1 0 next image → IsMoved next (word_of was) image
+moved next was image quiet stored =
+    let before = λ (line word : ℕ). quiet_image was stored.before line word (quiet.lines line) stored.is in
+    record {
+      others = λ line word apart. stored.others line word apart ∙ before line word;
+      tail = elim stored.stored [
+        | inl kept ↦ inl (kept ∙ before 1 0)
+        | inr new ↦ inr new
+      ];
+    }
+
+pub stored_moved : (next : ℕ) (old new : History) → Tells old (λ was. EachMoment (InEachImage (IsOldOrStored was 1 0 next)) old new) → BothTell old new (MayBeMoved next)
+stored_moved next old new moments =
+    let Stored : Part → Part → Type 0 = λ was. InEachImage (IsOldOrStored was 1 0 next) in
+    both_more old new Stored (MayBeMoved next) (λ was now stored quiet image is. moved next was image quiet (stored image is))
+    (both_moments old new Stored moments)
+
+-- a part that was quiet is so, and in each image the tail is this one
+abbrev pub HasTail : ℕ → Part → Part → Type 0
+HasTail next was now = IsQuiet was → IsQuiet now × InEachImage (λ image. image 1 0 ≡ next) now
+
+pub stored_tail : (next : ℕ) (old new : History) → Tells new (InEachImage (λ image. image 1 0 ≡ next)) → (Tells old IsQuiet → Tells new IsQuiet) → BothTell old new (HasTail next)
+stored_tail next old new tail quiet =
+    let Quiet : Part → Part → Type 0 = λ was now. IsQuiet was → IsQuiet now in
+    let Tail : Part → Type 0 = InEachImage (λ image. image 1 0 ≡ next) in
+    both_more old new (λ was now. Quiet was now × Tail now) (HasTail next) (λ was now both was_quiet. (both.0 was_quiet, both.1))
+    (both_both old new Quiet (λ was now. Tail now) (both_step old new IsQuiet IsQuiet quiet) (both_new old new Tail tail))

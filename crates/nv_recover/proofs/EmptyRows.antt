@@ -1,0 +1,255 @@
+-- The parts of a region whose commit words are cleared, and whose tail moves then.
+use Rattle.std.proofs.Common.{◌≡◌, ◌⊎◌, ◌↔◌, inl, inr, ℕ, ◌+◌, ◌<◌, ◌≤◌, List, [], length, map, get_or, slice_index_or, slice_set, refl, sym, ap, ◌∙◌, subst, arith}
+use Rattle.std.proofs.lemmas.Bool.{cases_eq, cases_lt}
+use Rattle.std.proofs.lemmas.List.{get_or_default, get_or-map, get_or_past, get_or-set_same, get_or-set_other, length-map, length-set, map-set}
+use Rattle.nv_plain.specs.Images.{Image}
+use Rattle.nv_pmem.specs.Images.{IsImage, IsQuiet}
+use Rattle.nv_pmem.specs.Part.{Part, word_of}
+use Rattle.nv_pmem.specs.Rows.{RowTells, InEachRowImage}
+use Rattle.nv_pmem.specs.Steps.{History}
+use Rattle.nv_pmem.proofs.ImageLaws.{quiet_image}
+use Rattle.nv_pmem.proofs.RowLaws.{row_tells_both}
+use Rattle.nv_entry.specs.declared.bounds.Bounds.{Bounds}
+use Rattle.nv_entry.specs.Checks.{SaysBounds, region_words}
+use Rattle.nv_header.specs.Regions.{AreQuiet}
+use Rattle.nv_recover.specs.Alike.{SayTheSame}
+use Rattle.nv_recover.specs.Emptying.{BothTell, RowsTell, MayBeTrimmed, HasSmallWord, HasNoneAbove}
+use Rattle.nv_recover.specs.Telling.{AllTell}
+use Rattle.nv_recover.proofs.EmptyLaws.{same_trimmed}
+use Rattle.nv_recover.proofs.EmptyParts.{same_untrimmed, untrimmed}
+use Rattle.nv_recover.proofs.TellLaws.{both_itself, both_more, both_both, EachPair, rows_each, rows_more, rows_new, tells_set}
+
+-- ---- a part in its row
+
+pub part_history : {X : Type 0} (history : X → History) (parts : List X) (i : ℕ) (was d : X) → i < length parts → was ≡ get_or parts i d → history was ≡ slice_index_or (map history parts) i []
+part_history history parts i was d inside is = ap history is ∙ sym (get_or-map history parts i d [] inside)
+
+-- ---- the words that are cleared, part by part
+
+-- The commit words of the first so many entries are cleared, and no other part is touched.
+pub record AreClearedTo (most count : ℕ) (old new : List History) : Type 0 where
+  pub long : length new ≡ length old
+  pub untouched : (i : ℕ) → (i ≡ 0) ⊎ (count < i) → slice_index_or new i [] ≡ slice_index_or old i []
+  pub cleared : (i : ℕ) → 1 ≤ i → i ≤ count → BothTell (slice_index_or old i []) (slice_index_or new i []) (λ was now. MayBeTrimmed most was now × HasSmallWord most was now)
+  pub tells : AllTell old ↔ AllTell new
+
+pub cleared_none : (most : ℕ) (row : List History) → AreClearedTo most 0 row row
+cleared_none most row = record {
+  long = refl;
+  untouched = λ i apart. refl;
+  cleared = λ i some few. absurd (omega arith);
+  tells = (λ all. all, λ all. all);
+}
+
+-- one more
+pub cleared_more : (most count : ℕ) (old between : List History) (history : History) → AreClearedTo most count old between → 1 + count < length between
+    → BothTell (slice_index_or between (1 + count) []) history (MayBeTrimmed most) → BothTell (slice_index_or between (1 + count) []) history (HasSmallWord most)
+    → (0 < length (slice_index_or between (1 + count) [])) ↔ (0 < length history) → AreClearedTo most (count + 1) old (slice_set between (1 + count) history)
+cleared_more most count old between history before inside trimmed small tells =
+    let i = 1 + count in
+    let Both : Part → Part → Type 0 = λ was now. MayBeTrimmed most was now × HasSmallWord most was now in
+    let set = tells_set between i history tells in
+    record {
+      long = length-set between i history ∙ before.long;
+      untouched = λ j apart.
+          get_or-set_other between i j history [] (elim apart [ inl first ↦ omega arith | inr past ↦ omega arith ])
+          ∙ before.untouched j (elim apart [ inl first ↦ inl first | inr past ↦ inr (omega arith) ]);
+      cleared = λ j some few. elim (cases_eq j i) [
+        | inl same ↦
+            let Old : History → Type 0 = λ these. BothTell these history Both in
+            let New : History → Type 0 = λ these. BothTell (slice_index_or old j []) these Both in
+            let old_is : slice_index_or between i [] ≡ slice_index_or old j [] =
+            ap (λ k. slice_index_or between k []) (sym same) ∙ before.untouched j (inr (omega arith)) in
+            subst New (sym (ap (λ k. slice_index_or (slice_set between i history) k []) same ∙ get_or-set_same between i history [] inside))
+            (subst Old old_is (both_both (slice_index_or between i []) history (MayBeTrimmed most) (HasSmallWord most) trimmed small))
+        | inr differs ↦
+            let New : History → Type 0 = λ these. BothTell (slice_index_or old j []) these Both in
+            subst New (sym (get_or-set_other between i j history [] differs)) (before.cleared j some (omega arith))
+      ];
+      tells = (λ all. set.0 (before.tells.0 all), λ all. before.tells.1 (set.1 all));
+    }
+
+-- ---- what that makes of the row
+
+-- part i of a row: the header is the same, and any part trimmed at most
+pub record IsKept (most i : ℕ) (was now : Part) : Type 0 where
+  pub header : i ≡ 0 → now ≡ was
+  pub trimmed : MayBeTrimmed most was now
+
+kept_rows : (most count : ℕ) (old new : List History) → length old ≡ count → length new ≡ count → slice_index_or new 0 [] ≡ slice_index_or old 0 []
+    → ((i : ℕ) → 1 ≤ i → i < count → BothTell (slice_index_or old i []) (slice_index_or new i []) (MayBeTrimmed most)) → RowsTell old new (EachPair (IsKept most) count)
+kept_rows most count old new long_old long_new header each =
+    rows_each old new (IsKept most) count long_old long_new (λ i below. elim (cases_eq i 0) [
+      | inl first ↦
+          let was = slice_index_or old i [] in
+          let same : slice_index_or new i [] ≡ was = ap (λ k. slice_index_or new k []) first ∙ header ∙ ap (λ k. slice_index_or old k []) (sym first) in
+          let At : History → Type 0 = λ history. BothTell was history (IsKept most i) in
+          subst At (sym same)
+          (both_more was was (λ before now. now ≡ before) (IsKept most i) (λ before now is. record { header = λ _. is; trimmed = untrimmed most before now is }) (both_itself was))
+      | inr other ↦
+          both_more (slice_index_or old i []) (slice_index_or new i []) (MayBeTrimmed most) (IsKept most i)
+          (λ before now trimmed. record { header = λ zero. absurd (other zero); trimmed = trimmed })
+          (each i (omega arith) below)
+    ])
+
+-- what was done to all parts so far, and what is done to one more
+pub stopped_rows : (most done count : ℕ) (old between : List History) (history : History) → AreClearedTo most done old between → length old ≡ count → BothTell (slice_index_or between (1 + done) []) history (MayBeTrimmed most)
+    → RowsTell old (slice_set between (1 + done) history) (EachPair (IsKept most) count)
+stopped_rows most done count old between history before long trimmed =
+    let i = 1 + done in
+    let new = slice_set between i history in
+    kept_rows most count old new long (omega (arith, length-set between i history, before.long))
+    (get_or-set_other between i 0 history [] (omega arith) ∙ before.untouched 0 (inl refl))
+    (λ j some below. elim (cases_eq j i) [
+      | inl same ↦
+          let Old : History → Type 0 = λ these. BothTell these history (MayBeTrimmed most) in
+          let New : History → Type 0 = λ these. BothTell (slice_index_or old j []) these (MayBeTrimmed most) in
+          subst New (sym (ap (λ k. slice_index_or new k []) same ∙ get_or-set_same between i history [] (omega (arith, before.long))))
+          (subst Old (ap (λ k. slice_index_or between k []) (sym same) ∙ before.untouched j (inr (omega arith))) trimmed)
+      | inr differs ↦
+          let New : History → Type 0 = λ these. BothTell (slice_index_or old j []) these (MayBeTrimmed most) in
+          subst New (sym (get_or-set_other between i j history [] differs))
+          (elim (cases_lt done j) [
+            | inl past ↦ same_untrimmed most (slice_index_or old j []) (slice_index_or between j []) (before.untouched j (inr past))
+            | inr within ↦
+                both_more (slice_index_or old j []) (slice_index_or between j []) (λ was now. MayBeTrimmed most was now × HasSmallWord most was now) (MayBeTrimmed most)
+                (λ was now both. both.0) (before.cleared j some within)
+          ])
+    ])
+
+-- all parts were done
+pub cleared_rows : (most done count : ℕ) (old new : List History) → AreClearedTo most done old new → length old ≡ count → RowsTell old new (EachPair (IsKept most) count)
+cleared_rows most done count old new before long =
+    kept_rows most count old new long (omega (arith, before.long)) (before.untouched 0 (inl refl))
+    (λ j some below. elim (cases_lt done j) [
+      | inl past ↦ same_untrimmed most (slice_index_or old j []) (slice_index_or new j []) (before.untouched j (inr past))
+      | inr within ↦
+          both_more (slice_index_or old j []) (slice_index_or new j []) (λ was now. MayBeTrimmed most was now × HasSmallWord most was now) (MayBeTrimmed most)
+          (λ was now both. both.0) (before.cleared j some within)
+    ])
+
+-- and part i has a small word then, if it is an entry's
+pub record IsCleared (most i : ℕ) (was now : Part) : Type 0 where
+  pub header : i ≡ 0 → now ≡ was
+  pub small : 1 ≤ i → HasSmallWord most was now
+
+pub small_rows : (most entries : ℕ) (old new : List History) → AreClearedTo most entries old new → length old ≡ 1 + entries → RowsTell old new (EachPair (IsCleared most) (1 + entries))
+small_rows most entries old new before long =
+    rows_each old new (IsCleared most) (1 + entries) long (omega (arith, before.long)) (λ i below. elim (cases_eq i 0) [
+      | inl first ↦
+          let was = slice_index_or old i [] in
+          let At : History → Type 0 = λ history. BothTell was history (IsCleared most i) in
+          subst At (sym (before.untouched i (inl first)))
+          (both_more was was (λ earlier now. now ≡ earlier) (IsCleared most i) (λ earlier now is. record { header = λ _. is; small = λ some. absurd (omega arith) }) (both_itself was))
+      | inr other ↦
+          both_more (slice_index_or old i []) (slice_index_or new i []) (λ was now. MayBeTrimmed most was now × HasSmallWord most was now) (IsCleared most i)
+          (λ earlier now both. record { header = λ zero. absurd (other zero); small = λ some. both.1 })
+          (before.cleared i (omega arith) (omega arith))
+    ])
+
+-- ---- images of the row
+
+-- a part behind the row's is none
+kept_at : (most count : ℕ) (was now : List Part) → EachPair (IsKept most) count was now → (i : ℕ) → IsKept most i (slice_index_or was i []) (slice_index_or now i [])
+kept_at most count was now pairs i = elim (cases_lt i count) [
+  | inl inside ↦ pairs.has i inside
+  | inr past ↦
+      let none : slice_index_or now i [] ≡ slice_index_or was i [] =
+      get_or_past now i [] (omega (arith, pairs.now_long)) ∙ sym (get_or_past was i [] (omega (arith, pairs.was_long))) in
+      record { header = λ zero. none; trimmed = untrimmed most (slice_index_or was i []) (slice_index_or now i []) none }
+]
+
+pub quiet_same : (was now : Part) (image : Image) (i line word : ℕ) → now ≡ was → IsQuiet was → IsImage now (image i) → image i line word ≡ word_of was line word
+quiet_same was now image i line word same quiet is =
+    let At : Part → Type 0 = λ part. IsImage part (image i) in
+    quiet_image was (image i) line word (quiet.lines line) (subst At same is)
+
+kept_same : (bounds : Bounds) (count : ℕ) (was now : List Part) → AreQuiet was → SaysBounds bounds (region_words was) → EachPair (IsKept (bounds.tail + bounds.entries)) count was now → InEachRowImage (SayTheSame (region_words was)) now
+kept_same bounds count was now quiet says pairs image is =
+    let most = bounds.tail + bounds.entries in
+    let kept = kept_at most count was now pairs in
+    same_trimmed (region_words was) image most (omega (arith, says.tail, says.entries))
+    (λ line word. quiet_same (slice_index_or was 0 []) (slice_index_or now 0 []) image 0 line word ((kept 0).header refl) (quiet.each 0) (is.each 0))
+    (λ i some. (kept i).trimmed (quiet.each i) (image i) (is.each i))
+
+pub rows_same : (bounds : Bounds) (count : ℕ) (old new : List History) → RowTells old AreQuiet → RowTells old (λ was. SaysBounds bounds (region_words was)) → RowsTell old new (EachPair (IsKept (bounds.tail + bounds.entries)) count)
+    → RowsTell old new (λ was. InEachRowImage (SayTheSame (region_words was)))
+rows_same bounds count old new quiet says rows =
+    let Says : List Part → Type 0 = λ was. SaysBounds bounds (region_words was) in
+    rows_more old new (λ was. AreQuiet was × Says was) (EachPair (IsKept (bounds.tail + bounds.entries)) count) (λ was. InEachRowImage (SayTheSame (region_words was)))
+    (λ was now both. kept_same bounds count was now both.0 both.1)
+    (row_tells_both old AreQuiet Says quiet says) rows
+
+-- ---- the row when all words are cleared
+
+still_quiet : (most count : ℕ) (was now : List Part) → AreQuiet was → EachPair (IsCleared most) count was now → AreQuiet now
+still_quiet most count was now quiet pairs = record {
+  each = λ i.
+      let Quiet : Part → Type 0 = IsQuiet in
+      elim (cases_lt i count) [
+        | inl inside ↦ elim (cases_eq i 0) [
+          | inl first ↦ subst Quiet (sym ((pairs.has i inside).header first)) (quiet.each i)
+          | inr other ↦ ((pairs.has i inside).small (omega arith) (quiet.each i)).0
+        ]
+        | inr past ↦
+            subst Quiet (get_or_past was i [] (omega (arith, pairs.was_long)) ∙ sym (get_or_past now i [] (omega (arith, pairs.now_long)))) (quiet.each i)
+      ];
+}
+
+none_above : (bounds : Bounds) (was now : List Part) → AreQuiet was → SaysBounds bounds (region_words was) → EachPair (IsCleared (bounds.tail + bounds.entries)) (1 + bounds.entries) was now → HasNoneAbove (region_words now)
+none_above bounds was now quiet says pairs =
+    let header : slice_index_or now 0 [] ≡ slice_index_or was 0 [] = (pairs.has 0 (omega arith)).header refl in
+    let words = λ (line word : ℕ). ap (λ (part : Part). word_of part line word) header in
+    record {
+      low = λ slot some few.
+          let here = (pairs.has slot (omega (arith, words 0 3, says.entries))).small some (quiet.each slot) in
+          omega (arith, here.1, words 0 3, words 1 0, says.entries, says.tail);
+    }
+
+pub rows_quiet : (most count : ℕ) (old new : List History) → (AllTell new → AllTell old) → RowTells old AreQuiet → RowsTell old new (EachPair (IsCleared most) count) → RowTells new AreQuiet
+rows_quiet most count old new back quiet rows =
+    rows_new old new AreQuiet back
+    (rows_more old new AreQuiet (EachPair (IsCleared most) count) (λ was now. AreQuiet now) (still_quiet most count) quiet rows)
+
+pub rows_none_above : (bounds : Bounds) (old new : List History) → (AllTell new → AllTell old) → RowTells old AreQuiet → RowTells old (λ was. SaysBounds bounds (region_words was)) → RowsTell old new (EachPair (IsCleared (bounds.tail + bounds.entries)) (1 + bounds.entries))
+    → RowTells new (λ now. HasNoneAbove (region_words now))
+rows_none_above bounds old new back quiet says rows =
+    let Says : List Part → Type 0 = λ was. SaysBounds bounds (region_words was) in
+    rows_new old new (λ now. HasNoneAbove (region_words now)) back
+    (rows_more old new (λ was. AreQuiet was × Says was) (EachPair (IsCleared (bounds.tail + bounds.entries)) (1 + bounds.entries)) (λ was now. HasNoneAbove (region_words now))
+    (λ was now both. none_above bounds was now both.0 both.1)
+    (row_tells_both old AreQuiet Says quiet says) rows)
+
+-- ---- devices, of which one is cleared
+
+-- a device at its place
+pub itself_at : {X : Type 0} (parts : List X) (i : ℕ) (d : X) → i < length parts → get_or parts i d ≡ get_or parts i (get_or parts i d)
+itself_at parts i d inside = get_or_default parts i d (get_or parts i d) inside
+
+pub devices_tell : {X : Type 0} (history : X → History) (parts : List X) (i : ℕ) (was new : X) → i < length parts → was ≡ get_or parts i was → (0 < length (history was)) ↔ (0 < length (history new))
+    → AllTell (map history parts) ↔ AllTell (map history (slice_set parts i new))
+devices_tell history parts i was new inside is tells =
+    let From : History → Type 0 = λ these. (0 < length these) ↔ (0 < length (history new)) in
+    let To : List History → Type 0 = λ row. AllTell (map history parts) ↔ AllTell row in
+    subst To (sym (map-set history parts i new)) (tells_set (map history parts) i (history new) (subst From (part_history history parts i was was inside is) tells))
+
+pub devices_stopped : {X : Type 0} (history : X → History) (most done count : ℕ) (old : List History) (parts : List X) (was new : X) → AreClearedTo most done old (map history parts) → length old ≡ count → 1 + done < length parts
+    → was ≡ get_or parts (1 + done) was → BothTell (history was) (history new) (MayBeTrimmed most) → RowsTell old (map history (slice_set parts (1 + done) new)) (EachPair (IsKept most) count)
+devices_stopped history most done count old parts was new before long inside is trimmed =
+    let From : History → Type 0 = λ these. BothTell these (history new) (MayBeTrimmed most) in
+    let To : List History → Type 0 = λ row. RowsTell old row (EachPair (IsKept most) count) in
+    subst To (sym (map-set history parts (1 + done) new))
+    (stopped_rows most done count old (map history parts) (history new) before long (subst From (part_history history parts (1 + done) was was inside is) trimmed))
+
+pub devices_more : {X : Type 0} (history : X → History) (most done : ℕ) (old : List History) (parts : List X) (was new : X) → AreClearedTo most done old (map history parts) → 1 + done < length parts
+    → was ≡ get_or parts (1 + done) was → BothTell (history was) (history new) (MayBeTrimmed most) → BothTell (history was) (history new) (HasSmallWord most) → (0 < length (history was)) ↔ (0 < length (history new))
+    → AreClearedTo most (done + 1) old (map history (slice_set parts (1 + done) new))
+devices_more history most done old parts was new before inside is trimmed small tells =
+    let i = 1 + done in
+    let old_is = part_history history parts i was was inside is in
+    let Trimmed : History → Type 0 = λ these. BothTell these (history new) (MayBeTrimmed most) in
+    let Small : History → Type 0 = λ these. BothTell these (history new) (HasSmallWord most) in
+    let Told : History → Type 0 = λ these. (0 < length these) ↔ (0 < length (history new)) in
+    let To : List History → Type 0 = λ row. AreClearedTo most (done + 1) old row in
+    subst To (sym (map-set history parts i new))
+    (cleared_more most done old (map history parts) (history new) before (omega (arith, length-map parts history)) (subst Trimmed old_is trimmed) (subst Small old_is small) (subst Told old_is tells))

@@ -1,0 +1,77 @@
+-- What a row says of its header, by what the head that was read of it says.
+use Rattle.std.proofs.Common.{◌≡◌, ℕ, ◌≤◌, List, [], ◌∷◌, length, slice_index_or, refl, sym, ap, ◌∙◌, subst, arith}
+use Rattle.std.proofs.lemmas.List.{length-map}
+use Rattle.std.proofs.lemmas.List.FromFn.{length-range_with_len}
+use Rattle.std.specs.List.{range_with_len}
+use Rattle.nv_plain.specs.Images.{header_of, name_of}
+use Rattle.nv_plain.specs.Layouts.{version_1}
+use Rattle.nv_pmem.specs.Moments.{Tells}
+use Rattle.nv_pmem.specs.Part.{Part}
+use Rattle.nv_pmem.specs.Rows.{RowTells}
+use Rattle.nv_pmem.specs.Steps.{History}
+use Rattle.nv_pmem.proofs.RowLaws.{row_tells_more}
+use Rattle.nv_entry.specs.declared.bounds.Bounds.{Bounds}
+use Rattle.nv_entry.specs.Checks.{SaysBounds, region_words}
+use Rattle.nv_entry.proofs.Checking.{row_tells_part}
+use Rattle.nv_header.specs.declared.head.Head.{Head}
+use Rattle.nv_header.specs.Heads.{IsHeadOf, header_image, first_names}
+use Rattle.nv_header.specs.Needs.{header_history}
+use Rattle.nv_header.specs.Regions.{ReadsAs}
+
+-- bounds that a head has
+pub record HasBounds (head : Head) (bounds : Bounds) : Type 0 where
+  pub page : head.geometry.page ≡ bounds.page
+  pub entries : head.geometry.entries ≡ bounds.entries
+  pub files : length head.names ≡ bounds.files
+  pub tail : head.tail ≡ bounds.tail
+
+header_first : (row : List History) → header_history row ≡ slice_index_or row 0 []
+header_first [] = refl
+header_first (history ∷ row) = refl
+
+reads_as : (lines : ℕ) (head : Head) (bounds : Bounds) (parts : List Part) → HasBounds head bounds → IsHeadOf 1 version_1 lines (header_image (slice_index_or parts 0 [])) head
+    → ReadsAs version_1 bounds.page bounds.entries head.names bounds.tail (region_words parts)
+unfolding first_names
+reads_as lines head bounds parts has is = record {
+  readable = record {
+    long_enough = omega arith;
+    fields = is.readable.fields;
+    names = λ i below. let good = is.readable.names i below in record { whole = good.whole; new = good.new };
+  };
+  page_is = sym is.page ∙ has.page;
+  entries_is = sym is.entries ∙ has.entries;
+  names_are = sym is.names;
+  tail_is = sym is.tail ∙ has.tail;
+}
+
+says_bounds : (lines : ℕ) (head : Head) (bounds : Bounds) (parts : List Part) → HasBounds head bounds → IsHeadOf 1 version_1 lines (header_image (slice_index_or parts 0 [])) head → SaysBounds bounds (region_words parts)
+unfolding first_names
+says_bounds lines head bounds parts has is =
+    let image = header_image (slice_index_or parts 0 []) in
+    let files = (header_of image).files in
+    record {
+      page = sym is.page ∙ has.page;
+      entries = sym is.entries ∙ has.entries;
+      files =
+          sym (length-range_with_len 0 files) ∙ sym (length-map (range_with_len 0 files) (name_of version_1 image)) ∙ ap length (sym is.names) ∙ has.files;
+      tail = sym is.tail ∙ has.tail;
+    }
+
+told_first : (row : List History) (Q : Part → Type 0) (P : List Part → Type 0) → 1 ≤ length row → ((parts : List Part) → Q (slice_index_or parts 0 []) → P parts) → Tells (header_history row) Q → RowTells row P
+told_first row Q P some step told =
+    let At : History → Type 0 = λ history. Tells history Q in
+    row_tells_more row (λ parts. Q (slice_index_or parts 0 [])) P step
+    (row_tells_part row 0 Q (omega arith) (subst At (header_first row) told))
+
+-- The row says what the head does.
+pub row_reads_as : (lines : ℕ) (head : Head) (bounds : Bounds) (row : List History) → HasBounds head bounds → 1 ≤ length row → Tells (header_history row) (λ now. IsHeadOf 1 version_1 lines (header_image now) head)
+    → RowTells row (λ parts. ReadsAs version_1 bounds.page bounds.entries head.names bounds.tail (region_words parts))
+row_reads_as lines head bounds row has some told =
+    told_first row (λ now. IsHeadOf 1 version_1 lines (header_image now) head) (λ parts. ReadsAs version_1 bounds.page bounds.entries head.names bounds.tail (region_words parts))
+    some (λ parts. reads_as lines head bounds parts has) told
+
+pub row_says_bounds : (lines : ℕ) (head : Head) (bounds : Bounds) (row : List History) → HasBounds head bounds → 1 ≤ length row → Tells (header_history row) (λ now. IsHeadOf 1 version_1 lines (header_image now) head)
+    → RowTells row (λ parts. SaysBounds bounds (region_words parts))
+row_says_bounds lines head bounds row has some told =
+    told_first row (λ now. IsHeadOf 1 version_1 lines (header_image now) head) (λ parts. SaysBounds bounds (region_words parts)) some
+    (λ parts. says_bounds lines head bounds parts has) told

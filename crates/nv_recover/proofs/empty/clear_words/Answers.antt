@@ -1,0 +1,116 @@
+use Rattle.std.proofs.Common.{◌≡◌, ◌+◌, ◌<◌, List, length, get_or, map, slice_set, refl, ◌∙◌, subst, arith}
+use Rattle.std.proofs.lemmas.List.{length-map}
+use Rattle.nv_plain.specs.Layouts.{version_1}
+use Rattle.nv_pmem.specs.Steps.{History}
+use Rattle.nv_header.proofs.InRow.{same_in_row, same_sum_in_row, roomy_part, has_parts_set, roomy_line_0}
+use Rattle.nv_recover.proofs.EmptyRows.{AreClearedTo, cleared_none, devices_tell, devices_stopped, devices_more, itself_at, cleared_rows, small_rows, rows_same, rows_quiet, rows_none_above}
+use Rattle.nv_recover.proofs.empty.clear_words.Goals as goal
+
+pub loop-entry-init : goal.loop-entry-init
+loop-entry-init g c = record {
+  done = cleared_none (c.args.bounds.now.tail + c.args.bounds.now.entries) (map g.L.Lines.history c.args.parts.now);
+  parts = c.requires.parts;
+  lines = refl;
+  cause = refl;
+  devices = refl;
+}
+
+pub clear_word-requires-clause-line : goal.clear_word-requires-clause-line
+clear_word-requires-clause-line g c =
+    let i = 1 + c.loop-entry.entry in
+    let inside : i < length c.loop-entry.parts = omega (arith, c.loop-entry.invariant.parts.count, length-map c.loop-entry.parts g.L.Lines.room) in
+    (roomy_line_0 c.args.bounds.now.page i _
+    (roomy_part g.L.Lines.room version_1 c.args.bounds.now.page c.args.bounds.now.entries c.loop-entry.parts i (get_or c.loop-entry.parts i c.index-parts-entry.result)
+    c.loop-entry.invariant.parts inside (itself_at c.loop-entry.parts i c.index-parts-entry.result inside))).0
+
+pub clear_word-requires-clause-spare : goal.clear_word-requires-clause-spare
+clear_word-requires-clause-spare g c =
+    let i = 1 + c.loop-entry.entry in
+    let inside : i < length c.loop-entry.parts = omega (arith, c.loop-entry.invariant.parts.count, length-map c.loop-entry.parts g.L.Lines.room) in
+    (roomy_line_0 c.args.bounds.now.page i _
+    (roomy_part g.L.Lines.room version_1 c.args.bounds.now.page c.args.bounds.now.entries c.loop-entry.parts i (get_or c.loop-entry.parts i c.index-parts-entry.result)
+    c.loop-entry.invariant.parts inside (itself_at c.loop-entry.parts i c.index-parts-entry.result inside))).1
+
+pub returns-in_err-clear_word-clause-same : goal.returns-in_err-clear_word-clause-same
+returns-in_err-clear_word-clause-same g c =
+    let i = 1 + c.loop-entry.entry in
+    let inside : i < length c.loop-entry.parts = omega (arith, c.loop-entry.invariant.parts.count, length-map c.loop-entry.parts g.L.Lines.room) in
+    let old : List History = map g.L.Lines.history c.args.parts.now in
+    rows_same c.args.bounds.now (length old) old (map g.L.Lines.history (slice_set c.loop-entry.parts i c.clear_word.new.part)) c.requires.quiet c.requires.header
+    (devices_stopped g.L.Lines.history (c.args.bounds.now.tail + c.args.bounds.now.entries) c.loop-entry.entry (length old) old c.loop-entry.parts
+    (get_or c.loop-entry.parts i c.index-parts-entry.result) c.clear_word.new.part
+    c.loop-entry.invariant.done refl inside (itself_at c.loop-entry.parts i c.index-parts-entry.result inside) c.clear_word.ensures.trimmed)
+
+pub returns-in_err-clear_word-clause-lines : goal.returns-in_err-clear_word-clause-lines
+returns-in_err-clear_word-clause-lines g c =
+    let i = 1 + c.loop-entry.entry in
+    let inside : i < length c.loop-entry.parts = omega (arith, c.loop-entry.invariant.parts.count, length-map c.loop-entry.parts g.L.Lines.room) in
+    same_in_row (λ part. (g.L.Lines.room part).lines) c.loop-entry.parts i (get_or c.loop-entry.parts i c.index-parts-entry.result) c.clear_word.new.part
+    (itself_at c.loop-entry.parts i c.index-parts-entry.result inside) c.clear_word.ensures.lines
+    ∙ c.loop-entry.invariant.lines
+
+pub returns-in_err-clear_word-clause-devices : goal.returns-in_err-clear_word-clause-devices
+returns-in_err-clear_word-clause-devices g c =
+    let i = 1 + c.loop-entry.entry in
+    let inside : i < length c.loop-entry.parts = omega (arith, c.loop-entry.invariant.parts.count, length-map c.loop-entry.parts g.L.Lines.room) in
+    same_in_row g.L.Lines.device c.loop-entry.parts i (get_or c.loop-entry.parts i c.index-parts-entry.result) c.clear_word.new.part
+    (itself_at c.loop-entry.parts i c.index-parts-entry.result inside) c.clear_word.ensures.device
+    ∙ c.loop-entry.invariant.devices
+
+pub returns-in_err-clear_word-clause-tells : goal.returns-in_err-clear_word-clause-tells
+returns-in_err-clear_word-clause-tells g c =
+    let i = 1 + c.loop-entry.entry in
+    let inside : i < length c.loop-entry.parts = omega (arith, c.loop-entry.invariant.parts.count, length-map c.loop-entry.parts g.L.Lines.room) in
+    let more = devices_tell g.L.Lines.history c.loop-entry.parts i (get_or c.loop-entry.parts i c.index-parts-entry.result) c.clear_word.new.part inside
+    (itself_at c.loop-entry.parts i c.index-parts-entry.result inside) c.clear_word.ensures.tells in
+    let before = c.loop-entry.invariant.done.tells in
+    (λ all. more.0 (before.0 all), λ all. before.1 (more.1 all))
+
+pub loop-entry-preserved : goal.loop-entry-preserved
+loop-entry-preserved g c =
+    let i = 1 + c.loop-entry.entry in
+    let parts = c.loop-entry.parts in
+    let was = get_or parts i c.index-parts-entry.result in
+    let new = c.clear_word.new.part in
+    let inside : i < length parts = omega (arith, c.loop-entry.invariant.parts.count, length-map c.loop-entry.parts g.L.Lines.room) in
+    let is = itself_at parts i c.index-parts-entry.result inside in
+    record {
+      done =
+          devices_more g.L.Lines.history (c.args.bounds.now.tail + c.args.bounds.now.entries) c.loop-entry.entry (map g.L.Lines.history c.args.parts.now) parts was new
+          c.loop-entry.invariant.done inside is c.clear_word.ensures.trimmed c.in_ok-clear_word.ensures.cleared c.clear_word.ensures.tells;
+      parts =
+          has_parts_set g.L.Lines.room version_1 c.args.bounds.now.page c.args.bounds.now.entries parts i was new inside is
+          c.in_ok-clear_word.ensures.room c.loop-entry.invariant.parts;
+      lines = same_in_row (λ part. (g.L.Lines.room part).lines) parts i was new is c.clear_word.ensures.lines ∙ c.loop-entry.invariant.lines;
+      cause = same_sum_in_row g.L.Lines.fault_count parts i was new inside is c.in_ok-clear_word.ensures.cause ∙ c.loop-entry.invariant.cause;
+      devices = same_in_row g.L.Lines.device parts i was new is c.clear_word.ensures.device ∙ c.loop-entry.invariant.devices;
+    }
+
+pub returns-clause-same : goal.returns-clause-same
+returns-clause-same g c =
+    let old : List History = map g.L.Lines.history c.args.parts.now in
+    rows_same c.args.bounds.now (length old) old (map g.L.Lines.history c.loop-entry.parts) c.requires.quiet c.requires.header
+    (cleared_rows (c.args.bounds.now.tail + c.args.bounds.now.entries) c.loop-entry.entry (length old) old (map g.L.Lines.history c.loop-entry.parts)
+    c.loop-entry.invariant.done refl)
+
+pub returns-clause-cleared : goal.returns-clause-cleared
+returns-clause-cleared g c =
+    let bounds = c.args.bounds.now in
+    let old : List History = map g.L.Lines.history c.args.parts.now in
+    let new : List History = map g.L.Lines.history c.loop-entry.parts in
+    let At : _ → Type 0 = λ count. AreClearedTo (bounds.tail + bounds.entries) count old new in
+    let count : c.loop-entry.entry ≡ bounds.entries = omega arith in
+    rows_none_above bounds old new c.loop-entry.invariant.done.tells.1 c.requires.quiet c.requires.header
+    (small_rows (bounds.tail + bounds.entries) bounds.entries old new (subst At count c.loop-entry.invariant.done)
+    (omega (arith, c.requires.parts.count, length-map c.args.parts.now g.L.Lines.history, length-map c.args.parts.now g.L.Lines.room)))
+
+pub returns-clause-quiet : goal.returns-clause-quiet
+returns-clause-quiet g c =
+    let bounds = c.args.bounds.now in
+    let old : List History = map g.L.Lines.history c.args.parts.now in
+    let new : List History = map g.L.Lines.history c.loop-entry.parts in
+    let At : _ → Type 0 = λ count. AreClearedTo (bounds.tail + bounds.entries) count old new in
+    let count : c.loop-entry.entry ≡ bounds.entries = omega arith in
+    rows_quiet (bounds.tail + bounds.entries) (1 + bounds.entries) old new c.loop-entry.invariant.done.tells.1 c.requires.quiet
+    (small_rows (bounds.tail + bounds.entries) bounds.entries old new (subst At count c.loop-entry.invariant.done)
+    (omega (arith, c.requires.parts.count, length-map c.args.parts.now g.L.Lines.history, length-map c.args.parts.now g.L.Lines.room)))

@@ -1,0 +1,15 @@
+use Rattle.std.proofs.Common.{◌≡◌, ◌+◌, map, sum_by}
+use Rattle.nv_plain.specs.Layouts.{version_1}
+use Rattle.nv_header.specs.Regions.{HasParts}
+use Rattle.nv_recover.proofs.EmptyRows.{AreClearedTo}
+use Rattle.nv_recover.proofs.empty.clear_words.Given as goal
+
+-- the entries before this one are cleared
+abbrev pub invariant-loop-entry : goal.invariant-loop-entry
+invariant-loop-entry g l = record {
+  done : AreClearedTo (l.bounds.tail + l.bounds.entries) l.entry (map g.L.Lines.history l.fn.parts) (map g.L.Lines.history l.parts);
+  parts : HasParts version_1 l.bounds.page l.bounds.entries (map g.L.Lines.room l.parts);
+  lines : map (λ part. (g.L.Lines.room part).lines) l.parts ≡ map (λ part. (g.L.Lines.room part).lines) l.fn.parts;
+  cause : sum_by g.L.Lines.fault_count l.parts ≡ sum_by g.L.Lines.fault_count l.fn.parts;
+  devices : map g.L.Lines.device l.parts ≡ map g.L.Lines.device l.fn.parts;
+}
