@@ -13,7 +13,7 @@ use Rattle.nv_plain.specs.Layouts.{version_1}
 use Rattle.nv_pmem.specs.Moments.{Tells}
 use Rattle.nv_pmem.specs.Part.{word_of}
 use Rattle.nv_pmem.specs.Steps.{History}
-use Rattle.nv_header.specs.Heads.{IsGoodName, first_names, header_image, is_record, length_of, room_of_name}
+use Rattle.nv_header.specs.Heads.{first_names, header_image, is_record, length_of, room_of_name}
 use Rattle.nv_header.specs.NextName.{IsNextName, AreNames}
 use Rattle.nv_header.specs.Refusals.{IsBadName}
 use Rattle.nv_header.proofs.Ranges.{flat_map-same, word_put}

@@ -1,6 +1,6 @@
 use Rattle.std.proofs.Common.{◌≡◌, ℕ, ◌+◌, ◌/◌, ◌<◌, ◌≤◌, List, [], ◌∷◌, ◌++◌, length, map, get_or, zero, suc, refl, sym, ap, ◌∙◌, subst, arith, inl, inr, length-append}
 use Rattle.std.proofs.lemmas.Bool.{cases_lt}
-use Rattle.std.proofs.lemmas.List.{get_or-map, get_or_append_left, get_or_push, length-map, get_or_default}
+use Rattle.std.proofs.lemmas.List.{get_or-map, get_or_append_left, get_or_push, length-map}
 use Rattle.nv_plain.specs.Layouts.{version_1}
 use Rattle.nv_pmem.specs.MemPart.{IsBlank, part_history, part_room}
 use Rattle.nv_pmem.specs.Room.{Room}
@@ -66,9 +66,10 @@ entry_part page (suc i) behind = refl
 entry_more : (page k : ℕ) (parts new : List MemPart) (part : MemPart) → new ≡ parts ++ part ∷ [] → length parts ≡ 1 + k → AreBlank page parts → IsBlank (1 + page / 64) part
     → (length new ≡ 1 + (k + 1)) × AreBlank page new
 entry_more page k parts new part new_is count are blank =
-    let At : List MemPart → Type 0 = AreBlank page in
-    (omega (arith, ap length new_is, length-append parts (part ∷ [])),
-    subst At (sym new_is) (one_more page parts part (1 + page / 64) are (entry_part page (length parts) (omega arith)) blank))
+    let At : List MemPart → Type 0 = AreBlank page in (
+      omega (arith, ap length new_is, length-append parts (part ∷ [])),
+      subst At (sym new_is) (one_more page parts part (1 + page / 64) are (entry_part page (length parts) (omega arith)) blank),
+    )
 
 pub loop-entry-preserved : goal.loop-entry-preserved
 loop-entry-preserved c =
