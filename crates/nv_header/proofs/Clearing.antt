@@ -1,12 +1,12 @@
 -- The commit words of the entries, cleared one after another.
-use Rattle.std.proofs.Common.{◌≡◌, ℕ, ◌+◌, ◌-◌, ◌<◌, ◌≤◌, List, [], ◌∷◌, ◌++◌, sym, ap, ◌∙◌, subst, arith}
+use Rattle.std.proofs.Common.{◌≡◌, ℕ, ◌+◌, ◌-◌, ◌<◌, List, ◌++◌, sym, ap, ◌∙◌, subst, arith}
 use Rattle.std.specs.List.{flat_map, range_with_len}
 use Rattle.nv_pmem.specs.Rows.{RowStep, on_part, row_grown, DidRow, DidSomeRow}
-use Rattle.nv_pmem.specs.Runs.{Ran, RanSome}
 use Rattle.nv_pmem.specs.Steps.{History, durable_store}
 use Rattle.nv_pmem.proofs.StepLaws.{did_none, did_did, did_did_some, did_some_front}
 use Rattle.nv_header.specs.HeaderSteps.{clear_steps}
-use Rattle.nv_header.proofs.Joined.{joined-split, joined-more}
+use Rattle.nv_header.proofs.Joined.{joined-split}
+use Rattle.nv_header.proofs.Ranges.{flat_map-more}
 
 -- those of one entry
 abbrev pub clear_one : ℕ → List RowStep
@@ -14,7 +14,7 @@ clear_one i = on_part i (durable_store 0 0 0)
 
 clear_steps-more : (k i : ℕ) → i ≡ 1 + k → clear_steps (k + 1) ≡ clear_steps k ++ clear_one i
 unfolding clear_steps
-clear_steps-more k i is = joined-more clear_one 1 k ∙ ap (λ j. flat_map clear_one (range_with_len 1 k) ++ clear_one j) (sym is)
+clear_steps-more k i is = flat_map-more clear_one 1 k ∙ ap (λ j. flat_map clear_one (range_with_len 1 k) ++ clear_one j) (sym is)
 
 clear_steps-split : (entries k i : ℕ) → i ≡ 1 + k → k < entries → clear_steps entries ≡ (clear_steps k ++ clear_one i) ++ flat_map clear_one (range_with_len (1 + (k + 1)) (entries - (k + 1)))
 unfolding clear_steps

@@ -2,15 +2,8 @@
 use Rattle.std.proofs.Common.{◌≡◌, ℕ, ◌+◌, ◌*◌, ◌<◌, ◌≤◌, List, ◌∷◌, ◌++◌, map, take, drop, zero, suc, refl, sym, ap, ◌∙◌, arith, append_assoc, zero-add, add-zero}
 use Rattle.std.proofs.Math.Nat.{suc-add, mul-zero}
 use Rattle.std.proofs.Math.Seq.{take-add}
-use Rattle.std.proofs.lemmas.List.{append-nil, drop-drop}
+use Rattle.std.proofs.lemmas.List.{drop-drop}
 use Rattle.std.specs.List.{flat_map, range_with_len}
-
--- lists that are the same number by number
-pub joined-same : {A : Type 0} (f g : ℕ → List A) (from count : ℕ) → ((k : ℕ) → from ≤ k → k < from + count → f k ≡ g k) → flat_map f (range_with_len from count) ≡ flat_map g (range_with_len from count)
-joined-same f g from zero each = refl
-joined-same f g from (suc count) each =
-    ap (λ front. front ++ flat_map f (range_with_len (from + 1) count)) (each from (omega arith) (omega arith))
-    ∙ ap (λ rest. g from ++ rest) (joined-same f g (from + 1) count (λ k low high. each k (omega arith) (omega arith)))
 
 -- a range in two parts
 pub joined-split : {A : Type 0} (f : ℕ → List A) (from count more : ℕ) → flat_map f (range_with_len from (count + more)) ≡ flat_map f (range_with_len from count) ++ flat_map f (range_with_len (from + count) more)
@@ -21,11 +14,6 @@ joined-split f from (suc count) more =
     (ap (λ rest. f from ++ rest) (joined-split f (from + 1) count more)
     ∙ sym (append_assoc (f from) (flat_map f (range_with_len (from + 1) count)) (flat_map f (range_with_len (from + 1 + count) more)))
     ∙ ap (λ start. f from ++ flat_map f (range_with_len (from + 1) count) ++ flat_map f (range_with_len start more)) begin)
-
--- one number more
-pub joined-more : {A : Type 0} (f : ℕ → List A) (from count : ℕ) → flat_map f (range_with_len from (count + 1)) ≡ flat_map f (range_with_len from count) ++ f (from + count)
-joined-more f from count =
-    joined-split f from count 1 ∙ ap (λ last. flat_map f (range_with_len from count) ++ last) (append-nil (f (from + count)))
 
 -- a range that begins one later
 pub joined-after_one : {A : Type 0} (f : ℕ → List A) (from count : ℕ) → flat_map f (range_with_len (1 + from) count) ≡ flat_map (λ k. f (1 + k)) (range_with_len from count)

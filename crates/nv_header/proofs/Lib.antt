@@ -10,3 +10,4 @@ pub mod Clearing
 pub mod FormatLaws
 pub mod AddLaws
 pub mod NewNames
+pub mod BlankParts

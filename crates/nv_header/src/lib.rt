@@ -41,4 +41,6 @@ pub use region::Region;
 pub use tail::move_tail;
 
 #[cfg(test)]
+mod region_tests;
+#[cfg(test)]
 mod tests;

@@ -21,6 +21,22 @@ pub struct Region<L: Lines> {
 impl<L: Lines> Region<L> {
     ghost use Rattle.std.specs.Prelude.{◌≡◌};
 
+    /// A region of these parts, which are at rest with an empty log. Takes no memory.
+    pub fn from_parts(parts: Vec<L>, geometry: Geometry, names: Names, next: u64) -> Self
+        requires { IsRegion version_1 geometry.page geometry.entries names next (map L.room parts.items) (map L.history parts.items) }
+        ensures parts { result.parts ≡ parts }
+        ensures geometry { result.geometry ≡ geometry }
+        ensures names { result.names ≡ names }
+        ensures next { result.next ≡ next }
+    {
+        Region {
+            parts,
+            geometry,
+            names,
+            next,
+        }
+    }
+
     /// The sizes of a page and of the log.
     pub fn geometry(&self) -> Geometry
         ensures { result ≡ self.now.geometry }
