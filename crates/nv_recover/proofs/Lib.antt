@@ -1,2 +1,0 @@
-pub mod Overlays
-pub mod AlikeLaws

@@ -1,5 +1,0 @@
-pub mod Alike
-pub mod Standing
-pub mod Groups
-pub mod Causes
-pub mod Telling

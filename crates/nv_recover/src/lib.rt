@@ -1,8 +1,0 @@
-//! Recovery: after a power failure the stores are brought to the files that a region and they stand for, and the log is
-//! emptied. Recovery may lose power itself, at any device call, and is then begun again.
-#![tactic(auto)]
-
-mod error;
-mod group;
-
-pub use error::RecoverError;
