@@ -1,14 +1,14 @@
 -- A name added: what the images of a row may be along its steps, and after them.
-use Rattle.std.proofs.Common.{◌≡◌, ◌≢◌, ℕ, ◌+◌, ◌-◌, ◌*◌, ◌/◌, ◌%◌, ◌^◌, ◌<◌, ◌≤◌, ◌==◌, ◌&&◌, ◌⊎◌, inl, inr, IsTrue, Bool, true, false, nat_le, not, List, [], ◌∷◌, ◌++◌, length, map, take, drop, replicate, get_or, slice_index, slice_index_or, zero, suc, zero-add, refl, sym, ap, ◌∙◌, subst, arith, append_assoc, length-append, length-drop}
+use Rattle.std.proofs.Common.{◌≡◌, ℕ, ◌+◌, ◌-◌, ◌*◌, ◌/◌, ◌%◌, ◌<◌, ◌≤◌, ◌==◌, ◌&&◌, ◌⊎◌, inl, inr, IsTrue, Bool, true, false, nat_le, not, List, [], ◌∷◌, ◌++◌, length, take, drop, replicate, get_or, slice_index, slice_index_or, zero, suc, zero-add, refl, sym, ap, ◌∙◌, subst, arith, length-append, length-drop}
 use Rattle.std.proofs.Math.Seq.{drop-append-add, drop-append_seam}
 use Rattle.std.proofs.lemmas.Bool.{cases_eq, cases_lt, eq-eqb, ne_eqb, leb-true, le-leb}
-use Rattle.std.proofs.lemmas.List.{append-nil, take_all, take_at, length-take, length-replicate, get_or_past, get_or-take, get_or-drop, get_or_append_left, get_or-append_right, get_or-replicate, drop-drop}
+use Rattle.std.proofs.lemmas.List.{take_all, take_at, length-take, length-replicate, get_or_past, get_or-take, get_or-drop, get_or_append_left, get_or-append_right, get_or-replicate}
 use Rattle.std.proofs.lemmas.List.FromFn.{map-range_with_len_more, get_or-map-range_with_len, length-map-range_with_len}
 use Rattle.std.proofs.lemmas.Nat.{le_bytes_8, from_le_bytes-to_le_bytes_8}
 use Rattle.std.specs.Int.{to_le_bytes, from_le_bytes, w64}
 use Rattle.std.specs.List.{flat_map, list_all, range_with_len}
 use Rattle.nv_plain.specs.Files.{padded}
-use Rattle.nv_plain.specs.Images.{Image, Header, header_of, name_of, entry_of}
+use Rattle.nv_plain.specs.Images.{Image, Header, header_of, name_of}
 use Rattle.nv_plain.specs.Layouts.{version_1}
 use Rattle.nv_plain.specs.Names.{is_name, is_name_byte}
 use Rattle.nv_pmem.specs.Images.{IsImage, IsQuietLine, IsQuiet}
@@ -16,16 +16,16 @@ use Rattle.nv_pmem.specs.Limits.{IsPageSize, IsEntryCount}
 use Rattle.nv_pmem.specs.Part.{Part, line_of, word_of}
 use Rattle.nv_pmem.specs.Rows.{RowStep, on_part, row_after, DidRow, DidSomeRow, RowTells, IsRowImage, InEachRowImage, EachRowMoment}
 use Rattle.nv_pmem.specs.Runs.{run}
-use Rattle.nv_pmem.specs.Steps.{Step, Store, Flush, Fence, History, after_step, line_stores, word_in, durable_store}
-use Rattle.nv_pmem.proofs.ImageLaws.{IsStoredBy, quiet_image, open_line, quiet_line, mark_after_all, quiet_after, quiet_still}
+use Rattle.nv_pmem.specs.Steps.{Step, Flush, Fence, History, line_stores, word_in, durable_store}
+use Rattle.nv_pmem.proofs.ImageLaws.{IsStoredBy, quiet_image, quiet_after, quiet_still}
 use Rattle.nv_pmem.proofs.DurableLaws.{line_settled, quiet_settled}
-use Rattle.nv_pmem.proofs.LineLaws.{overlaid, overlaid-append, AreInside, inside_append, word_of-after_steps, length-after_steps}
-use Rattle.nv_pmem.proofs.RowLaws.{steps_on, steps_on-append, steps_on-same, steps_on-other, on_part-append, row_at, EachPart, row_tells_both, row_tells_more, row_tells_did, each_row_moment, row_image_comes_from, stored_by_row-take, stored_by-append}
-use Rattle.nv_pmem.proofs.StepLaws.{after_steps, after_steps-append, run-append, Always, always_by_fronts, always_append, always_last, did_some_none}
+use Rattle.nv_pmem.proofs.LineLaws.{overlaid, overlaid-append, AreInside, word_of-after_steps, length-after_steps}
+use Rattle.nv_pmem.proofs.RowLaws.{steps_on, steps_on-same, steps_on-other, on_part-append, row_at, row_tells_both, row_tells_more, row_tells_did, each_row_moment, row_image_comes_from, stored_by_row-take}
+use Rattle.nv_pmem.proofs.StepLaws.{after_steps, after_steps-append, Always, always_by_fronts, always_append, always_last, did_some_none}
 use Rattle.nv_header.specs.Additions.{CanAdd, HasNamesOrOneMore}
 use Rattle.nv_header.specs.HeaderSteps.{name_record, record_steps, add_file_steps}
-use Rattle.nv_header.specs.Heads.{IsHead, HasFields, IsGoodName, first_names, record_line, length_of, room_of_name, is_record}
-use Rattle.nv_header.specs.Regions.{part_lines, AreQuiet, ReadsAs, HasNoneFrom, HasEmptyLog, IsAtRest}
+use Rattle.nv_header.specs.Heads.{HasFields, IsGoodName, first_names, record_line, length_of, room_of_name, is_record}
+use Rattle.nv_header.specs.Regions.{HasNoneFrom, HasEmptyLog, IsAtRest}
 use Rattle.nv_header.proofs.FormatLaws.{HasRoom, only_stores}
 use Rattle.nv_header.proofs.Joined.{joined-parts, joined-after_one, map-same}
 use Rattle.nv_header.proofs.Ranges.{flat_map-same}

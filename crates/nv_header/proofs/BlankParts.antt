@@ -1,16 +1,15 @@
 -- Parts of zeros: a blank region.
-use Rattle.std.proofs.Common.{◌≡◌, ℕ, ◌<◌, ◌≤◌, List, [], ◌∷◌, length, get_or, replicate, slice_index_or, sym, ap, ◌∙◌, subst, arith, inl, inr, refl}
+use Rattle.std.proofs.Common.{◌≡◌, ℕ, ◌<◌, List, [], ◌∷◌, length, replicate, slice_index_or, sym, ap, ◌∙◌, subst, arith, inl, inr, refl}
 use Rattle.std.proofs.lemmas.Bool.{cases_lt}
 use Rattle.std.proofs.lemmas.List.{get_or-replicate, get_or_past, length-replicate}
-use Rattle.nv_plain.specs.Images.{Image}
 use Rattle.nv_pmem.specs.Images.{IsQuietLine, IsQuiet}
 use Rattle.nv_pmem.specs.Moments.{Tells}
-use Rattle.nv_pmem.specs.Part.{Line, Part, blank_line, line_of, word_of, newest, word_at}
-use Rattle.nv_pmem.specs.Rows.{RowTells, IsRowImage}
+use Rattle.nv_pmem.specs.Part.{Part, blank_line, line_of, word_of, newest, word_at}
+use Rattle.nv_pmem.specs.Rows.{RowTells}
 use Rattle.nv_pmem.specs.Steps.{History}
 use Rattle.nv_pmem.proofs.ImageLaws.{quiet_blank, quiet_image}
 use Rattle.nv_pmem.proofs.RowLaws.{EachPart, row_tells_each, row_tells_more}
-use Rattle.nv_header.specs.Regions.{AreQuiet, IsBlankRow}
+use Rattle.nv_header.specs.Regions.{IsBlankRow}
 
 -- lines of zeros are blank, and so are those that aren't there
 line_of-zeros : (lines i : ℕ) → line_of (replicate lines blank_line) i ≡ blank_line

@@ -1,24 +1,24 @@
 -- Formatting: what the images of a row may be along its steps, and after them.
-use Rattle.std.proofs.Common.{◌≡◌, ◌≢◌, ℕ, ◌+◌, ◌-◌, ◌*◌, ◌%◌, ◌^◌, ◌<◌, ◌≤◌, ◌⊎◌, inl, inr, List, [], ◌∷◌, ◌++◌, length, map, take, get_or, slice_index_or, zero, suc, refl, sym, ap, ◌∙◌, subst, arith, append_assoc}
-use Rattle.std.proofs.lemmas.Bool.{cases_eq, cases_lt, eq-eqb, ne_eqb}
+use Rattle.std.proofs.Common.{◌≡◌, ◌≢◌, ℕ, ◌+◌, ◌-◌, ◌%◌, ◌<◌, ◌≤◌, ◌⊎◌, inl, inr, List, [], ◌++◌, length, take, slice_index_or, zero, suc, refl, sym, ap, ◌∙◌, subst, arith, append_assoc}
+use Rattle.std.proofs.lemmas.Bool.{cases_eq, cases_lt, ne_eqb}
 use Rattle.std.proofs.lemmas.List.{take_all}
 use Rattle.std.specs.List.{flat_map, range_with_len}
-use Rattle.nv_plain.specs.Images.{Image, Header, header_magic, header_of, entry_of}
+use Rattle.nv_plain.specs.Images.{Image, header_magic}
 use Rattle.nv_plain.specs.Layouts.{version_1}
 use Rattle.nv_pmem.specs.Images.{IsImage, IsQuietLine, IsQuiet}
 use Rattle.nv_pmem.specs.Limits.{IsPageSize, IsEntryCount}
 use Rattle.nv_pmem.specs.Part.{Part, line_of, word_of}
 use Rattle.nv_pmem.specs.Rows.{RowStep, on_part, row_after, DidRow, DidSomeRow, RowTells, IsRowImage, InEachRowImage, EachRowMoment}
 use Rattle.nv_pmem.specs.Runs.{run}
-use Rattle.nv_pmem.specs.Steps.{Step, Store, Flush, Fence, History, after_step, durable_store}
-use Rattle.nv_pmem.proofs.ImageLaws.{IsStoredBy, quiet_image, open_line, quiet_line, mark_after_all, quiet_after, quiet_still}
+use Rattle.nv_pmem.specs.Steps.{Step, History, durable_store}
+use Rattle.nv_pmem.proofs.ImageLaws.{IsStoredBy, quiet_image, quiet_after, quiet_still}
 use Rattle.nv_pmem.proofs.DurableLaws.{line_settled, quiet_settled}
 use Rattle.nv_pmem.proofs.LineLaws.{overlaid, AreInside, word_of-after_steps, length-after_steps}
-use Rattle.nv_pmem.proofs.RowLaws.{steps_on, steps_on-append, steps_on-same, steps_on-other, on_part-append, row_at, EachPart, row_tells_both, row_tells_more, row_tells_did, each_row_moment, RowComesFrom, row_image_comes_from, stored_by_row-take}
-use Rattle.nv_pmem.proofs.StepLaws.{after_steps, after_steps-append, run-append, Always, always_by_fronts, always_append, always_last}
+use Rattle.nv_pmem.proofs.RowLaws.{steps_on, steps_on-append, steps_on-same, steps_on-other, on_part-append, row_at, EachPart, row_tells_both, row_tells_more, row_tells_did, each_row_moment, row_image_comes_from, stored_by_row-take}
+use Rattle.nv_pmem.proofs.StepLaws.{after_steps, after_steps-append, Always, always_by_fronts, always_append, always_last}
 use Rattle.nv_header.specs.HeaderSteps.{clear_steps, field_steps, blank_header_steps, format_steps}
-use Rattle.nv_header.specs.Heads.{IsHead, HasFields, IsGoodName, first_names}
-use Rattle.nv_header.specs.Regions.{part_lines, AreQuiet, IsBlank, ReadsAs, HasNoneFrom, HasEmptyLog, IsBlankOrFormatted, IsBlankRow, IsAtRest}
+use Rattle.nv_header.specs.Heads.{first_names}
+use Rattle.nv_header.specs.Regions.{part_lines, IsBlank, HasEmptyLog, IsBlankOrFormatted, IsBlankRow, IsAtRest}
 use Rattle.nv_header.proofs.Clearing.{clear_one}
 
 -- ---- what a step stores

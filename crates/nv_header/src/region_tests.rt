@@ -92,7 +92,7 @@ fn names_are_added_up_to_16(rt: HostRuntime) -> Result<(), Fail> {
     }
     assert!(rt; region.names().contains(b"p"));
     match add_file(region, rt.alloc(), b"q") {
-        Ok(_) => return Err(AddError::TooManyFiles.into()),
+        Ok(_region) => return Err(AddError::TooManyFiles.into()),
         Err((mut parts, error)) => {
             assert_eq!(rt; error, AddError::TooManyFiles);
             assert_eq!(rt; word(&mut parts[0], 0, 4), Some(16));
@@ -130,7 +130,7 @@ fn each_call_of_format_may_fail(rt: HostRuntime) -> Result<(), Fail> {
     for call in 1..=18 {
         let fuse = Fuse::new(rt.alloc(), &[call])?;
         match format(blank_parts(rt.alloc(), geometry, &fuse)?, geometry) {
-            Ok(_) => assert_eq!(rt; call, 18),
+            Ok(_region) => assert_eq!(rt; call, 18),
             Err((parts, fault)) => {
                 assert_eq!(rt; fault, RegionFault);
                 assert_eq!(rt; parts.len(), 3);
@@ -147,7 +147,7 @@ fn each_call_of_add_file_may_fail(rt: HostRuntime) -> Result<(), Fail> {
     for call in 1..=7 {
         let fuse = Fuse::new(rt.alloc(), &[17 + call])?;
         match add_file(formatted(rt.alloc(), &fuse)?, rt.alloc(), b"a") {
-            Ok(_) => assert_eq!(rt; call, 7),
+            Ok(_region) => assert_eq!(rt; call, 7),
             Err((mut parts, error)) => {
                 assert_eq!(rt; error, AddError::RegionFault);
                 assert_eq!(rt; faults(&parts), 1);

@@ -1,13 +1,12 @@
-use Rattle.std.proofs.Common.{◌≡◌, ℕ, ◌+◌, ◌-◌, ◌<◌, ◌≤◌, List, All, length, map, sum_by, refl, sym, ap, ◌∙◌, subst, arith}
-use Rattle.nv_plain.specs.Images.{Image, entry_at}
+use Rattle.std.proofs.Common.{◌≡◌, ◌+◌, ◌-◌, List, map, sym, ap, ◌∙◌, subst, arith}
+use Rattle.nv_plain.specs.Images.{entry_at}
 use Rattle.nv_plain.specs.Layouts.{version_1}
 use Rattle.nv_pmem.specs.Part.{Part}
-use Rattle.nv_pmem.specs.Room.{Room}
 use Rattle.nv_pmem.specs.Rows.{RowTells}
 use Rattle.nv_pmem.specs.Steps.{History}
 use Rattle.nv_pmem.proofs.ReadLaws.{only_read_more, lines_still}
 use Rattle.nv_pmem.proofs.RowLaws.{row_tells_more, row_tells_both}
-use Rattle.nv_entry.specs.Checks.{IsGood, IsFirstBad, EndsAt, SaysBounds, SaysOfGroup, as_entry, region_words}
+use Rattle.nv_entry.specs.Checks.{IsFirstBad, SaysBounds, SaysOfGroup, as_entry, region_words}
 use Rattle.nv_entry.specs.declared.check.GroupCheck.TheVariants.{Whole, Bad}
 use Rattle.nv_entry.proofs.Checking.{entry_tells, not_from_false, from_true, HasChecked, bad_first, checked_first, checked_next, checked_bad, checked_all}
 use Rattle.nv_entry.proofs.check.check_group.Goals as goal

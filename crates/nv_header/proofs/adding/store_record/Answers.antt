@@ -1,4 +1,4 @@
-use Rattle.std.proofs.Common.{◌≡◌, ℕ, List, [], ◌∷◌, subst}
+use Rattle.std.proofs.Common.{ℕ, List, [], ◌∷◌, subst}
 use Rattle.nv_pmem.specs.Steps.{Flush, Fence, Did, DidSome, line_stores}
 use Rattle.nv_pmem.proofs.StepLaws.{did_did, did_did_some, did_some_all, did_some_front}
 use Rattle.nv_header.proofs.InRow.{stays_stored}

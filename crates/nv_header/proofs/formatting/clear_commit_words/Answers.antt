@@ -1,9 +1,10 @@
-use Rattle.std.proofs.Common.{◌≡◌, ◌+◌, ◌<◌, ◌≤◌, length, refl, ◌∙◌, arith}
+use Rattle.std.proofs.Common.{◌+◌, ◌<◌, length, refl, ◌∙◌, arith}
 use Rattle.std.proofs.lemmas.List.{length-map}
 use Rattle.nv_plain.specs.Layouts.{version_1}
+use Rattle.nv_pmem.specs.Steps.{durable_store}
 use Rattle.nv_pmem.proofs.StepLaws.{did_some_all}
 use Rattle.nv_header.proofs.Clearing.{cleared_none, cleared_more, cleared_some_more, cleared_all}
-use Rattle.nv_header.proofs.InRow.{did_in_row, did_some_in_row, same_in_row, same_sum_in_row, rose_in_row, roomy_part, has_parts_set, stays_settled, roomy_line_0}
+use Rattle.nv_header.proofs.InRow.{did_in_row, did_some_in_row, same_in_row, same_sum_in_row, roomy_part, has_parts_set, stays_settled, roomy_line_0}
 use Rattle.nv_header.proofs.formatting.clear_commit_words.Goals as goal
 
 pub loop-entry-init : goal.loop-entry-init
@@ -57,7 +58,7 @@ loop-entry-preserved g c =
     record {
       did =
           cleared_more c.loop-entry.entry i (c.loop-entry.entry + 1) refl refl c.loop-entry.invariant.did
-          (did_in_row g.L.Lines.history parts i was new inside is c.in_ok-store_durably.ensures.done);
+          (did_in_row g.L.Lines.history parts i was new {steps = durable_store 0 0 0} inside is c.in_ok-store_durably.ensures.done);
       parts =
           has_parts_set g.L.Lines.room version_1 c.args.geometry.page c.args.geometry.entries parts i was new inside is
           (stays_settled 1 0 c.store_durably.ensures.room c.in_ok-store_durably.ensures.settled) c.loop-entry.invariant.parts;

@@ -1,4 +1,4 @@
-use Rattle.std.proofs.Common.{◌≡◌, ◌≤◌, [], ◌∷◌, List, length, sym, subst, ℕ, arith, map}
+use Rattle.std.proofs.Common.{List, sym, subst, ℕ, arith, map}
 use Rattle.nv_plain.specs.Layouts.{version_1}
 use Rattle.nv_header.specs.Regions.{IsRegion}
 use Rattle.nv_header.proofs.FormatLaws.{format_moments, format_tells}

@@ -5,8 +5,8 @@ use Rattle.nv_pmem.specs.declared.mem_part.MemPart.{MemPart}
 use Rattle.nv_header.specs.Regions.{part_lines}
 use Rattle.nv_header.proofs.region_tests.blank_parts.Given as goal
 
-abbrev pub invariant-loop-_entry : goal.invariant-loop-_entry
-invariant-loop-_entry l = record {
+abbrev pub invariant-loop-entry : goal.invariant-loop-entry
+invariant-loop-entry l = record {
   count : length l.parts.items ≡ 1 + l._entry;
   each : (i : ℕ) (none : MemPart) → i < length l.parts.items → IsBlank (part_lines version_1 l.geometry.page i) (get_or l.parts.items i none);
 }
