@@ -17,13 +17,7 @@ use Rattle.nv_header.specs.declared.head.Head.{Head}
 use Rattle.nv_header.specs.Heads.{IsHeadOf, header_image, first_names}
 use Rattle.nv_header.specs.Needs.{header_history}
 use Rattle.nv_header.specs.Regions.{ReadsAs}
-
--- bounds that a head has
-pub record HasBounds (head : Head) (bounds : Bounds) : Type 0 where
-  pub page : head.geometry.page ≡ bounds.page
-  pub entries : head.geometry.entries ≡ bounds.entries
-  pub files : length head.names ≡ bounds.files
-  pub tail : head.tail ≡ bounds.tail
+use Rattle.nv_recover.specs.Bounding.{HasBounds}
 
 header_first : (row : List History) → header_history row ≡ slice_index_or row 0 []
 header_first [] = refl

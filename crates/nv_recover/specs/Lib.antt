@@ -5,4 +5,6 @@ pub mod Causes
 pub mod Telling
 pub mod Finding
 pub mod Applying
+pub mod Recovering
+pub mod Bounding
 pub mod Emptying

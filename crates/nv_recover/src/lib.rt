@@ -7,5 +7,7 @@ mod empty;
 mod error;
 mod group;
 mod groups;
+mod recover;
 
 pub use error::RecoverError;
+pub use recover::{Recovered, recover};
