@@ -1,6 +1,7 @@
 ghost use Rattle.std.specs.Prelude.{◌≡◌, ◌≢◌, ℕ, ◌+◌, ◌<◌, ◌≤◌, length, map, take, drop, fold, sum_by, All, Err, IfOk, OnOk, MatchOption};
 ghost use Rattle.std.specs.List.{range_with_len};
 ghost use Rattle.nv_plain.specs.Faults.{HasCause};
+ghost use Rattle.nv_plain.specs.Files.{Files};
 ghost use Rattle.nv_plain.specs.Images.{entry_at, entry_of, lines_for};
 ghost use Rattle.nv_plain.specs.Recovered.{with_entry, recovered};
 ghost use Rattle.nv_pmem.specs.Limits.{entry_lines};
@@ -17,7 +18,6 @@ ghost use Rattle.nv_recover.specs.Causes.{HasRegionCause, HasStoreCause};
 ghost use Rattle.nv_recover.specs.Groups.{AreGroups};
 ghost use Rattle.nv_recover.specs.Standing.{AreQuietStores, AreStoreImages, RecoverAlike, files_of};
 ghost use Rattle.nv_recover.specs.Telling.{AllTell};
-ghost use Rattle.nv_plain.specs.Files.{Files};
 ghost use Rattle.nv_recover.specs.declared.error.RecoverError.TheVariants as error;
 
 use crate::RecoverError;
@@ -119,6 +119,7 @@ fn write_entry<L: Lines, B: Backing>(
 {
     let head = load_piece(parts, bounds, number, page)?;
     let file = head.file as usize;
+    // No entry of a whole group names such a file, so only parts that tell nothing come here.
     if file >= stores.len() {
         return Err(RecoverError::BadEntry { number });
     }
@@ -152,6 +153,7 @@ fn load_piece<L: Lines>(
     let slot = 1 + (number % bounds.entries) as usize;
     match load_fitting(&mut parts[slot], page)? {
         Some(head) => Ok(head),
+        // Nor is its piece longer than a page.
         None => Err(RecoverError::BadEntry { number }),
     }
 }
