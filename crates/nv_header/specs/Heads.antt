@@ -1,5 +1,5 @@
 -- Heads: what the header of a region says, and when it can be read.
-use Rattle.std.specs.Prelude.{◌≡◌, ◌≢◌, ℕ, ◌+◌, ◌-◌, ◌*◌, ◌/◌, ◌%◌, ◌^◌, ◌<◌, ◌≤◌, ◌==◌, ◌&&◌, nat_le, Bool, IsTrue, List, take, drop, map}
+use Rattle.std.specs.Prelude.{◌≡◌, ◌≢◌, ℕ, ◌+◌, ◌-◌, ◌*◌, ◌/◌, ◌%◌, ◌^◌, ◌<◌, ◌≤◌, ◌==◌, ◌&&◌, nat_le, Bool, IsTrue, List, length, take, drop, map}
 use Rattle.std.specs.Int.{to_le_bytes, w64}
 use Rattle.std.specs.List.{flat_map, list_all, range_with_len}
 use Rattle.nv_plain.specs.Images.{Image, Header, header_magic, header_of, name_of}
@@ -63,3 +63,8 @@ pub record IsHeadOf (version : ℕ) (layout : Layout) (lines : ℕ) (image : Ima
   pub entries : head.geometry.entries ≡ (header_of image).entries
   pub names : head.names ≡ first_names layout image (header_of image).files
   pub tail : head.tail ≡ (header_of image).tail
+
+-- a head is within the limits of its layout
+pub record IsWithinLimits (layout : Layout) (head : Head) : Type 0 where
+  pub few : length head.names ≤ layout.file_limit
+  pub tail : head.tail ≤ 2 ^ 60

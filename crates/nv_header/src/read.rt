@@ -1,11 +1,11 @@
-ghost use Rattle.std.specs.Prelude.{◌≡◌, ◌<◌, ◌≤◌, ◌==◌, true, map, sum_by, Ok, Err, IfOk, IfErr};
+ghost use Rattle.std.specs.Prelude.{◌≡◌, ◌<◌, ◌≤◌, ◌==◌, true, length, map, sum_by, Ok, Err, IfOk, IfErr};
 ghost use Rattle.std.specs.List.{AllZip};
 ghost use Rattle.nv_plain.specs.Faults.{HasCause};
 ghost use Rattle.nv_plain.specs.Images.{header_of};
 ghost use Rattle.nv_plain.specs.Layouts.{version_1};
 ghost use Rattle.nv_pmem.specs.Moments.{Tells};
 ghost use Rattle.nv_pmem.specs.Room.{Keeps};
-ghost use Rattle.nv_header.specs.Heads.{IsHeadOf, header_image};
+ghost use Rattle.nv_header.specs.Heads.{IsHeadOf, IsWithinLimits, header_image};
 ghost use Rattle.nv_header.specs.Needs.{header_history, header_lines_in};
 ghost use Rattle.nv_header.specs.NextName.{IsNextName, AreNames, IsNameRefusal};
 ghost use Rattle.nv_header.specs.Refusals.{IsRefused, HeadHasCause};
@@ -55,6 +55,7 @@ fn is_blank_part<L: Lines>(part: &mut L) -> Result<bool, RegionFault>
 pub fn read_head<L: Lines>(alloc: Global, parts: &mut [L]) -> Result<Head, HeadError>
     ensures head { IfOk result (λ head. Tells (header_history (map L.history parts.old)) (λ now.
         IsHeadOf 1 version_1 (header_lines_in (map L.room parts.old)) (header_image now) head)) }
+    ensures limits { IfOk result (λ head. IsWithinLimits version_1 head) }
     ensures refused { IfErr result (λ e. Tells (header_history (map L.history parts.old)) (λ now.
         IsRefused 1 version_1 (header_lines_in (map L.room parts.old)) (header_image now) e)) }
     ensures truncated { header_lines_in (map L.room parts.old) < version_1.header_lines →
@@ -77,6 +78,7 @@ pub fn read_head<L: Lines>(alloc: Global, parts: &mut [L]) -> Result<Head, HeadE
 fn read_part<L: Lines>(alloc: Global, part: &mut L) -> Result<Head, HeadError>
     ensures head { IfOk result (λ head. Tells (L.history part.old) (λ now.
         IsHeadOf 1 version_1 (L.room part.old).lines (header_image now) head)) }
+    ensures limits { IfOk result (λ head. IsWithinLimits version_1 head) }
     ensures refused { IfErr result (λ e. Tells (L.history part.old) (λ now.
         IsRefused 1 version_1 (L.room part.old).lines (header_image now) e)) }
     ensures truncated { (L.room part.old).lines < version_1.header_lines →
@@ -109,6 +111,7 @@ fn read_names<L: Lines>(alloc: Global, part: &mut L, count: u64) -> Result<Names
     requires count { count ≤ version_1.file_limit }
     ensures names { IfOk result (λ names. Tells (L.history part.old) (λ now.
         AreNames version_1 (header_image now) count names)) }
+    ensures size { IfOk result (λ names. length names ≡ count) }
     ensures refused { IfErr result (λ e. Tells (L.history part.old) (λ now.
         count ≡ (header_of (header_image now)).files → IsNameRefusal version_1 (header_image now) e)) }
     ensures history { L.history part.new ≡ L.history part.old }

@@ -1,4 +1,5 @@
-use Rattle.std.proofs.Common.{◌+◌, ℕ, List, Option, Some, refl, subst, sym, ◌∙◌}
+use Rattle.std.proofs.Common.{◌+◌, ℕ, List, Option, Some, length, ap, refl, subst, sym, ◌∙◌}
+use Rattle.std.proofs.lemmas.List.{length_push}
 use Rattle.nv_plain.specs.Layouts.{version_1}
 use Rattle.nv_pmem.specs.Moments.{Tells}
 use Rattle.nv_pmem.specs.Steps.{History}
@@ -13,6 +14,7 @@ loop-i-init g c =
     let Are : List (List ℕ) → Type 0 = λ names. Tells (g.L.Lines.history c.args.part.now) (λ now. AreNames version_1 (header_image now) 0 names) in
     record {
       names = subst Are (sym c.new-names.ensures) (no_names (g.L.Lines.history c.args.part.now));
+      size = ap length c.new-names.ensures;
       history = refl;
       room = keeps_same _;
       faults = refl;
@@ -29,6 +31,10 @@ loop-i-preserved g c =
       names =
           subst Are (sym c.in_ok-push.ensures.ok)
           (names_more (g.L.Lines.history c.args.part.now) c.loop-i.names c.loop-i.i c.in-Some.name c.loop-i.invariant.names next);
+      size =
+          ap length c.in_ok-push.ensures.ok
+          ∙ length_push c.loop-i.names c.in-Some.name
+          ∙ ap (λ size. size + 1) c.loop-i.invariant.size;
       history = c.in_ok-name.ensures.history ∙ c.loop-i.invariant.history;
       room = keeps_keeps c.loop-i.invariant.room c.in_ok-name.ensures.room;
       faults = c.in_ok-name.ensures.cause ∙ c.loop-i.invariant.faults;

@@ -1,4 +1,4 @@
-use Rattle.std.proofs.Common.{◌≡◌}
+use Rattle.std.proofs.Common.{◌≡◌, length}
 use Rattle.nv_plain.specs.Layouts.{version_1}
 use Rattle.nv_pmem.specs.Moments.{Tells}
 use Rattle.nv_pmem.specs.Room.{Keeps}
@@ -10,6 +10,7 @@ use Rattle.nv_header.proofs.read.read_names.Given as goal
 abbrev pub invariant-loop-i : goal.invariant-loop-i
 invariant-loop-i g l = record {
   names : Tells (g.L.Lines.history l.fn.part) (λ now. AreNames version_1 (header_image now) l.i l.names);
+  size : length l.names ≡ l.i;
   history : g.L.Lines.history l.part ≡ g.L.Lines.history l.fn.part;
   room : Keeps (g.L.Lines.room l.fn.part) (g.L.Lines.room l.part);
   faults : g.L.Lines.fault_count l.part ≡ g.L.Lines.fault_count l.fn.part;
