@@ -10,7 +10,7 @@ use Rattle.nv_store.specs.Store.{Store}
 use Rattle.nv_entry.specs.Checks.{region_words}
 use Rattle.nv_recover.specs.Standing.{AreQuietStores, StillStandFor, files_of}
 use Rattle.nv_recover.specs.declared.group.Group.{Group}
-use Rattle.nv_recover.specs.declared.recover.Recovered.{Recovered}
+use Rattle.nv_recover.specs.declared.recovering.Recovered.{Recovered}
 
 -- the end of the last of some groups; the tail, where there is none
 abbrev pub end_of : ℕ → List Group → ℕ

@@ -7,7 +7,7 @@ mod empty;
 mod error;
 mod group;
 mod groups;
-mod recover;
+mod recovering;
 
 pub use error::RecoverError;
-pub use recover::{Recovered, recover};
+pub use recovering::{Recovered, recover};

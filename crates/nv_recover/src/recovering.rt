@@ -4,12 +4,12 @@ ghost use Rattle.nv_pmem.specs.Limits.{entry_lines};
 ghost use Rattle.nv_pmem.specs.Moments.{Tells};
 ghost use Rattle.nv_pmem.specs.Rows.{RowTells, AreOnlyRead};
 ghost use Rattle.nv_entry.specs.Checks.{SaysBounds, region_words};
-ghost use Rattle.nv_header.specs.Heads.{IsHeadOf, header_image};
+ghost use Rattle.nv_header.specs.Heads.{IsHeadOf, IsWithinLimits, header_image};
 ghost use Rattle.nv_header.specs.Needs.{header_history};
 ghost use Rattle.nv_header.specs.Regions.{AreQuiet, HasParts, IsAtRest};
 ghost use Rattle.nv_recover.specs.Applying.{AcrossTells};
 ghost use Rattle.nv_recover.specs.Causes.{RegionFailed, StoresFailed, HasRegionCause, HasStoreCause};
-ghost use Rattle.nv_recover.specs.Bounding.{HasBounds, IsWithinLimits};
+ghost use Rattle.nv_recover.specs.Bounding.{HasBounds};
 ghost use Rattle.nv_recover.specs.Groups.{AreGroups, IsLeastBad, leaders_of};
 ghost use Rattle.nv_recover.specs.Recovering.{HasFoundAll, HoldRecovered, StandAsBefore, end_of};
 ghost use Rattle.nv_recover.specs.Standing.{AreQuietStores, RecoverAlike};
@@ -25,7 +25,7 @@ use nv_entry::Bounds;
 use nv_header::{Head, Region};
 use nv_pmem::Lines;
 use nv_store::Backing;
-use std::alloc::{AllocFailed, Global};
+use std::alloc::Global;
 
 /// The greatest tail.
 const TAIL_LIMIT: u64 = 1 << 60;
@@ -161,13 +161,14 @@ fn recover_parts<L: Lines, B: Backing>(
 }
 
 // What the groups of a log say that recovery found.
-fn recovered_from(alloc: Global, tail: u64, groups: &[Group]) -> Result<Recovered, AllocFailed<u64>>
+fn recovered_from(alloc: Global, tail: u64, groups: &[Group]) -> Result<Recovered, RecoverError>
     requires { tail ≤ 2 ^ 60 }
     ensures first { IfOk result (λ found. found.first ≡ tail) }
     ensures groups { IfOk result (λ found. found.groups.items ≡ leaders_of groups.now) }
     ensures next { tail ≤ end_of tail groups.now → end_of tail groups.now ≤ 2 ^ 60 → IfOk result (λ found. found.next ≡ end_of tail groups.now) }
     ensures from_tail { IfOk result (λ found. tail ≤ found.next) }
     ensures limit { IfOk result (λ found. found.next ≤ 2 ^ 60) }
+    ensures no_memory { IfErr result (λ e. e ≡ error.NoMemory) }
 {
     let mut leaders = Vec::with_capacity(alloc, groups.len())?;
     let mut end = tail;
