@@ -11,3 +11,6 @@ mod recovering;
 
 pub use error::RecoverError;
 pub use recovering::{Recovered, recover};
+
+#[cfg(test)]
+mod tests;
