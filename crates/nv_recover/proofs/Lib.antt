@@ -13,3 +13,5 @@ pub mod EmptyParts
 pub mod EmptyRows
 pub mod MoveRows
 pub mod HeadRows
+pub mod LostPower
+pub mod TestRegions

@@ -1,9 +1,11 @@
-ghost use Rattle.std.specs.Prelude.{◌≡◌, ◌+◌, ◌≤◌, length, map, vec_len, All, IfOk};
+ghost use Rattle.std.specs.Prelude.{◌≡◌, ℕ, ◌+◌, ◌≤◌, length, map, vec_len, All, IfOk};
 ghost use Rattle.nv_plain.specs.Layouts.{version_1};
 ghost use Rattle.nv_plain.specs.Pieces.{pages_touched};
 ghost use Rattle.nv_pmem.specs.MemPart.{IsBlank, part_history, part_room};
 ghost use Rattle.nv_pmem.specs.Rows.{RowTells};
-ghost use Rattle.nv_header.specs.Regions.{HasParts, IsBlankRow};
+ghost use Rattle.nv_store.specs.MemStore.{store_history};
+ghost use Rattle.nv_header.specs.Regions.{AreQuiet, HasParts, IsBlankRow};
+ghost use Rattle.nv_recover.specs.Standing.{AreQuietStores};
 
 use crate::{RecoverError, Recovered, recover};
 use nv_entry::commit_group;
@@ -68,6 +70,7 @@ fn header(
     let mut parts = region.into_parts();
     parts.truncate(1);
     for header in &mut parts {
+        // It is quiet, so this changes nothing; but it tells that there is room for a store.
         header.image(&mut Picker::new(Pick::New));
         if header.lines() == 18 {
             move_tail(header, tail)?;
@@ -169,7 +172,11 @@ fn contents(store: &mut MemStore) -> Result<[u8; 160], StoreFault> {
 }
 
 // The parts lose power, and then the stores.
-fn lose_power(parts: &mut [MemPart], stores: &mut [MemStore], pick: Pick) {
+fn lose_power(parts: &mut [MemPart], stores: &mut [MemStore], pick: Pick)
+    ensures quiet { RowTells (map part_history parts.new) AreQuiet }
+    ensures spare { All (λ part. (line : ℕ) → (part_room part).spare line ≡ 15) parts.new }
+    ensures synced { RowTells (map store_history stores.new) AreQuietStores }
+{
     let mut picker = Picker::new(pick);
     for part in parts {
         part.image(&mut picker);
@@ -179,7 +186,8 @@ fn lose_power(parts: &mut [MemPart], stores: &mut [MemStore], pick: Pick) {
     }
 }
 
-// Recovers after a loss of power. Device call `stop` of the recovery and the later ones fail.
+// The parts lose power, and then the stores, and what is left is recovered. Device call `stop` of the recovery and the later
+// ones fail. An error where the parts or the stores aren't as many as the header says.
 fn recovery(
     alloc: Global,
     parts: Vec<MemPart>,
@@ -236,12 +244,17 @@ fn recover_twice(alloc: Global, pick: Pick, stop: u64) -> Result<(Bench, bool), 
         mut stores,
     } = three_groups(alloc)?;
     let (parts, stopped) = match recovery(alloc, parts, &mut stores, &fuse, Pick::New, stop)? {
-        Ok((region, _)) => (region.into_parts(), false),
-        Err((parts, RecoverError::RegionFault | RecoverError::StoreFault)) => (parts, true),
-        Err((_, error)) => return Err(error.into()),
+        Ok((region, _found)) => (region.into_parts(), false),
+        Err((parts, error)) => {
+            if !matches!(error, RecoverError::RegionFault | RecoverError::StoreFault) {
+                return Err(error.into());
+            }
+            (parts, true)
+        }
     };
     let answer = recovery(alloc, parts, &mut stores, &fuse, pick, UNSTOPPED)?;
-    let parts = answer.map_err(|failed| failed.1)?.0.into_parts();
+    let (region, _found) = answer.map_err(|failed| failed.1)?;
+    let parts = region.into_parts();
     let left = Bench {
         fuse,
         parts,
