@@ -13,3 +13,6 @@ pub mod EmptyParts
 pub mod EmptyRows
 pub mod MoveRows
 pub mod HeadRows
+pub mod Ends
+pub mod StandLaws
+pub mod RoomLaws
