@@ -13,3 +13,4 @@ pub mod EmptyParts
 pub mod EmptyRows
 pub mod MoveRows
 pub mod HeadRows
+pub mod Interrupted
