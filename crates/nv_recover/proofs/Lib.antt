@@ -16,3 +16,4 @@ pub mod HeadRows
 pub mod Ends
 pub mod StandLaws
 pub mod RoomLaws
+pub mod Interrupted

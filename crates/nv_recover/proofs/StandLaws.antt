@@ -1,5 +1,6 @@
 -- What the parts and stores stand for, wherever recovery ends.
-use Rattle.std.proofs.Common.{◌≡◌, ◌⊎◌, inl, inr, ℕ, ◌≤◌, ◌^◌, List, slice_index_or, sym, ap, ◌∙◌, subst, arith}
+use Rattle.std.proofs.Common.{◌≡◌, ◌⊎◌, inl, inr, ℕ, ◌<◌, ◌≤◌, ◌^◌, List, length, map, slice_index_or, sym, ap, ◌∙◌, subst, arith}
+use Rattle.std.proofs.lemmas.List.{length-map, get_or-map}
 use Rattle.nv_plain.specs.Files.{Files}
 use Rattle.nv_plain.specs.Images.{Image, header_of}
 use Rattle.nv_plain.specs.Layouts.{version_1}
@@ -8,9 +9,10 @@ use Rattle.nv_pmem.specs.Part.{Part}
 use Rattle.nv_pmem.specs.Rows.{RowTells, InEachRowImage, IsRowImage}
 use Rattle.nv_pmem.specs.Steps as lines
 use Rattle.nv_pmem.proofs.ImageLaws.{quiet_image as quiet_line}
-use Rattle.nv_pmem.proofs.RowLaws.{row_tells_more, row_tells_both}
-use Rattle.nv_store.specs.Steps.{History}
-use Rattle.nv_store.specs.Store.{Store}
+use Rattle.nv_pmem.proofs.RowLaws.{row_tells_any, row_tells_more, row_tells_both}
+use Rattle.nv_store.specs.Steps.{History, Sync, after_step}
+use Rattle.nv_store.specs.Store.{Store, IsQuiet}
+use Rattle.nv_store.proofs.StoreLaws.{quiet_is_quiet}
 use Rattle.nv_entry.specs.declared.bounds.Bounds.{Bounds}
 use Rattle.nv_entry.specs.Checks.{SaysBounds, region_words}
 use Rattle.nv_header.specs.Regions.{AreQuiet}
@@ -20,6 +22,7 @@ use Rattle.nv_recover.specs.Emptying.{RowsTell, CommitsNoneFrom, SaysTheSameOrEm
 use Rattle.nv_recover.specs.Groups.{AreGroups, leaders_of}
 use Rattle.nv_recover.specs.Recovering.{HasFoundAll, HoldRecovered, StandAsBefore, end_of}
 use Rattle.nv_recover.specs.Standing.{AreStoreImages, AreQuietStores, RecoverAlike, StandsFor, StillStandFor, files_of}
+use Rattle.nv_recover.specs.Telling.{AllTell}
 use Rattle.nv_recover.specs.declared.group.Group.{Group}
 use Rattle.nv_recover.specs.declared.recovering.Recovered.{Recovered}
 use Rattle.nv_recover.proofs.AlikeLaws.{same_fits, same_recovered, empty_fits, empty_recovered}
@@ -28,6 +31,7 @@ use Rattle.nv_recover.proofs.EmptyLaws.{same_words, empty_none}
 use Rattle.nv_recover.proofs.Ends.{ends}
 use Rattle.nv_recover.proofs.Entries.{unwritten, quiet_alike}
 use Rattle.nv_recover.proofs.Present.{row_tells_from, row_tells_at, are_now_same}
+use Rattle.nv_recover.proofs.StoreRows.{across_tells}
 
 -- ---- images
 
@@ -67,6 +71,38 @@ stands_emptied page entries names next image now was held fits each alike hold o
 -- stores that nothing was done to recover alike
 pub alike_still : (parts : List lines.History) (row : List History) → RowTells row AreQuietStores → AcrossTells parts row row RecoverAlike
 alike_still parts row quiet = quiet_alike parts row row quiet (unwritten parts row StaysAlike alike_none)
+
+-- where the stores are synced after that
+pub alike_synced : (parts : List lines.History) (old between new : List History) → (AllTell old → AllTell between) → AcrossTells parts old between RecoverAlike
+    → RowTells between (λ was. RowTells new (λ now. (bytes : Files) → AreStoreImages now bytes → AreStoreImages was bytes)) → AcrossTells parts old new RecoverAlike
+alike_synced parts old between new tells alike images =
+    let Images : Image → List Store → List Store → Type 0 = λ image was now. (bytes : Files) → AreStoreImages now bytes → AreStoreImages was bytes in
+    across_tells parts old between new RecoverAlike Images RecoverAlike tells (λ image was then now like same bytes are. like bytes (same bytes are)) alike
+    (row_tells_any parts (λ these. RowTells between (λ was. RowTells new (Images (region_words these) was))) (λ these. images))
+
+quiet_synced : (stores : List Store) → AreQuietStores (map (after_step Sync) stores)
+quiet_synced stores i d inside =
+    let store = slice_index_or stores i d in
+    let below : i < length stores = omega (arith, length-map stores (after_step Sync)) in
+    subst IsQuiet (sym (get_or-map (after_step Sync) stores i d d below)) (quiet_is_quiet store.seen)
+
+pub hold_synced : (parts : List lines.History) (old between new : List History) → (AllTell old → AllTell between)
+    → AcrossTells parts old between (λ image was now. files_of now ≡ (recovered image (files_of was)).files)
+    → RowTells between (λ was. RowTells new (λ now. now ≡ map (after_step Sync) was)) → RowTells between (λ was. RowTells new (λ now. files_of now ≡ files_of was))
+    → AcrossTells parts old new HoldRecovered
+hold_synced parts old between new tells written synced seen =
+    let Wrote : Image → List Store → List Store → Type 0 = λ image was now. files_of now ≡ (recovered image (files_of was)).files in
+    let Synced : List Store → List Store → Type 0 = λ was now. now ≡ map (after_step Sync) was in
+    let Seen : List Store → List Store → Type 0 = λ was now. files_of now ≡ files_of was in
+    let Both : List Store → List Store → Type 0 = λ was now. Synced was now × Seen was now in
+    across_tells parts old between new Wrote (λ image. Both) HoldRecovered tells
+    (λ image was then now wrote both. record { files = both.1 ∙ wrote; synced = subst AreQuietStores (sym both.0) (quiet_synced then) })
+    written
+    (row_tells_any parts (λ these. RowTells between (λ was. RowTells new (Both was)))
+    (λ these.
+    row_tells_more between (λ was. RowTells new (Synced was) × RowTells new (Seen was)) (λ was. RowTells new (Both was))
+    (λ was both. row_tells_both new (Synced was) (Seen was) both.0 both.1)
+    (row_tells_both between (λ was. RowTells new (Synced was)) (λ was. RowTells new (Seen was)) synced seen)))
 
 -- where the parts are only read
 pub stand_read : (parts : List lines.History) (old new : List History) → RowTells parts AreQuiet → AcrossTells parts old new RecoverAlike → StandAsBefore parts old parts new
