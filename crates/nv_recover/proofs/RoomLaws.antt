@@ -1,5 +1,5 @@
 -- The lines of a region's parts, as each call asks for them.
-use Rattle.std.proofs.Common.{◌≡◌, ℕ, ◌+◌, ◌<◌, ◌≤◌, All, List, length, take, drop, map, get_or, zero, suc, sym, ap, ◌∙◌, subst, arith}
+use Rattle.std.proofs.Common.{◌≡◌, ℕ, ◌+◌, ◌<◌, ◌≤◌, All, List, [], ◌∷◌, length, take, drop, map, get_or, zero, suc, refl, sym, ap, ◌∙◌, subst, arith}
 use Rattle.std.proofs.lemmas.List.{length-map, get_or-map, get_or-take, get_or-drop, length-take, length-drop}
 use Rattle.std.proofs.lemmas.List.Elements.{AllZip-get_or, length_all_zip}
 use Rattle.std.specs.List.{AllZip}
@@ -30,9 +30,10 @@ module _ {X : Type 0} (room : X → Room) (page entries : ℕ) where
   parts_slots parts has i d inside =
       let slots = drop 1 parts in
       let below : i < entries = omega (arith, length-take entries slots) in
-      let there : 1 + i < length parts = omega (arith, parts_count parts has) in
+      let at : 1 + i ≡ suc i = omega arith in
       let is : get_or (take entries slots) i d ≡ get_or parts (1 + i) d = get_or-take entries slots i d below ∙ get_or-drop 1 parts i d in
-      omega (arith, (roomy_at parts (1 + i) d has there).there, ap (λ part. (room part).lines) is)
+      let slot : IsRoomy (entry_lines page) (room (get_or parts (suc i) d)) = roomy_at parts (suc i) d has (omega (arith, parts_count parts has)) in
+      omega (arith, slot.there, ap (λ part. (room part).lines) (is ∙ ap (λ k. get_or parts k d) at))
 
   still_each : (old new : List X) → AllZip (λ before now. Keeps (room before) (room now)) old new → HasParts version_1 page entries (map room old) → length old ≡ length new
       → (i : ℕ) (none : Room) → i < length old → IsRoomy (part_lines version_1 page i) (get_or (map room new) i none)
@@ -55,3 +56,11 @@ module _ {X : Type 0} (room : X → Room) (page entries : ℕ) where
         count = length-map new room ∙ sym long ∙ parts_count old has;
         each = λ i none below. still_each old new rooms has long i none (omega (arith, parts_count old has));
       }
+
+  -- and have as many lines
+  pub lines_same : (old new : List X) → AllZip (λ before now. Keeps (room before) (room now)) old new → map (λ part. (room part).lines) new ≡ map (λ part. (room part).lines) old
+  lines_same [] [] rooms = refl
+  lines_same [] (y ∷ new) rooms = absurd rooms
+  lines_same (x ∷ old) [] rooms = absurd rooms
+  lines_same (x ∷ old) (y ∷ new) rooms =
+      ap (λ count. count ∷ map (λ part. (room part).lines) new) rooms.0.lines ∙ ap (λ others. (room x).lines ∷ others) (lines_same old new rooms.1)

@@ -11,7 +11,7 @@ ghost use Rattle.nv_recover.specs.Applying.{AcrossTells};
 ghost use Rattle.nv_recover.specs.Causes.{RegionFailed, StoresFailed, HasRegionCause, HasStoreCause};
 ghost use Rattle.nv_recover.specs.Bounding.{HasBounds};
 ghost use Rattle.nv_recover.specs.Groups.{AreGroups, IsLeastBad, leaders_of};
-ghost use Rattle.nv_recover.specs.Recovering.{HasFoundAll, HoldRecovered, StandAsBefore, end_of};
+ghost use Rattle.nv_recover.specs.Recovering.{AreUntouched, HasFoundAll, HoldRecovered, StandAsBefore, end_of};
 ghost use Rattle.nv_recover.specs.Standing.{AreQuietStores, RecoverAlike};
 ghost use Rattle.nv_recover.specs.Telling.{AllTell};
 ghost use Rattle.nv_recover.specs.declared.error.RecoverError.TheVariants as error;
@@ -74,7 +74,7 @@ pub fn recover<L: Lines + Drop, B: Backing>(
     ensures unread { IfErr result (λ failed. (number : ℕ) → failed.1 ≡ error.BadEntry number
         → AreOnlyRead L.history L.room L.device parts.items failed.0.items) }
     ensures untouched { IfErr result (λ failed. (number : ℕ) → failed.1 ≡ error.BadEntry number
-        → RowTells (map L.history parts.items) (λ parts. map B.history stores.new.items ≡ map B.history stores.old.items)) }
+        → AreUntouched (map L.history parts.items) (map B.history stores.old.items) (map B.history stores.new.items)) }
 
     ensures stand { MatchResult result
         (λ done. StandAsBefore (map L.history parts.items) (map B.history stores.old.items)
@@ -146,7 +146,7 @@ fn recover_parts<L: Lines, B: Backing>(
         → RowTells (map L.history parts.old) (λ parts. IsLeastBad version_1 (region_words parts) number) }
     ensures unread { (number : ℕ) → result ≡ Err (error.BadEntry number) → AreOnlyRead L.history L.room L.device parts.old parts.new }
     ensures untouched { (number : ℕ) → result ≡ Err (error.BadEntry number)
-        → RowTells (map L.history parts.old) (λ parts. map B.history stores.new ≡ map B.history stores.old) }
+        → AreUntouched (map L.history parts.old) (map B.history stores.old) (map B.history stores.new) }
     ensures stand { StandAsBefore (map L.history parts.old) (map B.history stores.old) (map L.history parts.new) (map B.history stores.new) }
     ensures lines { map (λ part. (L.room part).lines) parts.new ≡ map (λ part. (L.room part).lines) parts.old }
     ensures region_cause { HasRegionCause (sum_by L.fault_count parts.old) (sum_by L.fault_count parts.new) result }
