@@ -13,3 +13,6 @@ mod recovering;
 pub use error::RecoverError;
 pub use laws::recoveries_give_the_same_files;
 pub use recovering::{Recovered, recover};
+
+#[cfg(test)]
+mod tests;
