@@ -13,5 +13,9 @@ pub mod EmptyParts
 pub mod EmptyRows
 pub mod MoveRows
 pub mod HeadRows
+pub mod Ends
+pub mod StandLaws
+pub mod RoomLaws
+pub mod Interrupted
 pub mod LostPower
 pub mod TestRegions

@@ -8,3 +8,4 @@ pub mod Applying
 pub mod Recovering
 pub mod Bounding
 pub mod Emptying
+pub mod Interrupted

@@ -28,6 +28,10 @@ pub record HoldRecovered (image : Image) (was now : List Store) : Type 0 where
   pub files : files_of now ≡ (recovered image (files_of was)).files
   pub synced : AreQuietStores now
 
+-- Where the parts tell, the stores are as they were.
+pub record AreUntouched (parts : List lines.History) (old new : List stores.History) : Type 0 where
+  pub same : RowTells parts (λ parts. new ≡ old)
+
 -- Where an image fits, whatever a power failure now leaves of the parts and the stores stands for the files that the
 -- image and the stores stood for before.
 abbrev pub StandAsBefore : List lines.History → List stores.History → List lines.History → List stores.History → Type 0

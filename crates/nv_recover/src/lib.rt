@@ -7,9 +7,11 @@ mod empty;
 mod error;
 mod group;
 mod groups;
+mod laws;
 mod recovering;
 
 pub use error::RecoverError;
+pub use laws::recoveries_give_the_same_files;
 pub use recovering::{Recovered, recover};
 
 #[cfg(test)]

@@ -11,7 +11,7 @@ ghost use Rattle.nv_recover.specs.Applying.{AcrossTells};
 ghost use Rattle.nv_recover.specs.Causes.{RegionFailed, StoresFailed, HasRegionCause, HasStoreCause};
 ghost use Rattle.nv_recover.specs.Bounding.{HasBounds};
 ghost use Rattle.nv_recover.specs.Groups.{AreGroups, IsLeastBad, leaders_of};
-ghost use Rattle.nv_recover.specs.Recovering.{HasFoundAll, HoldRecovered, StandAsBefore, end_of};
+ghost use Rattle.nv_recover.specs.Recovering.{AreUntouched, HasFoundAll, HoldRecovered, StandAsBefore, end_of};
 ghost use Rattle.nv_recover.specs.Standing.{AreQuietStores, RecoverAlike};
 ghost use Rattle.nv_recover.specs.Telling.{AllTell};
 ghost use Rattle.nv_recover.specs.declared.error.RecoverError.TheVariants as error;
@@ -74,7 +74,7 @@ pub fn recover<L: Lines + Drop, B: Backing>(
     ensures unread { IfErr result (λ failed. (number : ℕ) → failed.1 ≡ error.BadEntry number
         → AreOnlyRead L.history L.room L.device parts.items failed.0.items) }
     ensures untouched { IfErr result (λ failed. (number : ℕ) → failed.1 ≡ error.BadEntry number
-        → RowTells (map L.history parts.items) (λ parts. map B.history stores.new.items ≡ map B.history stores.old.items)) }
+        → AreUntouched (map L.history parts.items) (map B.history stores.old.items) (map B.history stores.new.items)) }
 
     ensures stand { MatchResult result
         (λ done. StandAsBefore (map L.history parts.items) (map B.history stores.old.items)
@@ -97,7 +97,8 @@ pub fn recover<L: Lines + Drop, B: Backing>(
     ensures stores { map B.device stores.new.items ≡ map B.device stores.old.items }
 {
     let mut parts = parts;
-    match recover_parts(alloc, &head, &mut parts, stores) {
+    let bounds = bounds_of(&head);
+    match recover_parts(alloc, &head, &bounds, &mut parts, stores) {
         Ok(recovered) => {
             let region = Region::from_parts(parts, head.geometry, head.names, recovered.next);
             Ok((region, recovered))
@@ -123,28 +124,29 @@ fn bounds_of(head: &Head) -> Bounds
 fn recover_parts<L: Lines, B: Backing>(
     alloc: Global,
     head: &Head,
+    bounds: &Bounds,
     parts: &mut [L],
     stores: &mut [B],
 ) -> Result<Recovered, RecoverError>
-    requires limits { IsWithinLimits version_1 head.now }
+    requires bounds { HasBounds head.now bounds.now }
     requires head { Tells (header_history (map L.history parts.old)) (λ now.
         IsHeadOf 1 version_1 version_1.header_lines (header_image now) head.now) }
-    requires parts { HasParts version_1 head.now.geometry.page head.now.geometry.entries (map L.room parts.old) }
+    requires parts { HasParts version_1 bounds.now.page bounds.now.entries (map L.room parts.old) }
     requires quiet { RowTells (map L.history parts.old) AreQuiet }
-    requires stores { length stores.old ≡ length head.now.names }
+    requires stores { length stores.old ≡ bounds.now.files }
     requires synced { RowTells (map B.history stores.old) AreQuietStores }
     ensures found { IfOk result (λ found. RowTells (map L.history parts.old) (λ parts.
         RowTells (map B.history stores.old) (λ was. HasFoundAll (region_words parts) was found))) }
     ensures files { OnOk result (AcrossTells (map L.history parts.old) (map B.history stores.old) (map B.history stores.new) HoldRecovered) }
     ensures rest { IfOk result (λ found. RowTells (map L.history parts.new)
-        (IsAtRest version_1 head.now.geometry.page head.now.geometry.entries head.now.names found.next)) }
-    ensures parts { OnOk result (HasParts version_1 head.now.geometry.page head.now.geometry.entries (map L.room parts.new)) }
+        (IsAtRest version_1 bounds.now.page bounds.now.entries head.now.names found.next)) }
+    ensures parts { OnOk result (HasParts version_1 bounds.now.page bounds.now.entries (map L.room parts.new)) }
     ensures limit { IfOk result (λ found. found.next ≤ 2 ^ 60) }
     ensures bad { (number : ℕ) → result ≡ Err (error.BadEntry number)
         → RowTells (map L.history parts.old) (λ parts. IsLeastBad version_1 (region_words parts) number) }
     ensures unread { (number : ℕ) → result ≡ Err (error.BadEntry number) → AreOnlyRead L.history L.room L.device parts.old parts.new }
     ensures untouched { (number : ℕ) → result ≡ Err (error.BadEntry number)
-        → RowTells (map L.history parts.old) (λ parts. map B.history stores.new ≡ map B.history stores.old) }
+        → AreUntouched (map L.history parts.old) (map B.history stores.old) (map B.history stores.new) }
     ensures stand { StandAsBefore (map L.history parts.old) (map B.history stores.old) (map L.history parts.new) (map B.history stores.new) }
     ensures lines { map (λ part. (L.room part).lines) parts.new ≡ map (λ part. (L.room part).lines) parts.old }
     ensures region_cause { HasRegionCause (sum_by L.fault_count parts.old) (sum_by L.fault_count parts.new) result }
@@ -152,11 +154,10 @@ fn recover_parts<L: Lines, B: Backing>(
     ensures devices { map L.device parts.new ≡ map L.device parts.old }
     ensures stores { map B.device stores.new ≡ map B.device stores.old }
 {
-    let bounds = bounds_of(head);
-    let groups = find_groups(alloc, parts, &bounds)?;
+    let groups = find_groups(alloc, parts, bounds)?;
     let recovered = recovered_from(alloc, bounds.tail, &groups)?;
-    replay(alloc, parts, stores, &bounds, &groups)?;
-    empty_log(parts, &bounds, recovered.next)?;
+    replay(alloc, parts, stores, bounds, &groups)?;
+    empty_log(parts, bounds, recovered.next)?;
     Ok(recovered)
 }
 
@@ -165,7 +166,8 @@ fn recovered_from(alloc: Global, tail: u64, groups: &[Group]) -> Result<Recovere
     requires { tail ≤ 2 ^ 60 }
     ensures first { IfOk result (λ found. found.first ≡ tail) }
     ensures groups { IfOk result (λ found. found.groups.items ≡ leaders_of groups.now) }
-    ensures next { tail ≤ end_of tail groups.now → end_of tail groups.now ≤ 2 ^ 60 → IfOk result (λ found. found.next ≡ end_of tail groups.now) }
+    ensures next { IfOk result (λ found. tail ≤ end_of tail groups.now → end_of tail groups.now ≤ 2 ^ 60
+        → found.next ≡ end_of tail groups.now) }
     ensures from_tail { IfOk result (λ found. tail ≤ found.next) }
     ensures limit { IfOk result (λ found. found.next ≤ 2 ^ 60) }
     ensures no_memory { IfErr result (λ e. e ≡ error.NoMemory) }

@@ -1,0 +1,12 @@
+use Rattle.std.proofs.Common.{◌∙◌}
+use Rattle.nv_recover.proofs.Interrupted.{stops_stand}
+use Rattle.nv_recover.proofs.laws.recoveries_give_the_same_files.Goals as goal
+
+pub returns-clause-fits : goal.returns-clause-fits
+returns-clause-fits c = λ first later stops fits. (stops_stand first later stops fits).fits
+
+pub returns-clause-same : goal.returns-clause-same
+returns-clause-same c = λ first later stops fits. (stops_stand first later stops fits).recovers
+
+pub returns-clause-last : goal.returns-clause-last
+returns-clause-last c = λ first later held stops fits is. is ∙ (stops_stand first later stops fits).recovers
