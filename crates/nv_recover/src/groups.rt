@@ -69,11 +69,7 @@ fn look_at<L: Lines>(
 }
 
 // The committed group of a leader, if it is whole.
-fn checked<L: Lines>(
-    parts: &mut [L],
-    bounds: &Bounds,
-    leader: u64,
-) -> Result<Group, RecoverError>
+fn checked<L: Lines>(parts: &mut [L], bounds: &Bounds, leader: u64) -> Result<Group, RecoverError>
     requires parts { 1 + bounds.now.entries ≤ length parts.old }
     requires lines { All (λ part. 1 ≤ (L.room part).lines) parts.old }
     requires header { RowTells (map L.history parts.old) (λ parts. SaysBounds bounds.now (region_words parts)) }
