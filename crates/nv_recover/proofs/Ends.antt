@@ -1,5 +1,5 @@
 -- Where the groups of a log end.
-use Rattle.std.proofs.Common.{◌≡◌, ◌⊎◌, inl, inr, ℕ, ◌+◌, ◌^◌, ◌<◌, ◌≤◌, ◌==◌, if◌then◌else◌, All, List, [], ◌∷◌, ◌++◌, length, take, map, get_or, zero, suc, refl, sym, ap, ◌∙◌, subst, arith}
+use Rattle.std.proofs.Common.{◌≡◌, inl, inr, ℕ, ◌+◌, ◌^◌, ◌<◌, ◌≤◌, if◌then◌else◌, All, List, [], ◌∷◌, ◌++◌, length, take, get_or, zero, suc, refl, sym, ap, ◌∙◌, subst, arith}
 use Rattle.std.proofs.lemmas.Bool.{cases_eq, eq-eqb, ne_eqb}
 use Rattle.std.proofs.lemmas.List.{map-append, take_more}
 use Rattle.std.proofs.lemmas.List.Elements.{All-head, All-tail}
@@ -7,8 +7,7 @@ use Rattle.std.proofs.lemmas.List.Sums.{fold-append}
 use Rattle.std.specs.Prelude.{fold, filter}
 use Rattle.std.specs.List.{range_with_len}
 use Rattle.nv_plain.specs.Images.{Image, header_of, entry_at}
-use Rattle.nv_plain.specs.Layouts.{version_1}
-use Rattle.nv_plain.specs.Recovered.{IsCommitted, committed, next_after}
+use Rattle.nv_plain.specs.Recovered.{committed, next_after}
 use Rattle.nv_recover.specs.Emptying.{CommitsNoneFrom}
 use Rattle.nv_recover.specs.Finding.{commits_at}
 use Rattle.nv_recover.specs.Groups.{AreGroups, leaders_of}

@@ -1,5 +1,5 @@
 -- A walk over the log: which groups it has found so far.
-use Rattle.std.proofs.Common.{◌≡◌, ◌≢◌, ◌⊎◌, inl, inr, ℕ, ◌+◌, ◌-◌, ◌<◌, ◌≤◌, ◌==◌, Bool, if◌then◌else◌, All, List, [], ◌∷◌, ◌++◌, map, zero, suc, refl, sym, ap, ◌∙◌, subst, arith, add-zero}
+use Rattle.std.proofs.Common.{◌≡◌, ◌≢◌, inl, inr, ℕ, ◌+◌, ◌-◌, ◌<◌, ◌≤◌, if◌then◌else◌, List, [], ◌∷◌, ◌++◌, zero, suc, sym, ap, ◌∙◌, subst, arith, add-zero}
 use Rattle.std.proofs.lemmas.Bool.{cases_eq, cases_lt, eq-eqb, ne_eqb}
 use Rattle.std.proofs.lemmas.List.{append-nil, map-append}
 use Rattle.std.proofs.lemmas.List.Elements.{filter-append, All-nil, All-push}
@@ -7,10 +7,10 @@ use Rattle.std.specs.Prelude.{filter}
 use Rattle.std.specs.List.{range_with_len}
 use Rattle.nv_plain.specs.Images.{Image, header_of, entry_at}
 use Rattle.nv_plain.specs.Layouts.{Layout, version_1}
-use Rattle.nv_plain.specs.Recovered.{IsCommitted, IsInGroup, IsGroup, committed}
+use Rattle.nv_plain.specs.Recovered.{IsCommitted, IsInGroup, IsGroup}
 use Rattle.nv_entry.specs.Checks.{IsGood, IsFirstBad}
 use Rattle.nv_recover.specs.Finding.{commits_at, HasFound}
-use Rattle.nv_recover.specs.Groups.{leaders_of, AreGroups, IsLeastBad}
+use Rattle.nv_recover.specs.Groups.{AreGroups, IsLeastBad}
 use Rattle.nv_recover.specs.declared.group.Group.{Group}
 
 -- a range with one number more

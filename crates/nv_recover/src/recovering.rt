@@ -71,7 +71,7 @@ pub fn recover<L: Lines + Drop, B: Backing>(
 
     ensures bad { IfErr result (λ failed. (number : ℕ) → failed.1 ≡ error.BadEntry number
         → RowTells (map L.history parts.items) (λ parts. IsLeastBad version_1 (region_words parts) number)) }
-    ensures unread { IfErr result (λ failed. (number : ℕ) → failed.1 ≡ error.BadEntry number
+    ensures unwritten { IfErr result (λ failed. (number : ℕ) → failed.1 ≡ error.BadEntry number
         → AreOnlyRead L.history L.room L.device parts.items failed.0.items) }
     ensures untouched { IfErr result (λ failed. (number : ℕ) → failed.1 ≡ error.BadEntry number
         → AreUntouched (map L.history parts.items) (map B.history stores.old.items) (map B.history stores.new.items)) }
@@ -144,7 +144,7 @@ fn recover_parts<L: Lines, B: Backing>(
     ensures limit { IfOk result (λ found. found.next ≤ 2 ^ 60) }
     ensures bad { (number : ℕ) → result ≡ Err (error.BadEntry number)
         → RowTells (map L.history parts.old) (λ parts. IsLeastBad version_1 (region_words parts) number) }
-    ensures unread { (number : ℕ) → result ≡ Err (error.BadEntry number) → AreOnlyRead L.history L.room L.device parts.old parts.new }
+    ensures unwritten { (number : ℕ) → result ≡ Err (error.BadEntry number) → AreOnlyRead L.history L.room L.device parts.old parts.new }
     ensures untouched { (number : ℕ) → result ≡ Err (error.BadEntry number)
         → AreUntouched (map L.history parts.old) (map B.history stores.old) (map B.history stores.new) }
     ensures stand { StandAsBefore (map L.history parts.old) (map B.history stores.old) (map L.history parts.new) (map B.history stores.new) }

@@ -1,8 +1,7 @@
-use Rattle.std.proofs.Common.{◌≡◌, ◌+◌, ◌^◌, ◌≤◌, List, Err, map, length, refl, sym, ap, ◌∙◌, subst, arith}
+use Rattle.std.proofs.Common.{◌≡◌, ◌^◌, ◌≤◌, List, Err, map, refl, sym, ap, ◌∙◌, subst, arith}
 use Rattle.std.proofs.lemmas.List.{length-map}
 use Rattle.std.proofs.lemmas.Result.{err_from_is_err_and}
 use Rattle.nv_plain.specs.Layouts.{version_1}
-use Rattle.nv_pmem.specs.Part.{Part}
 use Rattle.nv_pmem.specs.Rows.{RowTells, InEachRowImage}
 use Rattle.nv_pmem.specs.Steps as lines
 use Rattle.nv_pmem.proofs.ReadLaws.{only_read_more}
@@ -12,7 +11,7 @@ use Rattle.nv_entry.specs.Checks.{SaysBounds, region_words}
 use Rattle.nv_header.specs.Regions.{ReadsAs}
 use Rattle.nv_recover.specs.Applying.{AcrossTells}
 use Rattle.nv_recover.specs.Emptying.{RowsTell, CommitsNoneFrom, SaysTheSameOrEmpty}
-use Rattle.nv_recover.specs.Groups.{AreGroups, IsLeastBad, leaders_of}
+use Rattle.nv_recover.specs.Groups.{IsLeastBad, leaders_of}
 use Rattle.nv_recover.specs.Recovering.{HoldRecovered, StandAsBefore, end_of}
 use Rattle.nv_recover.specs.Standing.{RecoverAlike}
 use Rattle.nv_recover.specs.declared.error.RecoverError.TheVariants.{BadEntry}
@@ -85,8 +84,8 @@ returns-in_err-replay-clause-bad g c number is =
     row_tells_more first (λ parts. ⊥) (λ parts. IsLeastBad version_1 (region_words parts) number) (λ parts never. absurd never)
     (subst Never c.find_groups.ensures.read.histories (c.replay.ensures.bad number (c.in_err-replay.was ∙ ap Err same)))
 
-pub returns-in_err-replay-clause-unread : goal.returns-in_err-replay-clause-unread
-returns-in_err-replay-clause-unread g c number is = only_read_more c.find_groups.ensures.read c.replay.ensures.read
+pub returns-in_err-replay-clause-unwritten : goal.returns-in_err-replay-clause-unwritten
+returns-in_err-replay-clause-unwritten g c number is = only_read_more c.find_groups.ensures.read c.replay.ensures.read
 
 pub returns-in_err-replay-clause-untouched : goal.returns-in_err-replay-clause-untouched
 returns-in_err-replay-clause-untouched g c number is =

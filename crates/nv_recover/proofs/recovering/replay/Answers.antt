@@ -1,9 +1,5 @@
-use Rattle.std.proofs.Common.{◌≡◌, List, map, refl, sym, ap, ◌∙◌, subst, arith}
-use Rattle.nv_plain.specs.Images.{Image}
-use Rattle.nv_pmem.specs.Steps as lines
+use Rattle.std.proofs.Common.{map}
 use Rattle.nv_pmem.proofs.ReadLaws.{only_read_none}
-use Rattle.nv_store.specs.Steps.{History}
-use Rattle.nv_store.specs.Store.{Store}
 use Rattle.nv_recover.proofs.StandLaws.{alike_still, alike_synced, hold_synced}
 use Rattle.nv_recover.proofs.recovering.replay.Goals as goal
 
