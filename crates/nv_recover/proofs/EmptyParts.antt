@@ -1,13 +1,15 @@
 -- One part whose commit word is cleared, or whose tail moves: what its images are.
-use Rattle.std.proofs.Common.{◌≡◌, ◌≢◌, ◌⊎◌, inl, inr, ℕ, ◌<◌, ◌≤◌, sym, ap, ◌∙◌, subst, arith}
+use Rattle.std.proofs.Common.{◌≡◌, ◌≢◌, ◌⊎◌, inl, inr, ℕ, ◌<◌, ◌≤◌, refl, sym, ap, ◌∙◌, subst, arith}
 use Rattle.nv_plain.specs.Images.{PartImage}
 use Rattle.nv_pmem.specs.Images.{IsImage, InEachImage, IsOldOrStored, IsQuiet}
 use Rattle.nv_pmem.specs.Moments.{Tells, EachMoment}
 use Rattle.nv_pmem.specs.Part.{Part, word_of}
 use Rattle.nv_pmem.specs.Steps.{History}
 use Rattle.nv_pmem.proofs.ImageLaws.{image_of_now, quiet_image}
+use Rattle.nv_pmem.proofs.StepLaws.{tells_more, tells_both, tells_told}
 use Rattle.nv_recover.specs.Emptying.{BothTell, IsTrimmed, MayBeTrimmed, HasSmallWord}
-use Rattle.nv_recover.proofs.TellLaws.{both_itself, both_more, both_both, both_old, both_new, both_step, both_moments}
+use Rattle.nv_recover.proofs.RowMoments.{moment_now, moments_more}
+use Rattle.nv_recover.proofs.TellLaws.{both_itself, both_more, both_both, both_old, both_new, both_step}
 
 -- ---- a part that isn't changed
 
@@ -21,6 +23,10 @@ pub same_untrimmed : (most : ℕ) (old new : History) → new ≡ old → BothTe
 same_untrimmed most old new same =
     let At : History → Type 0 = λ history. BothTell old history (MayBeTrimmed most) in
     subst At (sym same) (both_more old old (λ was now. now ≡ was) (MayBeTrimmed most) (untrimmed most) (both_itself old))
+
+pub untrimmed_moments : (most : ℕ) (old new : History) → new ≡ old → Tells old (λ was. EachMoment (MayBeTrimmed most was) old new)
+untrimmed_moments most old new same =
+    moment_now (MayBeTrimmed most) old new same (tells_told old (λ was. MayBeTrimmed most was was) (λ was past is. untrimmed most was was refl))
 
 -- its word was small
 pub same_small : (most value : ℕ) (old new : History) → new ≡ old → value ≤ most → Tells old (λ was. value ≡ word_of was 0 0) → BothTell old new (HasSmallWord most)
@@ -46,15 +52,17 @@ trimmed most value was image loaded above quiet stored =
       ];
     }
 
-pub stored_trimmed : (most value : ℕ) (old between new : History) → between ≡ old → most < value → Tells old (λ was. value ≡ word_of was 0 0) → Tells between (λ was. EachMoment (InEachImage (IsOldOrStored was 0 0 0)) between new) → BothTell old new (MayBeTrimmed most)
-stored_trimmed most value old between new same above loaded moments =
+pub trimmed_moments : (most value : ℕ) (old between new : History) → between ≡ old → most < value → Tells old (λ was. value ≡ word_of was 0 0) → Tells between (λ was. EachMoment (InEachImage (IsOldOrStored was 0 0 0)) between new)
+    → Tells old (λ was. EachMoment (MayBeTrimmed most was) old new)
+trimmed_moments most value old between new same above loaded moments =
     let At : History → Type 0 = λ history. Tells history (λ was. EachMoment (InEachImage (IsOldOrStored was 0 0 0)) history new) in
-    let Loaded : Part → Part → Type 0 = λ was now. value ≡ word_of was 0 0 in
+    let Loaded : Part → Type 0 = λ was. value ≡ word_of was 0 0 in
     let Stored : Part → Part → Type 0 = λ was. InEachImage (IsOldOrStored was 0 0 0) in
-    both_more old new (λ was now. Loaded was now × Stored was now) (MayBeTrimmed most)
-    (λ was now both quiet image is. trimmed most value was image both.0 above quiet (both.1 image is))
-    (both_both old new Loaded Stored (both_old old new (λ was. value ≡ word_of was 0 0) loaded)
-    (both_moments old new Stored (subst At same moments)))
+    tells_more old (λ was. Loaded was × EachMoment (Stored was) old new) (λ was. EachMoment (MayBeTrimmed most was) old new)
+    (λ was both.
+    moments_more (Stored was) (MayBeTrimmed most was) old new
+    (λ now stored quiet image is. trimmed most value was image both.0 above quiet (stored image is)) both.1)
+    (tells_both old Loaded (λ was. EachMoment (Stored was) old new) loaded (subst At same moments))
 
 -- and its word is small then
 pub stored_small : (most : ℕ) (old between new : History) → between ≡ old → Tells new (InEachImage (λ image. image 0 0 ≡ 0)) → (Tells between IsQuiet → Tells new IsQuiet) → BothTell old new (HasSmallWord most)
@@ -87,11 +95,13 @@ moved next was image quiet stored =
       ];
     }
 
-pub stored_moved : (next : ℕ) (old new : History) → Tells old (λ was. EachMoment (InEachImage (IsOldOrStored was 1 0 next)) old new) → BothTell old new (MayBeMoved next)
-stored_moved next old new moments =
+pub moved_moments : (next : ℕ) (old new : History) → Tells old (λ was. EachMoment (InEachImage (IsOldOrStored was 1 0 next)) old new) → Tells old (λ was. EachMoment (MayBeMoved next was) old new)
+moved_moments next old new moments =
     let Stored : Part → Part → Type 0 = λ was. InEachImage (IsOldOrStored was 1 0 next) in
-    both_more old new Stored (MayBeMoved next) (λ was now stored quiet image is. moved next was image quiet (stored image is))
-    (both_moments old new Stored moments)
+    tells_more old (λ was. EachMoment (Stored was) old new) (λ was. EachMoment (MayBeMoved next was) old new)
+    (λ was stored.
+    moments_more (Stored was) (MayBeMoved next was) old new (λ now each quiet image is. moved next was image quiet (each image is)) stored)
+    moments
 
 -- a part that was quiet is so, and in each image the tail is this one
 abbrev pub HasTail : ℕ → Part → Part → Type 0

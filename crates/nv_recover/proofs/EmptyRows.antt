@@ -5,6 +5,7 @@ use Rattle.std.proofs.lemmas.List.{get_or_default, get_or-map, get_or_past, get_
 use Rattle.nv_plain.specs.Images.{Image}
 use Rattle.nv_pmem.specs.Images.{IsImage, IsQuiet}
 use Rattle.nv_pmem.specs.Part.{Part, word_of}
+use Rattle.nv_pmem.specs.Moments.{Tells, EachMoment}
 use Rattle.nv_pmem.specs.Rows.{RowTells, InEachRowImage}
 use Rattle.nv_pmem.specs.Steps.{History}
 use Rattle.nv_pmem.proofs.ImageLaws.{quiet_image}
@@ -13,11 +14,15 @@ use Rattle.nv_entry.specs.declared.bounds.Bounds.{Bounds}
 use Rattle.nv_entry.specs.Checks.{SaysBounds, region_words}
 use Rattle.nv_header.specs.Regions.{AreQuiet}
 use Rattle.nv_recover.specs.Alike.{SayTheSame}
-use Rattle.nv_recover.specs.Emptying.{BothTell, RowsTell, MayBeTrimmed, HasSmallWord, HasNoneAbove}
+use Rattle.nv_recover.specs.Changes.{ThroughoutRow}
+use Rattle.nv_recover.specs.Emptying.{BothTell, MayBeTrimmed, HasSmallWord, HasNoneAbove}
 use Rattle.nv_recover.specs.Telling.{AllTell}
 use Rattle.nv_recover.proofs.EmptyLaws.{same_trimmed}
 use Rattle.nv_recover.proofs.EmptyParts.{same_untrimmed, untrimmed}
-use Rattle.nv_recover.proofs.TellLaws.{both_itself, both_more, both_both, EachPair, rows_each, rows_more, rows_new, tells_set}
+use Rattle.nv_recover.proofs.Present.{presents_tell, row_tells_from, row_tells_at}
+use Rattle.nv_recover.proofs.RowMoments.{device_throughout}
+use Rattle.nv_recover.proofs.Throughout.{throughout_then}
+use Rattle.nv_recover.proofs.TellLaws.{RowsTell, both_itself, both_more, both_both, EachPair, rows_each, rows_more, rows_new, tells_set}
 
 -- ---- a part in its row
 
@@ -233,13 +238,27 @@ devices_tell history parts i was new inside is tells =
     let To : List History → Type 0 = λ row. AllTell (map history parts) ↔ AllTell row in
     subst To (sym (map-set history parts i new)) (tells_set (map history parts) i (history new) (subst From (part_history history parts i was was inside is) tells))
 
-pub devices_stopped : {X : Type 0} (history : X → History) (most done count : ℕ) (old : List History) (parts : List X) (was new : X) → AreClearedTo most done old (map history parts) → length old ≡ count → 1 + done < length parts
-    → was ≡ get_or parts (1 + done) was → BothTell (history was) (history new) (MayBeTrimmed most) → RowsTell old (map history (slice_set parts (1 + done) new)) (EachPair (IsKept most) count)
-devices_stopped history most done count old parts was new before long inside is trimmed =
-    let From : History → Type 0 = λ these. BothTell these (history new) (MayBeTrimmed most) in
-    let To : List History → Type 0 = λ row. RowsTell old row (EachPair (IsKept most) count) in
-    subst To (sym (map-set history parts (1 + done) new))
-    (stopped_rows most done count old (map history parts) (history new) before long (subst From (part_history history parts (1 + done) was was inside is) trimmed))
+-- While one is, each image says the same as before.
+pub clearing_throughout : {X : Type 0} (history : X → History) (bounds : Bounds) (done : ℕ) (old : List History) (parts : List X) (was new : X)
+    → RowTells old AreQuiet → RowTells old (λ these. SaysBounds bounds (region_words these)) → AreClearedTo (bounds.tail + bounds.entries) done old (map history parts) → 1 + done < length parts → was ≡ get_or parts (1 + done) was
+    → Tells (history was) (λ before. EachMoment (MayBeTrimmed (bounds.tail + bounds.entries) before) (history was) (history new))
+    → RowTells old (λ these. ThroughoutRow (InEachRowImage (SayTheSame (region_words these))) old (map history parts))
+    → RowTells old (λ these. ThroughoutRow (InEachRowImage (SayTheSame (region_words these))) old (map history (slice_set parts (1 + done) new)))
+clearing_throughout history bounds done old parts was new quiet says before inside is moments through =
+    let most = bounds.tail + bounds.entries in
+    let Same : List Part → List Part → Type 0 = λ these. InEachRowImage (SayTheSame (region_words these)) in
+    let between : List History = map history parts in
+    let after : List History = map history (slice_set parts (1 + done) new) in
+    row_tells_from old (λ these. ThroughoutRow (Same these) old after)
+    (λ these are.
+    throughout_then (λ row. RowTells row (Same these))
+    (row_tells_at old (λ these. ThroughoutRow (Same these) old between) these are through)
+    (device_throughout history parts (1 + done) was new (MayBeTrimmed most) (Same these) inside is (before.tells.0 (presents_tell old these are))
+    (λ states trimmed.
+    row_tells_at old (λ these. RowTells (slice_set between (1 + done) states) (Same these)) these are
+    (rows_same bounds (length old) old (slice_set between (1 + done) states) quiet says
+    (stopped_rows most done (length old) old between states before refl trimmed)))
+    moments))
 
 pub devices_more : {X : Type 0} (history : X → History) (most done : ℕ) (old : List History) (parts : List X) (was new : X) → AreClearedTo most done old (map history parts) → 1 + done < length parts
     → was ≡ get_or parts (1 + done) was → BothTell (history was) (history new) (MayBeTrimmed most) → BothTell (history was) (history new) (HasSmallWord most) → (0 < length (history was)) ↔ (0 < length (history new))

@@ -13,14 +13,18 @@ use Rattle.nv_entry.specs.declared.bounds.Bounds.{Bounds}
 use Rattle.nv_entry.specs.Checks.{SaysBounds, region_words}
 use Rattle.nv_store.specs.Steps.{History}
 use Rattle.nv_store.specs.Store.{Store, IsWhole}
-use Rattle.nv_recover.specs.Applying.{AcrossTells, IsGroupOf, IsNumberOf, HasPiece, StaysAlike, OneWritten, LeftOrOneTorn}
+use Rattle.nv_recover.specs.Applying.{AcrossTells, AcrossThroughout, ChangesOne, IsGroupOf, IsNumberOf, HasPiece, StaysAlike, OneWritten, LeftOrOneTorn}
+use Rattle.nv_recover.specs.Changes.{ThroughoutRow}
 use Rattle.nv_recover.specs.Groups.{AreGroups, numbers_of}
 use Rattle.nv_recover.specs.Standing.{AreQuietStores, RecoverAlike, files_of}
+use Rattle.nv_recover.specs.Telling.{AllTell}
 use Rattle.nv_recover.specs.declared.group.Group.{Group}
-use Rattle.nv_recover.proofs.ApplyLaws.{alike_left_or_torn, alike_from_quiet, written_files}
+use Rattle.nv_recover.proofs.ApplyLaws.{alike_none, alike_more, alike_left_or_torn, alike_from_quiet, written_files}
 use Rattle.nv_recover.proofs.GroupLaws.{number_of, group_of, all_files}
 use Rattle.nv_recover.proofs.Present.{row_tells_from, row_tells_at, presents_long, are_now_same}
+use Rattle.nv_recover.proofs.RowMoments.{across_throughout, across_one}
 use Rattle.nv_recover.proofs.StoreRows.{row_whole}
+use Rattle.nv_recover.proofs.Throughout.{row_throughout_more}
 
 -- stores that nothing was done to
 pub unwritten : (parts : List lines.History) (row : List History) (R : Image → List Store → List Store → Type 0) → ((image : Image) (was : List Store) → R image was was) → AcrossTells parts row row R
@@ -149,13 +153,27 @@ groups_all parts old new groups i over told so_far =
     both.1)
     (row_tells_both parts Are So_far told so_far)
 
+-- ---- each moment
+
+-- one call after another
+pub alike_throughout : (parts : List lines.History) (old between new : List History) → (AllTell old → AllTell between)
+    → AcrossThroughout parts old between StaysAlike → AcrossThroughout parts between new StaysAlike → AcrossThroughout parts old new StaysAlike
+alike_throughout parts old between new tells first second =
+    across_throughout parts old between new StaysAlike StaysAlike StaysAlike tells (λ image was now alike. alike) alike_more first second
+
+-- an entry after others
+pub entry_throughout : (parts : List lines.History) (old between new : List History) → (AllTell old → AllTell between)
+    → AcrossThroughout parts old between StaysAlike → ChangesOne between new → AcrossTells parts between new StaysAlike → AcrossThroughout parts old new StaysAlike
+entry_throughout parts old between new tells first one after =
+    alike_throughout parts old between new tells first (across_one parts between new StaysAlike alike_none one after)
+
 -- stores that were quiet recover alike
-pub quiet_alike : (parts : List lines.History) (old new : List History) → RowTells old AreQuietStores → AcrossTells parts old new StaysAlike → AcrossTells parts old new RecoverAlike
+pub quiet_alike : (parts : List lines.History) (old new : List History) → RowTells old AreQuietStores → AcrossThroughout parts old new StaysAlike → AcrossThroughout parts old new RecoverAlike
 quiet_alike parts old new quiet alike =
-    row_tells_more parts (λ these. RowTells old (λ was. RowTells new (StaysAlike (region_words these) was))) (λ these. RowTells old (λ was. RowTells new (RecoverAlike (region_words these) was)))
+    row_tells_more parts (λ these. RowTells old (λ was. ThroughoutRow (StaysAlike (region_words these) was) old new)) (λ these. RowTells old (λ was. ThroughoutRow (RecoverAlike (region_words these) was) old new))
     (λ these told.
-    row_tells_more old (λ was. AreQuietStores was × RowTells new (StaysAlike (region_words these) was)) (λ was. RowTells new (RecoverAlike (region_words these) was))
-    (λ was both. row_tells_more new (StaysAlike (region_words these) was) (RecoverAlike (region_words these) was)
-    (λ now stays. alike_from_quiet (region_words these) was now both.0 stays) both.1)
-    (row_tells_both old AreQuietStores (λ was. RowTells new (StaysAlike (region_words these) was)) quiet told))
+    let image = region_words these in
+    row_tells_more old (λ was. AreQuietStores was × ThroughoutRow (StaysAlike image was) old new) (λ was. ThroughoutRow (RecoverAlike image was) old new)
+    (λ was both. row_throughout_more (StaysAlike image was) (RecoverAlike image was) (λ now stays. alike_from_quiet image was now both.0 stays) both.1)
+    (row_tells_both old AreQuietStores (λ was. ThroughoutRow (StaysAlike image was) old new) quiet told))
     alike

@@ -1,12 +1,31 @@
 -- Recoveries that are stopped, one after another: by induction over the stops.
-use Rattle.std.proofs.Common.{List, [], ◌∷◌, refl, ◌∙◌}
+use Rattle.std.proofs.Common.{List, [], ◌∷◌, take, refl, ◌∙◌}
+use Rattle.nv_pmem.specs.Part.{Part}
+use Rattle.nv_pmem.specs.Rows.{RowTells}
+use Rattle.nv_pmem.specs.Runs.{run}
+use Rattle.nv_store.specs.Store.{Store}
+use Rattle.nv_recover.specs.Changes.{Devices, devices_after_change}
+use Rattle.nv_recover.specs.Interrupted.{Start, StartFits, files_from, start_of, IsRun, IsStop, AreStops, last_of}
+use Rattle.nv_recover.specs.Recovering.{StandsStill, StandThroughout}
 use Rattle.nv_recover.specs.Standing.{StandsFor}
-use Rattle.nv_recover.specs.Interrupted.{Start, StartFits, files_from, IsStop, AreStops, last_of}
+use Rattle.nv_recover.specs.Telling.{AreNow}
+use Rattle.nv_recover.proofs.Present.{row_tells_at}
 
 -- what one stop comes to stands for the files of before
 stop_stands : (before after : Start) → IsStop before after → StartFits before
     → StandsFor after.image after.bytes (files_from before)
-stop_stands before after stop fits = stop.stand fits after.image after.bytes stop.image stop.bytes
+stop_stands before after stop fits =
+    let devices = run devices_after_change (take stop.count stop.run_is.steps) stop.old in
+    let Stands : List Part → List Store → Type 0 = StandsStill before.image before.bytes in
+    row_tells_at devices.stores (Stands stop.parts) stop.stores stop.stores_are
+    (row_tells_at devices.parts (λ parts. RowTells devices.stores (Stands parts)) stop.parts stop.parts_are (stop.run_is.each stop.count stop.no_more))
+    fits after.image after.bytes stop.image stop.bytes
+
+-- the clause of `recover` is a run
+pub promise_is_run : (old new : Devices) (parts : List Part) (stores : List Store) → AreNow old.parts parts → AreNow old.stores stores → StandThroughout old new → IsRun (start_of parts stores) old new
+promise_is_run old new parts stores parts_are stores_are promise =
+    let Runs : List Part → List Store → Type 0 = λ these held. IsRun (start_of these held) old new in
+    row_tells_at old.stores (Runs parts) stores stores_are (row_tells_at old.parts (λ these. RowTells old.stores (Runs these)) parts parts_are promise)
 
 -- and so does what any number of them come to
 pub stops_stand : (first : Start) (later : List Start) → AreStops first later → StartFits first

@@ -1,3 +1,5 @@
+pub mod Throughout
+pub mod RowMoments
 pub mod Overlays
 pub mod AlikeLaws
 pub mod Finding

@@ -6,18 +6,23 @@ use Rattle.nv_plain.specs.Images.{Image}
 use Rattle.nv_plain.specs.Layouts.{version_1}
 use Rattle.nv_pmem.specs.Images.{IsQuiet}
 use Rattle.nv_pmem.specs.Part.{Part}
+use Rattle.nv_pmem.specs.Moments.{Tells, EachMoment}
 use Rattle.nv_pmem.specs.Rows.{RowTells, IsRowImage, InEachRowImage}
 use Rattle.nv_pmem.specs.Steps.{History}
 use Rattle.nv_pmem.proofs.RowLaws.{row_image_of_now, row_tells_more, row_tells_both}
 use Rattle.nv_entry.specs.Checks.{region_words}
 use Rattle.nv_header.specs.Regions.{AreQuiet, ReadsAs, IsAtRest}
 use Rattle.nv_recover.specs.Alike.{SayTheSame}
-use Rattle.nv_recover.specs.Emptying.{BothTell, RowsTell, HasNoneAbove, CommitsNoneFrom, SaysTheSameOrEmpty}
+use Rattle.nv_recover.specs.Changes.{ThroughoutRow}
+use Rattle.nv_recover.specs.Emptying.{BothTell, HasNoneAbove, CommitsNoneFrom, SaysTheSameOrEmpty}
 use Rattle.nv_recover.specs.Telling.{AllTell}
 use Rattle.nv_recover.proofs.EmptyLaws.{same_words, same_same, none_too, reads_too, moved_empty}
 use Rattle.nv_recover.proofs.EmptyParts.{IsMoved, MayBeMoved, HasTail}
 use Rattle.nv_recover.proofs.EmptyRows.{quiet_same, part_history}
-use Rattle.nv_recover.proofs.TellLaws.{both_itself, both_more, both_both, EachPair, rows_each, rows_more, rows_new, rows_rows}
+use Rattle.nv_recover.proofs.Present.{presents_tell, row_tells_from, row_tells_at}
+use Rattle.nv_recover.proofs.RowMoments.{device_throughout, rows_throughout}
+use Rattle.nv_recover.proofs.TellLaws.{RowsTell, both_itself, both_more, both_both, EachPair, rows_each, rows_more, rows_new}
+use Rattle.nv_recover.proofs.Throughout.{row_throughout_more}
 
 -- ---- the header changes, and no other part
 
@@ -119,21 +124,31 @@ rows_can page entries names tail next row quiet above none reads =
     (row_tells_both row (λ was. AreQuiet was × Above was) (λ was. None was × Reads was)
     (row_tells_both row AreQuiet Above quiet above) (row_tells_both row None Reads none reads))
 
-pub moved_rows : {X : Type 0} (history : X → History) (page entries : ℕ) (names : List (List ℕ)) (tail next : ℕ) (parts : List X) (was new d : X) → 1 ≤ length parts → was ≡ get_or parts 0 d → tail ≤ next → next ≤ 2 ^ 60
-    → RowTells (map history parts) (CanMove page entries names tail next) → BothTell (history was) (history new) (MayBeMoved next)
-    → RowsTell (map history parts) (map history (slice_set parts 0 new)) (λ was. InEachRowImage (SaysTheSameOrEmpty page entries names next (region_words was)))
-moved_rows history page entries names tail next parts was new d some is low small can moved =
-    let row : List History = map history parts in
+moved_row : (page entries : ℕ) (names : List (List ℕ)) (tail next : ℕ) (row : List History) (header : History) → 1 ≤ length row → tail ≤ next → next ≤ 2 ^ 60
+    → RowTells row (CanMove page entries names tail next) → BothTell (slice_index_or row 0 []) header (MayBeMoved next)
+    → RowsTell row (slice_set row 0 header) (λ was. InEachRowImage (SaysTheSameOrEmpty page entries names next (region_words was)))
+moved_row page entries names tail next row header some low small can moved =
     let count = length row in
-    let long = length-map parts history in
-    let From : History → Type 0 = λ these. BothTell these (history new) (MayBeMoved next) in
-    let To : List History → Type 0 = λ after. RowsTell row after (λ before. InEachRowImage (SaysTheSameOrEmpty page entries names next (region_words before))) in
-    subst To (sym (map-set history parts 0 new))
-    (rows_more row (slice_set row 0 (history new)) (CanMove page entries names tail next) (EachPair (IsFirst (MayBeMoved next)) count)
-    (λ before. InEachRowImage (SaysTheSameOrEmpty page entries names next (region_words before)))
-    (λ before now. same_or_empty page entries names tail next count before now (omega arith) low small)
-    can
-    (first_rows (MayBeMoved next) count row (history new) refl (omega arith) (subst From (part_history history parts 0 was d some is) moved)))
+    rows_more row (slice_set row 0 header) (CanMove page entries names tail next) (EachPair (IsFirst (MayBeMoved next)) count)
+    (λ was. InEachRowImage (SaysTheSameOrEmpty page entries names next (region_words was)))
+    (λ was now. same_or_empty page entries names tail next count was now (omega arith) low small)
+    can (first_rows (MayBeMoved next) count row header refl (omega arith) moved)
+
+-- While the tail moves, each image says the same as before, or has an empty log.
+pub moving_throughout : {X : Type 0} (history : X → History) (page entries : ℕ) (names : List (List ℕ)) (tail next : ℕ) (parts : List X) (was new : X) → 1 ≤ length parts → was ≡ get_or parts 0 was → tail ≤ next → next ≤ 2 ^ 60
+    → RowTells (map history parts) (CanMove page entries names tail next) → Tells (history was) (λ before. EachMoment (MayBeMoved next before) (history was) (history new))
+    → RowTells (map history parts) (λ these. ThroughoutRow (InEachRowImage (SaysTheSameOrEmpty page entries names next (region_words these))) (map history parts) (map history (slice_set parts 0 new)))
+moving_throughout history page entries names tail next parts was new some is low small can moments =
+    let row : List History = map history parts in
+    let after : List History = map history (slice_set parts 0 new) in
+    let Says : List Part → List Part → Type 0 = λ these. InEachRowImage (SaysTheSameOrEmpty page entries names next (region_words these)) in
+    row_tells_from row (λ these. ThroughoutRow (Says these) row after)
+    (λ these are.
+    device_throughout history parts 0 was new (MayBeMoved next) (Says these) (omega arith) is (presents_tell row these are)
+    (λ header moved.
+    row_tells_at row (λ these. RowTells (slice_set row 0 header) (Says these)) these are
+    (moved_row page entries names tail next row header (omega (arith, length-map parts history)) low small can moved))
+    moments)
 
 pub rest_rows : {X : Type 0} (history : X → History) (page entries : ℕ) (names : List (List ℕ)) (tail next : ℕ) (parts : List X) (was new d : X) → 1 ≤ length parts → was ≡ get_or parts 0 d → tail ≤ next → next ≤ 2 ^ 60
     → (AllTell (map history (slice_set parts 0 new)) → AllTell (map history parts))
@@ -181,24 +196,28 @@ reads_carried : (page entries : ℕ) (names : List (List ℕ)) (tail : ℕ) (old
 reads_carried page entries names tail old new back same told =
     carried (ReadsAs version_1 page entries names tail) old new (λ was now says. reads_too page entries names tail was now says.header) back same told
 
--- rows that say the same, and then rows that do or are empty
-pub same_then : (page entries : ℕ) (names : List (List ℕ)) (next : ℕ) (old between new : List History) → (AllTell old → AllTell between) → RowsTell old between (λ was. InEachRowImage (SayTheSame (region_words was)))
-    → RowsTell between new (λ was. InEachRowImage (SaysTheSameOrEmpty page entries names next (region_words was))) → RowsTell old new (λ was. InEachRowImage (SaysTheSameOrEmpty page entries names next (region_words was)))
+-- Images that say the same, and then images that do or have an empty log.
+pub same_then : (page entries : ℕ) (names : List (List ℕ)) (next : ℕ) (old between new : List History) → (AllTell old → AllTell between)
+    → RowTells old (λ was. ThroughoutRow (InEachRowImage (SayTheSame (region_words was))) old between)
+    → RowTells between (λ was. ThroughoutRow (InEachRowImage (SaysTheSameOrEmpty page entries names next (region_words was))) between new)
+    → RowTells old (λ was. ThroughoutRow (InEachRowImage (SaysTheSameOrEmpty page entries names next (region_words was))) old new)
 same_then page entries names next old between new on same later =
-    rows_rows old between new (λ was now. SayTheSame (region_words was) (region_words now)) (λ was. InEachRowImage (SaysTheSameOrEmpty page entries names next (region_words was)))
-    (λ was. InEachRowImage (SaysTheSameOrEmpty page entries names next (region_words was))) on
+    let Same : List Part → List Part → Type 0 = λ was. InEachRowImage (SayTheSame (region_words was)) in
+    let Says : List Part → List Part → Type 0 = λ was. InEachRowImage (SaysTheSameOrEmpty page entries names next (region_words was)) in
+    rows_throughout old between new Same Says Says on (λ was now each image is. inl (each image is))
     (λ was mid now says each image is. elim (each image is) [
-      | inl kept ↦ inl (same_same (region_words was) (region_words mid) image says kept)
+      | inl kept ↦ inl (same_same (region_words was) (region_words mid) image (says (region_words mid) (row_image_of_now mid)) kept)
       | inr empty ↦ inr empty
     ])
-    (same_now old between same) later
+    same later
 
-pub same_alone : (page entries : ℕ) (names : List (List ℕ)) (next : ℕ) (old new : List History) → RowsTell old new (λ was. InEachRowImage (SayTheSame (region_words was)))
-    → RowsTell old new (λ was. InEachRowImage (SaysTheSameOrEmpty page entries names next (region_words was)))
+pub same_alone : (page entries : ℕ) (names : List (List ℕ)) (next : ℕ) (old new : List History) → RowTells old (λ was. ThroughoutRow (InEachRowImage (SayTheSame (region_words was))) old new)
+    → RowTells old (λ was. ThroughoutRow (InEachRowImage (SaysTheSameOrEmpty page entries names next (region_words was))) old new)
 same_alone page entries names next old new same =
-    row_tells_more old (λ was. RowTells new (InEachRowImage (SayTheSame (region_words was)))) (λ was. RowTells new (InEachRowImage (SaysTheSameOrEmpty page entries names next (region_words was))))
-    (λ was. row_tells_more new (InEachRowImage (SayTheSame (region_words was))) (InEachRowImage (SaysTheSameOrEmpty page entries names next (region_words was)))
-    (λ now each image is. inl (each image is)))
+    let Same : List Part → List Part → Type 0 = λ was. InEachRowImage (SayTheSame (region_words was)) in
+    let Says : List Part → List Part → Type 0 = λ was. InEachRowImage (SaysTheSameOrEmpty page entries names next (region_words was)) in
+    row_tells_more old (λ was. ThroughoutRow (Same was) old new) (λ was. ThroughoutRow (Says was) old new)
+    (λ was through. row_throughout_more (Same was) (Says was) (λ now each image is. inl (each image is)) through)
     same
 
 -- a row whose words are cleared can have its tail moved

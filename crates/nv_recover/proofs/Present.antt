@@ -1,20 +1,18 @@
 -- The present states of a row of devices that all tell.
 use Rattle.std.proofs.Common.{◌≡◌, ◌≢◌, ℕ, ◌<◌, List, [], ◌∷◌, length, get_or, set, zero, suc, refl, sym, ap, ◌∙◌, subst, arith}
 use Rattle.std.proofs.lemmas.List.Elements.{All-head, All-tail, All-nil, All-cons}
+use Rattle.nv_pmem.specs.Moments.{Tells}
 use Rattle.nv_pmem.specs.Rows.{RowTells}
-use Rattle.nv_recover.specs.Telling.{AllTell}
+use Rattle.nv_recover.specs.Telling.{AllTell, IsNow, AreNow}
 
--- the present state of a device
-pub record IsNow {S : Type 0} (history : List S) (now : S) : Type 0 where
-  pub past : List S
-  pub is : history ≡ now ∷ past
+-- a device that tells has one
+pub record Present {S : Type 0} (history : List S) : Type 0 where
+  pub state : S
+  pub is : IsNow history state
 
--- the present states of a row
-abbrev pub AreNow : {S : Type 0} → List (List S) → List S → Type 0
-AreNow [] [] = Unit {0}
-AreNow [] (now ∷ states) = ⊥
-AreNow (history ∷ row) [] = ⊥
-AreNow (history ∷ row) (now ∷ states) = IsNow history now × AreNow row states
+pub present : {S : Type 0} (history : List S) → 0 < length history → Present history
+present [] some = absurd (omega arith)
+present (now ∷ past) some = record { state = now; is = record { past = past; is = refl } }
 
 nil_no_cons : {S : Type 0} (now : S) (past : List S) → [] ≢ now ∷ past
 nil_no_cons now past is = cc
@@ -33,6 +31,17 @@ are_now_same (history ∷ row) [] b one other = absurd one
 are_now_same (history ∷ row) (x ∷ a) [] one other = absurd other
 are_now_same (history ∷ row) (x ∷ a) (y ∷ b) one other =
     ap (λ s. s ∷ a) (now_same one.0 other.0) ∙ ap (λ rest. y ∷ rest) (are_now_same row a b one.1 other.1)
+
+-- What the present state has, the device tells, and the other way round.
+pub tells_from : {S : Type 0} (history : List S) (P : S → Type 0) (now : S) → IsNow history now → P now → Tells history P
+tells_from {S} history P now one here =
+    let At : List S → Type 0 = λ these. Tells these P in
+    subst At (sym one.is) here
+
+pub tells_at : {S : Type 0} (history : List S) (P : S → Type 0) (now : S) → IsNow history now → Tells history P → P now
+tells_at {S} history P now one told =
+    let At : List S → Type 0 = λ these. Tells these P in
+    subst At one.is told
 
 -- What the present states have, the row tells, and the other way round.
 pub row_tells_from : {S : Type 0} (row : List (List S)) (P : List S → Type 0) → ((states : List S) → AreNow row states → P states) → RowTells row P

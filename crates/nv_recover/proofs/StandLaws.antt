@@ -1,4 +1,4 @@
--- What the parts and stores stand for, wherever recovery ends.
+-- What the parts and stores stand for, at each moment of recovery.
 use Rattle.std.proofs.Common.{◌≡◌, inl, inr, ℕ, ◌<◌, ◌≤◌, ◌^◌, List, [], length, map, slice_index_or, sym, ap, ◌∙◌, subst, arith}
 use Rattle.std.proofs.lemmas.List.{length-map, get_or-map}
 use Rattle.nv_plain.specs.Files.{Files}
@@ -17,12 +17,13 @@ use Rattle.nv_entry.specs.declared.bounds.Bounds.{Bounds}
 use Rattle.nv_entry.specs.Checks.{SaysBounds, region_words}
 use Rattle.nv_header.specs.Regions.{AreQuiet}
 use Rattle.nv_recover.specs.Alike.{SayTheSame}
-use Rattle.nv_recover.specs.Applying.{AcrossTells, StaysAlike}
-use Rattle.nv_recover.specs.Emptying.{RowsTell, CommitsNoneFrom, SaysTheSameOrEmpty}
+use Rattle.nv_recover.specs.Applying.{AcrossTells, AcrossThroughout, StaysAlike}
+use Rattle.nv_recover.specs.Changes.{Devices, DevicesTell, ThroughoutRow, ThroughoutDevices}
+use Rattle.nv_recover.specs.Emptying.{CommitsNoneFrom, SaysTheSameOrEmpty}
 use Rattle.nv_recover.specs.Groups.{AreGroups, leaders_of}
-use Rattle.nv_recover.specs.Recovering.{HasFoundAll, HoldRecovered, StandAsBefore, end_of}
-use Rattle.nv_recover.specs.Standing.{AreStoreImages, AreQuietStores, RecoverAlike, StandsFor, StillStandFor, files_of}
-use Rattle.nv_recover.specs.Telling.{AllTell}
+use Rattle.nv_recover.specs.Recovering.{HasFoundAll, HoldRecovered, StandsStill, StandThroughout, UnfitIsUnwritten, end_of}
+use Rattle.nv_recover.specs.Standing.{AreStoreImages, AreQuietStores, LeaveNoMore, RecoverAlike, StandsFor, StillStandFor, files_of}
+use Rattle.nv_recover.specs.Telling.{AllTell, AreNow}
 use Rattle.nv_recover.specs.declared.group.Group.{Group}
 use Rattle.nv_recover.specs.declared.recovering.Recovered.{Recovered}
 use Rattle.nv_recover.proofs.AlikeLaws.{same_fits, same_recovered, empty_fits, empty_recovered}
@@ -31,7 +32,9 @@ use Rattle.nv_recover.proofs.EmptyLaws.{same_words, empty_none}
 use Rattle.nv_recover.proofs.Ends.{ends}
 use Rattle.nv_recover.proofs.Entries.{unwritten, quiet_alike}
 use Rattle.nv_recover.proofs.Present.{row_tells_from, row_tells_at, are_now_same}
+use Rattle.nv_recover.proofs.RowMoments.{across_last, across_still, across_throughout}
 use Rattle.nv_recover.proofs.StoreRows.{across_tells}
+use Rattle.nv_recover.proofs.Throughout.{throughout_then, stores_throughout, parts_throughout}
 
 -- ---- images
 
@@ -69,16 +72,16 @@ stands_emptied page entries names next image now was held fits each alike hold o
 -- ---- rows
 
 -- stores that nothing was done to recover alike
-pub alike_still : (parts : List lines.History) (row : List History) → RowTells row AreQuietStores → AcrossTells parts row row RecoverAlike
-alike_still parts row quiet = quiet_alike parts row row quiet (unwritten parts row StaysAlike alike_none)
+pub alike_still : (parts : List lines.History) (row : List History) → RowTells row AreQuietStores → AcrossThroughout parts row row RecoverAlike
+alike_still parts row quiet = quiet_alike parts row row quiet (across_still parts row StaysAlike (unwritten parts row StaysAlike alike_none))
 
 -- where the stores are synced after that
-pub alike_synced : (parts : List lines.History) (old between new : List History) → (AllTell old → AllTell between) → AcrossTells parts old between RecoverAlike
-    → RowTells between (λ was. RowTells new (λ now. (bytes : Files) → AreStoreImages now bytes → AreStoreImages was bytes)) → AcrossTells parts old new RecoverAlike
-alike_synced parts old between new tells alike images =
-    let Images : Image → List Store → List Store → Type 0 = λ image was now. (bytes : Files) → AreStoreImages now bytes → AreStoreImages was bytes in
-    across_tells parts old between new RecoverAlike Images RecoverAlike tells (λ image was then now like same bytes are. like bytes (same bytes are)) alike
-    (row_tells_any parts (λ these. RowTells between (λ was. RowTells new (Images (region_words these) was))) (λ these. images))
+pub alike_synced : (parts : List lines.History) (old between new : List History) → (AllTell old → AllTell between) → AcrossThroughout parts old between RecoverAlike
+    → RowTells between (λ was. ThroughoutRow (LeaveNoMore was) between new) → AcrossThroughout parts old new RecoverAlike
+alike_synced parts old between new tells alike moments =
+    across_throughout parts old between new RecoverAlike (λ image. LeaveNoMore) RecoverAlike tells (λ image was now like. like)
+    (λ image was then now like less bytes are. like bytes (less bytes are)) alike
+    (row_tells_any parts (λ these. RowTells between (λ was. ThroughoutRow (LeaveNoMore was) between new)) (λ these. moments))
 
 quiet_synced : (stores : List Store) → AreQuietStores (map (after_step Sync) stores)
 quiet_synced stores i d inside =
@@ -104,44 +107,75 @@ hold_synced parts old between new tells written synced seen =
     (λ was both. row_tells_both new (Synced was) (Seen was) both.0 both.1)
     (row_tells_both between (λ was. RowTells new (Synced was)) (λ was. RowTells new (Seen was)) synced seen)))
 
--- where the parts are only read
-pub stand_read : (parts : List lines.History) (old new : List History) → RowTells parts AreQuiet → AcrossTells parts old new RecoverAlike → StandAsBefore parts old parts new
-stand_read parts old new quiet alike =
-    let Stand : Image → List Store → List Part → List Store → Type 0 = λ image was now held. StillStandFor now held (recovered image (files_of was)).files in
-    row_tells_from parts (λ these. RowTells old (λ was. Fits version_1 (region_words these) → RowTells parts (λ now. RowTells new (Stand (region_words these) was now))))
-    (λ these are.
-    let image = region_words these in
-    row_tells_more old (λ was. RowTells new (RecoverAlike image was)) (λ was. Fits version_1 image → RowTells parts (λ now. RowTells new (Stand image was now)))
-    (λ was alikes fits.
-    row_tells_from parts (λ now. RowTells new (Stand image was now))
-    (λ now were.
-    row_tells_more new (RecoverAlike image was) (Stand image was now)
-    (λ held like. stands_read these now was held (are_now_same parts now these were are) (row_tells_at parts AreQuiet these are quiet) fits like)
-    alikes))
-    (row_tells_at parts (λ these. RowTells old (λ was. RowTells new (RecoverAlike (region_words these) was))) these are alike))
+-- ---- each moment
 
--- where the log is being emptied
-pub stand_emptied : (page entries : ℕ) (names : List (List ℕ)) (next : ℕ) (parts parts_now : List lines.History) (old new : List History)
-    → RowsTell parts parts_now (λ was. InEachRowImage (SaysTheSameOrEmpty page entries names next (region_words was)))
-    → AcrossTells parts old new RecoverAlike → AcrossTells parts old new HoldRecovered → StandAsBefore parts old parts_now new
-stand_emptied page entries names next parts parts_now old new says alike hold =
-    let Stand : Image → List Store → List Part → List Store → Type 0 = λ image was now held. StillStandFor now held (recovered image (files_of was)).files in
-    row_tells_from parts (λ these. RowTells old (λ was. Fits version_1 (region_words these) → RowTells parts_now (λ now. RowTells new (Stand (region_words these) was now))))
-    (λ these are.
-    let image = region_words these in
-    let Alike : List Store → Type 0 = λ was. RowTells new (RecoverAlike image was) in
-    let Hold : List Store → Type 0 = λ was. RowTells new (HoldRecovered image was) in
-    row_tells_more old (λ was. Alike was × Hold was) (λ was. Fits version_1 image → RowTells parts_now (λ now. RowTells new (Stand image was now)))
-    (λ was both fits.
-    row_tells_more parts_now (InEachRowImage (SaysTheSameOrEmpty page entries names next image)) (λ now. RowTells new (Stand image was now))
-    (λ now each.
-    row_tells_more new (λ held. RecoverAlike image was held × HoldRecovered image was held) (Stand image was now)
-    (λ held these. stands_emptied page entries names next image now was held fits each these.0 these.1)
-    (row_tells_both new (RecoverAlike image was) (HoldRecovered image was) both.0 both.1))
-    (row_tells_at parts (λ was. RowTells parts_now (InEachRowImage (SaysTheSameOrEmpty page entries names next (region_words was)))) these are says))
-    (row_tells_both old Alike Hold
-    (row_tells_at parts (λ these. RowTells old (λ was. RowTells new (RecoverAlike (region_words these) was))) these are alike)
-    (row_tells_at parts (λ these. RowTells old (λ was. RowTells new (HoldRecovered (region_words these) was))) these are hold)))
+-- the devices of two rows of histories
+abbrev pub both_rows : List lines.History → List History → Devices
+both_rows parts stores = record { parts = parts; stores = stores }
+
+-- while the stores are written, and the parts only read
+module _ (parts : List lines.History) (old new : List History) (quiet : RowTells parts AreQuiet) (alike : AcrossThroughout parts old new RecoverAlike) where
+  stands_written : (these : List Part) (was : List Store) → AreNow parts these → AreNow old was → ThroughoutDevices (StandsStill (region_words these) (files_of was)) (both_rows parts old) (both_rows parts new)
+  stands_written these was are were =
+      let image = region_words these in
+      stores_throughout parts (RecoverAlike image was) (StandsStill image (files_of was))
+      (λ row alikes.
+      row_tells_from parts (λ now. RowTells row (StandsStill image (files_of was) now))
+      (λ now they.
+      row_tells_more row (RecoverAlike image was) (StandsStill image (files_of was) now)
+      (λ held like fits. stands_read these now was held (are_now_same parts now these they are) (row_tells_at parts AreQuiet these are quiet) fits like)
+      alikes))
+      (row_tells_at old (λ was. ThroughoutRow (RecoverAlike image was) old new) was were
+      (row_tells_at parts (λ these. RowTells old (λ was. ThroughoutRow (RecoverAlike (region_words these) was) old new)) these are alike))
+
+  pub stand_read : StandThroughout (both_rows parts old) (both_rows parts new)
+  stand_read =
+      row_tells_from parts (λ these. RowTells old (λ was. ThroughoutDevices (StandsStill (region_words these) (files_of was)) (both_rows parts old) (both_rows parts new)))
+      (λ these are.
+      row_tells_from old (λ was. ThroughoutDevices (StandsStill (region_words these) (files_of was)) (both_rows parts old) (both_rows parts new))
+      (λ was were. stands_written these was are were))
+
+  -- and then the log is emptied, and the stores stay
+  pub stand_emptied : (page entries : ℕ) (names : List (List ℕ)) (next : ℕ) (parts_now : List lines.History)
+      → RowTells parts (λ was. ThroughoutRow (InEachRowImage (SaysTheSameOrEmpty page entries names next (region_words was))) parts parts_now)
+      → AcrossTells parts old new HoldRecovered → StandThroughout (both_rows parts old) (both_rows parts_now new)
+  stand_emptied page entries names next parts_now says hold =
+      row_tells_from parts (λ these. RowTells old (λ was. ThroughoutDevices (StandsStill (region_words these) (files_of was)) (both_rows parts old) (both_rows parts_now new)))
+      (λ these are.
+      let image = region_words these in
+      let Says : List Part → Type 0 = InEachRowImage (SaysTheSameOrEmpty page entries names next image) in
+      row_tells_from old (λ was. ThroughoutDevices (StandsStill image (files_of was)) (both_rows parts old) (both_rows parts_now new))
+      (λ was were.
+      let like : RowTells new (RecoverAlike image was) =
+      row_tells_at old (λ was. RowTells new (RecoverAlike image was)) was were
+      (row_tells_at parts (λ these. RowTells old (λ was. RowTells new (RecoverAlike (region_words these) was))) these are (across_last parts old new RecoverAlike alike)) in
+      let held : RowTells new (HoldRecovered image was) =
+      row_tells_at old (λ was. RowTells new (HoldRecovered image was)) was were
+      (row_tells_at parts (λ these. RowTells old (λ was. RowTells new (HoldRecovered (region_words these) was))) these are hold) in
+      throughout_then (λ devices. DevicesTell devices (StandsStill image (files_of was))) (stands_written these was are were)
+      (parts_throughout new Says (StandsStill image (files_of was))
+      (λ row saying.
+      row_tells_more row Says (λ now. RowTells new (StandsStill image (files_of was) now))
+      (λ now each.
+      row_tells_more new (λ held. RecoverAlike image was held × HoldRecovered image was held) (StandsStill image (files_of was) now)
+      (λ held both fits. stands_emptied page entries names next image now was held fits each both.0 both.1)
+      (row_tells_both new (RecoverAlike image was) (HoldRecovered image was) like held))
+      saying)
+      (row_tells_at parts (λ was. ThroughoutRow (InEachRowImage (SaysTheSameOrEmpty page entries names next (region_words was))) parts parts_now) these are says))))
+
+-- ---- an image that doesn't fit
+
+-- nothing was written
+pub unfit_read : (parts now : List lines.History) (stores : List History) → now ≡ parts → UnfitIsUnwritten (both_rows parts stores) (both_rows now stores)
+unfit_read parts now stores same =
+    row_tells_any parts (λ these. ¬ Fits version_1 (region_words these) → both_rows now stores ≡ both_rows parts stores)
+    (λ these unfit. ap (λ row. both_rows row stores) same)
+
+-- none was found to fit
+pub unfit_found : (parts : List lines.History) (stores : List History) (groups : List Group) (new : Devices) → RowTells parts (λ these. AreGroups (region_words these) groups) → UnfitIsUnwritten (both_rows parts stores) new
+unfit_found parts stores groups new found =
+    row_tells_more parts (λ these. AreGroups (region_words these) groups) (λ these. ¬ Fits version_1 (region_words these) → new ≡ both_rows parts stores)
+    (λ these are unfit. absurd (unfit are.fits)) found
 
 -- ---- what was found
 
@@ -163,18 +197,17 @@ module _ (row : List lines.History) (bounds : Bounds) (groups : List Group) (say
       both
 
   -- the numbers are those that the image recovers with
-  pub found_tells : (old : List History) (found : Recovered) → found.first ≡ bounds.tail → found.groups.items ≡ leaders_of groups
+  pub found_tells : (found : Recovered) → found.first ≡ bounds.tail → found.groups.items ≡ leaders_of groups
       → (bounds.tail ≤ end_of bounds.tail groups → end_of bounds.tail groups ≤ 2 ^ 60 → found.next ≡ end_of bounds.tail groups)
-      → RowTells row (λ parts. RowTells old (λ was. HasFoundAll (region_words parts) was found))
-  found_tells old found first leaders next =
-      row_tells_more row (λ parts. SaysBounds bounds (region_words parts) × AreGroups (region_words parts) groups) (λ parts. RowTells old (λ was. HasFoundAll (region_words parts) was found))
+      → RowTells row (λ parts. HasFoundAll (region_words parts) found)
+  found_tells found first leaders next =
+      row_tells_more row (λ parts. SaysBounds bounds (region_words parts) × AreGroups (region_words parts) groups) (λ parts. HasFoundAll (region_words parts) found)
       (λ parts here.
       let end = ends (region_words parts) bounds.tail groups here.0.tail bounds.tail_in_limits here.1 in
-      row_tells_from old (λ was. HasFoundAll (region_words parts) was found)
-      (λ was these. record {
+      record {
         fits = here.1.fits;
-        first = first ∙ sym here.0.tail;
-        next = next end.from_tail end.limit ∙ end.is_next;
-        groups = leaders ∙ here.1.leaders;
-      }))
+        first = λ stores. first ∙ sym here.0.tail;
+        next = λ stores. next end.from_tail end.limit ∙ end.is_next;
+        groups = λ stores. leaders ∙ here.1.leaders;
+      })
       both

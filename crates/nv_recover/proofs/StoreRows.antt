@@ -15,10 +15,11 @@ use Rattle.nv_store.specs.Store.{Store, IsWhole}
 use Rattle.nv_store.specs.Torn.{IsTorn, LeftOrTore}
 use Rattle.nv_store.proofs.ImageLaws.{image_of_quiet, seen_is_image}
 use Rattle.nv_store.proofs.StoreLaws.{write_is_torn, quiet_is_quiet}
-use Rattle.nv_recover.specs.Applying.{AcrossTells, OneWritten, LeftOrOneTorn}
-use Rattle.nv_recover.specs.Standing.{AreStoreImages, files_of}
-use Rattle.nv_recover.specs.Telling.{AllTell}
-use Rattle.nv_recover.proofs.Present.{IsNow, AreNow, now_same, row_tells_from, row_tells_at, presents, presents_tell, presents_long, are_now_same, OneChanged, one_changed}
+use Rattle.nv_recover.specs.Applying.{AcrossTells, ChangesOne, OneWritten, LeftOrOneTorn}
+use Rattle.nv_recover.specs.Changes.{Change, row_after_change}
+use Rattle.nv_recover.specs.Standing.{AreStoreImages, LeaveNoMore, files_of}
+use Rattle.nv_recover.specs.Telling.{AllTell, IsNow, AreNow}
+use Rattle.nv_recover.proofs.Present.{now_same, row_tells_from, row_tells_at, presents, presents_tell, presents_long, are_now_same, OneChanged, one_changed}
 
 -- ---- one store
 
@@ -65,6 +66,21 @@ wrote_torn (Ok _) at bytes was is old new done failed before after =
     inr (subst (IsTorn at (length bytes) old) (sym (now_did (Write at bytes) was is old new before after done)) (write_is_torn at bytes old))
 wrote_torn (Err _) at bytes was is old new done failed before after = now_tore at (length bytes) was is old new before after failed
 
+-- a step makes one change at most
+did_one : (step : Step) (was is : History) → Did (step ∷ []) was is → (is ≡ was) ⊎ ((state : Store) × (is ≡ grown (λ next before. next) state was))
+unfolding run
+did_one step [] is did = inl did.states
+did_one step (now ∷ past) is did = inr (after_step step now, did.states)
+
+-- and so does a write that may have been torn
+wrote_one : {T E : Type 0} (result : Result T E) (at : ℕ) (bytes : List ℕ) (was is : History) → OnOk result (Did (Write at bytes ∷ []) was is) → OnErr result (LeftOrTore at (length bytes) was is)
+    → (is ≡ was) ⊎ ((state : Store) × (is ≡ grown (λ next before. next) state was))
+wrote_one (Ok _) at bytes was is done failed = did_one (Write at bytes) was is done
+wrote_one (Err _) at bytes was is done (inl same) = inl same
+wrote_one (Err _) at bytes was is done (inr tore) =
+    let More : History → Type 0 = λ before. tore.next ∷ before ≡ grown (λ next before. next) tore.next before in
+    inr (tore.next, tore.states ∙ subst More (sym tore.told) refl)
+
 -- ---- a row of them
 
 module _ {X : Type 0} (history : X → History) (stores : List X) (i : ℕ) (d new : X) (inside : i < length stores) where
@@ -92,6 +108,22 @@ module _ {X : Type 0} (history : X → History) (stores : List X) (i : ℕ) (d n
       let At : History → Type 0 = Some in
       subst (All Some) (sym (map-set history stores i new))
       (All-set Some (map history stores) i (history new) (step (subst At history_was (tell i [] row_inside))) tell)
+
+  one_of_row : (history new ≡ history (get_or stores i d)) ⊎ ((state : Store) × (history new ≡ grown (λ next before. next) state (history (get_or stores i d))))
+      → ChangesOne (map history stores) (map history (slice_set stores i new))
+  one_of_row (inl same) =
+      inl (map-set history stores i new ∙ ap (set (map history stores) i) (same ∙ sym history_was) ∙ set-get_or (map history stores) i [])
+  one_of_row (inr one) =
+      inr (record { device = i; state = one.0 },
+      map-set history stores i new ∙ ap (set (map history stores) i) (one.1 ∙ ap (grown (λ next before. next) one.0) (sym history_was)))
+
+  -- a call on one store makes one change at most
+  pub row_wrote_one : {T E : Type 0} (result : Result T E) (at : ℕ) (bytes : List ℕ) → OnOk result (Did (Write at bytes ∷ []) (history (get_or stores i d)) (history new)) → OnErr result (LeftOrTore at (length bytes) (history (get_or stores i d)) (history new))
+      → ChangesOne (map history stores) (map history (slice_set stores i new))
+  row_wrote_one result at bytes done failed = one_of_row (wrote_one result at bytes (history (get_or stores i d)) (history new) done failed)
+
+  pub row_did_one : (step : Step) → Did (step ∷ []) (history (get_or stores i d)) (history new) → ChangesOne (map history stores) (map history (slice_set stores i new))
+  row_did_one step done = one_of_row (did_one step (history (get_or stores i d)) (history new) done)
 
   pub row_torn : {T E : Type 0} (result : Result T E) (at : ℕ) (bytes : List ℕ) → OnOk result (Did (Write at bytes ∷ []) (history (get_or stores i d)) (history new)) → OnErr result (LeftOrTore at (length bytes) (history (get_or stores i d)) (history new))
       → RowTells (map history stores) (λ before. RowTells (map history (slice_set stores i new)) (LeftOrOneTorn i at (length bytes) before))
@@ -229,11 +261,11 @@ row_unsynced row =
 
 pub row_synced_images : {X : Type 0} (history : X → History) → ((x : X) (now : Store) (past : History) → history x ≡ now ∷ past → IsWhole now)
     → (old : List X) (new : List History) (count : ℕ) → RowSynced count (map history old) new
-    → RowTells (map history old) (λ was. RowTells new (λ now. (bytes : Files) → AreStoreImages now bytes → AreStoreImages was bytes))
+    → RowTells (map history old) (λ was. RowTells new (LeaveNoMore was))
 row_synced_images history told old new count synced =
-    row_tells_from (map history old) (λ was. RowTells new (λ now. (bytes : Files) → AreStoreImages now bytes → AreStoreImages was bytes))
+    row_tells_from (map history old) (λ was. RowTells new (LeaveNoMore was))
     (λ was are.
-    row_tells_more new (λ now. now ≡ synced_front count was) (λ now. (bytes : Files) → AreStoreImages now bytes → AreStoreImages was bytes)
+    row_tells_more new (λ now. now ≡ synced_front count was) (LeaveNoMore was)
     (λ now is bytes.
     synced_images count was now bytes is
     (λ i none inside. row_whole history told old was are i none (omega (arith, presents_long (map history old) was are, length-map old history))))

@@ -8,7 +8,7 @@ use Rattle.nv_pmem.specs.Rows.{RowTells}
 use Rattle.nv_pmem.specs.Runs.{RanSome, grown}
 use Rattle.nv_pmem.proofs.RowLaws.{row_tells_any, row_tells_more, row_tells_both}
 use Rattle.nv_pmem.proofs.StepLaws.{grown-told, grown-untold}
-use Rattle.nv_recover.specs.Emptying.{BothTell, RowsTell}
+use Rattle.nv_recover.specs.Emptying.{BothTell}
 use Rattle.nv_recover.specs.Telling.{AllTell}
 use Rattle.std.specs.Prelude.{take, Result, Ok, Err, OnOk}
 
@@ -65,6 +65,10 @@ some_tells {after = after} {steps} {old = now ∷ past} did =
     (λ some. omega (arith, ap length (did.states ∙ (grown-told after (take did.count steps) now past).1)), λ some. omega arith)
 
 -- ---- a row
+
+-- what a call makes of the states of a row, where all its devices tell
+abbrev pub RowsTell : {S : Type 0} → List (List S) → List (List S) → (List S → List S → Type 0) → Type 0
+RowsTell old new R = RowTells old (λ was. RowTells new (R was))
 
 -- Two rows, and what their parts have in pairs.
 pub record EachPair {S : Type 0} (R : ℕ → List S → List S → Type 0) (count : ℕ) (was now : List (List S)) : Type 0 where
@@ -123,18 +127,6 @@ told_fact ((now ∷ past) ∷ row) A all told = told_fact row A (All-tail (λ hi
 -- what two rows say of the later one alone
 pub rows_new : {S : Type 0} (old new : List (List S)) (Q : List S → Type 0) → (AllTell new → AllTell old) → RowsTell old new (λ was now. Q now) → RowTells new Q
 rows_new old new Q back rows = where_all_tell new Q (λ all. told_fact old (RowTells new Q) (back all) rows)
-
--- one call after another
-pub rows_rows : {S : Type 0} (old between new : List (List S)) (R Q T : List S → List S → Type 0) → (AllTell old → AllTell between) → ((was mid now : List S) → R was mid → Q mid now → T was now) → RowsTell old between R → RowsTell between new Q → RowsTell old new T
-rows_rows old between new R Q T on step first next =
-    where_all_tell old (λ was. RowTells new (T was)) (λ all.
-    row_tells_more old (λ was. RowTells between (R was)) (λ was. RowTells new (T was))
-    (λ was here.
-    told_fact between (RowTells new (T was)) (on all)
-    (row_tells_more between (λ mid. R was mid × RowTells new (Q mid)) (λ mid. RowTells new (T was))
-    (λ mid both. row_tells_more new (Q mid) (T was) (λ now. step was mid now both.0) both.1)
-    (row_tells_both between (R was) (λ mid. RowTells new (Q mid)) here next)))
-    first)
 
 -- a row of which one device is changed, which tells as before
 told_set : {S : Type 0} (row : List (List S)) (i : ℕ) (history : List S) → (0 < length (slice_index_or row i []) → 0 < length history) → AllTell row → AllTell (slice_set row i history)

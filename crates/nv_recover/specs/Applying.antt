@@ -12,12 +12,17 @@ use Rattle.nv_store.specs.Steps.{Write, after_step}
 use Rattle.nv_store.specs.Store.{Store}
 use Rattle.nv_store.specs.Torn.{IsTorn}
 use Rattle.nv_entry.specs.Checks.{region_words}
+use Rattle.nv_recover.specs.Changes.{Change, row_after_change, ThroughoutRow}
 use Rattle.nv_recover.specs.Standing.{AreStoreImages}
 use Rattle.nv_recover.specs.declared.group.Group.{Group}
 
 -- a fact about the words of a region and its stores before and after a call, where all of them tell
 abbrev pub AcrossTells : List lines.History → List stores.History → List stores.History → (Image → List Store → List Store → Type 0) → Type 0
 AcrossTells parts old new R = RowTells parts (λ parts. RowTells old (λ was. RowTells new (λ now. R (region_words parts) was now)))
+
+-- a fact about the words of a region and its stores, as they were and as they are at each moment of a call
+abbrev pub AcrossThroughout : List lines.History → List stores.History → List stores.History → (Image → List Store → List Store → Type 0) → Type 0
+AcrossThroughout parts old new R = RowTells parts (λ parts. RowTells old (λ was. ThroughoutRow (R (region_words parts) was) old new))
 
 -- ---- which numbers are written
 
@@ -78,3 +83,7 @@ pub record OneTorn (file at count : ℕ) (was now : List Store) : Type 0 where
 -- a write to one of the stores that may have failed
 abbrev pub LeftOrOneTorn : ℕ → ℕ → ℕ → List Store → List Store → Type 0
 LeftOrOneTorn file at count was now = (now ≡ was) ⊎ OneTorn file at count was now
+
+-- A call on stores made one change at most: they are as they were, or one of those that tell comes to a further state.
+abbrev pub ChangesOne : List stores.History → List stores.History → Type 0
+ChangesOne old new = (new ≡ old) ⊎ ((change : Change Store) × (new ≡ row_after_change change old))

@@ -6,7 +6,6 @@ use Rattle.nv_plain.specs.Recovered.{IsCommitted}
 use Rattle.nv_pmem.specs.Images.{InEachImage, IsQuiet}
 use Rattle.nv_pmem.specs.Moments.{Tells}
 use Rattle.nv_pmem.specs.Part.{Part, word_of}
-use Rattle.nv_pmem.specs.Rows.{RowTells}
 use Rattle.nv_entry.specs.declared.bounds.Bounds.{Bounds}
 use Rattle.nv_header.specs.Regions.{ReadsAs, HasEmptyLog}
 use Rattle.nv_recover.specs.Alike.{SayTheSame}
@@ -14,10 +13,6 @@ use Rattle.nv_recover.specs.Alike.{SayTheSame}
 -- what a call makes of a device's state, where the device tells
 abbrev pub BothTell : {S : Type 0} → List S → List S → (S → S → Type 0) → Type 0
 BothTell old new R = Tells old (λ was. Tells new (R was))
-
--- and of those of a row
-abbrev pub RowsTell : {S : Type 0} → List (List S) → List (List S) → (List S → List S → Type 0) → Type 0
-RowsTell old new R = RowTells old (λ was. RowTells new (R was))
 
 -- A part's words are those of before, but that its commit word may be 0 where it was greater than this.
 pub record IsTrimmed (most : ℕ) (was image : PartImage) : Type 0 where

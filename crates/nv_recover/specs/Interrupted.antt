@@ -1,18 +1,27 @@
 -- Interrupted: recoveries that power failures stop, one after another.
-use Rattle.std.specs.Prelude.{◌≡◌, List, [], ◌∷◌}
+use Rattle.std.specs.Prelude.{◌≡◌, ℕ, ◌≤◌, List, [], ◌∷◌, length, take}
 use Rattle.nv_plain.specs.Files.{Files}
 use Rattle.nv_plain.specs.Images.{Image}
 use Rattle.nv_plain.specs.Layouts.{version_1}
 use Rattle.nv_plain.specs.Recovered.{Fits, recovered}
 use Rattle.nv_pmem.specs.Part.{Part}
 use Rattle.nv_pmem.specs.Rows.{IsRowImage}
+use Rattle.nv_pmem.specs.Runs.{run}
 use Rattle.nv_store.specs.Store.{Store}
-use Rattle.nv_recover.specs.Standing.{AreStoreImages, StillStandFor, files_of}
+use Rattle.nv_entry.specs.Checks.{region_words}
+use Rattle.nv_recover.specs.Changes.{Devices, devices_after_change, ThroughoutDevices}
+use Rattle.nv_recover.specs.Recovering.{StandsStill, StandThroughout}
+use Rattle.nv_recover.specs.Standing.{AreStoreImages, files_of}
+use Rattle.nv_recover.specs.Telling.{AreNow}
 
 -- What a recovery begins on: an image of a region, and the bytes of its stores.
 pub record Start : Type 0 where
   pub image : Image
   pub bytes : Files
+
+-- the start that quiet parts and stores are
+abbrev pub start_of : List Part → List Store → Start
+start_of parts stores = record { image = region_words parts; bytes = files_of stores }
 
 -- the image of a start fits
 abbrev pub StartFits : Start → Type 0
@@ -22,12 +31,23 @@ StartFits start = Fits version_1 start.image
 abbrev pub files_from : Start → Files
 files_from start = (recovered start.image start.bytes).files
 
--- A recovery began on one start and ended somewhere, and a power failure made the other start of what it left. Where the
--- image fits, the parts and stores that it left still stand for the same files: so recovery promises wherever it ends.
+-- A recovery that began on a start led its devices from these histories to those, as it promises.
+abbrev pub IsRun : Start → Devices → Devices → Type 0
+IsRun start old new = ThroughoutDevices (StandsStill start.image start.bytes) old new
+
+-- A recovery began on one start. Power failed at some moment of it, and what was left of the devices is the other start.
 pub record IsStop (before after : Start) : Type 0 where
+  pub old : Devices
+  pub new : Devices
+  pub run_is : IsRun before old new
+  -- how many changes it had made
+  pub count : ℕ
+  pub no_more : count ≤ length run_is.steps
+  -- what the devices then held, and what was left of it
   pub parts : List Part
   pub stores : List Store
-  pub stand : StartFits before → StillStandFor parts stores (files_from before)
+  pub parts_are : AreNow (run devices_after_change (take count run_is.steps) old).parts parts
+  pub stores_are : AreNow (run devices_after_change (take count run_is.steps) old).stores stores
   pub image : IsRowImage parts after.image
   pub bytes : AreStoreImages stores after.bytes
 
@@ -40,6 +60,13 @@ AreStops first (next ∷ later) = IsStop first next × AreStops next later
 abbrev pub last_of : Start → List Start → Start
 last_of first [] = first
 last_of first (next ∷ later) = last_of next later
+
+-- What `recover` promises of its moments, over devices that tell, is such a run from the start that they held.
+abbrev pub PromisesAreRuns : Type 0
+PromisesAreRuns =
+    (old new : Devices) (parts : List Part) (stores : List Store)
+    → AreNow old.parts parts → AreNow old.stores stores → StandThroughout old new
+    → IsRun (start_of parts stores) old new
 
 -- However many stops there are, where the first image fits the last one does.
 abbrev pub StopsKeepFit : Type 0

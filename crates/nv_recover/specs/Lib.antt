@@ -3,6 +3,7 @@ pub mod Standing
 pub mod Groups
 pub mod Causes
 pub mod Telling
+pub mod Changes
 pub mod Finding
 pub mod Applying
 pub mod Recovering

@@ -1,13 +1,16 @@
 -- Recovering: what recovery gives, and what its devices stand for wherever it ends.
 use Rattle.std.specs.Prelude.{◌≡◌, ℕ, ◌+◌, List, fold}
+use Rattle.nv_plain.specs.Files.{Files}
 use Rattle.nv_plain.specs.Images.{Image}
 use Rattle.nv_plain.specs.Layouts.{version_1}
 use Rattle.nv_plain.specs.Recovered.{Fits, recovered}
+use Rattle.nv_pmem.specs.Part.{Part}
 use Rattle.nv_pmem.specs.Rows.{RowTells}
 use Rattle.nv_pmem.specs.Steps as lines
 use Rattle.nv_store.specs.Steps as stores
 use Rattle.nv_store.specs.Store.{Store}
 use Rattle.nv_entry.specs.Checks.{region_words}
+use Rattle.nv_recover.specs.Changes.{Devices, DevicesTell, ThroughoutDevices}
 use Rattle.nv_recover.specs.Standing.{AreQuietStores, StillStandFor, files_of}
 use Rattle.nv_recover.specs.declared.group.Group.{Group}
 use Rattle.nv_recover.specs.declared.recovering.Recovered.{Recovered}
@@ -16,12 +19,12 @@ use Rattle.nv_recover.specs.declared.recovering.Recovered.{Recovered}
 abbrev pub end_of : ℕ → List Group → ℕ
 end_of tail groups = fold (λ next group. group.leader + group.count) tail groups
 
--- A recovery of an image over some stores found its tail, its groups and its next number.
-pub record HasFoundAll (image : Image) (was : List Store) (found : Recovered) : Type 0 where
+-- A recovery of an image found that it fits, its tail, its groups and its next number, whatever the stores hold.
+pub record HasFoundAll (image : Image) (found : Recovered) : Type 0 where
   pub fits : Fits version_1 image
-  pub first : found.first ≡ (recovered image (files_of was)).first
-  pub next : found.next ≡ (recovered image (files_of was)).next
-  pub groups : found.groups.items ≡ (recovered image (files_of was)).groups
+  pub first : (stores : Files) → found.first ≡ (recovered image stores).first
+  pub next : (stores : Files) → found.next ≡ (recovered image stores).next
+  pub groups : (stores : Files) → found.groups.items ≡ (recovered image stores).groups
 
 -- The stores hold the files that the image stood for, and they are durable.
 pub record HoldRecovered (image : Image) (was now : List Store) : Type 0 where
@@ -32,9 +35,16 @@ pub record HoldRecovered (image : Image) (was now : List Store) : Type 0 where
 pub record AreUntouched (parts : List lines.History) (old new : List stores.History) : Type 0 where
   pub same : RowTells parts (λ parts. new ≡ old)
 
--- Where an image fits, whatever a power failure now leaves of the parts and the stores stands for the files that the
--- image and the stores stood for before.
-abbrev pub StandAsBefore : List lines.History → List stores.History → List lines.History → List stores.History → Type 0
-StandAsBefore parts stores parts_now stores_now =
-    RowTells parts (λ parts. RowTells stores (λ was. Fits version_1 (region_words parts)
-    → RowTells parts_now (λ now. RowTells stores_now (λ held. StillStandFor now held (recovered (region_words parts) (files_of was)).files))))
+-- Where the parts tell of an image that doesn't fit, nothing was written: the stores are as they were, and the parts too.
+abbrev pub UnfitIsUnwritten : Devices → Devices → Type 0
+UnfitIsUnwritten old new = RowTells old.parts (λ parts. ¬ Fits version_1 (region_words parts) → new ≡ old)
+
+-- If an image fits, whatever a power failure leaves of these parts and stores stands for the files that the image and these
+-- bytes stand for.
+abbrev pub StandsStill : Image → Files → List Part → List Store → Type 0
+StandsStill image bytes now held = Fits version_1 image → StillStandFor now held (recovered image bytes).files
+
+-- So it is at each moment of a call, where all devices tell, of the image that the parts had and the bytes that the stores had.
+abbrev pub StandThroughout : Devices → Devices → Type 0
+StandThroughout old new =
+    DevicesTell old (λ parts stores. ThroughoutDevices (StandsStill (region_words parts) (files_of stores)) old new)

@@ -18,6 +18,10 @@ pub record AreStoreImages (stores : List Store) (bytes : Files) : Type 0 where
   pub count : length bytes.contents ≡ length stores
   pub each : (i : ℕ) (none : Store) → i < length stores → IsImage (slice_index_or stores i none) (contents_of bytes i)
 
+-- A power failure leaves nothing of the stores now that it might not have left of them before.
+abbrev pub LeaveNoMore : List Store → List Store → Type 0
+LeaveNoMore was now = (bytes : Files) → AreStoreImages now bytes → AreStoreImages was bytes
+
 -- each store is quiet
 abbrev pub AreQuietStores : List Store → Type 0
 AreQuietStores stores = All IsQuiet stores

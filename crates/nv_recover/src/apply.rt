@@ -1,7 +1,6 @@
 ghost use Rattle.std.specs.Prelude.{◌≡◌, ◌≢◌, ℕ, ◌+◌, ◌<◌, ◌≤◌, length, map, take, drop, fold, sum_by, All, Err, IfOk, OnOk, MatchOption};
 ghost use Rattle.std.specs.List.{range_with_len};
 ghost use Rattle.nv_plain.specs.Faults.{HasCause};
-ghost use Rattle.nv_plain.specs.Files.{Files};
 ghost use Rattle.nv_plain.specs.Images.{entry_at, entry_of, lines_for};
 ghost use Rattle.nv_plain.specs.Recovered.{with_entry, recovered};
 ghost use Rattle.nv_pmem.specs.Limits.{entry_lines};
@@ -13,10 +12,11 @@ ghost use Rattle.nv_store.specs.Steps.{Sync, after_step};
 ghost use Rattle.nv_entry.specs.Checks.{SaysBounds, region_words};
 ghost use Rattle.nv_entry.specs.Group.{words_of};
 ghost use Rattle.nv_entry.specs.Reading.{head_of, IsFilled};
-ghost use Rattle.nv_recover.specs.Applying.{AcrossTells, IsGroupOf, IsNumberOf, HasPiece, StaysAlike, OneWritten, LeftOrOneTorn};
+ghost use Rattle.nv_recover.specs.Applying.{AcrossTells, AcrossThroughout, ChangesOne, IsGroupOf, IsNumberOf, HasPiece, StaysAlike, OneWritten, LeftOrOneTorn};
 ghost use Rattle.nv_recover.specs.Causes.{HasRegionCause, HasStoreCause};
+ghost use Rattle.nv_recover.specs.Changes.{ThroughoutRow};
 ghost use Rattle.nv_recover.specs.Groups.{AreGroups};
-ghost use Rattle.nv_recover.specs.Standing.{AreQuietStores, AreStoreImages, RecoverAlike, files_of};
+ghost use Rattle.nv_recover.specs.Standing.{AreQuietStores, LeaveNoMore, RecoverAlike, files_of};
 ghost use Rattle.nv_recover.specs.Telling.{AllTell};
 ghost use Rattle.nv_recover.specs.declared.error.RecoverError.TheVariants as error;
 
@@ -29,7 +29,7 @@ use nv_store::{Backing, StoreError, StoreFault};
 /// Writes the pieces of the groups to the stores, in rising number. `parts` are those of the region, the header's first,
 /// `bounds` what the header says, and `page` takes one piece at a time.
 ///
-/// The stores were quiet. Whenever it ends, whatever a power failure then leaves of them recovers, by the same log, to the
+/// The stores were quiet. At each moment, whatever a power failure then leaves of them recovers, by the same log, to the
 /// files that it would have recovered to without this call.
 pub(crate) fn write_groups<L: Lines, B: Backing>(
     parts: &mut [L],
@@ -46,8 +46,7 @@ pub(crate) fn write_groups<L: Lines, B: Backing>(
     requires stores { length stores.old ≡ bounds.now.files }
     requires quiet { RowTells (map B.history stores.old) AreQuietStores }
     ensures read { AreOnlyRead L.history L.room L.device parts.old parts.new }
-    ensures alike { RowTells (map L.history parts.old) (λ parts. RowTells (map B.history stores.old) (λ was.
-        RowTells (map B.history stores.new) (λ now. RecoverAlike (region_words parts) was now))) }
+    ensures moments { AcrossThroughout (map L.history parts.old) (map B.history stores.old) (map B.history stores.new) RecoverAlike }
     ensures written { OnOk result (RowTells (map L.history parts.old) (λ parts. RowTells (map B.history stores.old) (λ was.
         RowTells (map B.history stores.new) (λ now. files_of now ≡ (recovered (region_words parts) (files_of was)).files)))) }
     ensures bad { (number : ℕ) → result ≡ Err (error.BadEntry number) → RowTells (map L.history parts.old) (λ parts. ⊥) }
@@ -77,7 +76,7 @@ fn write_group<L: Lines, B: Backing>(
     requires group { RowTells (map L.history parts.old) (λ parts. IsGroupOf (region_words parts) group) }
     requires stores { length stores.old ≡ bounds.now.files }
     ensures read { AreOnlyRead L.history L.room L.device parts.old parts.new }
-    ensures alike { AcrossTells (map L.history parts.old) (map B.history stores.old) (map B.history stores.new) StaysAlike }
+    ensures moments { AcrossThroughout (map L.history parts.old) (map B.history stores.old) (map B.history stores.new) StaysAlike }
     ensures written { OnOk result (AcrossTells (map L.history parts.old) (map B.history stores.old) (map B.history stores.new)
         (λ image was now. files_of now ≡ fold (with_entry image) (files_of was) (range_with_len group.leader group.count))) }
     ensures bad { (number : ℕ) → result ≡ Err (error.BadEntry number) → RowTells (map L.history parts.old) (λ parts. ⊥) }
@@ -108,6 +107,7 @@ fn write_entry<L: Lines, B: Backing>(
     requires number { RowTells (map L.history parts.old) (λ parts. IsNumberOf (region_words parts) number) }
     requires stores { length stores.old ≡ bounds.now.files }
     ensures read { AreOnlyRead L.history L.room L.device parts.old parts.new }
+    ensures one { ChangesOne (map B.history stores.old) (map B.history stores.new) }
     ensures alike { AcrossTells (map L.history parts.old) (map B.history stores.old) (map B.history stores.new) StaysAlike }
     ensures written { OnOk result (AcrossTells (map L.history parts.old) (map B.history stores.old) (map B.history stores.new)
         (λ image was now. files_of now ≡ with_entry image (files_of was) number)) }
@@ -185,6 +185,7 @@ fn write_piece<B: Backing>(
     bytes: &[u8],
 ) -> Result<(), StoreError>
     requires { file < length stores.old }
+    ensures one { ChangesOne (map B.history stores.old) (map B.history stores.new) }
     ensures torn { RowTells (map B.history stores.old) (λ was. RowTells (map B.history stores.new)
         (LeftOrOneTorn file at (length bytes.now) was)) }
     ensures done { OnOk result (RowTells (map B.history stores.old) (λ was. RowTells (map B.history stores.new)
@@ -196,11 +197,10 @@ fn write_piece<B: Backing>(
     stores[file].pwrite(at, bytes)
 }
 
-/// Syncs each store, in rising number, up to the first that fails. Whenever it ends, a power failure leaves nothing of the
+/// Syncs each store, in rising number, up to the first that fails. At each moment a power failure leaves nothing of the
 /// stores that it might not have left before.
 pub(crate) fn sync_all<B: Backing>(stores: &mut [B]) -> Result<(), StoreFault>
-    ensures images { RowTells (map B.history stores.old) (λ was. RowTells (map B.history stores.new) (λ now.
-        (bytes : Files) → AreStoreImages now bytes → AreStoreImages was bytes)) }
+    ensures moments { RowTells (map B.history stores.old) (λ was. ThroughoutRow (LeaveNoMore was) (map B.history stores.old) (map B.history stores.new)) }
     ensures synced { OnOk result (RowTells (map B.history stores.old) (λ was. RowTells (map B.history stores.new) (λ now.
         now ≡ map (after_step Sync) was))) }
     ensures seen { RowTells (map B.history stores.old) (λ was. RowTells (map B.history stores.new) (λ now. files_of now ≡ files_of was)) }

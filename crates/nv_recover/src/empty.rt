@@ -1,11 +1,13 @@
 ghost use Rattle.std.specs.Prelude.{◌≡◌, ℕ, ◌+◌, ◌^◌, ◌<◌, ◌≤◌, ◌↔◌, List, length, map, sum_by, OnOk};
 ghost use Rattle.nv_plain.specs.Faults.{HasCause};
 ghost use Rattle.nv_plain.specs.Layouts.{version_1};
+ghost use Rattle.nv_pmem.specs.Moments.{Tells, EachMoment};
 ghost use Rattle.nv_pmem.specs.Rows.{RowTells, InEachRowImage};
 ghost use Rattle.nv_entry.specs.Checks.{SaysBounds, region_words};
 ghost use Rattle.nv_header.specs.Regions.{AreQuiet, HasParts, IsAtRest, StaysRoomy};
 ghost use Rattle.nv_recover.specs.Alike.{SayTheSame};
-ghost use Rattle.nv_recover.specs.Emptying.{BothTell, RowsTell, MayBeTrimmed, HasSmallWord, HasNoneAbove, CommitsNoneFrom, SaysBoundsAndNames, SaysTheSameOrEmpty};
+ghost use Rattle.nv_recover.specs.Changes.{ThroughoutRow};
+ghost use Rattle.nv_recover.specs.Emptying.{BothTell, MayBeTrimmed, HasSmallWord, HasNoneAbove, CommitsNoneFrom, SaysBoundsAndNames, SaysTheSameOrEmpty};
 ghost use Rattle.nv_recover.specs.Telling.{AllTell};
 
 use nv_entry::Bounds;
@@ -13,7 +15,7 @@ use nv_header::move_tail;
 use nv_pmem::{Lines, RegionFault, store_durably};
 
 /// Empties the log, of which no number from `next` on is committed: commit words that an older use of the region left past
-/// the window are cleared, and then the tail moves to `next`. At each exit every image says the same of the log as before,
+/// the window are cleared, and then the tail moves to `next`. At each moment every image says the same of the log as before,
 /// or has an empty log that goes on with `next`; at `Ok` the parts are those of a region at rest. Takes no memory.
 pub(crate) fn empty_log<L: Lines>(
     parts: &mut [L],
@@ -26,10 +28,11 @@ pub(crate) fn empty_log<L: Lines>(
     requires none { RowTells (map L.history parts.old) (λ parts. CommitsNoneFrom next (region_words parts)) }
     requires from_tail { bounds.now.tail ≤ next }
     requires number { next ≤ 2 ^ 60 }
-    ensures same { (names : List (List ℕ))
+    ensures moments { (names : List (List ℕ))
         → RowTells (map L.history parts.old) (λ was. SaysBoundsAndNames bounds.now names (region_words was))
-        → RowsTell (map L.history parts.old) (map L.history parts.new) (λ was.
-        InEachRowImage (SaysTheSameOrEmpty bounds.now.page bounds.now.entries names next (region_words was))) }
+        → RowTells (map L.history parts.old) (λ was. ThroughoutRow
+        (InEachRowImage (SaysTheSameOrEmpty bounds.now.page bounds.now.entries names next (region_words was)))
+        (map L.history parts.old) (map L.history parts.new)) }
     ensures rest { OnOk result ((names : List (List ℕ))
         → RowTells (map L.history parts.old) (λ was. SaysBoundsAndNames bounds.now names (region_words was))
         → RowTells (map L.history parts.new) (IsAtRest version_1 bounds.now.page bounds.now.entries names next)) }
@@ -48,8 +51,8 @@ fn clear_words<L: Lines>(parts: &mut [L], bounds: &Bounds) -> Result<(), RegionF
     requires parts { HasParts version_1 bounds.now.page bounds.now.entries (map L.room parts.old) }
     requires header { RowTells (map L.history parts.old) (λ parts. SaysBounds bounds.now (region_words parts)) }
     requires quiet { RowTells (map L.history parts.old) AreQuiet }
-    ensures same { RowsTell (map L.history parts.old) (map L.history parts.new)
-        (λ was. InEachRowImage (SayTheSame (region_words was))) }
+    ensures moments { RowTells (map L.history parts.old) (λ was.
+        ThroughoutRow (InEachRowImage (SayTheSame (region_words was))) (map L.history parts.old) (map L.history parts.new)) }
     ensures cleared { OnOk result (RowTells (map L.history parts.new) (λ now. HasNoneAbove (region_words now))) }
     ensures quiet { OnOk result (RowTells (map L.history parts.new) AreQuiet) }
     ensures parts { OnOk result (HasParts version_1 bounds.now.page bounds.now.entries (map L.room parts.new)) }
@@ -69,7 +72,7 @@ fn clear_words<L: Lines>(parts: &mut [L], bounds: &Bounds) -> Result<(), RegionF
 fn clear_word<L: Lines>(part: &mut L, most: u64) -> Result<(), RegionFault>
     requires line { 0 < (L.room part.old).lines }
     requires spare { 1 ≤ (L.room part.old).spare 0 }
-    ensures trimmed { BothTell (L.history part.old) (L.history part.new) (MayBeTrimmed most) }
+    ensures moments { Tells (L.history part.old) (λ was. EachMoment (MayBeTrimmed most was) (L.history part.old) (L.history part.new)) }
     ensures cleared { OnOk result (BothTell (L.history part.old) (L.history part.new) (HasSmallWord most)) }
     ensures room { OnOk result (StaysRoomy (L.room part.old) (L.room part.new)) }
     ensures lines { (L.room part.new).lines ≡ (L.room part.old).lines }

@@ -7,11 +7,12 @@ ghost use Rattle.nv_entry.specs.Checks.{SaysBounds, region_words};
 ghost use Rattle.nv_header.specs.Heads.{IsHeadOf, IsWithinLimits, header_image};
 ghost use Rattle.nv_header.specs.Needs.{header_history};
 ghost use Rattle.nv_header.specs.Regions.{AreQuiet, HasParts, IsAtRest};
-ghost use Rattle.nv_recover.specs.Applying.{AcrossTells};
+ghost use Rattle.nv_recover.specs.Applying.{AcrossTells, AcrossThroughout};
+ghost use Rattle.nv_recover.specs.Changes.{devices_of};
 ghost use Rattle.nv_recover.specs.Causes.{RegionFailed, StoresFailed, HasRegionCause, HasStoreCause};
 ghost use Rattle.nv_recover.specs.Bounding.{HasBounds};
 ghost use Rattle.nv_recover.specs.Groups.{AreGroups, IsLeastBad, leaders_of};
-ghost use Rattle.nv_recover.specs.Recovering.{AreUntouched, HasFoundAll, HoldRecovered, StandAsBefore, end_of};
+ghost use Rattle.nv_recover.specs.Recovering.{AreUntouched, HasFoundAll, HoldRecovered, StandThroughout, UnfitIsUnwritten, end_of};
 ghost use Rattle.nv_recover.specs.Standing.{AreQuietStores, RecoverAlike};
 ghost use Rattle.nv_recover.specs.Telling.{AllTell};
 ghost use Rattle.nv_recover.specs.declared.error.RecoverError.TheVariants as error;
@@ -61,8 +62,7 @@ pub fn recover<L: Lines + Drop, B: Backing>(
     requires stores { length stores.old.items ≡ length head.names }
     requires synced { RowTells (map B.history stores.old.items) AreQuietStores }
 
-    ensures found { IfOk result (λ done. RowTells (map L.history parts.items) (λ parts.
-        RowTells (map B.history stores.old.items) (λ was. HasFoundAll (region_words parts) was done.1))) }
+    ensures found { IfOk result (λ done. RowTells (map L.history parts.items) (λ parts. HasFoundAll (region_words parts) done.1)) }
     ensures files { IfOk result (λ done. AcrossTells (map L.history parts.items) (map B.history stores.old.items)
         (map B.history stores.new.items) HoldRecovered) }
     ensures geometry { IfOk result (λ done. done.0.geometry ≡ head.geometry) }
@@ -76,11 +76,17 @@ pub fn recover<L: Lines + Drop, B: Backing>(
     ensures untouched { IfErr result (λ failed. (number : ℕ) → failed.1 ≡ error.BadEntry number
         → AreUntouched (map L.history parts.items) (map B.history stores.old.items) (map B.history stores.new.items)) }
 
-    ensures stand { MatchResult result
-        (λ done. StandAsBefore (map L.history parts.items) (map B.history stores.old.items)
-        (map L.history done.0.parts.items) (map B.history stores.new.items))
-        (λ failed. StandAsBefore (map L.history parts.items) (map B.history stores.old.items)
-        (map L.history failed.0.items) (map B.history stores.new.items)) }
+    ensures unfit { MatchResult result
+        (λ done. UnfitIsUnwritten (devices_of L.history B.history parts.items stores.old.items)
+        (devices_of L.history B.history done.0.parts.items stores.new.items))
+        (λ failed. UnfitIsUnwritten (devices_of L.history B.history parts.items stores.old.items)
+        (devices_of L.history B.history failed.0.items stores.new.items)) }
+
+    ensures moments { MatchResult result
+        (λ done. StandThroughout (devices_of L.history B.history parts.items stores.old.items)
+        (devices_of L.history B.history done.0.parts.items stores.new.items))
+        (λ failed. StandThroughout (devices_of L.history B.history parts.items stores.old.items)
+        (devices_of L.history B.history failed.0.items stores.new.items)) }
 
     ensures lines { MatchResult result
         (λ done. map (λ part. (L.room part).lines) done.0.parts.items ≡ map (λ part. (L.room part).lines) parts.items)
@@ -135,8 +141,7 @@ fn recover_parts<L: Lines, B: Backing>(
     requires quiet { RowTells (map L.history parts.old) AreQuiet }
     requires stores { length stores.old ≡ bounds.now.files }
     requires synced { RowTells (map B.history stores.old) AreQuietStores }
-    ensures found { IfOk result (λ found. RowTells (map L.history parts.old) (λ parts.
-        RowTells (map B.history stores.old) (λ was. HasFoundAll (region_words parts) was found))) }
+    ensures found { IfOk result (λ found. RowTells (map L.history parts.old) (λ parts. HasFoundAll (region_words parts) found)) }
     ensures files { OnOk result (AcrossTells (map L.history parts.old) (map B.history stores.old) (map B.history stores.new) HoldRecovered) }
     ensures rest { IfOk result (λ found. RowTells (map L.history parts.new)
         (IsAtRest version_1 bounds.now.page bounds.now.entries head.now.names found.next)) }
@@ -147,7 +152,8 @@ fn recover_parts<L: Lines, B: Backing>(
     ensures unwritten { (number : ℕ) → result ≡ Err (error.BadEntry number) → AreOnlyRead L.history L.room L.device parts.old parts.new }
     ensures untouched { (number : ℕ) → result ≡ Err (error.BadEntry number)
         → AreUntouched (map L.history parts.old) (map B.history stores.old) (map B.history stores.new) }
-    ensures stand { StandAsBefore (map L.history parts.old) (map B.history stores.old) (map L.history parts.new) (map B.history stores.new) }
+    ensures unfit { UnfitIsUnwritten (devices_of L.history B.history parts.old stores.old) (devices_of L.history B.history parts.new stores.new) }
+    ensures moments { StandThroughout (devices_of L.history B.history parts.old stores.old) (devices_of L.history B.history parts.new stores.new) }
     ensures lines { map (λ part. (L.room part).lines) parts.new ≡ map (λ part. (L.room part).lines) parts.old }
     ensures region_cause { HasRegionCause (sum_by L.fault_count parts.old) (sum_by L.fault_count parts.new) result }
     ensures store_cause { HasStoreCause (sum_by B.fault_count stores.old) (sum_by B.fault_count stores.new) result }
@@ -201,7 +207,7 @@ fn replay<L: Lines, B: Backing>(
     requires stores { length stores.old ≡ bounds.now.files }
     requires quiet { RowTells (map B.history stores.old) AreQuietStores }
     ensures read { AreOnlyRead L.history L.room L.device parts.old parts.new }
-    ensures alike { AcrossTells (map L.history parts.old) (map B.history stores.old) (map B.history stores.new) RecoverAlike }
+    ensures moments { AcrossThroughout (map L.history parts.old) (map B.history stores.old) (map B.history stores.new) RecoverAlike }
     ensures done { OnOk result (AcrossTells (map L.history parts.old) (map B.history stores.old) (map B.history stores.new) HoldRecovered) }
     ensures bad { (number : ℕ) → result ≡ Err (error.BadEntry number) → RowTells (map L.history parts.old) (λ parts. ⊥) }
     ensures tells { AllTell (map B.history stores.old) → AllTell (map B.history stores.new) }

@@ -11,9 +11,10 @@ use Rattle.nv_store.specs.Steps.{History}
 use Rattle.nv_store.specs.Store.{Store}
 use Rattle.nv_recover.specs.Applying.{AcrossTells, IsGroupOf, StaysAlike}
 use Rattle.nv_recover.specs.Standing.{files_of}
-use Rattle.nv_recover.proofs.ApplyLaws.{alike_none, alike_more}
-use Rattle.nv_recover.proofs.Entries.{unwritten, group_tells_number, GroupSoFar, group_begun, group_all}
+use Rattle.nv_recover.proofs.ApplyLaws.{alike_none}
+use Rattle.nv_recover.proofs.Entries.{unwritten, group_tells_number, GroupSoFar, group_begun, group_all, entry_throughout}
 use Rattle.nv_recover.proofs.GroupLaws.{one_more}
+use Rattle.nv_recover.proofs.RowMoments.{across_still}
 use Rattle.nv_recover.proofs.StoreRows.{across_tells}
 use Rattle.nv_recover.proofs.apply.write_group.Goals as goal
 
@@ -23,7 +24,7 @@ loop-number-init g c =
     let stores : List History = map g.B.Backing.history c.args.stores.now in
     record {
       read = only_read_none g.L.Lines.history g.L.Lines.room g.L.Lines.device c.args.parts.now;
-      alike = unwritten parts stores StaysAlike alike_none;
+      moments = across_still parts stores StaysAlike (unwritten parts stores StaysAlike alike_none);
       written = unwritten parts stores (GroupSoFar c.args.group.leader c.args.group.leader) (group_begun c.args.group.leader);
       tells = λ tell. tell;
       region_faults = refl;
@@ -45,14 +46,14 @@ write_entry-requires-clause-number g c =
 pub returns-in_err-write_entry-clause-read : goal.returns-in_err-write_entry-clause-read
 returns-in_err-write_entry-clause-read g c = only_read_more c.loop-number.invariant.read c.write_entry.ensures.read
 
-pub returns-in_err-write_entry-clause-alike : goal.returns-in_err-write_entry-clause-alike
-returns-in_err-write_entry-clause-alike g c =
+pub returns-in_err-write_entry-clause-moments : goal.returns-in_err-write_entry-clause-moments
+returns-in_err-write_entry-clause-moments g c =
     let old : List History = map g.B.Backing.history c.args.stores.now in
     let between : List History = map g.B.Backing.history c.loop-number.stores in
     let new : List History = map g.B.Backing.history c.write_entry.new.stores in
     let Step : List lines.History → Type 0 = λ parts. AcrossTells parts between new StaysAlike in
-    across_tells (map g.L.Lines.history c.args.parts.now) old between new StaysAlike StaysAlike StaysAlike c.loop-number.invariant.tells alike_more
-    c.loop-number.invariant.alike (subst Step c.loop-number.invariant.read.histories c.write_entry.ensures.alike)
+    entry_throughout (map g.L.Lines.history c.args.parts.now) old between new c.loop-number.invariant.tells c.loop-number.invariant.moments c.write_entry.ensures.one
+    (subst Step c.loop-number.invariant.read.histories c.write_entry.ensures.alike)
 
 pub loop-number-preserved : goal.loop-number-preserved
 loop-number-preserved g c =
@@ -67,9 +68,9 @@ loop-number-preserved g c =
     let Wrote : List lines.History → Type 0 = λ parts. AcrossTells parts between new Next in
     record {
       read = only_read_more c.loop-number.invariant.read c.write_entry.ensures.read;
-      alike =
-          across_tells parts old between new StaysAlike StaysAlike StaysAlike c.loop-number.invariant.tells alike_more
-          c.loop-number.invariant.alike (subst Alike c.loop-number.invariant.read.histories c.write_entry.ensures.alike);
+      moments =
+          entry_throughout parts old between new c.loop-number.invariant.tells c.loop-number.invariant.moments c.write_entry.ensures.one
+          (subst Alike c.loop-number.invariant.read.histories c.write_entry.ensures.alike);
       written =
           across_tells parts old between new (GroupSoFar leader number) Next (GroupSoFar leader (number + 1)) c.loop-number.invariant.tells
           (λ image was then now so_far next. one_more image (files_of was) (files_of then) (files_of now) leader number (omega arith) so_far next)

@@ -3,7 +3,7 @@ use Rattle.std.specs.Prelude.{fold}
 use Rattle.std.specs.List.{range_with_len}
 use Rattle.nv_plain.specs.Recovered.{with_entry}
 use Rattle.nv_pmem.specs.Rows.{AreOnlyRead}
-use Rattle.nv_recover.specs.Applying.{AcrossTells, StaysAlike}
+use Rattle.nv_recover.specs.Applying.{AcrossTells, AcrossThroughout, StaysAlike}
 use Rattle.nv_recover.specs.Standing.{files_of}
 use Rattle.nv_recover.specs.Telling.{AllTell}
 use Rattle.nv_recover.proofs.apply.write_group.Given as goal
@@ -12,7 +12,7 @@ use Rattle.nv_recover.proofs.apply.write_group.Given as goal
 abbrev pub invariant-loop-number : goal.invariant-loop-number
 invariant-loop-number g l = record {
   read : AreOnlyRead g.L.Lines.history g.L.Lines.room g.L.Lines.device l.fn.parts l.parts;
-  alike : AcrossTells (map g.L.Lines.history l.fn.parts) (map g.B.Backing.history l.fn.stores) (map g.B.Backing.history l.stores) StaysAlike;
+  moments : AcrossThroughout (map g.L.Lines.history l.fn.parts) (map g.B.Backing.history l.fn.stores) (map g.B.Backing.history l.stores) StaysAlike;
   written : AcrossTells (map g.L.Lines.history l.fn.parts) (map g.B.Backing.history l.fn.stores) (map g.B.Backing.history l.stores)
       (λ image was now. files_of now ≡ fold (with_entry image) (files_of was) (range_with_len l.fn.group.leader (l.number - l.fn.group.leader)));
   tells : AllTell (map g.B.Backing.history l.fn.stores) → AllTell (map g.B.Backing.history l.stores);

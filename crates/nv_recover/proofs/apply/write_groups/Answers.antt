@@ -11,13 +11,14 @@ use Rattle.nv_plain.specs.Images.{Image}
 use Rattle.nv_plain.specs.Recovered.{with_entry}
 use Rattle.nv_store.specs.Steps.{History}
 use Rattle.nv_store.specs.Store.{Store}
-use Rattle.nv_recover.specs.Applying.{AcrossTells, StaysAlike}
+use Rattle.nv_recover.specs.Applying.{AcrossTells, AcrossThroughout, StaysAlike}
 use Rattle.nv_recover.specs.Groups.{AreGroups}
 use Rattle.nv_recover.specs.Standing.{files_of}
 use Rattle.nv_recover.specs.declared.group.Group.{Group}
-use Rattle.nv_recover.proofs.ApplyLaws.{alike_none, alike_more}
-use Rattle.nv_recover.proofs.Entries.{unwritten, groups_tell_group, GroupsSoFar, groups_all, quiet_alike}
+use Rattle.nv_recover.proofs.ApplyLaws.{alike_none}
+use Rattle.nv_recover.proofs.Entries.{unwritten, groups_tell_group, GroupsSoFar, groups_all, alike_throughout, quiet_alike}
 use Rattle.nv_recover.proofs.GroupLaws.{group_more}
+use Rattle.nv_recover.proofs.RowMoments.{across_still}
 use Rattle.nv_recover.proofs.StoreRows.{across_tells}
 use Rattle.nv_recover.proofs.apply.write_groups.Goals as goal
 
@@ -27,7 +28,7 @@ loop-group-init g c =
     let stores : List History = map g.B.Backing.history c.args.stores.now in
     record {
       read = only_read_none g.L.Lines.history g.L.Lines.room g.L.Lines.device c.args.parts.now;
-      alike = unwritten parts stores StaysAlike alike_none;
+      moments = across_still parts stores StaysAlike (unwritten parts stores StaysAlike alike_none);
       written = unwritten parts stores (GroupsSoFar c.args.groups.now 0) (λ image was. refl);
       tells = λ tell. tell;
       region_faults = refl;
@@ -49,16 +50,16 @@ write_group-requires-clause-group g c =
 pub returns-in_err-write_group-clause-read : goal.returns-in_err-write_group-clause-read
 returns-in_err-write_group-clause-read g c = only_read_more c.loop-group.invariant.read c.write_group.ensures.read
 
-pub returns-in_err-write_group-clause-alike : goal.returns-in_err-write_group-clause-alike
-returns-in_err-write_group-clause-alike g c =
+pub returns-in_err-write_group-clause-moments : goal.returns-in_err-write_group-clause-moments
+returns-in_err-write_group-clause-moments g c =
     let parts : List lines.History = map g.L.Lines.history c.args.parts.now in
     let old : List History = map g.B.Backing.history c.args.stores.now in
     let between : List History = map g.B.Backing.history c.loop-group.stores in
     let new : List History = map g.B.Backing.history c.write_group.new.stores in
-    let Step : List lines.History → Type 0 = λ parts. AcrossTells parts between new StaysAlike in
+    let Step : List lines.History → Type 0 = λ parts. AcrossThroughout parts between new StaysAlike in
     quiet_alike parts old new c.requires.quiet
-    (across_tells parts old between new StaysAlike StaysAlike StaysAlike c.loop-group.invariant.tells alike_more
-    c.loop-group.invariant.alike (subst Step c.loop-group.invariant.read.histories c.write_group.ensures.alike))
+    (alike_throughout parts old between new c.loop-group.invariant.tells c.loop-group.invariant.moments
+    (subst Step c.loop-group.invariant.read.histories c.write_group.ensures.moments))
 
 pub loop-group-preserved : goal.loop-group-preserved
 loop-group-preserved g c =
@@ -71,13 +72,13 @@ loop-group-preserved g c =
     let none : Group = record { leader = 0; count = 0 } in
     let Next : Image → List Store → List Store → Type 0 = λ image was now.
     files_of now ≡ fold (with_entry image) (files_of was) (range_with_len (get_or groups i none).leader (get_or groups i none).count) in
-    let Alike : List lines.History → Type 0 = λ parts. AcrossTells parts between new StaysAlike in
+    let Alike : List lines.History → Type 0 = λ parts. AcrossThroughout parts between new StaysAlike in
     let Wrote : List lines.History → Type 0 = λ parts. AcrossTells parts between new Next in
     record {
       read = only_read_more c.loop-group.invariant.read c.write_group.ensures.read;
-      alike =
-          across_tells parts old between new StaysAlike StaysAlike StaysAlike c.loop-group.invariant.tells alike_more
-          c.loop-group.invariant.alike (subst Alike c.loop-group.invariant.read.histories c.write_group.ensures.alike);
+      moments =
+          alike_throughout parts old between new c.loop-group.invariant.tells c.loop-group.invariant.moments
+          (subst Alike c.loop-group.invariant.read.histories c.write_group.ensures.moments);
       written =
           across_tells parts old between new (GroupsSoFar groups i) Next (GroupsSoFar groups (i + 1)) c.loop-group.invariant.tells
           (λ image was then now so_far next. group_more image (files_of was) (files_of then) (files_of now) groups i none (omega arith) so_far next)
@@ -88,10 +89,10 @@ loop-group-preserved g c =
       devices = c.write_group.ensures.devices ∙ c.loop-group.invariant.devices;
     }
 
-pub returns-clause-alike : goal.returns-clause-alike
-returns-clause-alike g c =
+pub returns-clause-moments : goal.returns-clause-moments
+returns-clause-moments g c =
     quiet_alike (map g.L.Lines.history c.args.parts.now) (map g.B.Backing.history c.args.stores.now) (map g.B.Backing.history c.loop-group.stores)
-    c.requires.quiet c.loop-group.invariant.alike
+    c.requires.quiet c.loop-group.invariant.moments
 
 pub returns-clause-written : goal.returns-clause-written
 returns-clause-written g c =

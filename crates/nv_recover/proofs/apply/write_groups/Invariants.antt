@@ -2,7 +2,7 @@ use Rattle.std.proofs.Common.{◌≡◌, map, take, sum_by}
 use Rattle.std.specs.Prelude.{fold}
 use Rattle.nv_plain.specs.Recovered.{with_entry}
 use Rattle.nv_pmem.specs.Rows.{AreOnlyRead}
-use Rattle.nv_recover.specs.Applying.{AcrossTells, StaysAlike}
+use Rattle.nv_recover.specs.Applying.{AcrossTells, AcrossThroughout, StaysAlike}
 use Rattle.nv_recover.specs.Groups.{numbers_of}
 use Rattle.nv_recover.specs.Standing.{files_of}
 use Rattle.nv_recover.specs.Telling.{AllTell}
@@ -12,7 +12,7 @@ use Rattle.nv_recover.proofs.apply.write_groups.Given as goal
 abbrev pub invariant-loop-group : goal.invariant-loop-group
 invariant-loop-group g l = record {
   read : AreOnlyRead g.L.Lines.history g.L.Lines.room g.L.Lines.device l.fn.parts l.parts;
-  alike : AcrossTells (map g.L.Lines.history l.fn.parts) (map g.B.Backing.history l.fn.stores) (map g.B.Backing.history l.stores) StaysAlike;
+  moments : AcrossThroughout (map g.L.Lines.history l.fn.parts) (map g.B.Backing.history l.fn.stores) (map g.B.Backing.history l.stores) StaysAlike;
   written : AcrossTells (map g.L.Lines.history l.fn.parts) (map g.B.Backing.history l.fn.stores) (map g.B.Backing.history l.stores)
       (λ image was now. files_of now ≡ fold (with_entry image) (files_of was) (numbers_of (take l.group-index l.groups)));
   tells : AllTell (map g.B.Backing.history l.fn.stores) → AllTell (map g.B.Backing.history l.stores);

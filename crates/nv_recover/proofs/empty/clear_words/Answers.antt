@@ -1,14 +1,25 @@
 use Rattle.std.proofs.Common.{◌≡◌, ◌+◌, ◌<◌, List, length, get_or, map, slice_set, refl, ◌∙◌, subst, arith}
 use Rattle.std.proofs.lemmas.List.{length-map}
 use Rattle.nv_plain.specs.Layouts.{version_1}
+use Rattle.nv_pmem.specs.Rows.{InEachRowImage}
 use Rattle.nv_pmem.specs.Steps.{History}
+use Rattle.nv_entry.specs.Checks.{region_words}
 use Rattle.nv_header.proofs.InRow.{same_in_row, same_sum_in_row, roomy_part, has_parts_set, roomy_line_0}
-use Rattle.nv_recover.proofs.EmptyRows.{AreClearedTo, cleared_none, devices_tell, devices_stopped, devices_more, itself_at, cleared_rows, small_rows, rows_same, rows_quiet, rows_none_above}
+use Rattle.nv_recover.specs.Alike.{SayTheSame}
+use Rattle.nv_recover.specs.Emptying.{MayBeTrimmed}
+use Rattle.nv_recover.proofs.EmptyRows.{AreClearedTo, cleared_none, clearing_throughout, devices_tell, devices_more, itself_at, cleared_rows, small_rows, rows_same, rows_quiet, rows_none_above}
+use Rattle.nv_recover.proofs.RowMoments.{rows_still}
+use Rattle.nv_recover.proofs.TellLaws.{both_moments}
 use Rattle.nv_recover.proofs.empty.clear_words.Goals as goal
 
 pub loop-entry-init : goal.loop-entry-init
 loop-entry-init g c = record {
   done = cleared_none (c.args.bounds.now.tail + c.args.bounds.now.entries) (map g.L.Lines.history c.args.parts.now);
+  moments =
+      let row : List History = map g.L.Lines.history c.args.parts.now in
+      let most = c.args.bounds.now.tail + c.args.bounds.now.entries in
+      rows_still row (λ was. InEachRowImage (SayTheSame (region_words was)))
+      (rows_same c.args.bounds.now (length row) row row c.requires.quiet c.requires.header (cleared_rows most 0 (length row) row row (cleared_none most row) refl));
   parts = c.requires.parts;
   lines = refl;
   cause = refl;
@@ -31,15 +42,14 @@ clear_word-requires-clause-spare g c =
     (roomy_part g.L.Lines.room version_1 c.args.bounds.now.page c.args.bounds.now.entries c.loop-entry.parts i (get_or c.loop-entry.parts i c.index-parts-entry.result)
     c.loop-entry.invariant.parts inside (itself_at c.loop-entry.parts i c.index-parts-entry.result inside))).1
 
-pub returns-in_err-clear_word-clause-same : goal.returns-in_err-clear_word-clause-same
-returns-in_err-clear_word-clause-same g c =
+pub returns-in_err-clear_word-clause-moments : goal.returns-in_err-clear_word-clause-moments
+returns-in_err-clear_word-clause-moments g c =
     let i = 1 + c.loop-entry.entry in
+    let was = get_or c.loop-entry.parts i c.index-parts-entry.result in
     let inside : i < length c.loop-entry.parts = omega (arith, c.loop-entry.invariant.parts.count, length-map c.loop-entry.parts g.L.Lines.room) in
-    let old : List History = map g.L.Lines.history c.args.parts.now in
-    rows_same c.args.bounds.now (length old) old (map g.L.Lines.history (slice_set c.loop-entry.parts i c.clear_word.new.part)) c.requires.quiet c.requires.header
-    (devices_stopped g.L.Lines.history (c.args.bounds.now.tail + c.args.bounds.now.entries) c.loop-entry.entry (length old) old c.loop-entry.parts
-    (get_or c.loop-entry.parts i c.index-parts-entry.result) c.clear_word.new.part
-    c.loop-entry.invariant.done refl inside (itself_at c.loop-entry.parts i c.index-parts-entry.result inside) c.clear_word.ensures.trimmed)
+    clearing_throughout g.L.Lines.history c.args.bounds.now c.loop-entry.entry (map g.L.Lines.history c.args.parts.now) c.loop-entry.parts was c.clear_word.new.part
+    c.requires.quiet c.requires.header c.loop-entry.invariant.done inside (itself_at c.loop-entry.parts i c.index-parts-entry.result inside)
+    c.clear_word.ensures.moments c.loop-entry.invariant.moments
 
 pub returns-in_err-clear_word-clause-lines : goal.returns-in_err-clear_word-clause-lines
 returns-in_err-clear_word-clause-lines g c =
@@ -77,7 +87,12 @@ loop-entry-preserved g c =
     record {
       done =
           devices_more g.L.Lines.history (c.args.bounds.now.tail + c.args.bounds.now.entries) c.loop-entry.entry (map g.L.Lines.history c.args.parts.now) parts was new
-          c.loop-entry.invariant.done inside is c.clear_word.ensures.trimmed c.in_ok-clear_word.ensures.cleared c.clear_word.ensures.tells;
+          c.loop-entry.invariant.done inside is
+          (both_moments (g.L.Lines.history was) (g.L.Lines.history new) (MayBeTrimmed (c.args.bounds.now.tail + c.args.bounds.now.entries)) c.clear_word.ensures.moments)
+          c.in_ok-clear_word.ensures.cleared c.clear_word.ensures.tells;
+      moments =
+          clearing_throughout g.L.Lines.history c.args.bounds.now c.loop-entry.entry (map g.L.Lines.history c.args.parts.now) parts was new c.requires.quiet c.requires.header
+          c.loop-entry.invariant.done inside is c.clear_word.ensures.moments c.loop-entry.invariant.moments;
       parts =
           has_parts_set g.L.Lines.room version_1 c.args.bounds.now.page c.args.bounds.now.entries parts i was new inside is
           c.in_ok-clear_word.ensures.room c.loop-entry.invariant.parts;
@@ -85,13 +100,6 @@ loop-entry-preserved g c =
       cause = same_sum_in_row g.L.Lines.fault_count parts i was new inside is c.in_ok-clear_word.ensures.cause ∙ c.loop-entry.invariant.cause;
       devices = same_in_row g.L.Lines.device parts i was new is c.clear_word.ensures.device ∙ c.loop-entry.invariant.devices;
     }
-
-pub returns-clause-same : goal.returns-clause-same
-returns-clause-same g c =
-    let old : List History = map g.L.Lines.history c.args.parts.now in
-    rows_same c.args.bounds.now (length old) old (map g.L.Lines.history c.loop-entry.parts) c.requires.quiet c.requires.header
-    (cleared_rows (c.args.bounds.now.tail + c.args.bounds.now.entries) c.loop-entry.entry (length old) old (map g.L.Lines.history c.loop-entry.parts)
-    c.loop-entry.invariant.done refl)
 
 pub returns-clause-cleared : goal.returns-clause-cleared
 returns-clause-cleared g c =

@@ -2,18 +2,22 @@ use Rattle.std.proofs.Common.{◌≤◌, List, length, get_or, map, slice_set, r
 use Rattle.std.proofs.lemmas.List.{length-map}
 use Rattle.std.proofs.lemmas.Result.{on_ok_weaker}
 use Rattle.nv_plain.specs.Layouts.{version_1}
+use Rattle.nv_pmem.specs.Rows.{InEachRowImage}
 use Rattle.nv_pmem.specs.Steps.{History}
+use Rattle.nv_entry.specs.Checks.{region_words}
 use Rattle.nv_header.proofs.InRow.{roomy_part, has_parts_set, stays_settled}
-use Rattle.nv_recover.proofs.EmptyParts.{stored_moved, stored_tail}
+use Rattle.nv_recover.specs.Alike.{SayTheSame}
+use Rattle.nv_recover.proofs.EmptyParts.{MayBeMoved, moved_moments, stored_tail}
 use Rattle.nv_recover.proofs.EmptyRows.{devices_tell, itself_at}
-use Rattle.nv_recover.proofs.MoveRows.{can_after, moved_rows, rest_rows, same_then, same_alone}
-use Rattle.nv_recover.proofs.TellLaws.{some_tells, on_both}
+use Rattle.nv_recover.proofs.MoveRows.{can_after, moving_throughout, rest_rows, same_then, same_alone}
+use Rattle.nv_recover.proofs.RowMoments.{rows_last}
+use Rattle.nv_recover.proofs.TellLaws.{both_moments, some_tells, on_both}
 use Rattle.nv_recover.proofs.empty.empty_log.Goals as goal
 
-pub returns-in_err-clear_words-clause-same : goal.returns-in_err-clear_words-clause-same
-returns-in_err-clear_words-clause-same g c names reads =
+pub returns-in_err-clear_words-clause-moments : goal.returns-in_err-clear_words-clause-moments
+returns-in_err-clear_words-clause-moments g c names reads =
     same_alone c.args.bounds.now.page c.args.bounds.now.entries names c.args.next (map g.L.Lines.history c.args.parts.now) (map g.L.Lines.history c.clear_words.new.parts)
-    c.clear_words.ensures.same
+    c.clear_words.ensures.moments
 
 pub move_tail-requires-clause-lines : goal.move_tail-requires-clause-lines
 move_tail-requires-clause-lines g c =
@@ -30,8 +34,8 @@ move_tail-requires-clause-spare g c =
     c.in_ok-clear_words.ensures.parts inside (itself_at parts 0 c.index-parts-0.result inside) in
     omega (arith, roomy.spare 1 (omega arith))
 
-pub returns-clause-same : goal.returns-clause-same
-returns-clause-same g c names reads =
+pub returns-clause-moments : goal.returns-clause-moments
+returns-clause-moments g c names reads =
     let bounds = c.args.bounds.now in
     let parts = c.clear_words.new.parts in
     let cleared = c.in_ok-clear_words.ensures in
@@ -40,11 +44,12 @@ returns-clause-same g c names reads =
     let old : List History = map g.L.Lines.history c.args.parts.now in
     let between : List History = map g.L.Lines.history parts in
     let new : List History = map g.L.Lines.history (slice_set parts 0 c.move_tail.new.header) in
-    same_then bounds.page bounds.entries names c.args.next old between new cleared.tells.0 cleared.same
-    (moved_rows g.L.Lines.history bounds.page bounds.entries names bounds.tail c.args.next parts was c.move_tail.new.header c.index-parts-0.result inside refl
-    c.requires.from_tail c.requires.number
-    (can_after bounds.page bounds.entries names bounds.tail c.args.next old between cleared.tells.1 cleared.same cleared.quiet cleared.cleared c.requires.none reads)
-    (stored_moved c.args.next (g.L.Lines.history was) (g.L.Lines.history c.move_tail.new.header) c.move_tail.ensures.moments))
+    let same = rows_last old between (λ was. InEachRowImage (SayTheSame (region_words was))) cleared.moments in
+    same_then bounds.page bounds.entries names c.args.next old between new cleared.tells.0 cleared.moments
+    (moving_throughout g.L.Lines.history bounds.page bounds.entries names bounds.tail c.args.next parts was c.move_tail.new.header inside
+    (itself_at parts 0 c.index-parts-0.result inside) c.requires.from_tail c.requires.number
+    (can_after bounds.page bounds.entries names bounds.tail c.args.next old between cleared.tells.1 same cleared.quiet cleared.cleared c.requires.none reads)
+    (moved_moments c.args.next (g.L.Lines.history was) (g.L.Lines.history c.move_tail.new.header) c.move_tail.ensures.moments))
 
 pub returns-clause-tells : goal.returns-clause-tells
 returns-clause-tells g c =
@@ -65,12 +70,14 @@ returns-clause-rest g c =
     let old : List History = map g.L.Lines.history c.args.parts.now in
     let between : List History = map g.L.Lines.history parts in
     let more = devices_tell g.L.Lines.history parts 0 was c.move_tail.new.header inside (itself_at parts 0 c.index-parts-0.result inside) (some_tells c.move_tail.ensures.begun) in
+    let same = rows_last old between (λ was. InEachRowImage (SayTheSame (region_words was))) cleared.moments in
     on_both c.move_tail.result
     (λ moved quiet names reads.
     rest_rows g.L.Lines.history bounds.page bounds.entries names bounds.tail c.args.next parts was c.move_tail.new.header c.index-parts-0.result inside refl
     c.requires.from_tail c.requires.number more.1
-    (can_after bounds.page bounds.entries names bounds.tail c.args.next old between cleared.tells.1 cleared.same cleared.quiet cleared.cleared c.requires.none reads)
-    (stored_moved c.args.next (g.L.Lines.history was) (g.L.Lines.history c.move_tail.new.header) c.move_tail.ensures.moments)
+    (can_after bounds.page bounds.entries names bounds.tail c.args.next old between cleared.tells.1 same cleared.quiet cleared.cleared c.requires.none reads)
+    (both_moments (g.L.Lines.history was) (g.L.Lines.history c.move_tail.new.header) (MayBeMoved c.args.next)
+    (moved_moments c.args.next (g.L.Lines.history was) (g.L.Lines.history c.move_tail.new.header) c.move_tail.ensures.moments))
     (stored_tail c.args.next (g.L.Lines.history was) (g.L.Lines.history c.move_tail.new.header) moved quiet))
     c.move_tail.ensures.moved c.move_tail.ensures.quiet
 

@@ -9,16 +9,17 @@ use Rattle.nv_pmem.proofs.RowLaws.{row_tells_any, row_tells_more}
 use Rattle.nv_store.specs.Steps.{History}
 use Rattle.nv_entry.specs.Checks.{SaysBounds, region_words}
 use Rattle.nv_header.specs.Regions.{ReadsAs}
-use Rattle.nv_recover.specs.Applying.{AcrossTells}
-use Rattle.nv_recover.specs.Emptying.{RowsTell, CommitsNoneFrom, SaysTheSameOrEmpty}
+use Rattle.nv_recover.specs.Applying.{AcrossTells, AcrossThroughout}
+use Rattle.nv_recover.specs.Changes.{ThroughoutRow}
+use Rattle.nv_recover.specs.Emptying.{CommitsNoneFrom, SaysTheSameOrEmpty}
 use Rattle.nv_recover.specs.Groups.{IsLeastBad, leaders_of}
-use Rattle.nv_recover.specs.Recovering.{HoldRecovered, StandAsBefore, end_of}
+use Rattle.nv_recover.specs.Recovering.{HoldRecovered, StandThroughout, end_of}
 use Rattle.nv_recover.specs.Standing.{RecoverAlike}
 use Rattle.nv_recover.specs.declared.error.RecoverError.TheVariants.{BadEntry}
 use Rattle.nv_recover.specs.declared.group.Group.{Group}
 use Rattle.nv_recover.proofs.HeadRows.{row_reads_as, row_says_bounds}
 use Rattle.nv_recover.proofs.RoomLaws.{parts_count, parts_lines, parts_slots, parts_still, lines_same}
-use Rattle.nv_recover.proofs.StandLaws.{alike_still, stand_read, stand_emptied, none_tells, found_tells}
+use Rattle.nv_recover.proofs.StandLaws.{both_rows, alike_still, stand_read, stand_emptied, unfit_read, unfit_found, none_tells, found_tells}
 use Rattle.nv_recover.proofs.recovering.recover_parts.Goals as goal
 
 pub find_groups-requires-clause-lines : goal.find_groups-requires-clause-lines
@@ -37,22 +38,32 @@ returns-in_err-groups-clause-untouched g c number is =
     let same : List History = map g.B.Backing.history c.args.stores.now in
     record { same = row_tells_any (map g.L.Lines.history c.args.parts.now) (λ parts. same ≡ same) (λ parts. refl) }
 
-pub returns-in_err-groups-clause-stand : goal.returns-in_err-groups-clause-stand
-returns-in_err-groups-clause-stand g c =
+pub returns-in_err-groups-clause-unfit : goal.returns-in_err-groups-clause-unfit
+returns-in_err-groups-clause-unfit g c =
+    unfit_read (map g.L.Lines.history c.args.parts.now) (map g.L.Lines.history c.find_groups.new.parts) (map g.B.Backing.history c.args.stores.now)
+    c.find_groups.ensures.read.histories
+
+pub returns-in_err-groups-clause-moments : goal.returns-in_err-groups-clause-moments
+returns-in_err-groups-clause-moments g c =
     let first : List lines.History = map g.L.Lines.history c.args.parts.now in
     let stores : List History = map g.B.Backing.history c.args.stores.now in
-    let At : List lines.History → Type 0 = λ row. StandAsBefore first stores row stores in
+    let At : List lines.History → Type 0 = λ row. StandThroughout (both_rows first stores) (both_rows row stores) in
     subst At (sym c.find_groups.ensures.read.histories) (stand_read first stores stores c.requires.quiet (alike_still first stores c.requires.synced))
 
 pub returns-in_err-groups-clause-lines : goal.returns-in_err-groups-clause-lines
 returns-in_err-groups-clause-lines g c =
     lines_same g.L.Lines.room c.args.bounds.now.page c.args.bounds.now.entries c.args.parts.now c.find_groups.new.parts c.find_groups.ensures.read.rooms
 
-pub returns-in_err-recovered-clause-stand : goal.returns-in_err-recovered-clause-stand
-returns-in_err-recovered-clause-stand g c =
+pub returns-in_err-recovered-clause-unfit : goal.returns-in_err-recovered-clause-unfit
+returns-in_err-recovered-clause-unfit g c =
+    unfit_read (map g.L.Lines.history c.args.parts.now) (map g.L.Lines.history c.find_groups.new.parts) (map g.B.Backing.history c.args.stores.now)
+    c.find_groups.ensures.read.histories
+
+pub returns-in_err-recovered-clause-moments : goal.returns-in_err-recovered-clause-moments
+returns-in_err-recovered-clause-moments g c =
     let first : List lines.History = map g.L.Lines.history c.args.parts.now in
     let stores : List History = map g.B.Backing.history c.args.stores.now in
-    let At : List lines.History → Type 0 = λ row. StandAsBefore first stores row stores in
+    let At : List lines.History → Type 0 = λ row. StandThroughout (both_rows first stores) (both_rows row stores) in
     subst At (sym c.find_groups.ensures.read.histories) (stand_read first stores stores c.requires.quiet (alike_still first stores c.requires.synced))
 
 pub returns-in_err-recovered-clause-lines : goal.returns-in_err-recovered-clause-lines
@@ -101,15 +112,20 @@ returns-in_err-replay-clause-untouched g c number is =
           (subst Never c.find_groups.ensures.read.histories (c.replay.ensures.bad number (c.in_err-replay.was ∙ ap Err same)));
     }
 
-pub returns-in_err-replay-clause-stand : goal.returns-in_err-replay-clause-stand
-returns-in_err-replay-clause-stand g c =
+pub returns-in_err-replay-clause-unfit : goal.returns-in_err-replay-clause-unfit
+returns-in_err-replay-clause-unfit g c =
+    unfit_found (map g.L.Lines.history c.args.parts.now) (map g.B.Backing.history c.args.stores.now) c.in_ok-groups.groups.items
+    (both_rows (map g.L.Lines.history c.replay.new.parts) (map g.B.Backing.history c.replay.new.stores)) c.in_ok-groups.ensures.found
+
+pub returns-in_err-replay-clause-moments : goal.returns-in_err-replay-clause-moments
+returns-in_err-replay-clause-moments g c =
     let first : List lines.History = map g.L.Lines.history c.args.parts.now in
     let old : List History = map g.B.Backing.history c.args.stores.now in
     let new : List History = map g.B.Backing.history c.replay.new.stores in
-    let At : List lines.History → Type 0 = λ row. StandAsBefore first old row new in
-    let Alike : List lines.History → Type 0 = λ row. AcrossTells row old new RecoverAlike in
+    let At : List lines.History → Type 0 = λ row. StandThroughout (both_rows first old) (both_rows row new) in
+    let Alike : List lines.History → Type 0 = λ row. AcrossThroughout row old new RecoverAlike in
     subst At (sym (c.replay.ensures.read.histories ∙ c.find_groups.ensures.read.histories))
-    (stand_read first old new c.requires.quiet (subst Alike c.find_groups.ensures.read.histories c.replay.ensures.alike))
+    (stand_read first old new c.requires.quiet (subst Alike c.find_groups.ensures.read.histories c.replay.ensures.moments))
 
 pub returns-in_err-replay-clause-lines : goal.returns-in_err-replay-clause-lines
 returns-in_err-replay-clause-lines g c =
@@ -145,8 +161,13 @@ empty_log-requires-clause-none g c =
     (none_tells first bounds c.in_ok-groups.groups.items says c.in_ok-groups.ensures.found next
     (subst Next c.deref.ensures.value c.in_ok-recovered.ensures.next))
 
-pub returns-in_err-empty_log-clause-stand : goal.returns-in_err-empty_log-clause-stand
-returns-in_err-empty_log-clause-stand g c =
+pub returns-in_err-empty_log-clause-unfit : goal.returns-in_err-empty_log-clause-unfit
+returns-in_err-empty_log-clause-unfit g c =
+    unfit_found (map g.L.Lines.history c.args.parts.now) (map g.B.Backing.history c.args.stores.now) c.in_ok-groups.groups.items
+    (both_rows (map g.L.Lines.history c.empty_log.new.parts) (map g.B.Backing.history c.replay.new.stores)) c.in_ok-groups.ensures.found
+
+pub returns-in_err-empty_log-clause-moments : goal.returns-in_err-empty_log-clause-moments
+returns-in_err-empty_log-clause-moments g c =
     let bounds = c.args.bounds.now in
     let names = c.args.head.now.names in
     let next = c.in_ok-recovered.recovered.next in
@@ -158,11 +179,13 @@ returns-in_err-empty_log-clause-stand g c =
     let reads = row_reads_as version_1.header_lines c.args.head.now bounds first c.requires.bounds (omega (arith, count, length-map c.args.parts.now g.L.Lines.history)) c.requires.head in
     let still = c.replay.ensures.read.histories ∙ c.find_groups.ensures.read.histories in
     let Reads : List lines.History → Type 0 = λ row. RowTells row (λ parts. ReadsAs version_1 bounds.page bounds.entries names bounds.tail (region_words parts)) in
-    let Says : List lines.History → Type 0 = λ row. RowsTell row last (λ was. InEachRowImage (SaysTheSameOrEmpty bounds.page bounds.entries names next (region_words was))) in
-    let Alike : List lines.History → Type 0 = λ row. AcrossTells row old new RecoverAlike in
+    let Says : List lines.History → Type 0 = λ row.
+    RowTells row (λ was. ThroughoutRow (InEachRowImage (SaysTheSameOrEmpty bounds.page bounds.entries names next (region_words was))) row last) in
+    let Alike : List lines.History → Type 0 = λ row. AcrossThroughout row old new RecoverAlike in
     let Hold : List lines.History → Type 0 = λ row. AcrossTells row old new HoldRecovered in
-    stand_emptied bounds.page bounds.entries names next first last old new (subst Says still (c.empty_log.ensures.same names (subst Reads (sym still) reads)))
-    (subst Alike c.find_groups.ensures.read.histories c.replay.ensures.alike) (subst Hold c.find_groups.ensures.read.histories c.in_ok-replay.ensures.done)
+    stand_emptied first old new c.requires.quiet (subst Alike c.find_groups.ensures.read.histories c.replay.ensures.moments)
+    bounds.page bounds.entries names next last (subst Says still (c.empty_log.ensures.moments names (subst Reads (sym still) reads)))
+    (subst Hold c.find_groups.ensures.read.histories c.in_ok-replay.ensures.done)
 
 pub returns-in_err-empty_log-clause-lines : goal.returns-in_err-empty_log-clause-lines
 returns-in_err-empty_log-clause-lines g c =
@@ -178,7 +201,7 @@ returns-clause-found g c =
     let count = parts_count g.L.Lines.room bounds.page bounds.entries c.args.parts.now c.requires.parts in
     let says = row_says_bounds version_1.header_lines c.args.head.now bounds first c.requires.bounds (omega (arith, count, length-map c.args.parts.now g.L.Lines.history)) c.requires.head in
     let Next : List Group → Type 0 = λ groups. bounds.tail ≤ end_of bounds.tail groups → end_of bounds.tail groups ≤ 2 ^ 60 → found.next ≡ end_of bounds.tail groups in
-    found_tells first bounds c.in_ok-groups.groups.items says c.in_ok-groups.ensures.found (map g.B.Backing.history c.args.stores.now) found c.in_ok-recovered.ensures.first
+    found_tells first bounds c.in_ok-groups.groups.items says c.in_ok-groups.ensures.found found c.in_ok-recovered.ensures.first
     (c.in_ok-recovered.ensures.groups ∙ ap leaders_of c.deref.ensures.value) (subst Next c.deref.ensures.value c.in_ok-recovered.ensures.next)
 
 pub returns-clause-rest : goal.returns-clause-rest
@@ -192,8 +215,13 @@ returns-clause-rest g c =
     let Reads : List lines.History → Type 0 = λ row. RowTells row (λ parts. ReadsAs version_1 bounds.page bounds.entries names bounds.tail (region_words parts)) in
     c.in_ok-empty_log.ensures.rest names (subst Reads (sym still) reads)
 
-pub returns-clause-stand : goal.returns-clause-stand
-returns-clause-stand g c =
+pub returns-clause-unfit : goal.returns-clause-unfit
+returns-clause-unfit g c =
+    unfit_found (map g.L.Lines.history c.args.parts.now) (map g.B.Backing.history c.args.stores.now) c.in_ok-groups.groups.items
+    (both_rows (map g.L.Lines.history c.empty_log.new.parts) (map g.B.Backing.history c.replay.new.stores)) c.in_ok-groups.ensures.found
+
+pub returns-clause-moments : goal.returns-clause-moments
+returns-clause-moments g c =
     let bounds = c.args.bounds.now in
     let names = c.args.head.now.names in
     let next = c.in_ok-recovered.recovered.next in
@@ -205,11 +233,13 @@ returns-clause-stand g c =
     let reads = row_reads_as version_1.header_lines c.args.head.now bounds first c.requires.bounds (omega (arith, count, length-map c.args.parts.now g.L.Lines.history)) c.requires.head in
     let still = c.replay.ensures.read.histories ∙ c.find_groups.ensures.read.histories in
     let Reads : List lines.History → Type 0 = λ row. RowTells row (λ parts. ReadsAs version_1 bounds.page bounds.entries names bounds.tail (region_words parts)) in
-    let Says : List lines.History → Type 0 = λ row. RowsTell row last (λ was. InEachRowImage (SaysTheSameOrEmpty bounds.page bounds.entries names next (region_words was))) in
-    let Alike : List lines.History → Type 0 = λ row. AcrossTells row old new RecoverAlike in
+    let Says : List lines.History → Type 0 = λ row.
+    RowTells row (λ was. ThroughoutRow (InEachRowImage (SaysTheSameOrEmpty bounds.page bounds.entries names next (region_words was))) row last) in
+    let Alike : List lines.History → Type 0 = λ row. AcrossThroughout row old new RecoverAlike in
     let Hold : List lines.History → Type 0 = λ row. AcrossTells row old new HoldRecovered in
-    stand_emptied bounds.page bounds.entries names next first last old new (subst Says still (c.empty_log.ensures.same names (subst Reads (sym still) reads)))
-    (subst Alike c.find_groups.ensures.read.histories c.replay.ensures.alike) (subst Hold c.find_groups.ensures.read.histories c.in_ok-replay.ensures.done)
+    stand_emptied first old new c.requires.quiet (subst Alike c.find_groups.ensures.read.histories c.replay.ensures.moments)
+    bounds.page bounds.entries names next last (subst Says still (c.empty_log.ensures.moments names (subst Reads (sym still) reads)))
+    (subst Hold c.find_groups.ensures.read.histories c.in_ok-replay.ensures.done)
 
 pub returns-clause-lines : goal.returns-clause-lines
 returns-clause-lines g c =
