@@ -6,12 +6,12 @@ use Rattle.nv_plain.specs.Layouts.{Layout, version_1}
 use Rattle.nv_plain.specs.Recovered.{IsLeader, IsFollower, IsPiece, GoesOn, IsGroup}
 use Rattle.nv_pmem.specs.Moments.{Tells}
 use Rattle.nv_pmem.specs.Part.{Part}
-use Rattle.nv_pmem.specs.Rows.{RowTells}
+use Rattle.nv_pmem.specs.Rows.{RowTells, row_words}
 use Rattle.nv_pmem.specs.Steps.{History}
 use Rattle.nv_pmem.proofs.RowLaws.{row_tells_any, row_tells_more, row_tells_both}
 use Rattle.nv_entry.specs.declared.bounds.Bounds.{Bounds}
 use Rattle.nv_entry.specs.declared.check.EntryWords.{EntryWords}
-use Rattle.nv_entry.specs.Checks.{IsGood, IsFirstBad, EndsAt, SaysBounds, as_entry, region_words}
+use Rattle.nv_entry.specs.Checks.{IsGood, IsFirstBad, EndsAt, SaysBounds, as_entry}
 
 -- what one part of a row tells
 pub row_tells_part : (row : List History) (i : ℕ) (P : Part → Type 0) → i < length row → Tells (slice_index_or row i []) P → RowTells row (λ parts. P (slice_index_or parts i []))
@@ -111,11 +111,11 @@ pub from_true : (test : Bool) (P : Type 0) → IsTrue test → (IsTrue test ↔ 
 from_true test P passed means = means.0 passed
 
 -- what an entry of a checked group tells, with what was told before
-pub entry_tells : (row : List History) (bounds : Bounds) (words : EntryWords) (leader number count file end : ℕ) (P : List Part → Type 0) → ((parts : List Part) → HasChecked version_1 (region_words parts) leader number count file end → SaysBounds bounds (region_words parts) → as_entry words ≡ entry_at (region_words parts) number → P parts) → RowTells row (λ parts. HasChecked version_1 (region_words parts) leader number count file end) → RowTells row (λ parts. SaysBounds bounds (region_words parts)) → RowTells row (λ parts. as_entry words ≡ entry_at (region_words parts) number) → RowTells row P
+pub entry_tells : (row : List History) (bounds : Bounds) (words : EntryWords) (leader number count file end : ℕ) (P : List Part → Type 0) → ((parts : List Part) → HasChecked version_1 (row_words parts) leader number count file end → SaysBounds bounds (row_words parts) → as_entry words ≡ entry_at (row_words parts) number → P parts) → RowTells row (λ parts. HasChecked version_1 (row_words parts) leader number count file end) → RowTells row (λ parts. SaysBounds bounds (row_words parts)) → RowTells row (λ parts. as_entry words ≡ entry_at (row_words parts) number) → RowTells row P
 entry_tells row bounds words leader number count file end P step checked says has =
-    let Checked : List Part → Type 0 = λ parts. HasChecked version_1 (region_words parts) leader number count file end in
-    let Says : List Part → Type 0 = λ parts. SaysBounds bounds (region_words parts) in
-    let Has : List Part → Type 0 = λ parts. as_entry words ≡ entry_at (region_words parts) number in
+    let Checked : List Part → Type 0 = λ parts. HasChecked version_1 (row_words parts) leader number count file end in
+    let Says : List Part → Type 0 = λ parts. SaysBounds bounds (row_words parts) in
+    let Has : List Part → Type 0 = λ parts. as_entry words ≡ entry_at (row_words parts) number in
     let Both : List Part → Type 0 = λ parts. Says parts × Has parts in
     row_tells_more row (λ parts. Checked parts × Both parts) P (λ parts all. step parts all.0 all.1.0 all.1.1)
     (row_tells_both row Checked Both checked (row_tells_both row Says Has says has))

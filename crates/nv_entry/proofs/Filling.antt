@@ -10,7 +10,6 @@ use Rattle.nv_plain.specs.Images.{PartImage, line_bytes, lines_bytes}
 use Rattle.nv_pmem.specs.Part.{word_of}
 use Rattle.nv_pmem.specs.Moments.{Tells}
 use Rattle.nv_pmem.specs.Steps.{History}
-use Rattle.nv_entry.specs.Group.{words_of}
 use Rattle.nv_entry.proofs.Ranges.{flat_map-more}
 
 pub length-put_mid : (at size : ℕ) (xs ys : List ℕ) → at + size ≤ length xs → length ys ≡ size → length (put_mid at size xs ys) ≡ length xs
@@ -63,7 +62,7 @@ line_put part k end into copy line rises fits is size line_is before =
     ∙ ap (take end) (sym (flat_map-more (λ i. line_bytes (part i)) 1 k))
 
 -- one line more of a part's data
-pub told_line_put : (history : History) (k end : ℕ) (into copy line : List ℕ) → 64 * k ≤ length into → end ≡ min (length into) (64 * k + 64) → copy ≡ take (end - 64 * k) line → length copy ≡ length (take (end - 64 * k) (drop (64 * k) into)) → Tells history (λ now. line ≡ line_bytes (word_of now (1 + k))) → Tells history (λ now. take (min (64 * k) (length into)) into ≡ take (min (64 * k) (length into)) (lines_bytes (words_of now) 1 k)) → let new = put_mid (64 * k) (end - 64 * k) into copy in Tells history (λ now. take (min (64 * (k + 1)) (length new)) new ≡ take (min (64 * (k + 1)) (length new)) (lines_bytes (words_of now) 1 (k + 1)))
+pub told_line_put : (history : History) (k end : ℕ) (into copy line : List ℕ) → 64 * k ≤ length into → end ≡ min (length into) (64 * k + 64) → copy ≡ take (end - 64 * k) line → length copy ≡ length (take (end - 64 * k) (drop (64 * k) into)) → Tells history (λ now. line ≡ line_bytes (word_of now (1 + k))) → Tells history (λ now. take (min (64 * k) (length into)) into ≡ take (min (64 * k) (length into)) (lines_bytes (word_of now) 1 k)) → let new = put_mid (64 * k) (end - 64 * k) into copy in Tells history (λ now. take (min (64 * (k + 1)) (length new)) new ≡ take (min (64 * (k + 1)) (length new)) (lines_bytes (word_of now) 1 (k + 1)))
 told_line_put [] k end into copy line fits end_is is size loaded before = tt
 told_line_put (now ∷ past) k end into copy line fits end_is is same_size loaded before =
     let size : length copy ≡ end - 64 * k =
@@ -72,7 +71,7 @@ told_line_put (now ∷ past) k end into copy line fits end_is is same_size loade
     let read : min (64 * k) (length into) ≡ 64 * k = omega arith in
     let reads : min (64 * (k + 1)) (length new) ≡ end =
     omega (arith, length-put_mid (64 * k) (end - 64 * k) into copy (omega arith) size) in
-    let At : ℕ → Type 0 = λ n. take n into ≡ take n (lines_bytes (words_of now) 1 k) in
-    let Then : ℕ → Type 0 = λ n. take n new ≡ take n (lines_bytes (words_of now) 1 (k + 1)) in
+    let At : ℕ → Type 0 = λ n. take n into ≡ take n (lines_bytes (word_of now) 1 k) in
+    let Then : ℕ → Type 0 = λ n. take n new ≡ take n (lines_bytes (word_of now) 1 (k + 1)) in
     subst Then (sym reads)
-    (line_put (words_of now) k end into copy line (omega arith) fits is size loaded (subst At read before))
+    (line_put (word_of now) k end into copy line (omega arith) fits is size loaded (subst At read before))

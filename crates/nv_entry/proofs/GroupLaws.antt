@@ -6,11 +6,11 @@ use Rattle.nv_plain.specs.Pieces.{pages_touched}
 use Rattle.nv_pmem.specs.Limits.{IsPageSize, entry_lines}
 use Rattle.nv_pmem.specs.Part.{Part}
 use Rattle.nv_pmem.specs.Room.{Room}
-use Rattle.nv_pmem.specs.Rows.{on_part, row_after, DidRow, DidSomeRow, RowTells, InEachRowImage, EachRowMoment}
+use Rattle.nv_pmem.specs.Rows.{on_part, row_after, DidRow, DidSomeRow, RowTells, InEachRowImage, EachRowMoment, row_words, AreQuiet}
 use Rattle.nv_pmem.specs.Steps.{History, durable_store}
 use Rattle.nv_pmem.proofs.RowLaws.{row_tells_more, row_tells_both, row_tells_itself, row_tells_did, each_row_moment, row_image_of_now}
 use Rattle.nv_pmem.proofs.StepLaws.{did_some_front, Always, always_by_fronts}
-use Rattle.nv_entry.specs.Group.{pieces_steps, group_steps, row_words, AreQuiet, IsReady, IsUncommitted, IsWhole, IsUncommittedOrWhole, StoresOnly}
+use Rattle.nv_entry.specs.Group.{pieces_steps, group_steps, IsReady, IsUncommitted, IsWhole, IsUncommittedOrWhole, StoresOnly}
 use Rattle.nv_entry.proofs.Data.{AreBytes}
 use Rattle.nv_entry.proofs.GroupSteps.{all_pieces, HaveLines, group_always, group_whole, group_stores, group_quiet}
 use Rattle.nv_entry.proofs.PartRows.{row_tells_lines}

@@ -8,7 +8,7 @@ use Rattle.nv_plain.specs.Pieces.{pages_touched, piece_of, piece_bytes}
 use Rattle.nv_pmem.specs.Images.{IsImage, IsQuiet}
 use Rattle.nv_pmem.specs.Limits.{IsPageSize, entry_lines}
 use Rattle.nv_pmem.specs.Part.{Part, word_of}
-use Rattle.nv_pmem.specs.Rows.{RowStep, on_part, row_after, row_grown, DidRow, DidSomeRow, IsRowImage, InEachRowImage}
+use Rattle.nv_pmem.specs.Rows.{RowStep, on_part, row_after, row_grown, DidRow, DidSomeRow, IsRowImage, InEachRowImage, AreQuiet}
 use Rattle.nv_pmem.specs.Runs.{run}
 use Rattle.nv_pmem.specs.Steps.{Step, History, durable_store}
 use Rattle.nv_pmem.proofs.DurableLaws.{line_settled}
@@ -16,7 +16,7 @@ use Rattle.nv_pmem.proofs.ImageLaws.{IsStoredBy, Mark, quiet_line, open_line, ma
 use Rattle.nv_pmem.proofs.LineLaws.{length-after_steps, word_of-after_steps}
 use Rattle.nv_pmem.proofs.RowLaws.{steps_on, steps_on-append, steps_on-same, steps_on-other, take-on_part, row_at, length-row_after, EachPart, row_image_at, row_image_comes_from, stored_by-append, stored_by-take, stored_by_row-take, row_quiet_still}
 use Rattle.nv_pmem.proofs.StepLaws.{run-append, did_none, did_did, did_did_some, did_some_front, after_steps, Always, always_by_fronts, always_append}
-use Rattle.nv_entry.specs.Group.{count_at, data_steps, field_steps, piece_steps, pieces_steps, group_steps, AreQuiet, IsUncommitted, HoldsEntry, IsWhole, IsUncommittedOrWhole, StoresOnly}
+use Rattle.nv_entry.specs.Group.{count_at, data_steps, field_steps, piece_steps, pieces_steps, group_steps, IsUncommitted, HoldsEntry, IsWhole, IsUncommittedOrWhole, StoresOnly}
 use Rattle.nv_entry.proofs.Data.{AreBytes, bytes_taken, bytes_dropped}
 use Rattle.nv_entry.proofs.PieceRanges.{length-piece_bytes, piece_small, lines_fit}
 use Rattle.nv_entry.proofs.PieceSteps.{entry_fields, entry_data, stored_by_entry, mark-entry, mark-entry_still}
@@ -385,22 +385,24 @@ module _ (page first file at : ℕ) (bytes : List ℕ) (is_page : IsPageSize pag
   -- Quiet parts are quiet after them.
   pub group_quiet : (parts : List Part) → length parts ≡ pages_touched at (length bytes) page → AreQuiet parts → AreQuiet (run row_after (group_steps page first file at bytes) parts)
   unfolding group_steps
-  group_quiet parts long quiet i =
+  group_quiet parts long quiet =
       let pieces = all_pieces page first file at bytes in
       let commit = durable_store 0 0 (first + 1) in
       let group = pieces ++ on_part 0 commit in
-      elim (cases_lt i (pages_touched at (length bytes) page)) [
-        | inl below ↦ record {
-          lines = λ line.
-              row_quiet_still i line group parts
-              (ap (λ these. mark_after_all line these quiet_line) (steps_on-append i pieces (on_part 0 commit))
-              ∙ mark_after_all-append line (steps_on i pieces) (steps_on i (on_part 0 commit)) quiet_line
-              ∙ ap (mark_after_all line (steps_on i (on_part 0 commit)))
-              (ap (λ these. mark_after_all line these quiet_line) (steps_on-pieces i below) ∙ mark-piece_still i line)
-              ∙ mark-commit_still (first + 1) i line)
-              ((quiet i).lines line);
-        }
-        | inr past ↦
-            let none : IsQuiet [] = record { lines = λ line. quiet_blank } in
-            subst IsQuiet (sym (get_or_past (run row_after group parts) i [] (omega (arith, length-row_after group parts)))) none
-      ]
+      record {
+        each = λ i. elim (cases_lt i (pages_touched at (length bytes) page)) [
+          | inl below ↦ record {
+            lines = λ line.
+                row_quiet_still i line group parts
+                (ap (λ these. mark_after_all line these quiet_line) (steps_on-append i pieces (on_part 0 commit))
+                ∙ mark_after_all-append line (steps_on i pieces) (steps_on i (on_part 0 commit)) quiet_line
+                ∙ ap (mark_after_all line (steps_on i (on_part 0 commit)))
+                (ap (λ these. mark_after_all line these quiet_line) (steps_on-pieces i below) ∙ mark-piece_still i line)
+                ∙ mark-commit_still (first + 1) i line)
+                ((quiet.each i).lines line);
+          }
+          | inr past ↦
+              let none : IsQuiet [] = record { lines = λ line. quiet_blank } in
+              subst IsQuiet (sym (get_or_past (run row_after group parts) i [] (omega (arith, length-row_after group parts)))) none
+        ];
+      }

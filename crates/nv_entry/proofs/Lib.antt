@@ -8,4 +8,5 @@ pub mod PieceRanges
 pub mod PieceSteps
 pub mod Ranges
 pub mod Rooms
+pub mod Slots
 pub mod TestParts

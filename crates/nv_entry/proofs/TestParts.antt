@@ -7,12 +7,12 @@ use Rattle.nv_plain.specs.Images.{entry_of}
 use Rattle.nv_plain.specs.Pieces.{pages_touched}
 use Rattle.nv_pmem.specs.MemPart.{part_history, IsBlank}
 use Rattle.nv_pmem.specs.Moments.{Tells}
-use Rattle.nv_pmem.specs.Part.{Line, Part, blank_line, line_of}
-use Rattle.nv_pmem.specs.Rows.{RowTells, InEachRowImage}
+use Rattle.nv_pmem.specs.Part.{Line, Part, blank_line, line_of, word_of}
+use Rattle.nv_pmem.specs.Rows.{RowTells, InEachRowImage, row_words}
 use Rattle.nv_pmem.specs.Steps.{History}
 use Rattle.nv_pmem.specs.declared.mem_part.MemPart.{MemPart}
 use Rattle.nv_pmem.proofs.RowLaws.{all_blank, row_blank_images, row_tells_more, row_tells_part}
-use Rattle.nv_entry.specs.Group.{row_words, words_of, IsUncommitted, IsWhole}
+use Rattle.nv_entry.specs.Group.{IsUncommitted, IsWhole}
 use Rattle.nv_entry.proofs.PieceRanges.{piece_small}
 
 -- a part of zeros tells lines of zeros
@@ -37,9 +37,9 @@ tell parts = All-map (λ (history : History). 0 < length history) part_history p
 
 -- a part of a group has no more bytes than a page
 pub size_told : (page first file at : ℕ) (bytes : List ℕ) (parts : List MemPart) (i : ℕ) (part : MemPart) → part ≡ get_or parts i part → i < length parts → i < pages_touched at (length bytes) page
-    → RowTells (map part_history parts) (λ now. IsWhole page first file at bytes (row_words now)) → Tells (part_history part) (λ now. (entry_of (words_of now)).size ≤ page)
+    → RowTells (map part_history parts) (λ now. IsWhole page first file at bytes (row_words now)) → Tells (part_history part) (λ now. (entry_of (word_of now)).size ≤ page)
 size_told page first file at bytes parts i part is inside below holds =
-    let Fits : Part → Type 0 = λ now. (entry_of (words_of now)).size ≤ page in
+    let Fits : Part → Type 0 = λ now. (entry_of (word_of now)).size ≤ page in
     let At : History → Type 0 = λ history. Tells history Fits in
     subst At (get_or-map part_history parts i part [] inside ∙ ap part_history (sym is))
     (row_tells_part (map part_history parts) i (λ now. IsWhole page first file at bytes (row_words now)) Fits (omega (arith, length-map parts part_history)) (tell parts)

@@ -1,17 +1,12 @@
 -- Checks: which entry of a committed group is the first to break a rule.
-use Rattle.std.specs.Prelude.{◌≡◌, ◌⊎◌, ℕ, ◌+◌, ◌<◌, ◌≤◌, List, slice_index_or, []}
+use Rattle.std.specs.Prelude.{◌≡◌, ◌⊎◌, ℕ, ◌+◌, ◌<◌, ◌≤◌}
 use Rattle.nv_plain.specs.Images.{Image, Entry, header_of, entry_at}
 use Rattle.nv_plain.specs.Layouts.{Layout, version_1}
 use Rattle.nv_plain.specs.Recovered.{IsLeader, IsFollower, IsPiece, GoesOn, IsInGroup, IsGroup}
-use Rattle.nv_pmem.specs.Part.{Part, word_of}
 use Rattle.nv_entry.specs.declared.bounds.Bounds.{Bounds}
 use Rattle.nv_entry.specs.declared.check.EntryWords.{EntryWords}
 use Rattle.nv_entry.specs.declared.check.GroupCheck.{GroupCheck}
 use Rattle.nv_entry.specs.declared.check.GroupCheck.TheVariants.{Whole, Bad}
-
--- the words of the present states of a region's parts
-abbrev pub region_words : List Part → Image
-region_words parts i = word_of (slice_index_or parts i [])
 
 -- a region's header says these bounds
 pub record SaysBounds (bounds : Bounds) (image : Image) : Type 0 where

@@ -1,13 +1,12 @@
 -- Groups: the device calls that write one, and what the parts of its entries then say. The entries of a group, and their parts,
 -- are counted from 0, the leader first.
-use Rattle.std.specs.Prelude.{◌≡◌, ◌≢◌, ◌⊎◌, ℕ, ◌+◌, ◌*◌, ◌<◌, ◌≤◌, ◌==◌, if◌then◌else◌, List, [], ◌∷◌, ◌++◌, length, take, drop, slice_index_or}
+use Rattle.std.specs.Prelude.{◌≡◌, ◌≢◌, ◌⊎◌, ℕ, ◌+◌, ◌*◌, ◌<◌, ◌≤◌, ◌==◌, if◌then◌else◌, List, [], ◌∷◌, ◌++◌, length, take, drop}
 use Rattle.std.specs.List.{flat_map, range_with_len}
 use Rattle.nv_plain.specs.Files.{padded}
 use Rattle.nv_plain.specs.Images.{PartImage, Image, Entry, entry_of, data_of, lines_for}
 use Rattle.nv_plain.specs.Pieces.{pages_touched, piece_of, piece_bytes}
-use Rattle.nv_pmem.specs.Images.{IsQuiet}
 use Rattle.nv_pmem.specs.Limits.{entry_lines}
-use Rattle.nv_pmem.specs.Part.{Part, word_of}
+use Rattle.nv_pmem.specs.Part.{Part}
 use Rattle.nv_pmem.specs.Room.{Room}
 use Rattle.nv_pmem.specs.Rows.{RowStep, on_part, IsRowImage}
 use Rattle.nv_pmem.specs.Steps.{Step, Store, Flush, Fence, line_stores, durable_store}
@@ -59,18 +58,6 @@ pieces_steps page first file at bytes count =
 unfoldable pub group_steps : (page first file at : ℕ) → List ℕ → List RowStep
 group_steps page first file at bytes =
     pieces_steps page first file at bytes (pages_touched at (length bytes) page) ++ on_part 0 (durable_store 0 0 (first + 1))
-
--- the words of a part's present state
-abbrev pub words_of : Part → PartImage
-words_of part = word_of part
-
--- the words of the present states of a row
-abbrev pub row_words : List Part → Image
-row_words parts i = words_of (slice_index_or parts i [])
-
--- each part of a row is quiet
-abbrev pub AreQuiet : List Part → Type 0
-AreQuiet parts = (i : ℕ) → IsQuiet (slice_index_or parts i [])
 
 -- none of so many entries is committed: no commit word is its entry's number and one
 abbrev pub IsUncommitted : (first count : ℕ) → Image → Type 0

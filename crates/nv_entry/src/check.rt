@@ -1,4 +1,4 @@
-ghost use Rattle.std.specs.Prelude.{◌≡◌, ℕ, ◌+◌, ◌^◌, ◌<◌, ◌≤◌, ◌↔◌, length, map, sum_by, All, IfOk, IsTrue};
+ghost use Rattle.std.specs.Prelude.{◌≡◌, ℕ, ◌+◌, ◌^◌, ◌<◌, ◌≤◌, ◌↔◌, length, map, take, drop, sum_by, All, IfOk, IsTrue};
 ghost use Rattle.nv_plain.specs.Faults.{HasCause};
 ghost use Rattle.nv_plain.specs.Images.{Image, entry_of, entry_at};
 ghost use Rattle.nv_plain.specs.Layouts.{version_1};
@@ -6,8 +6,8 @@ ghost use Rattle.nv_plain.specs.Recovered.{IsLeader, IsFollower, IsPiece};
 ghost use Rattle.nv_pmem.specs.Moments.{Tells};
 ghost use Rattle.nv_pmem.specs.Part.{word_of};
 ghost use Rattle.nv_pmem.specs.Room.{Keeps};
-ghost use Rattle.nv_pmem.specs.Rows.{RowTells, AreOnlyRead};
-ghost use Rattle.nv_entry.specs.Checks.{IsGood, EndsAt, SaysBounds, SaysOfGroup, as_entry, region_words};
+ghost use Rattle.nv_pmem.specs.Rows.{RowTells, AreOnlyRead, row_words};
+ghost use Rattle.nv_entry.specs.Checks.{IsGood, EndsAt, SaysBounds, SaysOfGroup, as_entry};
 
 use crate::group::load;
 use crate::piece::read_head;
@@ -64,10 +64,10 @@ pub fn check_group<L: Lines>(
     leader: u64,
 ) -> Result<GroupCheck, RegionFault>
     requires parts { 1 + bounds.now.entries ≤ length parts.old }
-    requires lines { All (λ part. 1 ≤ (L.room part).lines) parts.old }
-    requires header { RowTells (map L.history parts.old) (λ parts. SaysBounds bounds.now (region_words parts)) }
+    requires lines { All (λ part. 1 ≤ (L.room part).lines) (take bounds.now.entries (drop 1 parts.old)) }
+    requires header { RowTells (map L.history parts.old) (λ parts. SaysBounds bounds.now (row_words parts)) }
     requires number { leader < bounds.now.tail + bounds.now.entries }
-    ensures check { IfOk result (λ check. RowTells (map L.history parts.old) (λ parts. SaysOfGroup (region_words parts) leader check)) }
+    ensures check { IfOk result (λ check. RowTells (map L.history parts.old) (λ parts. SaysOfGroup (row_words parts) leader check)) }
     ensures read { AreOnlyRead L.history L.room L.device parts.old parts.new }
     ensures cause { HasCause (sum_by L.fault_count parts.old) (sum_by L.fault_count parts.new) result }
 {
@@ -94,9 +94,9 @@ pub fn read_entry<L: Lines>(
     number: u64,
 ) -> Result<EntryWords, RegionFault>
     requires parts { 1 + bounds.now.entries ≤ length parts.old }
-    requires lines { All (λ part. 1 ≤ (L.room part).lines) parts.old }
-    requires header { RowTells (map L.history parts.old) (λ parts. SaysBounds bounds.now (region_words parts)) }
-    ensures words { IfOk result (λ words. RowTells (map L.history parts.old) (λ parts. as_entry words ≡ entry_at (region_words parts) number)) }
+    requires lines { All (λ part. 1 ≤ (L.room part).lines) (take bounds.now.entries (drop 1 parts.old)) }
+    requires header { RowTells (map L.history parts.old) (λ parts. SaysBounds bounds.now (row_words parts)) }
+    ensures words { IfOk result (λ words. RowTells (map L.history parts.old) (λ parts. as_entry words ≡ entry_at (row_words parts) number)) }
     ensures read { AreOnlyRead L.history L.room L.device parts.old parts.new }
     ensures cause { HasCause (sum_by L.fault_count parts.old) (sum_by L.fault_count parts.new) result }
 {

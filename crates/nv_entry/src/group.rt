@@ -7,9 +7,9 @@ ghost use Rattle.nv_pmem.specs.Limits.{IsPageSize};
 ghost use Rattle.nv_pmem.specs.Part.{word_of};
 ghost use Rattle.nv_pmem.specs.Room.{Keeps, Takes};
 ghost use Rattle.nv_pmem.specs.Moments.{Tells};
-ghost use Rattle.nv_pmem.specs.Rows.{DidRow, DidSomeRow, RowTells, EachRowMoment, InEachRowImage, on_part};
+ghost use Rattle.nv_pmem.specs.Rows.{DidRow, DidSomeRow, RowTells, EachRowMoment, InEachRowImage, on_part, row_words, AreQuiet};
 ghost use Rattle.nv_pmem.specs.Steps.{Did, DidSome, Flush, line_stores, durable_store};
-ghost use Rattle.nv_entry.specs.Group.{group_steps, pieces_steps, count_at, data_steps, field_steps, row_words, AreQuiet, IsUncommitted, IsUncommittedOrWhole, IsWhole, StoresOnly, IsReady};
+ghost use Rattle.nv_entry.specs.Group.{group_steps, pieces_steps, count_at, data_steps, field_steps, IsUncommitted, IsUncommittedOrWhole, IsWhole, StoresOnly, IsReady};
 ghost use Rattle.nv_entry.specs.Ready.{WritesLines, FencesHead, StaysReady};
 
 use crate::{PieceHead, cut};

@@ -1,28 +1,24 @@
 -- Parts of zeros: a blank region.
-use Rattle.std.proofs.Common.{◌≡◌, ℕ, ◌<◌, List, [], ◌∷◌, length, replicate, slice_index_or, sym, ap, ◌∙◌, subst, arith, inl, inr, refl}
+use Rattle.std.proofs.Common.{◌≡◌, ℕ, ◌<◌, ◌≤◌, List, [], ◌∷◌, length, replicate, get_or, slice_index_or, sym, ap, ◌∙◌, subst, arith, inl, inr, refl}
 use Rattle.std.proofs.lemmas.Bool.{cases_lt}
 use Rattle.std.proofs.lemmas.List.{get_or-replicate, get_or_past, length-replicate}
+use Rattle.nv_plain.specs.Layouts.{version_1}
 use Rattle.nv_pmem.specs.Images.{IsQuietLine, IsQuiet}
+use Rattle.nv_pmem.specs.MemPart.{IsBlank, part_room}
 use Rattle.nv_pmem.specs.Moments.{Tells}
 use Rattle.nv_pmem.specs.Part.{Part, blank_line, line_of, word_of, newest, word_at}
 use Rattle.nv_pmem.specs.Rows.{RowTells}
 use Rattle.nv_pmem.specs.Steps.{History}
+use Rattle.nv_pmem.specs.declared.mem_part.MemPart.{MemPart}
 use Rattle.nv_pmem.proofs.ImageLaws.{quiet_blank, quiet_image}
-use Rattle.nv_pmem.proofs.RowLaws.{EachPart, row_tells_each, row_tells_more}
-use Rattle.nv_header.specs.Regions.{IsBlankRow}
+use Rattle.nv_pmem.proofs.RowLaws.{blank_word, EachPart, row_tells_each, row_tells_more}
+use Rattle.nv_header.specs.Regions.{part_lines, IsBlankRow}
 
 -- lines of zeros are blank, and so are those that aren't there
 line_of-zeros : (lines i : ℕ) → line_of (replicate lines blank_line) i ≡ blank_line
 line_of-zeros lines i = elim (cases_lt i lines) [
   | inl inside ↦ get_or-replicate lines i blank_line blank_line inside
   | inr past ↦ get_or_past (replicate lines blank_line) i blank_line (omega (arith, length-replicate lines blank_line))
-]
-
-word_of-blank : (j : ℕ) → word_at (newest blank_line) j ≡ 0
-unfolding word_at newest
-word_of-blank j = elim (cases_lt j 8) [
-  | inl inside ↦ get_or-replicate {A = ℕ} 8 j 0 0 inside
-  | inr past ↦ get_or_past (replicate {A = ℕ} 8 0) j 0 (omega (arith, length-replicate {A = ℕ} 8 0))
 ]
 
 -- a part of zeros, or one that isn't there
@@ -35,7 +31,7 @@ zeros_of lines part is =
     let line = λ (i : ℕ). ap (λ these. line_of these i) is ∙ line_of-zeros lines i in
     record {
       quiet = record { lines = λ i. subst IsQuietLine (sym (line i)) quiet_blank };
-      word = λ i j. ap (λ content. word_at (newest content) j) (line i) ∙ word_of-blank j;
+      word = λ i j. ap (λ content. word_at (newest content) j) (line i) ∙ blank_word j;
     }
 
 zeros_at : (count : ℕ) (parts : List Part) → EachPart (λ i part. IsZeros part) count parts → (i : ℕ) → IsZeros (slice_index_or parts i [])
@@ -62,3 +58,12 @@ pub blank_row : (row : List History) (lines : ℕ → ℕ) → ((i : ℕ) → i 
 blank_row row lines each =
     row_tells_more row (EachPart (λ i part. IsZeros part) (length row)) IsBlankRow (blank_parts (length row))
     (row_tells_each row (λ i part. IsZeros part) (λ i inside. told_zeros (lines i) (slice_index_or row i []) (each i inside)))
+
+-- A part in memory is blank, and where it is the header's or an entry's it has its lines.
+pub record IsBlankPart (page entries i : ℕ) (part : MemPart) : Type 0 where
+  pub blank : IsBlank (part_room part).lines part
+  pub lines : i ≤ entries → (part_room part).lines ≡ part_lines version_1 page i
+
+-- each of some parts is
+abbrev pub AreBlank : (page entries : ℕ) → List MemPart → Type 0
+AreBlank page entries parts = (i : ℕ) (none : MemPart) → i < length parts → IsBlankPart page entries i (get_or parts i none)

@@ -14,12 +14,13 @@ use Rattle.nv_pmem.specs.Steps.{Step, History, durable_store}
 use Rattle.nv_pmem.proofs.ImageLaws.{IsStoredBy, quiet_image, quiet_after, quiet_still}
 use Rattle.nv_pmem.proofs.DurableLaws.{line_settled, quiet_settled}
 use Rattle.nv_pmem.proofs.LineLaws.{overlaid, AreInside, word_of-after_steps, length-after_steps}
-use Rattle.nv_pmem.proofs.RowLaws.{steps_on, steps_on-append, steps_on-same, steps_on-other, on_part-append, row_at, EachPart, row_tells_both, row_tells_more, row_tells_did, each_row_moment, row_image_comes_from, stored_by_row-take}
+use Rattle.nv_pmem.proofs.RowLaws.{steps_on, steps_on-append, steps_on-same, steps_on-other, on_part-append, row_at, row_tells_both, row_tells_more, row_tells_did, each_row_moment, row_image_comes_from, stored_by_row-take}
 use Rattle.nv_pmem.proofs.StepLaws.{after_steps, after_steps-append, Always, always_by_fronts, always_append, always_last}
 use Rattle.nv_header.specs.HeaderSteps.{clear_steps, field_steps, blank_header_steps, format_steps}
 use Rattle.nv_header.specs.Heads.{first_names}
 use Rattle.nv_header.specs.Regions.{part_lines, IsBlank, HasEmptyLog, IsBlankOrFormatted, IsBlankRow, IsAtRest}
 use Rattle.nv_header.proofs.Clearing.{clear_one}
+use Rattle.nv_header.proofs.InRow.{HaveLines}
 
 -- ---- what a step stores
 
@@ -114,9 +115,9 @@ filling_behind page entries i above =
 
 -- ---- before the magic is stored
 
--- each part has its lines
+-- the parts of the header and of each entry have their lines
 abbrev pub HasRoom : (page entries : ℕ) → List Part → Type 0
-HasRoom page entries = EachPart (λ i now. part_lines version_1 page i ≤ length now) (1 + entries)
+HasRoom page entries = HaveLines version_1 page entries
 
 blank_while_filling : (page entries : ℕ) (parts : List Part) → IsBlankRow parts → (count : ℕ) → InEachRowImage IsBlank (run row_after (take count (filling page entries)) parts)
 blank_while_filling page entries parts blank count image is =

@@ -1,5 +1,5 @@
 -- Calls on one part of a row: what they are of the row.
-use Rattle.std.proofs.Common.{◌≡◌, ℕ, ◌+◌, ◌<◌, ◌≤◌, inl, inr, List, [], ◌∷◌, length, map, sum_by, get_or, slice_index_or, slice_set, zero, suc, sym, ap, ◌∙◌, subst, arith}
+use Rattle.std.proofs.Common.{◌≡◌, ℕ, ◌<◌, ◌≤◌, inl, inr, List, [], ◌∷◌, length, map, sum_by, get_or, slice_index_or, slice_set, zero, suc, sym, ap, ◌∙◌, subst, arith}
 use Rattle.std.proofs.Math.Seq.{map-set_same}
 use Rattle.std.proofs.lemmas.Bool.{cases_eq}
 use Rattle.std.proofs.lemmas.List.{get_or_default, get_or-map, map-set, length-map, length-set, get_or-set_same, get_or-set_other}
@@ -12,7 +12,7 @@ use Rattle.nv_pmem.specs.Room.{Room, Keeps, Takes, Frees, Settles}
 use Rattle.nv_pmem.specs.Rows.{on_part, DidRow, DidSomeRow, RowTells}
 use Rattle.nv_pmem.specs.Steps.{Step, History, Did, DidSome}
 use Rattle.nv_pmem.proofs.StepLaws.{tells_told}
-use Rattle.nv_pmem.proofs.RowLaws.{did_row_on, did_some_row_on, EachPart, row_tells_each}
+use Rattle.nv_pmem.proofs.RowLaws.{did_row_on, did_some_row_on, EachPart, row_tells_each, row_tells_more}
 use Rattle.nv_header.specs.Regions.{part_lines, IsRoomy, StaysRoomy, HasParts}
 
 -- ---- runs
@@ -80,13 +80,12 @@ stays_roomy lines stays roomy = record {
   spare = λ line below. stays.spare line (roomy.spare line below);
 }
 
--- part i of a region has its lines, and room in them
-pub roomy_part : {X : Type 0} (room : X → Room) (layout : Layout) (page entries : ℕ) (parts : List X) (i : ℕ) (was : X) → HasParts layout page entries (map room parts) → i < length parts → was ≡ get_or parts i was → IsRoomy (part_lines layout page i) (room was)
-roomy_part room layout page entries parts i was has inside is =
+-- the part of the header, or of an entry, has its lines, and room in them
+pub roomy_part : {X : Type 0} (room : X → Room) (layout : Layout) (page entries : ℕ) (parts : List X) (i : ℕ) (was : X) → HasParts layout page entries (map room parts) → i ≤ entries → was ≡ get_or parts i was → IsRoomy (part_lines layout page i) (room was)
+roomy_part room layout page entries parts i was has within is =
     let At : Room → Type 0 = IsRoomy (part_lines layout page i) in
     let none = room was in
-    subst At (get_or-map room parts i was none inside ∙ ap room (sym is))
-    (has.each i none (omega (arith, has.count, length-map parts room)))
+    subst At (get_or-map room parts i was none (omega (arith, has.count, length-map parts room)) ∙ ap room (sym is)) (has.each i none within)
 
 -- a region's parts stay so when one of them keeps its room
 pub has_parts_set : {X : Type 0} (room : X → Room) (layout : Layout) (page entries : ℕ) (parts : List X) (i : ℕ) (was new : X) → i < length parts → was ≡ get_or parts i was → StaysRoomy (room was) (room new)
@@ -96,14 +95,14 @@ has_parts_set room layout page entries parts i was new inside is stays has =
     let all : i < length (map room parts) = omega (arith, length-map parts room) in
     subst There (sym (map-set room parts i new))
     (record {
-      count = length-set (map room parts) i (room new) ∙ has.count;
+      count = omega (arith, length-set (map room parts) i (room new), has.count);
       each = λ k none below. elim (cases_eq k i) [
         | inl same ↦
             let At : Room → Type 0 = IsRoomy (part_lines layout page k) in
             let Here : ℕ → Type 0 = λ j. IsRoomy (part_lines layout page j) (room was) in
             subst At (sym (ap (λ j. slice_index_or (slice_set (map room parts) i (room new)) j none) same ∙ get_or-set_same (map room parts) i (room new) none all))
             (stays_roomy (part_lines layout page k) stays
-            (subst Here (sym same) (roomy_part room layout page entries parts i was has inside is)))
+            (subst Here (sym same) (roomy_part room layout page entries parts i was has (omega arith) is)))
         | inr differs ↦
             let At : Room → Type 0 = IsRoomy (part_lines layout page k) in
             subst At (sym (get_or-set_other (map room parts) i k (room new) none differs)) (has.each k none below)
@@ -112,40 +111,40 @@ has_parts_set room layout page entries parts i was new inside is stays has =
 
 -- ---- what the parts tell
 
+-- The parts of the header and of each entry have their lines.
+pub record HaveLines (layout : Layout) (page entries : ℕ) (parts : List Part) : Type 0 where
+  pub has : (i : ℕ) → i ≤ entries → part_lines layout page i ≤ length (slice_index_or parts i [])
+
 told_lines_at : {X : Type 0} (history : X → History) (room : X → Room) (layout : Layout) (page entries : ℕ) (parts : List X) (i : ℕ) (was : X)
     → ((part : X) (now : Part) (past : History) → history part ≡ now ∷ past → length now ≡ (room part).lines)
-    → HasParts layout page entries (map room parts) → i < length parts → was ≡ get_or parts i was → Tells (slice_index_or (map history parts) i []) (λ now. part_lines layout page i ≤ length now)
+    → HasParts layout page entries (map room parts) → i < length parts → was ≡ get_or parts i was → Tells (slice_index_or (map history parts) i []) (λ now. i ≤ entries → part_lines layout page i ≤ length now)
 told_lines_at history room layout page entries parts i was told has inside is =
-    tells_told (slice_index_or (map history parts) i []) (λ now. part_lines layout page i ≤ length now) (λ now past now_is.
-    let roomy = roomy_part room layout page entries parts i was has inside is in
+    tells_told (slice_index_or (map history parts) i []) (λ now. i ≤ entries → part_lines layout page i ≤ length now) (λ now past now_is within.
+    let roomy = roomy_part room layout page entries parts i was has within is in
     omega (arith, roomy.there, told was now past (ap history is ∙ sym (get_or-map history parts i was [] inside) ∙ now_is)))
 
--- each part that tells has the lines of its place
-pub told_lines : {X : Type 0} (history : X → History) (room : X → Room) (layout : Layout) (page entries : ℕ) (parts : List X)
+-- where the parts tell, they have their lines
+pub told_room : {X : Type 0} (history : X → History) (room : X → Room) (layout : Layout) (page entries : ℕ) (parts : List X)
     → ((part : X) (now : Part) (past : History) → history part ≡ now ∷ past → length now ≡ (room part).lines)
-    → HasParts layout page entries (map room parts) → RowTells (map history parts) (EachPart (λ i now. part_lines layout page i ≤ length now) (length (map history parts)))
-told_lines history room layout page entries [] told has =
-    row_tells_each [] (λ i now. part_lines layout page i ≤ length now) (λ i below. absurd (omega arith))
-told_lines history room layout page entries (first ∷ rest) told has =
+    → HasParts layout page entries (map room parts) → RowTells (map history parts) (HaveLines layout page entries)
+told_room history room layout page entries [] told has = absurd (omega (arith, has.count))
+told_room history room layout page entries (first ∷ rest) told has =
     let parts = first ∷ rest in
-    row_tells_each (map history parts) (λ i now. part_lines layout page i ≤ length now) (λ i below.
+    let row = map history parts in
+    let P : ℕ → Part → Type 0 = λ i now. i ≤ entries → part_lines layout page i ≤ length now in
+    row_tells_more row (EachPart P (length row)) (HaveLines layout page entries)
+    (λ now each. record {
+      has = λ i within. each.has i (omega (arith, has.count, length-map parts history, length-map parts room)) within;
+    })
+    (row_tells_each row P (λ i below.
     let inside : i < length parts = omega (arith, length-map parts history) in
     let was = get_or parts i first in
-    told_lines_at history room layout page entries parts i was told has inside (get_or_default parts i first was inside))
+    told_lines_at history room layout page entries parts i was told has inside (get_or_default parts i first was inside)))
 
 -- line 0 of any part is there, and can be stored to
 pub roomy_line_0 : (page i : ℕ) (room : Room) → IsRoomy (part_lines version_1 page i) room → (0 < room.lines) × (1 ≤ room.spare 0)
 roomy_line_0 page zero room roomy = (omega (arith, roomy.there), omega (arith, roomy.spare 0 (omega arith)))
 roomy_line_0 page (suc i) room roomy = (omega (arith, roomy.there), omega (arith, roomy.spare 0 (omega arith)))
-
--- and there are as many parts as a region has
-pub told_room : {X : Type 0} (history : X → History) (room : X → Room) (layout : Layout) (page entries : ℕ) (parts : List X)
-    → ((part : X) (now : Part) (past : History) → history part ≡ now ∷ past → length now ≡ (room part).lines)
-    → HasParts layout page entries (map room parts) → RowTells (map history parts) (EachPart (λ i now. part_lines layout page i ≤ length now) (1 + entries))
-told_room history room layout page entries parts told has =
-    let count : length (map history parts) ≡ 1 + entries = omega (arith, length-map parts history, length-map parts room, has.count) in
-    let At : ℕ → Type 0 = λ n. RowTells (map history parts) (EachPart (λ i now. part_lines layout page i ≤ length now) n) in
-    subst At count (told_lines history room layout page entries parts told has)
 
 -- a line stored to, flushed and fenced
 pub stays_stored : {old stored flushed new : Room} (count line : ℕ) → Takes count line old stored → Keeps stored flushed → 15 ≤ flushed.after_fence line → Keeps flushed new → Frees flushed new → StaysRoomy old new

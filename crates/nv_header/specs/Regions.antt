@@ -4,11 +4,11 @@ use Rattle.std.specs.Coded.{Coded-set, coded_ℕ, coded_list, Unit-prop}
 use Rattle.std.proofs.Props.{props}
 use Rattle.nv_plain.specs.Images.{Image, header_of, entry_of}
 use Rattle.nv_plain.specs.Layouts.{Layout}
-use Rattle.nv_pmem.specs.Images.{IsQuietLine, IsQuiet}
+use Rattle.nv_pmem.specs.Images.{IsQuietLine-prop}
 use Rattle.nv_pmem.specs.Limits.{entry_lines}
-use Rattle.nv_pmem.specs.Part.{Line, Part}
+use Rattle.nv_pmem.specs.Part.{Part}
 use Rattle.nv_pmem.specs.Room.{Room}
-use Rattle.nv_pmem.specs.Rows.{RowTells, InEachRowImage}
+use Rattle.nv_pmem.specs.Rows.{RowTells, AreQuiet, InEachRowImage}
 use Rattle.nv_pmem.specs.Steps.{History}
 use Rattle.nv_header.specs.Heads.{IsHead, first_names}
 
@@ -29,14 +29,11 @@ pub record StaysRoomy (old new : Room) : Type 0 where
   pub lines_are : new.lines ≡ old.lines
   pub spare : (line : ℕ) → 15 ≤ old.spare line → 15 ≤ new.spare line
 
--- The parts are those of the header and of each entry, with the lines of the layout, and there is room in these.
+-- The first parts are those of the header and of each entry, with the lines of the layout, and there is room in these. There may be
+-- more parts: they belong to no slot, and are left as they are.
 pub record HasParts (layout : Layout) (page entries : ℕ) (rooms : List Room) : Type 0 where
-  pub count : length rooms ≡ 1 + entries
+  pub count : 1 + entries ≤ length rooms
   pub each : (i : ℕ) (none : Room) → i ≤ entries → IsRoomy (part_lines layout page i) (slice_index_or rooms i none)
-
--- each part is quiet
-pub record AreQuiet (parts : List Part) : Type 0 where
-  pub each : (i : ℕ) → IsQuiet (slice_index_or parts i [])
 
 -- ---- what an image reads as
 
@@ -85,10 +82,6 @@ pub record IsRegion (layout : Layout) (page entries : ℕ) (names : List (List �
   pub tells : RowTells row (IsAtRest layout page entries names next)
 
 -- ---- each of these facts has one proof at most
-
-IsQuietLine-prop : (line : Line) → IsProp (IsQuietLine line)
-unfolding IsQuietLine
-IsQuietLine-prop line = Coded-set (coded_list (coded_list coded_ℕ)) line.later []
 
 names_prop : (names others : List (List ℕ)) → IsProp (names ≡ others)
 names_prop names others = Coded-set (coded_list (coded_list coded_ℕ)) names others

@@ -10,8 +10,9 @@ use crate::head::{MAGIC, VERSION};
 use crate::{Names, Region};
 use nv_pmem::{Geometry, Lines, RegionFault, store_durably};
 
-/// Formats a blank region whose parts are those of this geometry: with no file, tail 0 and an empty log. At each moment
-/// every image is blank, or is formatted so. After a fault the parts come back, in their order. Takes no memory.
+/// Formats a blank region that has the parts of this geometry: with no file, tail 0 and an empty log. There may be
+/// further parts, which belong to no slot and stay as they are. At each moment every image is blank, or is formatted so.
+/// After a fault the parts come back, in their order. Takes no memory.
 pub fn format<L: Lines + Drop>(
     parts: Vec<L>,
     geometry: Geometry,

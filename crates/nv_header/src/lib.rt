@@ -16,6 +16,7 @@
 //! | 2 + i | 1 to 7 | the name's bytes, then zeros |
 //!
 //! No other word of it is read. Each entry has a part of its own behind it, with a line of fields and a page of data.
+//! Parts behind these belong to no slot.
 #![tactic(auto)]
 
 mod adding;

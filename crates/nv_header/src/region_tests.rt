@@ -10,8 +10,13 @@ use nv_pmem::{Fuse, Geometry, Lines, MemPart, RegionFault};
 use std::alloc::Global;
 use std::test::Fail;
 
-// The parts of a blank region, whose calls fail as the fuse says.
-fn blank_parts(alloc: Global, geometry: Geometry, fuse: &Fuse) -> Result<Vec<MemPart>, NoMemory>
+// The parts of a blank region, and behind them parts of so many lines. Their calls fail as the fuse says.
+fn blank_parts(
+    alloc: Global,
+    geometry: Geometry,
+    fuse: &Fuse,
+    more: &[u64],
+) -> Result<Vec<MemPart>, NoMemory>
     ensures parts { IfOk result (λ parts. HasParts version_1 geometry.page geometry.entries (map part_room parts.items)) }
     ensures blank { IfOk result (λ parts. RowTells (map part_history parts.items) IsBlankRow) }
 {
@@ -20,13 +25,16 @@ fn blank_parts(alloc: Global, geometry: Geometry, fuse: &Fuse) -> Result<Vec<Mem
     for _entry in 0..geometry.entries {
         parts.push(MemPart::fused(alloc, 1 + geometry.page / 64, fuse.copy()?)?)?;
     }
+    for lines in more {
+        parts.push(MemPart::fused(alloc, *lines, fuse.copy()?)?)?;
+    }
     Ok(parts)
 }
 
-// A region of 2 entries of a page of 64 bytes, formatted; its calls fail as the fuse says.
-fn formatted(alloc: Global, fuse: &Fuse) -> Result<Region<MemPart>, Fail> {
+// A region of 2 entries of a page of 64 bytes, formatted, with these parts behind; its calls fail as the fuse says.
+fn formatted(alloc: Global, fuse: &Fuse, more: &[u64]) -> Result<Region<MemPart>, Fail> {
     let geometry = Geometry::new(64, 2)?;
-    match format(blank_parts(alloc, geometry, fuse)?, geometry) {
+    match format(blank_parts(alloc, geometry, fuse, more)?, geometry) {
         Ok(region) => Ok(region),
         Err((_, fault)) => Err(fault.into()),
     }
@@ -52,13 +60,14 @@ fn faults(parts: &[MemPart]) -> u64 {
 #[test]
 fn a_formatted_region_reads_as_one(rt: HostRuntime) -> Result<(), Fail> {
     let fuse = Fuse::new(rt.alloc(), &[])?;
-    let region = formatted(rt.alloc(), &fuse)?;
+    let region = formatted(rt.alloc(), &fuse, &[5])?;
     assert_eq!(rt; region.next(), 0);
     assert_eq!(rt; region.names().len(), 0);
     assert_eq!(rt; region.geometry().page, 64);
     assert_eq!(rt; region.geometry().entries, 2);
     let mut parts = region.into_parts();
-    assert_eq!(rt; parts.len(), 3);
+    assert_eq!(rt; parts.len(), 4);
+    assert_eq!(rt; parts[3].lines(), 5);
     for (line, at, value) in [
         (0, 0, 0x3145_4843_4143_564e),
         (0, 1, 1),
@@ -80,7 +89,7 @@ fn a_formatted_region_reads_as_one(rt: HostRuntime) -> Result<(), Fail> {
 #[test]
 fn names_are_added_up_to_16(rt: HostRuntime) -> Result<(), Fail> {
     let fuse = Fuse::new(rt.alloc(), &[])?;
-    let mut region = formatted(rt.alloc(), &fuse)?;
+    let mut region = formatted(rt.alloc(), &fuse, &[])?;
     for i in 0..16 {
         match add_file(region, rt.alloc(), &[b'a' + i]) {
             Ok((more, index)) => {
@@ -110,7 +119,7 @@ fn names_are_added_up_to_16(rt: HostRuntime) -> Result<(), Fail> {
 fn a_name_that_is_bad_or_known_is_refused(rt: HostRuntime) -> Result<(), Fail> {
     for name in [b"".as_slice(), b".a", b"a b", b"known"] {
         let fuse = Fuse::new(rt.alloc(), &[])?;
-        match add_file(formatted(rt.alloc(), &fuse)?, rt.alloc(), b"known") {
+        match add_file(formatted(rt.alloc(), &fuse, &[])?, rt.alloc(), b"known") {
             Ok((region, _)) => {
                 let error = add_file(region, rt.alloc(), name)
                     .err()
@@ -129,7 +138,7 @@ fn each_call_of_format_may_fail(rt: HostRuntime) -> Result<(), Fail> {
     // Three calls for each entry, eight for the fields, and three for the magic.
     for call in 1..=18 {
         let fuse = Fuse::new(rt.alloc(), &[call])?;
-        match format(blank_parts(rt.alloc(), geometry, &fuse)?, geometry) {
+        match format(blank_parts(rt.alloc(), geometry, &fuse, &[])?, geometry) {
             Ok(_region) => assert_eq!(rt; call, 18),
             Err((parts, fault)) => {
                 assert_eq!(rt; fault, RegionFault);
@@ -146,7 +155,7 @@ fn each_call_of_add_file_may_fail(rt: HostRuntime) -> Result<(), Fail> {
     // The record's line, flush and fence, and then the count's.
     for call in 1..=7 {
         let fuse = Fuse::new(rt.alloc(), &[17 + call])?;
-        match add_file(formatted(rt.alloc(), &fuse)?, rt.alloc(), b"a") {
+        match add_file(formatted(rt.alloc(), &fuse, &[])?, rt.alloc(), b"a") {
             Ok(_region) => assert_eq!(rt; call, 7),
             Err((mut parts, error)) => {
                 assert_eq!(rt; error, AddError::RegionFault);

@@ -1,6 +1,5 @@
 -- Laws about parts that are only read.
-use Rattle.std.proofs.Common.{◌≡◌, ℕ, ◌<◌, ◌≤◌, List, [], ◌∷◌, length, get_or, map, set, sum_by, zero, suc, refl, ap, ◌∙◌, All, arith}
-use Rattle.std.proofs.lemmas.List.Elements.{AllZip-get_or, length_all_zip}
+use Rattle.std.proofs.Common.{◌≡◌, ℕ, ◌<◌, List, [], ◌∷◌, length, get_or, map, set, sum_by, zero, suc, refl, ap, ◌∙◌, arith}
 use Rattle.std.proofs.lemmas.List.Sums.{sum_by-set, get_or-le-sum_by}
 use Rattle.std.specs.List.{AllZip}
 use Rattle.nv_plain.specs.Faults.{Rose}
@@ -60,10 +59,3 @@ faults_set_rose count parts i part d inside rose =
     let changed = sum_by-set count parts i part d inside in
     let within = get_or-le-sum_by count parts i d inside in
     record { never_falls = omega (arith, rose.never_falls); more = omega (arith, rose.more) }
-
--- each part still has so many lines
-pub lines_still : {P : Type 0} (room : P → Room) (lines : ℕ) (old new : List P) → AllZip (λ before now. Keeps (room before) (room now)) old new → All (λ part. lines ≤ (room part).lines) old → All (λ part. lines ≤ (room part).lines) new
-lines_still room lines old new rooms each k d inside =
-    let long : length old ≡ length new = length_all_zip (λ before now. Keeps (room before) (room now)) old new rooms in
-    let kept = AllZip-get_or (λ before now. Keeps (room before) (room now)) old new k d d rooms (omega arith) in
-    omega (arith, kept.lines, each k d (omega arith))

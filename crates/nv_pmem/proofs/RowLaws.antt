@@ -6,8 +6,8 @@ use Rattle.std.proofs.lemmas.List.Elements.{All-head, All-tail}
 use Rattle.nv_plain.specs.Images.{PartImage, Image}
 use Rattle.nv_pmem.specs.Images.{IsImage, IsQuietLine}
 use Rattle.nv_pmem.specs.Moments.{Tells}
-use Rattle.nv_pmem.specs.Part.{Part, blank_line, newest, word_at, line_of, word_of}
-use Rattle.nv_pmem.specs.Rows.{RowStep, on_part, row_after, row_grown, DidRow, DidSomeRow, RowTells, IsRowImage, InEachRowImage, EachRowMoment}
+use Rattle.nv_pmem.specs.Part.{Part, blank_line, newest, word_at, line_of}
+use Rattle.nv_pmem.specs.Rows.{RowStep, on_part, row_after, row_grown, DidRow, DidSomeRow, RowTells, row_words, IsRowImage, InEachRowImage, EachRowMoment}
 use Rattle.nv_pmem.specs.Runs.{run, grown}
 use Rattle.nv_pmem.specs.Steps.{Step, Store, Flush, Fence, History, after_step, Did, DidSome}
 use Rattle.nv_pmem.proofs.ImageLaws.{image_of_now, IsStoredBy, image_comes_from, open_line, quiet_line, mark_after_all, quiet_image, quiet_after, quiet_blank, quiet_still}
@@ -282,7 +282,7 @@ each_row_moment P {steps} {old} told did = record {
 
 -- ---- images
 
-pub row_image_of_now : (parts : List Part) → IsRowImage parts (λ i. word_of (slice_index_or parts i []))
+pub row_image_of_now : (parts : List Part) → IsRowImage parts (row_words parts)
 row_image_of_now parts = record { each = λ i. image_of_now (slice_index_or parts i []) }
 
 -- An image of a row after some steps has, of each part, an image of it after the steps on it.
@@ -349,7 +349,7 @@ row_quiet_still i line steps parts marks quiet =
 -- ---- blank parts
 
 -- a line of zeros has no other word
-blank_word : (word : ℕ) → word_at (newest blank_line) word ≡ 0
+pub blank_word : (word : ℕ) → word_at (newest blank_line) word ≡ 0
 unfolding word_at newest
 blank_word word = elim (cases_lt word 8) [
   | inl inside ↦ get_or-replicate 8 word 0 0 inside

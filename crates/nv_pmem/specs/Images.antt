@@ -1,5 +1,6 @@
 -- Images: what a power failure may leave of a part.
 use Rattle.std.specs.Prelude.{◌≡◌, ◌≢◌, ◌⊎◌, ℕ, ◌≤◌, [], ◌∷◌, length, slice_index_or}
+use Rattle.std.specs.Coded.{Coded-set, coded_ℕ, coded_list}
 use Rattle.nv_plain.specs.Images.{PartImage}
 use Rattle.nv_pmem.specs.Part.{Line, Part, word_at, line_of}
 
@@ -21,6 +22,11 @@ InEachImage P part = (image : PartImage) → IsImage part image → P image
 -- A line is quiet where it has one content, and a part where each line is.
 unfoldable pub IsQuietLine : Line → Type 0
 IsQuietLine line = line.later ≡ []
+
+-- that has one proof at most
+pub IsQuietLine-prop : (line : Line) → IsProp (IsQuietLine line)
+unfolding IsQuietLine
+IsQuietLine-prop line = Coded-set (coded_list (coded_list coded_ℕ)) line.later []
 
 pub record IsQuiet (part : Part) : Type 0 where
   pub lines : (line : ℕ) → IsQuietLine (line_of part line)

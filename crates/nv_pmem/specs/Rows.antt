@@ -2,8 +2,8 @@
 use Rattle.std.specs.Prelude.{◌≡◌, ℕ, ◌≤◌, List, [], ◌∷◌, length, map, take, slice_index_or, slice_set}
 use Rattle.std.specs.List.{AllZip}
 use Rattle.nv_plain.specs.Images.{Image}
-use Rattle.nv_pmem.specs.Images.{IsImage}
-use Rattle.nv_pmem.specs.Part.{Part}
+use Rattle.nv_pmem.specs.Images.{IsImage, IsQuiet}
+use Rattle.nv_pmem.specs.Part.{Part, word_of}
 use Rattle.nv_pmem.specs.Room.{Room, Keeps}
 use Rattle.nv_pmem.specs.Runs.{run, Ran, RanSome, grown}
 use Rattle.nv_pmem.specs.Steps.{Step, History, after_step}
@@ -39,6 +39,14 @@ abbrev pub RowTells : {S : Type 0} → List (List S) → (List S → Type 0) →
 RowTells [] P = P []
 RowTells ([] ∷ row) P = Unit {0}
 RowTells ((now ∷ past) ∷ row) P = RowTells row (λ others. P (now ∷ others))
+
+-- the words of the present states of a row, as loads give them
+abbrev pub row_words : List Part → Image
+row_words parts i = word_of (slice_index_or parts i [])
+
+-- each part of a row is quiet
+pub record AreQuiet (parts : List Part) : Type 0 where
+  pub each : (i : ℕ) → IsQuiet (slice_index_or parts i [])
 
 -- An image of a row: one of each of its parts, freely.
 pub record IsRowImage (parts : List Part) (image : Image) : Type 0 where

@@ -6,13 +6,12 @@ use Rattle.nv_plain.specs.Images.{Image}
 use Rattle.nv_pmem.specs.Images.{IsImage, IsQuiet}
 use Rattle.nv_pmem.specs.Part.{Part, word_of}
 use Rattle.nv_pmem.specs.Moments.{Tells, EachMoment}
-use Rattle.nv_pmem.specs.Rows.{RowTells, InEachRowImage}
+use Rattle.nv_pmem.specs.Rows.{RowTells, InEachRowImage, row_words, AreQuiet}
 use Rattle.nv_pmem.specs.Steps.{History}
 use Rattle.nv_pmem.proofs.ImageLaws.{quiet_image}
 use Rattle.nv_pmem.proofs.RowLaws.{row_tells_both}
 use Rattle.nv_entry.specs.declared.bounds.Bounds.{Bounds}
-use Rattle.nv_entry.specs.Checks.{SaysBounds, region_words}
-use Rattle.nv_header.specs.Regions.{AreQuiet}
+use Rattle.nv_entry.specs.Checks.{SaysBounds}
 use Rattle.nv_recover.specs.Alike.{SayTheSame}
 use Rattle.nv_recover.specs.Changes.{ThroughoutRow}
 use Rattle.nv_recover.specs.Emptying.{BothTell, MayBeTrimmed, HasSmallWord, HasNoneAbove}
@@ -133,23 +132,35 @@ cleared_rows most done count old new before long =
           (λ was now both. both.0) (before.cleared j some within)
     ])
 
--- and part i has a small word then, if it is an entry's
-pub record IsCleared (most i : ℕ) (was now : Part) : Type 0 where
-  pub header : i ≡ 0 → now ≡ was
-  pub small : 1 ≤ i → HasSmallWord most was now
+-- a part is no entry's, or is one of the entries'
+cases_kept : (entries i : ℕ) → ((i ≡ 0) ⊎ (entries < i)) ⊎ ((1 ≤ i) × (i ≤ entries))
+cases_kept entries i = elim (cases_eq i 0) [
+  | inl first ↦ inl (inl first)
+  | inr other ↦ elim (cases_lt entries i) [
+    | inl past ↦ inl (inr past)
+    | inr within ↦ inr (omega arith, omega arith)
+  ]
+]
 
-pub small_rows : (most entries : ℕ) (old new : List History) → AreClearedTo most entries old new → length old ≡ 1 + entries → RowsTell old new (EachPair (IsCleared most) (1 + entries))
-small_rows most entries old new before long =
-    rows_each old new (IsCleared most) (1 + entries) long (omega (arith, before.long)) (λ i below. elim (cases_eq i 0) [
-      | inl first ↦
+-- and part i has a small word then, if it is an entry's, and is as it was, if it isn't
+pub record IsCleared (most entries i : ℕ) (was now : Part) : Type 0 where
+  pub kept : (i ≡ 0) ⊎ (entries < i) → now ≡ was
+  pub small : 1 ≤ i → i ≤ entries → HasSmallWord most was now
+
+pub small_rows : (most entries : ℕ) (old new : List History) → AreClearedTo most entries old new → RowsTell old new (EachPair (IsCleared most entries) (length old))
+small_rows most entries old new before =
+    rows_each old new (IsCleared most entries) (length old) refl before.long (λ i below. elim (cases_kept entries i) [
+      | inl kept ↦
           let was = slice_index_or old i [] in
-          let At : History → Type 0 = λ history. BothTell was history (IsCleared most i) in
-          subst At (sym (before.untouched i (inl first)))
-          (both_more was was (λ earlier now. now ≡ earlier) (IsCleared most i) (λ earlier now is. record { header = λ _. is; small = λ some. absurd (omega arith) }) (both_itself was))
-      | inr other ↦
-          both_more (slice_index_or old i []) (slice_index_or new i []) (λ was now. MayBeTrimmed most was now × HasSmallWord most was now) (IsCleared most i)
-          (λ earlier now both. record { header = λ zero. absurd (other zero); small = λ some. both.1 })
-          (before.cleared i (omega arith) (omega arith))
+          let At : History → Type 0 = λ history. BothTell was history (IsCleared most entries i) in
+          subst At (sym (before.untouched i kept))
+          (both_more was was (λ earlier now. now ≡ earlier) (IsCleared most entries i)
+          (λ earlier now is. record { kept = λ _. is; small = λ some few. elim kept [ inl first ↦ absurd (omega arith) | inr past ↦ absurd (omega arith) ] })
+          (both_itself was))
+      | inr within ↦
+          both_more (slice_index_or old i []) (slice_index_or new i []) (λ was now. MayBeTrimmed most was now × HasSmallWord most was now) (IsCleared most entries i)
+          (λ earlier now both. record { kept = λ kept. elim kept [ inl first ↦ absurd (omega (arith, within.0)) | inr past ↦ absurd (omega (arith, within.1)) ]; small = λ some few. both.1 })
+          (before.cleared i within.0 within.1)
     ])
 
 -- ---- images of the row
@@ -169,60 +180,61 @@ quiet_same was now image i line word same quiet is =
     let At : Part → Type 0 = λ part. IsImage part (image i) in
     quiet_image was (image i) line word (quiet.lines line) (subst At same is)
 
-kept_same : (bounds : Bounds) (count : ℕ) (was now : List Part) → AreQuiet was → SaysBounds bounds (region_words was) → EachPair (IsKept (bounds.tail + bounds.entries)) count was now → InEachRowImage (SayTheSame (region_words was)) now
+kept_same : (bounds : Bounds) (count : ℕ) (was now : List Part) → AreQuiet was → SaysBounds bounds (row_words was) → EachPair (IsKept (bounds.tail + bounds.entries)) count was now → InEachRowImage (SayTheSame (row_words was)) now
 kept_same bounds count was now quiet says pairs image is =
     let most = bounds.tail + bounds.entries in
     let kept = kept_at most count was now pairs in
-    same_trimmed (region_words was) image most (omega (arith, says.tail, says.entries))
+    same_trimmed (row_words was) image most (omega (arith, says.tail, says.entries))
     (λ line word. quiet_same (slice_index_or was 0 []) (slice_index_or now 0 []) image 0 line word ((kept 0).header refl) (quiet.each 0) (is.each 0))
     (λ i some. (kept i).trimmed (quiet.each i) (image i) (is.each i))
 
-pub rows_same : (bounds : Bounds) (count : ℕ) (old new : List History) → RowTells old AreQuiet → RowTells old (λ was. SaysBounds bounds (region_words was)) → RowsTell old new (EachPair (IsKept (bounds.tail + bounds.entries)) count)
-    → RowsTell old new (λ was. InEachRowImage (SayTheSame (region_words was)))
+pub rows_same : (bounds : Bounds) (count : ℕ) (old new : List History) → RowTells old AreQuiet → RowTells old (λ was. SaysBounds bounds (row_words was)) → RowsTell old new (EachPair (IsKept (bounds.tail + bounds.entries)) count)
+    → RowsTell old new (λ was. InEachRowImage (SayTheSame (row_words was)))
 rows_same bounds count old new quiet says rows =
-    let Says : List Part → Type 0 = λ was. SaysBounds bounds (region_words was) in
-    rows_more old new (λ was. AreQuiet was × Says was) (EachPair (IsKept (bounds.tail + bounds.entries)) count) (λ was. InEachRowImage (SayTheSame (region_words was)))
+    let Says : List Part → Type 0 = λ was. SaysBounds bounds (row_words was) in
+    rows_more old new (λ was. AreQuiet was × Says was) (EachPair (IsKept (bounds.tail + bounds.entries)) count) (λ was. InEachRowImage (SayTheSame (row_words was)))
     (λ was now both. kept_same bounds count was now both.0 both.1)
     (row_tells_both old AreQuiet Says quiet says) rows
 
 -- ---- the row when all words are cleared
 
-still_quiet : (most count : ℕ) (was now : List Part) → AreQuiet was → EachPair (IsCleared most) count was now → AreQuiet now
-still_quiet most count was now quiet pairs = record {
+still_quiet : (most entries count : ℕ) (was now : List Part) → AreQuiet was → EachPair (IsCleared most entries) count was now → AreQuiet now
+still_quiet most entries count was now quiet pairs = record {
   each = λ i.
       let Quiet : Part → Type 0 = IsQuiet in
       elim (cases_lt i count) [
-        | inl inside ↦ elim (cases_eq i 0) [
-          | inl first ↦ subst Quiet (sym ((pairs.has i inside).header first)) (quiet.each i)
-          | inr other ↦ ((pairs.has i inside).small (omega arith) (quiet.each i)).0
+        | inl inside ↦ elim (cases_kept entries i) [
+          | inl kept ↦ subst Quiet (sym ((pairs.has i inside).kept kept)) (quiet.each i)
+          | inr within ↦ ((pairs.has i inside).small within.0 within.1 (quiet.each i)).0
         ]
         | inr past ↦
             subst Quiet (get_or_past was i [] (omega (arith, pairs.was_long)) ∙ sym (get_or_past now i [] (omega (arith, pairs.now_long)))) (quiet.each i)
       ];
 }
 
-none_above : (bounds : Bounds) (was now : List Part) → AreQuiet was → SaysBounds bounds (region_words was) → EachPair (IsCleared (bounds.tail + bounds.entries)) (1 + bounds.entries) was now → HasNoneAbove (region_words now)
-none_above bounds was now quiet says pairs =
-    let header : slice_index_or now 0 [] ≡ slice_index_or was 0 [] = (pairs.has 0 (omega arith)).header refl in
+none_above : (bounds : Bounds) (count : ℕ) (was now : List Part) → 1 + bounds.entries ≤ count → AreQuiet was → SaysBounds bounds (row_words was) → EachPair (IsCleared (bounds.tail + bounds.entries) bounds.entries) count was now → HasNoneAbove (row_words now)
+none_above bounds count was now some quiet says pairs =
+    let header : slice_index_or now 0 [] ≡ slice_index_or was 0 [] = (pairs.has 0 (omega arith)).kept (inl refl) in
     let words = λ (line word : ℕ). ap (λ (part : Part). word_of part line word) header in
     record {
-      low = λ slot some few.
-          let here = (pairs.has slot (omega (arith, words 0 3, says.entries))).small some (quiet.each slot) in
+      low = λ slot first few.
+          let within : slot ≤ bounds.entries = omega (arith, words 0 3, says.entries) in
+          let here = (pairs.has slot (omega arith)).small first within (quiet.each slot) in
           omega (arith, here.1, words 0 3, words 1 0, says.entries, says.tail);
     }
 
-pub rows_quiet : (most count : ℕ) (old new : List History) → (AllTell new → AllTell old) → RowTells old AreQuiet → RowsTell old new (EachPair (IsCleared most) count) → RowTells new AreQuiet
-rows_quiet most count old new back quiet rows =
+pub rows_quiet : (most entries count : ℕ) (old new : List History) → (AllTell new → AllTell old) → RowTells old AreQuiet → RowsTell old new (EachPair (IsCleared most entries) count) → RowTells new AreQuiet
+rows_quiet most entries count old new back quiet rows =
     rows_new old new AreQuiet back
-    (rows_more old new AreQuiet (EachPair (IsCleared most) count) (λ was now. AreQuiet now) (still_quiet most count) quiet rows)
+    (rows_more old new AreQuiet (EachPair (IsCleared most entries) count) (λ was now. AreQuiet now) (still_quiet most entries count) quiet rows)
 
-pub rows_none_above : (bounds : Bounds) (old new : List History) → (AllTell new → AllTell old) → RowTells old AreQuiet → RowTells old (λ was. SaysBounds bounds (region_words was)) → RowsTell old new (EachPair (IsCleared (bounds.tail + bounds.entries)) (1 + bounds.entries))
-    → RowTells new (λ now. HasNoneAbove (region_words now))
-rows_none_above bounds old new back quiet says rows =
-    let Says : List Part → Type 0 = λ was. SaysBounds bounds (region_words was) in
-    rows_new old new (λ now. HasNoneAbove (region_words now)) back
-    (rows_more old new (λ was. AreQuiet was × Says was) (EachPair (IsCleared (bounds.tail + bounds.entries)) (1 + bounds.entries)) (λ was now. HasNoneAbove (region_words now))
-    (λ was now both. none_above bounds was now both.0 both.1)
+pub rows_none_above : (bounds : Bounds) (count : ℕ) (old new : List History) → 1 + bounds.entries ≤ count → (AllTell new → AllTell old) → RowTells old AreQuiet → RowTells old (λ was. SaysBounds bounds (row_words was))
+    → RowsTell old new (EachPair (IsCleared (bounds.tail + bounds.entries) bounds.entries) count) → RowTells new (λ now. HasNoneAbove (row_words now))
+rows_none_above bounds count old new some back quiet says rows =
+    let Says : List Part → Type 0 = λ was. SaysBounds bounds (row_words was) in
+    rows_new old new (λ now. HasNoneAbove (row_words now)) back
+    (rows_more old new (λ was. AreQuiet was × Says was) (EachPair (IsCleared (bounds.tail + bounds.entries) bounds.entries) count) (λ was now. HasNoneAbove (row_words now))
+    (λ was now both. none_above bounds count was now some both.0 both.1)
     (row_tells_both old AreQuiet Says quiet says) rows)
 
 -- ---- devices, of which one is cleared
@@ -240,13 +252,13 @@ devices_tell history parts i was new inside is tells =
 
 -- While one is, each image says the same as before.
 pub clearing_throughout : {X : Type 0} (history : X → History) (bounds : Bounds) (done : ℕ) (old : List History) (parts : List X) (was new : X)
-    → RowTells old AreQuiet → RowTells old (λ these. SaysBounds bounds (region_words these)) → AreClearedTo (bounds.tail + bounds.entries) done old (map history parts) → 1 + done < length parts → was ≡ get_or parts (1 + done) was
+    → RowTells old AreQuiet → RowTells old (λ these. SaysBounds bounds (row_words these)) → AreClearedTo (bounds.tail + bounds.entries) done old (map history parts) → 1 + done < length parts → was ≡ get_or parts (1 + done) was
     → Tells (history was) (λ before. EachMoment (MayBeTrimmed (bounds.tail + bounds.entries) before) (history was) (history new))
-    → RowTells old (λ these. ThroughoutRow (InEachRowImage (SayTheSame (region_words these))) old (map history parts))
-    → RowTells old (λ these. ThroughoutRow (InEachRowImage (SayTheSame (region_words these))) old (map history (slice_set parts (1 + done) new)))
+    → RowTells old (λ these. ThroughoutRow (InEachRowImage (SayTheSame (row_words these))) old (map history parts))
+    → RowTells old (λ these. ThroughoutRow (InEachRowImage (SayTheSame (row_words these))) old (map history (slice_set parts (1 + done) new)))
 clearing_throughout history bounds done old parts was new quiet says before inside is moments through =
     let most = bounds.tail + bounds.entries in
-    let Same : List Part → List Part → Type 0 = λ these. InEachRowImage (SayTheSame (region_words these)) in
+    let Same : List Part → List Part → Type 0 = λ these. InEachRowImage (SayTheSame (row_words these)) in
     let between : List History = map history parts in
     let after : List History = map history (slice_set parts (1 + done) new) in
     row_tells_from old (λ these. ThroughoutRow (Same these) old after)

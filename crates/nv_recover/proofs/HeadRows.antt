@@ -7,11 +7,11 @@ use Rattle.nv_plain.specs.Images.{header_of, name_of}
 use Rattle.nv_plain.specs.Layouts.{version_1}
 use Rattle.nv_pmem.specs.Moments.{Tells}
 use Rattle.nv_pmem.specs.Part.{Part}
-use Rattle.nv_pmem.specs.Rows.{RowTells}
+use Rattle.nv_pmem.specs.Rows.{RowTells, row_words}
 use Rattle.nv_pmem.specs.Steps.{History}
 use Rattle.nv_pmem.proofs.RowLaws.{row_tells_more}
 use Rattle.nv_entry.specs.declared.bounds.Bounds.{Bounds}
-use Rattle.nv_entry.specs.Checks.{SaysBounds, region_words}
+use Rattle.nv_entry.specs.Checks.{SaysBounds}
 use Rattle.nv_entry.proofs.Checking.{row_tells_part}
 use Rattle.nv_header.specs.declared.head.Head.{Head}
 use Rattle.nv_header.specs.Heads.{IsHeadOf, header_image, first_names}
@@ -24,7 +24,7 @@ header_first [] = refl
 header_first (history ∷ row) = refl
 
 reads_as : (lines : ℕ) (head : Head) (bounds : Bounds) (parts : List Part) → HasBounds head bounds → IsHeadOf 1 version_1 lines (header_image (slice_index_or parts 0 [])) head
-    → ReadsAs version_1 bounds.page bounds.entries head.names bounds.tail (region_words parts)
+    → ReadsAs version_1 bounds.page bounds.entries head.names bounds.tail (row_words parts)
 unfolding first_names
 reads_as lines head bounds parts has is = record {
   readable = record {
@@ -38,7 +38,7 @@ reads_as lines head bounds parts has is = record {
   tail_is = sym is.tail ∙ has.tail;
 }
 
-says_bounds : (lines : ℕ) (head : Head) (bounds : Bounds) (parts : List Part) → HasBounds head bounds → IsHeadOf 1 version_1 lines (header_image (slice_index_or parts 0 [])) head → SaysBounds bounds (region_words parts)
+says_bounds : (lines : ℕ) (head : Head) (bounds : Bounds) (parts : List Part) → HasBounds head bounds → IsHeadOf 1 version_1 lines (header_image (slice_index_or parts 0 [])) head → SaysBounds bounds (row_words parts)
 unfolding first_names
 says_bounds lines head bounds parts has is =
     let image = header_image (slice_index_or parts 0 []) in
@@ -59,13 +59,13 @@ told_first row Q P some step told =
 
 -- The row says what the head does.
 pub row_reads_as : (lines : ℕ) (head : Head) (bounds : Bounds) (row : List History) → HasBounds head bounds → 1 ≤ length row → Tells (header_history row) (λ now. IsHeadOf 1 version_1 lines (header_image now) head)
-    → RowTells row (λ parts. ReadsAs version_1 bounds.page bounds.entries head.names bounds.tail (region_words parts))
+    → RowTells row (λ parts. ReadsAs version_1 bounds.page bounds.entries head.names bounds.tail (row_words parts))
 row_reads_as lines head bounds row has some told =
-    told_first row (λ now. IsHeadOf 1 version_1 lines (header_image now) head) (λ parts. ReadsAs version_1 bounds.page bounds.entries head.names bounds.tail (region_words parts))
+    told_first row (λ now. IsHeadOf 1 version_1 lines (header_image now) head) (λ parts. ReadsAs version_1 bounds.page bounds.entries head.names bounds.tail (row_words parts))
     some (λ parts. reads_as lines head bounds parts has) told
 
 pub row_says_bounds : (lines : ℕ) (head : Head) (bounds : Bounds) (row : List History) → HasBounds head bounds → 1 ≤ length row → Tells (header_history row) (λ now. IsHeadOf 1 version_1 lines (header_image now) head)
-    → RowTells row (λ parts. SaysBounds bounds (region_words parts))
+    → RowTells row (λ parts. SaysBounds bounds (row_words parts))
 row_says_bounds lines head bounds row has some told =
-    told_first row (λ now. IsHeadOf 1 version_1 lines (header_image now) head) (λ parts. SaysBounds bounds (region_words parts)) some
+    told_first row (λ now. IsHeadOf 1 version_1 lines (header_image now) head) (λ parts. SaysBounds bounds (row_words parts)) some
     (λ parts. says_bounds lines head bounds parts has) told

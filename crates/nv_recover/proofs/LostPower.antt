@@ -4,11 +4,10 @@ use Rattle.std.proofs.lemmas.List.Elements.{All-cons, All-head, All-tail}
 use Rattle.nv_pmem.specs.Images.{IsQuiet}
 use Rattle.nv_pmem.specs.MemPart.{part_history, part_now, part_room}
 use Rattle.nv_pmem.specs.Part.{Part}
-use Rattle.nv_pmem.specs.Rows.{RowTells}
+use Rattle.nv_pmem.specs.Rows.{RowTells, AreQuiet}
 use Rattle.nv_pmem.specs.declared.mem_part.MemPart.{MemPart}
 use Rattle.nv_pmem.proofs.ImageLaws.{quiet_blank}
 use Rattle.nv_pmem.proofs.RowLaws.{row_tells_more}
-use Rattle.nv_header.specs.Regions.{AreQuiet}
 use Rattle.nv_store.specs.MemStore.{store_history, store_now}
 use Rattle.nv_store.specs.Store.{IsQuiet as IsQuietStore}
 use Rattle.nv_store.specs.declared.mem_store.MemStore.{MemStore}

@@ -7,11 +7,10 @@ use Rattle.nv_plain.specs.Layouts.{version_1}
 use Rattle.nv_pmem.specs.Images.{IsQuiet}
 use Rattle.nv_pmem.specs.Part.{Part}
 use Rattle.nv_pmem.specs.Moments.{Tells, EachMoment}
-use Rattle.nv_pmem.specs.Rows.{RowTells, IsRowImage, InEachRowImage}
+use Rattle.nv_pmem.specs.Rows.{RowTells, IsRowImage, InEachRowImage, row_words, AreQuiet}
 use Rattle.nv_pmem.specs.Steps.{History}
 use Rattle.nv_pmem.proofs.RowLaws.{row_image_of_now, row_tells_more, row_tells_both}
-use Rattle.nv_entry.specs.Checks.{region_words}
-use Rattle.nv_header.specs.Regions.{AreQuiet, ReadsAs, IsAtRest}
+use Rattle.nv_header.specs.Regions.{ReadsAs, IsAtRest}
 use Rattle.nv_recover.specs.Alike.{SayTheSame}
 use Rattle.nv_recover.specs.Changes.{ThroughoutRow}
 use Rattle.nv_recover.specs.Emptying.{BothTell, HasNoneAbove, CommitsNoneFrom, SaysTheSameOrEmpty}
@@ -58,9 +57,9 @@ other_same R count was now pairs i other = elim (cases_lt i count) [
 -- a row whose tail can be moved, and its log so be emptied
 pub record CanMove (page entries : ℕ) (names : List (List ℕ)) (tail next : ℕ) (was : List Part) : Type 0 where
   pub quiet : AreQuiet was
-  pub above : HasNoneAbove (region_words was)
-  pub none : CommitsNoneFrom next (region_words was)
-  pub reads : ReadsAs version_1 page entries names tail (region_words was)
+  pub above : HasNoneAbove (row_words was)
+  pub none : CommitsNoneFrom next (row_words was)
+  pub reads : ReadsAs version_1 page entries names tail (row_words was)
 
 kept_words : (next : ℕ) (was image : Image) → IsMoved next (was 0) (image 0) → image 0 1 0 ≡ was 0 1 0 → ((part line word : ℕ) → 1 ≤ part → image part line word ≡ was part line word) → (part line word : ℕ) → image part line word ≡ was part line word
 kept_words next was image moved kept others zero line word = elim (cases_eq line 1) [
@@ -72,18 +71,18 @@ kept_words next was image moved kept others zero line word = elim (cases_eq line
 ]
 kept_words next was image moved kept others (suc part) line word = others (suc part) line word (omega arith)
 
-other_words : (R : Part → Part → Type 0) (count : ℕ) (was now : List Part) (image : Image) → AreQuiet was → EachPair (IsFirst R) count was now → IsRowImage now image → (part line word : ℕ) → 1 ≤ part → image part line word ≡ region_words was part line word
+other_words : (R : Part → Part → Type 0) (count : ℕ) (was now : List Part) (image : Image) → AreQuiet was → EachPair (IsFirst R) count was now → IsRowImage now image → (part line word : ℕ) → 1 ≤ part → image part line word ≡ row_words was part line word
 other_words R count was now image quiet pairs is part line word some =
     quiet_same (slice_index_or was part []) (slice_index_or now part []) image part line word (other_same R count was now pairs part (omega arith)) (quiet.each part) (is.each part)
 
 same_or_empty : (page entries : ℕ) (names : List (List ℕ)) (tail next count : ℕ) (was now : List Part) → 1 ≤ count → tail ≤ next → next ≤ 2 ^ 60 → CanMove page entries names tail next was → EachPair (IsFirst (MayBeMoved next)) count was now
-    → InEachRowImage (SaysTheSameOrEmpty page entries names next (region_words was)) now
+    → InEachRowImage (SaysTheSameOrEmpty page entries names next (row_words was)) now
 same_or_empty page entries names tail next count was now some low small can pairs image is =
     let moved = (pairs.has 0 (omega arith)).header refl (can.quiet.each 0) (image 0) (is.each 0) in
     let others = other_words (MayBeMoved next) count was now image can.quiet pairs is in
     elim moved.tail [
-      | inl kept ↦ inl (same_words (region_words was) image (kept_words next (region_words was) image moved kept others))
-      | inr new ↦ inr (moved_empty page entries names tail next (region_words was) image moved.others others new low small can.above can.none can.reads)
+      | inl kept ↦ inl (same_words (row_words was) image (kept_words next (row_words was) image moved kept others))
+      | inr new ↦ inr (moved_empty page entries names tail next (row_words was) image moved.others others new low small can.above can.none can.reads)
     ]
 
 -- the tail is moved, and durable
@@ -106,19 +105,19 @@ at_rest page entries names tail next count was now some low small can pairs =
             ];
       };
       empty = λ image is.
-          moved_empty page entries names tail next (region_words was) image (header.0 (can.quiet.each 0) (image 0) (is.each 0)).others
+          moved_empty page entries names tail next (row_words was) image (header.0 (can.quiet.each 0) (image 0) (is.each 0)).others
           (other_words (IsTailMoved next) count was now image can.quiet pairs is)
           ((header.1 (can.quiet.each 0)).1 (image 0) (is.each 0)) low small can.above can.none can.reads;
     }
 
 -- ---- what the devices tell
 
-rows_can : (page entries : ℕ) (names : List (List ℕ)) (tail next : ℕ) (row : List History) → RowTells row AreQuiet → RowTells row (λ was. HasNoneAbove (region_words was)) → RowTells row (λ was. CommitsNoneFrom next (region_words was))
-    → RowTells row (λ was. ReadsAs version_1 page entries names tail (region_words was)) → RowTells row (CanMove page entries names tail next)
+rows_can : (page entries : ℕ) (names : List (List ℕ)) (tail next : ℕ) (row : List History) → RowTells row AreQuiet → RowTells row (λ was. HasNoneAbove (row_words was)) → RowTells row (λ was. CommitsNoneFrom next (row_words was))
+    → RowTells row (λ was. ReadsAs version_1 page entries names tail (row_words was)) → RowTells row (CanMove page entries names tail next)
 rows_can page entries names tail next row quiet above none reads =
-    let Above : List Part → Type 0 = λ was. HasNoneAbove (region_words was) in
-    let None : List Part → Type 0 = λ was. CommitsNoneFrom next (region_words was) in
-    let Reads : List Part → Type 0 = λ was. ReadsAs version_1 page entries names tail (region_words was) in
+    let Above : List Part → Type 0 = λ was. HasNoneAbove (row_words was) in
+    let None : List Part → Type 0 = λ was. CommitsNoneFrom next (row_words was) in
+    let Reads : List Part → Type 0 = λ was. ReadsAs version_1 page entries names tail (row_words was) in
     row_tells_more row (λ was. (AreQuiet was × Above was) × (None was × Reads was)) (CanMove page entries names tail next)
     (λ was all. record { quiet = all.0.0; above = all.0.1; none = all.1.0; reads = all.1.1 })
     (row_tells_both row (λ was. AreQuiet was × Above was) (λ was. None was × Reads was)
@@ -126,22 +125,22 @@ rows_can page entries names tail next row quiet above none reads =
 
 moved_row : (page entries : ℕ) (names : List (List ℕ)) (tail next : ℕ) (row : List History) (header : History) → 1 ≤ length row → tail ≤ next → next ≤ 2 ^ 60
     → RowTells row (CanMove page entries names tail next) → BothTell (slice_index_or row 0 []) header (MayBeMoved next)
-    → RowsTell row (slice_set row 0 header) (λ was. InEachRowImage (SaysTheSameOrEmpty page entries names next (region_words was)))
+    → RowsTell row (slice_set row 0 header) (λ was. InEachRowImage (SaysTheSameOrEmpty page entries names next (row_words was)))
 moved_row page entries names tail next row header some low small can moved =
     let count = length row in
     rows_more row (slice_set row 0 header) (CanMove page entries names tail next) (EachPair (IsFirst (MayBeMoved next)) count)
-    (λ was. InEachRowImage (SaysTheSameOrEmpty page entries names next (region_words was)))
+    (λ was. InEachRowImage (SaysTheSameOrEmpty page entries names next (row_words was)))
     (λ was now. same_or_empty page entries names tail next count was now (omega arith) low small)
     can (first_rows (MayBeMoved next) count row header refl (omega arith) moved)
 
 -- While the tail moves, each image says the same as before, or has an empty log.
 pub moving_throughout : {X : Type 0} (history : X → History) (page entries : ℕ) (names : List (List ℕ)) (tail next : ℕ) (parts : List X) (was new : X) → 1 ≤ length parts → was ≡ get_or parts 0 was → tail ≤ next → next ≤ 2 ^ 60
     → RowTells (map history parts) (CanMove page entries names tail next) → Tells (history was) (λ before. EachMoment (MayBeMoved next before) (history was) (history new))
-    → RowTells (map history parts) (λ these. ThroughoutRow (InEachRowImage (SaysTheSameOrEmpty page entries names next (region_words these))) (map history parts) (map history (slice_set parts 0 new)))
+    → RowTells (map history parts) (λ these. ThroughoutRow (InEachRowImage (SaysTheSameOrEmpty page entries names next (row_words these))) (map history parts) (map history (slice_set parts 0 new)))
 moving_throughout history page entries names tail next parts was new some is low small can moments =
     let row : List History = map history parts in
     let after : List History = map history (slice_set parts 0 new) in
-    let Says : List Part → List Part → Type 0 = λ these. InEachRowImage (SaysTheSameOrEmpty page entries names next (region_words these)) in
+    let Says : List Part → List Part → Type 0 = λ these. InEachRowImage (SaysTheSameOrEmpty page entries names next (row_words these)) in
     row_tells_from row (λ these. ThroughoutRow (Says these) row after)
     (λ these are.
     device_throughout history parts 0 was new (MayBeMoved next) (Says these) (omega arith) is (presents_tell row these are)
@@ -172,57 +171,57 @@ rest_rows history page entries names tail next parts was new d some is low small
 
 -- ---- after parts that say the same of the log
 
-same_now : (old new : List History) → RowsTell old new (λ was. InEachRowImage (SayTheSame (region_words was))) → RowsTell old new (λ was now. SayTheSame (region_words was) (region_words now))
+same_now : (old new : List History) → RowsTell old new (λ was. InEachRowImage (SayTheSame (row_words was))) → RowsTell old new (λ was now. SayTheSame (row_words was) (row_words now))
 same_now old new same =
-    row_tells_more old (λ was. RowTells new (InEachRowImage (SayTheSame (region_words was)))) (λ was. RowTells new (λ now. SayTheSame (region_words was) (region_words now)))
-    (λ was. row_tells_more new (InEachRowImage (SayTheSame (region_words was))) (λ now. SayTheSame (region_words was) (region_words now))
-    (λ now each. each (region_words now) (row_image_of_now now)))
+    row_tells_more old (λ was. RowTells new (InEachRowImage (SayTheSame (row_words was)))) (λ was. RowTells new (λ now. SayTheSame (row_words was) (row_words now)))
+    (λ was. row_tells_more new (InEachRowImage (SayTheSame (row_words was))) (λ now. SayTheSame (row_words was) (row_words now))
+    (λ now each. each (row_words now) (row_image_of_now now)))
     same
 
 -- what an image says of the log, rows say that say the same
-carried : (P : Image → Type 0) (old new : List History) → ((was now : Image) → SayTheSame was now → P was → P now) → (AllTell new → AllTell old) → RowsTell old new (λ was. InEachRowImage (SayTheSame (region_words was)))
-    → RowTells old (λ was. P (region_words was)) → RowTells new (λ now. P (region_words now))
+carried : (P : Image → Type 0) (old new : List History) → ((was now : Image) → SayTheSame was now → P was → P now) → (AllTell new → AllTell old) → RowsTell old new (λ was. InEachRowImage (SayTheSame (row_words was)))
+    → RowTells old (λ was. P (row_words was)) → RowTells new (λ now. P (row_words now))
 carried P old new step back same told =
-    rows_new old new (λ now. P (region_words now)) back
-    (rows_more old new (λ was. P (region_words was)) (λ was now. SayTheSame (region_words was) (region_words now)) (λ was now. P (region_words now))
-    (λ was now has says. step (region_words was) (region_words now) says has) told (same_now old new same))
+    rows_new old new (λ now. P (row_words now)) back
+    (rows_more old new (λ was. P (row_words was)) (λ was now. SayTheSame (row_words was) (row_words now)) (λ was now. P (row_words now))
+    (λ was now has says. step (row_words was) (row_words now) says has) told (same_now old new same))
 
-none_carried : (next : ℕ) (old new : List History) → (AllTell new → AllTell old) → RowsTell old new (λ was. InEachRowImage (SayTheSame (region_words was))) → RowTells old (λ was. CommitsNoneFrom next (region_words was)) → RowTells new (λ now. CommitsNoneFrom next (region_words now))
+none_carried : (next : ℕ) (old new : List History) → (AllTell new → AllTell old) → RowsTell old new (λ was. InEachRowImage (SayTheSame (row_words was))) → RowTells old (λ was. CommitsNoneFrom next (row_words was)) → RowTells new (λ now. CommitsNoneFrom next (row_words now))
 none_carried next old new back same told =
     carried (CommitsNoneFrom next) old new (λ was now says. none_too was now next says) back same told
 
-reads_carried : (page entries : ℕ) (names : List (List ℕ)) (tail : ℕ) (old new : List History) → (AllTell new → AllTell old) → RowsTell old new (λ was. InEachRowImage (SayTheSame (region_words was)))
-    → RowTells old (λ was. ReadsAs version_1 page entries names tail (region_words was)) → RowTells new (λ now. ReadsAs version_1 page entries names tail (region_words now))
+reads_carried : (page entries : ℕ) (names : List (List ℕ)) (tail : ℕ) (old new : List History) → (AllTell new → AllTell old) → RowsTell old new (λ was. InEachRowImage (SayTheSame (row_words was)))
+    → RowTells old (λ was. ReadsAs version_1 page entries names tail (row_words was)) → RowTells new (λ now. ReadsAs version_1 page entries names tail (row_words now))
 reads_carried page entries names tail old new back same told =
     carried (ReadsAs version_1 page entries names tail) old new (λ was now says. reads_too page entries names tail was now says.header) back same told
 
 -- Images that say the same, and then images that do or have an empty log.
 pub same_then : (page entries : ℕ) (names : List (List ℕ)) (next : ℕ) (old between new : List History) → (AllTell old → AllTell between)
-    → RowTells old (λ was. ThroughoutRow (InEachRowImage (SayTheSame (region_words was))) old between)
-    → RowTells between (λ was. ThroughoutRow (InEachRowImage (SaysTheSameOrEmpty page entries names next (region_words was))) between new)
-    → RowTells old (λ was. ThroughoutRow (InEachRowImage (SaysTheSameOrEmpty page entries names next (region_words was))) old new)
+    → RowTells old (λ was. ThroughoutRow (InEachRowImage (SayTheSame (row_words was))) old between)
+    → RowTells between (λ was. ThroughoutRow (InEachRowImage (SaysTheSameOrEmpty page entries names next (row_words was))) between new)
+    → RowTells old (λ was. ThroughoutRow (InEachRowImage (SaysTheSameOrEmpty page entries names next (row_words was))) old new)
 same_then page entries names next old between new on same later =
-    let Same : List Part → List Part → Type 0 = λ was. InEachRowImage (SayTheSame (region_words was)) in
-    let Says : List Part → List Part → Type 0 = λ was. InEachRowImage (SaysTheSameOrEmpty page entries names next (region_words was)) in
+    let Same : List Part → List Part → Type 0 = λ was. InEachRowImage (SayTheSame (row_words was)) in
+    let Says : List Part → List Part → Type 0 = λ was. InEachRowImage (SaysTheSameOrEmpty page entries names next (row_words was)) in
     rows_throughout old between new Same Says Says on (λ was now each image is. inl (each image is))
     (λ was mid now says each image is. elim (each image is) [
-      | inl kept ↦ inl (same_same (region_words was) (region_words mid) image (says (region_words mid) (row_image_of_now mid)) kept)
+      | inl kept ↦ inl (same_same (row_words was) (row_words mid) image (says (row_words mid) (row_image_of_now mid)) kept)
       | inr empty ↦ inr empty
     ])
     same later
 
-pub same_alone : (page entries : ℕ) (names : List (List ℕ)) (next : ℕ) (old new : List History) → RowTells old (λ was. ThroughoutRow (InEachRowImage (SayTheSame (region_words was))) old new)
-    → RowTells old (λ was. ThroughoutRow (InEachRowImage (SaysTheSameOrEmpty page entries names next (region_words was))) old new)
+pub same_alone : (page entries : ℕ) (names : List (List ℕ)) (next : ℕ) (old new : List History) → RowTells old (λ was. ThroughoutRow (InEachRowImage (SayTheSame (row_words was))) old new)
+    → RowTells old (λ was. ThroughoutRow (InEachRowImage (SaysTheSameOrEmpty page entries names next (row_words was))) old new)
 same_alone page entries names next old new same =
-    let Same : List Part → List Part → Type 0 = λ was. InEachRowImage (SayTheSame (region_words was)) in
-    let Says : List Part → List Part → Type 0 = λ was. InEachRowImage (SaysTheSameOrEmpty page entries names next (region_words was)) in
+    let Same : List Part → List Part → Type 0 = λ was. InEachRowImage (SayTheSame (row_words was)) in
+    let Says : List Part → List Part → Type 0 = λ was. InEachRowImage (SaysTheSameOrEmpty page entries names next (row_words was)) in
     row_tells_more old (λ was. ThroughoutRow (Same was) old new) (λ was. ThroughoutRow (Says was) old new)
     (λ was through. row_throughout_more (Same was) (Says was) (λ now each image is. inl (each image is)) through)
     same
 
 -- a row whose words are cleared can have its tail moved
-pub can_after : (page entries : ℕ) (names : List (List ℕ)) (tail next : ℕ) (old new : List History) → (AllTell new → AllTell old) → RowsTell old new (λ was. InEachRowImage (SayTheSame (region_words was)))
-    → RowTells new AreQuiet → RowTells new (λ now. HasNoneAbove (region_words now)) → RowTells old (λ was. CommitsNoneFrom next (region_words was)) → RowTells old (λ was. ReadsAs version_1 page entries names tail (region_words was))
+pub can_after : (page entries : ℕ) (names : List (List ℕ)) (tail next : ℕ) (old new : List History) → (AllTell new → AllTell old) → RowsTell old new (λ was. InEachRowImage (SayTheSame (row_words was)))
+    → RowTells new AreQuiet → RowTells new (λ now. HasNoneAbove (row_words now)) → RowTells old (λ was. CommitsNoneFrom next (row_words was)) → RowTells old (λ was. ReadsAs version_1 page entries names tail (row_words was))
     → RowTells new (CanMove page entries names tail next)
 can_after page entries names tail next old new back same quiet above none reads =
     rows_can page entries names tail next new quiet above (none_carried next old new back same none) (reads_carried page entries names tail old new back same reads)

@@ -1,29 +1,24 @@
 -- The piece that the part in a number's slot holds.
-use Rattle.std.proofs.Common.{◌≡◌, ℕ, ◌+◌, ◌%◌, ◌<◌, ◌≤◌, List, [], ◌++◌, All, length, length-append, length-drop, take, drop, get_or, slice_index_or, sym, ap, ◌∙◌, subst, arith}
+use Rattle.std.proofs.Common.{◌≡◌, ℕ, ◌+◌, ◌%◌, ◌<◌, ◌≤◌, List, [], ◌++◌, length, length-append, length-drop, take, drop, slice_index_or, sym, ap, ◌∙◌, subst, arith}
 use Rattle.std.proofs.Math.Seq.{take-append_seam}
-use Rattle.std.proofs.lemmas.List.{get_or-take, get_or-drop, length-take}
-use Rattle.std.proofs.lemmas.List.Elements.{AllZip-get_or, length_all_zip}
-use Rattle.std.specs.List.{AllZip}
-use Rattle.nv_pmem.specs.Room.{Room, Keeps}
 use Rattle.nv_plain.specs.Images.{Image, PartImage, entry_at, entry_of, slot_part, data_of, lines_for}
 use Rattle.nv_pmem.specs.Limits.{IsPageSize, entry_lines}
 use Rattle.nv_pmem.specs.Moments.{Tells}
 use Rattle.nv_pmem.specs.Part.{Part, word_of}
-use Rattle.nv_pmem.specs.Rows.{RowTells}
+use Rattle.nv_pmem.specs.Rows.{RowTells, row_words}
 use Rattle.nv_pmem.specs.Steps.{History}
 use Rattle.nv_pmem.proofs.RowLaws.{row_tells_more, row_tells_both}
 use Rattle.nv_entry.specs.declared.bounds.Bounds.{Bounds}
 use Rattle.nv_entry.specs.declared.piece.PieceHead.{PieceHead}
-use Rattle.nv_entry.specs.Checks.{SaysBounds, region_words}
-use Rattle.nv_entry.specs.Group.{words_of}
+use Rattle.nv_entry.specs.Checks.{SaysBounds}
 use Rattle.nv_entry.specs.Reading.{head_of, IsFilled}
 use Rattle.nv_entry.proofs.Checking.{row_tells_part}
 use Rattle.nv_recover.specs.Applying.{HasPiece}
 
 -- the front of a buffer that was filled
-filled_front : (part : Part) (size : ℕ) (old new : List ℕ) → IsFilled part size old new → length new ≡ length old → size ≤ length old → take size new ≡ data_of (words_of part) size
+filled_front : (part : Part) (size : ℕ) (old new : List ℕ) → IsFilled part size old new → length new ≡ length old → size ≤ length old → take size new ≡ data_of (word_of part) size
 filled_front part size old new filled long fits =
-    let bytes = data_of (words_of part) size in
+    let bytes = data_of (word_of part) size in
     let size_is : size ≡ length bytes =
     omega (arith, ap length filled, length-append bytes (drop size old), length-drop size old) in
     ap (take size) filled ∙ ap (λ n. take n (bytes ++ drop size old)) size_is ∙ take-append_seam bytes (drop size old)
@@ -40,15 +35,15 @@ read_piece_is image part number head old new same is filled long fits = record {
       ∙ sym (filled_front part head.size old new filled long fits);
 }
 
-slot_is : (bounds : Bounds) (number : ℕ) (parts : List Part) → SaysBounds bounds (region_words parts) → slot_part (region_words parts) number ≡ word_of (slice_index_or parts (1 + number % bounds.entries) [])
-slot_is bounds number parts says = ap (λ entries. region_words parts (1 + number % entries)) says.entries
+slot_is : (bounds : Bounds) (number : ℕ) (parts : List Part) → SaysBounds bounds (row_words parts) → slot_part (row_words parts) number ≡ word_of (slice_index_or parts (1 + number % bounds.entries) [])
+slot_is bounds number parts says = ap (λ entries. row_words parts (1 + number % entries)) says.entries
 
-module _ (row : List History) (bounds : Bounds) (number : ℕ) (inside : 1 + number % bounds.entries < length row) (header : RowTells row (λ parts. SaysBounds bounds (region_words parts))) where
+module _ (row : List History) (bounds : Bounds) (number : ℕ) (inside : 1 + number % bounds.entries < length row) (header : RowTells row (λ parts. SaysBounds bounds (row_words parts))) where
   -- what that part tells, the row tells
-  pub slot_tells : (P : Part → Type 0) (Q : List Part → Type 0) → ((parts : List Part) (part : Part) → slot_part (region_words parts) number ≡ word_of part → P part → Q parts)
+  pub slot_tells : (P : Part → Type 0) (Q : List Part → Type 0) → ((parts : List Part) (part : Part) → slot_part (row_words parts) number ≡ word_of part → P part → Q parts)
       → Tells (slice_index_or row (1 + number % bounds.entries) []) P → RowTells row Q
   slot_tells P Q step told =
-      let Says : List Part → Type 0 = λ parts. SaysBounds bounds (region_words parts) in
+      let Says : List Part → Type 0 = λ parts. SaysBounds bounds (row_words parts) in
       let Has : List Part → Type 0 = λ parts. P (slice_index_or parts (1 + number % bounds.entries) []) in
       row_tells_more row (λ parts. Says parts × Has parts) Q
       (λ parts both. step parts (slice_index_or parts (1 + number % bounds.entries) []) (slot_is bounds number parts both.0) both.1)
@@ -57,53 +52,24 @@ module _ (row : List History) (bounds : Bounds) (number : ℕ) (inside : 1 + num
   -- a piece that was read
   pub slot_piece : (head : PieceHead) (old new : List ℕ) → length new ≡ length old → head.size ≤ length old
       → Tells (slice_index_or row (1 + number % bounds.entries) []) (λ now. (head ≡ head_of now) × IsFilled now head.size old new)
-      → RowTells row (λ parts. HasPiece (region_words parts) number head.file head.at (take head.size new))
+      → RowTells row (λ parts. HasPiece (row_words parts) number head.file head.at (take head.size new))
   slot_piece head old new long fits told =
-      slot_tells (λ now. (head ≡ head_of now) × IsFilled now head.size old new) (λ parts. HasPiece (region_words parts) number head.file head.at (take head.size new))
-      (λ parts part same both. read_piece_is (region_words parts) part number head old new same both.0 both.1 long fits)
+      slot_tells (λ now. (head ≡ head_of now) × IsFilled now head.size old new) (λ parts. HasPiece (row_words parts) number head.file head.at (take head.size new))
+      (λ parts part same both. read_piece_is (row_words parts) part number head old new same both.0 both.1 long fits)
       told
 
   -- a piece that was too long
-  pub slot_too_long : (limit : ℕ) → RowTells row (λ parts. (entry_at (region_words parts) number).size ≤ limit)
-      → Tells (slice_index_or row (1 + number % bounds.entries) []) (λ now. limit < (entry_of (words_of now)).size) → RowTells row (λ parts. ⊥)
+  pub slot_too_long : (limit : ℕ) → RowTells row (λ parts. (entry_at (row_words parts) number).size ≤ limit)
+      → Tells (slice_index_or row (1 + number % bounds.entries) []) (λ now. limit < (entry_of (word_of now)).size) → RowTells row (λ parts. ⊥)
   slot_too_long limit few told =
-      let Few : List Part → Type 0 = λ parts. (entry_at (region_words parts) number).size ≤ limit in
-      let Many : List Part → Type 0 = λ parts. limit < (entry_at (region_words parts) number).size in
+      let Few : List Part → Type 0 = λ parts. (entry_at (row_words parts) number).size ≤ limit in
+      let Many : List Part → Type 0 = λ parts. limit < (entry_at (row_words parts) number).size in
       row_tells_more row (λ parts. Few parts × Many parts) (λ parts. ⊥) (λ parts both. omega (arith, both.0, both.1))
       (row_tells_both row Few Many few
-      (slot_tells (λ now. limit < (entry_of (words_of now)).size) Many
+      (slot_tells (λ now. limit < (entry_of (word_of now)).size) Many
       (λ parts part same long. let At : PartImage → Type 0 = λ words. limit < words 0 3 in subst At (sym same) long)
       told))
 
 -- the lines of a page
 pub lines_of_page : (page : ℕ) → IsPageSize page → 1 + lines_for page ≡ entry_lines page
 lines_of_page page is = omega (arith, is.whole_lines)
-
--- ---- the lines of the slots
-
-module _ {P : Type 0} (room : P → Room) (lines entries : ℕ) where
-  -- the slot of a number has as many lines as each has
-  pub slot_lines : (parts : List P) (i : ℕ) (d : P) → i < entries → 1 + i < length parts → All (λ part. lines ≤ (room part).lines) (take entries (drop 1 parts))
-      → lines ≤ (room (get_or parts (1 + i) d)).lines
-  slot_lines parts i d below inside each =
-      let slots = drop 1 parts in
-      let is : get_or (take entries slots) i d ≡ get_or parts (1 + i) d = get_or-take entries slots i d below ∙ get_or-drop 1 parts i d in
-      omega (
-        arith,
-        each i d (omega (arith, length-take entries slots, length-drop 1 parts)),
-        ap (λ part. (room part).lines) is,
-      )
-
-  -- and still has them after a read
-  pub slots_still : (old new : List P) → AllZip (λ before now. Keeps (room before) (room now)) old new → All (λ part. lines ≤ (room part).lines) (take entries (drop 1 old))
-      → All (λ part. lines ≤ (room part).lines) (take entries (drop 1 new))
-  slots_still old new rooms each k d inside =
-      let slots = drop 1 new in
-      let long : length old ≡ length new = length_all_zip (λ before now. Keeps (room before) (room now)) old new rooms in
-      let taken = length-take entries slots in
-      let dropped = length-drop 1 new in
-      let below : k < entries = omega arith in
-      let there : 1 + k < length old = omega arith in
-      let is : get_or (take entries slots) k d ≡ get_or new (1 + k) d = get_or-take entries slots k d below ∙ get_or-drop 1 new k d in
-      let kept = AllZip-get_or (λ before now. Keeps (room before) (room now)) old new (1 + k) d d rooms (omega arith) in
-      omega (arith, kept.lines, ap (λ part. (room part).lines) is, slot_lines old k d below there each)

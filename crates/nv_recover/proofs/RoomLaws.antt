@@ -1,7 +1,7 @@
 -- The lines of a region's parts, as each call asks for them.
-use Rattle.std.proofs.Common.{◌≡◌, ℕ, ◌+◌, ◌<◌, ◌≤◌, All, List, [], ◌∷◌, length, take, drop, map, get_or, zero, suc, refl, sym, ap, ◌∙◌, subst, arith}
+use Rattle.std.proofs.Common.{◌≡◌, ℕ, ◌+◌, ◌<◌, ◌≤◌, All, List, [], ◌∷◌, length, take, drop, map, get_or, suc, refl, sym, ap, ◌∙◌, subst, arith}
 use Rattle.std.proofs.lemmas.List.{length-map, get_or-map, get_or-take, get_or-drop, length-take}
-use Rattle.std.proofs.lemmas.List.Elements.{AllZip-get_or, length_all_zip}
+use Rattle.std.proofs.lemmas.List.Elements.{All-weaker, AllZip-get_or, length_all_zip}
 use Rattle.std.specs.List.{AllZip}
 use Rattle.nv_plain.specs.Layouts.{version_1}
 use Rattle.nv_pmem.specs.Limits.{entry_lines}
@@ -10,20 +10,13 @@ use Rattle.nv_header.specs.Regions.{part_lines, IsRoomy, HasParts}
 use Rattle.nv_header.proofs.InRow.{roomy_part}
 use Rattle.nv_recover.proofs.EmptyRows.{itself_at}
 
-some_lines : (page i : ℕ) → 1 ≤ part_lines version_1 page i
-some_lines page zero = omega arith
-some_lines page (suc i) = omega arith
-
 module _ {X : Type 0} (room : X → Room) (page entries : ℕ) where
-  pub parts_count : (parts : List X) → HasParts version_1 page entries (map room parts) → length parts ≡ 1 + entries
-  parts_count parts has = sym (length-map parts room) ∙ has.count
+  pub parts_count : (parts : List X) → HasParts version_1 page entries (map room parts) → 1 + entries ≤ length parts
+  parts_count parts has = omega (arith, has.count, length-map parts room)
 
-  roomy_at : (parts : List X) (i : ℕ) (d : X) → HasParts version_1 page entries (map room parts) → i < length parts → IsRoomy (part_lines version_1 page i) (room (get_or parts i d))
-  roomy_at parts i d has inside = roomy_part room version_1 page entries parts i (get_or parts i d) has inside (itself_at parts i d inside)
-
-  -- each part has a line
-  pub parts_lines : (parts : List X) → HasParts version_1 page entries (map room parts) → All (λ part. 1 ≤ (room part).lines) parts
-  parts_lines parts has i d inside = omega (arith, some_lines page i, (roomy_at parts i d has inside).there)
+  roomy_at : (parts : List X) (i : ℕ) (d : X) → HasParts version_1 page entries (map room parts) → i ≤ entries → IsRoomy (part_lines version_1 page i) (room (get_or parts i d))
+  roomy_at parts i d has within =
+      roomy_part room version_1 page entries parts i (get_or parts i d) has within (itself_at parts i d (omega (arith, parts_count parts has)))
 
   -- each entry's part has those of an entry
   pub parts_slots : (parts : List X) → HasParts version_1 page entries (map room parts) → All (λ part. entry_lines page ≤ (room part).lines) (take entries (drop 1 parts))
@@ -32,16 +25,22 @@ module _ {X : Type 0} (room : X → Room) (page entries : ℕ) where
       let below : i < entries = omega (arith, length-take entries slots) in
       let at : 1 + i ≡ suc i = omega arith in
       let is : get_or (take entries slots) i d ≡ get_or parts (1 + i) d = get_or-take entries slots i d below ∙ get_or-drop 1 parts i d in
-      let slot : IsRoomy (entry_lines page) (room (get_or parts (suc i) d)) = roomy_at parts (suc i) d has (omega (arith, parts_count parts has)) in
+      let slot : IsRoomy (entry_lines page) (room (get_or parts (suc i) d)) = roomy_at parts (suc i) d has (omega arith) in
       omega (arith, slot.there, ap (λ part. (room part).lines) (is ∙ ap (λ k. get_or parts k d) at))
 
+  -- and so a line
+  pub slots_some : (parts : List X) → HasParts version_1 page entries (map room parts) → All (λ part. 1 ≤ (room part).lines) (take entries (drop 1 parts))
+  slots_some parts has =
+      All-weaker (λ part. entry_lines page ≤ (room part).lines) (λ part. 1 ≤ (room part).lines) (λ part enough. omega arith) (take entries (drop 1 parts)) (parts_slots parts has)
+
   still_each : (old new : List X) → AllZip (λ before now. Keeps (room before) (room now)) old new → HasParts version_1 page entries (map room old) → length old ≡ length new
-      → (i : ℕ) (none : Room) → i < length old → IsRoomy (part_lines version_1 page i) (get_or (map room new) i none)
-  still_each [] new rooms has long i none inside = absurd (omega arith)
-  still_each (x ∷ old) [] rooms has long i none inside = absurd (omega (arith, long))
-  still_each (x ∷ old) (y ∷ new) rooms has long i none inside =
+      → (i : ℕ) (none : Room) → i ≤ entries → IsRoomy (part_lines version_1 page i) (get_or (map room new) i none)
+  still_each [] new rooms has long i none within = absurd (omega (arith, parts_count [] has))
+  still_each (x ∷ old) [] rooms has long i none within = absurd (omega (arith, long))
+  still_each (x ∷ old) (y ∷ new) rooms has long i none within =
       let At : Room → Type 0 = IsRoomy (part_lines version_1 page i) in
-      let was = roomy_at (x ∷ old) i x has inside in
+      let was = roomy_at (x ∷ old) i x has within in
+      let inside : i < length (x ∷ old) = omega (arith, parts_count (x ∷ old) has) in
       let kept = AllZip-get_or (λ before now. Keeps (room before) (room now)) (x ∷ old) (y ∷ new) i x y rooms inside in
       subst At (sym (get_or-map room (y ∷ new) i y none (omega (arith, long)))) (record {
         there = omega (arith, was.there, kept.lines);
@@ -53,8 +52,8 @@ module _ {X : Type 0} (room : X → Room) (page entries : ℕ) where
   parts_still old new rooms has =
       let long : length old ≡ length new = length_all_zip (λ before now. Keeps (room before) (room now)) old new rooms in
       record {
-        count = length-map new room ∙ sym long ∙ parts_count old has;
-        each = λ i none below. still_each old new rooms has long i none (omega (arith, parts_count old has));
+        count = omega (arith, length-map new room, long, parts_count old has);
+        each = still_each old new rooms has long;
       }
 
   -- and have as many lines

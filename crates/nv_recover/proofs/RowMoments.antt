@@ -1,19 +1,18 @@
 -- Moments of a row of devices: of a call that changes one of them, and of one call after another.
-use Rattle.std.proofs.Common.{◌≡◌, ◌⊎◌, inl, inr, ℕ, ◌<◌, ◌≤◌, List, [], ◌∷◌, ◌++◌, All, length, map, slice_set, slice_index_or, zero, suc, refl, sym, ap, ◌∙◌, subst, arith}
+use Rattle.std.proofs.Common.{◌≡◌, inl, inr, ℕ, ◌<◌, List, [], ◌∷◌, ◌++◌, All, length, map, slice_set, slice_index_or, refl, sym, ap, ◌∙◌, subst, arith}
 use Rattle.std.proofs.lemmas.List.{length-map, get_or-map, map-set, get_or-set_same, set-get_or, set-set}
 use Rattle.std.proofs.lemmas.List.Elements.{All-head, All-tail, All-weaker}
 use Rattle.nv_plain.specs.Images.{Image}
 use Rattle.nv_pmem.specs.Moments.{Tells, EachMoment}
-use Rattle.nv_pmem.specs.Rows.{RowTells}
+use Rattle.nv_pmem.specs.Rows.{RowTells, row_words}
 use Rattle.nv_pmem.specs.Runs.{grown}
 use Rattle.nv_pmem.specs.Steps as lines
 use Rattle.nv_pmem.proofs.RowLaws.{row_tells_more, row_tells_both}
 use Rattle.nv_pmem.proofs.StepLaws.{tells_more}
-use Rattle.nv_entry.specs.Checks.{region_words}
 use Rattle.nv_store.specs.Steps.{History}
 use Rattle.nv_store.specs.Store.{Store}
 use Rattle.nv_recover.specs.Applying.{AcrossTells, AcrossThroughout, ChangesOne}
-use Rattle.nv_recover.specs.Changes.{Change, row_after_change, ThroughoutRow}
+use Rattle.nv_recover.specs.Changes.{row_after_change, ThroughoutRow}
 use Rattle.nv_recover.specs.Emptying.{BothTell}
 use Rattle.nv_recover.specs.Telling.{AllTell}
 use Rattle.nv_recover.proofs.Present.{present, tells_from, tells_at, row_tells_from, row_tells_at, presents, presents_tell, are_now_same}
@@ -117,8 +116,8 @@ rows_last old new R through =
 
 pub across_last : (parts : List lines.History) (old new : List History) (R : Image → List Store → List Store → Type 0) → AcrossThroughout parts old new R → AcrossTells parts old new R
 across_last parts old new R through =
-    row_tells_more parts (λ these. RowTells old (λ was. ThroughoutRow (R (region_words these) was) old new)) (λ these. RowTells old (λ was. RowTells new (R (region_words these) was)))
-    (λ these here. rows_last old new (R (region_words these)) here) through
+    row_tells_more parts (λ these. RowTells old (λ was. ThroughoutRow (R (row_words these) was) old new)) (λ these. RowTells old (λ was. RowTells new (R (row_words these) was)))
+    (λ these here. rows_last old new (R (row_words these)) here) through
 
 -- stores that nothing was done to
 pub rows_still : {S : Type 0} (row : List (List S)) (R : List S → List S → Type 0) → RowsTell row row R → RowTells row (λ was. ThroughoutRow (R was) row row)
@@ -127,8 +126,8 @@ rows_still row R here =
 
 pub across_still : (parts : List lines.History) (row : List History) (R : Image → List Store → List Store → Type 0) → AcrossTells parts row row R → AcrossThroughout parts row row R
 across_still parts row R here =
-    row_tells_more parts (λ these. RowTells row (λ was. RowTells row (R (region_words these) was))) (λ these. RowTells row (λ was. ThroughoutRow (R (region_words these) was) row row))
-    (λ these at. rows_still row (R (region_words these)) at) here
+    row_tells_more parts (λ these. RowTells row (λ was. RowTells row (R (row_words these) was))) (λ these. RowTells row (λ was. ThroughoutRow (R (row_words these) was) row row))
+    (λ these at. rows_still row (R (row_words these)) at) here
 
 -- one call after another
 pub rows_throughout : {S : Type 0} (old between new : List (List S)) (A B C : List S → List S → Type 0) → (AllTell old → AllTell between)
@@ -159,25 +158,25 @@ rows_one_more old between new R through one after =
 
 pub across_throughout : (parts : List lines.History) (old between new : List History) (A B C : Image → List Store → List Store → Type 0) → (AllTell old → AllTell between)
     → ((image : Image) (was now : List Store) → A image was now → C image was now) → ((image : Image) (was then now : List Store) → A image was then → B image then now → C image was now)
-    → AcrossThroughout parts old between A → RowTells parts (λ these. RowTells between (λ then. ThroughoutRow (B (region_words these) then) between new)) → AcrossThroughout parts old new C
+    → AcrossThroughout parts old between A → RowTells parts (λ these. RowTells between (λ then. ThroughoutRow (B (row_words these) then) between new)) → AcrossThroughout parts old new C
 across_throughout parts old between new A B C tells front step first second =
-    row_tells_from parts (λ these. RowTells old (λ was. ThroughoutRow (C (region_words these) was) old new))
+    row_tells_from parts (λ these. RowTells old (λ was. ThroughoutRow (C (row_words these) was) old new))
     (λ these are.
-    let image = region_words these in
+    let image = row_words these in
     rows_throughout old between new (A image) (B image) (C image) tells (front image) (step image)
-    (row_tells_at parts (λ these. RowTells old (λ was. ThroughoutRow (A (region_words these) was) old between)) these are first)
-    (row_tells_at parts (λ these. RowTells between (λ then. ThroughoutRow (B (region_words these) then) between new)) these are second))
+    (row_tells_at parts (λ these. RowTells old (λ was. ThroughoutRow (A (row_words these) was) old between)) these are first)
+    (row_tells_at parts (λ these. RowTells between (λ then. ThroughoutRow (B (row_words these) then) between new)) these are second))
 
 -- one change at most, by what holds before it and after it
 pub across_one : (parts : List lines.History) (old new : List History) (R : Image → List Store → List Store → Type 0) → ((image : Image) (was : List Store) → R image was was)
     → ChangesOne old new → AcrossTells parts old new R → AcrossThroughout parts old new R
 across_one parts old new R none one after =
-    row_tells_from parts (λ these. RowTells old (λ was. ThroughoutRow (R (region_words these) was) old new))
+    row_tells_from parts (λ these. RowTells old (λ was. ThroughoutRow (R (row_words these) was) old new))
     (λ these are.
-    let image = region_words these in
+    let image = row_words these in
     row_tells_from old (λ was. ThroughoutRow (R image was) old new)
     (λ was were.
     one_throughout (R image was) old new one
     (row_tells_from old (R image was) (λ now they. subst (R image was) (are_now_same old was now were they) (none image was)))
     (row_tells_at old (λ was. RowTells new (R image was)) was were
-    (row_tells_at parts (λ these. RowTells old (λ was. RowTells new (R (region_words these) was))) these are after))))
+    (row_tells_at parts (λ these. RowTells old (λ was. RowTells new (R (row_words these) was))) these are after))))

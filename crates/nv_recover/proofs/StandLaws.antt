@@ -6,7 +6,7 @@ use Rattle.nv_plain.specs.Images.{Image}
 use Rattle.nv_plain.specs.Layouts.{version_1}
 use Rattle.nv_plain.specs.Recovered.{Fits, Recovered as All, recovered}
 use Rattle.nv_pmem.specs.Part.{Part}
-use Rattle.nv_pmem.specs.Rows.{RowTells, InEachRowImage, IsRowImage}
+use Rattle.nv_pmem.specs.Rows.{RowTells, InEachRowImage, IsRowImage, row_words, AreQuiet}
 use Rattle.nv_pmem.specs.Steps as lines
 use Rattle.nv_pmem.proofs.ImageLaws.{quiet_image as quiet_line}
 use Rattle.nv_pmem.proofs.RowLaws.{row_tells_any, row_tells_more, row_tells_both}
@@ -14,8 +14,7 @@ use Rattle.nv_store.specs.Steps.{History, Sync, after_step}
 use Rattle.nv_store.specs.Store.{Store, IsQuiet}
 use Rattle.nv_store.proofs.StoreLaws.{quiet_is_quiet}
 use Rattle.nv_entry.specs.declared.bounds.Bounds.{Bounds}
-use Rattle.nv_entry.specs.Checks.{SaysBounds, region_words}
-use Rattle.nv_header.specs.Regions.{AreQuiet}
+use Rattle.nv_entry.specs.Checks.{SaysBounds}
 use Rattle.nv_recover.specs.Alike.{SayTheSame}
 use Rattle.nv_recover.specs.Applying.{AcrossTells, AcrossThroughout, StaysAlike}
 use Rattle.nv_recover.specs.Changes.{Devices, DevicesTell, ThroughoutRow, ThroughoutDevices}
@@ -39,9 +38,9 @@ use Rattle.nv_recover.proofs.Throughout.{throughout_then, stores_throughout, par
 -- ---- images
 
 -- quiet parts have one image
-quiet_says : (parts : List Part) (image : Image) → AreQuiet parts → IsRowImage parts image → SayTheSame (region_words parts) image
+quiet_says : (parts : List Part) (image : Image) → AreQuiet parts → IsRowImage parts image → SayTheSame (row_words parts) image
 quiet_says parts image quiet is =
-    same_words (region_words parts) image (λ part line word. quiet_line (slice_index_or parts part []) (image part) line word ((quiet.each part).lines line) (is.each part))
+    same_words (row_words parts) image (λ part line word. quiet_line (slice_index_or parts part []) (image part) line word ((quiet.each part).lines line) (is.each part))
 
 same_stands : (image other : Image) (was held : List Store) (bytes : Files) → SayTheSame image other → Fits version_1 image → RecoverAlike image was held → AreStoreImages held bytes
     → StandsFor other bytes (recovered image (files_of was)).files
@@ -50,11 +49,11 @@ same_stands image other was held bytes same fits alike are = record {
   recovers = ap (λ (all : All). all.files) (same_recovered image other same bytes) ∙ alike bytes are;
 }
 
-stands_read : (parts now : List Part) (was held : List Store) → now ≡ parts → AreQuiet parts → Fits version_1 (region_words parts) → RecoverAlike (region_words parts) was held
-    → StillStandFor now held (recovered (region_words parts) (files_of was)).files
+stands_read : (parts now : List Part) (was held : List Store) → now ≡ parts → AreQuiet parts → Fits version_1 (row_words parts) → RecoverAlike (row_words parts) was held
+    → StillStandFor now held (recovered (row_words parts) (files_of was)).files
 stands_read parts now was held same quiet fits alike image bytes is are =
     let Is : List Part → Type 0 = λ these. IsRowImage these image in
-    same_stands (region_words parts) image was held bytes (quiet_says parts image quiet (subst Is same is)) fits alike are
+    same_stands (row_words parts) image was held bytes (quiet_says parts image quiet (subst Is same is)) fits alike are
 
 stands_emptied : (page entries : ℕ) (names : List (List ℕ)) (next : ℕ) (image : Image) (now : List Part) (was held : List Store) → Fits version_1 image
     → InEachRowImage (SaysTheSameOrEmpty page entries names next image) now → RecoverAlike image was held → HoldRecovered image was held
@@ -115,9 +114,9 @@ both_rows parts stores = record { parts = parts; stores = stores }
 
 -- while the stores are written, and the parts only read
 module _ (parts : List lines.History) (old new : List History) (quiet : RowTells parts AreQuiet) (alike : AcrossThroughout parts old new RecoverAlike) where
-  stands_written : (these : List Part) (was : List Store) → AreNow parts these → AreNow old was → ThroughoutDevices (StandsStill (region_words these) (files_of was)) (both_rows parts old) (both_rows parts new)
+  stands_written : (these : List Part) (was : List Store) → AreNow parts these → AreNow old was → ThroughoutDevices (StandsStill (row_words these) (files_of was)) (both_rows parts old) (both_rows parts new)
   stands_written these was are were =
-      let image = region_words these in
+      let image = row_words these in
       stores_throughout parts (RecoverAlike image was) (StandsStill image (files_of was))
       (λ row alikes.
       row_tells_from parts (λ now. RowTells row (StandsStill image (files_of was) now))
@@ -126,32 +125,32 @@ module _ (parts : List lines.History) (old new : List History) (quiet : RowTells
       (λ held like fits. stands_read these now was held (are_now_same parts now these they are) (row_tells_at parts AreQuiet these are quiet) fits like)
       alikes))
       (row_tells_at old (λ was. ThroughoutRow (RecoverAlike image was) old new) was were
-      (row_tells_at parts (λ these. RowTells old (λ was. ThroughoutRow (RecoverAlike (region_words these) was) old new)) these are alike))
+      (row_tells_at parts (λ these. RowTells old (λ was. ThroughoutRow (RecoverAlike (row_words these) was) old new)) these are alike))
 
   pub stand_read : StandThroughout (both_rows parts old) (both_rows parts new)
   stand_read =
-      row_tells_from parts (λ these. RowTells old (λ was. ThroughoutDevices (StandsStill (region_words these) (files_of was)) (both_rows parts old) (both_rows parts new)))
+      row_tells_from parts (λ these. RowTells old (λ was. ThroughoutDevices (StandsStill (row_words these) (files_of was)) (both_rows parts old) (both_rows parts new)))
       (λ these are.
-      row_tells_from old (λ was. ThroughoutDevices (StandsStill (region_words these) (files_of was)) (both_rows parts old) (both_rows parts new))
+      row_tells_from old (λ was. ThroughoutDevices (StandsStill (row_words these) (files_of was)) (both_rows parts old) (both_rows parts new))
       (λ was were. stands_written these was are were))
 
   -- and then the log is emptied, and the stores stay
   pub stand_emptied : (page entries : ℕ) (names : List (List ℕ)) (next : ℕ) (parts_now : List lines.History)
-      → RowTells parts (λ was. ThroughoutRow (InEachRowImage (SaysTheSameOrEmpty page entries names next (region_words was))) parts parts_now)
+      → RowTells parts (λ was. ThroughoutRow (InEachRowImage (SaysTheSameOrEmpty page entries names next (row_words was))) parts parts_now)
       → AcrossTells parts old new HoldRecovered → StandThroughout (both_rows parts old) (both_rows parts_now new)
   stand_emptied page entries names next parts_now says hold =
-      row_tells_from parts (λ these. RowTells old (λ was. ThroughoutDevices (StandsStill (region_words these) (files_of was)) (both_rows parts old) (both_rows parts_now new)))
+      row_tells_from parts (λ these. RowTells old (λ was. ThroughoutDevices (StandsStill (row_words these) (files_of was)) (both_rows parts old) (both_rows parts_now new)))
       (λ these are.
-      let image = region_words these in
+      let image = row_words these in
       let Says : List Part → Type 0 = InEachRowImage (SaysTheSameOrEmpty page entries names next image) in
       row_tells_from old (λ was. ThroughoutDevices (StandsStill image (files_of was)) (both_rows parts old) (both_rows parts_now new))
       (λ was were.
       let like : RowTells new (RecoverAlike image was) =
       row_tells_at old (λ was. RowTells new (RecoverAlike image was)) was were
-      (row_tells_at parts (λ these. RowTells old (λ was. RowTells new (RecoverAlike (region_words these) was))) these are (across_last parts old new RecoverAlike alike)) in
+      (row_tells_at parts (λ these. RowTells old (λ was. RowTells new (RecoverAlike (row_words these) was))) these are (across_last parts old new RecoverAlike alike)) in
       let held : RowTells new (HoldRecovered image was) =
       row_tells_at old (λ was. RowTells new (HoldRecovered image was)) was were
-      (row_tells_at parts (λ these. RowTells old (λ was. RowTells new (HoldRecovered (region_words these) was))) these are hold) in
+      (row_tells_at parts (λ these. RowTells old (λ was. RowTells new (HoldRecovered (row_words these) was))) these are hold) in
       throughout_then (λ devices. DevicesTell devices (StandsStill image (files_of was))) (stands_written these was are were)
       (parts_throughout new Says (StandsStill image (files_of was))
       (λ row saying.
@@ -161,49 +160,49 @@ module _ (parts : List lines.History) (old new : List History) (quiet : RowTells
       (λ held both fits. stands_emptied page entries names next image now was held fits each both.0 both.1)
       (row_tells_both new (RecoverAlike image was) (HoldRecovered image was) like held))
       saying)
-      (row_tells_at parts (λ was. ThroughoutRow (InEachRowImage (SaysTheSameOrEmpty page entries names next (region_words was))) parts parts_now) these are says))))
+      (row_tells_at parts (λ was. ThroughoutRow (InEachRowImage (SaysTheSameOrEmpty page entries names next (row_words was))) parts parts_now) these are says))))
 
 -- ---- an image that doesn't fit
 
 -- nothing was written
 pub unfit_read : (parts now : List lines.History) (stores : List History) → now ≡ parts → UnfitIsUnwritten (both_rows parts stores) (both_rows now stores)
 unfit_read parts now stores same =
-    row_tells_any parts (λ these. ¬ Fits version_1 (region_words these) → both_rows now stores ≡ both_rows parts stores)
+    row_tells_any parts (λ these. ¬ Fits version_1 (row_words these) → both_rows now stores ≡ both_rows parts stores)
     (λ these unfit. ap (λ row. both_rows row stores) same)
 
 -- none was found to fit
-pub unfit_found : (parts : List lines.History) (stores : List History) (groups : List Group) (new : Devices) → RowTells parts (λ these. AreGroups (region_words these) groups) → UnfitIsUnwritten (both_rows parts stores) new
+pub unfit_found : (parts : List lines.History) (stores : List History) (groups : List Group) (new : Devices) → RowTells parts (λ these. AreGroups (row_words these) groups) → UnfitIsUnwritten (both_rows parts stores) new
 unfit_found parts stores groups new found =
-    row_tells_more parts (λ these. AreGroups (region_words these) groups) (λ these. ¬ Fits version_1 (region_words these) → new ≡ both_rows parts stores)
+    row_tells_more parts (λ these. AreGroups (row_words these) groups) (λ these. ¬ Fits version_1 (row_words these) → new ≡ both_rows parts stores)
     (λ these are unfit. absurd (unfit are.fits)) found
 
 -- ---- what was found
 
-module _ (row : List lines.History) (bounds : Bounds) (groups : List Group) (says : RowTells row (λ parts. SaysBounds bounds (region_words parts))) (are : RowTells row (λ parts. AreGroups (region_words parts) groups)) where
-  both : RowTells row (λ parts. SaysBounds bounds (region_words parts) × AreGroups (region_words parts) groups)
+module _ (row : List lines.History) (bounds : Bounds) (groups : List Group) (says : RowTells row (λ parts. SaysBounds bounds (row_words parts))) (are : RowTells row (λ parts. AreGroups (row_words parts) groups)) where
+  both : RowTells row (λ parts. SaysBounds bounds (row_words parts) × AreGroups (row_words parts) groups)
   both =
-      let Says : List Part → Type 0 = λ parts. SaysBounds bounds (region_words parts) in
-      let Are : List Part → Type 0 = λ parts. AreGroups (region_words parts) groups in
+      let Says : List Part → Type 0 = λ parts. SaysBounds bounds (row_words parts) in
+      let Are : List Part → Type 0 = λ parts. AreGroups (row_words parts) groups in
       row_tells_both row Says Are says are
 
   -- no number is committed from the next one on
-  pub none_tells : (next : ℕ) → (bounds.tail ≤ end_of bounds.tail groups → end_of bounds.tail groups ≤ 2 ^ 60 → next ≡ end_of bounds.tail groups) → RowTells row (λ parts. CommitsNoneFrom next (region_words parts))
+  pub none_tells : (next : ℕ) → (bounds.tail ≤ end_of bounds.tail groups → end_of bounds.tail groups ≤ 2 ^ 60 → next ≡ end_of bounds.tail groups) → RowTells row (λ parts. CommitsNoneFrom next (row_words parts))
   none_tells next is =
-      row_tells_more row (λ parts. SaysBounds bounds (region_words parts) × AreGroups (region_words parts) groups) (λ parts. CommitsNoneFrom next (region_words parts))
+      row_tells_more row (λ parts. SaysBounds bounds (row_words parts) × AreGroups (row_words parts) groups) (λ parts. CommitsNoneFrom next (row_words parts))
       (λ parts here.
-      let end = ends (region_words parts) bounds.tail groups here.0.tail bounds.tail_in_limits here.1 in
-      let None : ℕ → Type 0 = λ n. CommitsNoneFrom n (region_words parts) in
+      let end = ends (row_words parts) bounds.tail groups here.0.tail bounds.tail_in_limits here.1 in
+      let None : ℕ → Type 0 = λ n. CommitsNoneFrom n (row_words parts) in
       subst None (sym (is end.from_tail end.limit)) end.none)
       both
 
   -- the numbers are those that the image recovers with
   pub found_tells : (found : Recovered) → found.first ≡ bounds.tail → found.groups.items ≡ leaders_of groups
       → (bounds.tail ≤ end_of bounds.tail groups → end_of bounds.tail groups ≤ 2 ^ 60 → found.next ≡ end_of bounds.tail groups)
-      → RowTells row (λ parts. HasFoundAll (region_words parts) found)
+      → RowTells row (λ parts. HasFoundAll (row_words parts) found)
   found_tells found first leaders next =
-      row_tells_more row (λ parts. SaysBounds bounds (region_words parts) × AreGroups (region_words parts) groups) (λ parts. HasFoundAll (region_words parts) found)
+      row_tells_more row (λ parts. SaysBounds bounds (row_words parts) × AreGroups (row_words parts) groups) (λ parts. HasFoundAll (row_words parts) found)
       (λ parts here.
-      let end = ends (region_words parts) bounds.tail groups here.0.tail bounds.tail_in_limits here.1 in
+      let end = ends (row_words parts) bounds.tail groups here.0.tail bounds.tail_in_limits here.1 in
       record {
         fits = here.1.fits;
         first = λ stores. first ∙ sym here.0.tail;

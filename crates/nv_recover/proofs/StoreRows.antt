@@ -2,10 +2,9 @@
 use Rattle.std.proofs.Common.{◌≡◌, ◌⊎◌, inl, inr, ℕ, ◌+◌, ◌<◌, ◌≤◌, List, [], ◌∷◌, ◌++◌, All, length, take, drop, get_or, map, set, slice_set, slice_index_or, Result, Ok, Err, OnOk, OnErr, zero, suc, refl, sym, ap, ◌∙◌, subst, arith}
 use Rattle.std.proofs.lemmas.List.{length-map, get_or-map, map-set, set-get_or}
 use Rattle.std.proofs.lemmas.List.Elements.{All-set}
-use Rattle.nv_pmem.specs.Rows.{RowTells}
+use Rattle.nv_pmem.specs.Rows.{RowTells, row_words}
 use Rattle.nv_pmem.specs.Runs.{run, grown}
 use Rattle.nv_pmem.specs.Steps as lines
-use Rattle.nv_entry.specs.Checks.{region_words}
 use Rattle.nv_plain.specs.Files.{Files, contents_of}
 use Rattle.nv_plain.specs.Images.{Image}
 use Rattle.nv_pmem.proofs.RowLaws.{row_tells_more}
@@ -16,7 +15,6 @@ use Rattle.nv_store.specs.Torn.{IsTorn, LeftOrTore}
 use Rattle.nv_store.proofs.ImageLaws.{image_of_quiet, seen_is_image}
 use Rattle.nv_store.proofs.StoreLaws.{write_is_torn, quiet_is_quiet}
 use Rattle.nv_recover.specs.Applying.{AcrossTells, ChangesOne, OneWritten, LeftOrOneTorn}
-use Rattle.nv_recover.specs.Changes.{Change, row_after_change}
 use Rattle.nv_recover.specs.Standing.{AreStoreImages, LeaveNoMore, files_of}
 use Rattle.nv_recover.specs.Telling.{AllTell, IsNow, AreNow}
 use Rattle.nv_recover.proofs.Present.{now_same, row_tells_from, row_tells_at, presents, presents_tell, presents_long, are_now_same, OneChanged, one_changed}
@@ -114,8 +112,10 @@ module _ {X : Type 0} (history : X → History) (stores : List X) (i : ℕ) (d n
   one_of_row (inl same) =
       inl (map-set history stores i new ∙ ap (set (map history stores) i) (same ∙ sym history_was) ∙ set-get_or (map history stores) i [])
   one_of_row (inr one) =
-      inr (record { device = i; state = one.0 },
-      map-set history stores i new ∙ ap (set (map history stores) i) (one.1 ∙ ap (grown (λ next before. next) one.0) (sym history_was)))
+      inr (
+        record { device = i; state = one.0 },
+        map-set history stores i new ∙ ap (set (map history stores) i) (one.1 ∙ ap (grown (λ next before. next) one.0) (sym history_was)),
+      )
 
   -- a call on one store makes one change at most
   pub row_wrote_one : {T E : Type 0} (result : Result T E) (at : ℕ) (bytes : List ℕ) → OnOk result (Did (Write at bytes ∷ []) (history (get_or stores i d)) (history new)) → OnErr result (LeftOrTore at (length bytes) (history (get_or stores i d)) (history new))
@@ -182,12 +182,12 @@ pub across_tells : (parts : List lines.History) (old between new : List History)
     → ((image : Image) (was then now : List Store) → A image was then → B image then now → C image was now)
     → AcrossTells parts old between A → AcrossTells parts between new B → AcrossTells parts old new C
 across_tells parts old between new A B C tells step first second =
-    row_tells_from parts (λ these. RowTells old (λ was. RowTells new (C (region_words these) was)))
+    row_tells_from parts (λ these. RowTells old (λ was. RowTells new (C (row_words these) was)))
     (λ these are.
-    let image = region_words these in
+    let image = row_words these in
     across old between new (A image) (B image) (C image) tells (step image)
-    (row_tells_at parts (λ these. RowTells old (λ was. RowTells between (A (region_words these) was))) these are first)
-    (row_tells_at parts (λ these. RowTells between (λ was. RowTells new (B (region_words these) was))) these are second))
+    (row_tells_at parts (λ these. RowTells old (λ was. RowTells between (A (row_words these) was))) these are first)
+    (row_tells_at parts (λ these. RowTells between (λ was. RowTells new (B (row_words these) was))) these are second))
 
 -- ---- syncs
 

@@ -1,11 +1,11 @@
 -- What holds throughout a run of steps: runs joined, weakened, and of one device seen among others.
-use Rattle.std.proofs.Common.{◌≡◌, ℕ, ◌≤◌, ◌⊎◌, inl, inr, List, [], ◌∷◌, ◌++◌, length, take, map, refl, sym, ap, ◌∙◌, subst, arith}
+use Rattle.std.proofs.Common.{◌≡◌, List, [], ◌∷◌, ◌++◌, map, refl, sym, ap, ◌∙◌, subst}
 use Rattle.nv_pmem.specs.Part.{Part}
 use Rattle.nv_pmem.specs.Rows.{RowTells}
 use Rattle.nv_pmem.specs.Runs.{run, Ran}
 use Rattle.nv_pmem.specs.Steps as lines
 use Rattle.nv_pmem.proofs.RowLaws.{row_tells_more}
-use Rattle.nv_pmem.proofs.StepLaws.{run-none, did_none, did_did, did_one, Always, always_first, always_last, always_front, always_by_fronts, always_append}
+use Rattle.nv_pmem.proofs.StepLaws.{did_none, did_did, did_one, Always, always_first, always_last, always_front, always_by_fronts, always_append}
 use Rattle.nv_store.specs.Steps.{History}
 use Rattle.nv_store.specs.Store.{Store}
 use Rattle.nv_recover.specs.Changes.{Throughout, row_after_change, ThroughoutRow, DevicesTell, devices_after_change, ThroughoutDevices}

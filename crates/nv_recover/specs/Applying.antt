@@ -5,24 +5,23 @@ use Rattle.nv_plain.specs.Files.{Files}
 use Rattle.nv_plain.specs.Images.{Image, entry_at, slot_part, data_of}
 use Rattle.nv_plain.specs.Layouts.{version_1}
 use Rattle.nv_plain.specs.Recovered.{IsGroup, IsPiece, committed, group_numbers, recovered}
-use Rattle.nv_pmem.specs.Rows.{RowTells}
+use Rattle.nv_pmem.specs.Rows.{RowTells, row_words}
 use Rattle.nv_pmem.specs.Steps as lines
 use Rattle.nv_store.specs.Steps as stores
 use Rattle.nv_store.specs.Steps.{Write, after_step}
 use Rattle.nv_store.specs.Store.{Store}
 use Rattle.nv_store.specs.Torn.{IsTorn}
-use Rattle.nv_entry.specs.Checks.{region_words}
 use Rattle.nv_recover.specs.Changes.{Change, row_after_change, ThroughoutRow}
 use Rattle.nv_recover.specs.Standing.{AreStoreImages}
 use Rattle.nv_recover.specs.declared.group.Group.{Group}
 
 -- a fact about the words of a region and its stores before and after a call, where all of them tell
 abbrev pub AcrossTells : List lines.History → List stores.History → List stores.History → (Image → List Store → List Store → Type 0) → Type 0
-AcrossTells parts old new R = RowTells parts (λ parts. RowTells old (λ was. RowTells new (λ now. R (region_words parts) was now)))
+AcrossTells parts old new R = RowTells parts (λ parts. RowTells old (λ was. RowTells new (λ now. R (row_words parts) was now)))
 
 -- a fact about the words of a region and its stores, as they were and as they are at each moment of a call
 abbrev pub AcrossThroughout : List lines.History → List stores.History → List stores.History → (Image → List Store → List Store → Type 0) → Type 0
-AcrossThroughout parts old new R = RowTells parts (λ parts. RowTells old (λ was. ThroughoutRow (R (region_words parts) was) old new))
+AcrossThroughout parts old new R = RowTells parts (λ parts. RowTells old (λ was. ThroughoutRow (R (row_words parts) was) old new))
 
 -- ---- which numbers are written
 

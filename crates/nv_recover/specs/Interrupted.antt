@@ -5,10 +5,9 @@ use Rattle.nv_plain.specs.Images.{Image}
 use Rattle.nv_plain.specs.Layouts.{version_1}
 use Rattle.nv_plain.specs.Recovered.{Fits, recovered}
 use Rattle.nv_pmem.specs.Part.{Part}
-use Rattle.nv_pmem.specs.Rows.{IsRowImage}
+use Rattle.nv_pmem.specs.Rows.{IsRowImage, row_words}
 use Rattle.nv_pmem.specs.Runs.{run}
 use Rattle.nv_store.specs.Store.{Store}
-use Rattle.nv_entry.specs.Checks.{region_words}
 use Rattle.nv_recover.specs.Changes.{Devices, devices_after_change, ThroughoutDevices}
 use Rattle.nv_recover.specs.Recovering.{StandsStill, StandThroughout}
 use Rattle.nv_recover.specs.Standing.{AreStoreImages, files_of}
@@ -21,7 +20,7 @@ pub record Start : Type 0 where
 
 -- the start that quiet parts and stores are
 abbrev pub start_of : List Part → List Store → Start
-start_of parts stores = record { image = region_words parts; bytes = files_of stores }
+start_of parts stores = record { image = row_words parts; bytes = files_of stores }
 
 -- the image of a start fits
 abbrev pub StartFits : Start → Type 0

@@ -5,11 +5,10 @@ use Rattle.nv_plain.specs.Images.{Image}
 use Rattle.nv_plain.specs.Layouts.{version_1}
 use Rattle.nv_plain.specs.Recovered.{Fits, recovered}
 use Rattle.nv_pmem.specs.Part.{Part}
-use Rattle.nv_pmem.specs.Rows.{RowTells}
+use Rattle.nv_pmem.specs.Rows.{RowTells, row_words}
 use Rattle.nv_pmem.specs.Steps as lines
 use Rattle.nv_store.specs.Steps as stores
 use Rattle.nv_store.specs.Store.{Store}
-use Rattle.nv_entry.specs.Checks.{region_words}
 use Rattle.nv_recover.specs.Changes.{Devices, DevicesTell, ThroughoutDevices}
 use Rattle.nv_recover.specs.Standing.{AreQuietStores, StillStandFor, files_of}
 use Rattle.nv_recover.specs.declared.group.Group.{Group}
@@ -37,7 +36,7 @@ pub record AreUntouched (parts : List lines.History) (old new : List stores.Hist
 
 -- Where the parts tell of an image that doesn't fit, nothing was written: the stores are as they were, and the parts too.
 abbrev pub UnfitIsUnwritten : Devices → Devices → Type 0
-UnfitIsUnwritten old new = RowTells old.parts (λ parts. ¬ Fits version_1 (region_words parts) → new ≡ old)
+UnfitIsUnwritten old new = RowTells old.parts (λ parts. ¬ Fits version_1 (row_words parts) → new ≡ old)
 
 -- If an image fits, whatever a power failure leaves of these parts and stores stands for the files that the image and these
 -- bytes stand for.
@@ -47,4 +46,4 @@ StandsStill image bytes now held = Fits version_1 image → StillStandFor now he
 -- So it is at each moment of a call, where all devices tell, of the image that the parts had and the bytes that the stores had.
 abbrev pub StandThroughout : Devices → Devices → Type 0
 StandThroughout old new =
-    DevicesTell old (λ parts stores. ThroughoutDevices (StandsStill (region_words parts) (files_of stores)) old new)
+    DevicesTell old (λ parts stores. ThroughoutDevices (StandsStill (row_words parts) (files_of stores)) old new)

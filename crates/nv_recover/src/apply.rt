@@ -6,11 +6,11 @@ ghost use Rattle.nv_plain.specs.Recovered.{with_entry, recovered};
 ghost use Rattle.nv_pmem.specs.Limits.{entry_lines};
 ghost use Rattle.nv_pmem.specs.Moments.{Tells};
 ghost use Rattle.nv_pmem.specs.Room.{Keeps};
-ghost use Rattle.nv_pmem.specs.Rows.{RowTells, AreOnlyRead};
+ghost use Rattle.nv_pmem.specs.Rows.{RowTells, AreOnlyRead, row_words};
+ghost use Rattle.nv_pmem.specs.Part.{word_of};
 ghost use Rattle.nv_store.specs.Causes.{HasWriteCause};
 ghost use Rattle.nv_store.specs.Steps.{Sync, after_step};
-ghost use Rattle.nv_entry.specs.Checks.{SaysBounds, region_words};
-ghost use Rattle.nv_entry.specs.Group.{words_of};
+ghost use Rattle.nv_entry.specs.Checks.{SaysBounds};
 ghost use Rattle.nv_entry.specs.Reading.{head_of, IsFilled};
 ghost use Rattle.nv_recover.specs.Applying.{AcrossTells, AcrossThroughout, ChangesOne, IsGroupOf, IsNumberOf, HasPiece, StaysAlike, OneWritten, LeftOrOneTorn};
 ghost use Rattle.nv_recover.specs.Causes.{HasRegionCause, HasStoreCause};
@@ -41,14 +41,14 @@ pub(crate) fn write_groups<L: Lines, B: Backing>(
     requires parts { 1 + bounds.now.entries ≤ length parts.old }
     requires lines { All (λ part. entry_lines bounds.now.page ≤ (L.room part).lines) (take bounds.now.entries (drop 1 parts.old)) }
     requires page { length page.old ≡ bounds.now.page }
-    requires header { RowTells (map L.history parts.old) (λ parts. SaysBounds bounds.now (region_words parts)) }
-    requires groups { RowTells (map L.history parts.old) (λ parts. AreGroups (region_words parts) groups.now) }
+    requires header { RowTells (map L.history parts.old) (λ parts. SaysBounds bounds.now (row_words parts)) }
+    requires groups { RowTells (map L.history parts.old) (λ parts. AreGroups (row_words parts) groups.now) }
     requires stores { length stores.old ≡ bounds.now.files }
     requires quiet { RowTells (map B.history stores.old) AreQuietStores }
     ensures read { AreOnlyRead L.history L.room L.device parts.old parts.new }
     ensures moments { AcrossThroughout (map L.history parts.old) (map B.history stores.old) (map B.history stores.new) RecoverAlike }
     ensures written { OnOk result (RowTells (map L.history parts.old) (λ parts. RowTells (map B.history stores.old) (λ was.
-        RowTells (map B.history stores.new) (λ now. files_of now ≡ (recovered (region_words parts) (files_of was)).files)))) }
+        RowTells (map B.history stores.new) (λ now. files_of now ≡ (recovered (row_words parts) (files_of was)).files)))) }
     ensures bad { (number : ℕ) → result ≡ Err (error.BadEntry number) → RowTells (map L.history parts.old) (λ parts. ⊥) }
     ensures tells { AllTell (map B.history stores.old) → AllTell (map B.history stores.new) }
     ensures region_cause { HasRegionCause (sum_by L.fault_count parts.old) (sum_by L.fault_count parts.new) result }
@@ -72,8 +72,8 @@ fn write_group<L: Lines, B: Backing>(
     requires parts { 1 + bounds.now.entries ≤ length parts.old }
     requires lines { All (λ part. entry_lines bounds.now.page ≤ (L.room part).lines) (take bounds.now.entries (drop 1 parts.old)) }
     requires page { length page.old ≡ bounds.now.page }
-    requires header { RowTells (map L.history parts.old) (λ parts. SaysBounds bounds.now (region_words parts)) }
-    requires group { RowTells (map L.history parts.old) (λ parts. IsGroupOf (region_words parts) group) }
+    requires header { RowTells (map L.history parts.old) (λ parts. SaysBounds bounds.now (row_words parts)) }
+    requires group { RowTells (map L.history parts.old) (λ parts. IsGroupOf (row_words parts) group) }
     requires stores { length stores.old ≡ bounds.now.files }
     ensures read { AreOnlyRead L.history L.room L.device parts.old parts.new }
     ensures moments { AcrossThroughout (map L.history parts.old) (map B.history stores.old) (map B.history stores.new) StaysAlike }
@@ -103,8 +103,8 @@ fn write_entry<L: Lines, B: Backing>(
     requires parts { 1 + bounds.now.entries ≤ length parts.old }
     requires lines { All (λ part. entry_lines bounds.now.page ≤ (L.room part).lines) (take bounds.now.entries (drop 1 parts.old)) }
     requires page { length page.old ≡ bounds.now.page }
-    requires header { RowTells (map L.history parts.old) (λ parts. SaysBounds bounds.now (region_words parts)) }
-    requires number { RowTells (map L.history parts.old) (λ parts. IsNumberOf (region_words parts) number) }
+    requires header { RowTells (map L.history parts.old) (λ parts. SaysBounds bounds.now (row_words parts)) }
+    requires number { RowTells (map L.history parts.old) (λ parts. IsNumberOf (row_words parts) number) }
     requires stores { length stores.old ≡ bounds.now.files }
     ensures read { AreOnlyRead L.history L.room L.device parts.old parts.new }
     ensures one { ChangesOne (map B.history stores.old) (map B.history stores.new) }
@@ -140,10 +140,10 @@ fn load_piece<L: Lines>(
     requires parts { 1 + bounds.now.entries ≤ length parts.old }
     requires lines { All (λ part. entry_lines bounds.now.page ≤ (L.room part).lines) (take bounds.now.entries (drop 1 parts.old)) }
     requires page { length page.old ≡ bounds.now.page }
-    requires header { RowTells (map L.history parts.old) (λ parts. SaysBounds bounds.now (region_words parts)) }
-    requires size { RowTells (map L.history parts.old) (λ parts. (entry_at (region_words parts) number).size ≤ bounds.now.page) }
+    requires header { RowTells (map L.history parts.old) (λ parts. SaysBounds bounds.now (row_words parts)) }
+    requires size { RowTells (map L.history parts.old) (λ parts. (entry_at (row_words parts) number).size ≤ bounds.now.page) }
     ensures piece { IfOk result (λ head. RowTells (map L.history parts.old) (λ parts.
-        HasPiece (region_words parts) number head.file head.at (take head.size page.new))) }
+        HasPiece (row_words parts) number head.file head.at (take head.size page.new))) }
     ensures size { IfOk result (λ head. head.size ≤ length page.new) }
     ensures bad { (other : ℕ) → result ≡ Err (error.BadEntry other) → RowTells (map L.history parts.old) (λ parts. ⊥) }
     ensures no_store { result ≢ Err error.StoreFault }
@@ -162,7 +162,7 @@ fn load_piece<L: Lines>(
 fn load_fitting<L: Lines>(part: &mut L, page: &mut [u8]) -> Result<Option<PieceHead>, RegionFault>
     requires lines { 1 + lines_for (length page.old) ≤ (L.room part.old).lines }
     ensures piece { IfOk result (λ found. Tells (L.history part.old) (λ now. MatchOption found
-        (length page.old < (entry_of (words_of now)).size)
+        (length page.old < (entry_of (word_of now)).size)
         (λ head. (head ≡ head_of now) × IsFilled now head.size page.old page.new))) }
     ensures size { IfOk result (λ found. MatchOption found (Unit {0}) (λ head. head.size ≤ length page.old)) }
     ensures history { L.history part.new ≡ L.history part.old }

@@ -2,9 +2,9 @@ ghost use Rattle.std.specs.Prelude.{◌≡◌, ℕ, ◌+◌, ◌^◌, ◌<◌, �
 ghost use Rattle.nv_plain.specs.Faults.{HasCause};
 ghost use Rattle.nv_plain.specs.Layouts.{version_1};
 ghost use Rattle.nv_pmem.specs.Moments.{Tells, EachMoment};
-ghost use Rattle.nv_pmem.specs.Rows.{RowTells, InEachRowImage};
-ghost use Rattle.nv_entry.specs.Checks.{SaysBounds, region_words};
-ghost use Rattle.nv_header.specs.Regions.{AreQuiet, HasParts, IsAtRest, StaysRoomy};
+ghost use Rattle.nv_pmem.specs.Rows.{RowTells, InEachRowImage, row_words, AreQuiet};
+ghost use Rattle.nv_entry.specs.Checks.{SaysBounds};
+ghost use Rattle.nv_header.specs.Regions.{HasParts, IsAtRest, StaysRoomy};
 ghost use Rattle.nv_recover.specs.Alike.{SayTheSame};
 ghost use Rattle.nv_recover.specs.Changes.{ThroughoutRow};
 ghost use Rattle.nv_recover.specs.Emptying.{BothTell, MayBeTrimmed, HasSmallWord, HasNoneAbove, CommitsNoneFrom, SaysBoundsAndNames, SaysTheSameOrEmpty};
@@ -23,18 +23,18 @@ pub(crate) fn empty_log<L: Lines>(
     next: u64,
 ) -> Result<(), RegionFault>
     requires parts { HasParts version_1 bounds.now.page bounds.now.entries (map L.room parts.old) }
-    requires header { RowTells (map L.history parts.old) (λ parts. SaysBounds bounds.now (region_words parts)) }
+    requires header { RowTells (map L.history parts.old) (λ parts. SaysBounds bounds.now (row_words parts)) }
     requires quiet { RowTells (map L.history parts.old) AreQuiet }
-    requires none { RowTells (map L.history parts.old) (λ parts. CommitsNoneFrom next (region_words parts)) }
+    requires none { RowTells (map L.history parts.old) (λ parts. CommitsNoneFrom next (row_words parts)) }
     requires from_tail { bounds.now.tail ≤ next }
     requires number { next ≤ 2 ^ 60 }
     ensures moments { (names : List (List ℕ))
-        → RowTells (map L.history parts.old) (λ was. SaysBoundsAndNames bounds.now names (region_words was))
+        → RowTells (map L.history parts.old) (λ was. SaysBoundsAndNames bounds.now names (row_words was))
         → RowTells (map L.history parts.old) (λ was. ThroughoutRow
-        (InEachRowImage (SaysTheSameOrEmpty bounds.now.page bounds.now.entries names next (region_words was)))
+        (InEachRowImage (SaysTheSameOrEmpty bounds.now.page bounds.now.entries names next (row_words was)))
         (map L.history parts.old) (map L.history parts.new)) }
     ensures rest { OnOk result ((names : List (List ℕ))
-        → RowTells (map L.history parts.old) (λ was. SaysBoundsAndNames bounds.now names (region_words was))
+        → RowTells (map L.history parts.old) (λ was. SaysBoundsAndNames bounds.now names (row_words was))
         → RowTells (map L.history parts.new) (IsAtRest version_1 bounds.now.page bounds.now.entries names next)) }
     ensures parts { OnOk result (HasParts version_1 bounds.now.page bounds.now.entries (map L.room parts.new)) }
     ensures lines { map (λ part. (L.room part).lines) parts.new ≡ map (λ part. (L.room part).lines) parts.old }
@@ -49,11 +49,11 @@ pub(crate) fn empty_log<L: Lines>(
 // Clears the commit words that lie past the window of the tail.
 fn clear_words<L: Lines>(parts: &mut [L], bounds: &Bounds) -> Result<(), RegionFault>
     requires parts { HasParts version_1 bounds.now.page bounds.now.entries (map L.room parts.old) }
-    requires header { RowTells (map L.history parts.old) (λ parts. SaysBounds bounds.now (region_words parts)) }
+    requires header { RowTells (map L.history parts.old) (λ parts. SaysBounds bounds.now (row_words parts)) }
     requires quiet { RowTells (map L.history parts.old) AreQuiet }
     ensures moments { RowTells (map L.history parts.old) (λ was.
-        ThroughoutRow (InEachRowImage (SayTheSame (region_words was))) (map L.history parts.old) (map L.history parts.new)) }
-    ensures cleared { OnOk result (RowTells (map L.history parts.new) (λ now. HasNoneAbove (region_words now))) }
+        ThroughoutRow (InEachRowImage (SayTheSame (row_words was))) (map L.history parts.old) (map L.history parts.new)) }
+    ensures cleared { OnOk result (RowTells (map L.history parts.new) (λ now. HasNoneAbove (row_words now))) }
     ensures quiet { OnOk result (RowTells (map L.history parts.new) AreQuiet) }
     ensures parts { OnOk result (HasParts version_1 bounds.now.page bounds.now.entries (map L.room parts.new)) }
     ensures lines { map (λ part. (L.room part).lines) parts.new ≡ map (λ part. (L.room part).lines) parts.old }

@@ -1,9 +1,9 @@
-ghost use Rattle.std.specs.Prelude.{◌≡◌, ◌≢◌, ℕ, ◌+◌, ◌<◌, ◌≤◌, length, map, sum_by, All, Err, IfOk, OnOk};
+ghost use Rattle.std.specs.Prelude.{◌≡◌, ◌≢◌, ℕ, ◌+◌, ◌<◌, ◌≤◌, length, map, take, drop, sum_by, All, Err, IfOk, OnOk};
 ghost use Rattle.nv_plain.specs.Images.{entry_at};
 ghost use Rattle.nv_plain.specs.Layouts.{version_1};
 ghost use Rattle.nv_plain.specs.Recovered.{IsGroup};
-ghost use Rattle.nv_pmem.specs.Rows.{RowTells, AreOnlyRead};
-ghost use Rattle.nv_entry.specs.Checks.{IsFirstBad, SaysBounds, region_words};
+ghost use Rattle.nv_pmem.specs.Rows.{RowTells, AreOnlyRead, row_words};
+ghost use Rattle.nv_entry.specs.Checks.{IsFirstBad, SaysBounds};
 ghost use Rattle.nv_recover.specs.Causes.{HasRegionCause};
 ghost use Rattle.nv_recover.specs.Finding.{HasFound};
 ghost use Rattle.nv_recover.specs.Groups.{AreGroups, IsLeastBad};
@@ -22,11 +22,11 @@ pub(crate) fn find_groups<L: Lines>(
     bounds: &Bounds,
 ) -> Result<Vec<Group>, RecoverError>
     requires parts { 1 + bounds.now.entries ≤ length parts.old }
-    requires lines { All (λ part. 1 ≤ (L.room part).lines) parts.old }
-    requires header { RowTells (map L.history parts.old) (λ parts. SaysBounds bounds.now (region_words parts)) }
-    ensures found { IfOk result (λ groups. RowTells (map L.history parts.old) (λ parts. AreGroups (region_words parts) groups.items)) }
+    requires lines { All (λ part. 1 ≤ (L.room part).lines) (take bounds.now.entries (drop 1 parts.old)) }
+    requires header { RowTells (map L.history parts.old) (λ parts. SaysBounds bounds.now (row_words parts)) }
+    ensures found { IfOk result (λ groups. RowTells (map L.history parts.old) (λ parts. AreGroups (row_words parts) groups.items)) }
     ensures bad { (number : ℕ) → result ≡ Err (error.BadEntry number)
-        → RowTells (map L.history parts.old) (λ parts. IsLeastBad version_1 (region_words parts) number) }
+        → RowTells (map L.history parts.old) (λ parts. IsLeastBad version_1 (row_words parts) number) }
     ensures read { AreOnlyRead L.history L.room L.device parts.old parts.new }
     ensures cause { HasRegionCause (sum_by L.fault_count parts.old) (sum_by L.fault_count parts.new) result }
     ensures no_store { result ≢ Err error.StoreFault }
@@ -46,15 +46,15 @@ fn look_at<L: Lines>(
     groups: &mut Vec<Group>,
 ) -> Result<(), RecoverError>
     requires parts { 1 + bounds.now.entries ≤ length parts.old }
-    requires lines { All (λ part. 1 ≤ (L.room part).lines) parts.old }
-    requires header { RowTells (map L.history parts.old) (λ parts. SaysBounds bounds.now (region_words parts)) }
+    requires lines { All (λ part. 1 ≤ (L.room part).lines) (take bounds.now.entries (drop 1 parts.old)) }
+    requires header { RowTells (map L.history parts.old) (λ parts. SaysBounds bounds.now (row_words parts)) }
     requires from { bounds.now.tail ≤ number }
     requires below { number < bounds.now.tail + bounds.now.entries }
     ensures found { OnOk result (RowTells (map L.history parts.old) (λ parts.
-        HasFound (region_words parts) bounds.now.tail number groups.old.items
-        → HasFound (region_words parts) bounds.now.tail (number + 1) groups.new.items)) }
+        HasFound (row_words parts) bounds.now.tail number groups.old.items
+        → HasFound (row_words parts) bounds.now.tail (number + 1) groups.new.items)) }
     ensures bad { (bad : ℕ) → result ≡ Err (error.BadEntry bad) → RowTells (map L.history parts.old) (λ parts.
-        HasFound (region_words parts) bounds.now.tail number groups.old.items → IsLeastBad version_1 (region_words parts) bad) }
+        HasFound (row_words parts) bounds.now.tail number groups.old.items → IsLeastBad version_1 (row_words parts) bad) }
     ensures read { AreOnlyRead L.history L.room L.device parts.old parts.new }
     ensures cause { HasRegionCause (sum_by L.fault_count parts.old) (sum_by L.fault_count parts.new) result }
     ensures no_store { result ≢ Err error.StoreFault }
@@ -71,14 +71,14 @@ fn look_at<L: Lines>(
 // The committed group of a leader, if it is whole.
 fn checked<L: Lines>(parts: &mut [L], bounds: &Bounds, leader: u64) -> Result<Group, RecoverError>
     requires parts { 1 + bounds.now.entries ≤ length parts.old }
-    requires lines { All (λ part. 1 ≤ (L.room part).lines) parts.old }
-    requires header { RowTells (map L.history parts.old) (λ parts. SaysBounds bounds.now (region_words parts)) }
+    requires lines { All (λ part. 1 ≤ (L.room part).lines) (take bounds.now.entries (drop 1 parts.old)) }
+    requires header { RowTells (map L.history parts.old) (λ parts. SaysBounds bounds.now (row_words parts)) }
     requires number { leader < bounds.now.tail + bounds.now.entries }
     ensures leader { IfOk result (λ group. group.leader ≡ leader) }
     ensures whole { IfOk result (λ group. RowTells (map L.history parts.old) (λ parts.
-        IsGroup version_1 (region_words parts) leader × (group.count ≡ (entry_at (region_words parts) leader).count))) }
+        IsGroup version_1 (row_words parts) leader × (group.count ≡ (entry_at (row_words parts) leader).count))) }
     ensures bad { (number : ℕ) → result ≡ Err (error.BadEntry number)
-        → RowTells (map L.history parts.old) (λ parts. IsFirstBad version_1 (region_words parts) leader number) }
+        → RowTells (map L.history parts.old) (λ parts. IsFirstBad version_1 (row_words parts) leader number) }
     ensures read { AreOnlyRead L.history L.room L.device parts.old parts.new }
     ensures cause { HasRegionCause (sum_by L.fault_count parts.old) (sum_by L.fault_count parts.new) result }
     ensures no_store { result ≢ Err error.StoreFault }

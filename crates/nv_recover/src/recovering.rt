@@ -2,11 +2,11 @@ ghost use Rattle.std.specs.Prelude.{◌≡◌, ℕ, ◌+◌, ◌^◌, ◌≤◌,
 ghost use Rattle.nv_plain.specs.Layouts.{version_1};
 ghost use Rattle.nv_pmem.specs.Limits.{entry_lines};
 ghost use Rattle.nv_pmem.specs.Moments.{Tells};
-ghost use Rattle.nv_pmem.specs.Rows.{RowTells, AreOnlyRead};
-ghost use Rattle.nv_entry.specs.Checks.{SaysBounds, region_words};
+ghost use Rattle.nv_pmem.specs.Rows.{RowTells, AreOnlyRead, row_words, AreQuiet};
+ghost use Rattle.nv_entry.specs.Checks.{SaysBounds};
 ghost use Rattle.nv_header.specs.Heads.{IsHeadOf, IsWithinLimits, header_image};
 ghost use Rattle.nv_header.specs.Needs.{header_history};
-ghost use Rattle.nv_header.specs.Regions.{AreQuiet, HasParts, IsAtRest};
+ghost use Rattle.nv_header.specs.Regions.{HasParts, IsAtRest};
 ghost use Rattle.nv_recover.specs.Applying.{AcrossTells, AcrossThroughout};
 ghost use Rattle.nv_recover.specs.Changes.{devices_of};
 ghost use Rattle.nv_recover.specs.Causes.{RegionFailed, StoresFailed, HasRegionCause, HasStoreCause};
@@ -62,7 +62,7 @@ pub fn recover<L: Lines + Drop, B: Backing>(
     requires stores { length stores.old.items ≡ length head.names }
     requires synced { RowTells (map B.history stores.old.items) AreQuietStores }
 
-    ensures found { IfOk result (λ done. RowTells (map L.history parts.items) (λ parts. HasFoundAll (region_words parts) done.1)) }
+    ensures found { IfOk result (λ done. RowTells (map L.history parts.items) (λ parts. HasFoundAll (row_words parts) done.1)) }
     ensures files { IfOk result (λ done. AcrossTells (map L.history parts.items) (map B.history stores.old.items)
         (map B.history stores.new.items) HoldRecovered) }
     ensures geometry { IfOk result (λ done. done.0.geometry ≡ head.geometry) }
@@ -70,7 +70,7 @@ pub fn recover<L: Lines + Drop, B: Backing>(
     ensures next { IfOk result (λ done. done.0.next ≡ done.1.next) }
 
     ensures bad { IfErr result (λ failed. (number : ℕ) → failed.1 ≡ error.BadEntry number
-        → RowTells (map L.history parts.items) (λ parts. IsLeastBad version_1 (region_words parts) number)) }
+        → RowTells (map L.history parts.items) (λ parts. IsLeastBad version_1 (row_words parts) number)) }
     ensures unwritten { IfErr result (λ failed. (number : ℕ) → failed.1 ≡ error.BadEntry number
         → AreOnlyRead L.history L.room L.device parts.items failed.0.items) }
     ensures untouched { IfErr result (λ failed. (number : ℕ) → failed.1 ≡ error.BadEntry number
@@ -141,14 +141,14 @@ fn recover_parts<L: Lines, B: Backing>(
     requires quiet { RowTells (map L.history parts.old) AreQuiet }
     requires stores { length stores.old ≡ bounds.now.files }
     requires synced { RowTells (map B.history stores.old) AreQuietStores }
-    ensures found { IfOk result (λ found. RowTells (map L.history parts.old) (λ parts. HasFoundAll (region_words parts) found)) }
+    ensures found { IfOk result (λ found. RowTells (map L.history parts.old) (λ parts. HasFoundAll (row_words parts) found)) }
     ensures files { OnOk result (AcrossTells (map L.history parts.old) (map B.history stores.old) (map B.history stores.new) HoldRecovered) }
     ensures rest { IfOk result (λ found. RowTells (map L.history parts.new)
         (IsAtRest version_1 bounds.now.page bounds.now.entries head.now.names found.next)) }
     ensures parts { OnOk result (HasParts version_1 bounds.now.page bounds.now.entries (map L.room parts.new)) }
     ensures limit { IfOk result (λ found. found.next ≤ 2 ^ 60) }
     ensures bad { (number : ℕ) → result ≡ Err (error.BadEntry number)
-        → RowTells (map L.history parts.old) (λ parts. IsLeastBad version_1 (region_words parts) number) }
+        → RowTells (map L.history parts.old) (λ parts. IsLeastBad version_1 (row_words parts) number) }
     ensures unwritten { (number : ℕ) → result ≡ Err (error.BadEntry number) → AreOnlyRead L.history L.room L.device parts.old parts.new }
     ensures untouched { (number : ℕ) → result ≡ Err (error.BadEntry number)
         → AreUntouched (map L.history parts.old) (map B.history stores.old) (map B.history stores.new) }
@@ -202,8 +202,8 @@ fn replay<L: Lines, B: Backing>(
 ) -> Result<(), RecoverError>
     requires parts { 1 + bounds.now.entries ≤ length parts.old }
     requires lines { All (λ part. entry_lines bounds.now.page ≤ (L.room part).lines) (take bounds.now.entries (drop 1 parts.old)) }
-    requires header { RowTells (map L.history parts.old) (λ parts. SaysBounds bounds.now (region_words parts)) }
-    requires groups { RowTells (map L.history parts.old) (λ parts. AreGroups (region_words parts) groups.now) }
+    requires header { RowTells (map L.history parts.old) (λ parts. SaysBounds bounds.now (row_words parts)) }
+    requires groups { RowTells (map L.history parts.old) (λ parts. AreGroups (row_words parts) groups.now) }
     requires stores { length stores.old ≡ bounds.now.files }
     requires quiet { RowTells (map B.history stores.old) AreQuietStores }
     ensures read { AreOnlyRead L.history L.room L.device parts.old parts.new }

@@ -2,9 +2,9 @@ ghost use Rattle.std.specs.Prelude.{◌≡◌, ℕ, ◌+◌, ◌≤◌, length, 
 ghost use Rattle.nv_plain.specs.Layouts.{version_1};
 ghost use Rattle.nv_plain.specs.Pieces.{pages_touched};
 ghost use Rattle.nv_pmem.specs.MemPart.{IsBlank, part_history, part_room};
-ghost use Rattle.nv_pmem.specs.Rows.{RowTells};
+ghost use Rattle.nv_pmem.specs.Rows.{RowTells, AreQuiet};
 ghost use Rattle.nv_store.specs.MemStore.{store_history};
-ghost use Rattle.nv_header.specs.Regions.{AreQuiet, HasParts, IsBlankRow};
+ghost use Rattle.nv_header.specs.Regions.{HasParts, IsBlankRow};
 ghost use Rattle.nv_recover.specs.Standing.{AreQuietStores};
 
 use crate::{RecoverError, Recovered, recover};
@@ -187,7 +187,7 @@ fn lose_power(parts: &mut [MemPart], stores: &mut [MemStore], pick: Pick)
 }
 
 // The parts lose power, and then the stores, and what is left is recovered. Device call `stop` of the recovery and the later
-// ones fail. An error where the parts or the stores aren't as many as the header says.
+// ones fail. An error where the parts are too few or short, or the stores aren't as many as the header says.
 fn recovery(
     alloc: Global,
     parts: Vec<MemPart>,
@@ -202,7 +202,7 @@ fn recovery(
     lose_power(&mut parts, stores, pick);
     let head = read_head(alloc, &mut parts)?;
     check_lines(&parts, &head)?;
-    if parts.len() as u64 != 1 + head.geometry.entries || stores.len() != head.names.len() {
+    if stores.len() != head.names.len() {
         return Err(RecoverError::RegionFault.into());
     }
     fuse.arm(stop);
@@ -230,6 +230,23 @@ fn recovers_three_groups(rt: HostRuntime) -> Result<(), Fail> {
     }
     let mut parts = region.into_parts();
     assert_eq!(rt; read_head(alloc, &mut parts)?.tail, 6);
+    Ok(())
+}
+
+#[test]
+fn leaves_further_parts_as_they_are(rt: HostRuntime) -> Result<(), Fail> {
+    let alloc = rt.alloc();
+    let Bench {
+        fuse,
+        mut parts,
+        mut stores,
+    } = three_groups(alloc)?;
+    parts.push(MemPart::fused(alloc, 5, fuse.copy()?)?)?;
+    let answer = recovery(alloc, parts, &mut stores, &fuse, Pick::New, UNSTOPPED)?;
+    let (region, _found) = answer.map_err(|failed| failed.1)?;
+    let parts = region.into_parts();
+    assert_eq!(rt; parts.len(), 10);
+    assert_eq!(rt; parts[9].lines(), 5);
     Ok(())
 }
 

@@ -12,14 +12,14 @@ use Rattle.nv_plain.specs.Files.{overwritten}
 use Rattle.nv_plain.specs.Images.{entry_of, data_of}
 use Rattle.nv_plain.specs.Pieces.{pages_touched, piece_of}
 use Rattle.nv_pmem.specs.Images.{InEachImage}
-use Rattle.nv_pmem.specs.Part.{Part, blank_line}
+use Rattle.nv_pmem.specs.Part.{Part, blank_line, word_of}
 use Rattle.nv_pmem.specs.Room.{Room, Keeps}
 use Rattle.nv_pmem.specs.Moments.{Tells}
-use Rattle.nv_pmem.specs.Rows.{RowStep, DidSomeRow, RowTells, InEachRowImage}
+use Rattle.nv_pmem.specs.Rows.{RowStep, DidSomeRow, RowTells, InEachRowImage, row_words}
 use Rattle.nv_pmem.specs.Steps.{History, after_step}
 use Rattle.nv_pmem.proofs.RowLaws.{did_some_row_at, lone_tells_row, all_blank, blank_image}
 use Rattle.nv_pmem.proofs.StepLaws.{grown-told, grown-untold, tells_more}
-use Rattle.nv_entry.specs.Group.{IsReady, IsUncommitted, IsWhole, count_at, row_words, words_of}
+use Rattle.nv_entry.specs.Group.{IsReady, IsUncommitted, IsWhole, count_at}
 use Rattle.nv_top.specs.declared.log.Log.{Log}
 use Rattle.nv_top.specs.Opening.{IsBlank}
 use Rattle.nv_top.specs.Log.{IsLog, slots_of, OnlyAt, AllTell, HoldsPiece, HoldsLoneGroup, HasNoCommit, present, with_entry, overlaid}
@@ -123,7 +123,7 @@ all_tell_changed histories i history within both =
 pub with_entry-lone : (bytes : List ℕ) (history : History) (number file at : ℕ) (written : List ℕ) → Tells history (λ now. HoldsLoneGroup now number file at written) → 0 < length history → with_entry bytes (present history) ≡ overwritten bytes at written
 with_entry-lone bytes [] number file at written holds told = absurd (omega arith)
 with_entry-lone bytes (now ∷ past) number file at written holds told =
-    ap (λ e. overwritten bytes e.at (data_of (words_of now) e.size)) holds.fields ∙ ap (overwritten bytes at) holds.bytes_are
+    ap (λ e. overwritten bytes e.at (data_of (word_of now) e.size)) holds.fields ∙ ap (overwritten bytes at) holds.bytes_are
 
 pub overlaid_none : (bytes : List ℕ) → overlaid bytes [] ≡ bytes
 unfolding overlaid
@@ -151,10 +151,10 @@ module _ (old new : List History) (number at : ℕ) (written : List ℕ) (only :
   -- its entries fit pages
   pub sizes_committed : (page : ℕ) → length written ≤ page → All (HoldsPiece page) (take number old) → All (HoldsPiece page) (take (number + 1) new)
   sizes_committed page fits sizes =
-      let size_of : (now : Part) → HoldsLoneGroup now number 0 at written → (entry_of (words_of now)).size ≤ page =
-      λ now held. let size : (entry_of (words_of now)).size ≡ length written = ap (λ e. e.size) held.fields in omega arith in
+      let size_of : (now : Part) → HoldsLoneGroup now number 0 at written → (entry_of (word_of now)).size ≤ page =
+      λ now held. let size : (entry_of (word_of now)).size ≡ length written = ap (λ e. e.size) held.fields in omega arith in
       let last : HoldsPiece page (get_or new number []) =
-      tells_more (get_or new number []) (λ now. HoldsLoneGroup now number 0 at written) (λ now. (entry_of (words_of now)).size ≤ page) size_of holds in
+      tells_more (get_or new number []) (λ now. HoldsLoneGroup now number 0 at written) (λ now. (entry_of (word_of now)).size ≤ page) size_of holds in
       All-same (HoldsPiece page) (take (number + 1) new) (take number new ++ get_or new number [] ∷ []) (take_more new number [] within)
       (All-push (HoldsPiece page) (take number new) (get_or new number [])
       (All-same (HoldsPiece page) (take number new) (take number old) only.before sizes)
@@ -225,7 +225,7 @@ lone_held page first file at bytes now some_page one whole =
           held.fields
           ∙ λ i. record { commit = whole.committed i; file = file; at = starts i; size = size i; count = count i; leader = first };
       bytes_are =
-          ap (data_of (words_of now)) (sym size)
+          ap (data_of (word_of now)) (sym size)
           ∙ held.bytes_are
           ∙ ap (λ n. take piece.size (drop n bytes)) from
           ∙ take_all piece.size bytes (omega arith);

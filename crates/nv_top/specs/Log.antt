@@ -6,12 +6,12 @@ use Rattle.nv_plain.specs.Images.{entry_of, data_of}
 use Rattle.nv_plain.specs.Layouts.{version_1}
 use Rattle.nv_plain.specs.Pieces.{pages_touched}
 use Rattle.nv_pmem.specs.Images.{InEachImage}
-use Rattle.nv_pmem.specs.Part.{Part}
+use Rattle.nv_pmem.specs.Part.{Part, word_of}
 use Rattle.nv_pmem.specs.Room.{Room}
 use Rattle.nv_pmem.specs.Moments.{Tells}
 use Rattle.nv_pmem.specs.Steps.{History}
 use Rattle.nv_pmem.specs.declared.geometry.Geometry.{Geometry}
-use Rattle.nv_entry.specs.Group.{IsReady, words_of}
+use Rattle.nv_entry.specs.Group.{IsReady}
 use Rattle.nv_trace.specs.declared.report.Refusal.{Refusal}
 use Rattle.nv_trace.specs.declared.report.Refusal.TheVariants.{TooFar, TooLong, Again}
 use Rattle.nv_top.specs.declared.log.Log.{Log}
@@ -25,7 +25,7 @@ present (now ∷ past) = now
 -- a file's bytes, overwritten by the entry that a part holds
 abbrev pub with_entry : List ℕ → Part → List ℕ
 with_entry bytes part =
-    overwritten bytes (entry_of (words_of part)).at (data_of (words_of part) (entry_of (words_of part)).size)
+    overwritten bytes (entry_of (word_of part)).at (data_of (word_of part) (entry_of (word_of part)).size)
 
 -- a file's bytes, overwritten by some entries, the first of them first
 unfoldable pub overlaid : List ℕ → List Part → List ℕ
@@ -37,12 +37,12 @@ window_of bytes at count = map (λ k. slice_index bytes k) (range_with_len at co
 
 -- the bytes of a file, where the part of an entry tells, fit a page
 abbrev pub HoldsPiece : ℕ → History → Type 0
-HoldsPiece page history = Tells history (λ now. (entry_of (words_of now)).size ≤ page)
+HoldsPiece page history = Tells history (λ now. (entry_of (word_of now)).size ≤ page)
 
 -- a part reads as the committed entry of a group of one
 pub record HoldsLoneGroup (part : Part) (first file at : ℕ) (bytes : List ℕ) : Type 0 where
-  pub fields : entry_of (words_of part) ≡ record { commit = first + 1; file = file; at = at; size = length bytes; count = 1; leader = first }
-  pub bytes_are : data_of (words_of part) (length bytes) ≡ bytes
+  pub fields : entry_of (word_of part) ≡ record { commit = first + 1; file = file; at = at; size = length bytes; count = 1; leader = first }
+  pub bytes_are : data_of (word_of part) (length bytes) ≡ bytes
 
 -- no image of a part, where it tells, has a commit word
 abbrev pub HasNoCommit : History → Type 0

@@ -18,15 +18,13 @@ pub store_durably-requires-clause-line : goal.store_durably-requires-clause-line
 store_durably-requires-clause-line g c =
     (roomy_line_0 c.args.geometry.page (1 + c.loop-entry.entry) _
     (roomy_part g.L.Lines.room version_1 c.args.geometry.page c.args.geometry.entries c.loop-entry.parts.items (1 + c.loop-entry.entry) c.index_mut.result.now
-    c.loop-entry.invariant.parts
-    (omega (arith, c.loop-entry.invariant.parts.count, length-map c.loop-entry.parts.items g.L.Lines.room)) c.index_mut.ensures.value)).0
+    c.loop-entry.invariant.parts (omega arith) c.index_mut.ensures.value)).0
 
 pub store_durably-requires-clause-spare : goal.store_durably-requires-clause-spare
 store_durably-requires-clause-spare g c =
     (roomy_line_0 c.args.geometry.page (1 + c.loop-entry.entry) _
     (roomy_part g.L.Lines.room version_1 c.args.geometry.page c.args.geometry.entries c.loop-entry.parts.items (1 + c.loop-entry.entry) c.index_mut.result.now
-    c.loop-entry.invariant.parts
-    (omega (arith, c.loop-entry.invariant.parts.count, length-map c.loop-entry.parts.items g.L.Lines.room)) c.index_mut.ensures.value)).1
+    c.loop-entry.invariant.parts (omega arith) c.index_mut.ensures.value)).1
 
 pub returns-in_err-store_durably-clause-begun : goal.returns-in_err-store_durably-clause-begun
 returns-in_err-store_durably-clause-begun g c =

@@ -16,9 +16,7 @@ pub write_header-requires : goal.write_header-requires
 write_header-requires g c = record {
   room =
       roomy_part g.L.Lines.room version_1 c.args.geometry.page c.args.geometry.entries c.clear_commit_words.new.parts.items 0 c.index_mut.result.now
-      c.in_ok-clear_commit_words.ensures.parts
-      (omega (arith, c.in_ok-clear_commit_words.ensures.parts.count, length-map c.clear_commit_words.new.parts.items g.L.Lines.room))
-      c.index_mut.ensures.value;
+      c.in_ok-clear_commit_words.ensures.parts (omega arith) c.index_mut.ensures.value;
 }
 
 pub returns-in_err-clear_commit_words-clause-begun : goal.returns-in_err-clear_commit_words-clause-begun

@@ -1,12 +1,15 @@
-use Rattle.std.proofs.Common.{◌≡◌, ℕ, ◌+◌, ◌<◌, length, get_or}
-use Rattle.nv_plain.specs.Layouts.{version_1}
-use Rattle.nv_pmem.specs.MemPart.{IsBlank}
-use Rattle.nv_pmem.specs.declared.mem_part.MemPart.{MemPart}
-use Rattle.nv_header.specs.Regions.{part_lines}
+use Rattle.std.proofs.Common.{◌≡◌, ◌+◌, ◌≤◌, length}
+use Rattle.nv_header.proofs.BlankParts.{AreBlank}
 use Rattle.nv_header.proofs.region_tests.blank_parts.Given as goal
 
 abbrev pub invariant-loop-entry : goal.invariant-loop-entry
 invariant-loop-entry l = record {
   count : length l.parts.items ≡ 1 + l._entry;
-  each : (i : ℕ) (none : MemPart) → i < length l.parts.items → IsBlank (part_lines version_1 l.geometry.page i) (get_or l.parts.items i none);
+  each : AreBlank l.geometry.page l.geometry.entries l.parts.items;
+}
+
+abbrev pub invariant-loop-lines : goal.invariant-loop-lines
+invariant-loop-lines l = record {
+  count : 1 + l.fn.geometry.entries ≤ length l.parts.items;
+  each : AreBlank l.fn.geometry.page l.fn.geometry.entries l.parts.items;
 }

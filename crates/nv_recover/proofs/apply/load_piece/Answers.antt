@@ -6,10 +6,11 @@ use Rattle.nv_pmem.specs.Moments.{Tells}
 use Rattle.nv_pmem.specs.Steps.{History}
 use Rattle.nv_pmem.proofs.ReadLaws.{only_read_one}
 use Rattle.nv_entry.specs.declared.piece.PieceHead.{PieceHead}
-use Rattle.nv_entry.specs.Group.{words_of}
 use Rattle.nv_entry.specs.Reading.{head_of, IsFilled}
-use Rattle.nv_recover.proofs.Pieces.{slot_piece, slot_too_long, slot_lines, lines_of_page}
+use Rattle.nv_entry.proofs.Slots.{slot_lines}
+use Rattle.nv_recover.proofs.Pieces.{slot_piece, slot_too_long, lines_of_page}
 use Rattle.nv_pmem.specs.Limits.{entry_lines}
+use Rattle.nv_pmem.specs.Part.{word_of}
 use Rattle.nv_recover.proofs.apply.load_piece.Goals as goal
 
 pub load_fitting-requires : goal.load_fitting-requires
@@ -43,7 +44,7 @@ returns-in-Some-clause-piece g c =
     let head = c.in-Some.head in
     let inside : slot < length c.args.parts.now = omega arith in
     let Said : Option PieceHead → History → Type 0 = λ found history. Tells history (λ now. MatchOption found
-    (length c.args.page.now < (entry_of (words_of now)).size)
+    (length c.args.page.now < (entry_of (word_of now)).size)
     (λ head. (head ≡ head_of now) × IsFilled now head.size c.args.page.now c.load_fitting.new.page)) in
     let Short : Option PieceHead → Type 0 = λ found. MatchOption found (Unit {0}) (λ head. head.size ≤ length c.args.page.now) in
     slot_piece row c.args.bounds.now c.args.number (omega (arith, length-map c.args.parts.now g.L.Lines.history)) c.requires.header head c.args.page.now c.load_fitting.new.page
@@ -57,9 +58,9 @@ returns-in-None-clause-bad g c = λ other is.
     let slot = 1 + c.args.number % c.args.bounds.now.entries in
     let inside : slot < length c.args.parts.now = omega arith in
     let Said : Option PieceHead → History → Type 0 = λ found history. Tells history (λ now. MatchOption found
-    (length c.args.page.now < (entry_of (words_of now)).size)
+    (length c.args.page.now < (entry_of (word_of now)).size)
     (λ head. (head ≡ head_of now) × IsFilled now head.size c.args.page.now c.load_fitting.new.page)) in
-    let Long : ℕ → Type 0 = λ limit. Tells (slice_index_or row slot []) (λ now. limit < (entry_of (words_of now)).size) in
+    let Long : ℕ → Type 0 = λ limit. Tells (slice_index_or row slot []) (λ now. limit < (entry_of (word_of now)).size) in
     slot_too_long row c.args.bounds.now c.args.number (omega (arith, length-map c.args.parts.now g.L.Lines.history)) c.requires.header
     c.args.bounds.now.page c.requires.size
     (subst Long c.requires.page

@@ -1,10 +1,9 @@
 use Rattle.std.proofs.Common.{◌≡◌, ◌+◌, List, map, refl, sym, ◌∙◌, subst, arith}
-use Rattle.nv_pmem.specs.Rows.{RowTells}
+use Rattle.nv_pmem.specs.Rows.{RowTells, row_words}
 use Rattle.nv_pmem.specs.Steps as lines
 use Rattle.nv_pmem.specs.Limits.{entry_lines}
 use Rattle.nv_pmem.proofs.ReadLaws.{only_read_none, only_read_more}
-use Rattle.nv_recover.proofs.Pieces.{slots_still}
-use Rattle.nv_entry.specs.Checks.{region_words}
+use Rattle.nv_entry.proofs.Slots.{slots_still}
 use Rattle.nv_plain.specs.Images.{Image}
 use Rattle.nv_plain.specs.Recovered.{with_entry}
 use Rattle.nv_store.specs.Steps.{History}
@@ -38,7 +37,7 @@ write_entry-requires-clause-lines g c =
 
 pub write_entry-requires-clause-number : goal.write_entry-requires-clause-number
 write_entry-requires-clause-number g c =
-    let Are : List lines.History → Type 0 = λ row. RowTells row (λ parts. IsGroupOf (region_words parts) c.args.group) in
+    let Are : List lines.History → Type 0 = λ row. RowTells row (λ parts. IsGroupOf (row_words parts) c.args.group) in
     group_tells_number (map g.L.Lines.history c.loop-number.parts) c.args.group c.loop-number.number
     (omega arith) (omega (arith, c.saturating_add-number-end.ensures))
     (subst Are (sym c.loop-number.invariant.read.histories) c.requires.group)

@@ -1,12 +1,11 @@
 use Rattle.std.proofs.Common.{◌≡◌, ◌+◌, List, map, get_or, refl, sym, ◌∙◌, subst, arith}
 use Rattle.std.specs.Prelude.{fold}
 use Rattle.std.specs.List.{range_with_len}
-use Rattle.nv_pmem.specs.Rows.{RowTells}
+use Rattle.nv_pmem.specs.Rows.{RowTells, row_words}
 use Rattle.nv_pmem.specs.Steps as lines
 use Rattle.nv_pmem.specs.Limits.{entry_lines}
 use Rattle.nv_pmem.proofs.ReadLaws.{only_read_none, only_read_more}
-use Rattle.nv_recover.proofs.Pieces.{slots_still}
-use Rattle.nv_entry.specs.Checks.{region_words}
+use Rattle.nv_entry.proofs.Slots.{slots_still}
 use Rattle.nv_plain.specs.Images.{Image}
 use Rattle.nv_plain.specs.Recovered.{with_entry}
 use Rattle.nv_store.specs.Steps.{History}
@@ -43,7 +42,7 @@ write_group-requires-clause-lines g c =
 pub write_group-requires-clause-group : goal.write_group-requires-clause-group
 write_group-requires-clause-group g c =
     let none : Group = record { leader = 0; count = 0 } in
-    let Are : List lines.History → Type 0 = λ row. RowTells row (λ parts. AreGroups (region_words parts) c.args.groups.now) in
+    let Are : List lines.History → Type 0 = λ row. RowTells row (λ parts. AreGroups (row_words parts) c.args.groups.now) in
     groups_tell_group (map g.L.Lines.history c.loop-group.parts) c.args.groups.now c.loop-group.group-index none (omega arith)
     (subst Are (sym c.loop-group.invariant.read.histories) c.requires.groups)
 

@@ -1,9 +1,8 @@
-use Rattle.std.proofs.Common.{◌≡◌, ◌+◌, ◌<◌, List, length, get_or, map, slice_set, refl, ◌∙◌, subst, arith}
+use Rattle.std.proofs.Common.{◌≡◌, ◌+◌, ◌<◌, List, length, get_or, map, refl, ◌∙◌, subst, arith}
 use Rattle.std.proofs.lemmas.List.{length-map}
 use Rattle.nv_plain.specs.Layouts.{version_1}
-use Rattle.nv_pmem.specs.Rows.{InEachRowImage}
+use Rattle.nv_pmem.specs.Rows.{InEachRowImage, row_words}
 use Rattle.nv_pmem.specs.Steps.{History}
-use Rattle.nv_entry.specs.Checks.{region_words}
 use Rattle.nv_header.proofs.InRow.{same_in_row, same_sum_in_row, roomy_part, has_parts_set, roomy_line_0}
 use Rattle.nv_recover.specs.Alike.{SayTheSame}
 use Rattle.nv_recover.specs.Emptying.{MayBeTrimmed}
@@ -18,7 +17,7 @@ loop-entry-init g c = record {
   moments =
       let row : List History = map g.L.Lines.history c.args.parts.now in
       let most = c.args.bounds.now.tail + c.args.bounds.now.entries in
-      rows_still row (λ was. InEachRowImage (SayTheSame (region_words was)))
+      rows_still row (λ was. InEachRowImage (SayTheSame (row_words was)))
       (rows_same c.args.bounds.now (length row) row row c.requires.quiet c.requires.header (cleared_rows most 0 (length row) row row (cleared_none most row) refl));
   parts = c.requires.parts;
   lines = refl;
@@ -32,7 +31,7 @@ clear_word-requires-clause-line g c =
     let inside : i < length c.loop-entry.parts = omega (arith, c.loop-entry.invariant.parts.count, length-map c.loop-entry.parts g.L.Lines.room) in
     (roomy_line_0 c.args.bounds.now.page i _
     (roomy_part g.L.Lines.room version_1 c.args.bounds.now.page c.args.bounds.now.entries c.loop-entry.parts i (get_or c.loop-entry.parts i c.index-parts-entry.result)
-    c.loop-entry.invariant.parts inside (itself_at c.loop-entry.parts i c.index-parts-entry.result inside))).0
+    c.loop-entry.invariant.parts (omega arith) (itself_at c.loop-entry.parts i c.index-parts-entry.result inside))).0
 
 pub clear_word-requires-clause-spare : goal.clear_word-requires-clause-spare
 clear_word-requires-clause-spare g c =
@@ -40,7 +39,7 @@ clear_word-requires-clause-spare g c =
     let inside : i < length c.loop-entry.parts = omega (arith, c.loop-entry.invariant.parts.count, length-map c.loop-entry.parts g.L.Lines.room) in
     (roomy_line_0 c.args.bounds.now.page i _
     (roomy_part g.L.Lines.room version_1 c.args.bounds.now.page c.args.bounds.now.entries c.loop-entry.parts i (get_or c.loop-entry.parts i c.index-parts-entry.result)
-    c.loop-entry.invariant.parts inside (itself_at c.loop-entry.parts i c.index-parts-entry.result inside))).1
+    c.loop-entry.invariant.parts (omega arith) (itself_at c.loop-entry.parts i c.index-parts-entry.result inside))).1
 
 pub returns-in_err-clear_word-clause-moments : goal.returns-in_err-clear_word-clause-moments
 returns-in_err-clear_word-clause-moments g c =
@@ -108,9 +107,10 @@ returns-clause-cleared g c =
     let new : List History = map g.L.Lines.history c.loop-entry.parts in
     let At : _ → Type 0 = λ count. AreClearedTo (bounds.tail + bounds.entries) count old new in
     let count : c.loop-entry.entry ≡ bounds.entries = omega arith in
-    rows_none_above bounds old new c.loop-entry.invariant.done.tells.1 c.requires.quiet c.requires.header
-    (small_rows (bounds.tail + bounds.entries) bounds.entries old new (subst At count c.loop-entry.invariant.done)
-    (omega (arith, c.requires.parts.count, length-map c.args.parts.now g.L.Lines.history, length-map c.args.parts.now g.L.Lines.room)))
+    rows_none_above bounds (length old) old new
+    (omega (arith, c.requires.parts.count, length-map c.args.parts.now g.L.Lines.history, length-map c.args.parts.now g.L.Lines.room))
+    c.loop-entry.invariant.done.tells.1 c.requires.quiet c.requires.header
+    (small_rows (bounds.tail + bounds.entries) bounds.entries old new (subst At count c.loop-entry.invariant.done))
 
 pub returns-clause-quiet : goal.returns-clause-quiet
 returns-clause-quiet g c =
@@ -119,6 +119,5 @@ returns-clause-quiet g c =
     let new : List History = map g.L.Lines.history c.loop-entry.parts in
     let At : _ → Type 0 = λ count. AreClearedTo (bounds.tail + bounds.entries) count old new in
     let count : c.loop-entry.entry ≡ bounds.entries = omega arith in
-    rows_quiet (bounds.tail + bounds.entries) (1 + bounds.entries) old new c.loop-entry.invariant.done.tells.1 c.requires.quiet
-    (small_rows (bounds.tail + bounds.entries) bounds.entries old new (subst At count c.loop-entry.invariant.done)
-    (omega (arith, c.requires.parts.count, length-map c.args.parts.now g.L.Lines.history, length-map c.args.parts.now g.L.Lines.room)))
+    rows_quiet (bounds.tail + bounds.entries) bounds.entries (length old) old new c.loop-entry.invariant.done.tells.1 c.requires.quiet
+    (small_rows (bounds.tail + bounds.entries) bounds.entries old new (subst At count c.loop-entry.invariant.done))

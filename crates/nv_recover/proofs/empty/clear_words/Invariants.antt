@@ -1,7 +1,6 @@
 use Rattle.std.proofs.Common.{◌≡◌, ◌+◌, map, sum_by}
 use Rattle.nv_plain.specs.Layouts.{version_1}
-use Rattle.nv_pmem.specs.Rows.{RowTells, InEachRowImage}
-use Rattle.nv_entry.specs.Checks.{region_words}
+use Rattle.nv_pmem.specs.Rows.{RowTells, InEachRowImage, row_words}
 use Rattle.nv_header.specs.Regions.{HasParts}
 use Rattle.nv_recover.specs.Alike.{SayTheSame}
 use Rattle.nv_recover.specs.Changes.{ThroughoutRow}
@@ -13,7 +12,7 @@ abbrev pub invariant-loop-entry : goal.invariant-loop-entry
 invariant-loop-entry g l = record {
   done : AreClearedTo (l.bounds.tail + l.bounds.entries) l.entry (map g.L.Lines.history l.fn.parts) (map g.L.Lines.history l.parts);
   moments : RowTells (map g.L.Lines.history l.fn.parts) (λ was.
-      ThroughoutRow (InEachRowImage (SayTheSame (region_words was))) (map g.L.Lines.history l.fn.parts) (map g.L.Lines.history l.parts));
+      ThroughoutRow (InEachRowImage (SayTheSame (row_words was))) (map g.L.Lines.history l.fn.parts) (map g.L.Lines.history l.parts));
   parts : HasParts version_1 l.bounds.page l.bounds.entries (map g.L.Lines.room l.parts);
   lines : map (λ part. (g.L.Lines.room part).lines) l.parts ≡ map (λ part. (g.L.Lines.room part).lines) l.fn.parts;
   cause : sum_by g.L.Lines.fault_count l.parts ≡ sum_by g.L.Lines.fault_count l.fn.parts;

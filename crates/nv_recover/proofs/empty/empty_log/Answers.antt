@@ -2,9 +2,8 @@ use Rattle.std.proofs.Common.{◌≤◌, List, length, get_or, map, slice_set, r
 use Rattle.std.proofs.lemmas.List.{length-map}
 use Rattle.std.proofs.lemmas.Result.{on_ok_weaker}
 use Rattle.nv_plain.specs.Layouts.{version_1}
-use Rattle.nv_pmem.specs.Rows.{InEachRowImage}
+use Rattle.nv_pmem.specs.Rows.{InEachRowImage, row_words}
 use Rattle.nv_pmem.specs.Steps.{History}
-use Rattle.nv_entry.specs.Checks.{region_words}
 use Rattle.nv_header.proofs.InRow.{roomy_part, has_parts_set, stays_settled}
 use Rattle.nv_recover.specs.Alike.{SayTheSame}
 use Rattle.nv_recover.proofs.EmptyParts.{MayBeMoved, moved_moments, stored_tail}
@@ -24,14 +23,14 @@ move_tail-requires-clause-lines g c =
     let parts = c.clear_words.new.parts in
     let inside : 1 ≤ length parts = omega (arith, c.in_ok-clear_words.ensures.parts.count, length-map parts g.L.Lines.room) in
     (roomy_part g.L.Lines.room version_1 c.args.bounds.now.page c.args.bounds.now.entries parts 0 (get_or parts 0 c.index-parts-0.result)
-    c.in_ok-clear_words.ensures.parts inside (itself_at parts 0 c.index-parts-0.result inside)).there
+    c.in_ok-clear_words.ensures.parts (omega arith) (itself_at parts 0 c.index-parts-0.result inside)).there
 
 pub move_tail-requires-clause-spare : goal.move_tail-requires-clause-spare
 move_tail-requires-clause-spare g c =
     let parts = c.clear_words.new.parts in
     let inside : 1 ≤ length parts = omega (arith, c.in_ok-clear_words.ensures.parts.count, length-map parts g.L.Lines.room) in
     let roomy = roomy_part g.L.Lines.room version_1 c.args.bounds.now.page c.args.bounds.now.entries parts 0 (get_or parts 0 c.index-parts-0.result)
-    c.in_ok-clear_words.ensures.parts inside (itself_at parts 0 c.index-parts-0.result inside) in
+    c.in_ok-clear_words.ensures.parts (omega arith) (itself_at parts 0 c.index-parts-0.result inside) in
     omega (arith, roomy.spare 1 (omega arith))
 
 pub returns-clause-moments : goal.returns-clause-moments
@@ -44,7 +43,7 @@ returns-clause-moments g c names reads =
     let old : List History = map g.L.Lines.history c.args.parts.now in
     let between : List History = map g.L.Lines.history parts in
     let new : List History = map g.L.Lines.history (slice_set parts 0 c.move_tail.new.header) in
-    let same = rows_last old between (λ was. InEachRowImage (SayTheSame (region_words was))) cleared.moments in
+    let same = rows_last old between (λ was. InEachRowImage (SayTheSame (row_words was))) cleared.moments in
     same_then bounds.page bounds.entries names c.args.next old between new cleared.tells.0 cleared.moments
     (moving_throughout g.L.Lines.history bounds.page bounds.entries names bounds.tail c.args.next parts was c.move_tail.new.header inside
     (itself_at parts 0 c.index-parts-0.result inside) c.requires.from_tail c.requires.number
@@ -70,7 +69,7 @@ returns-clause-rest g c =
     let old : List History = map g.L.Lines.history c.args.parts.now in
     let between : List History = map g.L.Lines.history parts in
     let more = devices_tell g.L.Lines.history parts 0 was c.move_tail.new.header inside (itself_at parts 0 c.index-parts-0.result inside) (some_tells c.move_tail.ensures.begun) in
-    let same = rows_last old between (λ was. InEachRowImage (SayTheSame (region_words was))) cleared.moments in
+    let same = rows_last old between (λ was. InEachRowImage (SayTheSame (row_words was))) cleared.moments in
     on_both c.move_tail.result
     (λ moved quiet names reads.
     rest_rows g.L.Lines.history bounds.page bounds.entries names bounds.tail c.args.next parts was c.move_tail.new.header c.index-parts-0.result inside refl

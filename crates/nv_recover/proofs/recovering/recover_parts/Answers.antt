@@ -2,12 +2,12 @@ use Rattle.std.proofs.Common.{◌≡◌, ◌^◌, ◌≤◌, List, Err, map, ref
 use Rattle.std.proofs.lemmas.List.{length-map}
 use Rattle.std.proofs.lemmas.Result.{err_from_is_err_and}
 use Rattle.nv_plain.specs.Layouts.{version_1}
-use Rattle.nv_pmem.specs.Rows.{RowTells, InEachRowImage}
+use Rattle.nv_pmem.specs.Rows.{RowTells, InEachRowImage, row_words}
 use Rattle.nv_pmem.specs.Steps as lines
 use Rattle.nv_pmem.proofs.ReadLaws.{only_read_more}
 use Rattle.nv_pmem.proofs.RowLaws.{row_tells_any, row_tells_more}
 use Rattle.nv_store.specs.Steps.{History}
-use Rattle.nv_entry.specs.Checks.{SaysBounds, region_words}
+use Rattle.nv_entry.specs.Checks.{SaysBounds}
 use Rattle.nv_header.specs.Regions.{ReadsAs}
 use Rattle.nv_recover.specs.Applying.{AcrossTells, AcrossThroughout}
 use Rattle.nv_recover.specs.Changes.{ThroughoutRow}
@@ -18,13 +18,13 @@ use Rattle.nv_recover.specs.Standing.{RecoverAlike}
 use Rattle.nv_recover.specs.declared.error.RecoverError.TheVariants.{BadEntry}
 use Rattle.nv_recover.specs.declared.group.Group.{Group}
 use Rattle.nv_recover.proofs.HeadRows.{row_reads_as, row_says_bounds}
-use Rattle.nv_recover.proofs.RoomLaws.{parts_count, parts_lines, parts_slots, parts_still, lines_same}
+use Rattle.nv_recover.proofs.RoomLaws.{parts_count, slots_some, parts_slots, parts_still, lines_same}
 use Rattle.nv_recover.proofs.StandLaws.{both_rows, alike_still, stand_read, stand_emptied, unfit_read, unfit_found, none_tells, found_tells}
 use Rattle.nv_recover.proofs.recovering.recover_parts.Goals as goal
 
 pub find_groups-requires-clause-lines : goal.find_groups-requires-clause-lines
 find_groups-requires-clause-lines g c =
-    parts_lines g.L.Lines.room c.args.bounds.now.page c.args.bounds.now.entries c.args.parts.now c.requires.parts
+    slots_some g.L.Lines.room c.args.bounds.now.page c.args.bounds.now.entries c.args.parts.now c.requires.parts
 
 pub find_groups-requires-clause-header : goal.find_groups-requires-clause-header
 find_groups-requires-clause-header g c =
@@ -81,7 +81,7 @@ pub replay-requires-clause-header : goal.replay-requires-clause-header
 replay-requires-clause-header g c =
     let first : List lines.History = map g.L.Lines.history c.args.parts.now in
     let count = parts_count g.L.Lines.room c.args.bounds.now.page c.args.bounds.now.entries c.args.parts.now c.requires.parts in
-    let Says : List lines.History → Type 0 = λ row. RowTells row (λ parts. SaysBounds c.args.bounds.now (region_words parts)) in
+    let Says : List lines.History → Type 0 = λ row. RowTells row (λ parts. SaysBounds c.args.bounds.now (row_words parts)) in
     subst Says (sym c.find_groups.ensures.read.histories)
     (row_says_bounds version_1.header_lines c.args.head.now c.args.bounds.now first c.requires.bounds (omega (arith, count, length-map c.args.parts.now g.L.Lines.history))
     c.requires.head)
@@ -92,7 +92,7 @@ returns-in_err-replay-clause-bad g c number is =
     let p = err_from_is_err_and c.from_residual-in_err-replay.result c.from_residual-in_err-replay.ensures.1 in
     let same : c.in_err-replay.field-0.0 ≡ BadEntry number = cc (p.1, p.2, is) in
     let Never : List lines.History → Type 0 = λ row. RowTells row (λ parts. ⊥) in
-    row_tells_more first (λ parts. ⊥) (λ parts. IsLeastBad version_1 (region_words parts) number) (λ parts never. absurd never)
+    row_tells_more first (λ parts. ⊥) (λ parts. IsLeastBad version_1 (row_words parts) number) (λ parts never. absurd never)
     (subst Never c.find_groups.ensures.read.histories (c.replay.ensures.bad number (c.in_err-replay.was ∙ ap Err same)))
 
 pub returns-in_err-replay-clause-unwritten : goal.returns-in_err-replay-clause-unwritten
@@ -143,7 +143,7 @@ pub empty_log-requires-clause-header : goal.empty_log-requires-clause-header
 empty_log-requires-clause-header g c =
     let first : List lines.History = map g.L.Lines.history c.args.parts.now in
     let count = parts_count g.L.Lines.room c.args.bounds.now.page c.args.bounds.now.entries c.args.parts.now c.requires.parts in
-    let Says : List lines.History → Type 0 = λ row. RowTells row (λ parts. SaysBounds c.args.bounds.now (region_words parts)) in
+    let Says : List lines.History → Type 0 = λ row. RowTells row (λ parts. SaysBounds c.args.bounds.now (row_words parts)) in
     subst Says (sym (c.replay.ensures.read.histories ∙ c.find_groups.ensures.read.histories))
     (row_says_bounds version_1.header_lines c.args.head.now c.args.bounds.now first c.requires.bounds (omega (arith, count, length-map c.args.parts.now g.L.Lines.history))
     c.requires.head)
@@ -155,7 +155,7 @@ empty_log-requires-clause-none g c =
     let next = c.in_ok-recovered.recovered.next in
     let count = parts_count g.L.Lines.room bounds.page bounds.entries c.args.parts.now c.requires.parts in
     let says = row_says_bounds version_1.header_lines c.args.head.now bounds first c.requires.bounds (omega (arith, count, length-map c.args.parts.now g.L.Lines.history)) c.requires.head in
-    let None : List lines.History → Type 0 = λ row. RowTells row (λ parts. CommitsNoneFrom next (region_words parts)) in
+    let None : List lines.History → Type 0 = λ row. RowTells row (λ parts. CommitsNoneFrom next (row_words parts)) in
     let Next : List Group → Type 0 = λ groups. bounds.tail ≤ end_of bounds.tail groups → end_of bounds.tail groups ≤ 2 ^ 60 → next ≡ end_of bounds.tail groups in
     subst None (sym (c.replay.ensures.read.histories ∙ c.find_groups.ensures.read.histories))
     (none_tells first bounds c.in_ok-groups.groups.items says c.in_ok-groups.ensures.found next
@@ -178,9 +178,9 @@ returns-in_err-empty_log-clause-moments g c =
     let count = parts_count g.L.Lines.room bounds.page bounds.entries c.args.parts.now c.requires.parts in
     let reads = row_reads_as version_1.header_lines c.args.head.now bounds first c.requires.bounds (omega (arith, count, length-map c.args.parts.now g.L.Lines.history)) c.requires.head in
     let still = c.replay.ensures.read.histories ∙ c.find_groups.ensures.read.histories in
-    let Reads : List lines.History → Type 0 = λ row. RowTells row (λ parts. ReadsAs version_1 bounds.page bounds.entries names bounds.tail (region_words parts)) in
+    let Reads : List lines.History → Type 0 = λ row. RowTells row (λ parts. ReadsAs version_1 bounds.page bounds.entries names bounds.tail (row_words parts)) in
     let Says : List lines.History → Type 0 = λ row.
-    RowTells row (λ was. ThroughoutRow (InEachRowImage (SaysTheSameOrEmpty bounds.page bounds.entries names next (region_words was))) row last) in
+    RowTells row (λ was. ThroughoutRow (InEachRowImage (SaysTheSameOrEmpty bounds.page bounds.entries names next (row_words was))) row last) in
     let Alike : List lines.History → Type 0 = λ row. AcrossThroughout row old new RecoverAlike in
     let Hold : List lines.History → Type 0 = λ row. AcrossTells row old new HoldRecovered in
     stand_emptied first old new c.requires.quiet (subst Alike c.find_groups.ensures.read.histories c.replay.ensures.moments)
@@ -212,7 +212,7 @@ returns-clause-rest g c =
     let count = parts_count g.L.Lines.room bounds.page bounds.entries c.args.parts.now c.requires.parts in
     let reads = row_reads_as version_1.header_lines c.args.head.now bounds first c.requires.bounds (omega (arith, count, length-map c.args.parts.now g.L.Lines.history)) c.requires.head in
     let still = c.replay.ensures.read.histories ∙ c.find_groups.ensures.read.histories in
-    let Reads : List lines.History → Type 0 = λ row. RowTells row (λ parts. ReadsAs version_1 bounds.page bounds.entries names bounds.tail (region_words parts)) in
+    let Reads : List lines.History → Type 0 = λ row. RowTells row (λ parts. ReadsAs version_1 bounds.page bounds.entries names bounds.tail (row_words parts)) in
     c.in_ok-empty_log.ensures.rest names (subst Reads (sym still) reads)
 
 pub returns-clause-unfit : goal.returns-clause-unfit
@@ -232,9 +232,9 @@ returns-clause-moments g c =
     let count = parts_count g.L.Lines.room bounds.page bounds.entries c.args.parts.now c.requires.parts in
     let reads = row_reads_as version_1.header_lines c.args.head.now bounds first c.requires.bounds (omega (arith, count, length-map c.args.parts.now g.L.Lines.history)) c.requires.head in
     let still = c.replay.ensures.read.histories ∙ c.find_groups.ensures.read.histories in
-    let Reads : List lines.History → Type 0 = λ row. RowTells row (λ parts. ReadsAs version_1 bounds.page bounds.entries names bounds.tail (region_words parts)) in
+    let Reads : List lines.History → Type 0 = λ row. RowTells row (λ parts. ReadsAs version_1 bounds.page bounds.entries names bounds.tail (row_words parts)) in
     let Says : List lines.History → Type 0 = λ row.
-    RowTells row (λ was. ThroughoutRow (InEachRowImage (SaysTheSameOrEmpty bounds.page bounds.entries names next (region_words was))) row last) in
+    RowTells row (λ was. ThroughoutRow (InEachRowImage (SaysTheSameOrEmpty bounds.page bounds.entries names next (row_words was))) row last) in
     let Alike : List lines.History → Type 0 = λ row. AcrossThroughout row old new RecoverAlike in
     let Hold : List lines.History → Type 0 = λ row. AcrossTells row old new HoldRecovered in
     stand_emptied first old new c.requires.quiet (subst Alike c.find_groups.ensures.read.histories c.replay.ensures.moments)

@@ -37,7 +37,7 @@ has_parts page entries [] count are = absurd (omega arith)
 has_parts page entries (first ∷ rest) count are =
     let parts = first ∷ rest in
     record {
-      count = length-map parts part_room ∙ count;
+      count = omega (arith, length-map parts part_room);
       each = λ i none below.
           let At : Room → Type 0 = IsRoomy (part_lines version_1 page i) in
           let inside : i < length parts = omega arith in

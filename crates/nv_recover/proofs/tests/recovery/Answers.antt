@@ -1,4 +1,4 @@
-use Rattle.std.proofs.Common.{◌≡◌, ◌+◌, ◌++◌, List, length, map, take, drop, refl, sym, ◌∙◌, subst, arith}
+use Rattle.std.proofs.Common.{◌≡◌, ◌++◌, List, length, map, take, drop, refl, sym, ◌∙◌, subst, arith}
 use Rattle.std.specs.List.{AllZip}
 use Rattle.nv_plain.specs.Layouts.{version_1}
 use Rattle.nv_pmem.specs.MemPart.{part_room}
@@ -27,7 +27,6 @@ recover-answer-requires-clause-parts c =
     let Long : List MemPart → Type 0 = λ parts. HasLines version_1 page entries (map (λ part. (part_room part).lines) parts) in
     let Has : List MemPart → Type 0 = λ parts. HasParts version_1 page entries (map part_room parts) in
     let lines = (c.in_ok-check_lines.ensures.exact).0 refl in
-    let count : length read ≡ 1 + entries = omega (arith, read_fits, c.len.ensures, c.if-len-head.false) in
     subst Has (sym read_is)
     (read_has_parts page entries lost read c.lose_power.ensures.spare (subst Kept was_is c.in_ok-head.ensures.rooms)
-    (subst Long (c.deref.ensures.value ∙ read_is) lines) count)
+    (subst Long (c.deref.ensures.value ∙ read_is) lines))

@@ -4,11 +4,11 @@ use Rattle.std.proofs.lemmas.Grind.{common_steps}
 use Rattle.std.proofs.lemmas.List.Elements.{All-head, All-same}
 use Rattle.std.proofs.lemmas.Result.{on_ok_weaker}
 use Rattle.nv_pmem.specs.Moments.{Tells}
-use Rattle.nv_pmem.specs.Rows.{DidSomeRow, RowTells, InEachRowImage}
+use Rattle.nv_pmem.specs.Rows.{DidSomeRow, RowTells, InEachRowImage, row_words}
 use Rattle.nv_pmem.specs.Steps.{History}
 use Rattle.nv_pmem.proofs.RowLaws.{row_tells_lone}
 use Rattle.nv_pmem.proofs.StepLaws.{tells_more}
-use Rattle.nv_entry.specs.Group.{IsReady, IsUncommitted, IsWhole, group_steps, row_words}
+use Rattle.nv_entry.specs.Group.{IsReady, IsUncommitted, IsWhole, group_steps}
 use Rattle.nv_top.specs.Log.{HoldsLoneGroup}
 use Rattle.nv_top.proofs.LogLemmas.{lone_uncommitted, lone_held, told_both}
 use Rattle.nv_top.proofs.log.commit_part.Goals as goal
