@@ -13,7 +13,7 @@ use Rattle.nv_entry.specs.declared.bounds.Bounds.{Bounds}
 use Rattle.nv_entry.specs.Checks.{SaysBounds}
 use Rattle.nv_store.specs.Steps.{History}
 use Rattle.nv_store.specs.Store.{Store, IsWhole}
-use Rattle.nv_recover.specs.Applying.{AcrossTells, AcrossThroughout, ChangesOne, IsGroupOf, IsNumberOf, HasPiece, StaysAlike, OneWritten, LeftOrOneTorn}
+use Rattle.nv_recover.specs.Applying.{AcrossTells, AcrossThroughout, ChangesAtMostOne, IsGroupOf, IsNumberOf, HasPiece, StaysAlike, OneWritten, LeftOrOneTorn}
 use Rattle.nv_recover.specs.Changes.{ThroughoutRow}
 use Rattle.nv_recover.specs.Groups.{AreGroups, numbers_of}
 use Rattle.nv_recover.specs.Standing.{AreQuietStores, RecoverAlike, files_of}
@@ -163,7 +163,7 @@ alike_throughout parts old between new tells first second =
 
 -- an entry after others
 pub entry_throughout : (parts : List lines.History) (old between new : List History) → (AllTell old → AllTell between)
-    → AcrossThroughout parts old between StaysAlike → ChangesOne between new → AcrossTells parts between new StaysAlike → AcrossThroughout parts old new StaysAlike
+    → AcrossThroughout parts old between StaysAlike → ChangesAtMostOne between new → AcrossTells parts between new StaysAlike → AcrossThroughout parts old new StaysAlike
 entry_throughout parts old between new tells first one after =
     alike_throughout parts old between new tells first (across_one parts between new StaysAlike alike_none one after)
 

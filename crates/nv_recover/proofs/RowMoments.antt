@@ -1,22 +1,23 @@
 -- Moments of a row of devices: of a call that changes one of them, and of one call after another.
-use Rattle.std.proofs.Common.{◌≡◌, inl, inr, ℕ, ◌<◌, List, [], ◌∷◌, ◌++◌, All, length, map, slice_set, slice_index_or, refl, sym, ap, ◌∙◌, subst, arith}
+use Rattle.std.proofs.Common.{◌≡◌, ◌↔◌, inl, inr, ℕ, ◌<◌, List, [], ◌∷◌, ◌++◌, All, length, map, slice_set, slice_index_or, refl, sym, ap, ◌∙◌, subst, arith}
 use Rattle.std.proofs.lemmas.List.{length-map, get_or-map, map-set, get_or-set_same, set-get_or, set-set}
 use Rattle.std.proofs.lemmas.List.Elements.{All-head, All-tail, All-weaker}
 use Rattle.nv_plain.specs.Images.{Image}
 use Rattle.nv_pmem.specs.Moments.{Tells, EachMoment}
 use Rattle.nv_pmem.specs.Rows.{RowTells, row_words}
-use Rattle.nv_pmem.specs.Runs.{grown}
+use Rattle.nv_pmem.specs.Runs.{run, grown}
 use Rattle.nv_pmem.specs.Steps as lines
 use Rattle.nv_pmem.proofs.RowLaws.{row_tells_more, row_tells_both}
 use Rattle.nv_pmem.proofs.StepLaws.{tells_more}
 use Rattle.nv_store.specs.Steps.{History}
 use Rattle.nv_store.specs.Store.{Store}
-use Rattle.nv_recover.specs.Applying.{AcrossTells, AcrossThroughout, ChangesOne}
-use Rattle.nv_recover.specs.Changes.{row_after_change, ThroughoutRow}
+use Rattle.nv_recover.specs.Applying.{AcrossTells, AcrossThroughout, ChangesAtMostOne}
+use Rattle.nv_recover.specs.Changes.{Change, row_after_change, ThroughoutRow, Devices, DeviceChange, devices_after_change}
+use Rattle.nv_recover.specs.Changes.DeviceChange.{OfParts, OfStores}
 use Rattle.nv_recover.specs.Emptying.{BothTell}
 use Rattle.nv_recover.specs.Telling.{AllTell}
 use Rattle.nv_recover.proofs.Present.{present, tells_from, tells_at, row_tells_from, row_tells_at, presents, presents_tell, are_now_same}
-use Rattle.nv_recover.proofs.TellLaws.{RowsTell}
+use Rattle.nv_recover.proofs.TellLaws.{RowsTell, tells_set}
 use Rattle.nv_recover.proofs.Throughout.{throughout_none, throughout_one, throughout_then, throughout_last, row_throughout_more}
 
 -- ---- one device
@@ -100,7 +101,7 @@ device_throughout {S = S} history parts i was new R P inside at tell each moment
     (tells_at (slice_index_or row i []) (λ before. EachMoment (R before) (slice_index_or row i []) (history new)) here.state here.is (subst At is moments)))
 
 -- one change at most
-pub one_throughout : (P : List Store → Type 0) (old new : List History) → ChangesOne old new → RowTells old P → RowTells new P → ThroughoutRow P old new
+pub one_throughout : (P : List Store → Type 0) (old new : List History) → ChangesAtMostOne old new → RowTells old P → RowTells new P → ThroughoutRow P old new
 one_throughout P old new (inl same) before after =
     let Through : List History → Type 0 = λ row. ThroughoutRow P old row in
     subst Through (sym same) (throughout_none (λ row. RowTells row P) old before)
@@ -145,7 +146,7 @@ rows_throughout {S} old between new A B C tells front step first second =
     (row_tells_at between (λ then. ThroughoutRow (B then) between new) mid.states mid.are second)))
 
 -- one change more
-pub rows_one_more : (old between new : List History) (R : List Store → List Store → Type 0) → RowTells old (λ was. ThroughoutRow (R was) old between) → ChangesOne between new → RowsTell old new R
+pub rows_one_more : (old between new : List History) (R : List Store → List Store → Type 0) → RowTells old (λ was. ThroughoutRow (R was) old between) → ChangesAtMostOne between new → RowsTell old new R
     → RowTells old (λ was. ThroughoutRow (R was) old new)
 rows_one_more old between new R through one after =
     let Before : List Store → Type 0 = λ was. ThroughoutRow (R was) old between in
@@ -169,7 +170,7 @@ across_throughout parts old between new A B C tells front step first second =
 
 -- one change at most, by what holds before it and after it
 pub across_one : (parts : List lines.History) (old new : List History) (R : Image → List Store → List Store → Type 0) → ((image : Image) (was : List Store) → R image was was)
-    → ChangesOne old new → AcrossTells parts old new R → AcrossThroughout parts old new R
+    → ChangesAtMostOne old new → AcrossTells parts old new R → AcrossThroughout parts old new R
 across_one parts old new R none one after =
     row_tells_from parts (λ these. RowTells old (λ was. ThroughoutRow (R (row_words these) was) old new))
     (λ these are.
@@ -180,3 +181,24 @@ across_one parts old new R none one after =
     (row_tells_from old (R image was) (λ now they. subst (R image was) (are_now_same old was now were they) (none image was)))
     (row_tells_at old (λ was. RowTells new (R image was)) was were
     (row_tells_at parts (λ these. RowTells old (λ was. RowTells new (R (row_words these) was))) these are after))))
+
+-- ---- telling
+
+-- a device tells after a change if it did before it, and only then
+grown_tells : {S : Type 0} (state : S) (history : List S) → (0 < length history) ↔ (0 < length (grown (λ next before. next) state history))
+grown_tells state [] = (λ some. some, λ some. some)
+grown_tells state (now ∷ past) = (λ some. omega arith, λ some. omega arith)
+
+row_still_tells : {S : Type 0} (change : Change S) (row : List (List S)) → AllTell row → AllTell (row_after_change change row)
+row_still_tells change row tell =
+    let before = slice_index_or row change.device [] in
+    (tells_set row change.device (grown (λ next before. next) change.state before) (grown_tells change.state before)).0 tell
+
+pub still_tell : (changes : List DeviceChange) (devices : Devices) → AllTell devices.parts × AllTell devices.stores
+    → AllTell (run devices_after_change changes devices).parts × AllTell (run devices_after_change changes devices).stores
+unfolding run
+still_tell [] devices tell = tell
+still_tell (OfParts change ∷ changes) devices tell =
+    still_tell changes (devices_after_change (OfParts change) devices) (row_still_tells change devices.parts tell.0, tell.1)
+still_tell (OfStores change ∷ changes) devices tell =
+    still_tell changes (devices_after_change (OfStores change) devices) (tell.0, row_still_tells change devices.stores tell.1)

@@ -15,19 +15,20 @@ use Rattle.nv_store.specs.Store.{Store, IsQuiet}
 use Rattle.nv_store.proofs.StoreLaws.{quiet_is_quiet}
 use Rattle.nv_entry.specs.declared.bounds.Bounds.{Bounds}
 use Rattle.nv_entry.specs.Checks.{SaysBounds}
+use Rattle.nv_header.specs.Regions.{ReadsAs}
 use Rattle.nv_recover.specs.Alike.{SayTheSame}
 use Rattle.nv_recover.specs.Applying.{AcrossTells, AcrossThroughout, StaysAlike}
 use Rattle.nv_recover.specs.Changes.{Devices, DevicesTell, ThroughoutRow, ThroughoutDevices}
 use Rattle.nv_recover.specs.Emptying.{CommitsNoneFrom, SaysTheSameOrEmpty}
 use Rattle.nv_recover.specs.Groups.{AreGroups, leaders_of}
-use Rattle.nv_recover.specs.Recovering.{HasFoundAll, HoldRecovered, StandsStill, StandThroughout, UnfitIsUnwritten, end_of}
-use Rattle.nv_recover.specs.Standing.{AreStoreImages, AreQuietStores, LeaveNoMore, RecoverAlike, StandsFor, StillStandFor, files_of}
+use Rattle.nv_recover.specs.Recovering.{HasFoundAll, HoldRecovered, StandThroughout, UnfitIsUnwritten, end_of}
+use Rattle.nv_recover.specs.Standing.{AreStoreImages, AreQuietStores, LeaveNoMore, ReadsAlike, RecoverAlike, StandsStill, TakesPlace, files_of}
 use Rattle.nv_recover.specs.Telling.{AllTell, AreNow}
 use Rattle.nv_recover.specs.declared.group.Group.{Group}
 use Rattle.nv_recover.specs.declared.recovering.Recovered.{Recovered}
 use Rattle.nv_recover.proofs.AlikeLaws.{same_fits, same_recovered, empty_fits, empty_recovered}
 use Rattle.nv_recover.proofs.ApplyLaws.{alike_none, quiet_image}
-use Rattle.nv_recover.proofs.EmptyLaws.{same_words, empty_none}
+use Rattle.nv_recover.proofs.EmptyLaws.{same_words, reads_too, empty_none}
 use Rattle.nv_recover.proofs.Ends.{ends}
 use Rattle.nv_recover.proofs.Entries.{unwritten, quiet_alike}
 use Rattle.nv_recover.proofs.Present.{row_tells_from, row_tells_at, are_now_same}
@@ -42,31 +43,46 @@ quiet_says : (parts : List Part) (image : Image) → AreQuiet parts → IsRowIma
 quiet_says parts image quiet is =
     same_words (row_words parts) image (λ part line word. quiet_line (slice_index_or parts part []) (image part) line word ((quiet.each part).lines line) (is.each part))
 
-same_stands : (image other : Image) (was held : List Store) (bytes : Files) → SayTheSame image other → Fits version_1 image → RecoverAlike image was held → AreStoreImages held bytes
-    → StandsFor other bytes (recovered image (files_of was)).files
-same_stands image other was held bytes same fits alike are = record {
-  fits = same_fits image other same version_1 fits;
-  recovers = ap (λ (all : All). all.files) (same_recovered image other same bytes) ∙ alike bytes are;
+-- headers that say the same but for the tail read alike
+header_alike : (page entries : ℕ) (names : List (List ℕ)) (tail next : ℕ) (image other : Image) → ReadsAs version_1 page entries names tail image → ReadsAs version_1 page entries names next other → ReadsAlike image other
+header_alike page entries names tail next image other reads later = record {
+  readable = later.readable;
+  page = later.page_is ∙ sym reads.page_is;
+  entries = later.entries_is ∙ sym reads.entries_is;
+  names = later.names_are ∙ sym reads.names_are;
 }
 
-stands_read : (parts now : List Part) (was held : List Store) → now ≡ parts → AreQuiet parts → Fits version_1 (row_words parts) → RecoverAlike (row_words parts) was held
-    → StillStandFor now held (recovered (row_words parts) (files_of was)).files
-stands_read parts now was held same quiet fits alike image bytes is are =
-    let Is : List Part → Type 0 = λ these. IsRowImage these image in
-    same_stands (row_words parts) image was held bytes (quiet_says parts image quiet (subst Is same is)) fits alike are
+module _ (page entries : ℕ) (names : List (List ℕ)) (tail : ℕ) where
+  same_stands : (image other : Image) (was held : List Store) (bytes : Files) → ReadsAs version_1 page entries names tail image → SayTheSame image other → RecoverAlike image was held → AreStoreImages held bytes
+      → TakesPlace image (files_of was) other bytes
+  same_stands image other was held bytes reads same alike are = record {
+    header = header_alike page entries names tail tail image other reads (reads_too page entries names tail image other same.header reads);
+    files = λ fits. record {
+      fits = same_fits image other same version_1 fits;
+      recovers = ap (λ (all : All). all.files) (same_recovered image other same bytes) ∙ alike bytes are;
+    };
+  }
 
-stands_emptied : (page entries : ℕ) (names : List (List ℕ)) (next : ℕ) (image : Image) (now : List Part) (was held : List Store) → Fits version_1 image
-    → InEachRowImage (SaysTheSameOrEmpty page entries names next image) now → RecoverAlike image was held → HoldRecovered image was held
-    → StillStandFor now held (recovered image (files_of was)).files
-stands_emptied page entries names next image now was held fits each alike hold other bytes is are = elim (each other is) [
-  | inl same ↦ same_stands image other was held bytes same fits alike are
-  | inr empty ↦
-      let none = empty_none page entries names next other empty in
-      record {
-        fits = empty_fits version_1 other none;
-        recovers = empty_recovered other bytes none ∙ quiet_image held bytes hold.synced are ∙ hold.files;
-      }
-]
+  stands_read : (parts now : List Part) (was held : List Store) → now ≡ parts → AreQuiet parts → ReadsAs version_1 page entries names tail (row_words parts) → RecoverAlike (row_words parts) was held
+      → StandsStill (row_words parts) (files_of was) now held
+  stands_read parts now was held same quiet reads alike image bytes is are =
+      let Is : List Part → Type 0 = λ these. IsRowImage these image in
+      same_stands (row_words parts) image was held bytes reads (quiet_says parts image quiet (subst Is same is)) alike are
+
+  stands_emptied : (next : ℕ) (image : Image) (now : List Part) (was held : List Store) → ReadsAs version_1 page entries names tail image
+      → InEachRowImage (SaysTheSameOrEmpty page entries names next image) now → RecoverAlike image was held → HoldRecovered image was held → StandsStill image (files_of was) now held
+  stands_emptied next image now was held reads each alike hold other bytes is are = elim (each other is) [
+    | inl same ↦ same_stands image other was held bytes reads same alike are
+    | inr empty ↦
+        let none = empty_none page entries names next other empty in
+        record {
+          header = header_alike page entries names tail next image other reads empty.header;
+          files = λ fits. record {
+            fits = empty_fits version_1 other none;
+            recovers = empty_recovered other bytes none ∙ quiet_image held bytes hold.synced are ∙ hold.files;
+          };
+        }
+  ]
 
 -- ---- rows
 
@@ -113,7 +129,7 @@ abbrev pub both_rows : List lines.History → List History → Devices
 both_rows parts stores = record { parts = parts; stores = stores }
 
 -- while the stores are written, and the parts only read
-module _ (parts : List lines.History) (old new : List History) (quiet : RowTells parts AreQuiet) (alike : AcrossThroughout parts old new RecoverAlike) where
+module _ (page entries : ℕ) (names : List (List ℕ)) (tail : ℕ) (parts : List lines.History) (reads : RowTells parts (λ these. ReadsAs version_1 page entries names tail (row_words these))) (quiet : RowTells parts AreQuiet) (old new : List History) (alike : AcrossThroughout parts old new RecoverAlike) where
   stands_written : (these : List Part) (was : List Store) → AreNow parts these → AreNow old was → ThroughoutDevices (StandsStill (row_words these) (files_of was)) (both_rows parts old) (both_rows parts new)
   stands_written these was are were =
       let image = row_words these in
@@ -122,7 +138,9 @@ module _ (parts : List lines.History) (old new : List History) (quiet : RowTells
       row_tells_from parts (λ now. RowTells row (StandsStill image (files_of was) now))
       (λ now they.
       row_tells_more row (RecoverAlike image was) (StandsStill image (files_of was) now)
-      (λ held like fits. stands_read these now was held (are_now_same parts now these they are) (row_tells_at parts AreQuiet these are quiet) fits like)
+      (λ held like.
+      stands_read page entries names tail these now was held (are_now_same parts now these they are) (row_tells_at parts AreQuiet these are quiet)
+      (row_tells_at parts (λ these. ReadsAs version_1 page entries names tail (row_words these)) these are reads) like)
       alikes))
       (row_tells_at old (λ was. ThroughoutRow (RecoverAlike image was) old new) was were
       (row_tells_at parts (λ these. RowTells old (λ was. ThroughoutRow (RecoverAlike (row_words these) was) old new)) these are alike))
@@ -135,10 +153,10 @@ module _ (parts : List lines.History) (old new : List History) (quiet : RowTells
       (λ was were. stands_written these was are were))
 
   -- and then the log is emptied, and the stores stay
-  pub stand_emptied : (page entries : ℕ) (names : List (List ℕ)) (next : ℕ) (parts_now : List lines.History)
+  pub stand_emptied : (next : ℕ) (parts_now : List lines.History)
       → RowTells parts (λ was. ThroughoutRow (InEachRowImage (SaysTheSameOrEmpty page entries names next (row_words was))) parts parts_now)
       → AcrossTells parts old new HoldRecovered → StandThroughout (both_rows parts old) (both_rows parts_now new)
-  stand_emptied page entries names next parts_now says hold =
+  stand_emptied next parts_now says hold =
       row_tells_from parts (λ these. RowTells old (λ was. ThroughoutDevices (StandsStill (row_words these) (files_of was)) (both_rows parts old) (both_rows parts_now new)))
       (λ these are.
       let image = row_words these in
@@ -157,7 +175,9 @@ module _ (parts : List lines.History) (old new : List History) (quiet : RowTells
       row_tells_more row Says (λ now. RowTells new (StandsStill image (files_of was) now))
       (λ now each.
       row_tells_more new (λ held. RecoverAlike image was held × HoldRecovered image was held) (StandsStill image (files_of was) now)
-      (λ held both fits. stands_emptied page entries names next image now was held fits each both.0 both.1)
+      (λ held both.
+      stands_emptied page entries names tail next image now was held
+      (row_tells_at parts (λ these. ReadsAs version_1 page entries names tail (row_words these)) these are reads) each both.0 both.1)
       (row_tells_both new (RecoverAlike image was) (HoldRecovered image was) like held))
       saying)
       (row_tells_at parts (λ was. ThroughoutRow (InEachRowImage (SaysTheSameOrEmpty page entries names next (row_words was))) parts parts_now) these are says))))

@@ -14,7 +14,7 @@ use Rattle.nv_store.specs.Store.{Store, IsWhole}
 use Rattle.nv_store.specs.Torn.{IsTorn, LeftOrTore}
 use Rattle.nv_store.proofs.ImageLaws.{image_of_quiet, seen_is_image}
 use Rattle.nv_store.proofs.StoreLaws.{write_is_torn, quiet_is_quiet}
-use Rattle.nv_recover.specs.Applying.{AcrossTells, ChangesOne, OneWritten, LeftOrOneTorn}
+use Rattle.nv_recover.specs.Applying.{AcrossTells, ChangesAtMostOne, OneWritten, LeftOrOneTorn}
 use Rattle.nv_recover.specs.Standing.{AreStoreImages, LeaveNoMore, files_of}
 use Rattle.nv_recover.specs.Telling.{AllTell, IsNow, AreNow}
 use Rattle.nv_recover.proofs.Present.{now_same, row_tells_from, row_tells_at, presents, presents_tell, presents_long, are_now_same, OneChanged, one_changed}
@@ -108,7 +108,7 @@ module _ {X : Type 0} (history : X → History) (stores : List X) (i : ℕ) (d n
       (All-set Some (map history stores) i (history new) (step (subst At history_was (tell i [] row_inside))) tell)
 
   one_of_row : (history new ≡ history (get_or stores i d)) ⊎ ((state : Store) × (history new ≡ grown (λ next before. next) state (history (get_or stores i d))))
-      → ChangesOne (map history stores) (map history (slice_set stores i new))
+      → ChangesAtMostOne (map history stores) (map history (slice_set stores i new))
   one_of_row (inl same) =
       inl (map-set history stores i new ∙ ap (set (map history stores) i) (same ∙ sym history_was) ∙ set-get_or (map history stores) i [])
   one_of_row (inr one) =
@@ -119,10 +119,10 @@ module _ {X : Type 0} (history : X → History) (stores : List X) (i : ℕ) (d n
 
   -- a call on one store makes one change at most
   pub row_wrote_one : {T E : Type 0} (result : Result T E) (at : ℕ) (bytes : List ℕ) → OnOk result (Did (Write at bytes ∷ []) (history (get_or stores i d)) (history new)) → OnErr result (LeftOrTore at (length bytes) (history (get_or stores i d)) (history new))
-      → ChangesOne (map history stores) (map history (slice_set stores i new))
+      → ChangesAtMostOne (map history stores) (map history (slice_set stores i new))
   row_wrote_one result at bytes done failed = one_of_row (wrote_one result at bytes (history (get_or stores i d)) (history new) done failed)
 
-  pub row_did_one : (step : Step) → Did (step ∷ []) (history (get_or stores i d)) (history new) → ChangesOne (map history stores) (map history (slice_set stores i new))
+  pub row_did_one : (step : Step) → Did (step ∷ []) (history (get_or stores i d)) (history new) → ChangesAtMostOne (map history stores) (map history (slice_set stores i new))
   row_did_one step done = one_of_row (did_one step (history (get_or stores i d)) (history new) done)
 
   pub row_torn : {T E : Type 0} (result : Result T E) (at : ℕ) (bytes : List ℕ) → OnOk result (Did (Write at bytes ∷ []) (history (get_or stores i d)) (history new)) → OnErr result (LeftOrTore at (length bytes) (history (get_or stores i d)) (history new))

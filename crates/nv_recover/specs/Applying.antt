@@ -84,5 +84,5 @@ abbrev pub LeftOrOneTorn : ℕ → ℕ → ℕ → List Store → List Store →
 LeftOrOneTorn file at count was now = (now ≡ was) ⊎ OneTorn file at count was now
 
 -- A call on stores made one change at most: they are as they were, or one of those that tell comes to a further state.
-abbrev pub ChangesOne : List stores.History → List stores.History → Type 0
-ChangesOne old new = (new ≡ old) ⊎ ((change : Change Store) × (new ≡ row_after_change change old))
+abbrev pub ChangesAtMostOne : List stores.History → List stores.History → Type 0
+ChangesAtMostOne old new = (new ≡ old) ⊎ ((change : Change Store) × (new ≡ row_after_change change old))

@@ -8,10 +8,11 @@ use Rattle.nv_pmem.specs.Part.{Part}
 use Rattle.nv_pmem.specs.Rows.{IsRowImage, row_words}
 use Rattle.nv_pmem.specs.Runs.{run}
 use Rattle.nv_store.specs.Store.{Store}
+use Rattle.nv_header.specs.Heads.{IsHead}
 use Rattle.nv_recover.specs.Changes.{Devices, devices_after_change, ThroughoutDevices}
-use Rattle.nv_recover.specs.Recovering.{StandsStill, StandThroughout}
-use Rattle.nv_recover.specs.Standing.{AreStoreImages, files_of}
-use Rattle.nv_recover.specs.Telling.{AreNow}
+use Rattle.nv_recover.specs.Recovering.{StandThroughout}
+use Rattle.nv_recover.specs.Standing.{AreStoreImages, ReadsAlike, StandsStill, files_of}
+use Rattle.nv_recover.specs.Telling.{AllTell, AreNow}
 
 -- What a recovery begins on: an image of a region, and the bytes of its stores.
 pub record Start : Type 0 where
@@ -21,6 +22,10 @@ pub record Start : Type 0 where
 -- the start that quiet parts and stores are
 abbrev pub start_of : List Part → List Store → Start
 start_of parts stores = record { image = row_words parts; bytes = files_of stores }
+
+-- the header of a start can be read
+abbrev pub StartReads : Start → Type 0
+StartReads start = IsHead 1 version_1 version_1.header_lines start.image
 
 -- the image of a start fits
 abbrev pub StartFits : Start → Type 0
@@ -67,7 +72,19 @@ PromisesAreRuns =
     → AreNow old.parts parts → AreNow old.stores stores → StandThroughout old new
     → IsRun (start_of parts stores) old new
 
--- However many stops there are, where the first image fits the last one does.
+-- And the devices that told still tell.
+abbrev pub PromisesKeepTelling : Type 0
+PromisesKeepTelling =
+    (old new : Devices) → AllTell old.parts → AllTell old.stores → StandThroughout old new
+    → AllTell new.parts × AllTell new.stores
+
+-- However many stops there are, the last header reads like the first one, so that it can be recovered.
+abbrev pub StopsKeepHeader : Type 0
+StopsKeepHeader =
+    (first : Start) (later : List Start)
+    → AreStops first later → StartReads first → ReadsAlike first.image (last_of first later).image
+
+-- Where the first image fits the last one does.
 abbrev pub StopsKeepFit : Type 0
 StopsKeepFit = (first : Start) (later : List Start) → AreStops first later → StartFits first → StartFits (last_of first later)
 

@@ -1,16 +1,15 @@
--- Recovering: what recovery gives, and what its devices stand for wherever it ends.
+-- Recovering: what recovery gives, and what its devices stand for at each moment of it.
 use Rattle.std.specs.Prelude.{◌≡◌, ℕ, ◌+◌, List, fold}
 use Rattle.nv_plain.specs.Files.{Files}
 use Rattle.nv_plain.specs.Images.{Image}
 use Rattle.nv_plain.specs.Layouts.{version_1}
 use Rattle.nv_plain.specs.Recovered.{Fits, recovered}
-use Rattle.nv_pmem.specs.Part.{Part}
 use Rattle.nv_pmem.specs.Rows.{RowTells, row_words}
 use Rattle.nv_pmem.specs.Steps as lines
 use Rattle.nv_store.specs.Steps as stores
 use Rattle.nv_store.specs.Store.{Store}
 use Rattle.nv_recover.specs.Changes.{Devices, DevicesTell, ThroughoutDevices}
-use Rattle.nv_recover.specs.Standing.{AreQuietStores, StillStandFor, files_of}
+use Rattle.nv_recover.specs.Standing.{AreQuietStores, StandsStill, files_of}
 use Rattle.nv_recover.specs.declared.group.Group.{Group}
 use Rattle.nv_recover.specs.declared.recovering.Recovered.{Recovered}
 
@@ -38,12 +37,8 @@ pub record AreUntouched (parts : List lines.History) (old new : List stores.Hist
 abbrev pub UnfitIsUnwritten : Devices → Devices → Type 0
 UnfitIsUnwritten old new = RowTells old.parts (λ parts. ¬ Fits version_1 (row_words parts) → new ≡ old)
 
--- If an image fits, whatever a power failure leaves of these parts and stores stands for the files that the image and these
--- bytes stand for.
-abbrev pub StandsStill : Image → Files → List Part → List Store → Type 0
-StandsStill image bytes now held = Fits version_1 image → StillStandFor now held (recovered image bytes).files
-
--- So it is at each moment of a call, where all devices tell, of the image that the parts had and the bytes that the stores had.
+-- At each moment of a call, where all devices tell, whatever a power failure leaves of them can take the place of the image
+-- that the parts had and the bytes that the stores had.
 abbrev pub StandThroughout : Devices → Devices → Type 0
 StandThroughout old new =
     DevicesTell old (λ parts stores. ThroughoutDevices (StandsStill (row_words parts) (files_of stores)) old new)

@@ -1,11 +1,12 @@
 -- Standing: which files the parts of a region and its stores stand for, whatever a power failure leaves of them.
 use Rattle.std.specs.Prelude.{◌≡◌, ℕ, ◌<◌, List, length, map, slice_index_or, All}
 use Rattle.nv_plain.specs.Files.{Files, contents_of}
-use Rattle.nv_plain.specs.Images.{Image}
+use Rattle.nv_plain.specs.Images.{Image, header_of}
 use Rattle.nv_plain.specs.Layouts.{version_1}
 use Rattle.nv_plain.specs.Recovered.{Fits, recovered}
 use Rattle.nv_pmem.specs.Part.{Part}
 use Rattle.nv_pmem.specs.Rows.{IsRowImage}
+use Rattle.nv_header.specs.Heads.{IsHead, first_names}
 use Rattle.nv_store.specs.Images.{IsImage}
 use Rattle.nv_store.specs.Store.{Store, IsQuiet}
 
@@ -31,10 +32,23 @@ pub record StandsFor (image : Image) (bytes files : Files) : Type 0 where
   pub fits : Fits version_1 image
   pub recovers : (recovered image bytes).files ≡ files
 
--- Whatever a power failure leaves of the parts and of the stores stands for these files.
-abbrev pub StillStandFor : List Part → List Store → Files → Type 0
-StillStandFor parts stores files =
-    (image : Image) (bytes : Files) → IsRowImage parts image → AreStoreImages stores bytes → StandsFor image bytes files
+-- The header of the other image can be read, and says what that of the image says, but for the tail.
+pub record ReadsAlike (image other : Image) : Type 0 where
+  pub readable : IsHead 1 version_1 version_1.header_lines other
+  pub page : (header_of other).page ≡ (header_of image).page
+  pub entries : (header_of other).entries ≡ (header_of image).entries
+  pub names : first_names version_1 other (header_of other).files ≡ first_names version_1 image (header_of image).files
+
+-- Another image and other bytes can take the place of these: the header reads alike, so that they can be recovered, and where
+-- the image fits, they stand for the same files.
+pub record TakesPlace (image : Image) (bytes : Files) (other : Image) (others : Files) : Type 0 where
+  pub header : ReadsAlike image other
+  pub files : Fits version_1 image → StandsFor other others (recovered image bytes).files
+
+-- Whatever a power failure leaves of the parts and of the stores can take the place of the image and the bytes.
+abbrev pub StandsStill : Image → Files → List Part → List Store → Type 0
+StandsStill image bytes parts stores =
+    (other : Image) (others : Files) → IsRowImage parts other → AreStoreImages stores others → TakesPlace image bytes other others
 
 -- Whatever a power failure leaves of these stores recovers, by the same log, to the files of other ones.
 abbrev pub RecoverAlike : Image → List Store → List Store → Type 0

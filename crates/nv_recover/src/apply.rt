@@ -12,7 +12,7 @@ ghost use Rattle.nv_store.specs.Causes.{HasWriteCause};
 ghost use Rattle.nv_store.specs.Steps.{Sync, after_step};
 ghost use Rattle.nv_entry.specs.Checks.{SaysBounds};
 ghost use Rattle.nv_entry.specs.Reading.{head_of, IsFilled};
-ghost use Rattle.nv_recover.specs.Applying.{AcrossTells, AcrossThroughout, ChangesOne, IsGroupOf, IsNumberOf, HasPiece, StaysAlike, OneWritten, LeftOrOneTorn};
+ghost use Rattle.nv_recover.specs.Applying.{AcrossTells, AcrossThroughout, ChangesAtMostOne, IsGroupOf, IsNumberOf, HasPiece, StaysAlike, OneWritten, LeftOrOneTorn};
 ghost use Rattle.nv_recover.specs.Causes.{HasRegionCause, HasStoreCause};
 ghost use Rattle.nv_recover.specs.Changes.{ThroughoutRow};
 ghost use Rattle.nv_recover.specs.Groups.{AreGroups};
@@ -107,7 +107,7 @@ fn write_entry<L: Lines, B: Backing>(
     requires number { RowTells (map L.history parts.old) (λ parts. IsNumberOf (row_words parts) number) }
     requires stores { length stores.old ≡ bounds.now.files }
     ensures read { AreOnlyRead L.history L.room L.device parts.old parts.new }
-    ensures one { ChangesOne (map B.history stores.old) (map B.history stores.new) }
+    ensures one { ChangesAtMostOne (map B.history stores.old) (map B.history stores.new) }
     ensures alike { AcrossTells (map L.history parts.old) (map B.history stores.old) (map B.history stores.new) StaysAlike }
     ensures written { OnOk result (AcrossTells (map L.history parts.old) (map B.history stores.old) (map B.history stores.new)
         (λ image was now. files_of now ≡ with_entry image (files_of was) number)) }
@@ -185,7 +185,7 @@ fn write_piece<B: Backing>(
     bytes: &[u8],
 ) -> Result<(), StoreError>
     requires { file < length stores.old }
-    ensures one { ChangesOne (map B.history stores.old) (map B.history stores.new) }
+    ensures one { ChangesAtMostOne (map B.history stores.old) (map B.history stores.new) }
     ensures torn { RowTells (map B.history stores.old) (λ was. RowTells (map B.history stores.new)
         (LeftOrOneTorn file at (length bytes.now) was)) }
     ensures done { OnOk result (RowTells (map B.history stores.old) (λ was. RowTells (map B.history stores.new)

@@ -46,8 +46,9 @@ pub struct Recovered {
 /// there is one store for each of its names. The pieces of the committed groups are written to the stores, which are
 /// synced; then the log is emptied, and goes on with `next`.
 ///
-/// Wherever it ends, whatever a power failure then leaves of the parts and the stores stands for the same files as before:
-/// it may be run again on them, however often it is stopped. The parts come back, in their order.
+/// At each moment, whatever a power failure leaves of the parts and the stores has a header that reads as before, but for
+/// the tail, and stands for the same files: recovery may be run again on it, however often it is stopped. Of an image
+/// that doesn't fit nothing is written. The parts come back, in their order.
 pub fn recover<L: Lines + Drop, B: Backing>(
     alloc: Global,
     head: Head,

@@ -46,9 +46,13 @@ returns-in_err-groups-clause-unfit g c =
 pub returns-in_err-groups-clause-moments : goal.returns-in_err-groups-clause-moments
 returns-in_err-groups-clause-moments g c =
     let first : List lines.History = map g.L.Lines.history c.args.parts.now in
+    let bounds = c.args.bounds.now in
+    let names = c.args.head.now.names in
+    let count = parts_count g.L.Lines.room bounds.page bounds.entries c.args.parts.now c.requires.parts in
+    let reads = row_reads_as version_1.header_lines c.args.head.now bounds first c.requires.bounds (omega (arith, count, length-map c.args.parts.now g.L.Lines.history)) c.requires.head in
     let stores : List History = map g.B.Backing.history c.args.stores.now in
     let At : List lines.History → Type 0 = λ row. StandThroughout (both_rows first stores) (both_rows row stores) in
-    subst At (sym c.find_groups.ensures.read.histories) (stand_read first stores stores c.requires.quiet (alike_still first stores c.requires.synced))
+    subst At (sym c.find_groups.ensures.read.histories) (stand_read bounds.page bounds.entries names bounds.tail first reads c.requires.quiet stores stores (alike_still first stores c.requires.synced))
 
 pub returns-in_err-groups-clause-lines : goal.returns-in_err-groups-clause-lines
 returns-in_err-groups-clause-lines g c =
@@ -62,9 +66,13 @@ returns-in_err-recovered-clause-unfit g c =
 pub returns-in_err-recovered-clause-moments : goal.returns-in_err-recovered-clause-moments
 returns-in_err-recovered-clause-moments g c =
     let first : List lines.History = map g.L.Lines.history c.args.parts.now in
+    let bounds = c.args.bounds.now in
+    let names = c.args.head.now.names in
+    let count = parts_count g.L.Lines.room bounds.page bounds.entries c.args.parts.now c.requires.parts in
+    let reads = row_reads_as version_1.header_lines c.args.head.now bounds first c.requires.bounds (omega (arith, count, length-map c.args.parts.now g.L.Lines.history)) c.requires.head in
     let stores : List History = map g.B.Backing.history c.args.stores.now in
     let At : List lines.History → Type 0 = λ row. StandThroughout (both_rows first stores) (both_rows row stores) in
-    subst At (sym c.find_groups.ensures.read.histories) (stand_read first stores stores c.requires.quiet (alike_still first stores c.requires.synced))
+    subst At (sym c.find_groups.ensures.read.histories) (stand_read bounds.page bounds.entries names bounds.tail first reads c.requires.quiet stores stores (alike_still first stores c.requires.synced))
 
 pub returns-in_err-recovered-clause-lines : goal.returns-in_err-recovered-clause-lines
 returns-in_err-recovered-clause-lines g c =
@@ -120,12 +128,16 @@ returns-in_err-replay-clause-unfit g c =
 pub returns-in_err-replay-clause-moments : goal.returns-in_err-replay-clause-moments
 returns-in_err-replay-clause-moments g c =
     let first : List lines.History = map g.L.Lines.history c.args.parts.now in
+    let bounds = c.args.bounds.now in
+    let names = c.args.head.now.names in
+    let count = parts_count g.L.Lines.room bounds.page bounds.entries c.args.parts.now c.requires.parts in
+    let reads = row_reads_as version_1.header_lines c.args.head.now bounds first c.requires.bounds (omega (arith, count, length-map c.args.parts.now g.L.Lines.history)) c.requires.head in
     let old : List History = map g.B.Backing.history c.args.stores.now in
     let new : List History = map g.B.Backing.history c.replay.new.stores in
     let At : List lines.History → Type 0 = λ row. StandThroughout (both_rows first old) (both_rows row new) in
     let Alike : List lines.History → Type 0 = λ row. AcrossThroughout row old new RecoverAlike in
     subst At (sym (c.replay.ensures.read.histories ∙ c.find_groups.ensures.read.histories))
-    (stand_read first old new c.requires.quiet (subst Alike c.find_groups.ensures.read.histories c.replay.ensures.moments))
+    (stand_read bounds.page bounds.entries names bounds.tail first reads c.requires.quiet old new (subst Alike c.find_groups.ensures.read.histories c.replay.ensures.moments))
 
 pub returns-in_err-replay-clause-lines : goal.returns-in_err-replay-clause-lines
 returns-in_err-replay-clause-lines g c =
@@ -183,8 +195,8 @@ returns-in_err-empty_log-clause-moments g c =
     RowTells row (λ was. ThroughoutRow (InEachRowImage (SaysTheSameOrEmpty bounds.page bounds.entries names next (row_words was))) row last) in
     let Alike : List lines.History → Type 0 = λ row. AcrossThroughout row old new RecoverAlike in
     let Hold : List lines.History → Type 0 = λ row. AcrossTells row old new HoldRecovered in
-    stand_emptied first old new c.requires.quiet (subst Alike c.find_groups.ensures.read.histories c.replay.ensures.moments)
-    bounds.page bounds.entries names next last (subst Says still (c.empty_log.ensures.moments names (subst Reads (sym still) reads)))
+    stand_emptied bounds.page bounds.entries names bounds.tail first reads c.requires.quiet old new
+    (subst Alike c.find_groups.ensures.read.histories c.replay.ensures.moments) next last (subst Says still (c.empty_log.ensures.moments names (subst Reads (sym still) reads)))
     (subst Hold c.find_groups.ensures.read.histories c.in_ok-replay.ensures.done)
 
 pub returns-in_err-empty_log-clause-lines : goal.returns-in_err-empty_log-clause-lines
@@ -237,8 +249,8 @@ returns-clause-moments g c =
     RowTells row (λ was. ThroughoutRow (InEachRowImage (SaysTheSameOrEmpty bounds.page bounds.entries names next (row_words was))) row last) in
     let Alike : List lines.History → Type 0 = λ row. AcrossThroughout row old new RecoverAlike in
     let Hold : List lines.History → Type 0 = λ row. AcrossTells row old new HoldRecovered in
-    stand_emptied first old new c.requires.quiet (subst Alike c.find_groups.ensures.read.histories c.replay.ensures.moments)
-    bounds.page bounds.entries names next last (subst Says still (c.empty_log.ensures.moments names (subst Reads (sym still) reads)))
+    stand_emptied bounds.page bounds.entries names bounds.tail first reads c.requires.quiet old new
+    (subst Alike c.find_groups.ensures.read.histories c.replay.ensures.moments) next last (subst Says still (c.empty_log.ensures.moments names (subst Reads (sym still) reads)))
     (subst Hold c.find_groups.ensures.read.histories c.in_ok-replay.ensures.done)
 
 pub returns-clause-lines : goal.returns-clause-lines
