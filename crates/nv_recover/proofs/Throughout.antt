@@ -5,7 +5,7 @@ use Rattle.nv_pmem.specs.Rows.{RowTells}
 use Rattle.nv_pmem.specs.Runs.{run, Ran}
 use Rattle.nv_pmem.specs.Steps as lines
 use Rattle.nv_pmem.proofs.RowLaws.{row_tells_more}
-use Rattle.nv_pmem.proofs.StepLaws.{did_none, did_did, did_one, Always, always_first, always_last, always_front, always_by_fronts, always_append}
+use Rattle.nv_pmem.proofs.StepLaws.{did_none, did_did, did_one, Always, always_last, always_front, always_by_fronts, always_append}
 use Rattle.nv_store.specs.Steps.{History}
 use Rattle.nv_store.specs.Store.{Store}
 use Rattle.nv_recover.specs.Changes.{Throughout, row_after_change, ThroughoutRow, DevicesTell, devices_after_change, ThroughoutDevices}
@@ -35,10 +35,7 @@ throughout_then {S = S} {after} P {old} a b =
     by_always P (a.steps ++ b.steps) (did_did a.did b.did)
     (always_append after P a.steps b.steps old (along P a) (subst At a.did.states (along P b)))
 
--- What holds throughout holds at first and at last.
-pub throughout_first : {T S : Type 0} {after : T → S → S} (P : S → Type 0) {old new : S} → Throughout after P old new → P old
-throughout_first {after = after} P {old} through = always_first after P through.steps old (along P through)
-
+-- What holds throughout holds at last.
 pub throughout_last : {T S : Type 0} {after : T → S → S} (P : S → Type 0) {old new : S} → Throughout after P old new → P new
 throughout_last {after = after} P {old} through = subst P (sym through.did.states) (always_last after P through.steps old (along P through))
 
