@@ -3,6 +3,8 @@ use Rattle.std.specs.Prelude.{ℕ}
 
 -- the places and limits of one version of the region
 pub record Layout : Type 0 where
+  -- the version, as a header has it
+  pub version : ℕ
   -- lines of the header's part
   pub header_lines : ℕ
   -- line of the first name's record, and lines of each record
@@ -17,6 +19,7 @@ pub record Layout : Type 0 where
 -- version 1
 abbrev pub version_1 : Layout
 version_1 = record {
+  version = 1;
   header_lines = 18;
   name_line = 2;
   lines_per_name = 1;

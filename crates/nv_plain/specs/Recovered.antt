@@ -1,5 +1,5 @@
 -- What an image of a region recovers to.
-use Rattle.std.specs.Prelude.{◌≡◌, ◌≢◌, ℕ, ◌+◌, ◌*◌, ◌%◌, ◌^◌, ◌<◌, ◌≤◌, ◌==◌, min, List, filter, fold}
+use Rattle.std.specs.Prelude.{◌≡◌, ◌≢◌, ℕ, ◌+◌, ◌*◌, ◌%◌, ◌^◌, ◌<◌, ◌≤◌, ◌==◌, if◌then◌else◌, min, List, filter, fold}
 use Rattle.std.specs.List.{flat_map, range_with_len}
 use Rattle.nv_plain.specs.Files.{Files, contents_of, with_contents, overwritten}
 use Rattle.nv_plain.specs.Layouts.{Layout}
@@ -95,3 +95,12 @@ recovered image stores =
       next = next_after image groups;
       files = fold (with_entry image) stores (flat_map (group_numbers image) groups);
     }
+
+-- a region that isn't formatted: its magic is 0
+abbrev pub IsBlank : Image → Type 0
+IsBlank image = (header_of image).magic ≡ 0
+
+-- The files that a region stands for, over what its stores hold: a blank one for just that, and another one for the files that
+-- it recovers to.
+abbrev pub region_files : Image → Files → Files
+region_files image stores = if (header_of image).magic == 0 then stores else (recovered image stores).files

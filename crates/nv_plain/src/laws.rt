@@ -1,3 +1,4 @@
+ghost use Rattle.nv_plain.specs.Faults.{SaturatedCountsRise};
 ghost use Rattle.nv_plain.specs.Histories.{GoesOnFrom, GoesOnLegally};
 ghost use Rattle.nv_plain.specs.Pieces.{WriteIsItsPieces};
 
@@ -11,4 +12,10 @@ pub fn write_is_its_pieces()
 pub fn history_goes_on()
     ensures files { GoesOnFrom }
     ensures legal { GoesOnLegally }
+{}
+
+/// A count that stands still at 2^64 - 1 rises wherever the exact one rises: what is said of the exact sum of several
+/// counts holds of the sum that is answered as a number of 64 bits.
+pub fn saturated_counts_rise()
+    ensures { SaturatedCountsRise }
 {}
