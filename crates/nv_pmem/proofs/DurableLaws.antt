@@ -2,11 +2,10 @@
 use Rattle.std.proofs.Common.{◌≡◌, inl, inr, ℕ, ◌<◌, List, [], ◌∷◌, length, take, zero, suc, refl, ◌∙◌}
 use Rattle.std.proofs.lemmas.Bool.{cases_eq, eq-eqb, ne_eqb}
 use Rattle.nv_plain.specs.Images.{PartImage}
-use Rattle.nv_pmem.specs.Images.{IsImage, InEachImage, IsOldOrStored, IsQuietLine, IsQuiet}
+use Rattle.nv_pmem.specs.Images.{InEachImage, IsOldOrStored, IsQuietLine, IsQuiet}
 use Rattle.nv_pmem.specs.Moments.{Tells, EachMoment}
 use Rattle.nv_pmem.specs.Part.{Part, line_of, word_of}
-use Rattle.nv_pmem.specs.Runs.{run}
-use Rattle.nv_pmem.specs.Steps.{Step, Store, Flush, Fence, History, Did, DidSome, after_step, durable_store}
+use Rattle.nv_pmem.specs.Steps.{Step, History, Did, DidSome, after_step, durable_store}
 use Rattle.nv_pmem.proofs.ImageLaws.{IsStoredBy, ComesFrom, image_comes_from, quiet_image, quiet_after, quiet_still}
 use Rattle.nv_pmem.proofs.LineLaws.{word_of-after_steps}
 use Rattle.nv_pmem.proofs.StepLaws.{after_steps, always_by_fronts, each_moment, tells_after}
@@ -42,25 +41,6 @@ stores_one_word was steps line word value image only from = record {
         elim other [ inl apart ↦ absurd (apart here.0) | inr apart ↦ absurd (apart here.1) ]
   ];
 }
-
-one_store : (line word value i j found : ℕ) → IsStoredBy (Store line word value ∷ []) i j found → (i ≡ line) × (j ≡ word) × (found ≡ value)
-one_store line word value i j found (inl here) = here
-one_store line word value i j found (inr none) = absurd none
-
--- A store leaves the images of before, but that its word may have its value.
-pub store_adds_one_word : (part : Part) (line word value : ℕ) (image : PartImage) → IsImage (after_step (Store line word value) part) image → IsOldOrStored part line word value image
-unfolding run
-store_adds_one_word part line word value image is =
-    let steps = Store line word value ∷ [] in
-    stores_one_word part steps line word value image (one_store line word value) (image_comes_from steps part image is)
-
--- A line that is flushed and fenced is left as loads give it.
-pub flush_and_fence_settle : (part : Part) (line word : ℕ) (image : PartImage) → IsImage (after_step Fence (after_step (Flush line) part)) image → image line word ≡ word_of part line word
-unfolding run
-flush_and_fence_settle part line word image is =
-    let steps = Flush line ∷ Fence ∷ [] in
-    quiet_image (after_steps steps part) image line word (quiet_after line steps part (rw (eq-eqb line line refl))) is
-    ∙ word_of-after_steps steps part line word tt
 
 old_or_stored : (was : Part) (line word value count : ℕ) → InEachImage (IsOldOrStored was line word value) (after_steps (take count (durable_store line word value)) was)
 old_or_stored was line word value count image is =

@@ -8,6 +8,8 @@ use Rattle.nv_pmem.specs.Part.{Line, Part, blank_line, newest, word_at, with_wor
 use Rattle.nv_pmem.specs.Images.{MayLeave, IsImage, InEachImage, IsQuietLine}
 use Rattle.nv_pmem.specs.Runs.{run}
 use Rattle.nv_pmem.specs.Steps.{Step, Store, Flush, Fence, after_step}
+use Rattle.nv_pmem.specs.Stored.{LeaveLine}
+pub use Rattle.nv_pmem.specs.Stored.{IsStored, IsStoredBy, ComesFrom}
 use Rattle.nv_pmem.proofs.StepLaws.{after_steps}
 use Rattle.nv_pmem.proofs.LineLaws.{last_of, line_of-set_same, line_of-set_other, line_of-map, fenced-blank, word_at-with_word_same, word_at-with_word_other}
 
@@ -108,23 +110,6 @@ may_leave_quiet line words word quiet (count, there, are) =
 -- What a load gives is one of the images.
 pub image_of_now : (part : Part) → IsImage part (word_of part)
 image_of_now part = record { lines = λ line. may_leave_newest (line_of part line) }
-
--- a step stores this value in this word
-abbrev pub IsStored : Step → ℕ → ℕ → ℕ → Type 0
-IsStored (Store line word value) i j found = (i ≡ line) × (j ≡ word) × (found ≡ value)
-IsStored (Flush line) i j found = ⊥
-IsStored Fence i j found = ⊥
-
--- one of some steps does
-abbrev pub IsStoredBy : List Step → ℕ → ℕ → ℕ → Type 0
-IsStoredBy [] i j found = ⊥
-IsStoredBy (step ∷ steps) i j found = IsStored step i j found ⊎ IsStoredBy steps i j found
-
--- Each word of an image is as in an image of another state, or was stored since by one of some steps.
-pub record ComesFrom (part : Part) (steps : List Step) (image : PartImage) : Type 0 where
-  pub before : PartImage
-  pub is : IsImage part before
-  pub words : (i j : ℕ) → (image i j ≡ before i j) ⊎ IsStoredBy steps i j (image i j)
 
 -- an image of which one line is another
 unfoldable with_line : PartImage → ℕ → (ℕ → ℕ) → PartImage
@@ -233,6 +218,17 @@ image_comes_from (step ∷ steps) part image is =
       is = earlier.is;
       words = λ i j. goes_back step steps i j (image i j) (later.before i j) (earlier.before i j) (later.words i j) (earlier.words i j);
     }
+
+-- Steps that store nothing leave no other image than before.
+pub image_after_nothing : (steps : List Step) (part : Part) (image : PartImage) → ((line : ℕ) → LeaveLine steps line) → IsImage (after_steps steps part) image → IsImage part image
+unfolding run
+image_after_nothing [] part image none is = is
+image_after_nothing (Store line word value ∷ steps) part image none is = absurd (none line word value (inl (refl, refl, refl)))
+image_after_nothing (Flush line ∷ steps) part image none is =
+    image_after_flush part line image
+    (image_after_nothing steps (after_step (Flush line) part) image (λ i j found later. none i j found (inr later)) is)
+image_after_nothing (Fence ∷ steps) part image none is =
+    image_after_fence part image (image_after_nothing steps (after_step Fence part) image (λ i j found later. none i j found (inr later)) is)
 
 -- What each image has of a word it has after steps that store only such values to it.
 pub each_word_after : (steps : List Step) (part : Part) (i j : ℕ) (P : ℕ → Type 0) → InEachImage (λ image. P (image i j)) part → ((found : ℕ) → IsStoredBy steps i j found → P found) → InEachImage (λ image. P (image i j)) (after_steps steps part)
@@ -371,3 +367,39 @@ pub quiet_still : (i : ℕ) (steps : List Step) (part : Part) → mark_after_all
 quiet_still i steps part marks quiet =
     let At : Mark → Type 0 = λ mark. HasMark mark (line_of (after_steps steps part) i) in
     subst At marks (has_mark i steps part quiet_line quiet)
+
+-- A mark stays quiet where nothing is stored in the line,
+mark_stays : (i : ℕ) (steps : List Step) → LeaveLine steps i → mark_after_all i steps quiet_line ≡ quiet_line
+mark_stays i [] none = refl
+mark_stays i (Store line word value ∷ steps) none = elim (cases_eq i line) [
+  | inl same ↦ absurd (none word value (inl (same, refl, refl)))
+  | inr differs ↦ rw (ne_eqb i line differs) (mark_stays i steps (λ j found later. none j found (inr later)))
+]
+mark_stays i (Flush line ∷ steps) none = elim (cases_eq i line) [
+  | inl same ↦ rw (eq-eqb i line same) (mark_stays i steps (λ j found later. none j found (inr later)))
+  | inr differs ↦ rw (ne_eqb i line differs) (mark_stays i steps (λ j found later. none j found (inr later)))
+]
+mark_stays i (Fence ∷ steps) none = mark_stays i steps (λ j found later. none j found (inr later))
+
+-- and that of a flushed line comes to be quiet by a fence.
+mark_settles : (i : ℕ) (between : List Step) → LeaveLine between i → mark_after_all i (between ++ Fence ∷ []) noted_line ≡ quiet_line
+mark_settles i [] none = refl
+mark_settles i (Store line word value ∷ steps) none = elim (cases_eq i line) [
+  | inl same ↦ absurd (none word value (inl (same, refl, refl)))
+  | inr differs ↦ rw (ne_eqb i line differs, mark_after_all) (mark_settles i steps (λ j found later. none j found (inr later)))
+]
+mark_settles i (Flush line ∷ steps) none = elim (cases_eq i line) [
+  | inl same ↦ rw (eq-eqb i line same, mark_after_all) (mark_settles i steps (λ j found later. none j found (inr later)))
+  | inr differs ↦ rw (ne_eqb i line differs, mark_after_all) (mark_settles i steps (λ j found later. none j found (inr later)))
+]
+mark_settles i (Fence ∷ steps) none =
+    mark_after_all-append i steps (Fence ∷ []) quiet_line ∙ ap fenced_more (mark_stays i steps (λ j found later. none j found (inr later)))
+
+-- So a line is quiet after a flush and then a fence, with no store in it between them,
+pub quiet_settled_line : (line : ℕ) (between : List Step) (part : Part) → LeaveLine between line → IsQuietLine (line_of (after_steps (Flush line ∷ (between ++ Fence ∷ [])) part) line)
+quiet_settled_line line between part none =
+    quiet_after line (Flush line ∷ (between ++ Fence ∷ [])) part (rw (eq-eqb line line refl, mark_after_all) (mark_settles line between none))
+
+-- and stays so until there is one.
+pub quiet_stays : (line : ℕ) (steps : List Step) (part : Part) → LeaveLine steps line → IsQuietLine (line_of part line) → IsQuietLine (line_of (after_steps steps part) line)
+quiet_stays line steps part none quiet = quiet_still line steps part (mark_stays line steps none) quiet

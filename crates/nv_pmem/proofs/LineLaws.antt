@@ -5,6 +5,7 @@ use Rattle.std.proofs.lemmas.List.{length-set, length-map, length-replicate, get
 use Rattle.nv_pmem.specs.Part.{Line, Part, blank_line, newest, word_at, with_word, stored, flushed, fenced_at, fenced, line_of, word_of}
 use Rattle.nv_pmem.specs.Runs.{run}
 use Rattle.nv_pmem.specs.Steps.{Step, Store, Flush, Fence, after_step}
+use Rattle.nv_pmem.specs.Stored.{LeaveWord}
 use Rattle.nv_pmem.proofs.StepLaws.{after_steps}
 
 newest-stored : (word value : ℕ) (line : Line) → newest (stored word value line) ≡ with_word (newest line) word value
@@ -202,3 +203,36 @@ word_of-after_steps (Flush line ∷ steps) part i j inside =
 word_of-after_steps (Fence ∷ steps) part i j inside =
     word_of-after_steps steps (after_step Fence part) i j (still_inside Fence steps part inside)
     ∙ ap (overlaid steps i j) (word_of-after_fence part i j)
+
+-- ---- words that no step stores
+
+-- a store leaves each other word
+kept_by_store : (part : Part) (line word value i j : ℕ) → ¬ ((i ≡ line) × (j ≡ word)) → word_of (after_step (Store line word value) part) i j ≡ word_of part i j
+kept_by_store part line word value i j other = elim (cases_lt line (length part)) [
+  | inl inside ↦
+      word_of-after_store part line word value i j inside
+      ∙ elim (cases_eq i line) [
+        | inl same ↦ elim (cases_eq j word) [
+          | inl at ↦ absurd (other (same, at))
+          | inr apart ↦ rw (ne_eqb j word apart, eq-eqb i line same) refl
+        ]
+        | inr differs ↦ rw (ne_eqb i line differs) refl
+      ]
+  | inr past ↦ ap (λ these. word_of these i j) (set_past part line (stored word value (line_of part line)) past)
+]
+
+-- and steps that don't store a word leave it
+pub kept_by_steps : (steps : List Step) (part : Part) (i j : ℕ) → LeaveWord steps i j → word_of (after_steps steps part) i j ≡ word_of part i j
+unfolding run
+kept_by_steps [] part i j none = refl
+kept_by_steps (Store line word value ∷ steps) part i j none =
+    kept_by_steps steps (after_step (Store line word value) part) i j (λ found later. none found (inr later))
+    ∙ kept_by_store part line word value i j (λ both. none value (inl (both.0, both.1, refl)))
+kept_by_steps (Flush line ∷ steps) part i j none =
+    kept_by_steps steps (after_step (Flush line) part) i j (λ found later. none found (inr later)) ∙ word_of-after_flush part line i j
+kept_by_steps (Fence ∷ steps) part i j none =
+    kept_by_steps steps (after_step Fence part) i j (λ found later. none found (inr later)) ∙ word_of-after_fence part i j
+
+pub stored_is_loaded : (part : Part) (line word value : ℕ) → line < length part → word_of (after_step (Store line word value) part) line word ≡ value
+stored_is_loaded part line word value inside =
+    word_of-after_store part line word value line word inside ∙ rw (eq-eqb line line refl, eq-eqb word word refl) refl

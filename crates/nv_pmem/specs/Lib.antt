@@ -3,6 +3,7 @@ pub mod Moments
 pub mod Runs
 pub mod Steps
 pub mod Images
+pub mod Stored
 pub mod Rows
 pub mod Laws
 pub mod Room

@@ -1,12 +1,22 @@
-ghost use Rattle.nv_pmem.specs.Laws.{LoadsAreAnImage, StoreAddsOneWord, FlushAddsNothing, FenceAddsNothing, FlushAndFenceSettle, QuietHasOneImage};
+ghost use Rattle.nv_pmem.specs.Laws.{StoredIsLoaded, OthersAreKept, StepsKeepLines, BlankIsZeros};
+ghost use Rattle.nv_pmem.specs.Laws.{LoadsAreAnImage, StepsAddTheirStores, NoStoreAddsNothing, QuietHasOneImage, FlushAndFenceSettle, QuietStays, BlankIsQuiet};
 
-/// What a power failure may leave of a part, as the calls of [`Lines`](crate::Lines) go on: all that a proof above this
-/// crate may use of it.
+/// What loads of a part give, as the calls of [`Lines`](crate::Lines) go on.
+pub fn loads_follow_calls()
+    ensures stored { StoredIsLoaded }
+    ensures kept { OthersAreKept }
+    ensures lines { StepsKeepLines }
+    ensures blank { BlankIsZeros }
+{}
+
+/// What a power failure may leave of a part, as the calls go on. With [`loads_follow_calls`] it is all that is known above
+/// this crate of what a line holds: no proof there looks into its contents.
 pub fn images_follow_calls()
     ensures now { LoadsAreAnImage }
-    ensures store { StoreAddsOneWord }
-    ensures flush { FlushAddsNothing }
-    ensures fence { FenceAddsNothing }
-    ensures settled { FlushAndFenceSettle }
+    ensures stores { StepsAddTheirStores }
+    ensures nothing { NoStoreAddsNothing }
     ensures quiet { QuietHasOneImage }
+    ensures settled { FlushAndFenceSettle }
+    ensures stays { QuietStays }
+    ensures blank { BlankIsQuiet }
 {}
