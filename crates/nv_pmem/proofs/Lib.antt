@@ -6,3 +6,4 @@ pub mod Rooms
 pub mod RowLaws
 pub mod StepLaws
 pub mod ReadLaws
+pub mod PastLaws

@@ -20,6 +20,7 @@ pub use health::{Health, Refused};
 pub use laws::{images_follow_calls, loads_follow_calls};
 pub use lines::{LineFault, Lines, RegionFault};
 pub use mem_part::MemPart;
+pub use past::Past;
 pub use picker::{Pick, Picker};
 
 #[cfg(test)]

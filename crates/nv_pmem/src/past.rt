@@ -1,26 +1,25 @@
-ghost use Rattle.std.specs.Prelude.{◌≡◌, [], ◌∷◌};
+ghost use Rattle.std.specs.Prelude.{◌≡◌, List, [], ◌∷◌};
 ghost use Rattle.std.specs.Borrow.{ftrue};
-ghost use Rattle.nv_pmem.specs.Steps.{History};
 
-use crate::mem_line::MemLine;
 use std::marker::{Model, PhantomData};
 
-/// The states that some lines have had, the latest first. It takes no bytes: only clauses read it.
+/// What a device in memory has been, the latest first. It takes no bytes: only clauses read it.
 #[derive(Drop)]
-pub(crate) struct Past {
-    marker: PhantomData<u8>,
-    pub ghost states: { History },
+pub struct Past<T> {
+    marker: PhantomData<T>,
+    pub ghost states: { List T },
 }
 
-impl Model for Past {
+impl<T> Model for Past<T> {
     ghost also_owns = { λ _. ftrue };
 }
 
 // It owns nothing.
-unsafe impl Send for Past {}
+unsafe impl<T: Send> Send for Past<T> {}
 
-impl Past {
-    pub(crate) fn new() -> Self
+impl<T> Past<T> {
+    /// The past of a new device.
+    pub fn new() -> Self
         ensures { result.states ≡ [] }
     {
         Past {
@@ -28,8 +27,8 @@ impl Past {
         }
     }
 
-    /// Notes the state that the lines are in.
-    pub(crate) fn note(&mut self, _lines: &[MemLine])
-        ensures { self.new.states ≡ _lines.now ∷ self.old.states }
+    /// Notes what the device is now.
+    pub fn note(&mut self, _now: &T)
+        ensures { self.new.states ≡ _now.now ∷ self.old.states }
     {}
 }

@@ -15,7 +15,7 @@ use std::alloc::Global;
 #[derive(Drop)]
 pub(crate) struct Told {
     lines: Vec<MemLine>,
-    past: Past,
+    past: Past<Vec<MemLine>>,
 }
 
 impl Told {

@@ -5,7 +5,6 @@ mod backing;
 mod disk;
 mod laws;
 mod mem_store;
-mod past;
 mod told;
 
 pub use backing::{Backing, StoreError, StoreFault};

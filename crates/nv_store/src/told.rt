@@ -8,16 +8,15 @@ ghost use Rattle.nv_store.specs.Picked.{picked_image, draws_after};
 ghost use Rattle.nv_store.specs.Disk.{store_of};
 
 use crate::disk::Disk;
-use crate::past::Past;
 use nv_plain::NoMemory;
-use nv_pmem::Picker;
+use nv_pmem::{Past, Picker};
 use std::alloc::Global;
 
 /// A disk in memory, and the states that it has had.
 #[derive(Drop)]
 pub(crate) struct Told {
     disk: Disk,
-    past: Past,
+    past: Past<Disk>,
 }
 
 impl Told {

@@ -1,6 +1,7 @@
-use Rattle.std.proofs.Common.{◌≡◌, arith}
+use Rattle.std.proofs.Common.{◌≡◌, replicate, ap, ◌∙◌, arith}
 use Rattle.std.proofs.lemmas.List.{replicate-append-replicate}
 use Rattle.nv_pmem.specs.Part.{blank_line}
+use Rattle.nv_pmem.proofs.PastLaws.{none_before}
 use Rattle.nv_pmem.proofs.told.Told.blank.Goals as goal
 
 pub loop-preserved : goal.loop-preserved
@@ -9,4 +10,4 @@ loop-preserved c = rw (← replicate-append-replicate c.loop.counter 1 blank_lin
 pub returns : goal.returns
 returns c =
     let n : c.loop.counter ≡ c.args.count = omega arith in
-    cc
+    none_before (λ lines. lines.items) (c.loop.invariant ∙ ap (λ count. replicate count blank_line) n) c.new.ensures

@@ -4,6 +4,7 @@ use Rattle.std.proofs.lemmas.List.Edits.{map_over_more}
 use Rattle.std.specs.List.{refill}
 use Rattle.nv_pmem.specs.Part.{Part, fenced}
 use Rattle.nv_pmem.proofs.Rooms.{keeps_fenced, frees_fenced}
+use Rattle.nv_pmem.proofs.PastLaws.{noted_before}
 use Rattle.nv_pmem.proofs.told.Told.fence.Goals as goal
 
 -- the loop's lines, put back into their vector after the last
@@ -23,4 +24,4 @@ pub returns : goal.returns
 returns c =
     let part = c.args.self.now.lines.items in
     let after = all_fenced part c.loop-line.line-items c.loop-line.line-index c.args.self.now.lines.len (rw c.deref_mut-line-items.ensures.value at c.loop-line.invariant) (rw c.deref_mut-line-items.ensures.value at c.loop-line-test.false) (omega arith) in
-    record { history = cc (c.note.ensures, c.deref.ensures.value); room = rw after (keeps_fenced part); freed = rw after (frees_fenced part) }
+    record { history = noted_before (λ lines. lines.items) after c.note.ensures; room = rw after (keeps_fenced part); freed = rw after (frees_fenced part) }

@@ -1,6 +1,7 @@
 use Rattle.std.proofs.Common.{refl, sym, ap, ◌∙◌, arith}
 use Rattle.nv_pmem.specs.Picked.{picked_line, picked}
 use Rattle.nv_pmem.proofs.PickedLaws.{picks_more, picks_all, picks_all_draws}
+use Rattle.nv_pmem.proofs.PastLaws.{noted_before}
 use Rattle.nv_pmem.proofs.told.Told.lose_power.Goals as goal
 
 pub loop-line-init : goal.loop-line-init
@@ -20,6 +21,6 @@ returns c =
     let over = rw c.deref_mut-line-items.ensures.value at c.loop-line-test.false in
     let after = picks_all c.args.picker.now part c.loop-line.line-index c.args.self.now.lines.len c.loop-line.line-items c.loop-line.picker over (omega arith) so_far in
     record {
-      history = cc (after, c.note.ensures, c.deref.ensures.value);
+      history = noted_before (λ lines. lines.items) after c.note.ensures;
       draws = picks_all_draws c.args.picker.now part c.loop-line.line-index c.loop-line.line-items c.loop-line.picker over so_far;
     }
