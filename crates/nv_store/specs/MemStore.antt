@@ -19,7 +19,7 @@ store_history store = told_history store.told
 abbrev pub store_now : MemStore → Store
 store_now store = store_of store.told.disk
 
--- how often it has failed
+-- how often it has failed, up to 2^64 - 1
 abbrev pub store_faults : MemStore → ℕ
 store_faults store = store.health
 

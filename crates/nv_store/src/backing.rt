@@ -34,7 +34,8 @@ pub enum StoreError {
 }
 
 /// One file of a disk with a page cache: a growing list of bytes. A write is seen by reads at once, and is durable after
-/// the next `sync`. A power failure before that may leave any bytes in its range, and any length from the durable one on.
+/// the next `sync`. A power failure before that may leave any bytes in its range, and any length from the durable to the
+/// present one.
 pub trait Backing {
     /// Which device this is. No call changes it.
     ghost device: { Self → ℕ };
@@ -42,7 +43,7 @@ pub trait Backing {
     /// The states that it has had, the present one first; empty where it doesn't tell.
     ghost history: { Self → History };
 
-    /// How often it has failed. The count stands still at 2^64 - 1.
+    /// How often it has failed, up to 2^64 - 1, where the count stands still.
     ghost fault_count: { Self → ℕ };
 
     /// How many bytes reads give.
@@ -53,12 +54,13 @@ pub trait Backing {
         ensures device { device self.new ≡ device self.old };
 
     /// Reads from an offset on: fills all of the buffer that lies below the length, and answers how many bytes that is.
-    /// The rest of the buffer is unchanged. After a fault the buffer may hold anything.
+    /// The rest of the buffer is unchanged, over any store. After a fault the buffer may hold anything.
     fn pread(&mut self, at: u64, buf: &mut [u8]) -> Result<u64, StoreFault>
         ensures count { IfOk result (λ count. Tells (history self.old) (λ store.
             count ≡ length (bytes_at store.seen at (length buf.old)))) }
         ensures bytes { IfOk result (λ count. Tells (history self.old) (λ store.
             buf.new ≡ bytes_at store.seen at (length buf.old) ++ drop count buf.old)) }
+        ensures rest { IfOk result (λ count. drop count buf.new ≡ drop count buf.old) }
         ensures limit { IfOk result (λ count. count ≤ length buf.old) }
         ensures history { history self.new ≡ history self.old }
         ensures cause { HasCause (fault_count self.old) (fault_count self.new) result }
@@ -79,7 +81,7 @@ pub trait Backing {
         ensures cause { HasCause (fault_count self.old) (fault_count self.new) result }
         ensures device { device self.new ≡ device self.old };
 
-    /// How often it has failed; at most 2^64 - 1.
+    /// How often it has failed, up to 2^64 - 1.
     fn faults(&self) -> u64
         ensures { result ≡ fault_count self.now };
 

@@ -1,5 +1,6 @@
-ghost use Rattle.std.specs.Prelude.{◌≡◌, ◌+◌, ◌<◌, [], ◌∷◌, length, Err, IfOk, OnOk, OnErr};
+ghost use Rattle.std.specs.Prelude.{◌≡◌, ◌+◌, ◌<◌, ◌≤◌, ◌++◌, [], ◌∷◌, drop, length, Err, IfOk, OnOk, OnErr};
 ghost use Rattle.nv_plain.specs.Faults.{HasCause};
+ghost use Rattle.nv_plain.specs.Files.{bytes_at};
 ghost use Rattle.nv_store.specs.Store.{IsQuiet, quiet_store};
 ghost use Rattle.nv_store.specs.Steps.{Write, Sync, Did};
 ghost use Rattle.nv_store.specs.Torn.{LeftOrTore, with_marks};
@@ -32,7 +33,7 @@ impl MemStore {
     }
 
     /// As `new`, but the calls that the fuse counts out fail. Each call of `Backing` but `faults` counts as one. One
-    /// that fails changes nothing, but for `pwrite`: what there is of its range is then unsynced.
+    /// that fails leaves the store and the buffer as they were, but for `pwrite`: what there is of its range is then unsynced.
     pub fn fused(alloc: Global, bytes: &[u8], fuse: Fuse) -> Result<Self, NoMemory>
         ensures { IfOk result (IsNew bytes.now) }
     {
@@ -77,7 +78,17 @@ impl Backing for MemStore {
         Ok(self.told.len() as u64)
     }
 
-    fn pread(&mut self, at: u64, buf: &mut [u8]) -> Result<u64, StoreFault> {
+    fn pread(&mut self, at: u64, buf: &mut [u8]) -> Result<u64, StoreFault>
+        ensures count { IfOk result (λ count. count ≡ length (bytes_at (store_now self.old).seen at (length buf.old))) }
+        ensures bytes { IfOk result (λ count.
+            buf.new ≡ bytes_at (store_now self.old).seen at (length buf.old) ++ drop count buf.old) }
+        ensures rest { IfOk result (λ count. drop count buf.new ≡ drop count buf.old) }
+        ensures limit { IfOk result (λ count. count ≤ length buf.old) }
+        ensures refused { OnErr result (buf.new ≡ buf.old) }
+        ensures history { store_history self.new ≡ store_history self.old }
+        ensures cause { HasCause (store_faults self.old) (store_faults self.new) result }
+        ensures device { store_device self.new ≡ store_device self.old }
+    {
         self.health.begin()?;
         Ok(self.told.read(at as usize, buf) as u64)
     }
