@@ -1,8 +1,12 @@
+ghost use Rattle.std.specs.Prelude.{◌≤◌};
+ghost use Rattle.nv_pmem.specs.MemPart.{part_room};
+
 use crate::{
     BadGeometry, Fuse, Geometry, GeometryField, LineFault, Lines, MemPart, Pick, Picker,
     store_durably,
 };
 use nv_plain::NoMemory;
+use std::alloc::Global;
 use std::array;
 
 fn may_cross_threads<T: Send>(_part: &T) -> bool {
@@ -52,53 +56,77 @@ fn a_line_is_stored_little_endian(rt: HostRuntime) -> Result<(), NoMemory> {
     Ok(())
 }
 
+// Makes one call of `Lines`, and says whether it was refused, and how many were.
+fn refuses(part: &mut MemPart, call: u8) -> (bool, u64)
+    requires lines { 1 ≤ (part_room part.old).lines }
+    requires spare { 8 ≤ (part_room part.old).spare 0 }
+{
+    let refused = match call {
+        0 => part.load(0, 0).is_err(),
+        1 => part.store(0, 0, 1).is_err(),
+        2 => part.store_line(0, &[1; 64]).is_err(),
+        3 => part.flush(0).is_err(),
+        _ => part.fence().is_err(),
+    };
+    (refused, part.faults())
+}
+
+// The same call three times, on parts that share a fuse through two copies of it.
+fn refusals(alloc: Global, fuse: Fuse, call: u8) -> Result<[(bool, u64); 3], NoMemory> {
+    let mut first = MemPart::fused(alloc, 1, fuse.copy()?)?;
+    let mut second = MemPart::fused(alloc, 1, fuse.copy()?)?;
+    let mut third = MemPart::fused(alloc, 1, fuse)?;
+    Ok([
+        refuses(&mut first, call),
+        refuses(&mut second, call),
+        refuses(&mut third, call),
+    ])
+}
+
 #[test]
-fn a_fuse_fails_the_third_call(rt: HostRuntime) -> Result<(), NoMemory> {
-    let fuse = Fuse::new(rt.alloc(), &[3])?;
-    let mut part = MemPart::fused(rt.alloc(), 1, fuse)?;
-    assert_eq!(rt; part.store(0, 0, 5), Ok(()));
-    assert_eq!(rt; part.flush(0), Ok(()));
-    assert_eq!(rt; part.store(0, 0, 6), Err(LineFault));
-    assert_eq!(rt; part.load(0, 0), Ok(5));
-    assert_eq!(rt; part.fence(), Ok(()));
-    assert_eq!(rt; part.faults(), 1);
+fn each_call_counts_once_at_a_fuse(rt: HostRuntime) -> Result<(), NoMemory> {
+    let (well, refused) = ((false, 0), (true, 1));
+    for call in 0..5 {
+        for (k, listed, armed) in [
+            (1, [refused, well, well], [refused, refused, refused]),
+            (2, [well, refused, well], [well, refused, refused]),
+            (3, [well, well, refused], [well, well, refused]),
+        ] {
+            let fuse = Fuse::new(rt.alloc(), &[k])?;
+            assert_eq!(rt;
+                refusals(rt.alloc(), fuse, call)?,
+                listed,
+                "call {call}, listed {k}"
+            );
+            let fuse = Fuse::new(rt.alloc(), &[])?;
+            fuse.arm(k);
+            assert_eq!(rt;
+                refusals(rt.alloc(), fuse, call)?,
+                armed,
+                "call {call}, armed {k}"
+            );
+        }
+    }
     Ok(())
 }
 
 #[test]
-fn copies_of_a_fuse_share_its_count(rt: HostRuntime) -> Result<(), NoMemory> {
-    let fuse = Fuse::new(rt.alloc(), &[3])?;
-    let mut first = MemPart::fused(rt.alloc(), 1, fuse.copy()?)?;
-    let mut second = MemPart::fused(rt.alloc(), 1, fuse)?;
-    assert_eq!(rt; first.load(0, 0), Ok(0));
-    assert_eq!(rt; second.store(0, 0, 1), Ok(()));
-    assert_eq!(rt; first.store(0, 0, 1), Err(LineFault));
-    assert_eq!(rt; second.load(0, 0), Ok(1));
-    assert_eq!(rt; first.load(0, 0), Ok(0));
-    assert_eq!(rt; first.faults(), 1);
-    assert_eq!(rt; second.faults(), 0);
-    Ok(())
-}
-
-#[test]
-fn an_armed_fuse_fails_that_call_and_all_later_ones(rt: HostRuntime) -> Result<(), NoMemory> {
+fn a_fuse_is_armed_from_now_on_and_disarmed(rt: HostRuntime) -> Result<(), NoMemory> {
     let fuse = Fuse::new(rt.alloc(), &[])?;
-    let mut first = MemPart::fused(rt.alloc(), 1, fuse.copy()?)?;
-    let mut second = MemPart::fused(rt.alloc(), 1, fuse.copy()?)?;
-    assert_eq!(rt; first.load(0, 0), Ok(0));
-    fuse.arm(3);
-    assert_eq!(rt; first.load(0, 0), Ok(0));
-    assert_eq!(rt; second.load(0, 0), Ok(0));
-    assert_eq!(rt; first.store(0, 0, 1), Err(LineFault));
-    assert_eq!(rt; second.load(0, 0), Err(LineFault));
-    assert_eq!(rt; first.fence(), Err(LineFault));
-    fuse.disarm();
-    assert_eq!(rt; first.load(0, 0), Ok(0));
+    let mut part = MemPart::fused(rt.alloc(), 1, fuse.copy()?)?;
+    assert_eq!(rt; part.load(0, 0), Ok(0));
     // The earlier of two limits stays.
     fuse.arm(2);
     fuse.arm(5);
-    assert_eq!(rt; second.load(0, 0), Ok(0));
-    assert_eq!(rt; second.load(0, 0), Err(LineFault));
+    assert_eq!(rt; part.lines(), 1);
+    assert_eq!(rt; part.load(0, 0), Ok(0));
+    assert_eq!(rt; part.load(0, 0), Err(LineFault));
+    fuse.disarm();
+    assert_eq!(rt; part.load(0, 0), Ok(0));
+    // It takes three calls: the word is stored, the line is flushed, and the part is fenced.
+    fuse.arm(4);
+    assert_eq!(rt; store_durably(&mut part, 0, 0, 1), Ok(()));
+    assert_eq!(rt; part.fence(), Err(LineFault));
     Ok(())
 }
 

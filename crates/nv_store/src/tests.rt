@@ -128,39 +128,72 @@ fn draws_go_on_behind_a_store_and_pass_a_quiet_one(rt: HostRuntime) -> Result<()
     Ok(())
 }
 
+// Makes one call of `Backing`, and says whether it was refused, and how many were. A write for which there is no room is
+// refused before its room is asked for.
+fn refuses(store: &mut MemStore, call: u8) -> (bool, u64) {
+    let mut buf = [7; 1];
+    let refused = match call {
+        0 => store.len().is_err(),
+        1 => store.pread(0, &mut buf).is_err(),
+        2 => store.pwrite(0, &[5]) == Err(StoreError::Fault),
+        3 => store.pwrite(u64::MAX, &[5]) == Err(StoreError::Fault),
+        _ => store.sync().is_err(),
+    };
+    (refused, store.faults())
+}
+
+// The same call three times, on stores that share a fuse through two copies of it.
+fn refusals(alloc: Global, fuse: Fuse, call: u8) -> Result<[(bool, u64); 3], NoMemory> {
+    let mut first = MemStore::fused(alloc, &[1], fuse.copy()?)?;
+    let mut second = MemStore::fused(alloc, &[1], fuse.copy()?)?;
+    let mut third = MemStore::fused(alloc, &[1], fuse)?;
+    Ok([
+        refuses(&mut first, call),
+        refuses(&mut second, call),
+        refuses(&mut third, call),
+    ])
+}
+
 #[test]
-fn a_refused_write_marks_what_there_is_of_its_range(rt: HostRuntime) -> Result<(), NoMemory> {
-    let fuse = Fuse::new(rt.alloc(), &[3])?;
-    let mut store = MemStore::fused(rt.alloc(), &[1, 2, 3], fuse)?;
-    assert_eq!(rt; store.len(), Ok(3));
-    assert_eq!(rt; store.sync(), Ok(()));
-    assert_eq!(rt; store.pwrite(2, &[8, 9]), Err(StoreError::Fault));
-    let mut buf = [7; 4];
-    assert_eq!(rt; store.pread(0, &mut buf), Ok(3));
-    assert_eq!(rt; buf, [1, 2, 3, 7]);
-    assert_eq!(rt; store.faults(), 1);
-    store.image(&mut Picker::new(Pick::Torn));
-    assert_eq!(rt; store.pread(0, &mut buf), Ok(3));
-    assert_eq!(rt; buf, [1, 2, 0xa5, 7]);
+fn each_call_counts_once_at_a_fuse(rt: HostRuntime) -> Result<(), NoMemory> {
+    let (well, refused) = ((false, 0), (true, 1));
+    for call in 0..5 {
+        for (k, listed, armed) in [
+            (1, [refused, well, well], [refused, refused, refused]),
+            (2, [well, refused, well], [well, refused, refused]),
+            (3, [well, well, refused], [well, well, refused]),
+        ] {
+            let fuse = Fuse::new(rt.alloc(), &[k])?;
+            assert_eq!(rt;
+                refusals(rt.alloc(), fuse, call)?,
+                listed,
+                "call {call}, listed {k}"
+            );
+            let fuse = Fuse::new(rt.alloc(), &[])?;
+            fuse.arm(k);
+            assert_eq!(rt;
+                refusals(rt.alloc(), fuse, call)?,
+                armed,
+                "call {call}, armed {k}"
+            );
+        }
+    }
     Ok(())
 }
 
 #[test]
-fn an_armed_fuse_refuses_that_call_and_all_later_ones(rt: HostRuntime) -> Result<(), NoMemory> {
-    let fuse = Fuse::new(rt.alloc(), &[])?;
-    let mut first = MemStore::fused(rt.alloc(), &[1], fuse.copy()?)?;
-    let mut second = MemStore::fused(rt.alloc(), &[2], fuse.copy()?)?;
-    fuse.arm(3);
-    let mut buf = [7; 1];
-    assert_eq!(rt; first.pread(0, &mut buf), Ok(1));
-    assert_eq!(rt; second.len(), Ok(1));
-    assert_eq!(rt; first.sync(), Err(StoreFault));
-    assert_eq!(rt; second.pwrite(0, &[5]), Err(StoreError::Fault));
-    assert_eq!(rt; second.pread(0, &mut buf), Err(StoreFault));
-    assert_eq!(rt; first.len(), Err(StoreFault));
-    assert_eq!(rt; (first.faults(), second.faults()), (2, 2));
-    fuse.disarm();
-    assert_eq!(rt; second.pread(0, &mut buf), Ok(1));
-    assert_eq!(rt; buf, [2]);
+fn a_refused_call_leaves_bytes_and_buffer(rt: HostRuntime) -> Result<(), NoMemory> {
+    let fuse = Fuse::new(rt.alloc(), &[1, 2])?;
+    let mut store = MemStore::fused(rt.alloc(), &[1, 2, 3], fuse)?;
+    let mut buf = [7; 4];
+    assert_eq!(rt; store.pread(0, &mut buf), Err(StoreFault));
+    assert_eq!(rt; buf, [7; 4]);
+    assert_eq!(rt; store.pwrite(2, &[8, 9]), Err(StoreError::Fault));
+    assert_eq!(rt; store.pread(0, &mut buf), Ok(3));
+    assert_eq!(rt; buf, [1, 2, 3, 7]);
+    // What there is of the refused write's range isn't synced.
+    store.image(&mut Picker::new(Pick::Torn));
+    assert_eq!(rt; store.pread(0, &mut buf), Ok(3));
+    assert_eq!(rt; buf, [1, 2, 0xa5, 7]);
     Ok(())
 }
