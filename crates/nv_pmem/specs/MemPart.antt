@@ -22,7 +22,7 @@ part_now part = part.told.lines.items
 abbrev pub part_room : MemPart → Room
 part_room part = told_room part.told
 
--- how often it has failed
+-- how often it has failed, up to 2^64 - 1
 abbrev pub part_faults : MemPart → ℕ
 part_faults part = part.health
 

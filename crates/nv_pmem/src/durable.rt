@@ -19,7 +19,7 @@ pub fn store_durably<L: Lines>(
     requires word { word < 8 }
     requires spare { 1 ≤ (L.room part.old).spare line }
 
-    // The device calls are these, in this order.
+    // The calls that change the part are these, in this order. That there is no load among them is shown by a test.
     ensures begun { DidSome (durable_store line word value) (L.history part.old) (L.history part.new) }
     ensures done { OnOk result (Did (durable_store line word value) (L.history part.old) (L.history part.new)) }
 

@@ -10,7 +10,8 @@ use thiserror::Error;
 #[error("the call was refused")]
 pub struct Refused;
 
-/// Whether the calls of a device in memory go well, and how often they didn't. Contracts see the count alone.
+/// Whether the calls of a device in memory go well, and how often they didn't, up to 2^64 - 1. Contracts see the count alone:
+/// which calls a fuse refuses is shown by tests.
 #[derive(Drop)]
 pub struct Health {
     fuse: Option<Fuse>,
@@ -45,7 +46,7 @@ impl Health {
         Ok(())
     }
 
-    /// How often a call was refused.
+    /// How often a call was refused, up to 2^64 - 1.
     pub fn faults(&self) -> u64
         ensures { result ≡ self.now }
     {

@@ -38,13 +38,13 @@ pub trait Lines {
     /// Which device this is. No call changes it.
     ghost device: { Self → ℕ };
 
-    /// The states that it has had, the present one first; empty where it doesn't tell.
+    /// The states that it has had, the present one first; empty where it doesn't tell. Loads leave no trace in it.
     ghost history: { Self → History };
 
     /// How many lines it has, and how many more contents each can take.
     ghost room: { Self → Room };
 
-    /// How often it has failed. The count stands still at 2^64 - 1.
+    /// How often it has failed, up to 2^64 - 1, where the count stands still.
     ghost fault_count: { Self → ℕ };
 
     /// The number of lines.
@@ -101,7 +101,7 @@ pub trait Lines {
         ensures cause { HasCause (fault_count self.old) (fault_count self.new) result }
         ensures device { device self.new ≡ device self.old };
 
-    /// How often it has failed; at most 2^64 - 1.
+    /// How often it has failed, up to 2^64 - 1.
     fn faults(&self) -> u64
         ensures { result ≡ fault_count self.now };
 

@@ -30,7 +30,7 @@ impl MemPart {
     }
 
     /// As `new`, but the calls that the fuse counts out fail. Each call of `Lines` but `lines` and `faults` counts
-    /// as one, and one that fails leaves the part as it was.
+    /// as one, and one that fails leaves the part as it was, but for the count of faults.
     pub fn fused(alloc: Global, lines: u64, fuse: Fuse) -> Result<Self, NoMemory>
         ensures { IfOk result (IsBlank lines) }
     {
