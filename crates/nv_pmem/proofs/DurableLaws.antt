@@ -1,5 +1,5 @@
 -- Laws about the durable store of a word.
-use Rattle.std.proofs.Common.{◌≡◌, inl, inr, ℕ, ◌<◌, List, [], ◌∷◌, length, take, zero, suc, refl, ◌∙◌}
+use Rattle.std.proofs.Common.{◌≡◌, inl, inr, ℕ, ◌<◌, List, [], ◌∷◌, length, take, refl, ◌∙◌}
 use Rattle.std.proofs.lemmas.Bool.{cases_eq, eq-eqb, ne_eqb}
 use Rattle.nv_plain.specs.Images.{PartImage}
 use Rattle.nv_pmem.specs.Images.{InEachImage, IsOldOrStored, IsQuietLine, IsQuiet}
@@ -8,14 +8,8 @@ use Rattle.nv_pmem.specs.Part.{Part, line_of, word_of}
 use Rattle.nv_pmem.specs.Steps.{Step, History, Did, DidSome, after_step, durable_store}
 use Rattle.nv_pmem.proofs.ImageLaws.{IsStoredBy, ComesFrom, image_comes_from, quiet_image, quiet_after, quiet_still}
 use Rattle.nv_pmem.proofs.LineLaws.{word_of-after_steps}
+use Rattle.nv_pmem.proofs.RowLaws.{stored_by-take}
 use Rattle.nv_pmem.proofs.StepLaws.{after_steps, always_by_fronts, each_moment, tells_after}
-
--- what one of the first so many steps stores, one of them all stores
-stored_by_front : (count : ℕ) (steps : List Step) (i j found : ℕ) → IsStoredBy (take count steps) i j found → IsStoredBy steps i j found
-stored_by_front zero steps i j found none = absurd none
-stored_by_front (suc count) [] i j found none = absurd none
-stored_by_front (suc count) (step ∷ steps) i j found (inl here) = inl here
-stored_by_front (suc count) (step ∷ steps) i j found (inr later) = inr (stored_by_front count steps i j found later)
 
 -- it stores this value in this word, and nothing else
 only_stores : (line word value i j found : ℕ) → IsStoredBy (durable_store line word value) i j found → (i ≡ line) × (j ≡ word) × (found ≡ value)
@@ -46,7 +40,7 @@ old_or_stored : (was : Part) (line word value count : ℕ) → InEachImage (IsOl
 old_or_stored was line word value count image is =
     let steps = take count (durable_store line word value) in
     stores_one_word was steps line word value image
-    (λ i j found one. only_stores line word value i j found (stored_by_front count (durable_store line word value) i j found one))
+    (λ i j found one. only_stores line word value i j found (stored_by-take count (durable_store line word value) i j found one))
     (image_comes_from steps was image is)
 
 -- At each moment a word is as it was or as it is stored.

@@ -105,6 +105,11 @@ chosen_is_choice store bytes other whole first i inside = elim (cases_Bool (is_u
       ∙ sym (ap (λ flag. if flag then other i else durable_byte store i) clear)
 ]
 
+-- bytes of which some were replaced, told by slices of the flags and of the bytes
+pub replaced_in : (by : List Bool → ℕ → ℕ) {now slice bytes : List ℕ} {lent flags : List Bool} → now ≡ replaced lent (by lent) slice → lent ≡ flags → slice ≡ bytes → now ≡ replaced flags (by flags) bytes
+replaced_in by {slice = slice} {flags = flags} is of_flags of_bytes =
+    is ∙ ap (λ these. replaced these (by these) slice) of_flags ∙ ap (replaced flags (by flags)) of_bytes
+
 pub replaced_is_image_with : (store : Store) (bytes : List ℕ) (other : ℕ → ℕ) → IsWhole store → AreFirst store bytes
     → replaced store.unsynced other bytes ≡ image_with store (length bytes) other
 unfolding image_with choice

@@ -4,7 +4,7 @@ use Rattle.nv_store.specs.Disk.{store_of}
 use Rattle.nv_store.specs.Picked.{redrawn, image_with}
 use Rattle.nv_store.specs.Replaced.{replaced}
 use Rattle.nv_store.proofs.StoreLaws.{whole_same}
-use Rattle.nv_store.proofs.ImageLaws.{whole_replaced, front_is_first, replaced_is_image_with}
+use Rattle.nv_store.proofs.ImageLaws.{whole_replaced, front_is_first, replaced_in, replaced_is_image_with}
 use Rattle.nv_store.proofs.disk.Disk.cut.Goals as goal
 
 pub invariant_of-self : goal.invariant_of-self
@@ -14,9 +14,7 @@ invariant_of-self c =
     let len = c.args.len in
     let other = redrawn store.unsynced c.args.picker.now in
     let now : c.redraw.new.bytes ≡ replaced store.unsynced other (take len store.seen) =
-    c.redraw.ensures.bytes
-    ∙ ap (λ flags. replaced flags (redrawn flags c.args.picker.now) c.deref_mut.result.now) c.deref.ensures.value
-    ∙ ap (replaced store.unsynced other) (c.deref_mut.ensures.value ∙ c.truncate.ensures.items) in
+    replaced_in (λ flags. redrawn flags c.args.picker.now) c.redraw.ensures.bytes c.deref.ensures.value (c.deref_mut.ensures.value ∙ c.truncate.ensures.items) in
     let back = with_items_is c.truncate.new.self c.redraw.new.bytes (omega (arith, c.redraw.auto.bytes, c.deref_mut.ensures.len)) in
     let first = front_is_first store len disk.whole c.requires.durable c.requires.seen in
     record {
@@ -35,9 +33,7 @@ returns-clause-seen c =
     let len = c.args.len in
     let other = redrawn store.unsynced c.args.picker.now in
     let now : c.redraw.new.bytes ≡ replaced store.unsynced other (take len store.seen) =
-    c.redraw.ensures.bytes
-    ∙ ap (λ flags. replaced flags (redrawn flags c.args.picker.now) c.deref_mut.result.now) c.deref.ensures.value
-    ∙ ap (replaced store.unsynced other) (c.deref_mut.ensures.value ∙ c.truncate.ensures.items) in
+    replaced_in (λ flags. redrawn flags c.args.picker.now) c.redraw.ensures.bytes c.deref.ensures.value (c.deref_mut.ensures.value ∙ c.truncate.ensures.items) in
     let back = with_items_is c.truncate.new.self c.redraw.new.bytes (omega (arith, c.redraw.auto.bytes, c.deref_mut.ensures.len)) in
     let first = front_is_first store len disk.whole c.requires.durable c.requires.seen in
     let all : length (take len store.seen) ≡ len = omega (arith, length-take len store.seen, c.requires.seen) in

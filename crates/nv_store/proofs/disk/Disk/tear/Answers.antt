@@ -1,9 +1,9 @@
-use Rattle.std.proofs.Common.{◌≡◌, refl, ap, ◌∙◌, arith}
+use Rattle.std.proofs.Common.{◌≡◌, refl, ◌∙◌, arith}
 use Rattle.std.proofs.lemmas.List.{with_items_is}
 use Rattle.nv_store.specs.Disk.{store_of}
 use Rattle.nv_store.specs.Replaced.{replaced}
 use Rattle.nv_store.proofs.StoreLaws.{whole_same}
-use Rattle.nv_store.proofs.ImageLaws.{whole_replaced, all_are_first, replaced_is_image_with}
+use Rattle.nv_store.proofs.ImageLaws.{whole_replaced, all_are_first, replaced_in, replaced_is_image_with}
 use Rattle.nv_store.proofs.disk.Disk.tear.Goals as goal
 
 pub invariant_of-self : goal.invariant_of-self
@@ -11,9 +11,7 @@ invariant_of-self c =
     let disk = c.args.self.now in
     let store = store_of disk in
     let now : c.tear.new.bytes ≡ replaced store.unsynced (λ i. 0xa5) store.seen =
-    c.tear.ensures
-    ∙ ap (λ flags. replaced flags (λ i. 0xa5) c.deref_mut.result.now) c.deref.ensures.value
-    ∙ ap (replaced store.unsynced (λ i. 0xa5)) c.deref_mut.ensures.value in
+    replaced_in (λ flags i. 0xa5) c.tear.ensures c.deref.ensures.value c.deref_mut.ensures.value in
     let back = with_items_is disk.seen c.tear.new.bytes (omega (arith, c.tear.auto.bytes, c.deref_mut.ensures.len)) in
     let first = all_are_first store disk.whole in
     record {
@@ -28,8 +26,6 @@ returns c =
     let disk = c.args.self.now in
     let store = store_of disk in
     let now : c.tear.new.bytes ≡ replaced store.unsynced (λ i. 0xa5) store.seen =
-    c.tear.ensures
-    ∙ ap (λ flags. replaced flags (λ i. 0xa5) c.deref_mut.result.now) c.deref.ensures.value
-    ∙ ap (replaced store.unsynced (λ i. 0xa5)) c.deref_mut.ensures.value in
+    replaced_in (λ flags i. 0xa5) c.tear.ensures c.deref.ensures.value c.deref_mut.ensures.value in
     let back = with_items_is disk.seen c.tear.new.bytes (omega (arith, c.tear.auto.bytes, c.deref_mut.ensures.len)) in
     back ∙ now ∙ replaced_is_image_with store store.seen (λ i. 0xa5) disk.whole (all_are_first store disk.whole)
