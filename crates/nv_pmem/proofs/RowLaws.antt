@@ -6,7 +6,7 @@ use Rattle.std.proofs.lemmas.List.Elements.{All-head, All-tail}
 use Rattle.nv_plain.specs.Images.{PartImage, Image}
 use Rattle.nv_pmem.specs.Images.{IsImage, IsQuietLine}
 use Rattle.nv_pmem.specs.Moments.{Tells}
-use Rattle.nv_pmem.specs.Part.{Part, blank_line, newest, word_at, line_of}
+use Rattle.nv_pmem.specs.Part.{Part, blank_line, newest, word_at, line_of, word_of}
 use Rattle.nv_pmem.specs.Rows.{RowStep, on_part, row_after, row_grown, DidRow, DidSomeRow, RowTells, row_words, IsRowImage, InEachRowImage, EachRowMoment}
 use Rattle.nv_pmem.specs.Runs.{run, grown}
 use Rattle.nv_pmem.specs.Steps.{Step, Store, Flush, Fence, History, after_step, Did, DidSome}
@@ -356,12 +356,15 @@ blank_word word = elim (cases_lt word 8) [
   | inr past ↦ get_or_past (replicate 8 0) word 0 past
 ]
 
+-- so loads of it give zeros
+pub word_of-blank : (part : Part) (line word : ℕ) → line_of part line ≡ blank_line → word_of part line word ≡ 0
+word_of-blank part line word blank = ap (λ content. word_at (newest content) word) blank ∙ blank_word word
+
 -- An image of a part of which each line is zeros, durable, has no other word.
 pub blank_image : (part : Part) (image : PartImage) → ((line : ℕ) → line_of part line ≡ blank_line) → IsImage part image → (line word : ℕ) → image line word ≡ 0
 blank_image part image blank is line word =
     quiet_image part image line word (subst IsQuietLine (sym (blank line)) quiet_blank) is
-    ∙ ap (λ content. word_at (newest content) word) (blank line)
-    ∙ blank_word word
+    ∙ word_of-blank part line word (blank line)
 
 pub all_blank : (part : Part) → All (λ line. line ≡ blank_line) part → (line : ℕ) → line_of part line ≡ blank_line
 all_blank part all line = elim (cases_lt line (length part)) [
