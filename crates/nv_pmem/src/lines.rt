@@ -33,7 +33,7 @@ impl From<Refused> for LineFault {
 
 /// A part of persistent memory: lines of 64 bytes, eight words of 8 bytes each, little-endian. After a power
 /// failure a line holds one of the contents that it had since the one last made durable, that one included.
-/// No call takes memory.
+/// No call is handed an allocator, and none answers for want of memory.
 pub trait Lines {
     /// Which device this is. No call changes it.
     ghost device: { Self → ℕ };
