@@ -23,12 +23,13 @@ use Rattle.nv_pmem.proofs.LineLaws.{overlaid, overlaid-append, AreInside, word_o
 use Rattle.nv_pmem.proofs.RowLaws.{steps_on, steps_on-same, steps_on-other, on_part-append, row_at, row_tells_both, row_tells_more, row_tells_did, each_row_moment, row_image_comes_from, stored_by_row-take}
 use Rattle.nv_pmem.proofs.StepLaws.{after_steps, after_steps-append, Always, always_by_fronts, always_append, always_last, did_some_none}
 use Rattle.nv_header.specs.Additions.{CanAdd, HasNamesOrOneMore}
-use Rattle.nv_header.specs.HeaderSteps.{name_record, record_steps, add_file_steps}
+use Rattle.nv_header.specs.HeaderSteps.{name_record, add_file_steps}
 use Rattle.nv_header.specs.Heads.{HasFields, IsGoodName, first_names, record_line, length_of, room_of_name, is_record}
 use Rattle.nv_header.specs.Regions.{HasNoneFrom, HasEmptyLog, IsAtRest}
 use Rattle.nv_header.proofs.FormatLaws.{HasRoom, only_stores}
 use Rattle.nv_header.proofs.Joined.{joined-parts, joined-after_one, map-same}
 use Rattle.nv_header.proofs.Ranges.{flat_map-same}
+use Rattle.nv_header.proofs.OneLine.{line_steps, one_record_steps, one_add_steps, length-padded, add_file_steps-one}
 
 -- ---- a record in words
 
@@ -52,10 +53,6 @@ word_bytes bytes k are i = elim (cases_lt i 8) [
   | inl less ↦ rw (get_or-take 8 (drop (8 * k) bytes) i 0 less, get_or-drop (8 * k) bytes i 0) (are (8 * k + i))
   | inr past ↦ rw (get_or_past (take 8 (drop (8 * k) bytes)) i 0 (omega (arith, length-take 8 (drop (8 * k) bytes)))) (omega arith)
 ]
-
-length-padded : (bytes : List ℕ) (size : ℕ) → length bytes ≤ size → length (padded bytes size) ≡ size
-length-padded bytes size fits =
-    omega (arith, length-append bytes (replicate (size - length bytes) 0), length-replicate {A = ℕ} (size - length bytes) 0)
 
 -- the words behind the first are the padded name
 record_room : (name : List ℕ) (words : ℕ → ℕ) → length name ≤ 56 → AreBytes name → ((k : ℕ) → k < 8 → words k ≡ word_in (name_record version_1 name) k) → flat_map (λ k. to_le_bytes w64 (words k)) (range_with_len 1 7) ≡ padded name 56
@@ -149,7 +146,7 @@ still page entries next names image before keeps files_is count log =
       files = files_is i;
       tail = keeps.tail i;
     } in
-    let Fields : Header → Type 0 = HasFields 1 version_1 in
+    let Fields : Header → Type 0 = HasFields version_1 in
     let was = log.header in
     record {
       header = record {
@@ -299,8 +296,8 @@ stored_in_header i line word found steps stored =
     ]
 
 -- those of a record store in its line
-record_only : (i line word found : ℕ) (name : List ℕ) → IsStoredBy (record_steps version_1 i name) line word found → line ≡ record_line version_1 i
-unfolding record_steps line_stores
+record_only : (i line word found : ℕ) (name : List ℕ) → IsStoredBy (one_record_steps i name) line word found → line ≡ record_line version_1 i
+unfolding one_record_steps line_steps line_stores
 record_only i line word found name (inl here) = here.0
 record_only i line word found name (inr (inl here)) = here.0
 record_only i line word found name (inr (inr (inl here))) = here.0
@@ -342,10 +339,10 @@ keeps_but_count entries count image before words = record {
 
 -- while the record is written the names are those before
 while_record : (page entries next : ℕ) (names : List (List ℕ)) (name : List ℕ) (parts : List Part) → InEachRowImage (HasEmptyLog version_1 page entries names next) parts → (count : ℕ)
-    → InEachRowImage (HasEmptyLog version_1 page entries names next) (run row_after (take count (on_part 0 (record_steps version_1 (length names) name))) parts)
+    → InEachRowImage (HasEmptyLog version_1 page entries names next) (run row_after (take count (on_part 0 (one_record_steps (length names) name))) parts)
 while_record page entries next names name parts each count image is =
     let i = length names in
-    let steps = record_steps version_1 i name in
+    let steps = one_record_steps i name in
     let from = row_image_comes_from (take count (on_part 0 steps)) parts image is in
     let words = λ (p : ℕ) (line : ℕ) (word : ℕ).
     let Here : Type 0 = (image p line word ≡ from.before p line word) ⊎ ((p ≡ 0) × (line ≡ record_line version_1 i)) in
@@ -374,31 +371,31 @@ overlaid-stores line bytes (suc (suc (suc (suc (suc (suc zero)))))) was small = 
 overlaid-stores line bytes (suc (suc (suc (suc (suc (suc (suc zero))))))) was small = rw (eq-eqb line line refl)
 overlaid-stores line bytes (suc (suc (suc (suc (suc (suc (suc (suc k)))))))) was small = absurd (omega arith)
 
-record_overlay : (i : ℕ) (name : List ℕ) (k was : ℕ) → k < 8 → overlaid (record_steps version_1 i name) (record_line version_1 i) k was ≡ word_in (name_record version_1 name) k
-unfolding record_steps
+record_overlay : (i : ℕ) (name : List ℕ) (k was : ℕ) → k < 8 → overlaid (one_record_steps i name) (record_line version_1 i) k was ≡ word_in (name_record version_1 name) k
+unfolding one_record_steps line_steps
 record_overlay i name k was small =
     let line = record_line version_1 i in
     overlaid-append (line_stores line (name_record version_1 name)) (Flush line ∷ Fence ∷ []) line k was
     ∙ overlaid-stores line (name_record version_1 name) k was small
 
-record_inside : (i lines : ℕ) (name : List ℕ) → record_line version_1 i < lines → AreInside lines (record_steps version_1 i name)
-unfolding record_steps line_stores
+record_inside : (i lines : ℕ) (name : List ℕ) → record_line version_1 i < lines → AreInside lines (one_record_steps i name)
+unfolding one_record_steps line_steps line_stores
 record_inside i lines name inside = (inside, (inside, (inside, (inside, (inside, (inside, (inside, (inside, tt))))))))
 
-record_settles : (i : ℕ) (name : List ℕ) (part : Part) → IsQuietLine (line_of (after_steps (record_steps version_1 i name) part) (record_line version_1 i))
-unfolding record_steps line_stores
+record_settles : (i : ℕ) (name : List ℕ) (part : Part) → IsQuietLine (line_of (after_steps (one_record_steps i name) part) (record_line version_1 i))
+unfolding one_record_steps line_steps line_stores
 record_settles i name part =
     let line = record_line version_1 i in
-    quiet_after line (record_steps version_1 i name) part (rw (eq-eqb line line refl) refl)
+    quiet_after line (one_record_steps i name) part (rw (eq-eqb line line refl) refl)
 
-record_quiet : (i : ℕ) (name : List ℕ) (part : Part) → IsQuiet part → IsQuiet (after_steps (record_steps version_1 i name) part)
-unfolding record_steps line_stores
+record_quiet : (i : ℕ) (name : List ℕ) (part : Part) → IsQuiet part → IsQuiet (after_steps (one_record_steps i name) part)
+unfolding one_record_steps line_steps line_stores
 record_quiet i name part quiet =
     let line = record_line version_1 i in
     record {
       lines = λ k. elim (cases_eq k line) [
-        | inl same ↦ quiet_after k (record_steps version_1 i name) part (rw (eq-eqb k line same) refl)
-        | inr differs ↦ quiet_still k (record_steps version_1 i name) part (rw (ne_eqb k line differs) refl) (quiet.lines k)
+        | inl same ↦ quiet_after k (one_record_steps i name) part (rw (eq-eqb k line same) refl)
+        | inr differs ↦ quiet_still k (one_record_steps i name) part (rw (ne_eqb k line differs) refl) (quiet.lines k)
       ];
     }
 
@@ -413,10 +410,10 @@ header_after steps parts =
     row_at 0 (on_part 0 steps) parts ∙ ap (λ these. after_steps these (slice_index_or parts 0 [])) (steps_on-same 0 steps)
 
 recorded : (page entries next : ℕ) (names : List (List ℕ)) (name : List ℕ) (parts : List Part) → length names < 16 → HasRoom page entries parts → InEachRowImage (HasEmptyLog version_1 page entries names next) parts
-    → InEachRowImage (IsRecorded page entries next names name) (run row_after (on_part 0 (record_steps version_1 (length names) name)) parts)
+    → InEachRowImage (IsRecorded page entries next names name) (run row_after (on_part 0 (one_record_steps (length names) name)) parts)
 recorded page entries next names name parts few room each image is =
     let i = length names in
-    let steps = record_steps version_1 i name in
+    let steps = one_record_steps i name in
     let part = slice_index_or parts 0 [] in
     let row = on_part 0 steps in
     let all : take (length row) row ≡ row = take_all (length row) row (omega arith) in
@@ -460,11 +457,11 @@ while_count page entries next names name parts can are each count image is =
     ]
 
 add_always : (page entries next : ℕ) (names : List (List ℕ)) (name : List ℕ) (parts : List Part) → CanAdd version_1 names name → AreBytes name → HasRoom page entries parts → InEachRowImage (HasEmptyLog version_1 page entries names next) parts
-    → Always row_after (InEachRowImage (HasNamesOrOneMore version_1 page entries names name next)) (on_part 0 (add_file_steps version_1 (length names) name)) parts
-unfolding add_file_steps
+    → Always row_after (InEachRowImage (HasNamesOrOneMore version_1 page entries names name next)) (on_part 0 (one_add_steps (length names) name)) parts
+unfolding one_add_steps
 add_always page entries next names name parts can are room each =
     let P : List Part → Type 0 = InEachRowImage (HasNamesOrOneMore version_1 page entries names name next) in
-    let first = record_steps version_1 (length names) name in
+    let first = one_record_steps (length names) name in
     let last = durable_store 0 4 (length names + 1) in
     let At : List RowStep → Type 0 = λ steps. Always row_after P steps parts in
     subst At (sym (on_part-append 0 first last))
@@ -475,14 +472,15 @@ add_always page entries next names name parts can are room each =
 
 pub add_moments : (page entries next : ℕ) (names : List (List ℕ)) (name : List ℕ) {old new : List History} → CanAdd version_1 names name → AreBytes name → RowTells old (IsAtRest version_1 page entries names next) → RowTells old (HasRoom page entries)
     → DidSomeRow (on_part 0 (add_file_steps version_1 (length names) name)) old new → EachRowMoment (InEachRowImage (HasNamesOrOneMore version_1 page entries names name next)) old new
-add_moments page entries next names name {old} can are rest room did =
+add_moments page entries next names name {old} {new} can are rest room did =
     let P : List Part → Type 0 = InEachRowImage (HasNamesOrOneMore version_1 page entries names name next) in
-    let steps = on_part 0 (add_file_steps version_1 (length names) name) in
+    let steps = on_part 0 (one_add_steps (length names) name) in
+    let Did_some : List Step → Type 0 = λ these. DidSomeRow (on_part 0 these) old new in
     each_row_moment P
     (row_tells_more old (λ parts. IsAtRest version_1 page entries names next parts × HasRoom page entries parts) (Always row_after P steps)
     (λ parts both. add_always page entries next names name parts can are both.1 both.0.empty)
     (row_tells_both old (IsAtRest version_1 page entries names next) (HasRoom page entries) rest room))
-    did
+    (subst Did_some (add_file_steps-one (length names) name (name_fits name can.is_new.allowed)) did)
 
 -- where nothing is done the names are those before
 pub names_stay : (page entries next : ℕ) (names : List (List ℕ)) (name : List ℕ) (row : List History) → RowTells row (IsAtRest version_1 page entries names next) → EachRowMoment (InEachRowImage (HasNamesOrOneMore version_1 page entries names name next)) row row
@@ -502,33 +500,33 @@ count_inside : (value lines : ℕ) → 0 < lines → AreInside lines (durable_st
 unfolding durable_store
 count_inside value lines some = (some, tt)
 
-add_split : (i : ℕ) (name : List ℕ) (part : Part) → after_steps (add_file_steps version_1 i name) part ≡ after_steps (durable_store 0 4 (i + 1)) (after_steps (record_steps version_1 i name) part)
-unfolding add_file_steps
-add_split i name part = after_steps-append (record_steps version_1 i name) (durable_store 0 4 (i + 1)) part
+add_split : (i : ℕ) (name : List ℕ) (part : Part) → after_steps (one_add_steps i name) part ≡ after_steps (durable_store 0 4 (i + 1)) (after_steps (one_record_steps i name) part)
+unfolding one_add_steps
+add_split i name part = after_steps-append (one_record_steps i name) (durable_store 0 4 (i + 1)) part
 
 -- the count is one more in each image
-count_after : (page entries i : ℕ) (name : List ℕ) (parts : List Part) (image : Image) → HasRoom page entries parts → IsRowImage (run row_after (on_part 0 (add_file_steps version_1 i name)) parts) image → image 0 0 4 ≡ i + 1
+count_after : (page entries i : ℕ) (name : List ℕ) (parts : List Part) (image : Image) → HasRoom page entries parts → IsRowImage (run row_after (on_part 0 (one_add_steps i name)) parts) image → image 0 0 4 ≡ i + 1
 count_after page entries i name parts image room is =
     let last = durable_store 0 4 (i + 1) in
-    let before = after_steps (record_steps version_1 i name) (slice_index_or parts 0 []) in
-    let long : 0 < length before = omega (arith, room.has 0 (omega arith), length-after_steps (record_steps version_1 i name) (slice_index_or parts 0 [])) in
+    let before = after_steps (one_record_steps i name) (slice_index_or parts 0 []) in
+    let long : 0 < length before = omega (arith, room.has 0 (omega arith), length-after_steps (one_record_steps i name) (slice_index_or parts 0 [])) in
     let At : Part → Type 0 = λ part. IsImage part (image 0) in
     quiet_image (after_steps last before) (image 0) 0 4 (line_settled 0 4 (i + 1) before)
-    (subst At (header_after (add_file_steps version_1 i name) parts ∙ add_split i name (slice_index_or parts 0 [])) (is.each 0))
+    (subst At (header_after (one_add_steps i name) parts ∙ add_split i name (slice_index_or parts 0 [])) (is.each 0))
     ∙ word_of-after_steps last before 0 4 (count_inside (i + 1) (length before) long)
     ∙ count_overlay (i + 1) (word_of before 0 4)
 
-quiet_after_add : (i k : ℕ) (name : List ℕ) (parts : List Part) → IsQuiet (slice_index_or parts k []) → IsQuiet (slice_index_or (run row_after (on_part 0 (add_file_steps version_1 i name)) parts) k [])
+quiet_after_add : (i k : ℕ) (name : List ℕ) (parts : List Part) → IsQuiet (slice_index_or parts k []) → IsQuiet (slice_index_or (run row_after (on_part 0 (one_add_steps i name)) parts) k [])
 unfolding run
 quiet_after_add i k name parts quiet =
-    let steps = add_file_steps version_1 i name in
+    let steps = one_add_steps i name in
     elim (cases_eq k 0) [
       | inl first ↦
           let Here : ℕ → Type 0 = λ j. IsQuiet (slice_index_or (run row_after (on_part 0 steps) parts) j []) in
           let Was : ℕ → Type 0 = λ j. IsQuiet (slice_index_or parts j []) in
           subst Here (sym first)
           (subst IsQuiet (sym (header_after steps parts ∙ add_split i name (slice_index_or parts 0 [])))
-          (quiet_settled 0 4 (i + 1) (after_steps (record_steps version_1 i name) (slice_index_or parts 0 []))
+          (quiet_settled 0 4 (i + 1) (after_steps (one_record_steps i name) (slice_index_or parts 0 []))
           (record_quiet i name (slice_index_or parts 0 []) (subst Was first quiet))))
       | inr other ↦
           subst IsQuiet
@@ -540,10 +538,10 @@ added page entries next names name image count (inl old) = absurd (omega (arith,
 added page entries next names name image count (inr new) = new
 
 added_rest : (page entries next : ℕ) (names : List (List ℕ)) (name : List ℕ) (parts : List Part) → CanAdd version_1 names name → AreBytes name → HasRoom page entries parts → IsAtRest version_1 page entries names next parts
-    → IsAtRest version_1 page entries (names ++ name ∷ []) next (run row_after (on_part 0 (add_file_steps version_1 (length names) name)) parts)
+    → IsAtRest version_1 page entries (names ++ name ∷ []) next (run row_after (on_part 0 (one_add_steps (length names) name)) parts)
 added_rest page entries next names name parts can are room rest =
     let P : List Part → Type 0 = InEachRowImage (HasNamesOrOneMore version_1 page entries names name next) in
-    let steps = on_part 0 (add_file_steps version_1 (length names) name) in
+    let steps = on_part 0 (one_add_steps (length names) name) in
     record {
       quiet = record { each = λ k. quiet_after_add (length names) k name parts (rest.quiet.each k) };
       empty = λ image is.
@@ -554,8 +552,9 @@ added_rest page entries next names name parts can are room rest =
 -- After all steps the region has the name.
 pub add_tells : (page entries next : ℕ) (names : List (List ℕ)) (name : List ℕ) {old new : List History} → CanAdd version_1 names name → AreBytes name → RowTells old (IsAtRest version_1 page entries names next) → RowTells old (HasRoom page entries)
     → DidRow (on_part 0 (add_file_steps version_1 (length names) name)) old new → RowTells new (IsAtRest version_1 page entries (names ++ name ∷ []) next)
-add_tells page entries next names name {old} can are rest room did =
+add_tells page entries next names name {old} {new} can are rest room did =
+    let Did_all : List Step → Type 0 = λ these. DidRow (on_part 0 these) old new in
     row_tells_did (λ parts. IsAtRest version_1 page entries names next parts × HasRoom page entries parts) (IsAtRest version_1 page entries (names ++ name ∷ []) next)
     (row_tells_both old (IsAtRest version_1 page entries names next) (HasRoom page entries) rest room)
     (λ parts both. added_rest page entries next names name parts can are both.1 both.0)
-    did
+    (subst Did_all (add_file_steps-one (length names) name (name_fits name can.is_new.allowed)) did)

@@ -5,6 +5,7 @@ use Rattle.std.proofs.lemmas.List.{take_all}
 use Rattle.std.specs.List.{flat_map, range_with_len}
 use Rattle.nv_plain.specs.Images.{Image, header_magic}
 use Rattle.nv_plain.specs.Layouts.{version_1}
+use Rattle.nv_plain.specs.Recovered.{IsBlank}
 use Rattle.nv_pmem.specs.Images.{IsImage, IsQuietLine, IsQuiet}
 use Rattle.nv_pmem.specs.Limits.{IsPageSize, IsEntryCount}
 use Rattle.nv_pmem.specs.Part.{Part, line_of, word_of}
@@ -18,7 +19,7 @@ use Rattle.nv_pmem.proofs.RowLaws.{steps_on, steps_on-append, steps_on-same, ste
 use Rattle.nv_pmem.proofs.StepLaws.{after_steps, after_steps-append, Always, always_by_fronts, always_append, always_last}
 use Rattle.nv_header.specs.HeaderSteps.{clear_steps, field_steps, blank_header_steps, format_steps}
 use Rattle.nv_header.specs.Heads.{first_names}
-use Rattle.nv_header.specs.Regions.{part_lines, IsBlank, HasEmptyLog, IsBlankOrFormatted, IsBlankRow, IsAtRest}
+use Rattle.nv_header.specs.Regions.{part_lines, HasEmptyLog, IsBlankOrFormatted, IsBlankRow, IsAtRest}
 use Rattle.nv_header.proofs.Clearing.{clear_one}
 use Rattle.nv_header.proofs.InRow.{HaveLines}
 
@@ -33,7 +34,7 @@ only_stores line word value i j found (inr (inr (inl none))) = absurd none
 only_stores line word value i j found (inr (inr (inr none))) = absurd none
 
 -- the fields leave the magic
-fields_leave_magic : (page entries found : ℕ) → IsStoredBy (field_steps page entries) 0 0 found → ⊥
+fields_leave_magic : (page entries found : ℕ) → IsStoredBy (field_steps version_1 page entries) 0 0 found → ⊥
 unfolding field_steps
 fields_leave_magic page entries found (inl here) = absurd (omega (arith, here.1))
 fields_leave_magic page entries found (inr (inl here)) = absurd (omega (arith, here.1))
@@ -81,27 +82,27 @@ clear_at i from (suc count) low high =
 
 -- the steps before the magic is stored
 abbrev filling : (page entries : ℕ) → List RowStep
-filling page entries = clear_steps entries ++ on_part 0 (field_steps page entries)
+filling page entries = clear_steps entries ++ on_part 0 (field_steps version_1 page entries)
 
-format_steps-cut : (page entries : ℕ) → format_steps page entries ≡ filling page entries ++ on_part 0 (durable_store 0 0 header_magic)
+format_steps-cut : (page entries : ℕ) → format_steps version_1 page entries ≡ filling page entries ++ on_part 0 (durable_store 0 0 header_magic)
 unfolding format_steps blank_header_steps
 format_steps-cut page entries =
-    ap (λ header. clear_steps entries ++ header) (on_part-append 0 (field_steps page entries) (durable_store 0 0 header_magic))
-    ∙ sym (append_assoc (clear_steps entries) (on_part 0 (field_steps page entries)) (on_part 0 (durable_store 0 0 header_magic)))
+    ap (λ header. clear_steps entries ++ header) (on_part-append 0 (field_steps version_1 page entries) (durable_store 0 0 header_magic))
+    ∙ sym (append_assoc (clear_steps entries) (on_part 0 (field_steps version_1 page entries)) (on_part 0 (durable_store 0 0 header_magic)))
 
-filling_header : (page entries : ℕ) → steps_on 0 (filling page entries) ≡ field_steps page entries
+filling_header : (page entries : ℕ) → steps_on 0 (filling page entries) ≡ field_steps version_1 page entries
 unfolding clear_steps
 filling_header page entries =
-    steps_on-append 0 (clear_steps entries) (on_part 0 (field_steps page entries))
-    ∙ ap (λ front. front ++ steps_on 0 (on_part 0 (field_steps page entries))) (clear_before 0 1 entries (omega arith))
-    ∙ steps_on-same 0 (field_steps page entries)
+    steps_on-append 0 (clear_steps entries) (on_part 0 (field_steps version_1 page entries))
+    ∙ ap (λ front. front ++ steps_on 0 (on_part 0 (field_steps version_1 page entries))) (clear_before 0 1 entries (omega arith))
+    ∙ steps_on-same 0 (field_steps version_1 page entries)
 
 -- of a part that isn't the header, those that clear it
 filling_other : (page entries i : ℕ) (steps : List Step) → i ≢ 0 → steps_on i (clear_steps entries) ≡ steps → steps_on i (filling page entries) ≡ steps ++ []
 filling_other page entries i steps differs is =
-    steps_on-append i (clear_steps entries) (on_part 0 (field_steps page entries))
-    ∙ ap (λ front. front ++ steps_on i (on_part 0 (field_steps page entries))) is
-    ∙ ap (λ rest. steps ++ rest) (steps_on-other i 0 (field_steps page entries) differs)
+    steps_on-append i (clear_steps entries) (on_part 0 (field_steps version_1 page entries))
+    ∙ ap (λ front. front ++ steps_on i (on_part 0 (field_steps version_1 page entries))) is
+    ∙ ap (λ rest. steps ++ rest) (steps_on-other i 0 (field_steps version_1 page entries) differs)
 
 filling_entry : (page entries k : ℕ) → k < entries → steps_on (1 + k) (filling page entries) ≡ durable_store 0 0 0
 unfolding clear_steps durable_store
@@ -142,30 +143,30 @@ record IsFilled (page entries : ℕ) (image : Image) : Type 0 where
   tail : image 0 1 0 ≡ 0
   cleared : (k : ℕ) → k < entries → image (1 + k) 0 0 ≡ 0
 
-fields_inside : (page entries lines : ℕ) → 18 ≤ lines → AreInside lines (field_steps page entries)
+fields_inside : (page entries lines : ℕ) → 18 ≤ lines → AreInside lines (field_steps version_1 page entries)
 unfolding field_steps
 fields_inside page entries lines enough = (omega arith, (omega arith, (omega arith, (omega arith, (omega arith, tt)))))
 
-fields_settle_0 : (page entries : ℕ) (part : Part) → IsQuietLine (line_of (after_steps (field_steps page entries) part) 0)
+fields_settle_0 : (page entries : ℕ) (part : Part) → IsQuietLine (line_of (after_steps (field_steps version_1 page entries) part) 0)
 unfolding field_steps
-fields_settle_0 page entries part = quiet_after 0 (field_steps page entries) part refl
+fields_settle_0 page entries part = quiet_after 0 (field_steps version_1 page entries) part refl
 
-fields_settle_1 : (page entries : ℕ) (part : Part) → IsQuietLine (line_of (after_steps (field_steps page entries) part) 1)
+fields_settle_1 : (page entries : ℕ) (part : Part) → IsQuietLine (line_of (after_steps (field_steps version_1 page entries) part) 1)
 unfolding field_steps
-fields_settle_1 page entries part = quiet_after 1 (field_steps page entries) part refl
+fields_settle_1 page entries part = quiet_after 1 (field_steps version_1 page entries) part refl
 
-fields_overlay : (page entries was : ℕ) → (overlaid (field_steps page entries) 0 1 was ≡ 1) × (overlaid (field_steps page entries) 0 2 was ≡ page) × (overlaid (field_steps page entries) 0 3 was ≡ entries)
-    × (overlaid (field_steps page entries) 0 4 was ≡ 0) × (overlaid (field_steps page entries) 1 0 was ≡ 0)
+fields_overlay : (page entries was : ℕ) → (overlaid (field_steps version_1 page entries) 0 1 was ≡ 1) × (overlaid (field_steps version_1 page entries) 0 2 was ≡ page) × (overlaid (field_steps version_1 page entries) 0 3 was ≡ entries)
+    × (overlaid (field_steps version_1 page entries) 0 4 was ≡ 0) × (overlaid (field_steps version_1 page entries) 1 0 was ≡ 0)
 unfolding field_steps
 fields_overlay page entries was = (refl, refl, refl, refl, refl)
 
 -- a word of the header's part, once its line is quiet
-field_is : (page entries line word : ℕ) (part : Part) (image : Image) (at : Part) → at ≡ after_steps (field_steps page entries) part → 18 ≤ length part → IsQuietLine (line_of (after_steps (field_steps page entries) part) line) → IsImage at (image 0)
-    → image 0 line word ≡ overlaid (field_steps page entries) line word (word_of part line word)
+field_is : (page entries line word : ℕ) (part : Part) (image : Image) (at : Part) → at ≡ after_steps (field_steps version_1 page entries) part → 18 ≤ length part → IsQuietLine (line_of (after_steps (field_steps version_1 page entries) part) line) → IsImage at (image 0)
+    → image 0 line word ≡ overlaid (field_steps version_1 page entries) line word (word_of part line word)
 field_is page entries line word part image at at_is enough quiet is =
     let At : Part → Type 0 = λ these. IsImage these (image 0) in
-    quiet_image (after_steps (field_steps page entries) part) (image 0) line word quiet (subst At at_is is)
-    ∙ word_of-after_steps (field_steps page entries) part line word (fields_inside page entries (length part) enough)
+    quiet_image (after_steps (field_steps version_1 page entries) part) (image 0) line word quiet (subst At at_is is)
+    ∙ word_of-after_steps (field_steps version_1 page entries) part line word (fields_inside page entries (length part) enough)
 
 cleared_overlay : (was : ℕ) → overlaid (durable_store 0 0 0) 0 0 was ≡ 0
 unfolding durable_store
@@ -295,7 +296,7 @@ while_magic page entries parts page_ok entries_ok was count image is =
 
 -- Each image is blank or formatted, before each step and after the last.
 format_always : (page entries : ℕ) (parts : List Part) → IsPageSize page → IsEntryCount entries → IsBlankRow parts → HasRoom page entries parts
-    → Always row_after (InEachRowImage (IsBlankOrFormatted version_1 page entries)) (format_steps page entries) parts
+    → Always row_after (InEachRowImage (IsBlankOrFormatted version_1 page entries)) (format_steps version_1 page entries) parts
 format_always page entries parts page_ok entries_ok blank room =
     let P : List Part → Type 0 = InEachRowImage (IsBlankOrFormatted version_1 page entries) in
     let first = filling page entries in
@@ -307,37 +308,37 @@ format_always page entries parts page_ok entries_ok blank room =
     (always_by_fronts row_after P last (run row_after first parts) (λ count few.
     while_magic page entries (run row_after first parts) page_ok entries_ok (filled page entries parts blank room) count)))
 
-pub format_moments : (page entries : ℕ) {old new : List History} → IsPageSize page → IsEntryCount entries → RowTells old IsBlankRow → RowTells old (HasRoom page entries) → DidSomeRow (format_steps page entries) old new
+pub format_moments : (page entries : ℕ) {old new : List History} → IsPageSize page → IsEntryCount entries → RowTells old IsBlankRow → RowTells old (HasRoom page entries) → DidSomeRow (format_steps version_1 page entries) old new
     → EachRowMoment (InEachRowImage (IsBlankOrFormatted version_1 page entries)) old new
 format_moments page entries {old} page_ok entries_ok blank room did =
     let P : List Part → Type 0 = InEachRowImage (IsBlankOrFormatted version_1 page entries) in
     each_row_moment P
-    (row_tells_more old (λ parts. IsBlankRow parts × HasRoom page entries parts) (Always row_after P (format_steps page entries))
+    (row_tells_more old (λ parts. IsBlankRow parts × HasRoom page entries parts) (Always row_after P (format_steps version_1 page entries))
     (λ parts both. format_always page entries parts page_ok entries_ok both.0 both.1)
     (row_tells_both old IsBlankRow (HasRoom page entries) blank room))
     did
 
 -- ---- after all steps
 
-quiet_fields : (page entries : ℕ) (part : Part) → IsQuiet part → IsQuiet (after_steps (field_steps page entries) part)
+quiet_fields : (page entries : ℕ) (part : Part) → IsQuiet part → IsQuiet (after_steps (field_steps version_1 page entries) part)
 unfolding field_steps
 quiet_fields page entries part quiet = record {
   lines = λ i. elim (cases_eq i 0) [
-    | inl first ↦ quiet_after i (field_steps page entries) part (rw first refl)
+    | inl first ↦ quiet_after i (field_steps version_1 page entries) part (rw first refl)
     | inr other ↦ elim (cases_eq i 1) [
-      | inl second ↦ quiet_after i (field_steps page entries) part (rw second refl)
-      | inr beyond ↦ quiet_still i (field_steps page entries) part (rw (ne_eqb i 0 other, ne_eqb i 1 beyond)) (quiet.lines i)
+      | inl second ↦ quiet_after i (field_steps version_1 page entries) part (rw second refl)
+      | inr beyond ↦ quiet_still i (field_steps version_1 page entries) part (rw (ne_eqb i 0 other, ne_eqb i 1 beyond)) (quiet.lines i)
     ]
   ];
 }
 
 -- part i of the row after all steps is the part after those of filling, and of the magic
-part_after : (page entries i : ℕ) (parts : List Part) → slice_index_or (run row_after (format_steps page entries) parts) i []
+part_after : (page entries i : ℕ) (parts : List Part) → slice_index_or (run row_after (format_steps version_1 page entries) parts) i []
     ≡ after_steps (steps_on i (on_part 0 (durable_store 0 0 header_magic))) (after_steps (steps_on i (filling page entries)) (slice_index_or parts i []))
 part_after page entries i parts =
     let last = on_part 0 (durable_store 0 0 header_magic) in
     let part = slice_index_or parts i [] in
-    row_at i (format_steps page entries) parts
+    row_at i (format_steps version_1 page entries) parts
     ∙ ap (λ steps. after_steps (steps_on i steps) part) (format_steps-cut page entries)
     ∙ ap (λ steps. after_steps steps part) (steps_on-append i (filling page entries) last)
     ∙ after_steps-append (steps_on i (filling page entries)) (steps_on i last) part
@@ -348,7 +349,7 @@ quiet_filled page entries i part quiet =
     let At : List Step → Type 0 = λ steps. IsQuiet (after_steps steps part) in
     elim (cases_eq i 0) [
       | inl first ↦
-          let Here : ℕ → Type 0 = λ j. steps_on j (filling page entries) ≡ field_steps page entries in
+          let Here : ℕ → Type 0 = λ j. steps_on j (filling page entries) ≡ field_steps version_1 page entries in
           subst At (sym (subst Here (sym first) (filling_header page entries))) (quiet_fields page entries part quiet)
       | inr other ↦ elim (cases_lt i (1 + entries)) [
         | inl inside ↦
@@ -380,12 +381,12 @@ unfolding durable_store
 magic_inside lines some = (some, tt)
 
 -- the magic is in each image
-magic_is : (page entries : ℕ) (parts : List Part) (image : Image) → HasRoom page entries parts → IsRowImage (run row_after (format_steps page entries) parts) image → image 0 0 0 ≡ header_magic
+magic_is : (page entries : ℕ) (parts : List Part) (image : Image) → HasRoom page entries parts → IsRowImage (run row_after (format_steps version_1 page entries) parts) image → image 0 0 0 ≡ header_magic
 magic_is page entries parts image room is =
     let magic = durable_store 0 0 header_magic in
     let before = after_steps (steps_on 0 (filling page entries)) (slice_index_or parts 0 []) in
     let long : 0 < length before = omega (arith, room.has 0 (omega arith), length-after_steps (steps_on 0 (filling page entries)) (slice_index_or parts 0 [])) in
-    let At : List Step → Type 0 = λ steps. slice_index_or (run row_after (format_steps page entries) parts) 0 [] ≡ after_steps steps before in
+    let At : List Step → Type 0 = λ steps. slice_index_or (run row_after (format_steps version_1 page entries) parts) 0 [] ≡ after_steps steps before in
     let At_part : Part → Type 0 = λ part. IsImage part (image 0) in
     let at = subst At_part (subst At (steps_on-same 0 magic) (part_after page entries 0 parts)) (is.each 0) in
     quiet_image (after_steps magic before) (image 0) 0 0 (line_settled 0 0 header_magic before) at
@@ -397,7 +398,7 @@ is_formatted : (page entries : ℕ) (image : Image) → image 0 0 0 ≡ header_m
 is_formatted page entries image magic (inl blank) = absurd (omega (arith, magic, blank))
 is_formatted page entries image magic (inr whole) = whole
 
-at_rest : (page entries : ℕ) (parts : List Part) → IsPageSize page → IsEntryCount entries → IsBlankRow parts → HasRoom page entries parts → IsAtRest version_1 page entries [] 0 (run row_after (format_steps page entries) parts)
+at_rest : (page entries : ℕ) (parts : List Part) → IsPageSize page → IsEntryCount entries → IsBlankRow parts → HasRoom page entries parts → IsAtRest version_1 page entries [] 0 (run row_after (format_steps version_1 page entries) parts)
 at_rest page entries parts page_ok entries_ok blank room =
     let P : List Part → Type 0 = InEachRowImage (IsBlankOrFormatted version_1 page entries) in
     record {
@@ -408,11 +409,11 @@ at_rest page entries parts page_ok entries_ok blank room =
       };
       empty = λ image is.
           is_formatted page entries image (magic_is page entries parts image room is)
-          (always_last row_after P (format_steps page entries) parts (format_always page entries parts page_ok entries_ok blank room) image is);
+          (always_last row_after P (format_steps version_1 page entries) parts (format_always page entries parts page_ok entries_ok blank room) image is);
     }
 
 -- After all steps the region is formatted.
-pub format_tells : (page entries : ℕ) {old new : List History} → IsPageSize page → IsEntryCount entries → RowTells old IsBlankRow → RowTells old (HasRoom page entries) → DidRow (format_steps page entries) old new → RowTells new (IsAtRest version_1 page entries [] 0)
+pub format_tells : (page entries : ℕ) {old new : List History} → IsPageSize page → IsEntryCount entries → RowTells old IsBlankRow → RowTells old (HasRoom page entries) → DidRow (format_steps version_1 page entries) old new → RowTells new (IsAtRest version_1 page entries [] 0)
 format_tells page entries {old} page_ok entries_ok blank room did =
     row_tells_did (λ parts. IsBlankRow parts × HasRoom page entries parts) (IsAtRest version_1 page entries [] 0)
     (row_tells_both old IsBlankRow (HasRoom page entries) blank room)

@@ -8,6 +8,7 @@ pub mod InRow
 pub mod Joined
 pub mod Clearing
 pub mod FormatLaws
+pub mod OneLine
 pub mod AddLaws
 pub mod NewNames
 pub mod BlankParts

@@ -10,17 +10,17 @@ use Rattle.nv_header.specs.declared.head.HeadField.TheVariants.{Page, Entries, F
 use Rattle.nv_header.specs.Heads.{IsHead}
 use Rattle.nv_header.specs.Refusals.{IsRefused, IsBadName, SpeaksOfImage}
 
-pub head_not_refused : (version : ℕ) (layout : Layout) (lines : ℕ) (image : Image) (refusal : HeadError) → IsHead version layout lines image → SpeaksOfImage refusal → ¬ (IsRefused version layout lines image refusal)
-head_not_refused version layout lines image (Truncated found wanted) head speaks refused = omega (arith, head.long_enough, refused.0)
-head_not_refused version layout lines image BadMagic head speaks refused = refused.1 head.fields.magic
-head_not_refused version layout lines image (BadVersion found) head speaks refused = refused.1.1 head.fields.version_is
-head_not_refused version layout lines image (BadGeometry Page found) head speaks refused = refused.1.1.0 head.fields.page
-head_not_refused version layout lines image (BadGeometry Entries found) head speaks refused = refused.1.1.1 head.fields.entries
-head_not_refused version layout lines image (BadGeometry Files found) head speaks refused = omega (arith, head.fields.files, refused.1.1.2)
-head_not_refused version layout lines image (BadGeometry Tail found) head speaks refused = omega (arith, head.fields.tail, refused.1.1.3)
-head_not_refused version layout lines image (BadName i) head speaks refused = refused.2.bad (head.names i refused.2.inside)
-head_not_refused version layout lines image RegionFault head speaks refused = speaks
-head_not_refused version layout lines image NoMemory head speaks refused = speaks
+pub head_not_refused : (layout : Layout) (lines : ℕ) (image : Image) (refusal : HeadError) → IsHead layout lines image → SpeaksOfImage refusal → ¬ (IsRefused layout lines image refusal)
+head_not_refused layout lines image (Truncated found wanted) head speaks refused = omega (arith, head.long_enough, refused.0)
+head_not_refused layout lines image BadMagic head speaks refused = refused.1 head.fields.magic
+head_not_refused layout lines image (BadVersion found) head speaks refused = refused.1.1 head.fields.version_is
+head_not_refused layout lines image (BadGeometry Page found) head speaks refused = refused.1.1.0 head.fields.page
+head_not_refused layout lines image (BadGeometry Entries found) head speaks refused = refused.1.1.1 head.fields.entries
+head_not_refused layout lines image (BadGeometry Files found) head speaks refused = omega (arith, head.fields.files, refused.1.1.2)
+head_not_refused layout lines image (BadGeometry Tail found) head speaks refused = omega (arith, head.fields.tail, refused.1.1.3)
+head_not_refused layout lines image (BadName i) head speaks refused = refused.2.bad (head.names i refused.2.inside)
+head_not_refused layout lines image RegionFault head speaks refused = speaks
+head_not_refused layout lines image NoMemory head speaks refused = speaks
 
 -- there is one first bad name
 first_bad : (layout : Layout) (image : Image) (i j : ℕ) → IsBadName layout image i → IsBadName layout image j → i ≡ j
@@ -64,58 +64,58 @@ place-le (BadGeometry field found) = omega (arith, field_place-le field)
 place-le (BadName i) = omega arith
 
 -- a refusal by an earlier test excludes one by a later test
-earlier_excludes : (version : ℕ) (layout : Layout) (lines : ℕ) (image : Image) (early late : HeadError) → place early < place late → SpeaksOfImage early → IsRefused version layout lines image early → IsRefused version layout lines image late → ⊥
-earlier_excludes version layout lines image RegionFault late order speaks one other = speaks
-earlier_excludes version layout lines image NoMemory late order speaks one other = speaks
-earlier_excludes version layout lines image (Truncated found wanted) BadMagic order speaks one other = omega (arith, one.0, other.0)
-earlier_excludes version layout lines image (Truncated found wanted) (BadVersion found') order speaks one other = omega (arith, one.0, other.0)
-earlier_excludes version layout lines image (Truncated found wanted) (BadGeometry Page found') order speaks one other = omega (arith, one.0, other.0)
-earlier_excludes version layout lines image (Truncated found wanted) (BadGeometry Entries found') order speaks one other = omega (arith, one.0, other.0)
-earlier_excludes version layout lines image (Truncated found wanted) (BadGeometry Files found') order speaks one other = omega (arith, one.0, other.0)
-earlier_excludes version layout lines image (Truncated found wanted) (BadGeometry Tail found') order speaks one other = omega (arith, one.0, other.0)
-earlier_excludes version layout lines image (Truncated found wanted) (BadName i) order speaks one other = omega (arith, one.0, other.0)
-earlier_excludes version layout lines image BadMagic (BadVersion found') order speaks one other = one.1 other.1.0
-earlier_excludes version layout lines image BadMagic (BadGeometry Page found') order speaks one other = one.1 other.1.0.magic
-earlier_excludes version layout lines image BadMagic (BadGeometry Entries found') order speaks one other = one.1 other.1.0.magic
-earlier_excludes version layout lines image BadMagic (BadGeometry Files found') order speaks one other = one.1 other.1.0.magic
-earlier_excludes version layout lines image BadMagic (BadGeometry Tail found') order speaks one other = one.1 other.1.0.magic
-earlier_excludes version layout lines image BadMagic (BadName i) order speaks one other = one.1 other.1.magic
-earlier_excludes version layout lines image (BadVersion found) (BadGeometry Page found') order speaks one other = one.1.1 other.1.0.version_is
-earlier_excludes version layout lines image (BadVersion found) (BadGeometry Entries found') order speaks one other = one.1.1 other.1.0.version_is
-earlier_excludes version layout lines image (BadVersion found) (BadGeometry Files found') order speaks one other = one.1.1 other.1.0.version_is
-earlier_excludes version layout lines image (BadVersion found) (BadGeometry Tail found') order speaks one other = one.1.1 other.1.0.version_is
-earlier_excludes version layout lines image (BadVersion found) (BadName i) order speaks one other = one.1.1 other.1.version_is
-earlier_excludes version layout lines image (BadGeometry Page found) (BadGeometry Entries found') order speaks one other = one.1.1.0 other.1.1.0
-earlier_excludes version layout lines image (BadGeometry Page found) (BadGeometry Files found') order speaks one other = one.1.1.0 other.1.1.0
-earlier_excludes version layout lines image (BadGeometry Page found) (BadGeometry Tail found') order speaks one other = one.1.1.0 other.1.1.0
-earlier_excludes version layout lines image (BadGeometry Page found) (BadName i) order speaks one other = one.1.1.0 other.1.page
-earlier_excludes version layout lines image (BadGeometry Entries found) (BadGeometry Files found') order speaks one other = one.1.1.1 other.1.1.1
-earlier_excludes version layout lines image (BadGeometry Entries found) (BadGeometry Tail found') order speaks one other = one.1.1.1 other.1.1.1
-earlier_excludes version layout lines image (BadGeometry Entries found) (BadName i) order speaks one other = one.1.1.1 other.1.entries
-earlier_excludes version layout lines image (BadGeometry Files found) (BadGeometry Tail found') order speaks one other = omega (arith, one.1.1.2, other.1.1.2)
-earlier_excludes version layout lines image (BadGeometry Files found) (BadName i) order speaks one other = omega (arith, one.1.1.2, other.1.files)
-earlier_excludes version layout lines image (BadGeometry Tail found) (BadName i) order speaks one other = omega (arith, one.1.1.3, other.1.tail)
-earlier_excludes version layout lines image early late order speaks one other = omega (arith, field_place-le, place-le late)
+earlier_excludes : (layout : Layout) (lines : ℕ) (image : Image) (early late : HeadError) → place early < place late → SpeaksOfImage early → IsRefused layout lines image early → IsRefused layout lines image late → ⊥
+earlier_excludes layout lines image RegionFault late order speaks one other = speaks
+earlier_excludes layout lines image NoMemory late order speaks one other = speaks
+earlier_excludes layout lines image (Truncated found wanted) BadMagic order speaks one other = omega (arith, one.0, other.0)
+earlier_excludes layout lines image (Truncated found wanted) (BadVersion found') order speaks one other = omega (arith, one.0, other.0)
+earlier_excludes layout lines image (Truncated found wanted) (BadGeometry Page found') order speaks one other = omega (arith, one.0, other.0)
+earlier_excludes layout lines image (Truncated found wanted) (BadGeometry Entries found') order speaks one other = omega (arith, one.0, other.0)
+earlier_excludes layout lines image (Truncated found wanted) (BadGeometry Files found') order speaks one other = omega (arith, one.0, other.0)
+earlier_excludes layout lines image (Truncated found wanted) (BadGeometry Tail found') order speaks one other = omega (arith, one.0, other.0)
+earlier_excludes layout lines image (Truncated found wanted) (BadName i) order speaks one other = omega (arith, one.0, other.0)
+earlier_excludes layout lines image BadMagic (BadVersion found') order speaks one other = one.1 other.1.0
+earlier_excludes layout lines image BadMagic (BadGeometry Page found') order speaks one other = one.1 other.1.0.magic
+earlier_excludes layout lines image BadMagic (BadGeometry Entries found') order speaks one other = one.1 other.1.0.magic
+earlier_excludes layout lines image BadMagic (BadGeometry Files found') order speaks one other = one.1 other.1.0.magic
+earlier_excludes layout lines image BadMagic (BadGeometry Tail found') order speaks one other = one.1 other.1.0.magic
+earlier_excludes layout lines image BadMagic (BadName i) order speaks one other = one.1 other.1.magic
+earlier_excludes layout lines image (BadVersion found) (BadGeometry Page found') order speaks one other = one.1.1 other.1.0.version_is
+earlier_excludes layout lines image (BadVersion found) (BadGeometry Entries found') order speaks one other = one.1.1 other.1.0.version_is
+earlier_excludes layout lines image (BadVersion found) (BadGeometry Files found') order speaks one other = one.1.1 other.1.0.version_is
+earlier_excludes layout lines image (BadVersion found) (BadGeometry Tail found') order speaks one other = one.1.1 other.1.0.version_is
+earlier_excludes layout lines image (BadVersion found) (BadName i) order speaks one other = one.1.1 other.1.version_is
+earlier_excludes layout lines image (BadGeometry Page found) (BadGeometry Entries found') order speaks one other = one.1.1.0 other.1.1.0
+earlier_excludes layout lines image (BadGeometry Page found) (BadGeometry Files found') order speaks one other = one.1.1.0 other.1.1.0
+earlier_excludes layout lines image (BadGeometry Page found) (BadGeometry Tail found') order speaks one other = one.1.1.0 other.1.1.0
+earlier_excludes layout lines image (BadGeometry Page found) (BadName i) order speaks one other = one.1.1.0 other.1.page
+earlier_excludes layout lines image (BadGeometry Entries found) (BadGeometry Files found') order speaks one other = one.1.1.1 other.1.1.1
+earlier_excludes layout lines image (BadGeometry Entries found) (BadGeometry Tail found') order speaks one other = one.1.1.1 other.1.1.1
+earlier_excludes layout lines image (BadGeometry Entries found) (BadName i) order speaks one other = one.1.1.1 other.1.entries
+earlier_excludes layout lines image (BadGeometry Files found) (BadGeometry Tail found') order speaks one other = omega (arith, one.1.1.2, other.1.1.2)
+earlier_excludes layout lines image (BadGeometry Files found) (BadName i) order speaks one other = omega (arith, one.1.1.2, other.1.files)
+earlier_excludes layout lines image (BadGeometry Tail found) (BadName i) order speaks one other = omega (arith, one.1.1.3, other.1.tail)
+earlier_excludes layout lines image early late order speaks one other = omega (arith, field_place-le, place-le late)
 
 -- refusals by one test are the same
-same_place : (version : ℕ) (layout : Layout) (lines : ℕ) (image : Image) (one other : HeadError) → place one ≡ place other → SpeaksOfImage one → IsRefused version layout lines image one → IsRefused version layout lines image other → one ≡ other
-same_place version layout lines image RegionFault other order speaks is also = absurd speaks
-same_place version layout lines image NoMemory other order speaks is also = absurd speaks
-same_place version layout lines image (Truncated found wanted) (Truncated found' wanted') order speaks is also = cc (is.1, is.2, also.1, also.2)
-same_place version layout lines image BadMagic BadMagic order speaks is also = refl
-same_place version layout lines image (BadVersion found) (BadVersion found') order speaks is also = cc (is.1.2, also.1.2)
-same_place version layout lines image (BadGeometry Page found) (BadGeometry Page found') order speaks is also = cc (is.1.1.1, also.1.1.1)
-same_place version layout lines image (BadGeometry Entries found) (BadGeometry Entries found') order speaks is also = cc (is.1.1.2, also.1.1.2)
-same_place version layout lines image (BadGeometry Files found) (BadGeometry Files found') order speaks is also = cc (is.1.1.3, also.1.1.3)
-same_place version layout lines image (BadGeometry Tail found) (BadGeometry Tail found') order speaks is also = cc (is.1.1.4, also.1.1.4)
-same_place version layout lines image (BadName i) (BadName j) order speaks is also = ap BadName (first_bad layout image i j is.2 also.2)
-same_place version layout lines image one other order speaks is also = absurd (omega (arith, field_place-le))
+same_place : (layout : Layout) (lines : ℕ) (image : Image) (one other : HeadError) → place one ≡ place other → SpeaksOfImage one → IsRefused layout lines image one → IsRefused layout lines image other → one ≡ other
+same_place layout lines image RegionFault other order speaks is also = absurd speaks
+same_place layout lines image NoMemory other order speaks is also = absurd speaks
+same_place layout lines image (Truncated found wanted) (Truncated found' wanted') order speaks is also = cc (is.1, is.2, also.1, also.2)
+same_place layout lines image BadMagic BadMagic order speaks is also = refl
+same_place layout lines image (BadVersion found) (BadVersion found') order speaks is also = cc (is.1.2, also.1.2)
+same_place layout lines image (BadGeometry Page found) (BadGeometry Page found') order speaks is also = cc (is.1.1.1, also.1.1.1)
+same_place layout lines image (BadGeometry Entries found) (BadGeometry Entries found') order speaks is also = cc (is.1.1.2, also.1.1.2)
+same_place layout lines image (BadGeometry Files found) (BadGeometry Files found') order speaks is also = cc (is.1.1.3, also.1.1.3)
+same_place layout lines image (BadGeometry Tail found) (BadGeometry Tail found') order speaks is also = cc (is.1.1.4, also.1.1.4)
+same_place layout lines image (BadName i) (BadName j) order speaks is also = ap BadName (first_bad layout image i j is.2 also.2)
+same_place layout lines image one other order speaks is also = absurd (omega (arith, field_place-le))
 
-pub one_refusal : (version : ℕ) (layout : Layout) (lines : ℕ) (image : Image) (one other : HeadError) → SpeaksOfImage one → SpeaksOfImage other → IsRefused version layout lines image one → IsRefused version layout lines image other → one ≡ other
-one_refusal version layout lines image one other speaks also_speaks is also = elim (cases_eq (place one) (place other)) [
-  | inl same ↦ same_place version layout lines image one other same speaks is also
+pub one_refusal : (layout : Layout) (lines : ℕ) (image : Image) (one other : HeadError) → SpeaksOfImage one → SpeaksOfImage other → IsRefused layout lines image one → IsRefused layout lines image other → one ≡ other
+one_refusal layout lines image one other speaks also_speaks is also = elim (cases_eq (place one) (place other)) [
+  | inl same ↦ same_place layout lines image one other same speaks is also
   | inr differs ↦ elim (cases_lt (place one) (place other)) [
-    | inl before ↦ absurd (earlier_excludes version layout lines image one other before speaks is also)
-    | inr behind ↦ absurd (earlier_excludes version layout lines image other one (omega arith) also_speaks also is)
+    | inl before ↦ absurd (earlier_excludes layout lines image one other before speaks is also)
+    | inr behind ↦ absurd (earlier_excludes layout lines image other one (omega arith) also_speaks also is)
   ]
 ]

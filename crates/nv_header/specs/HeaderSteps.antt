@@ -1,5 +1,5 @@
 -- The device calls that write a region's header, one after another.
-use Rattle.std.specs.Prelude.{ℕ, ◌+◌, ◌-◌, ◌*◌, List, [], ◌∷◌, ◌++◌, length}
+use Rattle.std.specs.Prelude.{ℕ, ◌+◌, ◌-◌, ◌*◌, List, [], ◌∷◌, ◌++◌, length, take, drop}
 use Rattle.std.specs.Int.{to_le_bytes, w64}
 use Rattle.std.specs.List.{flat_map, range_with_len}
 use Rattle.nv_plain.specs.Files.{padded}
@@ -17,27 +17,34 @@ tail_steps tail = durable_store 1 0 tail
 unfoldable pub clear_steps : (entries : ℕ) → List RowStep
 clear_steps entries = flat_map (λ i. on_part i (durable_store 0 0 0)) (range_with_len 1 entries)
 
--- the fields of a header of version 1 with no file and tail 0, durable before the magic is stored
-unfoldable pub field_steps : (page entries : ℕ) → List Step
-field_steps page entries =
-    Store 0 1 1 ∷ Store 0 2 page ∷ Store 0 3 entries ∷ Store 0 4 0 ∷ Store 1 0 0 ∷ Flush 0 ∷ Flush 1 ∷ Fence ∷ []
+-- the fields of a header of this version with no file and tail 0, durable before the magic is stored
+unfoldable pub field_steps : Layout → (page entries : ℕ) → List Step
+field_steps layout page entries =
+    Store 0 1 layout.version ∷ Store 0 2 page ∷ Store 0 3 entries ∷ Store 0 4 0 ∷ Store 1 0 0 ∷ Flush 0 ∷ Flush 1 ∷ Fence ∷ []
 
 -- the fields, and then the magic by itself
-unfoldable pub blank_header_steps : (page entries : ℕ) → List Step
-blank_header_steps page entries = field_steps page entries ++ durable_store 0 0 header_magic
+unfoldable pub blank_header_steps : Layout → (page entries : ℕ) → List Step
+blank_header_steps layout page entries = field_steps layout page entries ++ durable_store 0 0 header_magic
 
 -- A blank region is formatted: the entries first, and then the header.
-unfoldable pub format_steps : (page entries : ℕ) → List RowStep
-format_steps page entries = clear_steps entries ++ on_part 0 (blank_header_steps page entries)
+unfoldable pub format_steps : Layout → (page entries : ℕ) → List RowStep
+format_steps layout page entries = clear_steps entries ++ on_part 0 (blank_header_steps layout page entries)
 
--- a name's record, of one line: its length, its bytes, and zeros behind them
+-- a name's record: its length, its bytes, and zeros behind them
 unfoldable pub name_record : Layout → List ℕ → List ℕ
 name_record layout name = to_le_bytes w64 (length name) ++ padded name (64 * layout.lines_per_name - 8)
 
--- the record of name i is stored and made durable
+-- line k of a name's record
+abbrev pub record_part : Layout → List ℕ → ℕ → List ℕ
+record_part layout name k = take 64 (drop (64 * k) (name_record layout name))
+
+-- The record of name i is made durable: each of its lines is stored and flushed, and a fence comes last.
 unfoldable pub record_steps : Layout → (i : ℕ) → List ℕ → List Step
 record_steps layout i name =
-    line_stores (record_line layout i) (name_record layout name) ++ Flush (record_line layout i) ∷ Fence ∷ []
+    flat_map
+    (λ k. line_stores (record_line layout i + k) (record_part layout name k) ++ Flush (record_line layout i + k) ∷ [])
+    (range_with_len 0 layout.lines_per_name)
+    ++ Fence ∷ []
 
 -- A name is added as name i: its record first, and then the count of the names.
 unfoldable pub add_file_steps : Layout → (i : ℕ) → List ℕ → List Step

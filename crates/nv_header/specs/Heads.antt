@@ -41,24 +41,24 @@ pub record IsGoodName (layout : Layout) (image : Image) (i : ℕ) : Type 0 where
 unfoldable pub first_names : Layout → Image → ℕ → List (List ℕ)
 first_names layout image count = map (name_of layout image) (range_with_len 0 count)
 
--- The fields of a header are those of this version, and within their limits.
-pub record HasFields (version : ℕ) (layout : Layout) (header : Header) : Type 0 where
+-- The fields of a header are those of its layout's version, and within their limits.
+pub record HasFields (layout : Layout) (header : Header) : Type 0 where
   pub magic : header.magic ≡ header_magic
-  pub version_is : header.version ≡ version
+  pub version_is : header.version ≡ layout.version
   pub page : IsPageSize header.page
   pub entries : IsEntryCount header.entries
   pub files : header.files ≤ layout.file_limit
   pub tail : header.tail ≤ 2 ^ 60
 
 -- The header of an image, in a part of so many lines, can be read.
-pub record IsHead (version : ℕ) (layout : Layout) (lines : ℕ) (image : Image) : Type 0 where
+pub record IsHead (layout : Layout) (lines : ℕ) (image : Image) : Type 0 where
   pub long_enough : layout.header_lines ≤ lines
-  pub fields : HasFields version layout (header_of image)
+  pub fields : HasFields layout (header_of image)
   pub names : (i : ℕ) → i < (header_of image).files → IsGoodName layout image i
 
 -- a head says what a header says that can be read
-pub record IsHeadOf (version : ℕ) (layout : Layout) (lines : ℕ) (image : Image) (head : Head) : Type 0 where
-  pub readable : IsHead version layout lines image
+pub record IsHeadOf (layout : Layout) (lines : ℕ) (image : Image) (head : Head) : Type 0 where
+  pub readable : IsHead layout lines image
   pub page : head.geometry.page ≡ (header_of image).page
   pub entries : head.geometry.entries ≡ (header_of image).entries
   pub names : head.names ≡ first_names layout image (header_of image).files

@@ -18,9 +18,9 @@ head_field geometry.Page = Page
 head_field geometry.Entries = Entries
 
 -- the magic and the version are as they have to be
-pub record IsOurs (version : ℕ) (header : Header) : Type 0 where
+pub record IsOurs (layout : Layout) (header : Header) : Type 0 where
   pub magic : header.magic ≡ header_magic
-  pub version_is : header.version ≡ version
+  pub version_is : header.version ≡ layout.version
 
 -- a field is out of its limits, and those before it are not
 abbrev pub IsOutOfLimits : Layout → Header → HeadField → ℕ → Type 0
@@ -33,16 +33,16 @@ IsOutOfLimits layout header Tail found =
     × (found ≡ header.tail)
 
 -- the refusals by the fields, in the order of their tests: the magic, the version, the limits
-abbrev pub IsBadField : ℕ → Layout → Header → HeadError → Type 0
-IsBadField version layout header BadMagic = header.magic ≢ header_magic
-IsBadField version layout header (BadVersion found) =
-    (header.magic ≡ header_magic) × (header.version ≢ version) × (found ≡ header.version)
-IsBadField version layout header (BadGeometry field found) =
-    IsOurs version header × IsOutOfLimits layout header field found
-IsBadField version layout header (Truncated found wanted) = ⊥
-IsBadField version layout header (BadName i) = ⊥
-IsBadField version layout header RegionFault = ⊥
-IsBadField version layout header NoMemory = ⊥
+abbrev pub IsBadField : Layout → Header → HeadError → Type 0
+IsBadField layout header BadMagic = header.magic ≢ header_magic
+IsBadField layout header (BadVersion found) =
+    (header.magic ≡ header_magic) × (header.version ≢ layout.version) × (found ≡ header.version)
+IsBadField layout header (BadGeometry field found) =
+    IsOurs layout header × IsOutOfLimits layout header field found
+IsBadField layout header (Truncated found wanted) = ⊥
+IsBadField layout header (BadName i) = ⊥
+IsBadField layout header RegionFault = ⊥
+IsBadField layout header NoMemory = ⊥
 
 -- the first name that isn't good
 pub record IsBadName (layout : Layout) (image : Image) (i : ℕ) : Type 0 where
@@ -52,19 +52,19 @@ pub record IsBadName (layout : Layout) (image : Image) (i : ℕ) : Type 0 where
 
 -- Why the header of an image, in a part of so many lines, isn't read: the lines, then the fields, then the names. A fault and
 -- want of memory say nothing of the image.
-abbrev pub IsRefused : ℕ → Layout → ℕ → Image → HeadError → Type 0
-IsRefused version layout lines image (Truncated found wanted) =
+abbrev pub IsRefused : Layout → (lines : ℕ) → Image → HeadError → Type 0
+IsRefused layout lines image (Truncated found wanted) =
     (lines < layout.header_lines) × (found ≡ lines) × (wanted ≡ layout.header_lines)
-IsRefused version layout lines image BadMagic =
-    (layout.header_lines ≤ lines) × IsBadField version layout (header_of image) BadMagic
-IsRefused version layout lines image (BadVersion found) =
-    (layout.header_lines ≤ lines) × IsBadField version layout (header_of image) (BadVersion found)
-IsRefused version layout lines image (BadGeometry field found) =
-    (layout.header_lines ≤ lines) × IsBadField version layout (header_of image) (BadGeometry field found)
-IsRefused version layout lines image (BadName i) =
-    (layout.header_lines ≤ lines) × HasFields version layout (header_of image) × IsBadName layout image i
-IsRefused version layout lines image RegionFault = Unit {0}
-IsRefused version layout lines image NoMemory = Unit {0}
+IsRefused layout lines image BadMagic =
+    (layout.header_lines ≤ lines) × IsBadField layout (header_of image) BadMagic
+IsRefused layout lines image (BadVersion found) =
+    (layout.header_lines ≤ lines) × IsBadField layout (header_of image) (BadVersion found)
+IsRefused layout lines image (BadGeometry field found) =
+    (layout.header_lines ≤ lines) × IsBadField layout (header_of image) (BadGeometry field found)
+IsRefused layout lines image (BadName i) =
+    (layout.header_lines ≤ lines) × HasFields layout (header_of image) × IsBadName layout image i
+IsRefused layout lines image RegionFault = Unit {0}
+IsRefused layout lines image NoMemory = Unit {0}
 
 -- A fault is answered only where the count of faults rose, and any other answer leaves it.
 abbrev pub HeadHasCause : {T : Type 0} → ℕ → ℕ → Result T HeadError → Type 0
@@ -90,12 +90,12 @@ SpeaksOfImage NoMemory = ⊥
 -- A header that can be read has no such refusal.
 abbrev pub ReadIsNotRefused : Type 0
 ReadIsNotRefused =
-    (version : ℕ) (layout : Layout) (lines : ℕ) (image : Image) (refusal : HeadError)
-    → IsHead version layout lines image → SpeaksOfImage refusal → ¬ (IsRefused version layout lines image refusal)
+    (layout : Layout) (lines : ℕ) (image : Image) (refusal : HeadError)
+    → IsHead layout lines image → SpeaksOfImage refusal → ¬ (IsRefused layout lines image refusal)
 
 -- And no header has two of them: the first test that fails is one.
 abbrev pub IsRefusedOnce : Type 0
 IsRefusedOnce =
-    (version : ℕ) (layout : Layout) (lines : ℕ) (image : Image) (one other : HeadError)
+    (layout : Layout) (lines : ℕ) (image : Image) (one other : HeadError)
     → SpeaksOfImage one → SpeaksOfImage other
-    → IsRefused version layout lines image one → IsRefused version layout lines image other → one ≡ other
+    → IsRefused layout lines image one → IsRefused layout lines image other → one ≡ other

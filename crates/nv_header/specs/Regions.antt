@@ -4,6 +4,7 @@ use Rattle.std.specs.Coded.{Coded-set, coded_ℕ, coded_list, Unit-prop}
 use Rattle.std.proofs.Props.{props}
 use Rattle.nv_plain.specs.Images.{Image, header_of, entry_of}
 use Rattle.nv_plain.specs.Layouts.{Layout}
+use Rattle.nv_plain.specs.Recovered.{IsBlank}
 use Rattle.nv_pmem.specs.Images.{IsQuietLine-prop}
 use Rattle.nv_pmem.specs.Limits.{entry_lines}
 use Rattle.nv_pmem.specs.Part.{Part}
@@ -37,13 +38,9 @@ pub record HasParts (layout : Layout) (page entries : ℕ) (rooms : List Room) :
 
 -- ---- what an image reads as
 
--- a region that isn't formatted: its magic is 0
-abbrev pub IsBlank : Image → Type 0
-IsBlank image = (header_of image).magic ≡ 0
-
 -- The header can be read, and it says this.
 pub record ReadsAs (layout : Layout) (page entries : ℕ) (names : List (List ℕ)) (tail : ℕ) (image : Image) : Type 0 where
-  pub readable : IsHead 1 layout layout.header_lines image
+  pub readable : IsHead layout layout.header_lines image
   pub page_is : (header_of image).page ≡ page
   pub entries_is : (header_of image).entries ≡ entries
   pub names_are : first_names layout image (header_of image).files ≡ names

@@ -42,10 +42,10 @@ impl Fields {
 
     /// The geometry, where each field is as it has to be.
     pub(crate) fn check(&self) -> Result<Geometry, HeadError>
-        ensures good { IfOk result (λ geometry. HasFields 1 version_1 (header_in self.now)) }
+        ensures good { IfOk result (λ geometry. HasFields version_1 (header_in self.now)) }
         ensures page { IfOk result (λ geometry. geometry.page ≡ self.now.page) }
         ensures entries { IfOk result (λ geometry. geometry.entries ≡ self.now.entries) }
-        ensures bad { IfErr result (λ e. IsBadField 1 version_1 (header_in self.now) e) }
+        ensures bad { IfErr result (λ e. IsBadField version_1 (header_in self.now) e) }
     {
         if self.magic != MAGIC {
             return Err(HeadError::BadMagic);

@@ -22,10 +22,10 @@ pub fn format<L: Lines + Drop>(
 
     // The device calls are these, in this order.
     ensures begun { MatchResult result
-        (λ region. DidSomeRow (format_steps geometry.page geometry.entries) (map L.history parts.items) (map L.history region.parts.items))
-        (λ failed. DidSomeRow (format_steps geometry.page geometry.entries) (map L.history parts.items) (map L.history failed.0.items)) }
+        (λ region. DidSomeRow (format_steps version_1 geometry.page geometry.entries) (map L.history parts.items) (map L.history region.parts.items))
+        (λ failed. DidSomeRow (format_steps version_1 geometry.page geometry.entries) (map L.history parts.items) (map L.history failed.0.items)) }
     ensures done { IfOk result (λ region.
-        DidRow (format_steps geometry.page geometry.entries) (map L.history parts.items) (map L.history region.parts.items)) }
+        DidRow (format_steps version_1 geometry.page geometry.entries) (map L.history parts.items) (map L.history region.parts.items)) }
 
     ensures moments { MatchResult result
         (λ region. EachRowMoment (InEachRowImage (IsBlankOrFormatted version_1 geometry.page geometry.entries))
@@ -64,8 +64,8 @@ pub fn format<L: Lines + Drop>(
 // The entries are cleared, and then the header is written.
 fn write_region<L: Lines>(parts: &mut Vec<L>, geometry: Geometry) -> Result<(), RegionFault>
     requires parts { HasParts version_1 geometry.page geometry.entries (map L.room parts.old.items) }
-    ensures begun { DidSomeRow (format_steps geometry.page geometry.entries) (map L.history parts.old.items) (map L.history parts.new.items) }
-    ensures done { OnOk result (DidRow (format_steps geometry.page geometry.entries) (map L.history parts.old.items) (map L.history parts.new.items)) }
+    ensures begun { DidSomeRow (format_steps version_1 geometry.page geometry.entries) (map L.history parts.old.items) (map L.history parts.new.items) }
+    ensures done { OnOk result (DidRow (format_steps version_1 geometry.page geometry.entries) (map L.history parts.old.items) (map L.history parts.new.items)) }
     ensures parts { OnOk result (HasParts version_1 geometry.page geometry.entries (map L.room parts.new.items)) }
     ensures lines { map (λ part. (L.room part).lines) parts.new.items ≡ map (λ part. (L.room part).lines) parts.old.items }
     ensures cause { HasCause (sum_by L.fault_count parts.old.items) (sum_by L.fault_count parts.new.items) result }
@@ -94,8 +94,8 @@ fn clear_commit_words<L: Lines>(parts: &mut Vec<L>, geometry: Geometry) -> Resul
 // The header of a region with no file and tail 0: its fields, and then its magic.
 fn write_header<L: Lines>(header: &mut L, geometry: Geometry) -> Result<(), RegionFault>
     requires room { IsRoomy version_1.header_lines (L.room header.old) }
-    ensures begun { DidSome (blank_header_steps geometry.page geometry.entries) (L.history header.old) (L.history header.new) }
-    ensures done { OnOk result (Did (blank_header_steps geometry.page geometry.entries) (L.history header.old) (L.history header.new)) }
+    ensures begun { DidSome (blank_header_steps version_1 geometry.page geometry.entries) (L.history header.old) (L.history header.new) }
+    ensures done { OnOk result (Did (blank_header_steps version_1 geometry.page geometry.entries) (L.history header.old) (L.history header.new)) }
     ensures room { OnOk result (StaysRoomy (L.room header.old) (L.room header.new)) }
     ensures lines { (L.room header.new).lines ≡ (L.room header.old).lines }
     ensures cause { HasCause (L.fault_count header.old) (L.fault_count header.new) result }
@@ -109,8 +109,8 @@ fn write_header<L: Lines>(header: &mut L, geometry: Geometry) -> Result<(), Regi
 // The fields of such a header but for the magic, durable at `Ok`.
 fn write_fields<L: Lines>(header: &mut L, geometry: Geometry) -> Result<(), RegionFault>
     requires room { IsRoomy version_1.header_lines (L.room header.old) }
-    ensures begun { DidSome (field_steps geometry.page geometry.entries) (L.history header.old) (L.history header.new) }
-    ensures done { OnOk result (Did (field_steps geometry.page geometry.entries) (L.history header.old) (L.history header.new)) }
+    ensures begun { DidSome (field_steps version_1 geometry.page geometry.entries) (L.history header.old) (L.history header.new) }
+    ensures done { OnOk result (Did (field_steps version_1 geometry.page geometry.entries) (L.history header.old) (L.history header.new)) }
     ensures room { OnOk result (StaysRoomy (L.room header.old) (L.room header.new)) }
     ensures lines { (L.room header.new).lines ≡ (L.room header.old).lines }
     ensures cause { HasCause (L.fault_count header.old) (L.fault_count header.new) result }

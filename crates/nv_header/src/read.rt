@@ -54,10 +54,10 @@ fn is_blank_part<L: Lines>(part: &mut L) -> Result<bool, RegionFault>
 /// before it. Parts that tell nothing are taken at what is read of them.
 pub fn read_head<L: Lines>(alloc: Global, parts: &mut [L]) -> Result<Head, HeadError>
     ensures head { IfOk result (λ head. Tells (header_history (map L.history parts.old)) (λ now.
-        IsHeadOf 1 version_1 (header_lines_in (map L.room parts.old)) (header_image now) head)) }
+        IsHeadOf version_1 (header_lines_in (map L.room parts.old)) (header_image now) head)) }
     ensures limits { IfOk result (λ head. IsWithinLimits version_1 head) }
     ensures refused { IfErr result (λ e. Tells (header_history (map L.history parts.old)) (λ now.
-        IsRefused 1 version_1 (header_lines_in (map L.room parts.old)) (header_image now) e)) }
+        IsRefused version_1 (header_lines_in (map L.room parts.old)) (header_image now) e)) }
     ensures truncated { header_lines_in (map L.room parts.old) < version_1.header_lines →
         result ≡ Err (HeadError.Truncated (header_lines_in (map L.room parts.old)) version_1.header_lines) }
 
@@ -77,10 +77,10 @@ pub fn read_head<L: Lines>(alloc: Global, parts: &mut [L]) -> Result<Head, HeadE
 
 fn read_part<L: Lines>(alloc: Global, part: &mut L) -> Result<Head, HeadError>
     ensures head { IfOk result (λ head. Tells (L.history part.old) (λ now.
-        IsHeadOf 1 version_1 (L.room part.old).lines (header_image now) head)) }
+        IsHeadOf version_1 (L.room part.old).lines (header_image now) head)) }
     ensures limits { IfOk result (λ head. IsWithinLimits version_1 head) }
     ensures refused { IfErr result (λ e. Tells (L.history part.old) (λ now.
-        IsRefused 1 version_1 (L.room part.old).lines (header_image now) e)) }
+        IsRefused version_1 (L.room part.old).lines (header_image now) e)) }
     ensures truncated { (L.room part.old).lines < version_1.header_lines →
         result ≡ Err (HeadError.Truncated (L.room part.old).lines version_1.header_lines) }
     ensures history { L.history part.new ≡ L.history part.old }

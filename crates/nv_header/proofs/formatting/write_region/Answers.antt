@@ -22,7 +22,7 @@ write_header-requires g c = record {
 pub returns-in_err-clear_commit_words-clause-begun : goal.returns-in_err-clear_commit_words-clause-begun
 unfolding format_steps
 returns-in_err-clear_commit_words-clause-begun g c =
-    did_some_front (on_part 0 (blank_header_steps c.args.geometry.page c.args.geometry.entries)) c.clear_commit_words.ensures.begun
+    did_some_front (on_part 0 (blank_header_steps version_1 c.args.geometry.page c.args.geometry.entries)) c.clear_commit_words.ensures.begun
 
 pub returns-clause-begun : goal.returns-clause-begun
 unfolding format_steps
