@@ -1,7 +1,7 @@
 -- Checks: which entry of a committed group is the first to break a rule.
 use Rattle.std.specs.Prelude.{◌≡◌, ◌⊎◌, ℕ, ◌+◌, ◌<◌, ◌≤◌}
 use Rattle.nv_plain.specs.Images.{Image, Entry, header_of, entry_at}
-use Rattle.nv_plain.specs.Layouts.{Layout, version_1}
+use Rattle.nv_plain.specs.Layouts.{Layout}
 use Rattle.nv_plain.specs.Recovered.{IsLeader, IsFollower, IsPiece, GoesOn, IsInGroup, IsGroup}
 use Rattle.nv_entry.specs.declared.bounds.Bounds.{Bounds}
 use Rattle.nv_entry.specs.declared.check.EntryWords.{EntryWords}
@@ -41,9 +41,9 @@ pub record IsFirstBad (layout : Layout) (image : Image) (leader number : ℕ) : 
   pub bad : ¬ IsGood layout image leader number
 
 -- what a check of a committed group says
-abbrev pub SaysOfGroup : Image → ℕ → GroupCheck → Type 0
-SaysOfGroup image leader (Whole count) = IsGroup version_1 image leader × (count ≡ (entry_at image leader).count)
-SaysOfGroup image leader (Bad number) = IsFirstBad version_1 image leader number
+abbrev pub SaysOfGroup : Layout → Image → (leader : ℕ) → GroupCheck → Type 0
+SaysOfGroup layout image leader (Whole count) = IsGroup layout image leader × (count ≡ (entry_at image leader).count)
+SaysOfGroup layout image leader (Bad number) = IsFirstBad layout image leader number
 
 -- a group's leader is of this file, and the bytes of one of its entries end here
 pub record EndsAt (image : Image) (leader number leaders_file end_at : ℕ) : Type 0 where

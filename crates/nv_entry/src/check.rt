@@ -67,7 +67,7 @@ pub fn check_group<L: Lines>(
     requires lines { All (λ part. 1 ≤ (L.room part).lines) (take bounds.now.entries (drop 1 parts.old)) }
     requires header { RowTells (map L.history parts.old) (λ parts. SaysBounds bounds.now (row_words parts)) }
     requires number { leader < bounds.now.tail + bounds.now.entries }
-    ensures check { IfOk result (λ check. RowTells (map L.history parts.old) (λ parts. SaysOfGroup (row_words parts) leader check)) }
+    ensures check { IfOk result (λ check. RowTells (map L.history parts.old) (λ parts. SaysOfGroup version_1 (row_words parts) leader check)) }
     ensures read { AreOnlyRead L.history L.room L.device parts.old parts.new }
     ensures cause { HasCause (sum_by L.fault_count parts.old) (sum_by L.fault_count parts.new) result }
 {

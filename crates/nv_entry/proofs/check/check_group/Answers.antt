@@ -61,7 +61,7 @@ returns-then-not-fit_next-clause-check g c =
     let number = c.loop-number.number in
     let At : List History → Type 0 = λ these. RowTells these (λ parts. as_entry c.in_ok-entry.entry ≡ entry_at (row_words parts) number) in
     entry_tells row c.args.bounds.now c.in_ok-entry.entry c.args.leader number first.head.count first.head.file c.loop-number.end
-    (λ parts. SaysOfGroup (row_words parts) c.args.leader (Bad number))
+    (λ parts. SaysOfGroup version_1 (row_words parts) c.args.leader (Bad number))
     (λ parts so_far says has.
     checked_bad version_1 (row_words parts) c.args.leader number first.head.count first.head.file c.loop-number.end (omega arith) (omega arith) so_far
     (not_from_false c.fit_next.result _ c.if-not-fit_next.true
@@ -99,7 +99,7 @@ returns-clause-check g c =
     let first = c.in_ok-first.first in
     row_tells_more row
     (λ parts. HasChecked version_1 (row_words parts) c.args.leader c.loop-number.number first.head.count first.head.file c.loop-number.end)
-    (λ parts. SaysOfGroup (row_words parts) c.args.leader (Whole first.head.count))
+    (λ parts. SaysOfGroup version_1 (row_words parts) c.args.leader (Whole first.head.count))
     (λ parts so_far. (
       checked_all version_1 (row_words parts) c.args.leader c.loop-number.number first.head.count first.head.file c.loop-number.end
           (c.fit_first.ensures.some c.if-not-fit_first.false) (omega arith) so_far,
