@@ -65,9 +65,9 @@ pub fn check_group<L: Lines>(
 ) -> Result<GroupCheck, RegionFault>
     requires parts { 1 + bounds.now.entries ≤ length parts.old }
     requires lines { All (λ part. 1 ≤ (L.room part).lines) (take bounds.now.entries (drop 1 parts.old)) }
-    requires header { RowTells (map L.history parts.old) (λ parts. SaysBounds bounds.now (row_words parts)) }
+    requires header { RowTells (map L.history parts.old) (λ now. SaysBounds bounds.now (row_words now)) }
     requires number { leader < bounds.now.tail + bounds.now.entries }
-    ensures check { IfOk result (λ check. RowTells (map L.history parts.old) (λ parts. SaysOfGroup version_1 (row_words parts) leader check)) }
+    ensures check { IfOk result (λ check. RowTells (map L.history parts.old) (λ now. SaysOfGroup version_1 (row_words now) leader check)) }
     ensures read { AreOnlyRead L.history L.room L.device parts.old parts.new }
     ensures cause { HasCause (sum_by L.fault_count parts.old) (sum_by L.fault_count parts.new) result }
 {
@@ -95,8 +95,8 @@ pub fn read_entry<L: Lines>(
 ) -> Result<EntryWords, RegionFault>
     requires parts { 1 + bounds.now.entries ≤ length parts.old }
     requires lines { All (λ part. 1 ≤ (L.room part).lines) (take bounds.now.entries (drop 1 parts.old)) }
-    requires header { RowTells (map L.history parts.old) (λ parts. SaysBounds bounds.now (row_words parts)) }
-    ensures words { IfOk result (λ words. RowTells (map L.history parts.old) (λ parts. as_entry words ≡ entry_at (row_words parts) number)) }
+    requires header { RowTells (map L.history parts.old) (λ now. SaysBounds bounds.now (row_words now)) }
+    ensures words { IfOk result (λ words. RowTells (map L.history parts.old) (λ now. as_entry words ≡ entry_at (row_words now) number)) }
     ensures read { AreOnlyRead L.history L.room L.device parts.old parts.new }
     ensures cause { HasCause (sum_by L.fault_count parts.old) (sum_by L.fault_count parts.new) result }
 {

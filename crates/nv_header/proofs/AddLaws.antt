@@ -1,5 +1,5 @@
 -- A name added: what the images of a row may be along its steps, and after them.
-use Rattle.std.proofs.Common.{◌≡◌, ℕ, ◌+◌, ◌-◌, ◌*◌, ◌/◌, ◌%◌, ◌<◌, ◌≤◌, ◌==◌, ◌&&◌, ◌⊎◌, inl, inr, IsTrue, Bool, true, false, nat_le, not, List, [], ◌∷◌, ◌++◌, length, take, drop, replicate, get_or, slice_index, slice_index_or, zero, suc, zero-add, refl, sym, ap, ◌∙◌, subst, arith, length-append, length-drop}
+use Rattle.std.proofs.Common.{◌≡◌, ℕ, ◌+◌, ◌-◌, ◌*◌, ◌/◌, ◌%◌, ◌<◌, ◌≤◌, ◌==◌, ◌&&◌, ◌⊎◌, inl, inr, IsTrue, Bool, true, false, nat_le, not, List, [], ◌∷◌, ◌++◌, length, map, take, drop, replicate, get_or, slice_index, slice_index_or, zero, suc, zero-add, refl, sym, ap, ◌∙◌, subst, arith, length-append, length-drop}
 use Rattle.std.proofs.Math.Seq.{drop-append-add, drop-append_seam}
 use Rattle.std.proofs.lemmas.Bool.{cases_eq, cases_lt, eq-eqb, ne_eqb, leb-true, le-leb}
 use Rattle.std.proofs.lemmas.List.{take_all, take_at, length-take, length-replicate, get_or_past, get_or-take, get_or-drop, get_or_append_left, get_or-append_right, get_or-replicate}
@@ -14,6 +14,7 @@ use Rattle.nv_plain.specs.Names.{is_name, is_name_byte}
 use Rattle.nv_pmem.specs.Images.{IsImage, IsQuietLine, IsQuiet}
 use Rattle.nv_pmem.specs.Limits.{IsPageSize, IsEntryCount}
 use Rattle.nv_pmem.specs.Part.{Part, line_of, word_of}
+use Rattle.nv_pmem.specs.Room.{Room}
 use Rattle.nv_pmem.specs.Rows.{RowStep, on_part, row_after, DidRow, DidSomeRow, RowTells, IsRowImage, InEachRowImage, EachRowMoment}
 use Rattle.nv_pmem.specs.Runs.{run}
 use Rattle.nv_pmem.specs.Steps.{Step, Flush, Fence, History, line_stores, word_in, durable_store}
@@ -23,6 +24,7 @@ use Rattle.nv_pmem.proofs.LineLaws.{overlaid, overlaid-append, AreInside, word_o
 use Rattle.nv_pmem.proofs.RowLaws.{steps_on, steps_on-same, steps_on-other, on_part-append, row_at, row_tells_both, row_tells_more, row_tells_did, each_row_moment, row_image_comes_from, stored_by_row-take}
 use Rattle.nv_pmem.proofs.StepLaws.{after_steps, after_steps-append, Always, always_by_fronts, always_append, always_last, did_some_none}
 use Rattle.nv_header.specs.Additions.{CanAdd, HasNamesOrOneMore}
+use Rattle.nv_header.specs.Changes.{AreChangedBy}
 use Rattle.nv_header.specs.HeaderSteps.{name_record, add_file_steps}
 use Rattle.nv_header.specs.Heads.{HasFields, IsGoodName, first_names, record_line, length_of, room_of_name, is_record}
 use Rattle.nv_header.specs.Regions.{HasNoneFrom, HasEmptyLog, IsAtRest}
@@ -558,3 +560,24 @@ add_tells page entries next names name {old} {new} can are rest room did =
     (row_tells_both old (IsAtRest version_1 page entries names next) (HasRoom page entries) rest room)
     (λ parts both. added_rest page entries next names name parts can are both.1 both.0)
     (subst Did_all (add_file_steps-one (length names) name (name_fits name can.is_new.allowed)) did)
+
+-- What adding did, whichever answer came.
+pub add_changed : {X : Type 0} (history : X → History) (room : X → Room) (device : X → ℕ) (page entries next : ℕ) (names : List (List ℕ)) (name : List ℕ) (parts new : List X) → CanAdd version_1 names name → AreBytes name → RowTells (map history parts) (IsAtRest version_1 page entries names next) → RowTells (map history parts) (HasRoom page entries)
+    → DidSomeRow (on_part 0 (add_file_steps version_1 (length names) name)) (map history parts) (map history new) → map (λ part. (room part).lines) new ≡ map (λ part. (room part).lines) parts → map device new ≡ map device parts
+    → AreChangedBy history room device (on_part 0 (add_file_steps version_1 (length names) name)) (HasNamesOrOneMore version_1 page entries names name next) parts new
+add_changed history room device page entries next names name parts new can are rest has did lines devices = record {
+  begun = did;
+  moments = add_moments page entries next names name can are rest has did;
+  lines = lines;
+  devices = devices;
+}
+
+-- and where nothing was done
+pub add_unchanged : {X : Type 0} (history : X → History) (room : X → Room) (device : X → ℕ) (page entries next : ℕ) (names : List (List ℕ)) (name : List ℕ) (parts : List X) → RowTells (map history parts) (IsAtRest version_1 page entries names next)
+    → AreChangedBy history room device (on_part 0 (add_file_steps version_1 (length names) name)) (HasNamesOrOneMore version_1 page entries names name next) parts parts
+add_unchanged history room device page entries next names name parts rest = record {
+  begun = did_some_none;
+  moments = names_stay page entries next names name (map history parts) rest;
+  lines = refl;
+  devices = refl;
+}

@@ -1,5 +1,5 @@
 -- Formatting: what the images of a row may be along its steps, and after them.
-use Rattle.std.proofs.Common.{◌≡◌, ◌≢◌, ℕ, ◌+◌, ◌-◌, ◌%◌, ◌<◌, ◌≤◌, ◌⊎◌, inl, inr, List, [], ◌++◌, length, take, slice_index_or, zero, suc, refl, sym, ap, ◌∙◌, subst, arith, append_assoc}
+use Rattle.std.proofs.Common.{◌≡◌, ◌≢◌, ℕ, ◌+◌, ◌-◌, ◌%◌, ◌<◌, ◌≤◌, ◌⊎◌, inl, inr, List, [], ◌++◌, length, map, take, slice_index_or, zero, suc, refl, sym, ap, ◌∙◌, subst, arith, append_assoc}
 use Rattle.std.proofs.lemmas.Bool.{cases_eq, cases_lt, ne_eqb}
 use Rattle.std.proofs.lemmas.List.{take_all}
 use Rattle.std.specs.List.{flat_map, range_with_len}
@@ -9,6 +9,7 @@ use Rattle.nv_plain.specs.Recovered.{IsBlank}
 use Rattle.nv_pmem.specs.Images.{IsImage, IsQuietLine, IsQuiet}
 use Rattle.nv_pmem.specs.Limits.{IsPageSize, IsEntryCount}
 use Rattle.nv_pmem.specs.Part.{Part, line_of, word_of}
+use Rattle.nv_pmem.specs.Room.{Room}
 use Rattle.nv_pmem.specs.Rows.{RowStep, on_part, row_after, DidRow, DidSomeRow, RowTells, IsRowImage, InEachRowImage, EachRowMoment}
 use Rattle.nv_pmem.specs.Runs.{run}
 use Rattle.nv_pmem.specs.Steps.{Step, History, durable_store}
@@ -17,6 +18,7 @@ use Rattle.nv_pmem.proofs.DurableLaws.{line_settled, quiet_settled}
 use Rattle.nv_pmem.proofs.LineLaws.{overlaid, AreInside, word_of-after_steps, length-after_steps}
 use Rattle.nv_pmem.proofs.RowLaws.{steps_on, steps_on-append, steps_on-same, steps_on-other, on_part-append, row_at, row_tells_both, row_tells_more, row_tells_did, each_row_moment, row_image_comes_from, stored_by_row-take}
 use Rattle.nv_pmem.proofs.StepLaws.{after_steps, after_steps-append, Always, always_by_fronts, always_append, always_last}
+use Rattle.nv_header.specs.Changes.{AreChangedBy}
 use Rattle.nv_header.specs.HeaderSteps.{clear_steps, field_steps, blank_header_steps, format_steps}
 use Rattle.nv_header.specs.Heads.{first_names}
 use Rattle.nv_header.specs.Regions.{part_lines, HasEmptyLog, IsBlankOrFormatted, IsBlankRow, IsAtRest}
@@ -419,3 +421,14 @@ format_tells page entries {old} page_ok entries_ok blank room did =
     (row_tells_both old IsBlankRow (HasRoom page entries) blank room)
     (λ parts both. at_rest page entries parts page_ok entries_ok both.0 both.1)
     did
+
+-- What formatting did, whichever answer came.
+pub format_changed : {X : Type 0} (history : X → History) (room : X → Room) (device : X → ℕ) (page entries : ℕ) (parts new : List X) → IsPageSize page → IsEntryCount entries → RowTells (map history parts) IsBlankRow → RowTells (map history parts) (HasRoom page entries)
+    → DidSomeRow (format_steps version_1 page entries) (map history parts) (map history new) → map (λ part. (room part).lines) new ≡ map (λ part. (room part).lines) parts → map device new ≡ map device parts
+    → AreChangedBy history room device (format_steps version_1 page entries) (IsBlankOrFormatted version_1 page entries) parts new
+format_changed history room device page entries parts new page_ok entries_ok blank has did lines devices = record {
+  begun = did;
+  moments = format_moments page entries page_ok entries_ok blank has did;
+  lines = lines;
+  devices = devices;
+}

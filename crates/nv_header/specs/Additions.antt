@@ -1,5 +1,5 @@
 -- Additions: a name put behind a region's names, and why it isn't.
-use Rattle.std.specs.Prelude.{◌≡◌, ◌≢◌, ℕ, ◌<◌, ◌≤◌, ◌⊎◌, IsTrue, List, [], ◌∷◌, ◌++◌, length, slice_index_or}
+use Rattle.std.specs.Prelude.{◌≡◌, ◌≢◌, ℕ, ◌<◌, ◌≤◌, ◌⊎◌, IsTrue, List, [], ◌∷◌, ◌++◌, length, slice_index_or, Result, Ok, Err}
 use Rattle.nv_plain.specs.Faults.{Rose}
 use Rattle.nv_plain.specs.Images.{Image}
 use Rattle.nv_plain.specs.Layouts.{Layout}
@@ -33,12 +33,13 @@ IsUnwritten (BadName i) = Unit {0}
 IsUnwritten NoMemory = Unit {0}
 IsUnwritten RegionFault = ⊥
 
--- a fault comes only where the count rose, and any other answer leaves it
-abbrev pub AddHasCause : (before now : ℕ) → AddError → Type 0
-AddHasCause before now TooManyFiles = now ≡ before
-AddHasCause before now (BadName i) = now ≡ before
-AddHasCause before now NoMemory = now ≡ before
-AddHasCause before now RegionFault = Rose before now
+-- A fault is answered only where the count rose, and any other answer leaves it.
+abbrev pub AddHasCause : {T P : Type 0} → (before now : ℕ) → Result T (P × AddError) → Type 0
+AddHasCause before now (Ok _) = now ≡ before
+AddHasCause before now (Err (parts, TooManyFiles)) = now ≡ before
+AddHasCause before now (Err (parts, BadName i)) = now ≡ before
+AddHasCause before now (Err (parts, NoMemory)) = now ≡ before
+AddHasCause before now (Err (parts, RegionFault)) = Rose before now
 
 -- the names, or one more
 abbrev pub HasNamesOrOneMore : Layout → (page entries : ℕ) → (names : List (List ℕ)) → (name : List ℕ) → (next : ℕ) → Image → Type 0

@@ -6,3 +6,4 @@ pub mod Needs
 pub mod HeaderSteps
 pub mod Regions
 pub mod Additions
+pub mod Changes

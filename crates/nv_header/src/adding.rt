@@ -1,10 +1,11 @@
-ghost use Rattle.std.specs.Prelude.{◌≡◌, ℕ, ◌<◌, ◌≤◌, [], ◌∷◌, ◌++◌, length, slice_index_or, map, sum_by, IfOk, IfErr, MatchResult, OnOk};
+ghost use Rattle.std.specs.Prelude.{◌≡◌, ℕ, ◌<◌, ◌≤◌, [], ◌∷◌, ◌++◌, length, slice_index_or, map, sum_by, IfOk, IfErr, OnOk};
 ghost use Rattle.nv_plain.specs.Faults.{HasCause};
 ghost use Rattle.nv_plain.specs.Layouts.{version_1};
-ghost use Rattle.nv_pmem.specs.Rows.{on_part, DidRow, DidSomeRow, InEachRowImage, EachRowMoment};
+ghost use Rattle.nv_pmem.specs.Rows.{on_part, DidRow, DidSomeRow};
 ghost use Rattle.nv_pmem.specs.Steps.{Flush, Fence, Did, DidSome, line_stores};
 ghost use Rattle.nv_pmem.specs.Room.{Room};
 ghost use Rattle.nv_header.specs.Additions.{CanAdd, IsNotAdded, IsUnwritten, AddHasCause, HasNamesOrOneMore};
+ghost use Rattle.nv_header.specs.Changes.{AreChangedBy, parts_after_adding};
 ghost use Rattle.nv_header.specs.HeaderSteps.{name_record, add_file_steps};
 ghost use Rattle.nv_header.specs.Regions.{HasParts, IsRoomy, StaysRoomy};
 
@@ -36,44 +37,27 @@ pub enum AddError {
 /// more. Where the name isn't added the parts come back, in their order: nothing is written unless the header's part
 /// failed, and then the name is there or not.
 pub fn add_file<L: Lines + Drop>(
-    region: Region<L>,
     alloc: Global,
+    region: Region<L>,
     name: &[u8],
 ) -> Result<(Region<L>, u64), (Vec<L>, AddError)>
     ensures added { IfOk result (λ added. CanAdd version_1 region.names name.now) }
     ensures refused { IfErr result (λ failed. IsNotAdded version_1 region.names name.now failed.1) }
+    ensures unwritten { IfErr result (λ failed. IsUnwritten failed.1 → failed.0 ≡ region.parts) }
+
+    // Whichever answer came: the device calls are the first so many of these, and all of them at `Ok`.
+    ensures changed { AreChangedBy L.history L.room L.device
+        (on_part 0 (add_file_steps version_1 (length region.names) name.now))
+        (HasNamesOrOneMore version_1 region.geometry.page region.geometry.entries region.names name.now region.next)
+        region.parts.items (parts_after_adding result) }
+    ensures done { IfOk result (λ added. DidRow (on_part 0 (add_file_steps version_1 (length region.names) name.now))
+        (map L.history region.parts.items) (map L.history added.0.parts.items)) }
+    ensures cause { AddHasCause (sum_by L.fault_count region.parts.items) (sum_by L.fault_count (parts_after_adding result)) result }
+
     ensures index { IfOk result (λ added. added.1 ≡ length region.names) }
     ensures names { IfOk result (λ added. added.0.names ≡ region.names ++ name.now ∷ []) }
     ensures geometry { IfOk result (λ added. added.0.geometry ≡ region.geometry) }
     ensures next { IfOk result (λ added. added.0.next ≡ region.next) }
-    ensures unwritten { IfErr result (λ failed. IsUnwritten failed.1 → failed.0 ≡ region.parts) }
-
-    // The device calls are these, in this order.
-    ensures begun { MatchResult result
-        (λ added. DidSomeRow (on_part 0 (add_file_steps version_1 (length region.names) name.now))
-        (map L.history region.parts.items) (map L.history added.0.parts.items))
-        (λ failed. DidSomeRow (on_part 0 (add_file_steps version_1 (length region.names) name.now))
-        (map L.history region.parts.items) (map L.history failed.0.items)) }
-    ensures done { IfOk result (λ added. DidRow (on_part 0 (add_file_steps version_1 (length region.names) name.now))
-        (map L.history region.parts.items) (map L.history added.0.parts.items)) }
-
-    ensures moments { MatchResult result
-        (λ added. EachRowMoment
-        (InEachRowImage (HasNamesOrOneMore version_1 region.geometry.page region.geometry.entries region.names name.now region.next))
-        (map L.history region.parts.items) (map L.history added.0.parts.items))
-        (λ failed. EachRowMoment
-        (InEachRowImage (HasNamesOrOneMore version_1 region.geometry.page region.geometry.entries region.names name.now region.next))
-        (map L.history region.parts.items) (map L.history failed.0.items)) }
-
-    ensures lines { MatchResult result
-        (λ added. map (λ part. (L.room part).lines) added.0.parts.items ≡ map (λ part. (L.room part).lines) region.parts.items)
-        (λ failed. map (λ part. (L.room part).lines) failed.0.items ≡ map (λ part. (L.room part).lines) region.parts.items) }
-    ensures cause { MatchResult result
-        (λ added. sum_by L.fault_count added.0.parts.items ≡ sum_by L.fault_count region.parts.items)
-        (λ failed. AddHasCause (sum_by L.fault_count region.parts.items) (sum_by L.fault_count failed.0.items) failed.1) }
-    ensures devices { MatchResult result
-        (λ added. map L.device added.0.parts.items ≡ map L.device region.parts.items)
-        (λ failed. map L.device failed.0.items ≡ map L.device region.parts.items) }
 {
     let Region {
         mut parts,
@@ -82,7 +66,7 @@ pub fn add_file<L: Lines + Drop>(
         next,
     } = region;
     let index = names.len() as u64;
-    let names = match with_name(names, alloc, name) {
+    let names = match with_name(alloc, names, name) {
         Ok(names) => names,
         Err(error) => return Err((parts, error)),
     };
@@ -101,7 +85,7 @@ pub fn add_file<L: Lines + Drop>(
 }
 
 // The names and this one behind them, where it may stand there.
-fn with_name(names: Names, alloc: Global, name: &[u8]) -> Result<Names, AddError>
+fn with_name(alloc: Global, names: Names, name: &[u8]) -> Result<Names, AddError>
     ensures added { IfOk result (λ all. CanAdd version_1 names name.now) }
     ensures names { IfOk result (λ all. all ≡ names ++ name.now ∷ []) }
     ensures refused { IfErr result (IsNotAdded version_1 names name.now) }
@@ -116,13 +100,13 @@ fn with_name(names: Names, alloc: Global, name: &[u8]) -> Result<Names, AddError
             index: names.len() as u64,
         });
     }
-    match push_name(&mut names, alloc, name) {
+    match push_name(alloc, &mut names, name) {
         Ok(()) => Ok(names),
         Err(NoMemory) => Err(AddError::NoMemory),
     }
 }
 
-fn push_name(names: &mut Names, alloc: Global, name: &[u8]) -> Result<(), NoMemory>
+fn push_name(alloc: Global, names: &mut Names, name: &[u8]) -> Result<(), NoMemory>
     ensures { OnOk result (names.new ≡ names.old ++ name.now ∷ []) }
 {
     let bytes = Vec::from_slice(alloc, name)?;

@@ -1,9 +1,10 @@
-ghost use Rattle.std.specs.Prelude.{◌≡◌, ◌<◌, ◌≤◌, [], map, sum_by, IfOk, IfErr, MatchResult, OnOk};
-ghost use Rattle.nv_plain.specs.Faults.{HasCause, Rose};
+ghost use Rattle.std.specs.Prelude.{◌≡◌, ◌<◌, ◌≤◌, [], map, sum_by, IfOk, OnOk};
+ghost use Rattle.nv_plain.specs.Faults.{HasCause};
 ghost use Rattle.nv_plain.specs.Layouts.{version_1};
-ghost use Rattle.nv_pmem.specs.Rows.{DidRow, DidSomeRow, RowTells, InEachRowImage, EachRowMoment};
+ghost use Rattle.nv_pmem.specs.Rows.{DidRow, DidSomeRow, RowTells};
 ghost use Rattle.nv_pmem.specs.Steps.{Did, DidSome};
 ghost use Rattle.nv_header.specs.HeaderSteps.{clear_steps, field_steps, blank_header_steps, format_steps};
+ghost use Rattle.nv_header.specs.Changes.{AreChangedBy, parts_after_format};
 ghost use Rattle.nv_header.specs.Regions.{HasParts, IsRoomy, IsBlankRow, IsBlankOrFormatted, StaysRoomy};
 
 use crate::head::{MAGIC, VERSION};
@@ -20,31 +21,16 @@ pub fn format<L: Lines + Drop>(
     requires parts { HasParts version_1 geometry.page geometry.entries (map L.room parts.items) }
     requires blank { RowTells (map L.history parts.items) IsBlankRow }
 
-    // The device calls are these, in this order.
-    ensures begun { MatchResult result
-        (λ region. DidSomeRow (format_steps version_1 geometry.page geometry.entries) (map L.history parts.items) (map L.history region.parts.items))
-        (λ failed. DidSomeRow (format_steps version_1 geometry.page geometry.entries) (map L.history parts.items) (map L.history failed.0.items)) }
-    ensures done { IfOk result (λ region.
-        DidRow (format_steps version_1 geometry.page geometry.entries) (map L.history parts.items) (map L.history region.parts.items)) }
+    // Whichever answer came: the device calls are the first so many of these, and all of them at `Ok`.
+    ensures changed { AreChangedBy L.history L.room L.device (format_steps version_1 geometry.page geometry.entries)
+        (IsBlankOrFormatted version_1 geometry.page geometry.entries) parts.items (parts_after_format result) }
+    ensures done { IfOk result (λ region. DidRow (format_steps version_1 geometry.page geometry.entries)
+        (map L.history parts.items) (map L.history region.parts.items)) }
+    ensures cause { HasCause (sum_by L.fault_count parts.items) (sum_by L.fault_count (parts_after_format result)) result }
 
-    ensures moments { MatchResult result
-        (λ region. EachRowMoment (InEachRowImage (IsBlankOrFormatted version_1 geometry.page geometry.entries))
-        (map L.history parts.items) (map L.history region.parts.items))
-        (λ failed. EachRowMoment (InEachRowImage (IsBlankOrFormatted version_1 geometry.page geometry.entries))
-        (map L.history parts.items) (map L.history failed.0.items)) }
     ensures geometry { IfOk result (λ region. region.geometry ≡ geometry) }
     ensures names { IfOk result (λ region. region.names ≡ []) }
     ensures next { IfOk result (λ region. region.next ≡ 0) }
-
-    ensures lines { MatchResult result
-        (λ region. map (λ part. (L.room part).lines) region.parts.items ≡ map (λ part. (L.room part).lines) parts.items)
-        (λ failed. map (λ part. (L.room part).lines) failed.0.items ≡ map (λ part. (L.room part).lines) parts.items) }
-    ensures cause { MatchResult result
-        (λ region. sum_by L.fault_count region.parts.items ≡ sum_by L.fault_count parts.items)
-        (λ failed. Rose (sum_by L.fault_count parts.items) (sum_by L.fault_count failed.0.items)) }
-    ensures devices { MatchResult result
-        (λ region. map L.device region.parts.items ≡ map L.device parts.items)
-        (λ failed. map L.device failed.0.items ≡ map L.device parts.items) }
 {
     let mut parts = parts;
     match write_region(&mut parts, geometry) {

@@ -91,7 +91,7 @@ fn names_are_added_up_to_16(rt: HostRuntime) -> Result<(), Fail> {
     let fuse = Fuse::new(rt.alloc(), &[])?;
     let mut region = formatted(rt.alloc(), &fuse, &[])?;
     for i in 0..16 {
-        match add_file(region, rt.alloc(), &[b'a' + i]) {
+        match add_file(rt.alloc(), region, &[b'a' + i]) {
             Ok((more, index)) => {
                 assert_eq!(rt; index, u64::from(i));
                 region = more;
@@ -100,7 +100,7 @@ fn names_are_added_up_to_16(rt: HostRuntime) -> Result<(), Fail> {
         }
     }
     assert!(rt; region.names().contains(b"p"));
-    match add_file(region, rt.alloc(), b"q") {
+    match add_file(rt.alloc(), region, b"q") {
         Ok(_region) => return Err(AddError::TooManyFiles.into()),
         Err((mut parts, error)) => {
             assert_eq!(rt; error, AddError::TooManyFiles);
@@ -119,9 +119,9 @@ fn names_are_added_up_to_16(rt: HostRuntime) -> Result<(), Fail> {
 fn a_name_that_is_bad_or_known_is_refused(rt: HostRuntime) -> Result<(), Fail> {
     for name in [b"".as_slice(), b".a", b"a b", b"known"] {
         let fuse = Fuse::new(rt.alloc(), &[])?;
-        match add_file(formatted(rt.alloc(), &fuse, &[])?, rt.alloc(), b"known") {
+        match add_file(rt.alloc(), formatted(rt.alloc(), &fuse, &[])?, b"known") {
             Ok((region, _)) => {
-                let error = add_file(region, rt.alloc(), name)
+                let error = add_file(rt.alloc(), region, name)
                     .err()
                     .map(|failed| failed.1);
                 assert_eq!(rt; error, Some(AddError::BadName { index: 1 }));
@@ -155,7 +155,7 @@ fn each_call_of_add_file_may_fail(rt: HostRuntime) -> Result<(), Fail> {
     // The record's line, flush and fence, and then the count's.
     for call in 1..=7 {
         let fuse = Fuse::new(rt.alloc(), &[17 + call])?;
-        match add_file(formatted(rt.alloc(), &fuse, &[])?, rt.alloc(), b"a") {
+        match add_file(rt.alloc(), formatted(rt.alloc(), &fuse, &[])?, b"a") {
             Ok(_region) => assert_eq!(rt; call, 7),
             Err((mut parts, error)) => {
                 assert_eq!(rt; error, AddError::RegionFault);

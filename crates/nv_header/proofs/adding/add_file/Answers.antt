@@ -1,20 +1,17 @@
 use Rattle.std.proofs.Common.{ℕ, List, [], ◌∷◌, map, sym, subst, arith, length-append}
 use Rattle.nv_plain.specs.Layouts.{version_1}
 use Rattle.nv_pmem.specs.Rows.{on_part, DidRow, DidSomeRow}
-use Rattle.nv_pmem.proofs.StepLaws.{did_some_none}
 use Rattle.nv_header.specs.HeaderSteps.{add_file_steps}
 use Rattle.nv_header.specs.Regions.{IsRegion}
-use Rattle.nv_header.proofs.AddLaws.{add_moments, add_tells, names_stay}
+use Rattle.nv_header.proofs.AddLaws.{add_changed, add_unchanged, add_tells}
 use Rattle.nv_header.proofs.InRow.{told_room}
 use Rattle.nv_header.proofs.adding.add_file.Goals as goal
 
-pub returns-in-Err-clause-begun : goal.returns-in-Err-clause-begun
-returns-in-Err-clause-begun g c = did_some_none
-
-pub returns-in-Err-clause-moments : goal.returns-in-Err-clause-moments
-returns-in-Err-clause-moments g c =
+pub returns-in-Err-clause-changed : goal.returns-in-Err-clause-changed
+returns-in-Err-clause-changed g c =
     let region = c.args.region in
-    names_stay region.geometry.page region.geometry.entries region.next region.names c.args.name.now (map g.L.Lines.history region.parts.items) region.is_region.tells
+    add_unchanged g.L.Lines.history g.L.Lines.room g.L.Lines.device region.geometry.page region.geometry.entries region.next region.names c.args.name.now
+    region.parts.items region.is_region.tells
 
 pub invariant_of-region : goal.invariant_of-region
 invariant_of-region g c =
@@ -38,24 +35,26 @@ invariant_of-region g c =
       });
     }
 
-pub returns-in-Ok-write_name-clause-moments : goal.returns-in-Ok-write_name-clause-moments
-returns-in-Ok-write_name-clause-moments g c =
+pub returns-in-Ok-write_name-clause-changed : goal.returns-in-Ok-write_name-clause-changed
+returns-in-Ok-write_name-clause-changed g c =
     let region = c.args.region in
     let page = region.geometry.page in
     let entries = region.geometry.entries in
     let name = c.args.name.now in
     let Steps : ℕ → Type 0 = λ i. DidSomeRow (on_part 0 (add_file_steps version_1 i name)) (map g.L.Lines.history region.parts.items) (map g.L.Lines.history c.write_name.new.parts.items) in
-    add_moments page entries region.next region.names name c.in-Ok.ensures.added (λ i. omega (arith, c.type_inv.name i)) region.is_region.tells
+    add_changed g.L.Lines.history g.L.Lines.room g.L.Lines.device page entries region.next region.names name region.parts.items c.write_name.new.parts.items
+    c.in-Ok.ensures.added (λ i. omega (arith, c.type_inv.name i)) region.is_region.tells
     (told_room g.L.Lines.history g.L.Lines.room version_1 page entries region.parts.items g.met.L.Lines.told_lines region.is_region.parts)
-    (subst Steps c.len-index.ensures c.write_name.ensures.begun)
+    (subst Steps c.len-index.ensures c.write_name.ensures.begun) c.write_name.ensures.lines c.write_name.ensures.devices
 
-pub returns-in-Err-write_name-clause-moments : goal.returns-in-Err-write_name-clause-moments
-returns-in-Err-write_name-clause-moments g c =
+pub returns-in-Err-write_name-clause-changed : goal.returns-in-Err-write_name-clause-changed
+returns-in-Err-write_name-clause-changed g c =
     let region = c.args.region in
     let page = region.geometry.page in
     let entries = region.geometry.entries in
     let name = c.args.name.now in
     let Steps : ℕ → Type 0 = λ i. DidSomeRow (on_part 0 (add_file_steps version_1 i name)) (map g.L.Lines.history region.parts.items) (map g.L.Lines.history c.write_name.new.parts.items) in
-    add_moments page entries region.next region.names name c.in-Ok.ensures.added (λ i. omega (arith, c.type_inv.name i)) region.is_region.tells
+    add_changed g.L.Lines.history g.L.Lines.room g.L.Lines.device page entries region.next region.names name region.parts.items c.write_name.new.parts.items
+    c.in-Ok.ensures.added (λ i. omega (arith, c.type_inv.name i)) region.is_region.tells
     (told_room g.L.Lines.history g.L.Lines.room version_1 page entries region.parts.items g.met.L.Lines.told_lines region.is_region.parts)
-    (subst Steps c.len-index.ensures c.write_name.ensures.begun)
+    (subst Steps c.len-index.ensures c.write_name.ensures.begun) c.write_name.ensures.lines c.write_name.ensures.devices

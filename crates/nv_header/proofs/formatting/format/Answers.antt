@@ -1,7 +1,7 @@
 use Rattle.std.proofs.Common.{List, sym, subst, ℕ, arith, map}
 use Rattle.nv_plain.specs.Layouts.{version_1}
 use Rattle.nv_header.specs.Regions.{IsRegion}
-use Rattle.nv_header.proofs.FormatLaws.{format_moments, format_tells}
+use Rattle.nv_header.proofs.FormatLaws.{format_changed, format_tells}
 use Rattle.nv_header.proofs.InRow.{told_room}
 use Rattle.nv_header.proofs.formatting.format.Goals as goal
 
@@ -22,14 +22,16 @@ invariant_of-result g c =
       });
     }
 
-pub returns-in-Ok-clause-moments : goal.returns-in-Ok-clause-moments
-returns-in-Ok-clause-moments g c =
-    format_moments c.args.geometry.page c.args.geometry.entries c.args.geometry.page_in_limits c.args.geometry.entries_in_limits c.requires.blank
+pub returns-in-Ok-clause-changed : goal.returns-in-Ok-clause-changed
+returns-in-Ok-clause-changed g c =
+    format_changed g.L.Lines.history g.L.Lines.room g.L.Lines.device c.args.geometry.page c.args.geometry.entries c.args.parts.items c.write_region.new.parts.items
+    c.args.geometry.page_in_limits c.args.geometry.entries_in_limits c.requires.blank
     (told_room g.L.Lines.history g.L.Lines.room version_1 c.args.geometry.page c.args.geometry.entries c.args.parts.items g.met.L.Lines.told_lines c.requires.parts)
-    c.write_region.ensures.begun
+    c.write_region.ensures.begun c.write_region.ensures.lines c.write_region.ensures.devices
 
-pub returns-in-Err-clause-moments : goal.returns-in-Err-clause-moments
-returns-in-Err-clause-moments g c =
-    format_moments c.args.geometry.page c.args.geometry.entries c.args.geometry.page_in_limits c.args.geometry.entries_in_limits c.requires.blank
+pub returns-in-Err-clause-changed : goal.returns-in-Err-clause-changed
+returns-in-Err-clause-changed g c =
+    format_changed g.L.Lines.history g.L.Lines.room g.L.Lines.device c.args.geometry.page c.args.geometry.entries c.args.parts.items c.write_region.new.parts.items
+    c.args.geometry.page_in_limits c.args.geometry.entries_in_limits c.requires.blank
     (told_room g.L.Lines.history g.L.Lines.room version_1 c.args.geometry.page c.args.geometry.entries c.args.parts.items g.met.L.Lines.told_lines c.requires.parts)
-    c.write_region.ensures.begun
+    c.write_region.ensures.begun c.write_region.ensures.lines c.write_region.ensures.devices
