@@ -1,7 +1,7 @@
 -- A name added: what the images of a row may be along its steps, and after them.
 use Rattle.std.proofs.Common.{◌≡◌, ℕ, ◌+◌, ◌-◌, ◌*◌, ◌/◌, ◌%◌, ◌<◌, ◌≤◌, ◌==◌, ◌&&◌, ◌⊎◌, inl, inr, IsTrue, Bool, true, false, nat_le, not, List, [], ◌∷◌, ◌++◌, length, map, take, drop, replicate, get_or, slice_index, slice_index_or, zero, suc, zero-add, refl, sym, ap, ◌∙◌, subst, arith, length-append, length-drop}
 use Rattle.std.proofs.Math.Seq.{drop-append-add, drop-append_seam}
-use Rattle.std.proofs.lemmas.Bool.{cases_eq, cases_lt, eq-eqb, ne_eqb, leb-true, le-leb}
+use Rattle.std.proofs.lemmas.Bool.{and_parts, and_from, cases_eq, cases_lt, eq-eqb, ne_eqb, leb-true, le-leb}
 use Rattle.std.proofs.lemmas.List.{take_all, take_at, length-take, length-replicate, get_or_past, get_or-take, get_or-drop, get_or_append_left, get_or-append_right, get_or-replicate}
 use Rattle.std.proofs.lemmas.List.FromFn.{map-range_with_len_more, get_or-map-range_with_len, length-map-range_with_len}
 use Rattle.std.proofs.lemmas.Nat.{le_bytes_8, from_le_bytes-to_le_bytes_8}
@@ -183,37 +183,25 @@ name_at page entries next names image j log below =
     ap (λ these. slice_index_or these j []) (sym log.header.names_are)
     ∙ get_or-map-range_with_len (name_of version_1 image) 0 (image 0 0 4) j j [] (omega (arith, count_is page entries next names image log)) (zero-add j)
 
-and_left : (a b : Bool) → (a && b) ≡ true → a ≡ true
-and_left true b both = refl
-and_left false b both = both
-
-and_right : (a b : Bool) → (a && b) ≡ true → b ≡ true
-and_right true b both = both
-and_right false b both = cc
-
 pub name_fits : (name : List ℕ) → IsTrue (is_name 56 name) → length name ≤ 56
 name_fits name allowed =
     let enough = nat_le 1 (length name) in
     let few = nat_le (length name) 56 in
     let no_dot = not (slice_index name 0 == 46) in
     let bytes = list_all is_name_byte name in
-    leb-true (length name) 56 (and_right enough few (and_left (enough && few) no_dot (and_left (enough && few && no_dot) bytes allowed)))
+    leb-true (length name) 56 (and_parts enough few (and_parts (enough && few) no_dot (and_parts (enough && few && no_dot) bytes allowed).0).0).1
 
 zeros_pass : (count : ℕ) → list_all (λ byte. byte == 0) (replicate count 0) ≡ true
 zeros_pass zero = refl
 zeros_pass (suc count) = zeros_pass count
-
-and_all : (a b c : Bool) → a ≡ true → b ≡ true → c ≡ true → (a && b && c) ≡ true
-and_all a b c p q r = rw (p, q, r) refl
 
 record_good : (name room : List ℕ) (count : ℕ) → IsTrue (is_name 56 name) → count ≡ length name → room ≡ padded name 56 → IsTrue (is_record 56 count room)
 record_good name room count allowed count_is_length room_is =
     let fits = name_fits name allowed in
     let front : take count room ≡ name = ap (λ n. take n room) count_is_length ∙ ap (take (length name)) room_is ∙ take_at name (replicate (56 - length name) 0) (length name) refl in
     let back : drop count room ≡ replicate (56 - length name) 0 = ap (λ n. drop n room) count_is_length ∙ ap (drop (length name)) room_is ∙ drop-append_seam name (replicate (56 - length name) 0) in
-    and_all (nat_le count 56) (is_name 56 (take count room)) (list_all (λ byte. byte == 0) (drop count room))
-    (le-leb count 56 (omega arith))
-    (ap (is_name 56) front ∙ allowed)
+    and_from _ _
+    (and_from _ _ (le-leb count 56 (omega arith)) (ap (is_name 56) front ∙ allowed))
     (ap (list_all (λ byte. byte == 0)) back ∙ zeros_pass (56 - length name))
 
 -- the words of a record are those of a name's

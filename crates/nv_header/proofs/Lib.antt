@@ -11,4 +11,5 @@ pub mod FormatLaws
 pub mod OneLine
 pub mod AddLaws
 pub mod NewNames
+pub mod FileNameLaws
 pub mod BlankParts

@@ -1,8 +1,9 @@
 -- Names' records, as they are loaded and judged.
-use Rattle.std.proofs.Common.{◌≡◌, ◌≢◌, ℕ, ◌+◌, ◌*◌, ◌/◌, ◌%◌, ◌<◌, ◌≤◌, Bool, true, false, List, [], ◌∷◌, ◌++◌, length, map, take, get_or, Some, None, refl, sym, ap, ◌∙◌, subst, arith, zero-add, below_more}
+use Rattle.std.proofs.Common.{◌≡◌, ◌≢◌, ℕ, ◌+◌, ◌*◌, ◌/◌, ◌%◌, ◌<◌, ◌≤◌, ◌==◌, ◌&&◌, nat_le, Bool, true, false, List, [], ◌∷◌, ◌++◌, length, map, take, drop, get_or, Some, None, refl, sym, ap, ◌∙◌, subst, arith, zero-add, below_more}
 use Rattle.std.specs.Prelude.{nat_eq}
 use Rattle.std.specs.Int.{to_le_bytes, w64}
-use Rattle.std.specs.List.{flat_map, list_any, range_with_len}
+use Rattle.std.specs.List.{flat_map, list_all, list_any, range_with_len}
+use Rattle.std.proofs.lemmas.Bool.{and_parts}
 use Rattle.std.proofs.lemmas.List.Folds.{Any-from_list_any, list_any_at}
 use Rattle.std.proofs.lemmas.List.FromFn.{get_or-range_with_len, length-range_with_len, map-range_with_len_more}
 use Rattle.std.proofs.lemmas.List.{get_or-map, length-map, take_all}
@@ -10,6 +11,7 @@ use Rattle.std.specs.Cmp.Lexicographic.{same_text, other_text}
 use lib.Pointwise.{pointwise}
 use Rattle.nv_plain.specs.Images.{header_of, name_of}
 use Rattle.nv_plain.specs.Layouts.{version_1}
+use Rattle.nv_plain.specs.Names.{is_name}
 use Rattle.nv_pmem.specs.Moments.{Tells}
 use Rattle.nv_pmem.specs.Part.{word_of}
 use Rattle.nv_pmem.specs.Steps.{History}
@@ -118,6 +120,13 @@ next_known (now ∷ past) earlier i length room name loaded is known = λ earlie
     let image = header_image now in
     known_is_old (name_of version_1 image) i name (ap (list_any (λ one. pointwise nat_eq one name)) (sym earlier_is) ∙ known)
     (λ j below same. good.new j below (same ∙ same_name length _ room _ name loaded.length_is loaded.room_is is))
+
+-- the name of a record is allowed
+pub record_allowed : (length : ℕ) (room name : List ℕ) → is_record 56 length room ≡ true → name ≡ take length room → is_name 56 name ≡ true
+record_allowed length room name good is =
+    let in_front = nat_le length 56 && is_name 56 (take length room) in
+    let padding = list_all (λ byte. byte == 0) (drop length room) in
+    ap (is_name 56) is ∙ (and_parts (nat_le length 56) (is_name 56 (take length room)) (and_parts in_front padding good).0).1
 
 -- ---- the names so far
 

@@ -1,17 +1,12 @@
 -- Additions: a name put behind a region's names, and why it isn't.
-use Rattle.std.specs.Prelude.{◌≡◌, ◌≢◌, ℕ, ◌<◌, ◌≤◌, ◌⊎◌, IsTrue, List, [], ◌∷◌, ◌++◌, length, slice_index_or, Result, Ok, Err}
+use Rattle.std.specs.Prelude.{◌≡◌, ℕ, ◌<◌, ◌≤◌, ◌⊎◌, List, [], ◌∷◌, ◌++◌, length, Result, Ok, Err}
 use Rattle.nv_plain.specs.Faults.{Rose}
 use Rattle.nv_plain.specs.Images.{Image}
 use Rattle.nv_plain.specs.Layouts.{Layout}
-use Rattle.nv_plain.specs.Names.{is_name}
+use Rattle.nv_header.specs.FileNames.{IsNewName}
 use Rattle.nv_header.specs.Regions.{HasEmptyLog}
 use Rattle.nv_header.specs.declared.adding.AddError.{AddError}
 use Rattle.nv_header.specs.declared.adding.AddError.TheVariants.{TooManyFiles, BadName, NoMemory, RegionFault}
-
--- A name may stand behind these: it is allowed, and none of them is the same.
-pub record IsNewName (layout : Layout) (names : List (List ℕ)) (name : List ℕ) : Type 0 where
-  pub allowed : IsTrue (is_name layout.name_limit name)
-  pub new : (j : ℕ) → j < length names → slice_index_or names j [] ≢ name
 
 -- There is room for a name, and this may be it.
 pub record CanAdd (layout : Layout) (names : List (List ℕ)) (name : List ℕ) : Type 0 where

@@ -1,5 +1,5 @@
 -- Heads: what the header of a region says, and when it can be read.
-use Rattle.std.specs.Prelude.{◌≡◌, ◌≢◌, ℕ, ◌+◌, ◌-◌, ◌*◌, ◌/◌, ◌%◌, ◌^◌, ◌<◌, ◌≤◌, ◌==◌, ◌&&◌, nat_le, Bool, IsTrue, List, length, take, drop, map}
+use Rattle.std.specs.Prelude.{◌≡◌, ◌≢◌, ℕ, ◌+◌, ◌-◌, ◌*◌, ◌/◌, ◌%◌, ◌^◌, ◌<◌, ◌≤◌, ◌==◌, ◌&&◌, nat_le, Bool, IsTrue, List, take, drop, map}
 use Rattle.std.specs.Int.{to_le_bytes, w64}
 use Rattle.std.specs.List.{flat_map, list_all, range_with_len}
 use Rattle.nv_plain.specs.Images.{Image, Header, header_magic, header_of, name_of}
@@ -7,6 +7,7 @@ use Rattle.nv_plain.specs.Layouts.{Layout}
 use Rattle.nv_plain.specs.Names.{is_name}
 use Rattle.nv_pmem.specs.Limits.{IsPageSize, IsEntryCount}
 use Rattle.nv_pmem.specs.Part.{Part, word_of}
+use Rattle.nv_header.specs.FileNames.{AreFileNames}
 use Rattle.nv_header.specs.declared.head.Head.{Head}
 
 -- An image whose part 0 reads as this part does. The header and the names stand in part 0, and no other part is looked at.
@@ -64,7 +65,7 @@ pub record IsHeadOf (layout : Layout) (lines : ℕ) (image : Image) (head : Head
   pub names : head.names ≡ first_names layout image (header_of image).files
   pub tail : head.tail ≡ (header_of image).tail
 
--- a head is within the limits of its layout
+-- A head is within the limits of its layout: whoever uses its names finds each of them allowed, and no two the same.
 pub record IsWithinLimits (layout : Layout) (head : Head) : Type 0 where
-  pub few : length head.names ≤ layout.file_limit
+  pub names : AreFileNames layout head.names
   pub tail : head.tail ≤ 2 ^ 60

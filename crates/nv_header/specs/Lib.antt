@@ -1,3 +1,4 @@
+pub mod FileNames
 pub mod Heads
 pub mod Refusals
 pub mod Fields

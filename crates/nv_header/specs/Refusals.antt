@@ -87,6 +87,16 @@ SpeaksOfImage (BadName i) = Unit {0}
 SpeaksOfImage RegionFault = ⊥
 SpeaksOfImage NoMemory = ⊥
 
+-- the refusal isn't for want of lines
+abbrev pub IsNotTruncated : HeadError → Type 0
+IsNotTruncated (Truncated found wanted) = ⊥
+IsNotTruncated BadMagic = Unit {0}
+IsNotTruncated (BadVersion found) = Unit {0}
+IsNotTruncated (BadGeometry field found) = Unit {0}
+IsNotTruncated (BadName i) = Unit {0}
+IsNotTruncated RegionFault = Unit {0}
+IsNotTruncated NoMemory = Unit {0}
+
 -- A header that can be read has no such refusal.
 abbrev pub ReadIsNotRefused : Type 0
 ReadIsNotRefused =

@@ -11,6 +11,7 @@ use Rattle.nv_pmem.specs.Part.{Part}
 use Rattle.nv_pmem.specs.Room.{Room}
 use Rattle.nv_pmem.specs.Rows.{RowTells, AreQuiet, InEachRowImage}
 use Rattle.nv_pmem.specs.Steps.{History}
+use Rattle.nv_header.specs.FileNames.{AreFileNames}
 use Rattle.nv_header.specs.Heads.{IsHead, first_names}
 
 -- ---- the parts and their room
@@ -74,7 +75,7 @@ pub record IsAtRest (layout : Layout) (page entries : ℕ) (names : List (List �
 -- The parts of a region with these names, whose log is empty and goes on with this number.
 pub record IsRegion (layout : Layout) (page entries : ℕ) (names : List (List ℕ)) (next : ℕ) (rooms : List Room) (row : List History) : Type 0 where
   pub parts : HasParts layout page entries rooms
-  pub few : length names ≤ layout.file_limit
+  pub names_are : AreFileNames layout names
   pub number : next ≤ 2 ^ 60
   pub tells : RowTells row (IsAtRest layout page entries names next)
 

@@ -5,7 +5,7 @@ ghost use Rattle.nv_pmem.specs.Moments.{Tells};
 ghost use Rattle.nv_pmem.specs.Room.{Keeps};
 ghost use Rattle.nv_header.specs.Fields.{fields_in, header_in};
 ghost use Rattle.nv_header.specs.Heads.{HasFields};
-ghost use Rattle.nv_header.specs.Refusals.{IsBadField};
+ghost use Rattle.nv_header.specs.Refusals.{IsBadField, IsNotTruncated};
 
 use crate::head::{FILE_LIMIT, HeadError, HeadField, MAGIC, TAIL_LIMIT, VERSION};
 use nv_pmem::{Geometry, LineFault, Lines, RegionFault};
@@ -46,6 +46,7 @@ impl Fields {
         ensures page { IfOk result (λ geometry. geometry.page ≡ self.now.page) }
         ensures entries { IfOk result (λ geometry. geometry.entries ≡ self.now.entries) }
         ensures bad { IfErr result (λ e. IsBadField version_1 (header_in self.now) e) }
+        ensures lines { IfErr result IsNotTruncated }
     {
         if self.magic != MAGIC {
             return Err(HeadError::BadMagic);

@@ -1,14 +1,15 @@
-ghost use Rattle.std.specs.Prelude.{◌≡◌, ◌<◌, ◌≤◌, ◌==◌, true, length, map, sum_by, Ok, Err, IfOk, IfErr};
+ghost use Rattle.std.specs.Prelude.{◌≡◌, ◌<◌, ◌≤◌, ◌==◌, true, length, map, sum_by, Ok, Err, IfOk, IfErr, IfSome};
 ghost use Rattle.std.specs.List.{AllZip};
 ghost use Rattle.nv_plain.specs.Faults.{HasCause};
 ghost use Rattle.nv_plain.specs.Images.{header_of};
 ghost use Rattle.nv_plain.specs.Layouts.{version_1};
 ghost use Rattle.nv_pmem.specs.Moments.{Tells};
 ghost use Rattle.nv_pmem.specs.Room.{Keeps};
+ghost use Rattle.nv_header.specs.FileNames.{AreFileNames, IsNewName};
 ghost use Rattle.nv_header.specs.Heads.{IsHeadOf, IsWithinLimits, header_image};
 ghost use Rattle.nv_header.specs.Needs.{header_history, header_lines_in};
 ghost use Rattle.nv_header.specs.NextName.{IsNextName, AreNames, IsNameRefusal};
-ghost use Rattle.nv_header.specs.Refusals.{IsRefused, HeadHasCause};
+ghost use Rattle.nv_header.specs.Refusals.{IsRefused, IsNotTruncated, HeadHasCause};
 
 use crate::fields::Fields;
 use crate::head::{HEADER_LINES, Head, HeadError};
@@ -60,6 +61,7 @@ pub fn read_head<L: Lines>(alloc: Global, parts: &mut [L]) -> Result<Head, HeadE
         IsRefused version_1 (header_lines_in (map L.room parts.old)) (header_image now) e)) }
     ensures truncated { header_lines_in (map L.room parts.old) < version_1.header_lines →
         result ≡ Err (HeadError.Truncated (header_lines_in (map L.room parts.old)) version_1.header_lines) }
+    ensures long_enough { version_1.header_lines ≤ header_lines_in (map L.room parts.old) → IfErr result IsNotTruncated }
 
     ensures histories { map L.history parts.new ≡ map L.history parts.old }
     ensures rooms { AllZip (λ old new. Keeps (L.room old) (L.room new)) parts.old parts.new }
@@ -83,6 +85,7 @@ fn read_part<L: Lines>(alloc: Global, part: &mut L) -> Result<Head, HeadError>
         IsRefused version_1 (L.room part.old).lines (header_image now) e)) }
     ensures truncated { (L.room part.old).lines < version_1.header_lines →
         result ≡ Err (HeadError.Truncated (L.room part.old).lines version_1.header_lines) }
+    ensures long_enough { version_1.header_lines ≤ (L.room part.old).lines → IfErr result IsNotTruncated }
     ensures history { L.history part.new ≡ L.history part.old }
     ensures room { Keeps (L.room part.old) (L.room part.new) }
     ensures cause { HeadHasCause (L.fault_count part.old) (L.fault_count part.new) result }
@@ -111,9 +114,10 @@ fn read_names<L: Lines>(alloc: Global, part: &mut L, count: u64) -> Result<Names
     requires count { count ≤ version_1.file_limit }
     ensures names { IfOk result (λ names. Tells (L.history part.old) (λ now.
         AreNames version_1 (header_image now) count names)) }
-    ensures size { IfOk result (λ names. length names ≡ count) }
+    ensures allowed { IfOk result (AreFileNames version_1) }
     ensures refused { IfErr result (λ e. Tells (L.history part.old) (λ now.
         count ≡ (header_of (header_image now)).files → IsNameRefusal version_1 (header_image now) e)) }
+    ensures lines { IfErr result IsNotTruncated }
     ensures history { L.history part.new ≡ L.history part.old }
     ensures room { Keeps (L.room part.old) (L.room part.new) }
     ensures cause { HeadHasCause (L.fault_count part.old) (L.fault_count part.new) result }
@@ -140,8 +144,10 @@ fn read_name<L: Lines>(
     requires index { i < version_1.file_limit }
     ensures next { IfOk result (λ name. Tells (L.history part.old) (λ now.
         IsNextName version_1 (header_image now) earlier.now i name)) }
+    ensures allowed { IfOk result (λ name. IfSome name (IsNewName version_1 earlier.now)) }
     ensures refused { IfErr result (λ e. Tells (L.history part.old) (λ now.
         IsNameRefusal version_1 (header_image now) e)) }
+    ensures lines { IfErr result IsNotTruncated }
     ensures history { L.history part.new ≡ L.history part.old }
     ensures room { Keeps (L.room part.old) (L.room part.new) }
     ensures cause { HeadHasCause (L.fault_count part.old) (L.fault_count part.new) result }

@@ -1,9 +1,10 @@
-use Rattle.std.proofs.Common.{ℕ, List, [], ◌∷◌, map, sym, subst, arith, length-append}
+use Rattle.std.proofs.Common.{ℕ, List, [], ◌∷◌, map, sym, subst, arith}
 use Rattle.nv_plain.specs.Layouts.{version_1}
 use Rattle.nv_pmem.specs.Rows.{on_part, DidRow, DidSomeRow}
 use Rattle.nv_header.specs.HeaderSteps.{add_file_steps}
 use Rattle.nv_header.specs.Regions.{IsRegion}
 use Rattle.nv_header.proofs.AddLaws.{add_changed, add_unchanged, add_tells}
+use Rattle.nv_header.proofs.FileNameLaws.{file_names_more}
 use Rattle.nv_header.proofs.InRow.{told_room}
 use Rattle.nv_header.proofs.adding.add_file.Goals as goal
 
@@ -26,7 +27,7 @@ invariant_of-region g c =
     record {
       is_region = subst At (sym c.in-Ok.ensures.names) (record {
         parts = c.in-Ok-write_name.ensures.parts page entries region.is_region.parts;
-        few = omega (arith, length-append region.names (name ∷ []), c.in-Ok.ensures.added.few);
+        names_are = file_names_more version_1 region.names name c.in-Ok.ensures.added.few c.in-Ok.ensures.added.is_new region.is_region.names_are;
         number = region.is_region.number;
         tells =
             add_tells page entries region.next region.names name c.in-Ok.ensures.added (λ i. omega (arith, c.type_inv.name i)) region.is_region.tells

@@ -4,7 +4,7 @@ use Rattle.std.specs.List.{list_any}
 use lib.Pointwise.{pointwise}
 use Rattle.nv_plain.specs.Names.{is_name}
 use Rattle.nv_plain.specs.Layouts.{version_1}
-use Rattle.nv_header.specs.Additions.{IsNewName}
+use Rattle.nv_header.specs.FileNames.{IsNewName}
 use Rattle.nv_header.proofs.NewNames.{unknown_name, known_name}
 use Rattle.nv_header.proofs.adding.with_name.Goals as goal
 use Rattle.nv_header.proofs.adding.with_name.Goals.{then-not-is_file_name-via-then-not-is_file_name, then-not-is_file_name-via-else-not-is_file_name+then-contains}

@@ -2,6 +2,7 @@ use Rattle.std.proofs.Common.{List, sym, subst, ℕ, arith, map}
 use Rattle.nv_plain.specs.Layouts.{version_1}
 use Rattle.nv_header.specs.Regions.{IsRegion}
 use Rattle.nv_header.proofs.FormatLaws.{format_changed, format_tells}
+use Rattle.nv_header.proofs.FileNameLaws.{no_file_names}
 use Rattle.nv_header.proofs.InRow.{told_room}
 use Rattle.nv_header.proofs.formatting.format.Goals as goal
 
@@ -13,7 +14,7 @@ invariant_of-result g c =
     record {
       is_region = subst At (sym c.new-names.ensures) (record {
         parts = c.in-Ok.ensures.parts;
-        few = omega arith;
+        names_are = no_file_names version_1;
         number = omega arith;
         tells =
             format_tells page entries c.args.geometry.page_in_limits c.args.geometry.entries_in_limits c.requires.blank

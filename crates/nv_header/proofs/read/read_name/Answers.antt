@@ -1,8 +1,11 @@
-use Rattle.std.proofs.Common.{◌≡◌, ap, sym, ◌∙◌}
+use Rattle.std.proofs.Common.{◌≡◌, ℕ, List, ap, sym, ◌∙◌, subst}
 use Rattle.std.specs.Prelude.{nat_eq}
 use Rattle.std.specs.List.{list_any}
 use lib.Pointwise.{pointwise}
-use Rattle.nv_header.proofs.Records.{next_good, next_known}
+use Rattle.nv_plain.specs.Layouts.{version_1}
+use Rattle.nv_header.specs.FileNames.{IsNewName}
+use Rattle.nv_header.proofs.NewNames.{unknown_name}
+use Rattle.nv_header.proofs.Records.{next_good, next_known, record_allowed}
 use Rattle.nv_header.proofs.read.read_name.Goals as goal
 
 pub returns-then-contains-clause-next : goal.returns-then-contains-clause-next
@@ -19,3 +22,13 @@ returns-clause-next g c =
     c.in-Some.ensures.good
     (name_is ∙ c.in-Some.ensures.name)
     (ap (λ name. list_any (λ known. pointwise nat_eq known name) c.args.earlier.now) name_is ∙ sym c.contains.ensures ∙ c.if-contains.false)
+
+pub returns-clause-allowed : goal.returns-clause-allowed
+returns-clause-allowed g c =
+    let name_is : c.from_vec.result ≡ c.in-Some.name.now = c.from_vec.ensures ∙ c.in_ok-bytes.ensures.items in
+    let New : List ℕ → Type 0 = IsNewName version_1 c.args.earlier.now in
+    subst New (sym name_is)
+    (record {
+      allowed = record_allowed c.in_ok-record.record.length c.in_ok-record.record.room c.in-Some.name.now c.in-Some.ensures.good c.in-Some.ensures.name;
+      new = unknown_name c.args.earlier.now c.in-Some.name.now (sym c.contains.ensures ∙ c.if-contains.false);
+    })
