@@ -1,5 +1,5 @@
 -- Checks: which entry of a committed group is the first to break a rule.
-use Rattle.std.specs.Prelude.{◌≡◌, ◌⊎◌, ℕ, ◌+◌, ◌<◌, ◌≤◌}
+use Rattle.std.specs.Prelude.{◌≡◌, ◌⊎◌, ℕ, ◌+◌, ◌^◌, ◌<◌, ◌≤◌, min}
 use Rattle.nv_plain.specs.Images.{Image, Entry, header_of, entry_at}
 use Rattle.nv_plain.specs.Layouts.{Layout}
 use Rattle.nv_plain.specs.Recovered.{IsLeader, IsFollower, IsPiece, GoesOn, IsInGroup, IsGroup}
@@ -44,6 +44,13 @@ pub record IsFirstBad (layout : Layout) (image : Image) (leader number : ℕ) : 
 abbrev pub SaysOfGroup : Layout → Image → (leader : ℕ) → GroupCheck → Type 0
 SaysOfGroup layout image leader (Whole count) = IsGroup layout image leader × (count ≡ (entry_at image leader).count)
 SaysOfGroup layout image leader (Bad number) = IsFirstBad layout image leader number
+
+-- The numbers of a check are those of a group that begins at this leader, whatever the parts tell: a whole group has one entry at least
+-- and no more than a group may have, and ends inside the window; a bad number is none before the leader, nor behind such a group.
+abbrev pub IsOfGroup : Layout → Bounds → (leader : ℕ) → GroupCheck → Type 0
+IsOfGroup layout bounds leader (Whole count) =
+    (1 ≤ count) × (count ≤ min layout.group_limit bounds.entries) × (leader + count ≤ min (bounds.tail + bounds.entries) (2 ^ 60))
+IsOfGroup layout bounds leader (Bad number) = (leader ≤ number) × (number < leader + min layout.group_limit bounds.entries)
 
 -- a group's leader is of this file, and the bytes of one of its entries end here
 pub record EndsAt (image : Image) (leader number leaders_file end_at : ℕ) : Type 0 where

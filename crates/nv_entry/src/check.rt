@@ -7,7 +7,8 @@ ghost use Rattle.nv_pmem.specs.Moments.{Tells};
 ghost use Rattle.nv_pmem.specs.Part.{word_of};
 ghost use Rattle.nv_pmem.specs.Room.{Keeps};
 ghost use Rattle.nv_pmem.specs.Rows.{RowTells, AreOnlyRead, row_words};
-ghost use Rattle.nv_entry.specs.Checks.{IsGood, EndsAt, SaysBounds, SaysOfGroup, as_entry};
+ghost use Rattle.nv_entry.specs.declared.check.GroupCheck.TheVariants.{Whole};
+ghost use Rattle.nv_entry.specs.Checks.{IsGood, EndsAt, SaysBounds, SaysOfGroup, IsOfGroup, as_entry};
 
 use crate::group::load;
 use crate::piece::read_head;
@@ -68,6 +69,7 @@ pub fn check_group<L: Lines>(
     requires header { RowTells (map L.history parts.old) (λ now. SaysBounds bounds.now (row_words now)) }
     requires number { leader < bounds.now.tail + bounds.now.entries }
     ensures check { IfOk result (λ check. RowTells (map L.history parts.old) (λ now. SaysOfGroup version_1 (row_words now) leader check)) }
+    ensures limits { IfOk result (IsOfGroup version_1 bounds.now leader) }
     ensures read { AreOnlyRead L.history L.room L.device parts.old parts.new }
     ensures cause { HasCause (sum_by L.fault_count parts.old) (sum_by L.fault_count parts.new) result }
 {
@@ -119,8 +121,7 @@ impl Bounds {
         ensures good { (image : Image) → SaysBounds self.now image → as_entry entry.now ≡ entry_at image leader
             → (IsTrue result ↔ IsGood version_1 image leader leader) }
         ensures end { IsTrue result → entry.now.head.at + entry.now.head.size ≤ 2 ^ 60 }
-        ensures count { IsTrue result → leader + entry.now.head.count ≤ 2 ^ 60 }
-        ensures some { IsTrue result → 1 ≤ entry.now.head.count }
+        ensures count { IsTrue result → IsOfGroup version_1 self.now leader (Whole entry.now.head.count) }
     {
         self.allow_leader(entry, leader) && self.allow_piece(entry, entry.head.file)
     }
@@ -141,8 +142,7 @@ impl Bounds {
         requires { leader < self.now.tail + self.now.entries }
         ensures leads { (image : Image) → SaysBounds self.now image → as_entry entry.now ≡ entry_at image leader
             → (IsTrue result ↔ IsLeader version_1 image leader) }
-        ensures count { IsTrue result → leader + entry.now.head.count ≤ 2 ^ 60 }
-        ensures some { IsTrue result → 1 ≤ entry.now.head.count }
+        ensures count { IsTrue result → IsOfGroup version_1 self.now leader (Whole entry.now.head.count) }
     {
         let count = entry.head.count;
         (1..=GROUP_LIMIT.min(self.entries)).contains(&count)

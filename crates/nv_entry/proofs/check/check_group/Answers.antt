@@ -102,7 +102,7 @@ returns-clause-check g c =
     (λ parts. SaysOfGroup version_1 (row_words parts) c.args.leader (Whole first.head.count))
     (λ parts so_far. (
       checked_all version_1 (row_words parts) c.args.leader c.loop-number.number first.head.count first.head.file c.loop-number.end
-          (c.fit_first.ensures.some c.if-not-fit_first.false) (omega arith) so_far,
+          (c.fit_first.ensures.count c.if-not-fit_first.false).0 (omega arith) so_far,
       sym so_far.count_is,
     ))
     c.loop-number.invariant.checked
