@@ -85,28 +85,22 @@ module _ {X : Type 0} (history : X → History) (room : X → Room) (told : (x :
 
 -- ---- parts that were lent as a slice
 
--- The entries of a group, or some of them, are written, as the vector of the parts sees it.
-module _ {X : Type 0} (history : X → History) (page first file at : ℕ) (bytes : List ℕ) (items now new : List X) (len : ℕ) (same : now ≡ items)
-    (long : length items ≡ len) (pieces : pages_touched at (length bytes) page ≡ len) (still : length new ≡ length now) where
-  given_back : map history (take len (new ++ drop (length new) items)) ≡ map history new
-  given_back = ap (map history) (take_at new (drop (length new) items) len (omega (arith, ap length same)))
+-- What a call did to a slice, it did to the vector that lent it.
+pub lent : {X : Type 0} (items now new : List X) (len : ℕ) → now ≡ items → length items ≡ len → length new ≡ length now → (R : List X → List X → Type 0) → R now new → R items (take len (new ++ drop (length new) items))
+lent {X} items now new len same long still R did =
+    let To : List X → Type 0 = R items in
+    let From : List X → Type 0 = λ old. R old new in
+    subst To (sym (take_at new (drop (length new) items) len (omega (arith, ap length same)))) (subst From same did)
 
-  count_is : length now ≡ pages_touched at (length bytes) page
-  count_is = omega (arith, ap length same)
-
-  pub some_written : DidSomeRow (pieces_steps page first file at bytes (length now)) (map history now) (map history new)
-      → DidSomeRow (group_steps page first file at bytes) (map history items) (map history (take len (new ++ drop (length new) items)))
+-- The entries of a group, or some of them, are written.
+module _ (page first file at : ℕ) (bytes : List ℕ) {count : ℕ} {old new : List History} (pieces : pages_touched at (length bytes) page ≡ count) where
+  pub some_written : DidSomeRow (pieces_steps page first file at bytes count) old new → DidSomeRow (group_steps page first file at bytes) old new
   unfolding group_steps
   some_written did =
-      let From : List X → Type 0 = λ before. DidSomeRow (pieces_steps page first file at bytes (length now)) (map history before) (map history new) in
-      let Count : ℕ → Type 0 = λ count. DidSomeRow (pieces_steps page first file at bytes count) (map history items) (map history new) in
-      let To : List History → Type 0 = λ after. DidSomeRow (all_pieces page first file at bytes) (map history items) after in
-      did_some_front (on_part 0 (durable_store 0 0 (first + 1))) (subst To (sym given_back) (subst Count count_is (subst From same did)))
+      let Count : ℕ → Type 0 = λ n. DidSomeRow (pieces_steps page first file at bytes n) old new in
+      did_some_front (on_part 0 (durable_store 0 0 (first + 1))) (subst Count (sym pieces) did)
 
-  pub all_written : DidRow (pieces_steps page first file at bytes (length now)) (map history now) (map history new)
-      → DidRow (all_pieces page first file at bytes) (map history items) (map history (take len (new ++ drop (length new) items)))
+  pub all_written : DidRow (pieces_steps page first file at bytes count) old new → DidRow (all_pieces page first file at bytes) old new
   all_written did =
-      let From : List X → Type 0 = λ before. DidRow (pieces_steps page first file at bytes (length now)) (map history before) (map history new) in
-      let Count : ℕ → Type 0 = λ count. DidRow (pieces_steps page first file at bytes count) (map history items) (map history new) in
-      let To : List History → Type 0 = λ after. DidRow (all_pieces page first file at bytes) (map history items) after in
-      subst To (sym given_back) (subst Count count_is (subst From same did))
+      let Count : ℕ → Type 0 = λ n. DidRow (pieces_steps page first file at bytes n) old new in
+      subst Count (sym pieces) did

@@ -60,6 +60,32 @@ pub fn commit_group<L: Lines>(
     ensures cause { HasCause (sum_by L.fault_count parts.old.items) (sum_by L.fault_count parts.new.items) result }
     ensures devices { map L.device parts.new.items ≡ map L.device parts.old.items }
 {
+    write_group(parts, page, first, file, at, bytes)
+}
+
+// The entries of a group, and then the leader's commit word. A slice can't grow, so this takes no memory.
+fn write_group<L: Lines>(
+    parts: &mut [L],
+    page: u64,
+    first: u64,
+    file: u64,
+    at: u64,
+    bytes: &[u8],
+) -> Result<(), RegionFault>
+    requires page { IsPageSize page }
+    requires some { 1 ≤ length parts.old }
+    requires pieces { pages_touched at (length bytes.now) page ≡ length parts.old }
+    requires range { at + length bytes.now ≤ 2 ^ 60 }
+    requires number { first + 1 ≤ 2 ^ 60 }
+    requires ready { All (λ part. IsReady page (L.room part)) parts.old }
+    ensures begun { DidSomeRow (group_steps page first file at bytes.now) (map L.history parts.old) (map L.history parts.new) }
+    ensures done { OnOk result
+        (DidRow (group_steps page first file at bytes.now) (map L.history parts.old) (map L.history parts.new)) }
+    ensures ready { OnOk result (All (λ part. IsReady page (L.room part)) parts.new) }
+    ensures lines { map (λ part. (L.room part).lines) parts.new ≡ map (λ part. (L.room part).lines) parts.old }
+    ensures cause { HasCause (sum_by L.fault_count parts.old) (sum_by L.fault_count parts.new) result }
+    ensures devices { map L.device parts.new ≡ map L.device parts.old }
+{
     write_pieces(parts, page, first, file, at, bytes)?;
     commit(parts, page, first)
 }
@@ -195,18 +221,18 @@ fn write_head<L: Lines>(part: &mut L, head: PieceHead) -> Result<(), RegionFault
 }
 
 // The commit word of a group's leader; durable at `Ok`.
-fn commit<L: Lines>(parts: &mut Vec<L>, page: u64, first: u64) -> Result<(), RegionFault>
-    requires some { 1 ≤ vec_len parts.old }
+fn commit<L: Lines>(parts: &mut [L], page: u64, first: u64) -> Result<(), RegionFault>
+    requires some { 1 ≤ length parts.old }
     requires number { first + 1 ≤ 2 ^ 60 }
-    requires ready { All (λ part. IsReady page (L.room part)) parts.old.items }
+    requires ready { All (λ part. IsReady page (L.room part)) parts.old }
     ensures begun { DidSomeRow (on_part 0 (durable_store 0 0 (first + 1)))
-        (map L.history parts.old.items) (map L.history parts.new.items) }
+        (map L.history parts.old) (map L.history parts.new) }
     ensures done { OnOk result
-        (DidRow (on_part 0 (durable_store 0 0 (first + 1))) (map L.history parts.old.items) (map L.history parts.new.items)) }
-    ensures ready { OnOk result (All (λ part. IsReady page (L.room part)) parts.new.items) }
-    ensures lines { map (λ part. (L.room part).lines) parts.new.items ≡ map (λ part. (L.room part).lines) parts.old.items }
-    ensures cause { HasCause (sum_by L.fault_count parts.old.items) (sum_by L.fault_count parts.new.items) result }
-    ensures devices { map L.device parts.new.items ≡ map L.device parts.old.items }
+        (DidRow (on_part 0 (durable_store 0 0 (first + 1))) (map L.history parts.old) (map L.history parts.new)) }
+    ensures ready { OnOk result (All (λ part. IsReady page (L.room part)) parts.new) }
+    ensures lines { map (λ part. (L.room part).lines) parts.new ≡ map (λ part. (L.room part).lines) parts.old }
+    ensures cause { HasCause (sum_by L.fault_count parts.old) (sum_by L.fault_count parts.new) result }
+    ensures devices { map L.device parts.new ≡ map L.device parts.old }
 {
     Ok(store_durably(&mut parts[0], 0, 0, first + 1)?)
 }
