@@ -9,7 +9,7 @@ use Rattle.nv_plain.specs.Files.{padded}
 use Rattle.nv_plain.specs.Images.{PartImage, line_bytes, lines_bytes, lines_for}
 use Rattle.nv_pmem.specs.Steps.{word_in}
 use Rattle.nv_entry.specs.Group.{data_line}
-use Rattle.nv_entry.proofs.Ranges.{flat_map-same, flat_map-after_one, parts_joined}
+use Rattle.nv_pmem.proofs.Ranges.{flat_map-same, flat_map-after_one, parts_joined}
 
 -- each is a byte
 abbrev pub AreBytes : List ℕ → Type 0

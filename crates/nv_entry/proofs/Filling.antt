@@ -10,18 +10,7 @@ use Rattle.nv_plain.specs.Images.{PartImage, line_bytes, lines_bytes}
 use Rattle.nv_pmem.specs.Part.{word_of}
 use Rattle.nv_pmem.specs.Moments.{Tells}
 use Rattle.nv_pmem.specs.Steps.{History}
-use Rattle.nv_entry.proofs.Ranges.{flat_map-more}
-
-pub length-put_mid : (at size : ℕ) (xs ys : List ℕ) → at + size ≤ length xs → length ys ≡ size → length (put_mid at size xs ys) ≡ length xs
-length-put_mid at size xs ys fits is =
-    omega (
-      arith,
-      length-append (take at xs) (ys ++ drop size (drop at xs)),
-      length-append ys (drop size (drop at xs)),
-      length-take at xs,
-      length-drop size (drop at xs),
-      length-drop at xs,
-    )
+use Rattle.nv_pmem.proofs.Ranges.{flat_map-more, length-put_mid, word_put}
 
 -- ---- a word of a line
 
@@ -29,19 +18,11 @@ length-put_mid at size xs ys fits is =
 abbrev pub first_words : (ℕ → ℕ) → ℕ → List ℕ
 first_words words count = flat_map (λ word. to_le_bytes w64 (words word)) (range_with_len 0 count)
 
-word_put : (words : ℕ → ℕ) (word value : ℕ) (bytes copy : List ℕ) (size : ℕ) → 8 * word ≤ length bytes → copy ≡ to_le_bytes w64 value → value ≡ words word → take (8 * word) bytes ≡ first_words words word → take (8 * (word + 1)) (put_mid (8 * word) size bytes copy) ≡ first_words words (word + 1)
-word_put words word value bytes copy size fits is value_is before =
-    take-put_mid (8 * word) size bytes copy (8 * (word + 1)) (omega (arith, ap length is)) fits
-    ∙ ap (λ front. front ++ copy) before
-    ∙ ap (λ last. first_words words word ++ last) (is ∙ ap (to_le_bytes w64) value_is)
-    ∙ ap (λ i. first_words words word ++ to_le_bytes w64 (words i)) (sym (zero-add word))
-    ∙ sym (flat_map-more (λ i. to_le_bytes w64 (words i)) 0 word)
-
 -- one word more of a part's line
 pub told_word_put : (history : History) (line word value : ℕ) (bytes copy : List ℕ) (size : ℕ) → 8 * word ≤ length bytes → copy ≡ to_le_bytes w64 value → Tells history (λ now. take (8 * word) bytes ≡ first_words (word_of now line) word) → Tells history (λ now. value ≡ word_of now line word) → Tells history (λ now. take (8 * (word + 1)) (put_mid (8 * word) size bytes copy) ≡ first_words (word_of now line) (word + 1))
 told_word_put [] line word value bytes copy size fits is before loaded = tt
 told_word_put (now ∷ past) line word value bytes copy size fits is before loaded =
-    word_put (word_of now line) word value bytes copy size fits is loaded before
+    word_put (word_of now line) 0 word value bytes copy size fits is (loaded ∙ ap (word_of now line) (sym (zero-add word))) before
 
 -- ---- a line of a part
 

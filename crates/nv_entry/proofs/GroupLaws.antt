@@ -1,6 +1,5 @@
 -- Laws about groups: what their steps, all or the first so many, make of parts that tell.
-use Rattle.std.proofs.Common.{◌≡◌, ℕ, ◌+◌, ◌≤◌, List, ◌∷◌, ◌++◌, All, length, take, drop, map, ap, sym, subst, ◌∙◌, arith}
-use Rattle.std.proofs.lemmas.List.{take_at}
+use Rattle.std.proofs.Common.{◌≡◌, ℕ, ◌+◌, ◌≤◌, List, ◌∷◌, All, length, map, sym, subst, ◌∙◌, arith}
 use Rattle.std.proofs.lemmas.List.Elements.{All-weaker}
 use Rattle.nv_plain.specs.Pieces.{pages_touched}
 use Rattle.nv_pmem.specs.Limits.{IsPageSize, entry_lines}
@@ -83,14 +82,7 @@ module _ {X : Type 0} (history : X → History) (room : X → Room) (told : (x :
       (λ now both. group_quiet page first file at bytes is_page now both.0.long both.1)
       did
 
--- ---- parts that were lent as a slice
-
--- What a call did to a slice, it did to the vector that lent it.
-pub lent : {X : Type 0} (items now new : List X) (len : ℕ) → now ≡ items → length items ≡ len → length new ≡ length now → (R : List X → List X → Type 0) → R now new → R items (take len (new ++ drop (length new) items))
-lent {X} items now new len same long still R did =
-    let To : List X → Type 0 = R items in
-    let From : List X → Type 0 = λ old. R old new in
-    subst To (sym (take_at new (drop (length new) items) len (omega (arith, ap length same)))) (subst From same did)
+-- ---- the entries, and then the commit
 
 -- The entries of a group, or some of them, are written.
 module _ (page first file at : ℕ) (bytes : List ℕ) {count : ℕ} {old new : List History} (pieces : pages_touched at (length bytes) page ≡ count) where

@@ -20,7 +20,7 @@ use Rattle.nv_entry.specs.Group.{count_at, data_steps, field_steps, piece_steps,
 use Rattle.nv_entry.proofs.Data.{AreBytes, bytes_taken, bytes_dropped}
 use Rattle.nv_entry.proofs.PieceRanges.{length-piece_bytes, piece_small, lines_fit}
 use Rattle.nv_entry.proofs.PieceSteps.{entry_fields, entry_data, stored_by_entry, mark-entry, mark-entry_still}
-use Rattle.nv_entry.proofs.Ranges.{flat_map-more, flat_map-split}
+use Rattle.nv_pmem.proofs.Ranges.{flat_map-more, flat_map-split}
 
 -- ---- steps part by part
 

@@ -6,7 +6,6 @@ pub mod GroupSteps
 pub mod PartRows
 pub mod PieceRanges
 pub mod PieceSteps
-pub mod Ranges
 pub mod Rooms
 pub mod Slots
 pub mod TestParts

@@ -10,7 +10,7 @@ use Rattle.nv_pmem.proofs.RowLaws.{stored_by-append}
 use Rattle.nv_pmem.proofs.StepLaws.{after_steps, did_did, did_did_some, did_some_front}
 use Rattle.nv_pmem.proofs.LineLaws.{overlaid, overlaid-append, AreInside, inside_append, word_of-after_steps}
 use Rattle.nv_entry.specs.Group.{data_line, data_steps, field_steps}
-use Rattle.nv_entry.proofs.Ranges.{flat_map-more, flat_map-split}
+use Rattle.nv_pmem.proofs.Ranges.{flat_map-more, flat_map-split}
 use Rattle.nv_entry.proofs.Data.{AreBytes, line_bytes-words, length-data_line, bytes_in_data_line, lines_bytes-data}
 
 -- ---- the stores of a line

@@ -1,5 +1,5 @@
 -- A name added: what the images of a row may be along its steps, and after them.
-use Rattle.std.proofs.Common.{◌≡◌, ℕ, ◌+◌, ◌-◌, ◌*◌, ◌/◌, ◌%◌, ◌<◌, ◌≤◌, ◌==◌, ◌&&◌, ◌⊎◌, inl, inr, IsTrue, Bool, true, false, nat_le, not, List, [], ◌∷◌, ◌++◌, length, map, take, drop, replicate, get_or, slice_index, slice_index_or, zero, suc, zero-add, refl, sym, ap, ◌∙◌, subst, arith, length-append, length-drop}
+use Rattle.std.proofs.Common.{◌≡◌, ℕ, ◌+◌, ◌-◌, ◌*◌, ◌/◌, ◌%◌, ◌<◌, ◌≤◌, ◌==◌, ◌&&◌, ◌⊎◌, inl, inr, IsTrue, true, nat_le, not, List, [], ◌∷◌, ◌++◌, length, map, take, drop, replicate, get_or, slice_index, slice_index_or, zero, suc, zero-add, refl, sym, ap, ◌∙◌, subst, arith, length-drop}
 use Rattle.std.proofs.Math.Seq.{drop-append-add, drop-append_seam}
 use Rattle.std.proofs.lemmas.Bool.{and_parts, and_from, cases_eq, cases_lt, eq-eqb, ne_eqb, leb-true, le-leb}
 use Rattle.std.proofs.lemmas.List.{take_all, take_at, length-take, length-replicate, get_or_past, get_or-take, get_or-drop, get_or_append_left, get_or-append_right, get_or-replicate}
@@ -29,8 +29,7 @@ use Rattle.nv_header.specs.HeaderSteps.{name_record, add_file_steps}
 use Rattle.nv_header.specs.Heads.{HasFields, IsGoodName, first_names, record_line, length_of, room_of_name, is_record}
 use Rattle.nv_header.specs.Regions.{HasNoneFrom, HasEmptyLog, IsAtRest}
 use Rattle.nv_header.proofs.FormatLaws.{HasRoom, only_stores}
-use Rattle.nv_header.proofs.Joined.{joined-parts, joined-after_one, map-same}
-use Rattle.nv_header.proofs.Ranges.{flat_map-same}
+use Rattle.nv_pmem.proofs.Ranges.{map-same, flat_map-same, flat_map-after_one, parts_joined}
 use Rattle.nv_header.proofs.OneLine.{line_steps, one_record_steps, one_add_steps, length-padded, add_file_steps-one}
 
 -- ---- a record in words
@@ -63,14 +62,14 @@ record_room name words fits are each =
     let front = to_le_bytes w64 (length name) in
     let back = padded name 56 in
     let long = length-padded name 56 fits in
-    joined-after_one (λ k. to_le_bytes w64 (words k)) 0 7
+    flat_map-after_one (λ k. to_le_bytes w64 (words k)) 0 7
     ∙ flat_map-same (λ k. to_le_bytes w64 (words (1 + k))) (λ k. take 8 (drop (8 * k) back)) 0 7 (λ k low high.
     let index : 8 * (1 + k) ≡ 8 + 8 * k = omega arith in
     let part : drop (8 * (1 + k)) (front ++ back) ≡ drop (8 * k) back = ap (λ n. drop n (front ++ back)) index ∙ drop-append-add front back (8 * k) in
     le_bytes_8 (take 8 (drop (8 * k) back)) (words (1 + k)) (omega (arith, length-take 8 (drop (8 * k) back), length-drop (8 * k) back))
     (word_bytes back k (padded_bytes name (56 - length name) are))
     (each (1 + k) (omega arith) ∙ ap (λ bytes. from_le_bytes w64 (take 8 bytes)) part))
-    ∙ joined-parts 8 back 0 7
+    ∙ parts_joined 8 back 0 7
     ∙ take_all 56 back (omega arith)
 
 -- and the first is its length

@@ -5,8 +5,7 @@ use Rattle.nv_pmem.specs.Rows.{RowStep, on_part, row_grown, DidRow, DidSomeRow}
 use Rattle.nv_pmem.specs.Steps.{History, durable_store}
 use Rattle.nv_pmem.proofs.StepLaws.{did_none, did_did, did_did_some, did_some_front}
 use Rattle.nv_header.specs.HeaderSteps.{clear_steps}
-use Rattle.nv_header.proofs.Joined.{joined-split}
-use Rattle.nv_header.proofs.Ranges.{flat_map-more}
+use Rattle.nv_pmem.proofs.Ranges.{flat_map-split, flat_map-more}
 
 -- those of one entry
 abbrev pub clear_one : ℕ → List RowStep
@@ -21,7 +20,7 @@ unfolding clear_steps
 clear_steps-split entries k i is inside =
     let all : entries ≡ k + 1 + (entries - (k + 1)) = omega arith in
     ap (λ count. flat_map clear_one (range_with_len 1 count)) all
-    ∙ joined-split clear_one 1 (k + 1) (entries - (k + 1))
+    ∙ flat_map-split clear_one 1 (k + 1) (entries - (k + 1))
     ∙ ap (λ front. front ++ flat_map clear_one (range_with_len (1 + (k + 1)) (entries - (k + 1)))) (clear_steps-more k i is)
 
 -- none yet

@@ -1,63 +1,16 @@
 -- Calls on one part of a row: what they are of the row.
-use Rattle.std.proofs.Common.{◌≡◌, ℕ, ◌<◌, ◌≤◌, inl, inr, List, [], ◌∷◌, length, map, sum_by, get_or, slice_index_or, slice_set, zero, suc, sym, ap, ◌∙◌, subst, arith}
-use Rattle.std.proofs.Math.Seq.{map-set_same}
+use Rattle.std.proofs.Common.{◌≡◌, ℕ, ◌<◌, ◌≤◌, inl, inr, List, [], ◌∷◌, length, map, get_or, slice_index_or, slice_set, zero, suc, sym, ap, ◌∙◌, subst, arith}
 use Rattle.std.proofs.lemmas.Bool.{cases_eq}
 use Rattle.std.proofs.lemmas.List.{get_or_default, get_or-map, map-set, length-map, length-set, get_or-set_same, get_or-set_other}
-use Rattle.std.proofs.lemmas.List.Sums.{sum_by-set, get_or-le-sum_by}
-use Rattle.nv_plain.specs.Faults.{Rose}
 use Rattle.nv_plain.specs.Layouts.{Layout, version_1}
 use Rattle.nv_pmem.specs.Moments.{Tells}
 use Rattle.nv_pmem.specs.Part.{Part}
 use Rattle.nv_pmem.specs.Room.{Room, Keeps, Takes, Frees, Settles}
-use Rattle.nv_pmem.specs.Rows.{on_part, DidRow, DidSomeRow, RowTells}
-use Rattle.nv_pmem.specs.Steps.{Step, History, Did, DidSome}
+use Rattle.nv_pmem.specs.Rows.{RowTells}
+use Rattle.nv_pmem.specs.Steps.{History}
 use Rattle.nv_pmem.proofs.StepLaws.{tells_told}
-use Rattle.nv_pmem.proofs.RowLaws.{did_row_on, did_some_row_on, EachPart, row_tells_each, row_tells_more}
+use Rattle.nv_pmem.proofs.RowLaws.{EachPart, row_tells_each, row_tells_more}
 use Rattle.nv_header.specs.Regions.{part_lines, IsRoomy, StaysRoomy, HasParts}
-
--- ---- runs
-
--- what was done to one of some parts was done to the row of them
-pub did_in_row : {X : Type 0} (history : X → History) (parts : List X) (i : ℕ) (was new : X) {steps : List Step} → i < length parts → was ≡ get_or parts i was → Did steps (history was) (history new)
-    → DidRow (on_part i steps) (map history parts) (map history (slice_set parts i new))
-did_in_row history parts i was new {steps} inside is did =
-    let At : History → Type 0 = λ old. Did steps old (history new) in
-    let To : List History → Type 0 = λ row. DidRow (on_part i steps) (map history parts) row in
-    let old_is : history was ≡ slice_index_or (map history parts) i [] =
-    ap history is ∙ sym (get_or-map history parts i was [] inside) in
-    subst To (sym (map-set history parts i new))
-    (did_row_on i (map history parts) (omega (arith, length-map parts history)) (subst At old_is did))
-
-pub did_some_in_row : {X : Type 0} (history : X → History) (parts : List X) (i : ℕ) (was new : X) {steps : List Step} → i < length parts → was ≡ get_or parts i was → DidSome steps (history was) (history new)
-    → DidSomeRow (on_part i steps) (map history parts) (map history (slice_set parts i new))
-did_some_in_row history parts i was new {steps} inside is did =
-    let At : History → Type 0 = λ old. DidSome steps old (history new) in
-    let To : List History → Type 0 = λ row. DidSomeRow (on_part i steps) (map history parts) row in
-    let old_is : history was ≡ slice_index_or (map history parts) i [] =
-    ap history is ∙ sym (get_or-map history parts i was [] inside) in
-    subst To (sym (map-set history parts i new))
-    (did_some_row_on i (map history parts) (omega (arith, length-map parts history)) (subst At old_is did))
-
--- ---- what stays of each part
-
--- what is the same of the part is the same of the row
-pub same_in_row : {X : Type 0} (f : X → ℕ) (parts : List X) (i : ℕ) (was new : X) → was ≡ get_or parts i was → f new ≡ f was → map f (slice_set parts i new) ≡ map f parts
-same_in_row f parts i was new is same = map-set_same f parts i new was (same ∙ ap f is)
-
--- the sum over a row whose part has the same
-pub same_sum_in_row : {X : Type 0} (f : X → ℕ) (parts : List X) (i : ℕ) (was new : X) → i < length parts → was ≡ get_or parts i was → f new ≡ f was → sum_by f (slice_set parts i new) ≡ sum_by f parts
-same_sum_in_row f parts i was new inside is same =
-    omega (arith, sum_by-set f parts i new was inside, same, ap f is)
-
--- and of one whose part's count rose
-pub rose_in_row : {X : Type 0} (f : X → ℕ) (parts : List X) (i : ℕ) (was new : X) → i < length parts → was ≡ get_or parts i was → Rose (f was) (f new) → Rose (sum_by f parts) (sum_by f (slice_set parts i new))
-rose_in_row f parts i was new inside is rose =
-    let sum = sum_by-set f parts i new was inside in
-    let old = ap f is in
-    let part : f (get_or (slice_set parts i new) i was) ≤ sum_by f (slice_set parts i new) =
-    get_or-le-sum_by f (slice_set parts i new) i was (omega (arith, length-set parts i new)) in
-    let new_is = ap f (get_or-set_same parts i new was inside) in
-    record { never_falls = omega (arith, rose.never_falls); more = omega (arith, rose.more, rose.never_falls) }
 
 -- ---- room
 
@@ -81,16 +34,16 @@ stays_roomy lines stays roomy = record {
 }
 
 -- the part of the header, or of an entry, has its lines, and room in them
-pub roomy_part : {X : Type 0} (room : X → Room) (layout : Layout) (page entries : ℕ) (parts : List X) (i : ℕ) (was : X) → HasParts layout page entries (map room parts) → i ≤ entries → was ≡ get_or parts i was → IsRoomy (part_lines layout page i) (room was)
-roomy_part room layout page entries parts i was has within is =
+pub roomy_part : {X : Type 0} (room : X → Room) (layout : Layout) (page entries : ℕ) (parts : List X) (i : ℕ) (was d : X) → HasParts layout page entries (map room parts) → i ≤ entries → was ≡ get_or parts i d → IsRoomy (part_lines layout page i) (room was)
+roomy_part room layout page entries parts i was d has within is =
     let At : Room → Type 0 = IsRoomy (part_lines layout page i) in
-    let none = room was in
-    subst At (get_or-map room parts i was none (omega (arith, has.count, length-map parts room)) ∙ ap room (sym is)) (has.each i none within)
+    let none = room d in
+    subst At (get_or-map room parts i d none (omega (arith, has.count, length-map parts room)) ∙ ap room (sym is)) (has.each i none within)
 
 -- a region's parts stay so when one of them keeps its room
-pub has_parts_set : {X : Type 0} (room : X → Room) (layout : Layout) (page entries : ℕ) (parts : List X) (i : ℕ) (was new : X) → i < length parts → was ≡ get_or parts i was → StaysRoomy (room was) (room new)
+pub has_parts_set : {X : Type 0} (room : X → Room) (layout : Layout) (page entries : ℕ) (parts : List X) (i : ℕ) (was new d : X) → i < length parts → was ≡ get_or parts i d → StaysRoomy (room was) (room new)
     → HasParts layout page entries (map room parts) → HasParts layout page entries (map room (slice_set parts i new))
-has_parts_set room layout page entries parts i was new inside is stays has =
+has_parts_set room layout page entries parts i was new d inside is stays has =
     let There : List Room → Type 0 = HasParts layout page entries in
     let all : i < length (map room parts) = omega (arith, length-map parts room) in
     subst There (sym (map-set room parts i new))
@@ -102,7 +55,7 @@ has_parts_set room layout page entries parts i was new inside is stays has =
             let Here : ℕ → Type 0 = λ j. IsRoomy (part_lines layout page j) (room was) in
             subst At (sym (ap (λ j. slice_index_or (slice_set (map room parts) i (room new)) j none) same ∙ get_or-set_same (map room parts) i (room new) none all))
             (stays_roomy (part_lines layout page k) stays
-            (subst Here (sym same) (roomy_part room layout page entries parts i was has (omega arith) is)))
+            (subst Here (sym same) (roomy_part room layout page entries parts i was d has (omega arith) is)))
         | inr differs ↦
             let At : Room → Type 0 = IsRoomy (part_lines layout page k) in
             subst At (sym (get_or-set_other (map room parts) i k (room new) none differs)) (has.each k none below)
@@ -120,7 +73,7 @@ told_lines_at : {X : Type 0} (history : X → History) (room : X → Room) (layo
     → HasParts layout page entries (map room parts) → i < length parts → was ≡ get_or parts i was → Tells (slice_index_or (map history parts) i []) (λ now. i ≤ entries → part_lines layout page i ≤ length now)
 told_lines_at history room layout page entries parts i was told has inside is =
     tells_told (slice_index_or (map history parts) i []) (λ now. i ≤ entries → part_lines layout page i ≤ length now) (λ now past now_is within.
-    let roomy = roomy_part room layout page entries parts i was has within is in
+    let roomy = roomy_part room layout page entries parts i was was has within is in
     omega (arith, roomy.there, told was now past (ap history is ∙ sym (get_or-map history parts i was [] inside) ∙ now_is)))
 
 -- where the parts tell, they have their lines

@@ -1,11 +1,7 @@
-pub mod Keeping
-pub mod Ranges
 pub mod Records
-pub mod Firsts
 pub mod RefusalLaws
 pub mod Counts
 pub mod InRow
-pub mod Joined
 pub mod Clearing
 pub mod FormatLaws
 pub mod OneLine

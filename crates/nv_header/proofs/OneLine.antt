@@ -1,5 +1,5 @@
 -- The steps that add a name, where its record is one line.
-use Rattle.std.proofs.Common.{◌≡◌, ℕ, ◌+◌, ◌-◌, ◌≤◌, List, [], ◌∷◌, ◌++◌, length, drop, replicate, ap, ◌∙◌, add-zero, arith, length-append}
+use Rattle.std.proofs.Common.{◌≡◌, ℕ, ◌+◌, ◌-◌, ◌≤◌, List, [], ◌∷◌, ◌++◌, length, replicate, ap, ◌∙◌, add-zero, arith, length-append}
 use Rattle.std.proofs.lemmas.List.{take_all, length-replicate}
 use Rattle.std.specs.Int.{to_le_bytes, w64}
 use Rattle.nv_plain.specs.Files.{padded}

@@ -18,14 +18,14 @@ use Rattle.nv_pmem.specs.Steps.{History}
 use Rattle.nv_header.specs.Heads.{first_names, header_image, is_record, length_of, room_of_name}
 use Rattle.nv_header.specs.NextName.{IsNextName, AreNames}
 use Rattle.nv_header.specs.Refusals.{IsBadName}
-use Rattle.nv_header.proofs.Ranges.{flat_map-same, word_put}
+use Rattle.nv_pmem.proofs.Ranges.{flat_map-same, word_put}
 use borrow.Rule.Slice.PartMut.{put_mid}
 
 -- one word more of a record
 pub told_word_put : (history : History) (line count value : ℕ) (bytes copy : List ℕ) (size : ℕ) → 8 * count ≤ length bytes → copy ≡ to_le_bytes w64 value → Tells history (λ now. take (8 * count) bytes ≡ flat_map (λ k. to_le_bytes w64 (word_of now line k)) (range_with_len 1 count)) → Tells history (λ now. value ≡ word_of now line (1 + count)) → Tells history (λ now. take (8 * (count + 1)) (put_mid (8 * count) size bytes copy) ≡ flat_map (λ k. to_le_bytes w64 (word_of now line k)) (range_with_len 1 (count + 1)))
 told_word_put [] line count value bytes copy size fits is before loaded = tt
 told_word_put (now ∷ past) line count value bytes copy size fits is before loaded =
-    word_put (word_of now line) count value bytes copy size fits is loaded before
+    word_put (word_of now line) 1 count value bytes copy size fits is loaded before
 
 -- a record's bytes, in a layout of one line a record
 room-words : (words : ℕ → ℕ → ℕ) (i line : ℕ) → line ≡ 2 + i → flat_map (λ k. to_le_bytes w64 (words line k)) (range_with_len 1 7) ≡ flat_map (λ k. to_le_bytes w64 (words (2 + i * 1 + k / 8) (k % 8))) (range_with_len 1 7)

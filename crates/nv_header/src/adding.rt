@@ -114,17 +114,17 @@ fn push_name(alloc: Global, names: &mut Names, name: &[u8]) -> Result<(), NoMemo
 }
 
 // The record of a name, and then the count of the names, in the header of a region.
-fn write_name<L: Lines>(parts: &mut Vec<L>, index: u64, name: &[u8]) -> Result<(), RegionFault>
-    requires header { 0 < length parts.old.items }
-    requires room { (none : Room) → IsRoomy version_1.header_lines (slice_index_or (map L.room parts.old.items) 0 none) }
+fn write_name<L: Lines>(parts: &mut [L], index: u64, name: &[u8]) -> Result<(), RegionFault>
+    requires header { 0 < length parts.old }
+    requires room { (none : Room) → IsRoomy version_1.header_lines (slice_index_or (map L.room parts.old) 0 none) }
     requires index { index < version_1.file_limit }
     requires size { length name.now ≤ version_1.name_limit }
-    ensures begun { DidSomeRow (on_part 0 (add_file_steps version_1 index name.now)) (map L.history parts.old.items) (map L.history parts.new.items) }
-    ensures done { OnOk result (DidRow (on_part 0 (add_file_steps version_1 index name.now)) (map L.history parts.old.items) (map L.history parts.new.items)) }
-    ensures parts { OnOk result ((page entries : ℕ) → HasParts version_1 page entries (map L.room parts.old.items) → HasParts version_1 page entries (map L.room parts.new.items)) }
-    ensures lines { map (λ part. (L.room part).lines) parts.new.items ≡ map (λ part. (L.room part).lines) parts.old.items }
-    ensures cause { HasCause (sum_by L.fault_count parts.old.items) (sum_by L.fault_count parts.new.items) result }
-    ensures devices { map L.device parts.new.items ≡ map L.device parts.old.items }
+    ensures begun { DidSomeRow (on_part 0 (add_file_steps version_1 index name.now)) (map L.history parts.old) (map L.history parts.new) }
+    ensures done { OnOk result (DidRow (on_part 0 (add_file_steps version_1 index name.now)) (map L.history parts.old) (map L.history parts.new)) }
+    ensures parts { OnOk result ((page entries : ℕ) → HasParts version_1 page entries (map L.room parts.old) → HasParts version_1 page entries (map L.room parts.new)) }
+    ensures lines { map (λ part. (L.room part).lines) parts.new ≡ map (λ part. (L.room part).lines) parts.old }
+    ensures cause { HasCause (sum_by L.fault_count parts.old) (sum_by L.fault_count parts.new) result }
+    ensures devices { map L.device parts.new ≡ map L.device parts.old }
 {
     store_name(&mut parts[0], index, name)
 }

@@ -47,29 +47,29 @@ pub fn format<L: Lines + Drop>(
     }
 }
 
-// The entries are cleared, and then the header is written.
-fn write_region<L: Lines>(parts: &mut Vec<L>, geometry: Geometry) -> Result<(), RegionFault>
-    requires parts { HasParts version_1 geometry.page geometry.entries (map L.room parts.old.items) }
-    ensures begun { DidSomeRow (format_steps version_1 geometry.page geometry.entries) (map L.history parts.old.items) (map L.history parts.new.items) }
-    ensures done { OnOk result (DidRow (format_steps version_1 geometry.page geometry.entries) (map L.history parts.old.items) (map L.history parts.new.items)) }
-    ensures parts { OnOk result (HasParts version_1 geometry.page geometry.entries (map L.room parts.new.items)) }
-    ensures lines { map (λ part. (L.room part).lines) parts.new.items ≡ map (λ part. (L.room part).lines) parts.old.items }
-    ensures cause { HasCause (sum_by L.fault_count parts.old.items) (sum_by L.fault_count parts.new.items) result }
-    ensures devices { map L.device parts.new.items ≡ map L.device parts.old.items }
+// The entries are cleared, and then the header is written. A slice can't grow, so this takes no memory.
+fn write_region<L: Lines>(parts: &mut [L], geometry: Geometry) -> Result<(), RegionFault>
+    requires parts { HasParts version_1 geometry.page geometry.entries (map L.room parts.old) }
+    ensures begun { DidSomeRow (format_steps version_1 geometry.page geometry.entries) (map L.history parts.old) (map L.history parts.new) }
+    ensures done { OnOk result (DidRow (format_steps version_1 geometry.page geometry.entries) (map L.history parts.old) (map L.history parts.new)) }
+    ensures parts { OnOk result (HasParts version_1 geometry.page geometry.entries (map L.room parts.new)) }
+    ensures lines { map (λ part. (L.room part).lines) parts.new ≡ map (λ part. (L.room part).lines) parts.old }
+    ensures cause { HasCause (sum_by L.fault_count parts.old) (sum_by L.fault_count parts.new) result }
+    ensures devices { map L.device parts.new ≡ map L.device parts.old }
 {
     clear_commit_words(parts, geometry)?;
     write_header(&mut parts[0], geometry)
 }
 
 // The commit word of each entry, cleared and durable.
-fn clear_commit_words<L: Lines>(parts: &mut Vec<L>, geometry: Geometry) -> Result<(), RegionFault>
-    requires parts { HasParts version_1 geometry.page geometry.entries (map L.room parts.old.items) }
-    ensures begun { DidSomeRow (clear_steps geometry.entries) (map L.history parts.old.items) (map L.history parts.new.items) }
-    ensures done { OnOk result (DidRow (clear_steps geometry.entries) (map L.history parts.old.items) (map L.history parts.new.items)) }
-    ensures parts { OnOk result (HasParts version_1 geometry.page geometry.entries (map L.room parts.new.items)) }
-    ensures lines { map (λ part. (L.room part).lines) parts.new.items ≡ map (λ part. (L.room part).lines) parts.old.items }
-    ensures cause { HasCause (sum_by L.fault_count parts.old.items) (sum_by L.fault_count parts.new.items) result }
-    ensures devices { map L.device parts.new.items ≡ map L.device parts.old.items }
+fn clear_commit_words<L: Lines>(parts: &mut [L], geometry: Geometry) -> Result<(), RegionFault>
+    requires parts { HasParts version_1 geometry.page geometry.entries (map L.room parts.old) }
+    ensures begun { DidSomeRow (clear_steps geometry.entries) (map L.history parts.old) (map L.history parts.new) }
+    ensures done { OnOk result (DidRow (clear_steps geometry.entries) (map L.history parts.old) (map L.history parts.new)) }
+    ensures parts { OnOk result (HasParts version_1 geometry.page geometry.entries (map L.room parts.new)) }
+    ensures lines { map (λ part. (L.room part).lines) parts.new ≡ map (λ part. (L.room part).lines) parts.old }
+    ensures cause { HasCause (sum_by L.fault_count parts.old) (sum_by L.fault_count parts.new) result }
+    ensures devices { map L.device parts.new ≡ map L.device parts.old }
 {
     for entry in 0..geometry.entries as usize {
         store_durably(&mut parts[1 + entry], 0, 0, 0)?;

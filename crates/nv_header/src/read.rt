@@ -1,10 +1,10 @@
 ghost use Rattle.std.specs.Prelude.{◌≡◌, ◌<◌, ◌≤◌, ◌==◌, true, length, map, sum_by, Ok, Err, IfOk, IfErr, IfSome};
-ghost use Rattle.std.specs.List.{AllZip};
 ghost use Rattle.nv_plain.specs.Faults.{HasCause};
 ghost use Rattle.nv_plain.specs.Images.{header_of};
 ghost use Rattle.nv_plain.specs.Layouts.{version_1};
 ghost use Rattle.nv_pmem.specs.Moments.{Tells};
 ghost use Rattle.nv_pmem.specs.Room.{Keeps};
+ghost use Rattle.nv_pmem.specs.Rows.{AreOnlyRead};
 ghost use Rattle.nv_header.specs.FileNames.{AreFileNames, IsNewName};
 ghost use Rattle.nv_header.specs.Heads.{IsHeadOf, IsWithinLimits, header_image};
 ghost use Rattle.nv_header.specs.Needs.{header_history, header_lines_in};
@@ -24,10 +24,8 @@ pub fn is_blank<L: Lines>(parts: &mut [L]) -> Result<bool, RegionFault>
     ensures no_lines { header_lines_in (map L.room parts.old) ≡ 0 → result ≡ Ok true }
     ensures told { 1 ≤ header_lines_in (map L.room parts.old) → IfOk result (λ blank.
         Tells (header_history (map L.history parts.old)) (λ now. blank ≡ ((header_of (header_image now)).magic == 0))) }
-    ensures histories { map L.history parts.new ≡ map L.history parts.old }
-    ensures rooms { AllZip (λ old new. Keeps (L.room old) (L.room new)) parts.old parts.new }
+    ensures read { AreOnlyRead L.history L.room L.device parts.old parts.new }
     ensures cause { HasCause (sum_by L.fault_count parts.old) (sum_by L.fault_count parts.new) result }
-    ensures devices { map L.device parts.new ≡ map L.device parts.old }
 {
     if parts.is_empty() {
         return Ok(true);
@@ -63,10 +61,8 @@ pub fn read_head<L: Lines>(alloc: Global, parts: &mut [L]) -> Result<Head, HeadE
         result ≡ Err (HeadError.Truncated (header_lines_in (map L.room parts.old)) version_1.header_lines) }
     ensures long_enough { version_1.header_lines ≤ header_lines_in (map L.room parts.old) → IfErr result IsNotTruncated }
 
-    ensures histories { map L.history parts.new ≡ map L.history parts.old }
-    ensures rooms { AllZip (λ old new. Keeps (L.room old) (L.room new)) parts.old parts.new }
+    ensures read { AreOnlyRead L.history L.room L.device parts.old parts.new }
     ensures cause { HeadHasCause (sum_by L.fault_count parts.old) (sum_by L.fault_count parts.new) result }
-    ensures devices { map L.device parts.new ≡ map L.device parts.old }
 {
     if parts.is_empty() {
         return Err(HeadError::Truncated {

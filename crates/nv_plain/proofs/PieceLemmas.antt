@@ -21,7 +21,7 @@ page_rising : (at len page : ℕ) → 1 ≤ page → 0 < len → at / page ≤ (
 page_rising at len page some_page some = (le-div_iff_mul-le some_page).1 (omega (arith, div-mul-le_self at page))
 
 -- where the page of piece i begins, if there is a piece i
-page_start_below : (at len page i : ℕ) → 1 ≤ page → i < pages_touched at len page → (at / page + i) * page < at + len
+pub page_start_below : (at len page i : ℕ) → 1 ≤ page → i < pages_touched at len page → (at / page + i) * page < at + len
 page_start_below at len page i some_page below =
     elim (cases_lt 0 len) [
       | inl some ↦

@@ -7,3 +7,5 @@ pub mod RowLaws
 pub mod StepLaws
 pub mod ReadLaws
 pub mod PastLaws
+pub mod OneOfRow
+pub mod Ranges

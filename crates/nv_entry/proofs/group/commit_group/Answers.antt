@@ -5,7 +5,8 @@ use Rattle.std.proofs.lemmas.Result.{on_ok_weaker}
 use Rattle.nv_plain.specs.Faults.{HasCause}
 use Rattle.nv_pmem.specs.Rows.{DidRow, DidSomeRow}
 use Rattle.nv_entry.specs.Group.{group_steps, IsReady}
-use Rattle.nv_entry.proofs.GroupLaws.{lent, parts_moments, parts_others, parts_whole, parts_hold, parts_quiet}
+use Rattle.nv_pmem.proofs.OneOfRow.{lent}
+use Rattle.nv_entry.proofs.GroupLaws.{parts_moments, parts_others, parts_whole, parts_hold, parts_quiet}
 use Rattle.nv_entry.proofs.group.commit_group.Goals as goal
 
 pub returns-clause-begun : goal.returns-clause-begun

@@ -6,7 +6,7 @@ use Rattle.nv_pmem.specs.Steps.{Step, Did, DidSome}
 use Rattle.nv_pmem.proofs.StepLaws.{did_some_all}
 use Rattle.nv_entry.specs.Group.{IsReady, count_at, pieces_steps}
 use Rattle.nv_entry.proofs.GroupSteps.{did_no_pieces, did_pieces_more, did_some_pieces_more, piece_steps-from}
-use Rattle.nv_entry.proofs.PartRows.{did_row_one, did_some_row_one, map-set_unseen, sum_by-set_unseen}
+use Rattle.nv_pmem.proofs.OneOfRow.{did_in_row, did_some_in_row, same_in_row, same_sum_in_row}
 use Rattle.nv_entry.proofs.Rooms.{ready_still}
 use Rattle.nv_entry.proofs.group.write_pieces.Goals as goal
 
@@ -30,20 +30,20 @@ returns-in_err-write_entry-clause-begun g c =
     let was = get_or c.loop-i.parts i item in
     let One : List Step → Type 0 = λ these. DidSome these (g.L.Lines.history was) (g.L.Lines.history c.write_entry.new.part) in
     did_some_pieces_more c.args.page c.args.first c.args.file c.args.at bytes i (length c.args.parts.now) (omega arith) c.loop-i.invariant.did
-    (did_some_row_one g.L.Lines.history c.loop-i.parts i was c.write_entry.new.part item (omega arith) refl
+    (did_some_in_row g.L.Lines.history c.loop-i.parts i was c.write_entry.new.part item (omega arith) refl
     (subst One steps c.write_entry.ensures.begun))
 
 pub returns-in_err-write_entry-clause-lines : goal.returns-in_err-write_entry-clause-lines
 returns-in_err-write_entry-clause-lines g c =
     let item = c.index-parts-i.result in
-    map-set_unseen (λ part. (g.L.Lines.room part).lines) c.loop-i.parts c.loop-i.i (get_or c.loop-i.parts c.loop-i.i item) c.write_entry.new.part item (omega arith)
+    same_in_row (λ part. (g.L.Lines.room part).lines) c.loop-i.parts c.loop-i.i (get_or c.loop-i.parts c.loop-i.i item) c.write_entry.new.part item
     refl c.write_entry.ensures.lines
     ∙ c.loop-i.invariant.lines
 
 pub returns-in_err-write_entry-clause-devices : goal.returns-in_err-write_entry-clause-devices
 returns-in_err-write_entry-clause-devices g c =
     let item = c.index-parts-i.result in
-    map-set_unseen g.L.Lines.device c.loop-i.parts c.loop-i.i (get_or c.loop-i.parts c.loop-i.i item) c.write_entry.new.part item (omega arith)
+    same_in_row g.L.Lines.device c.loop-i.parts c.loop-i.i (get_or c.loop-i.parts c.loop-i.i item) c.write_entry.new.part item
     refl c.write_entry.ensures.device
     ∙ c.loop-i.invariant.devices
 
@@ -63,17 +63,17 @@ loop-i-preserved g c =
     record {
       did =
           did_pieces_more c.args.page c.args.first c.args.file c.args.at bytes i c.loop-i.invariant.did
-          (did_row_one g.L.Lines.history c.loop-i.parts i was part item inside refl (subst One steps c.in_ok-write_entry.ensures.done));
+          (did_in_row g.L.Lines.history c.loop-i.parts i was part item inside refl (subst One steps c.in_ok-write_entry.ensures.done));
       ready =
           All-set Ready c.loop-i.parts i part
           (ready_still c.args.page (g.L.Lines.room was) (g.L.Lines.room part) c.write_entry.ensures.lines c.in_ok-write_entry.ensures.ready
           (c.loop-i.invariant.ready i item inside))
           c.loop-i.invariant.ready;
       lines =
-          map-set_unseen (λ part. (g.L.Lines.room part).lines) c.loop-i.parts i was part item inside refl c.write_entry.ensures.lines
+          same_in_row (λ part. (g.L.Lines.room part).lines) c.loop-i.parts i was part item refl c.write_entry.ensures.lines
           ∙ c.loop-i.invariant.lines;
-      faults = sum_by-set_unseen g.L.Lines.fault_count c.loop-i.parts i was part item inside refl c.in_ok-write_entry.ensures.cause ∙ c.loop-i.invariant.faults;
-      devices = map-set_unseen g.L.Lines.device c.loop-i.parts i was part item inside refl c.write_entry.ensures.device ∙ c.loop-i.invariant.devices;
+      faults = same_sum_in_row g.L.Lines.fault_count c.loop-i.parts i was part item inside refl c.in_ok-write_entry.ensures.cause ∙ c.loop-i.invariant.faults;
+      devices = same_in_row g.L.Lines.device c.loop-i.parts i was part item refl c.write_entry.ensures.device ∙ c.loop-i.invariant.devices;
     }
 
 pub returns-clause-begun : goal.returns-clause-begun

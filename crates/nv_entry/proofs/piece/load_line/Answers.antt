@@ -2,7 +2,8 @@ use Rattle.std.proofs.Common.{◌≡◌, ◌*◌, length, ap, subst, ◌∙◌, 
 use Rattle.nv_pmem.specs.Part.{word_of}
 use Rattle.nv_pmem.specs.Moments.{Tells}
 use Rattle.nv_pmem.specs.Steps.{History}
-use Rattle.nv_entry.proofs.Filling.{length-put_mid, told_word_put}
+use Rattle.nv_pmem.proofs.Ranges.{length-put_mid}
+use Rattle.nv_entry.proofs.Filling.{told_word_put}
 use Rattle.nv_pmem.proofs.Rooms.{Keeps-more}
 use Rattle.nv_entry.proofs.piece.load_line.Goals as goal
 

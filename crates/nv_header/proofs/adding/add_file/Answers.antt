@@ -1,8 +1,9 @@
-use Rattle.std.proofs.Common.{ℕ, List, [], ◌∷◌, map, sym, subst, arith}
+use Rattle.std.proofs.Common.{◌≡◌, ℕ, List, ◌++◌, length, take, drop, map, sym, subst, arith}
 use Rattle.nv_plain.specs.Layouts.{version_1}
 use Rattle.nv_pmem.specs.Rows.{on_part, DidRow, DidSomeRow}
+use Rattle.nv_pmem.proofs.OneOfRow.{lent}
 use Rattle.nv_header.specs.HeaderSteps.{add_file_steps}
-use Rattle.nv_header.specs.Regions.{IsRegion}
+use Rattle.nv_header.specs.Regions.{IsRegion, HasParts}
 use Rattle.nv_header.proofs.AddLaws.{add_changed, add_unchanged, add_tells}
 use Rattle.nv_header.proofs.FileNameLaws.{file_names_more}
 use Rattle.nv_header.proofs.InRow.{told_room}
@@ -20,21 +21,31 @@ invariant_of-region g c =
     let page = region.geometry.page in
     let entries = region.geometry.entries in
     let name = c.args.name.now in
-    let old = map g.L.Lines.history region.parts.items in
-    let new = map g.L.Lines.history c.write_name.new.parts.items in
-    let At : List (List ℕ) → Type 0 = λ names. IsRegion version_1 page entries names region.next (map g.L.Lines.room c.write_name.new.parts.items) new in
-    let Steps : ℕ → Type 0 = λ i. DidRow (on_part 0 (add_file_steps version_1 i name)) old new in
+    let now = take region.parts.len (c.write_name.new.parts ++ drop (length c.write_name.new.parts) region.parts.items) in
+    let Named : List (List ℕ) → Type 0 = λ names. IsRegion version_1 page entries names region.next (map g.L.Lines.room now) (map g.L.Lines.history now) in
+    let Steps : ℕ → Type 0 = λ i. DidRow (on_part 0 (add_file_steps version_1 i name)) (map g.L.Lines.history c.deref_mut.result.now) (map g.L.Lines.history c.write_name.new.parts) in
     record {
-      is_region = subst At (sym c.in-Ok.ensures.names) (record {
-        parts = c.in-Ok-write_name.ensures.parts page entries region.is_region.parts;
+      is_region = subst Named (sym c.in-Ok.ensures.names) (record {
+        parts = lent c.args.region.parts.items c.deref_mut.result.now c.write_name.new.parts c.args.region.parts.len c.deref_mut.ensures.value (omega (arith, c.args.region.parts.ok.0)) c.write_name.auto.parts
+            (λ old new. HasParts version_1 page entries (map g.L.Lines.room old) → HasParts version_1 page entries (map g.L.Lines.room new))
+            (c.in-Ok-write_name.ensures.parts page entries) region.is_region.parts;
         names_are = file_names_more version_1 region.names name c.in-Ok.ensures.added.few c.in-Ok.ensures.added.is_new region.is_region.names_are;
         number = region.is_region.number;
         tells =
             add_tells page entries region.next region.names name c.in-Ok.ensures.added (λ i. omega (arith, c.type_inv.name i)) region.is_region.tells
             (told_room g.L.Lines.history g.L.Lines.room version_1 page entries region.parts.items g.met.L.Lines.told_lines region.is_region.parts)
-            (subst Steps c.len-index.ensures c.in-Ok-write_name.ensures.done);
+            (lent c.args.region.parts.items c.deref_mut.result.now c.write_name.new.parts c.args.region.parts.len c.deref_mut.ensures.value (omega (arith, c.args.region.parts.ok.0)) c.write_name.auto.parts
+            (λ old new. DidRow (on_part 0 (add_file_steps version_1 (length region.names) name)) (map g.L.Lines.history old) (map g.L.Lines.history new))
+            (subst Steps c.len-index.ensures c.in-Ok-write_name.ensures.done));
       });
     }
+
+pub returns-in-Ok-write_name-clause-done : goal.returns-in-Ok-write_name-clause-done
+returns-in-Ok-write_name-clause-done g c =
+    let Steps : ℕ → Type 0 = λ i. DidRow (on_part 0 (add_file_steps version_1 i c.args.name.now)) (map g.L.Lines.history c.deref_mut.result.now) (map g.L.Lines.history c.write_name.new.parts) in
+    lent c.args.region.parts.items c.deref_mut.result.now c.write_name.new.parts c.args.region.parts.len c.deref_mut.ensures.value (omega (arith, c.args.region.parts.ok.0)) c.write_name.auto.parts
+    (λ old new. DidRow (on_part 0 (add_file_steps version_1 (length c.args.region.names) c.args.name.now)) (map g.L.Lines.history old) (map g.L.Lines.history new))
+    (subst Steps c.len-index.ensures c.in-Ok-write_name.ensures.done)
 
 pub returns-in-Ok-write_name-clause-changed : goal.returns-in-Ok-write_name-clause-changed
 returns-in-Ok-write_name-clause-changed g c =
@@ -42,11 +53,16 @@ returns-in-Ok-write_name-clause-changed g c =
     let page = region.geometry.page in
     let entries = region.geometry.entries in
     let name = c.args.name.now in
-    let Steps : ℕ → Type 0 = λ i. DidSomeRow (on_part 0 (add_file_steps version_1 i name)) (map g.L.Lines.history region.parts.items) (map g.L.Lines.history c.write_name.new.parts.items) in
-    add_changed g.L.Lines.history g.L.Lines.room g.L.Lines.device page entries region.next region.names name region.parts.items c.write_name.new.parts.items
+    let Steps : ℕ → Type 0 = λ i. DidSomeRow (on_part 0 (add_file_steps version_1 i name)) (map g.L.Lines.history c.deref_mut.result.now) (map g.L.Lines.history c.write_name.new.parts) in
+    add_changed g.L.Lines.history g.L.Lines.room g.L.Lines.device page entries region.next region.names name region.parts.items _
     c.in-Ok.ensures.added (λ i. omega (arith, c.type_inv.name i)) region.is_region.tells
     (told_room g.L.Lines.history g.L.Lines.room version_1 page entries region.parts.items g.met.L.Lines.told_lines region.is_region.parts)
-    (subst Steps c.len-index.ensures c.write_name.ensures.begun) c.write_name.ensures.lines c.write_name.ensures.devices
+    (lent c.args.region.parts.items c.deref_mut.result.now c.write_name.new.parts c.args.region.parts.len c.deref_mut.ensures.value (omega (arith, c.args.region.parts.ok.0)) c.write_name.auto.parts
+    (λ old new. DidSomeRow (on_part 0 (add_file_steps version_1 (length region.names) name)) (map g.L.Lines.history old) (map g.L.Lines.history new))
+    (subst Steps c.len-index.ensures c.write_name.ensures.begun))
+    (lent c.args.region.parts.items c.deref_mut.result.now c.write_name.new.parts c.args.region.parts.len c.deref_mut.ensures.value (omega (arith, c.args.region.parts.ok.0)) c.write_name.auto.parts
+    (λ old new. map (λ part. (g.L.Lines.room part).lines) new ≡ map (λ part. (g.L.Lines.room part).lines) old) c.write_name.ensures.lines)
+    (lent c.args.region.parts.items c.deref_mut.result.now c.write_name.new.parts c.args.region.parts.len c.deref_mut.ensures.value (omega (arith, c.args.region.parts.ok.0)) c.write_name.auto.parts (λ old new. map g.L.Lines.device new ≡ map g.L.Lines.device old) c.write_name.ensures.devices)
 
 pub returns-in-Err-write_name-clause-changed : goal.returns-in-Err-write_name-clause-changed
 returns-in-Err-write_name-clause-changed g c =
@@ -54,8 +70,13 @@ returns-in-Err-write_name-clause-changed g c =
     let page = region.geometry.page in
     let entries = region.geometry.entries in
     let name = c.args.name.now in
-    let Steps : ℕ → Type 0 = λ i. DidSomeRow (on_part 0 (add_file_steps version_1 i name)) (map g.L.Lines.history region.parts.items) (map g.L.Lines.history c.write_name.new.parts.items) in
-    add_changed g.L.Lines.history g.L.Lines.room g.L.Lines.device page entries region.next region.names name region.parts.items c.write_name.new.parts.items
+    let Steps : ℕ → Type 0 = λ i. DidSomeRow (on_part 0 (add_file_steps version_1 i name)) (map g.L.Lines.history c.deref_mut.result.now) (map g.L.Lines.history c.write_name.new.parts) in
+    add_changed g.L.Lines.history g.L.Lines.room g.L.Lines.device page entries region.next region.names name region.parts.items _
     c.in-Ok.ensures.added (λ i. omega (arith, c.type_inv.name i)) region.is_region.tells
     (told_room g.L.Lines.history g.L.Lines.room version_1 page entries region.parts.items g.met.L.Lines.told_lines region.is_region.parts)
-    (subst Steps c.len-index.ensures c.write_name.ensures.begun) c.write_name.ensures.lines c.write_name.ensures.devices
+    (lent c.args.region.parts.items c.deref_mut.result.now c.write_name.new.parts c.args.region.parts.len c.deref_mut.ensures.value (omega (arith, c.args.region.parts.ok.0)) c.write_name.auto.parts
+    (λ old new. DidSomeRow (on_part 0 (add_file_steps version_1 (length region.names) name)) (map g.L.Lines.history old) (map g.L.Lines.history new))
+    (subst Steps c.len-index.ensures c.write_name.ensures.begun))
+    (lent c.args.region.parts.items c.deref_mut.result.now c.write_name.new.parts c.args.region.parts.len c.deref_mut.ensures.value (omega (arith, c.args.region.parts.ok.0)) c.write_name.auto.parts
+    (λ old new. map (λ part. (g.L.Lines.room part).lines) new ≡ map (λ part. (g.L.Lines.room part).lines) old) c.write_name.ensures.lines)
+    (lent c.args.region.parts.items c.deref_mut.result.now c.write_name.new.parts c.args.region.parts.len c.deref_mut.ensures.value (omega (arith, c.args.region.parts.ok.0)) c.write_name.auto.parts (λ old new. map g.L.Lines.device new ≡ map g.L.Lines.device old) c.write_name.ensures.devices)

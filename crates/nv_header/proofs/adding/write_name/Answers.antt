@@ -1,41 +1,41 @@
-use Rattle.std.proofs.Common.{sym, ap, ◌∙◌, subst, arith}
+use Rattle.std.proofs.Common.{get_or, refl, subst, arith}
 use Rattle.std.proofs.lemmas.List.{get_or-map}
 use Rattle.std.proofs.lemmas.Result.{on_ok_weaker}
 use Rattle.nv_plain.specs.Layouts.{version_1}
 use Rattle.nv_pmem.specs.Room.{Room}
 use Rattle.nv_header.specs.Regions.{IsRoomy}
-use Rattle.nv_header.proofs.InRow.{did_in_row, did_some_in_row, same_in_row, has_parts_set}
+use Rattle.nv_pmem.proofs.OneOfRow.{did_in_row, did_some_in_row, same_in_row}
+use Rattle.nv_header.proofs.InRow.{has_parts_set}
 use Rattle.nv_header.proofs.adding.write_name.Goals as goal
 
 pub store_name-requires-clause-room : goal.store_name-requires-clause-room
 store_name-requires-clause-room g c =
-    let parts = c.args.parts.now.items in
-    let was = c.index_mut.result.now in
+    let parts = c.args.parts.now in
     let At : Room → Type 0 = IsRoomy version_1.header_lines in
-    subst At (get_or-map g.L.Lines.room parts 0 was (g.L.Lines.room was) (omega arith) ∙ ap g.L.Lines.room (sym c.index_mut.ensures.value))
-    (c.requires.room (g.L.Lines.room was))
+    subst At (get_or-map g.L.Lines.room parts 0 c.index-parts-0.result (g.L.Lines.room c.index-parts-0.result) (omega arith))
+    (c.requires.room (g.L.Lines.room c.index-parts-0.result))
 
 pub returns-clause-begun : goal.returns-clause-begun
 returns-clause-begun g c =
-    did_some_in_row g.L.Lines.history c.args.parts.now.items 0 c.index_mut.result.now c.store_name.new.header (omega arith) c.index_mut.ensures.value c.store_name.ensures.begun
+    did_some_in_row g.L.Lines.history c.args.parts.now 0 (get_or c.args.parts.now 0 c.index-parts-0.result) c.store_name.new.header c.index-parts-0.result (omega arith) refl c.store_name.ensures.begun
 
 pub returns-clause-done : goal.returns-clause-done
 returns-clause-done g c =
     on_ok_weaker c.store_name.result
-    (did_in_row g.L.Lines.history c.args.parts.now.items 0 c.index_mut.result.now c.store_name.new.header (omega arith) c.index_mut.ensures.value)
+    (did_in_row g.L.Lines.history c.args.parts.now 0 (get_or c.args.parts.now 0 c.index-parts-0.result) c.store_name.new.header c.index-parts-0.result (omega arith) refl)
     c.store_name.ensures.done
 
 pub returns-clause-parts : goal.returns-clause-parts
 returns-clause-parts g c =
     on_ok_weaker c.store_name.result
-    (λ stays page entries has. has_parts_set g.L.Lines.room version_1 page entries c.args.parts.now.items 0 c.index_mut.result.now c.store_name.new.header
-    (omega arith) c.index_mut.ensures.value stays has)
+    (λ stays page entries has. has_parts_set g.L.Lines.room version_1 page entries c.args.parts.now 0 (get_or c.args.parts.now 0 c.index-parts-0.result) c.store_name.new.header c.index-parts-0.result
+    (omega arith) refl stays has)
     c.store_name.ensures.room
 
 pub returns-clause-lines : goal.returns-clause-lines
 returns-clause-lines g c =
-    same_in_row (λ part. (g.L.Lines.room part).lines) c.args.parts.now.items 0 c.index_mut.result.now c.store_name.new.header c.index_mut.ensures.value c.store_name.ensures.lines
+    same_in_row (λ part. (g.L.Lines.room part).lines) c.args.parts.now 0 (get_or c.args.parts.now 0 c.index-parts-0.result) c.store_name.new.header c.index-parts-0.result refl c.store_name.ensures.lines
 
 pub returns-clause-devices : goal.returns-clause-devices
 returns-clause-devices g c =
-    same_in_row g.L.Lines.device c.args.parts.now.items 0 c.index_mut.result.now c.store_name.new.header c.index_mut.ensures.value c.store_name.ensures.device
+    same_in_row g.L.Lines.device c.args.parts.now 0 (get_or c.args.parts.now 0 c.index-parts-0.result) c.store_name.new.header c.index-parts-0.result refl c.store_name.ensures.device

@@ -8,9 +8,9 @@ use Rattle.nv_header.proofs.formatting.clear_commit_words.Given as goal
 -- the entries before this one are cleared
 abbrev pub invariant-loop-entry : goal.invariant-loop-entry
 invariant-loop-entry g l = record {
-  did : DidRow (clear_steps l.entry) (map g.L.Lines.history l.fn.parts.items) (map g.L.Lines.history l.parts.items);
-  parts : HasParts version_1 l.fn.geometry.page l.fn.geometry.entries (map g.L.Lines.room l.parts.items);
-  lines : map (λ part. (g.L.Lines.room part).lines) l.parts.items ≡ map (λ part. (g.L.Lines.room part).lines) l.fn.parts.items;
-  cause : sum_by g.L.Lines.fault_count l.parts.items ≡ sum_by g.L.Lines.fault_count l.fn.parts.items;
-  devices : map g.L.Lines.device l.parts.items ≡ map g.L.Lines.device l.fn.parts.items;
+  did : DidRow (clear_steps l.entry) (map g.L.Lines.history l.fn.parts) (map g.L.Lines.history l.parts);
+  parts : HasParts version_1 l.fn.geometry.page l.fn.geometry.entries (map g.L.Lines.room l.parts);
+  lines : map (λ part. (g.L.Lines.room part).lines) l.parts ≡ map (λ part. (g.L.Lines.room part).lines) l.fn.parts;
+  cause : sum_by g.L.Lines.fault_count l.parts ≡ sum_by g.L.Lines.fault_count l.fn.parts;
+  devices : map g.L.Lines.device l.parts ≡ map g.L.Lines.device l.fn.parts;
 }

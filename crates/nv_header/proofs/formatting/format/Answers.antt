@@ -1,38 +1,61 @@
-use Rattle.std.proofs.Common.{List, sym, subst, ℕ, arith, map}
+use Rattle.std.proofs.Common.{List, ◌≡◌, ◌++◌, length, take, drop, sym, subst, ℕ, arith, map}
 use Rattle.nv_plain.specs.Layouts.{version_1}
-use Rattle.nv_header.specs.Regions.{IsRegion}
+use Rattle.nv_pmem.specs.Rows.{DidRow, DidSomeRow}
+use Rattle.nv_pmem.proofs.OneOfRow.{lent}
+use Rattle.nv_header.specs.HeaderSteps.{format_steps}
+use Rattle.nv_header.specs.Regions.{IsRegion, HasParts}
 use Rattle.nv_header.proofs.FormatLaws.{format_changed, format_tells}
 use Rattle.nv_header.proofs.FileNameLaws.{no_file_names}
 use Rattle.nv_header.proofs.InRow.{told_room}
 use Rattle.nv_header.proofs.formatting.format.Goals as goal
 
+pub returns-in-Ok-clause-done : goal.returns-in-Ok-clause-done
+returns-in-Ok-clause-done g c =
+    lent c.args.parts.items c.deref_mut.result.now c.write_region.new.parts c.args.parts.len c.deref_mut.ensures.value (omega (arith, c.args.parts.ok.0)) c.write_region.auto.parts
+    (λ old new. DidRow (format_steps version_1 c.args.geometry.page c.args.geometry.entries) (map g.L.Lines.history old) (map g.L.Lines.history new))
+    c.in-Ok.ensures.done
+
 pub invariant_of-result : goal.invariant_of-result
 invariant_of-result g c =
     let page = c.args.geometry.page in
     let entries = c.args.geometry.entries in
-    let At : List (List ℕ) → Type 0 = λ names. IsRegion version_1 page entries names 0 (map g.L.Lines.room c.write_region.new.parts.items) (map g.L.Lines.history c.write_region.new.parts.items) in
+    let now = take c.args.parts.len (c.write_region.new.parts ++ drop (length c.write_region.new.parts) c.args.parts.items) in
+    let Named : List (List ℕ) → Type 0 = λ names. IsRegion version_1 page entries names 0 (map g.L.Lines.room now) (map g.L.Lines.history now) in
     record {
-      is_region = subst At (sym c.new-names.ensures) (record {
-        parts = c.in-Ok.ensures.parts;
+      is_region = subst Named (sym c.new-names.ensures) (record {
+        parts = lent c.args.parts.items c.deref_mut.result.now c.write_region.new.parts c.args.parts.len c.deref_mut.ensures.value (omega (arith, c.args.parts.ok.0)) c.write_region.auto.parts (λ old new. HasParts version_1 page entries (map g.L.Lines.room new)) c.in-Ok.ensures.parts;
         names_are = no_file_names version_1;
         number = omega arith;
         tells =
             format_tells page entries c.args.geometry.page_in_limits c.args.geometry.entries_in_limits c.requires.blank
             (told_room g.L.Lines.history g.L.Lines.room version_1 page entries c.args.parts.items g.met.L.Lines.told_lines c.requires.parts)
-            c.in-Ok.ensures.done;
+            (lent c.args.parts.items c.deref_mut.result.now c.write_region.new.parts c.args.parts.len c.deref_mut.ensures.value (omega (arith, c.args.parts.ok.0)) c.write_region.auto.parts
+            (λ old new. DidRow (format_steps version_1 page entries) (map g.L.Lines.history old) (map g.L.Lines.history new)) c.in-Ok.ensures.done);
       });
     }
 
 pub returns-in-Ok-clause-changed : goal.returns-in-Ok-clause-changed
 returns-in-Ok-clause-changed g c =
-    format_changed g.L.Lines.history g.L.Lines.room g.L.Lines.device c.args.geometry.page c.args.geometry.entries c.args.parts.items c.write_region.new.parts.items
+    format_changed g.L.Lines.history g.L.Lines.room g.L.Lines.device c.args.geometry.page c.args.geometry.entries c.args.parts.items _
     c.args.geometry.page_in_limits c.args.geometry.entries_in_limits c.requires.blank
     (told_room g.L.Lines.history g.L.Lines.room version_1 c.args.geometry.page c.args.geometry.entries c.args.parts.items g.met.L.Lines.told_lines c.requires.parts)
-    c.write_region.ensures.begun c.write_region.ensures.lines c.write_region.ensures.devices
+    (lent c.args.parts.items c.deref_mut.result.now c.write_region.new.parts c.args.parts.len c.deref_mut.ensures.value (omega (arith, c.args.parts.ok.0)) c.write_region.auto.parts
+    (λ old new. DidSomeRow (format_steps version_1 c.args.geometry.page c.args.geometry.entries) (map g.L.Lines.history old) (map g.L.Lines.history new))
+    c.write_region.ensures.begun)
+    (lent c.args.parts.items c.deref_mut.result.now c.write_region.new.parts c.args.parts.len c.deref_mut.ensures.value (omega (arith, c.args.parts.ok.0)) c.write_region.auto.parts
+    (λ old new. map (λ part. (g.L.Lines.room part).lines) new ≡ map (λ part. (g.L.Lines.room part).lines) old) c.write_region.ensures.lines)
+    (lent c.args.parts.items c.deref_mut.result.now c.write_region.new.parts c.args.parts.len c.deref_mut.ensures.value (omega (arith, c.args.parts.ok.0)) c.write_region.auto.parts
+    (λ old new. map g.L.Lines.device new ≡ map g.L.Lines.device old) c.write_region.ensures.devices)
 
 pub returns-in-Err-clause-changed : goal.returns-in-Err-clause-changed
 returns-in-Err-clause-changed g c =
-    format_changed g.L.Lines.history g.L.Lines.room g.L.Lines.device c.args.geometry.page c.args.geometry.entries c.args.parts.items c.write_region.new.parts.items
+    format_changed g.L.Lines.history g.L.Lines.room g.L.Lines.device c.args.geometry.page c.args.geometry.entries c.args.parts.items _
     c.args.geometry.page_in_limits c.args.geometry.entries_in_limits c.requires.blank
     (told_room g.L.Lines.history g.L.Lines.room version_1 c.args.geometry.page c.args.geometry.entries c.args.parts.items g.met.L.Lines.told_lines c.requires.parts)
-    c.write_region.ensures.begun c.write_region.ensures.lines c.write_region.ensures.devices
+    (lent c.args.parts.items c.deref_mut.result.now c.write_region.new.parts c.args.parts.len c.deref_mut.ensures.value (omega (arith, c.args.parts.ok.0)) c.write_region.auto.parts
+    (λ old new. DidSomeRow (format_steps version_1 c.args.geometry.page c.args.geometry.entries) (map g.L.Lines.history old) (map g.L.Lines.history new))
+    c.write_region.ensures.begun)
+    (lent c.args.parts.items c.deref_mut.result.now c.write_region.new.parts c.args.parts.len c.deref_mut.ensures.value (omega (arith, c.args.parts.ok.0)) c.write_region.auto.parts
+    (λ old new. map (λ part. (g.L.Lines.room part).lines) new ≡ map (λ part. (g.L.Lines.room part).lines) old) c.write_region.ensures.lines)
+    (lent c.args.parts.items c.deref_mut.result.now c.write_region.new.parts c.args.parts.len c.deref_mut.ensures.value (omega (arith, c.args.parts.ok.0)) c.write_region.auto.parts
+    (λ old new. map g.L.Lines.device new ≡ map g.L.Lines.device old) c.write_region.ensures.devices)

@@ -1,7 +1,12 @@
-use Rattle.nv_header.proofs.Firsts.{AllZip-set_first}
-use Rattle.nv_header.proofs.Keeping.{keeps_same}
+use Rattle.std.proofs.Common.{arith}
+use Rattle.std.proofs.lemmas.Bool.Decides.{nat_tests}
+use Rattle.nv_pmem.proofs.ReadLaws.{only_read_none, only_read_one}
 use Rattle.nv_header.proofs.read.read_head.Goals as goal
 
-pub returns-clause-rooms : goal.returns-clause-rooms
-returns-clause-rooms g c =
-    AllZip-set_first _ (λ part. keeps_same (g.L.Lines.room part)) c.args.parts.now c.index-parts-0.result c.read_part.new.part c.read_part.ensures.room
+pub returns-then-is_empty-clause-read : goal.returns-then-is_empty-clause-read
+returns-then-is_empty-clause-read g c = only_read_none g.L.Lines.history g.L.Lines.room g.L.Lines.device c.args.parts.now
+
+pub returns-clause-read : goal.returns-clause-read
+returns-clause-read g c =
+    only_read_one g.L.Lines.history g.L.Lines.room g.L.Lines.device c.args.parts.now 0 c.read_part.new.part c.index-parts-0.result (grind (arith, nat_tests))
+    c.read_part.ensures.history c.read_part.ensures.room c.read_part.ensures.device

@@ -8,7 +8,7 @@ use Rattle.nv_header.specs.FileNames.{AreFileNames, IsNewName}
 use Rattle.nv_header.specs.Heads.{header_image}
 use Rattle.nv_header.specs.NextName.{AreNames, IsNextName}
 use Rattle.nv_header.proofs.FileNameLaws.{no_file_names, file_names_more}
-use Rattle.nv_header.proofs.Keeping.{keeps_keeps, keeps_same}
+use Rattle.nv_pmem.proofs.Rooms.{Keeps-more, Keeps-none}
 use Rattle.nv_header.proofs.Records.{no_names, names_more}
 use Rattle.nv_header.proofs.read.read_names.Goals as goal
 
@@ -20,7 +20,7 @@ loop-i-init g c =
       size = ap length c.new-names.ensures;
       allowed = subst (AreFileNames version_1) (sym c.new-names.ensures) (no_file_names version_1);
       history = refl;
-      room = keeps_same _;
+      room = Keeps-none _;
       faults = refl;
       device = refl;
     }
@@ -45,7 +45,7 @@ loop-i-preserved g c =
           (file_names_more version_1 c.loop-i.names c.in-Some.name (omega (arith, c.loop-i.invariant.size))
           (subst May (c.in-Some.is) c.in_ok-name.ensures.allowed) c.loop-i.invariant.allowed);
       history = c.in_ok-name.ensures.history ∙ c.loop-i.invariant.history;
-      room = keeps_keeps c.loop-i.invariant.room c.in_ok-name.ensures.room;
+      room = Keeps-more c.loop-i.invariant.room c.in_ok-name.ensures.room;
       faults = c.in_ok-name.ensures.cause ∙ c.loop-i.invariant.faults;
       device = c.in_ok-name.ensures.device ∙ c.loop-i.invariant.device;
     }

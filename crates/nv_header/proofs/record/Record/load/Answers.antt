@@ -2,8 +2,8 @@ use Rattle.std.proofs.Common.{◌≡◌, ◌+◌, ◌*◌, length, ap, subst, �
 use Rattle.nv_pmem.specs.Moments.{Tells}
 use Rattle.nv_pmem.specs.Part.{word_of}
 use Rattle.nv_pmem.specs.Steps.{History}
-use Rattle.nv_header.proofs.Keeping.{keeps_keeps}
-use Rattle.nv_header.proofs.Ranges.{length-put_mid}
+use Rattle.nv_pmem.proofs.Rooms.{Keeps-more}
+use Rattle.nv_pmem.proofs.Ranges.{length-put_mid}
 use Rattle.nv_header.proofs.Records.{told_word_put, told_room, told_length}
 use Rattle.nv_header.proofs.record.Record.load.Goals as goal
 
@@ -17,7 +17,7 @@ loop-k-preserved g c =
           told_word_put (g.L.Lines.history c.args.part.now) (2 + c.args.i) c.loop-k.k c.in_ok-value.value c.loop-k.room c.copy_from_slice.new.self
           _ (omega arith) copy c.loop-k.invariant.loaded (subst Loaded c.loop-k.invariant.history c.in_ok-value.ensures.value);
       history = c.in_ok-value.ensures.history ∙ c.loop-k.invariant.history;
-      room = keeps_keeps c.loop-k.invariant.room c.in_ok-value.ensures.room;
+      room = Keeps-more c.loop-k.invariant.room c.in_ok-value.ensures.room;
       faults = c.in_ok-value.ensures.cause ∙ c.loop-k.invariant.faults;
       device = c.in_ok-value.ensures.device ∙ c.loop-k.invariant.device;
     }
