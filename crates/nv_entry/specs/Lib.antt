@@ -2,3 +2,5 @@ pub mod Group
 pub mod Reading
 pub mod Ready
 pub mod Checks
+pub mod OneAnswer
+pub mod Commits

@@ -27,12 +27,14 @@
 mod bounds;
 mod check;
 mod group;
+mod laws;
 mod piece;
 mod span;
 
 pub use bounds::Bounds;
 pub use check::{EntryWords, GroupCheck, check_group, entry_words, read_entry};
 pub use group::{commit_group, committed};
+pub use laws::{a_group_has_one_answer, groups_follow_steps};
 pub use nv_pmem::RegionFault;
 pub use piece::{PieceHead, read_piece};
 pub use span::{Span, cut, piece_count};
