@@ -9,3 +9,6 @@ pub mod AddLaws
 pub mod NewNames
 pub mod FileNameLaws
 pub mod BlankParts
+pub mod EmptyLogs
+pub mod TailLaws
+pub mod NeededParts

@@ -8,3 +8,4 @@ pub mod HeaderSteps
 pub mod Regions
 pub mod Additions
 pub mod Changes
+pub mod Laws

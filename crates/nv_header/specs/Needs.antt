@@ -1,5 +1,5 @@
 -- Needs: which lines the parts of a region must have.
-use Rattle.std.specs.Prelude.{ℕ, ◌+◌, ◌*◌, ◌≤◌, min, List, [], ◌∷◌, length, take, drop, slice_index, sum_by, All}
+use Rattle.std.specs.Prelude.{ℕ, ◌+◌, ◌*◌, ◌≤◌, min, List, [], ◌∷◌, length, take, drop, sum_by, All}
 use Rattle.nv_plain.specs.Layouts.{Layout}
 use Rattle.nv_pmem.specs.Limits.{entry_lines}
 use Rattle.nv_pmem.specs.Room.{Room}
@@ -16,17 +16,17 @@ header_lines_in [] = 0
 header_lines_in (room ∷ others) = room.lines
 
 -- The parts of a region have the lines that it needs: those of the header, and those of each entry.
-pub record HasLines (layout : Layout) (page entries : ℕ) (lines : List ℕ) : Type 0 where
-  pub header : layout.header_lines ≤ slice_index lines 0
-  pub count : 1 + entries ≤ length lines
-  pub each : All (λ have. entry_lines page ≤ have) (take entries (drop 1 lines))
+pub record HasLines (layout : Layout) (page entries : ℕ) (rooms : List Room) : Type 0 where
+  pub header : layout.header_lines ≤ header_lines_in rooms
+  pub count : 1 + entries ≤ length rooms
+  pub each : All (λ room. entry_lines page ≤ room.lines) (take entries (drop 1 rooms))
 
 -- all lines that a region needs
 abbrev pub lines_wanted : Layout → (page entries : ℕ) → ℕ
 lines_wanted layout page entries = layout.header_lines + entries * entry_lines page
 
 -- of the lines that a region needs, those that its parts have
-abbrev pub lines_found : Layout → (page entries : ℕ) → List ℕ → ℕ
+abbrev pub lines_found : Layout → (page entries : ℕ) → List Room → ℕ
 lines_found layout page entries [] = 0
 lines_found layout page entries (header ∷ others) =
-    min layout.header_lines header + sum_by (λ have. min (entry_lines page) have) (take entries others)
+    min layout.header_lines header.lines + sum_by (λ room. min (entry_lines page) room.lines) (take entries others)

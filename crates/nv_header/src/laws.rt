@@ -1,3 +1,4 @@
+ghost use Rattle.nv_header.specs.Laws.{StandsForItsStores, EmptyLogRecoversNothing, LinesMakeParts, TailIsOldOrNew, TailIsMoved, TailEndsQuiet};
 ghost use Rattle.nv_header.specs.Refusals.{ReadIsNotRefused, IsRefusedOnce};
 
 /// A header has one answer: one that can be read is refused for none of its words, and one that can't be read is
@@ -6,4 +7,24 @@ ghost use Rattle.nv_header.specs.Refusals.{ReadIsNotRefused, IsRefusedOnce};
 pub fn a_header_has_one_answer()
     ensures read { ReadIsNotRefused }
     ensures refused { IsRefusedOnce }
+{}
+
+/// What a region with an empty log stands for: the bytes of its stores, and so does a blank one. So [`format`](crate::format)
+/// and [`add_file`](crate::add_file) change no file at any moment, whatever a power failure leaves.
+pub fn an_empty_region_stands_for_its_stores()
+    ensures files { StandsForItsStores }
+    ensures recovered { EmptyLogRecoversNothing }
+{}
+
+/// Parts that pass [`check_lines`](crate::check_lines), with room for 15 contents in each line, are those of a region.
+pub fn needed_lines_make_parts()
+    ensures { LinesMakeParts }
+{}
+
+/// What the steps that move the tail make of the header's part, for whatever makes them. The clauses of
+/// [`move_tail`](crate::move_tail) say this of its calls.
+pub fn the_tail_follows_steps()
+    ensures moments { TailIsOldOrNew }
+    ensures moved { TailIsMoved }
+    ensures quiet { TailEndsQuiet }
 {}

@@ -34,7 +34,10 @@ mod tail;
 pub use adding::{AddError, add_file};
 pub use formatting::format;
 pub use head::{Head, HeadError, HeadField};
-pub use laws::a_header_has_one_answer;
+pub use laws::{
+    a_header_has_one_answer, an_empty_region_stands_for_its_stores, needed_lines_make_parts,
+    the_tail_follows_steps,
+};
 pub use lines::{Truncated, check_lines};
 pub use names::Names;
 pub use read::{is_blank, read_head};

@@ -21,9 +21,9 @@ pub struct Truncated {
 /// of fields and its page. Lines and parts beyond these are not looked at. Takes no memory.
 pub fn check_lines<L: Lines>(parts: &[L], head: &Head) -> Result<(), Truncated>
     ensures exact { IsOk result ↔ HasLines version_1 head.now.geometry.page head.now.geometry.entries
-        (map (λ part. (L.room part).lines) parts.now) }
+        (map L.room parts.now) }
     ensures found { IfErr result (λ lack. lack.found ≡ lines_found version_1 head.now.geometry.page head.now.geometry.entries
-        (map (λ part. (L.room part).lines) parts.now)) }
+        (map L.room parts.now)) }
     ensures wanted { IfErr result (λ lack. lack.wanted ≡
         lines_wanted version_1 head.now.geometry.page head.now.geometry.entries) }
 {
@@ -39,7 +39,7 @@ pub fn check_lines<L: Lines>(parts: &[L], head: &Head) -> Result<(), Truncated>
 // Of the lines that a region needs, those that its parts have.
 fn found_lines<L: Lines>(parts: &[L], geometry: &Geometry) -> u64
     ensures { result ≡ lines_found version_1 geometry.now.page geometry.now.entries
-        (map (λ part. (L.room part).lines) parts.now) }
+        (map L.room parts.now) }
 {
     match parts {
         [] => 0,

@@ -21,7 +21,7 @@ pub returns-in-len1-up : goal.returns-in-len1-up
 returns-in-len1-up g c =
     let others = take (length c.args.parts.now - 1) (drop 1 c.args.parts.now) in
     let sum_is : c.lines_up_to.result ≡ sum_by (λ part. min c.entry_lines.result (g.L.Lines.room part).lines) (take c.min-count.result others) = c.lines_up_to.ensures in
-    found-first (λ part. (g.L.Lines.room part).lines) version_1 c.args.geometry.now.page c.args.geometry.now.entries c.args.parts.now others
+    found-first g.L.Lines.room version_1 c.args.geometry.now.page c.args.geometry.now.entries c.args.parts.now others
     c.header-item.result c.min.result c.lines_up_to.result c.min-count.result (omega arith) c.header-item.is
     (take_all (length c.args.parts.now - 1) (drop 1 c.args.parts.now) (omega (arith, length-drop 1 c.args.parts.now)))
     (c.min.ensures ∙ ap (min 18) c.lines.ensures) c.min-count.ensures
