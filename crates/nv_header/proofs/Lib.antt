@@ -12,3 +12,4 @@ pub mod BlankParts
 pub mod EmptyLogs
 pub mod TailLaws
 pub mod NeededParts
+pub mod RowStateLaws

@@ -9,3 +9,4 @@ pub mod Regions
 pub mod Additions
 pub mod Changes
 pub mod Laws
+pub mod RowStates
