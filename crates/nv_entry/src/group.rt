@@ -18,7 +18,7 @@ use nv_pmem::{Lines, RegionFault, store_durably};
 /// Writes the pieces of a write as the entries from number `first` on, and commits them as a group. `parts` are the
 /// parts of these entries, one for each piece: the bytes go to `at` of `file`, cut at the boundaries of pages of `page`
 /// bytes. At each moment the group is there as a whole or not at all, and at `Ok` it is there. After a fault only the
-/// first so many of the device calls were made. Takes no memory.
+/// first so many of its stores, flushes and fences were made. Takes no memory.
 pub fn commit_group<L: Lines>(
     parts: &mut Vec<L>,
     page: u64,
@@ -35,7 +35,7 @@ pub fn commit_group<L: Lines>(
     requires ready { All (λ part. IsReady page (L.room part)) parts.old.items }
     requires uncommitted { RowTells (map L.history parts.old.items) (InEachRowImage (IsUncommitted first (vec_len parts.old))) }
 
-    // The device calls are these, in this order.
+    // The stores, flushes and fences are these, in this order. A load is in no history: a test counts all calls.
     ensures begun { DidSomeRow (group_steps page first file at bytes.now)
         (map L.history parts.old.items) (map L.history parts.new.items) }
     ensures done { OnOk result

@@ -20,8 +20,9 @@
 //! A write's pieces are a group, whose leader's commit word makes all of them count at once. So everything else is
 //! durable before that word is stored. Part by part, each data line is stored and flushed, the fields are stored and
 //! flushed, and a fence makes both durable. Only then is the leader's commit word stored, flushed and fenced, by itself.
-//! A follower's commit word is never stored. The contract of [`commit_group`] has these very device calls in their order,
-//! and says what a power failure leaves at each moment: the group as a whole or not at all.
+//! A follower's commit word is never stored. The contract of [`commit_group`] has these very stores, flushes and
+//! fences in their order, and says what a power failure leaves at each moment: the group as a whole or not at all. That
+//! nothing is loaded on the way no contract says, for a load is in no history: a test counts the calls.
 #![tactic(auto)]
 
 mod bounds;

@@ -45,7 +45,8 @@ pub fn add_file<L: Lines + Drop>(
     ensures refused { IfErr result (λ failed. IsNotAdded version_1 region.names name.now failed.1) }
     ensures unwritten { IfErr result (λ failed. IsUnwritten failed.1 → failed.0 ≡ region.parts) }
 
-    // Whichever answer came: the device calls are the first so many of these, and all of them at `Ok`.
+    // Whichever answer came: the stores, flushes and fences are the first so many of these, and all of them at `Ok`. A load
+    // is in no history: a test counts all calls.
     ensures changed { AreChangedBy L.history L.room L.device
         (on_part 0 (add_file_steps version_1 (length region.names) name.now))
         (HasNamesOrOneMore version_1 region.geometry.page region.geometry.entries region.names name.now region.next)

@@ -21,7 +21,8 @@ pub fn format<L: Lines + Drop>(
     requires parts { HasParts version_1 geometry.page geometry.entries (map L.room parts.items) }
     requires blank { RowTells (map L.history parts.items) IsBlankRow }
 
-    // Whichever answer came: the device calls are the first so many of these, and all of them at `Ok`.
+    // Whichever answer came: the stores, flushes and fences are the first so many of these, and all of them at `Ok`. A load
+    // is in no history: a test counts all calls.
     ensures changed { AreChangedBy L.history L.room L.device (format_steps version_1 geometry.page geometry.entries)
         (IsBlankOrFormatted version_1 geometry.page geometry.entries) parts.items (parts_after_format result) }
     ensures done { IfOk result (λ region. DidRow (format_steps version_1 geometry.page geometry.entries)

@@ -16,7 +16,7 @@ pub fn move_tail<L: Lines>(header: &mut L, tail: u64) -> Result<(), RegionFault>
     requires lines { version_1.header_lines ≤ (L.room header.old).lines }
     requires spare { 1 ≤ (L.room header.old).spare 1 }
 
-    // The device calls are these, in this order.
+    // The stores, flushes and fences are these, in this order. A load is in no history: a test counts all calls.
     ensures begun { DidSome (tail_steps tail) (L.history header.old) (L.history header.new) }
     ensures done { OnOk result (Did (tail_steps tail) (L.history header.old) (L.history header.new)) }
 
