@@ -15,36 +15,43 @@ use Rattle.nv_entry.proofs.GroupSteps.{all_pieces, HaveLines, group_always, grou
 use Rattle.nv_entry.proofs.PartRows.{row_tells_lines}
 
 -- Parts that are ready for the entries of a group, none of which is committed.
-module _ {X : Type 0} (history : X → History) (room : X → Room) (told : (x : X) (now : Part) (past : History) → history x ≡ now ∷ past → length now ≡ (room x).lines)
-    (page first file at : ℕ) (bytes : List ℕ) (is_page : IsPageSize page) (are : AreBytes bytes) (parts : List X) (count : ℕ) (some : 1 ≤ count)
-    (pieces : pages_touched at (length bytes) page ≡ count) (long : length parts ≡ count) (ready : All (λ x. IsReady page (room x)) parts)
-    (uncommitted : RowTells (map history parts) (InEachRowImage (IsUncommitted first count))) (new : List History) where
+pub record AreBegun {X : Type 0} (history : X → History) (room : X → Room) (page first at : ℕ) (bytes : List ℕ) (parts : List X) (count : ℕ) : Type 0 where
+  pub told : (x : X) (now : Part) (past : History) → history x ≡ now ∷ past → length now ≡ (room x).lines
+  pub is_page : IsPageSize page
+  pub are : AreBytes bytes
+  pub some : 1 ≤ count
+  pub pieces : pages_touched at (length bytes) page ≡ count
+  pub long : length parts ≡ count
+  pub ready : All (λ x. IsReady page (room x)) parts
+  pub uncommitted : RowTells (map history parts) (InEachRowImage (IsUncommitted first count))
+
+module _ {X : Type 0} (history : X → History) (room : X → Room) (page first file at : ℕ) (bytes : List ℕ) (parts : List X) {count : ℕ} (begun : AreBegun history room page first at bytes parts count) where
   tells_lines : RowTells (map history parts) (HaveLines page (pages_touched at (length bytes) page))
   tells_lines =
-      row_tells_lines history (λ x. (room x).lines) (entry_lines page) (pages_touched at (length bytes) page) told parts (long ∙ sym pieces)
-      (All-weaker (λ x. IsReady page (room x)) (λ x. entry_lines page ≤ (room x).lines) (λ x is. is.lines) parts ready)
+      row_tells_lines history (λ x. (room x).lines) (entry_lines page) (pages_touched at (length bytes) page) begun.told parts (begun.long ∙ sym begun.pieces)
+      (All-weaker (λ x. IsReady page (room x)) (λ x. entry_lines page ≤ (room x).lines) (λ x is. is.lines) parts begun.ready)
 
   tells_both : RowTells (map history parts) (λ now. HaveLines page (pages_touched at (length bytes) page) now × InEachRowImage (IsUncommitted first (pages_touched at (length bytes) page)) now)
   tells_both =
       let Open : ℕ → Type 0 = λ n. RowTells (map history parts) (InEachRowImage (IsUncommitted first n)) in
       row_tells_both (map history parts) (HaveLines page (pages_touched at (length bytes) page)) (InEachRowImage (IsUncommitted first (pages_touched at (length bytes) page)))
-      tells_lines (subst Open (sym pieces) uncommitted)
+      tells_lines (subst Open (sym begun.pieces) begun.uncommitted)
 
   -- At each moment the group is there as a whole or not at all.
-  pub parts_moments : DidSomeRow (group_steps page first file at bytes) (map history parts) new
+  pub parts_moments : {new : List History} → DidSomeRow (group_steps page first file at bytes) (map history parts) new
       → EachRowMoment (InEachRowImage (IsUncommittedOrWhole page first file at bytes)) (map history parts) new
   parts_moments did =
       let P : List Part → Type 0 = InEachRowImage (IsUncommittedOrWhole page first file at bytes) in
       each_row_moment P
       (row_tells_more (map history parts) _ (Always row_after P (group_steps page first file at bytes))
-      (λ now both. group_always page first file at bytes is_page now are both.0 both.1)
+      (λ now both. group_always page first file at bytes begun.is_page now begun.are both.0 both.1)
       tells_both)
       did
 
   -- At each moment nothing else is stored.
-  pub parts_others : DidSomeRow (group_steps page first file at bytes) (map history parts) new
+  pub parts_others : {new : List History} → DidSomeRow (group_steps page first file at bytes) (map history parts) new
       → RowTells (map history parts) (λ was. EachRowMoment (InEachRowImage (StoresOnly page first file at bytes was)) (map history parts) new)
-  parts_others did =
+  parts_others {new} did =
       let group = group_steps page first file at bytes in
       row_tells_more (map history parts) (λ was. RowTells (map history parts) (λ now. now ≡ was))
       (λ was. EachRowMoment (InEachRowImage (StoresOnly page first file at bytes was)) (map history parts) new)
@@ -55,31 +62,31 @@ module _ {X : Type 0} (history : X → History) (room : X → Room) (told : (x :
       (row_tells_more (map history parts) (λ now. now ≡ was) Along
       (λ now is.
       subst Along (sym is)
-      (always_by_fronts row_after P group was (λ steps few. group_stores page first file at bytes is_page was steps (omega (arith, some, pieces)))))
+      (always_by_fronts row_after P group was (λ steps few. group_stores page first file at bytes begun.is_page was steps (omega (arith, begun.some, begun.pieces)))))
       same)
       did)
       (row_tells_itself (map history parts))
 
   -- At the end the group is there.
-  pub parts_whole : DidRow (group_steps page first file at bytes) (map history parts) new → RowTells new (InEachRowImage (IsWhole page first file at bytes))
+  pub parts_whole : {new : List History} → DidRow (group_steps page first file at bytes) (map history parts) new → RowTells new (InEachRowImage (IsWhole page first file at bytes))
   parts_whole did =
       row_tells_did _ (InEachRowImage (IsWhole page first file at bytes)) tells_both
-      (λ now both. group_whole page first file at bytes is_page now are (omega (arith, some, pieces)) both.0 both.1)
+      (λ now both. group_whole page first file at bytes begun.is_page now begun.are (omega (arith, begun.some, begun.pieces)) both.0 both.1)
       did
 
   -- And it is what the parts read as.
-  pub parts_hold : DidRow (group_steps page first file at bytes) (map history parts) new → RowTells new (λ now. IsWhole page first file at bytes (row_words now))
-  parts_hold did =
+  pub parts_hold : {new : List History} → DidRow (group_steps page first file at bytes) (map history parts) new → RowTells new (λ now. IsWhole page first file at bytes (row_words now))
+  parts_hold {new} did =
       row_tells_more new (InEachRowImage (IsWhole page first file at bytes)) (λ now. IsWhole page first file at bytes (row_words now))
       (λ now whole. whole (row_words now) (row_image_of_now now))
       (parts_whole did)
 
   -- Quiet parts are quiet again.
-  pub parts_quiet : DidRow (group_steps page first file at bytes) (map history parts) new → RowTells (map history parts) AreQuiet → RowTells new AreQuiet
+  pub parts_quiet : {new : List History} → DidRow (group_steps page first file at bytes) (map history parts) new → RowTells (map history parts) AreQuiet → RowTells new AreQuiet
   parts_quiet did quiet =
       let Lines : List Part → Type 0 = HaveLines page (pages_touched at (length bytes) page) in
       row_tells_did (λ now. Lines now × AreQuiet now) AreQuiet (row_tells_both (map history parts) Lines AreQuiet tells_lines quiet)
-      (λ now both. group_quiet page first file at bytes is_page now both.0.long both.1)
+      (λ now both. group_quiet page first file at bytes begun.is_page now both.0.long both.1)
       did
 
 -- ---- the entries, and then the commit

@@ -18,6 +18,7 @@ use Rattle.nv_pmem.specs.Room.{Room}
 use Rattle.nv_pmem.specs.Rows.{RowStep, on_part, row_after, DidRow, DidSomeRow, RowTells, IsRowImage, InEachRowImage, EachRowMoment}
 use Rattle.nv_pmem.specs.Runs.{run}
 use Rattle.nv_pmem.specs.Steps.{Step, Flush, Fence, History, line_stores, word_in, durable_store}
+use Rattle.nv_pmem.proofs.OneOfRow.{lent}
 use Rattle.nv_pmem.proofs.ImageLaws.{IsStoredBy, quiet_image, quiet_after, quiet_still}
 use Rattle.nv_pmem.proofs.DurableLaws.{line_settled, quiet_settled}
 use Rattle.nv_pmem.proofs.LineLaws.{overlaid, overlaid-append, AreInside, word_of-after_steps, length-after_steps}
@@ -548,16 +549,19 @@ add_tells page entries next names name {old} {new} can are rest room did =
     (λ parts both. added_rest page entries next names name parts can are both.1 both.0)
     (subst Did_all (add_file_steps-one (length names) name (name_fits name can.is_new.allowed)) did)
 
--- What adding did, whichever answer came.
-pub add_changed : {X : Type 0} (history : X → History) (room : X → Room) (device : X → ℕ) (page entries next : ℕ) (names : List (List ℕ)) (name : List ℕ) (parts new : List X) → CanAdd version_1 names name → AreBytes name → RowTells (map history parts) (IsAtRest version_1 page entries names next) → RowTells (map history parts) (HasRoom page entries)
-    → DidSomeRow (on_part 0 (add_file_steps version_1 (length names) name)) (map history parts) (map history new) → map (λ part. (room part).lines) new ≡ map (λ part. (room part).lines) parts → map device new ≡ map device parts
-    → AreChangedBy history room device (on_part 0 (add_file_steps version_1 (length names) name)) (HasNamesOrOneMore version_1 page entries names name next) parts new
-add_changed history room device page entries next names name parts new can are rest has did lines devices = record {
-  begun = did;
-  moments = add_moments page entries next names name can are rest has did;
-  lines = lines;
-  devices = devices;
-}
+-- What adding did, whichever answer came, to a vector of parts that was lent as a slice.
+pub add_changed : {X : Type 0} (history : X → History) (room : X → Room) (device : X → ℕ) (page entries next index : ℕ) (names : List (List ℕ)) (name : List ℕ) (parts now new : List X) (len : ℕ) → now ≡ parts → length parts ≡ len → length new ≡ length now → CanAdd version_1 names name → AreBytes name → RowTells (map history parts) (IsAtRest version_1 page entries names next) → RowTells (map history parts) (HasRoom page entries)
+    → index ≡ length names → DidSomeRow (on_part 0 (add_file_steps version_1 index name)) (map history now) (map history new) → map (λ part. (room part).lines) new ≡ map (λ part. (room part).lines) now → map device new ≡ map device now
+    → AreChangedBy history room device (on_part 0 (add_file_steps version_1 (length names) name)) (HasNamesOrOneMore version_1 page entries names name next) parts (take len (new ++ drop (length new) parts))
+add_changed history room device page entries next index names name parts now new len same long still can are rest has index_is did lines devices =
+    let Steps : ℕ → Type 0 = λ i. DidSomeRow (on_part 0 (add_file_steps version_1 i name)) (map history now) (map history new) in
+    let begun = lent parts now new len same long still (λ old new. DidSomeRow (on_part 0 (add_file_steps version_1 (length names) name)) (map history old) (map history new)) (subst Steps index_is did) in
+    record {
+      begun = begun;
+      moments = add_moments page entries next names name can are rest has begun;
+      lines = lent parts now new len same long still (λ old new. map (λ part. (room part).lines) new ≡ map (λ part. (room part).lines) old) lines;
+      devices = lent parts now new len same long still (λ old new. map device new ≡ map device old) devices;
+    }
 
 -- and where nothing was done
 pub add_unchanged : {X : Type 0} (history : X → History) (room : X → Room) (device : X → ℕ) (page entries next : ℕ) (names : List (List ℕ)) (name : List ℕ) (parts : List X) → RowTells (map history parts) (IsAtRest version_1 page entries names next)

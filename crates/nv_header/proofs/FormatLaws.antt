@@ -1,5 +1,5 @@
 -- Formatting: what the images of a row may be along its steps, and after them.
-use Rattle.std.proofs.Common.{◌≡◌, ◌≢◌, ℕ, ◌+◌, ◌-◌, ◌%◌, ◌<◌, ◌≤◌, ◌⊎◌, inl, inr, List, [], ◌++◌, length, map, take, slice_index_or, zero, suc, refl, sym, ap, ◌∙◌, subst, arith, append_assoc}
+use Rattle.std.proofs.Common.{◌≡◌, ◌≢◌, ℕ, ◌+◌, ◌-◌, ◌%◌, ◌<◌, ◌≤◌, ◌⊎◌, inl, inr, List, [], ◌++◌, length, map, take, drop, slice_index_or, zero, suc, refl, sym, ap, ◌∙◌, subst, arith, append_assoc}
 use Rattle.std.proofs.lemmas.Bool.{cases_eq, cases_lt, ne_eqb}
 use Rattle.std.proofs.lemmas.List.{take_all}
 use Rattle.std.specs.List.{flat_map, range_with_len}
@@ -13,6 +13,7 @@ use Rattle.nv_pmem.specs.Room.{Room}
 use Rattle.nv_pmem.specs.Rows.{RowStep, on_part, row_after, DidRow, DidSomeRow, RowTells, IsRowImage, InEachRowImage, EachRowMoment}
 use Rattle.nv_pmem.specs.Runs.{run}
 use Rattle.nv_pmem.specs.Steps.{Step, History, durable_store}
+use Rattle.nv_pmem.proofs.OneOfRow.{lent}
 use Rattle.nv_pmem.proofs.ImageLaws.{IsStoredBy, quiet_image, quiet_after, quiet_still}
 use Rattle.nv_pmem.proofs.DurableLaws.{line_settled, quiet_settled}
 use Rattle.nv_pmem.proofs.LineLaws.{overlaid, AreInside, word_of-after_steps, length-after_steps}
@@ -422,13 +423,15 @@ format_tells page entries {old} page_ok entries_ok blank room did =
     (λ parts both. at_rest page entries parts page_ok entries_ok both.0 both.1)
     did
 
--- What formatting did, whichever answer came.
-pub format_changed : {X : Type 0} (history : X → History) (room : X → Room) (device : X → ℕ) (page entries : ℕ) (parts new : List X) → IsPageSize page → IsEntryCount entries → RowTells (map history parts) IsBlankRow → RowTells (map history parts) (HasRoom page entries)
-    → DidSomeRow (format_steps version_1 page entries) (map history parts) (map history new) → map (λ part. (room part).lines) new ≡ map (λ part. (room part).lines) parts → map device new ≡ map device parts
-    → AreChangedBy history room device (format_steps version_1 page entries) (IsBlankOrFormatted version_1 page entries) parts new
-format_changed history room device page entries parts new page_ok entries_ok blank has did lines devices = record {
-  begun = did;
-  moments = format_moments page entries page_ok entries_ok blank has did;
-  lines = lines;
-  devices = devices;
-}
+-- What formatting did, whichever answer came, to a vector of parts that was lent as a slice.
+pub format_changed : {X : Type 0} (history : X → History) (room : X → Room) (device : X → ℕ) (page entries : ℕ) (parts now new : List X) (len : ℕ) → now ≡ parts → length parts ≡ len → length new ≡ length now → IsPageSize page → IsEntryCount entries → RowTells (map history parts) IsBlankRow → RowTells (map history parts) (HasRoom page entries)
+    → DidSomeRow (format_steps version_1 page entries) (map history now) (map history new) → map (λ part. (room part).lines) new ≡ map (λ part. (room part).lines) now → map device new ≡ map device now
+    → AreChangedBy history room device (format_steps version_1 page entries) (IsBlankOrFormatted version_1 page entries) parts (take len (new ++ drop (length new) parts))
+format_changed history room device page entries parts now new len same long still page_ok entries_ok blank has did lines devices =
+    let begun = lent parts now new len same long still (λ old new. DidSomeRow (format_steps version_1 page entries) (map history old) (map history new)) did in
+    record {
+      begun = begun;
+      moments = format_moments page entries page_ok entries_ok blank has begun;
+      lines = lent parts now new len same long still (λ old new. map (λ part. (room part).lines) new ≡ map (λ part. (room part).lines) old) lines;
+      devices = lent parts now new len same long still (λ old new. map device new ≡ map device old) devices;
+    }

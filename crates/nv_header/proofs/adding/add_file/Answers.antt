@@ -1,6 +1,6 @@
-use Rattle.std.proofs.Common.{◌≡◌, ℕ, List, ◌++◌, length, take, drop, map, sym, subst, arith}
+use Rattle.std.proofs.Common.{ℕ, List, ◌++◌, length, take, drop, map, sym, subst, arith}
 use Rattle.nv_plain.specs.Layouts.{version_1}
-use Rattle.nv_pmem.specs.Rows.{on_part, DidRow, DidSomeRow}
+use Rattle.nv_pmem.specs.Rows.{on_part, DidRow}
 use Rattle.nv_pmem.proofs.OneOfRow.{lent}
 use Rattle.nv_header.specs.HeaderSteps.{add_file_steps}
 use Rattle.nv_header.specs.Regions.{IsRegion, HasParts}
@@ -50,33 +50,17 @@ returns-in-Ok-write_name-clause-done g c =
 pub returns-in-Ok-write_name-clause-changed : goal.returns-in-Ok-write_name-clause-changed
 returns-in-Ok-write_name-clause-changed g c =
     let region = c.args.region in
-    let page = region.geometry.page in
-    let entries = region.geometry.entries in
-    let name = c.args.name.now in
-    let Steps : ℕ → Type 0 = λ i. DidSomeRow (on_part 0 (add_file_steps version_1 i name)) (map g.L.Lines.history c.deref_mut.result.now) (map g.L.Lines.history c.write_name.new.parts) in
-    add_changed g.L.Lines.history g.L.Lines.room g.L.Lines.device page entries region.next region.names name region.parts.items _
+    add_changed g.L.Lines.history g.L.Lines.room g.L.Lines.device region.geometry.page region.geometry.entries region.next c.len-index.result region.names c.args.name.now
+    region.parts.items c.deref_mut.result.now c.write_name.new.parts region.parts.len c.deref_mut.ensures.value (omega (arith, region.parts.ok.0)) c.write_name.auto.parts
     c.in-Ok.ensures.added (λ i. omega (arith, c.type_inv.name i)) region.is_region.tells
-    (told_room g.L.Lines.history g.L.Lines.room version_1 page entries region.parts.items g.met.L.Lines.told_lines region.is_region.parts)
-    (lent c.args.region.parts.items c.deref_mut.result.now c.write_name.new.parts c.args.region.parts.len c.deref_mut.ensures.value (omega (arith, c.args.region.parts.ok.0)) c.write_name.auto.parts
-    (λ old new. DidSomeRow (on_part 0 (add_file_steps version_1 (length region.names) name)) (map g.L.Lines.history old) (map g.L.Lines.history new))
-    (subst Steps c.len-index.ensures c.write_name.ensures.begun))
-    (lent c.args.region.parts.items c.deref_mut.result.now c.write_name.new.parts c.args.region.parts.len c.deref_mut.ensures.value (omega (arith, c.args.region.parts.ok.0)) c.write_name.auto.parts
-    (λ old new. map (λ part. (g.L.Lines.room part).lines) new ≡ map (λ part. (g.L.Lines.room part).lines) old) c.write_name.ensures.lines)
-    (lent c.args.region.parts.items c.deref_mut.result.now c.write_name.new.parts c.args.region.parts.len c.deref_mut.ensures.value (omega (arith, c.args.region.parts.ok.0)) c.write_name.auto.parts (λ old new. map g.L.Lines.device new ≡ map g.L.Lines.device old) c.write_name.ensures.devices)
+    (told_room g.L.Lines.history g.L.Lines.room version_1 _ _ region.parts.items g.met.L.Lines.told_lines region.is_region.parts)
+    c.len-index.ensures c.write_name.ensures.begun c.write_name.ensures.lines c.write_name.ensures.devices
 
 pub returns-in-Err-write_name-clause-changed : goal.returns-in-Err-write_name-clause-changed
 returns-in-Err-write_name-clause-changed g c =
     let region = c.args.region in
-    let page = region.geometry.page in
-    let entries = region.geometry.entries in
-    let name = c.args.name.now in
-    let Steps : ℕ → Type 0 = λ i. DidSomeRow (on_part 0 (add_file_steps version_1 i name)) (map g.L.Lines.history c.deref_mut.result.now) (map g.L.Lines.history c.write_name.new.parts) in
-    add_changed g.L.Lines.history g.L.Lines.room g.L.Lines.device page entries region.next region.names name region.parts.items _
+    add_changed g.L.Lines.history g.L.Lines.room g.L.Lines.device region.geometry.page region.geometry.entries region.next c.len-index.result region.names c.args.name.now
+    region.parts.items c.deref_mut.result.now c.write_name.new.parts region.parts.len c.deref_mut.ensures.value (omega (arith, region.parts.ok.0)) c.write_name.auto.parts
     c.in-Ok.ensures.added (λ i. omega (arith, c.type_inv.name i)) region.is_region.tells
-    (told_room g.L.Lines.history g.L.Lines.room version_1 page entries region.parts.items g.met.L.Lines.told_lines region.is_region.parts)
-    (lent c.args.region.parts.items c.deref_mut.result.now c.write_name.new.parts c.args.region.parts.len c.deref_mut.ensures.value (omega (arith, c.args.region.parts.ok.0)) c.write_name.auto.parts
-    (λ old new. DidSomeRow (on_part 0 (add_file_steps version_1 (length region.names) name)) (map g.L.Lines.history old) (map g.L.Lines.history new))
-    (subst Steps c.len-index.ensures c.write_name.ensures.begun))
-    (lent c.args.region.parts.items c.deref_mut.result.now c.write_name.new.parts c.args.region.parts.len c.deref_mut.ensures.value (omega (arith, c.args.region.parts.ok.0)) c.write_name.auto.parts
-    (λ old new. map (λ part. (g.L.Lines.room part).lines) new ≡ map (λ part. (g.L.Lines.room part).lines) old) c.write_name.ensures.lines)
-    (lent c.args.region.parts.items c.deref_mut.result.now c.write_name.new.parts c.args.region.parts.len c.deref_mut.ensures.value (omega (arith, c.args.region.parts.ok.0)) c.write_name.auto.parts (λ old new. map g.L.Lines.device new ≡ map g.L.Lines.device old) c.write_name.ensures.devices)
+    (told_room g.L.Lines.history g.L.Lines.room version_1 _ _ region.parts.items g.met.L.Lines.told_lines region.is_region.parts)
+    c.len-index.ensures c.write_name.ensures.begun c.write_name.ensures.lines c.write_name.ensures.devices

@@ -4,6 +4,7 @@ use Rattle.std.specs.List.{list_any}
 use lib.Pointwise.{pointwise}
 use Rattle.nv_plain.specs.Names.{is_name}
 use Rattle.nv_plain.specs.Layouts.{version_1}
+use Rattle.nv_header.specs.Additions.{CanAdd}
 use Rattle.nv_header.specs.FileNames.{IsNewName}
 use Rattle.nv_header.proofs.NewNames.{unknown_name, known_name}
 use Rattle.nv_header.proofs.adding.with_name.Goals as goal
@@ -11,6 +12,9 @@ use Rattle.nv_header.proofs.adding.with_name.Goals.{then-not-is_file_name-via-th
 
 not_new : (names : List (List ℕ)) (name : List ℕ) → is_name 56 name ≡ false → IsNewName version_1 names name → ⊥
 not_new names name bad new = let allowed = new.allowed in cc
+
+can_add : (names : List (List ℕ)) (name : List ℕ) → length names < 16 → is_name 56 name ≡ true → list_any (λ one. pointwise nat_eq one name) names ≡ false → CanAdd version_1 names name
+can_add names name few allowed unknown = record { few = few; is_new = record { allowed = allowed; new = unknown_name names name unknown } }
 
 pub returns-then-not-is_file_name-clause-refused : goal.returns-then-not-is_file_name-clause-refused
 returns-then-not-is_file_name-clause-refused c =
@@ -27,21 +31,7 @@ returns-then-not-is_file_name-clause-refused c =
     (few, bad, c.len-then-not-is_file_name.ensures)
 
 pub returns-in-Ok-clause-added : goal.returns-in-Ok-clause-added
-returns-in-Ok-clause-added c =
-    let names = c.args.names in
-    let name = c.args.name.now in
-    let unknown : list_any (λ one. pointwise nat_eq one name) names ≡ false = search rules in
-    record {
-      few = omega (arith, c.len.ensures);
-      is_new = record { allowed = search rules; new = unknown_name names name unknown };
-    }
+returns-in-Ok-clause-added c = can_add c.args.names c.args.name.now (omega (arith, c.len.ensures)) (search rules) (search rules)
 
 pub returns-in-Err-clause-refused : goal.returns-in-Err-clause-refused
-returns-in-Err-clause-refused c =
-    let names = c.args.names in
-    let name = c.args.name.now in
-    let unknown : list_any (λ one. pointwise nat_eq one name) names ≡ false = search rules in
-    record {
-      few = omega (arith, c.len.ensures);
-      is_new = record { allowed = search rules; new = unknown_name names name unknown };
-    }
+returns-in-Err-clause-refused c = can_add c.args.names c.args.name.now (omega (arith, c.len.ensures)) (search rules) (search rules)

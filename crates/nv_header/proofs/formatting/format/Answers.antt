@@ -1,6 +1,6 @@
-use Rattle.std.proofs.Common.{List, ◌≡◌, ◌++◌, length, take, drop, sym, subst, ℕ, arith, map}
+use Rattle.std.proofs.Common.{List, ◌++◌, length, take, drop, sym, subst, ℕ, arith, map}
 use Rattle.nv_plain.specs.Layouts.{version_1}
-use Rattle.nv_pmem.specs.Rows.{DidRow, DidSomeRow}
+use Rattle.nv_pmem.specs.Rows.{DidRow}
 use Rattle.nv_pmem.proofs.OneOfRow.{lent}
 use Rattle.nv_header.specs.HeaderSteps.{format_steps}
 use Rattle.nv_header.specs.Regions.{IsRegion, HasParts}
@@ -36,26 +36,14 @@ invariant_of-result g c =
 
 pub returns-in-Ok-clause-changed : goal.returns-in-Ok-clause-changed
 returns-in-Ok-clause-changed g c =
-    format_changed g.L.Lines.history g.L.Lines.room g.L.Lines.device c.args.geometry.page c.args.geometry.entries c.args.parts.items _
-    c.args.geometry.page_in_limits c.args.geometry.entries_in_limits c.requires.blank
-    (told_room g.L.Lines.history g.L.Lines.room version_1 c.args.geometry.page c.args.geometry.entries c.args.parts.items g.met.L.Lines.told_lines c.requires.parts)
-    (lent c.args.parts.items c.deref_mut.result.now c.write_region.new.parts c.args.parts.len c.deref_mut.ensures.value (omega (arith, c.args.parts.ok.0)) c.write_region.auto.parts
-    (λ old new. DidSomeRow (format_steps version_1 c.args.geometry.page c.args.geometry.entries) (map g.L.Lines.history old) (map g.L.Lines.history new))
-    c.write_region.ensures.begun)
-    (lent c.args.parts.items c.deref_mut.result.now c.write_region.new.parts c.args.parts.len c.deref_mut.ensures.value (omega (arith, c.args.parts.ok.0)) c.write_region.auto.parts
-    (λ old new. map (λ part. (g.L.Lines.room part).lines) new ≡ map (λ part. (g.L.Lines.room part).lines) old) c.write_region.ensures.lines)
-    (lent c.args.parts.items c.deref_mut.result.now c.write_region.new.parts c.args.parts.len c.deref_mut.ensures.value (omega (arith, c.args.parts.ok.0)) c.write_region.auto.parts
-    (λ old new. map g.L.Lines.device new ≡ map g.L.Lines.device old) c.write_region.ensures.devices)
+    format_changed g.L.Lines.history g.L.Lines.room g.L.Lines.device c.args.geometry.page c.args.geometry.entries c.args.parts.items c.deref_mut.result.now c.write_region.new.parts
+    c.args.parts.len c.deref_mut.ensures.value (omega (arith, c.args.parts.ok.0)) c.write_region.auto.parts c.args.geometry.page_in_limits c.args.geometry.entries_in_limits
+    c.requires.blank (told_room g.L.Lines.history g.L.Lines.room version_1 _ _ c.args.parts.items g.met.L.Lines.told_lines c.requires.parts)
+    c.write_region.ensures.begun c.write_region.ensures.lines c.write_region.ensures.devices
 
 pub returns-in-Err-clause-changed : goal.returns-in-Err-clause-changed
 returns-in-Err-clause-changed g c =
-    format_changed g.L.Lines.history g.L.Lines.room g.L.Lines.device c.args.geometry.page c.args.geometry.entries c.args.parts.items _
-    c.args.geometry.page_in_limits c.args.geometry.entries_in_limits c.requires.blank
-    (told_room g.L.Lines.history g.L.Lines.room version_1 c.args.geometry.page c.args.geometry.entries c.args.parts.items g.met.L.Lines.told_lines c.requires.parts)
-    (lent c.args.parts.items c.deref_mut.result.now c.write_region.new.parts c.args.parts.len c.deref_mut.ensures.value (omega (arith, c.args.parts.ok.0)) c.write_region.auto.parts
-    (λ old new. DidSomeRow (format_steps version_1 c.args.geometry.page c.args.geometry.entries) (map g.L.Lines.history old) (map g.L.Lines.history new))
-    c.write_region.ensures.begun)
-    (lent c.args.parts.items c.deref_mut.result.now c.write_region.new.parts c.args.parts.len c.deref_mut.ensures.value (omega (arith, c.args.parts.ok.0)) c.write_region.auto.parts
-    (λ old new. map (λ part. (g.L.Lines.room part).lines) new ≡ map (λ part. (g.L.Lines.room part).lines) old) c.write_region.ensures.lines)
-    (lent c.args.parts.items c.deref_mut.result.now c.write_region.new.parts c.args.parts.len c.deref_mut.ensures.value (omega (arith, c.args.parts.ok.0)) c.write_region.auto.parts
-    (λ old new. map g.L.Lines.device new ≡ map g.L.Lines.device old) c.write_region.ensures.devices)
+    format_changed g.L.Lines.history g.L.Lines.room g.L.Lines.device c.args.geometry.page c.args.geometry.entries c.args.parts.items c.deref_mut.result.now c.write_region.new.parts
+    c.args.parts.len c.deref_mut.ensures.value (omega (arith, c.args.parts.ok.0)) c.write_region.auto.parts c.args.geometry.page_in_limits c.args.geometry.entries_in_limits
+    c.requires.blank (told_room g.L.Lines.history g.L.Lines.room version_1 _ _ c.args.parts.items g.met.L.Lines.told_lines c.requires.parts)
+    c.write_region.ensures.begun c.write_region.ensures.lines c.write_region.ensures.devices
