@@ -1,7 +1,7 @@
 -- The parts of a region whose commit words are cleared, and whose tail moves then.
-use Rattle.std.proofs.Common.{◌≡◌, ◌⊎◌, ◌↔◌, inl, inr, ℕ, ◌+◌, ◌<◌, ◌≤◌, List, [], length, map, get_or, slice_index_or, slice_set, refl, sym, ap, ◌∙◌, subst, arith}
+use Rattle.std.proofs.Common.{◌≡◌, ◌⊎◌, ◌↔◌, inl, inr, ℕ, ◌+◌, ◌<◌, ◌≤◌, List, [], length, map, drop, get_or, slice_index_or, slice_set, refl, sym, ap, ◌∙◌, subst, arith}
 use Rattle.std.proofs.lemmas.Bool.{cases_eq, cases_lt}
-use Rattle.std.proofs.lemmas.List.{get_or_default, get_or-map, get_or_past, get_or-set_same, get_or-set_other, length-map, length-set, map-set}
+use Rattle.std.proofs.lemmas.List.{get_or_default, get_or-map, get_or_past, get_or-set_same, get_or-set_other, drop-set-lt, length-map, length-set, map-set}
 use Rattle.nv_plain.specs.Images.{Image}
 use Rattle.nv_pmem.specs.Images.{IsImage, IsQuiet}
 use Rattle.nv_pmem.specs.Part.{Part, word_of}
@@ -27,6 +27,10 @@ use Rattle.nv_recover.proofs.TellLaws.{RowsTell, both_itself, both_more, both_bo
 
 pub part_history : {X : Type 0} (history : X → History) (parts : List X) (i : ℕ) (was d : X) → i < length parts → was ≡ get_or parts i d → history was ≡ slice_index_or (map history parts) i []
 part_history history parts i was d inside is = ap history is ∙ sym (get_or-map history parts i d [] inside)
+
+-- the parts behind one that is changed
+pub further_same : {X : Type 0} (history : X → History) (parts : List X) (i past : ℕ) (new : X) → i < past → drop past (map history (slice_set parts i new)) ≡ drop past (map history parts)
+further_same history parts i past new before = ap (drop past) (map-set history parts i new) ∙ drop-set-lt past (map history parts) i (history new) before
 
 -- ---- the words that are cleared, part by part
 

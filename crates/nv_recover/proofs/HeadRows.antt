@@ -23,7 +23,7 @@ header_first : (row : List History) → header_history row ≡ slice_index_or ro
 header_first [] = refl
 header_first (history ∷ row) = refl
 
-reads_as : (lines : ℕ) (head : Head) (bounds : Bounds) (parts : List Part) → HasBounds head bounds → IsHeadOf 1 version_1 lines (header_image (slice_index_or parts 0 [])) head
+reads_as : (lines : ℕ) (head : Head) (bounds : Bounds) (parts : List Part) → HasBounds head bounds → IsHeadOf version_1 lines (header_image (slice_index_or parts 0 [])) head
     → ReadsAs version_1 bounds.page bounds.entries head.names bounds.tail (row_words parts)
 unfolding first_names
 reads_as lines head bounds parts has is = record {
@@ -38,7 +38,7 @@ reads_as lines head bounds parts has is = record {
   tail_is = sym is.tail ∙ has.tail;
 }
 
-says_bounds : (lines : ℕ) (head : Head) (bounds : Bounds) (parts : List Part) → HasBounds head bounds → IsHeadOf 1 version_1 lines (header_image (slice_index_or parts 0 [])) head → SaysBounds bounds (row_words parts)
+says_bounds : (lines : ℕ) (head : Head) (bounds : Bounds) (parts : List Part) → HasBounds head bounds → IsHeadOf version_1 lines (header_image (slice_index_or parts 0 [])) head → SaysBounds bounds (row_words parts)
 unfolding first_names
 says_bounds lines head bounds parts has is =
     let image = header_image (slice_index_or parts 0 []) in
@@ -58,14 +58,14 @@ told_first row Q P some step told =
     (row_tells_part row 0 Q (omega arith) (subst At (header_first row) told))
 
 -- The row says what the head does.
-pub row_reads_as : (lines : ℕ) (head : Head) (bounds : Bounds) (row : List History) → HasBounds head bounds → 1 ≤ length row → Tells (header_history row) (λ now. IsHeadOf 1 version_1 lines (header_image now) head)
+pub row_reads_as : (lines : ℕ) (head : Head) (bounds : Bounds) (row : List History) → HasBounds head bounds → 1 ≤ length row → Tells (header_history row) (λ now. IsHeadOf version_1 lines (header_image now) head)
     → RowTells row (λ parts. ReadsAs version_1 bounds.page bounds.entries head.names bounds.tail (row_words parts))
 row_reads_as lines head bounds row has some told =
-    told_first row (λ now. IsHeadOf 1 version_1 lines (header_image now) head) (λ parts. ReadsAs version_1 bounds.page bounds.entries head.names bounds.tail (row_words parts))
+    told_first row (λ now. IsHeadOf version_1 lines (header_image now) head) (λ parts. ReadsAs version_1 bounds.page bounds.entries head.names bounds.tail (row_words parts))
     some (λ parts. reads_as lines head bounds parts has) told
 
-pub row_says_bounds : (lines : ℕ) (head : Head) (bounds : Bounds) (row : List History) → HasBounds head bounds → 1 ≤ length row → Tells (header_history row) (λ now. IsHeadOf 1 version_1 lines (header_image now) head)
+pub row_says_bounds : (lines : ℕ) (head : Head) (bounds : Bounds) (row : List History) → HasBounds head bounds → 1 ≤ length row → Tells (header_history row) (λ now. IsHeadOf version_1 lines (header_image now) head)
     → RowTells row (λ parts. SaysBounds bounds (row_words parts))
 row_says_bounds lines head bounds row has some told =
-    told_first row (λ now. IsHeadOf 1 version_1 lines (header_image now) head) (λ parts. SaysBounds bounds (row_words parts)) some
+    told_first row (λ now. IsHeadOf version_1 lines (header_image now) head) (λ parts. SaysBounds bounds (row_words parts)) some
     (λ parts. says_bounds lines head bounds parts has) told

@@ -1,6 +1,7 @@
 -- What the parts and stores stand for, at each moment of recovery.
 use Rattle.std.proofs.Common.{◌≡◌, inl, inr, ℕ, ◌<◌, ◌≤◌, ◌^◌, List, [], length, map, slice_index_or, sym, ap, ◌∙◌, subst, arith}
 use Rattle.std.proofs.lemmas.List.{length-map, get_or-map}
+use Rattle.std.specs.Prelude.{Result, Ok, Err, IfErr}
 use Rattle.nv_plain.specs.Files.{Files}
 use Rattle.nv_plain.specs.Images.{Image}
 use Rattle.nv_plain.specs.Layouts.{version_1}
@@ -15,14 +16,14 @@ use Rattle.nv_store.specs.Store.{Store, IsQuiet}
 use Rattle.nv_store.proofs.StoreLaws.{quiet_is_quiet}
 use Rattle.nv_entry.specs.declared.bounds.Bounds.{Bounds}
 use Rattle.nv_entry.specs.Checks.{SaysBounds}
-use Rattle.nv_header.specs.Regions.{ReadsAs}
+use Rattle.nv_header.specs.Regions.{ReadsAs, HasEmptyLog, HasNoneFrom}
 use Rattle.nv_recover.specs.Alike.{SayTheSame}
 use Rattle.nv_recover.specs.Applying.{AcrossTells, AcrossThroughout, StaysAlike}
 use Rattle.nv_recover.specs.Changes.{Devices, DevicesTell, ThroughoutRow, ThroughoutDevices}
 use Rattle.nv_recover.specs.Emptying.{CommitsNoneFrom, SaysTheSameOrEmpty}
 use Rattle.nv_recover.specs.Groups.{AreGroups, leaders_of}
 use Rattle.nv_recover.specs.Recovering.{HasFoundAll, HoldRecovered, StandThroughout, UnfitIsUnwritten, end_of}
-use Rattle.nv_recover.specs.Standing.{AreStoreImages, AreQuietStores, LeaveNoMore, ReadsAlike, RecoverAlike, StandsStill, TakesPlace, files_of}
+use Rattle.nv_recover.specs.Standing.{AreStoreImages, AreQuietStores, HasEmptiedLog, HasSameLog, LeaveNoMore, ReadsAlike, RecoverAlike, StandsStill, TakesPlace, files_of}
 use Rattle.nv_recover.specs.Telling.{AllTell, AreNow}
 use Rattle.nv_recover.specs.declared.group.Group.{Group}
 use Rattle.nv_recover.specs.declared.recovering.Recovered.{Recovered}
@@ -52,11 +53,36 @@ header_alike page entries names tail next image other reads later = record {
   names = later.names_are ∙ sym reads.names_are;
 }
 
+-- images that say the same have the same log
+same_log : (image other : Image) → SayTheSame image other → HasSameLog image other
+same_log image other same = record {
+  first = λ stores. ap (λ (all : All). all.first) (same_recovered image other same stores);
+  groups = λ stores. ap (λ (all : All). all.groups) (same_recovered image other same stores);
+  next = λ stores. ap (λ (all : All). all.next) (same_recovered image other same stores);
+}
+
+-- one whose log is empty, and goes on with the next number
+emptied_log : (page entries : ℕ) (names : List (List ℕ)) (tail next : ℕ) (image other : Image) → ((stores : Files) → next ≡ (recovered image stores).next)
+    → ReadsAs version_1 page entries names tail image → HasEmptyLog version_1 page entries names next other → HasEmptiedLog image other
+emptied_log page entries names tail next image other goes_on reads empty stores =
+    let None : ℕ → Type 0 = λ count. HasNoneFrom count (recovered image stores).next other in
+    record {
+      header = record {
+        readable = empty.header.readable;
+        page_is = empty.header.page_is ∙ sym reads.page_is;
+        entries_is = empty.header.entries_is ∙ sym reads.entries_is;
+        names_are = empty.header.names_are ∙ sym reads.names_are;
+        tail_is = empty.header.tail_is ∙ goes_on stores;
+      };
+      log = subst None (sym reads.entries_is) (record { uncommitted = λ number from. empty.log.uncommitted number (omega (arith, goes_on stores)) });
+    }
+
 module _ (page entries : ℕ) (names : List (List ℕ)) (tail : ℕ) where
   same_stands : (image other : Image) (was held : List Store) (bytes : Files) → ReadsAs version_1 page entries names tail image → SayTheSame image other → RecoverAlike image was held → AreStoreImages held bytes
       → TakesPlace image (files_of was) other bytes
   same_stands image other was held bytes reads same alike are = record {
     header = header_alike page entries names tail tail image other reads (reads_too page entries names tail image other same.header reads);
+    log = inl (same_log image other same);
     files = λ fits. record {
       fits = same_fits image other same version_1 fits;
       recovers = ap (λ (all : All). all.files) (same_recovered image other same bytes) ∙ alike bytes are;
@@ -69,14 +95,15 @@ module _ (page entries : ℕ) (names : List (List ℕ)) (tail : ℕ) where
       let Is : List Part → Type 0 = λ these. IsRowImage these image in
       same_stands (row_words parts) image was held bytes reads (quiet_says parts image quiet (subst Is same is)) alike are
 
-  stands_emptied : (next : ℕ) (image : Image) (now : List Part) (was held : List Store) → ReadsAs version_1 page entries names tail image
+  stands_emptied : (next : ℕ) (image : Image) (now : List Part) (was held : List Store) → ((stores : Files) → next ≡ (recovered image stores).next) → ReadsAs version_1 page entries names tail image
       → InEachRowImage (SaysTheSameOrEmpty page entries names next image) now → RecoverAlike image was held → HoldRecovered image was held → StandsStill image (files_of was) now held
-  stands_emptied next image now was held reads each alike hold other bytes is are = elim (each other is) [
+  stands_emptied next image now was held goes_on reads each alike hold other bytes is are = elim (each other is) [
     | inl same ↦ same_stands image other was held bytes reads same alike are
     | inr empty ↦
         let none = empty_none page entries names next other empty in
         record {
           header = header_alike page entries names tail next image other reads empty.header;
+          log = inr (emptied_log page entries names tail next image other goes_on reads empty);
           files = λ fits. record {
             fits = empty_fits version_1 other none;
             recovers = empty_recovered other bytes none ∙ quiet_image held bytes hold.synced are ∙ hold.files;
@@ -153,10 +180,10 @@ module _ (page entries : ℕ) (names : List (List ℕ)) (tail : ℕ) (parts : Li
       (λ was were. stands_written these was are were))
 
   -- and then the log is emptied, and the stores stay
-  pub stand_emptied : (next : ℕ) (parts_now : List lines.History)
+  pub stand_emptied : (next : ℕ) (parts_now : List lines.History) → RowTells parts (λ these. (stores : Files) → next ≡ (recovered (row_words these) stores).next)
       → RowTells parts (λ was. ThroughoutRow (InEachRowImage (SaysTheSameOrEmpty page entries names next (row_words was))) parts parts_now)
       → AcrossTells parts old new HoldRecovered → StandThroughout (both_rows parts old) (both_rows parts_now new)
-  stand_emptied next parts_now says hold =
+  stand_emptied next parts_now goes_on says hold =
       row_tells_from parts (λ these. RowTells old (λ was. ThroughoutDevices (StandsStill (row_words these) (files_of was)) (both_rows parts old) (both_rows parts_now new)))
       (λ these are.
       let image = row_words these in
@@ -177,10 +204,44 @@ module _ (page entries : ℕ) (names : List (List ℕ)) (tail : ℕ) (parts : Li
       row_tells_more new (λ held. RecoverAlike image was held × HoldRecovered image was held) (StandsStill image (files_of was) now)
       (λ held both.
       stands_emptied page entries names tail next image now was held
+      (row_tells_at parts (λ these. (stores : Files) → next ≡ (recovered (row_words these) stores).next) these are goes_on)
       (row_tells_at parts (λ these. ReadsAs version_1 page entries names tail (row_words these)) these are reads) each both.0 both.1)
       (row_tells_both new (RecoverAlike image was) (HoldRecovered image was) like held))
       saying)
       (row_tells_at parts (λ was. ThroughoutRow (InEachRowImage (SaysTheSameOrEmpty page entries names next (row_words was))) parts parts_now) these are says))))
+
+-- ---- in the rows that calls leave, which were read
+
+-- while the stores are written
+pub stand_on : (page entries : ℕ) (names : List (List ℕ)) (tail : ℕ) (first read then : List lines.History) (old new : List History) → read ≡ first → then ≡ read
+    → RowTells first (λ these. ReadsAs version_1 page entries names tail (row_words these)) → RowTells first AreQuiet
+    → AcrossThroughout read old new RecoverAlike → StandThroughout (both_rows first old) (both_rows then new)
+stand_on page entries names tail first read then old new one two reads quiet alike =
+    let At : List lines.History → Type 0 = λ row. StandThroughout (both_rows first old) (both_rows row new) in
+    let Alike : List lines.History → Type 0 = λ row. AcrossThroughout row old new RecoverAlike in
+    subst At (sym (two ∙ one)) (stand_read page entries names tail first reads quiet old new (subst Alike one alike))
+
+-- and then the log is emptied
+pub stand_last : (page entries : ℕ) (names : List (List ℕ)) (tail : ℕ) (first read then last : List lines.History) (old new : List History) (found : Recovered) → read ≡ first → then ≡ read
+    → RowTells first (λ these. ReadsAs version_1 page entries names tail (row_words these)) → RowTells first AreQuiet
+    → AcrossThroughout read old new RecoverAlike → AcrossTells read old new HoldRecovered → RowTells first (λ these. HasFoundAll (row_words these) found)
+    → ((these : List (List ℕ)) → RowTells then (λ was. ReadsAs version_1 page entries these tail (row_words was))
+    → RowTells then (λ was. ThroughoutRow (InEachRowImage (SaysTheSameOrEmpty page entries these found.next (row_words was))) then last))
+    → StandThroughout (both_rows first old) (both_rows last new)
+stand_last page entries names tail first read then last old new found one two reads quiet alike hold found_all says =
+    let Alike : List lines.History → Type 0 = λ row. AcrossThroughout row old new RecoverAlike in
+    let Hold : List lines.History → Type 0 = λ row. AcrossTells row old new HoldRecovered in
+    let Reads : List lines.History → Type 0 = λ row. RowTells row (λ these. ReadsAs version_1 page entries names tail (row_words these)) in
+    let Says : List lines.History → Type 0 = λ row.
+    RowTells row (λ was. ThroughoutRow (InEachRowImage (SaysTheSameOrEmpty page entries names found.next (row_words was))) row last) in
+    stand_emptied page entries names tail first reads quiet old new (subst Alike one alike) found.next last
+    (row_tells_more first (λ these. HasFoundAll (row_words these) found) (λ these. (stores : Files) → found.next ≡ (recovered (row_words these) stores).next) (λ these all. all.next) found_all)
+    (subst Says (two ∙ one) (says names (subst Reads (sym (two ∙ one)) reads))) (subst Hold one hold)
+
+-- what holds of any error holds at an error
+pub if_err_any : {T E : Type 0} {P : E → Type 0} (result : Result T E) → ((error : E) → P error) → IfErr result P
+if_err_any (Ok value) each = tt
+if_err_any (Err error) each = each error
 
 -- ---- an image that doesn't fit
 

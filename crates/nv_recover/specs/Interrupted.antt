@@ -25,7 +25,7 @@ start_of parts stores = record { image = row_words parts; bytes = files_of store
 
 -- the header of a start can be read
 abbrev pub StartReads : Start → Type 0
-StartReads start = IsHead 1 version_1 version_1.header_lines start.image
+StartReads start = IsHead version_1 version_1.header_lines start.image
 
 -- the image of a start fits
 abbrev pub StartFits : Start → Type 0

@@ -10,3 +10,4 @@ pub mod Recovering
 pub mod Bounding
 pub mod Emptying
 pub mod Interrupted
+pub mod Answers

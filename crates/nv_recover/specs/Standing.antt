@@ -1,5 +1,5 @@
 -- Standing: which files the parts of a region and its stores stand for, whatever a power failure leaves of them.
-use Rattle.std.specs.Prelude.{◌≡◌, ℕ, ◌<◌, List, length, map, slice_index_or, All}
+use Rattle.std.specs.Prelude.{◌≡◌, ◌⊎◌, ℕ, ◌<◌, List, length, map, slice_index_or, All}
 use Rattle.nv_plain.specs.Files.{Files, contents_of}
 use Rattle.nv_plain.specs.Images.{Image, header_of}
 use Rattle.nv_plain.specs.Layouts.{version_1}
@@ -7,6 +7,7 @@ use Rattle.nv_plain.specs.Recovered.{Fits, recovered}
 use Rattle.nv_pmem.specs.Part.{Part}
 use Rattle.nv_pmem.specs.Rows.{IsRowImage}
 use Rattle.nv_header.specs.Heads.{IsHead, first_names}
+use Rattle.nv_header.specs.Regions.{HasEmptyLog}
 use Rattle.nv_store.specs.Images.{IsImage}
 use Rattle.nv_store.specs.Store.{Store, IsQuiet}
 
@@ -34,15 +35,30 @@ pub record StandsFor (image : Image) (bytes files : Files) : Type 0 where
 
 -- The header of the other image can be read, and says what that of the image says, but for the tail.
 pub record ReadsAlike (image other : Image) : Type 0 where
-  pub readable : IsHead 1 version_1 version_1.header_lines other
+  pub readable : IsHead version_1 version_1.header_lines other
   pub page : (header_of other).page ≡ (header_of image).page
   pub entries : (header_of other).entries ≡ (header_of image).entries
   pub names : first_names version_1 other (header_of other).files ≡ first_names version_1 image (header_of image).files
 
--- Another image and other bytes can take the place of these: the header reads alike, so that they can be recovered, and where
--- the image fits, they stand for the same files.
+-- The log of the other image says what that of the image does, whatever the stores hold: its first number, its groups and its
+-- next number.
+pub record HasSameLog (image other : Image) : Type 0 where
+  pub first : (stores : Files) → (recovered other stores).first ≡ (recovered image stores).first
+  pub groups : (stores : Files) → (recovered other stores).groups ≡ (recovered image stores).groups
+  pub next : (stores : Files) → (recovered other stores).next ≡ (recovered image stores).next
+
+-- The log of the other image is empty, and goes on with the next number of the image.
+abbrev pub HasEmptiedLog : Image → Image → Type 0
+HasEmptiedLog image other =
+    (stores : Files)
+    → HasEmptyLog version_1 (header_of image).page (header_of image).entries (first_names version_1 image (header_of image).files)
+    (recovered image stores).next other
+
+-- Another image and other bytes can take the place of these: the header reads alike, so that they can be recovered; the log
+-- says the same, or it is empty and goes on with the next number; and where the image fits, they stand for the same files.
 pub record TakesPlace (image : Image) (bytes : Files) (other : Image) (others : Files) : Type 0 where
   pub header : ReadsAlike image other
+  pub log : HasSameLog image other ⊎ HasEmptiedLog image other
   pub files : Fits version_1 image → StandsFor other others (recovered image bytes).files
 
 -- Whatever a power failure leaves of the parts and of the stores can take the place of the image and the bytes.

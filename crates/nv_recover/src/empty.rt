@@ -1,4 +1,4 @@
-ghost use Rattle.std.specs.Prelude.{◌≡◌, ℕ, ◌+◌, ◌^◌, ◌<◌, ◌≤◌, ◌↔◌, List, length, map, sum_by, OnOk};
+ghost use Rattle.std.specs.Prelude.{◌≡◌, ℕ, ◌+◌, ◌^◌, ◌<◌, ◌≤◌, ◌↔◌, List, length, map, drop, sum_by, OnOk};
 ghost use Rattle.nv_plain.specs.Faults.{HasCause};
 ghost use Rattle.nv_plain.specs.Layouts.{version_1};
 ghost use Rattle.nv_pmem.specs.Moments.{Tells, EachMoment};
@@ -23,9 +23,9 @@ pub(crate) fn empty_log<L: Lines>(
     next: u64,
 ) -> Result<(), RegionFault>
     requires parts { HasParts version_1 bounds.now.page bounds.now.entries (map L.room parts.old) }
-    requires header { RowTells (map L.history parts.old) (λ parts. SaysBounds bounds.now (row_words parts)) }
+    requires header { RowTells (map L.history parts.old) (λ told. SaysBounds bounds.now (row_words told)) }
     requires quiet { RowTells (map L.history parts.old) AreQuiet }
-    requires none { RowTells (map L.history parts.old) (λ parts. CommitsNoneFrom next (row_words parts)) }
+    requires none { RowTells (map L.history parts.old) (λ told. CommitsNoneFrom next (row_words told)) }
     requires from_tail { bounds.now.tail ≤ next }
     requires number { next ≤ 2 ^ 60 }
     ensures moments { (names : List (List ℕ))
@@ -37,6 +37,7 @@ pub(crate) fn empty_log<L: Lines>(
         → RowTells (map L.history parts.old) (λ was. SaysBoundsAndNames bounds.now names (row_words was))
         → RowTells (map L.history parts.new) (IsAtRest version_1 bounds.now.page bounds.now.entries names next)) }
     ensures parts { OnOk result (HasParts version_1 bounds.now.page bounds.now.entries (map L.room parts.new)) }
+    ensures further { drop (1 + bounds.now.entries) (map L.history parts.new) ≡ drop (1 + bounds.now.entries) (map L.history parts.old) }
     ensures lines { map (λ part. (L.room part).lines) parts.new ≡ map (λ part. (L.room part).lines) parts.old }
     ensures tells { AllTell (map L.history parts.old) ↔ AllTell (map L.history parts.new) }
     ensures cause { HasCause (sum_by L.fault_count parts.old) (sum_by L.fault_count parts.new) result }
@@ -49,13 +50,14 @@ pub(crate) fn empty_log<L: Lines>(
 // Clears the commit words that lie past the window of the tail.
 fn clear_words<L: Lines>(parts: &mut [L], bounds: &Bounds) -> Result<(), RegionFault>
     requires parts { HasParts version_1 bounds.now.page bounds.now.entries (map L.room parts.old) }
-    requires header { RowTells (map L.history parts.old) (λ parts. SaysBounds bounds.now (row_words parts)) }
+    requires header { RowTells (map L.history parts.old) (λ told. SaysBounds bounds.now (row_words told)) }
     requires quiet { RowTells (map L.history parts.old) AreQuiet }
     ensures moments { RowTells (map L.history parts.old) (λ was.
         ThroughoutRow (InEachRowImage (SayTheSame (row_words was))) (map L.history parts.old) (map L.history parts.new)) }
     ensures cleared { OnOk result (RowTells (map L.history parts.new) (λ now. HasNoneAbove (row_words now))) }
     ensures quiet { OnOk result (RowTells (map L.history parts.new) AreQuiet) }
     ensures parts { OnOk result (HasParts version_1 bounds.now.page bounds.now.entries (map L.room parts.new)) }
+    ensures further { drop (1 + bounds.now.entries) (map L.history parts.new) ≡ drop (1 + bounds.now.entries) (map L.history parts.old) }
     ensures lines { map (λ part. (L.room part).lines) parts.new ≡ map (λ part. (L.room part).lines) parts.old }
     ensures tells { AllTell (map L.history parts.old) ↔ AllTell (map L.history parts.new) }
     ensures cause { HasCause (sum_by L.fault_count parts.old) (sum_by L.fault_count parts.new) result }

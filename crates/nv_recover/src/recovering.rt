@@ -1,4 +1,4 @@
-ghost use Rattle.std.specs.Prelude.{◌≡◌, ℕ, ◌+◌, ◌^◌, ◌≤◌, length, map, take, drop, sum_by, All, Err, IfOk, IfErr, MatchResult, OnOk};
+ghost use Rattle.std.specs.Prelude.{◌≡◌, ◌≢◌, ℕ, ◌+◌, ◌^◌, ◌≤◌, length, map, take, drop, sum_by, All, Err, IfOk, IfErr, OnOk};
 ghost use Rattle.nv_plain.specs.Layouts.{version_1};
 ghost use Rattle.nv_pmem.specs.Limits.{entry_lines};
 ghost use Rattle.nv_pmem.specs.Moments.{Tells};
@@ -7,12 +7,13 @@ ghost use Rattle.nv_entry.specs.Checks.{SaysBounds};
 ghost use Rattle.nv_header.specs.Heads.{IsHeadOf, IsWithinLimits, header_image};
 ghost use Rattle.nv_header.specs.Needs.{header_history};
 ghost use Rattle.nv_header.specs.Regions.{HasParts, IsAtRest};
+ghost use Rattle.nv_recover.specs.Answers.{answer_of, parts_after};
 ghost use Rattle.nv_recover.specs.Applying.{AcrossTells, AcrossThroughout};
-ghost use Rattle.nv_recover.specs.Changes.{devices_of};
-ghost use Rattle.nv_recover.specs.Causes.{RegionFailed, StoresFailed, HasRegionCause, HasStoreCause};
 ghost use Rattle.nv_recover.specs.Bounding.{HasBounds};
+ghost use Rattle.nv_recover.specs.Causes.{HasRegionCause, HasStoreCause};
+ghost use Rattle.nv_recover.specs.Emptying.{CommitsNoneFrom, SaysBoundsAndNames};
 ghost use Rattle.nv_recover.specs.Groups.{AreGroups, IsLeastBad, leaders_of};
-ghost use Rattle.nv_recover.specs.Recovering.{AreUntouched, HasFoundAll, HoldRecovered, StandThroughout, UnfitIsUnwritten, end_of};
+ghost use Rattle.nv_recover.specs.Recovering.{AreKept, HasFoundAll, HoldRecovered, end_of};
 ghost use Rattle.nv_recover.specs.Standing.{AreQuietStores, RecoverAlike};
 ghost use Rattle.nv_recover.specs.Telling.{AllTell};
 ghost use Rattle.nv_recover.specs.declared.error.RecoverError.TheVariants as error;
@@ -23,7 +24,7 @@ use crate::empty::empty_log;
 use crate::group::Group;
 use crate::groups::find_groups;
 use nv_entry::Bounds;
-use nv_header::{Head, Region};
+use nv_header::{Head, Names, Region};
 use nv_pmem::Lines;
 use nv_store::Backing;
 use std::alloc::Global;
@@ -47,8 +48,9 @@ pub struct Recovered {
 /// synced; then the log is emptied, and goes on with `next`.
 ///
 /// At each moment, whatever a power failure leaves of the parts and the stores has a header that reads as before, but for
-/// the tail, and stands for the same files: recovery may be run again on it, however often it is stopped. Of an image
-/// that doesn't fit nothing is written. The parts come back, in their order.
+/// the tail, has the log as it was or an empty one that goes on with `next`, and stands for the same files: recovery may be
+/// run again on it, however often it is stopped. Of an image that doesn't fit nothing is written, and after any error but
+/// a fault of the region the parts were only read. The parts come back, in their order.
 pub fn recover<L: Lines + Drop, B: Backing>(
     alloc: Global,
     head: Head,
@@ -57,58 +59,38 @@ pub fn recover<L: Lines + Drop, B: Backing>(
 ) -> Result<(Region<L>, Recovered), (Vec<L>, RecoverError)>
     requires limits { IsWithinLimits version_1 head }
     requires head { Tells (header_history (map L.history parts.items)) (λ now.
-        IsHeadOf 1 version_1 version_1.header_lines (header_image now) head) }
+        IsHeadOf version_1 version_1.header_lines (header_image now) head) }
     requires parts { HasParts version_1 head.geometry.page head.geometry.entries (map L.room parts.items) }
     requires quiet { RowTells (map L.history parts.items) AreQuiet }
     requires stores { length stores.old.items ≡ length head.names }
     requires synced { RowTells (map B.history stores.old.items) AreQuietStores }
 
-    ensures found { IfOk result (λ done. RowTells (map L.history parts.items) (λ parts. HasFoundAll (row_words parts) done.1)) }
+    // At `Ok`.
+    ensures found { IfOk result (λ done. RowTells (map L.history parts.items) (λ told. HasFoundAll (row_words told) done.1)) }
     ensures files { IfOk result (λ done. AcrossTells (map L.history parts.items) (map B.history stores.old.items)
         (map B.history stores.new.items) HoldRecovered) }
     ensures geometry { IfOk result (λ done. done.0.geometry ≡ head.geometry) }
     ensures names { IfOk result (λ done. done.0.names ≡ head.names) }
     ensures next { IfOk result (λ done. done.0.next ≡ done.1.next) }
 
-    ensures bad { IfErr result (λ failed. (number : ℕ) → failed.1 ≡ error.BadEntry number
-        → RowTells (map L.history parts.items) (λ parts. IsLeastBad version_1 (row_words parts) number)) }
-    ensures unwritten { IfErr result (λ failed. (number : ℕ) → failed.1 ≡ error.BadEntry number
+    // At an error.
+    ensures bad { (number : ℕ) → answer_of result ≡ Err (error.BadEntry number)
+        → RowTells (map L.history parts.items) (λ told. IsLeastBad version_1 (row_words told) number) }
+    ensures only_read { IfErr result (λ failed. failed.1 ≢ error.RegionFault
         → AreOnlyRead L.history L.room L.device parts.items failed.0.items) }
-    ensures untouched { IfErr result (λ failed. (number : ℕ) → failed.1 ≡ error.BadEntry number
-        → AreUntouched (map L.history parts.items) (map B.history stores.old.items) (map B.history stores.new.items)) }
 
-    ensures unfit { MatchResult result
-        (λ done. UnfitIsUnwritten (devices_of L.history B.history parts.items stores.old.items)
-        (devices_of L.history B.history done.0.parts.items stores.new.items))
-        (λ failed. UnfitIsUnwritten (devices_of L.history B.history parts.items stores.old.items)
-        (devices_of L.history B.history failed.0.items stores.new.items)) }
-
-    ensures moments { MatchResult result
-        (λ done. StandThroughout (devices_of L.history B.history parts.items stores.old.items)
-        (devices_of L.history B.history done.0.parts.items stores.new.items))
-        (λ failed. StandThroughout (devices_of L.history B.history parts.items stores.old.items)
-        (devices_of L.history B.history failed.0.items stores.new.items)) }
-
-    ensures lines { MatchResult result
-        (λ done. map (λ part. (L.room part).lines) done.0.parts.items ≡ map (λ part. (L.room part).lines) parts.items)
-        (λ failed. map (λ part. (L.room part).lines) failed.0.items ≡ map (λ part. (L.room part).lines) parts.items) }
-    ensures region_cause { MatchResult result
-        (λ done. sum_by L.fault_count done.0.parts.items ≡ sum_by L.fault_count parts.items)
-        (λ failed. RegionFailed (sum_by L.fault_count parts.items) (sum_by L.fault_count failed.0.items) failed.1) }
-    ensures store_cause { MatchResult result
-        (λ done. sum_by B.fault_count stores.new.items ≡ sum_by B.fault_count stores.old.items)
-        (λ failed. StoresFailed (sum_by B.fault_count stores.old.items) (sum_by B.fault_count stores.new.items) failed.1) }
-    ensures devices { MatchResult result
-        (λ done. map L.device done.0.parts.items ≡ map L.device parts.items)
-        (λ failed. map L.device failed.0.items ≡ map L.device parts.items) }
-    ensures stores { map B.device stores.new.items ≡ map B.device stores.old.items }
+    // Whichever answer came.
+    ensures kept { AreKept L.history L.room L.device B.history B.device (1 + head.geometry.entries)
+        parts.items stores.old.items (parts_after result) stores.new.items }
+    ensures region_cause { HasRegionCause (sum_by L.fault_count parts.items) (sum_by L.fault_count (parts_after result)) (answer_of result) }
+    ensures store_cause { HasStoreCause (sum_by B.fault_count stores.old.items) (sum_by B.fault_count stores.new.items) (answer_of result) }
 {
     let mut parts = parts;
     let bounds = bounds_of(&head);
-    match recover_parts(alloc, &head, &bounds, &mut parts, stores) {
-        Ok(recovered) => {
-            let region = Region::from_parts(parts, head.geometry, head.names, recovered.next);
-            Ok((region, recovered))
+    match recover_parts(alloc, &head.names, &bounds, &mut parts, stores) {
+        Ok(found) => {
+            let region = Region::from_parts(parts, head.geometry, head.names, found.next);
+            Ok((region, found))
         }
         Err(error) => Err((parts, error)),
     }
@@ -127,45 +109,62 @@ fn bounds_of(head: &Head) -> Bounds
     }
 }
 
-// Recovers the parts and stores of a head.
+// Recovers parts and stores, whose header says these names and bounds.
 fn recover_parts<L: Lines, B: Backing>(
     alloc: Global,
-    head: &Head,
+    names: &Names,
     bounds: &Bounds,
     parts: &mut [L],
     stores: &mut [B],
 ) -> Result<Recovered, RecoverError>
-    requires bounds { HasBounds head.now bounds.now }
-    requires head { Tells (header_history (map L.history parts.old)) (λ now.
-        IsHeadOf 1 version_1 version_1.header_lines (header_image now) head.now) }
+    requires header { RowTells (map L.history parts.old) (λ told. SaysBounds bounds.now (row_words told)) }
+    requires names { RowTells (map L.history parts.old) (λ told. SaysBoundsAndNames bounds.now names.now (row_words told)) }
     requires parts { HasParts version_1 bounds.now.page bounds.now.entries (map L.room parts.old) }
     requires quiet { RowTells (map L.history parts.old) AreQuiet }
     requires stores { length stores.old ≡ bounds.now.files }
     requires synced { RowTells (map B.history stores.old) AreQuietStores }
-    ensures found { IfOk result (λ found. RowTells (map L.history parts.old) (λ parts. HasFoundAll (row_words parts) found)) }
+    ensures found { IfOk result (λ found. RowTells (map L.history parts.old) (λ told. HasFoundAll (row_words told) found)) }
     ensures files { OnOk result (AcrossTells (map L.history parts.old) (map B.history stores.old) (map B.history stores.new) HoldRecovered) }
     ensures rest { IfOk result (λ found. RowTells (map L.history parts.new)
-        (IsAtRest version_1 bounds.now.page bounds.now.entries head.now.names found.next)) }
+        (IsAtRest version_1 bounds.now.page bounds.now.entries names.now found.next)) }
     ensures parts { OnOk result (HasParts version_1 bounds.now.page bounds.now.entries (map L.room parts.new)) }
     ensures limit { IfOk result (λ found. found.next ≤ 2 ^ 60) }
     ensures bad { (number : ℕ) → result ≡ Err (error.BadEntry number)
-        → RowTells (map L.history parts.old) (λ parts. IsLeastBad version_1 (row_words parts) number) }
-    ensures unwritten { (number : ℕ) → result ≡ Err (error.BadEntry number) → AreOnlyRead L.history L.room L.device parts.old parts.new }
-    ensures untouched { (number : ℕ) → result ≡ Err (error.BadEntry number)
-        → AreUntouched (map L.history parts.old) (map B.history stores.old) (map B.history stores.new) }
-    ensures unfit { UnfitIsUnwritten (devices_of L.history B.history parts.old stores.old) (devices_of L.history B.history parts.new stores.new) }
-    ensures moments { StandThroughout (devices_of L.history B.history parts.old stores.old) (devices_of L.history B.history parts.new stores.new) }
-    ensures lines { map (λ part. (L.room part).lines) parts.new ≡ map (λ part. (L.room part).lines) parts.old }
+        → RowTells (map L.history parts.old) (λ told. IsLeastBad version_1 (row_words told) number) }
+    ensures only_read { IfErr result (λ why. why ≢ error.RegionFault → AreOnlyRead L.history L.room L.device parts.old parts.new) }
+    ensures kept { AreKept L.history L.room L.device B.history B.device (1 + bounds.now.entries) parts.old stores.old parts.new stores.new }
     ensures region_cause { HasRegionCause (sum_by L.fault_count parts.old) (sum_by L.fault_count parts.new) result }
     ensures store_cause { HasStoreCause (sum_by B.fault_count stores.old) (sum_by B.fault_count stores.new) result }
-    ensures devices { map L.device parts.new ≡ map L.device parts.old }
-    ensures stores { map B.device stores.new ≡ map B.device stores.old }
+{
+    let (groups, found) = read_log(alloc, parts, bounds)?;
+    replay(alloc, parts, stores, bounds, &groups)?;
+    empty_log(parts, bounds, found.next)?;
+    Ok(found)
+}
+
+// The committed groups of the log, and what they say that recovery found.
+fn read_log<L: Lines>(
+    alloc: Global,
+    parts: &mut [L],
+    bounds: &Bounds,
+) -> Result<(Vec<Group>, Recovered), RecoverError>
+    requires parts { 1 + bounds.now.entries ≤ length parts.old }
+    requires lines { All (λ part. 1 ≤ (L.room part).lines) (take bounds.now.entries (drop 1 parts.old)) }
+    requires header { RowTells (map L.history parts.old) (λ told. SaysBounds bounds.now (row_words told)) }
+    ensures groups { IfOk result (λ log. RowTells (map L.history parts.old) (λ told. AreGroups (row_words told) log.0.items)) }
+    ensures found { IfOk result (λ log. RowTells (map L.history parts.old) (λ told. HasFoundAll (row_words told) log.1)) }
+    ensures none { IfOk result (λ log. RowTells (map L.history parts.old) (λ told. CommitsNoneFrom log.1.next (row_words told))) }
+    ensures from_tail { IfOk result (λ log. bounds.now.tail ≤ log.1.next) }
+    ensures limit { IfOk result (λ log. log.1.next ≤ 2 ^ 60) }
+    ensures bad { (number : ℕ) → result ≡ Err (error.BadEntry number)
+        → RowTells (map L.history parts.old) (λ told. IsLeastBad version_1 (row_words told) number) }
+    ensures read { AreOnlyRead L.history L.room L.device parts.old parts.new }
+    ensures cause { HasRegionCause (sum_by L.fault_count parts.old) (sum_by L.fault_count parts.new) result }
+    ensures no_store { result ≢ Err error.StoreFault }
 {
     let groups = find_groups(alloc, parts, bounds)?;
-    let recovered = recovered_from(alloc, bounds.tail, &groups)?;
-    replay(alloc, parts, stores, bounds, &groups)?;
-    empty_log(parts, bounds, recovered.next)?;
-    Ok(recovered)
+    let found = recovered_from(alloc, bounds.tail, &groups)?;
+    Ok((groups, found))
 }
 
 // What the groups of a log say that recovery found.
@@ -203,14 +202,14 @@ fn replay<L: Lines, B: Backing>(
 ) -> Result<(), RecoverError>
     requires parts { 1 + bounds.now.entries ≤ length parts.old }
     requires lines { All (λ part. entry_lines bounds.now.page ≤ (L.room part).lines) (take bounds.now.entries (drop 1 parts.old)) }
-    requires header { RowTells (map L.history parts.old) (λ parts. SaysBounds bounds.now (row_words parts)) }
-    requires groups { RowTells (map L.history parts.old) (λ parts. AreGroups (row_words parts) groups.now) }
+    requires header { RowTells (map L.history parts.old) (λ told. SaysBounds bounds.now (row_words told)) }
+    requires groups { RowTells (map L.history parts.old) (λ told. AreGroups (row_words told) groups.now) }
     requires stores { length stores.old ≡ bounds.now.files }
     requires quiet { RowTells (map B.history stores.old) AreQuietStores }
     ensures read { AreOnlyRead L.history L.room L.device parts.old parts.new }
     ensures moments { AcrossThroughout (map L.history parts.old) (map B.history stores.old) (map B.history stores.new) RecoverAlike }
     ensures done { OnOk result (AcrossTells (map L.history parts.old) (map B.history stores.old) (map B.history stores.new) HoldRecovered) }
-    ensures bad { (number : ℕ) → result ≡ Err (error.BadEntry number) → RowTells (map L.history parts.old) (λ parts. ⊥) }
+    ensures bad { (number : ℕ) → result ≡ Err (error.BadEntry number) → RowTells (map L.history parts.old) (λ told. ⊥) }
     ensures tells { AllTell (map B.history stores.old) → AllTell (map B.history stores.new) }
     ensures region_cause { HasRegionCause (sum_by L.fault_count parts.old) (sum_by L.fault_count parts.new) result }
     ensures store_cause { HasStoreCause (sum_by B.fault_count stores.old) (sum_by B.fault_count stores.new) result }

@@ -65,7 +65,7 @@ fn header(
     let blank = blank_parts(alloc, fuse, geometry)?;
     let mut region = format(blank, geometry).map_err(|failed| failed.1)?;
     for name in names {
-        region = add_file(region, alloc, name).map_err(|failed| failed.1)?.0;
+        region = add_file(alloc, region, name).map_err(|failed| failed.1)?.0;
     }
     let mut parts = region.into_parts();
     parts.truncate(1);

@@ -6,7 +6,7 @@ use Rattle.nv_pmem.specs.Steps.{History}
 use Rattle.nv_header.proofs.InRow.{same_in_row, same_sum_in_row, roomy_part, has_parts_set, roomy_line_0}
 use Rattle.nv_recover.specs.Alike.{SayTheSame}
 use Rattle.nv_recover.specs.Emptying.{MayBeTrimmed}
-use Rattle.nv_recover.proofs.EmptyRows.{AreClearedTo, cleared_none, clearing_throughout, devices_tell, devices_more, itself_at, cleared_rows, small_rows, rows_same, rows_quiet, rows_none_above}
+use Rattle.nv_recover.proofs.EmptyRows.{AreClearedTo, cleared_none, clearing_throughout, devices_tell, devices_more, itself_at, cleared_rows, further_same, small_rows, rows_same, rows_quiet, rows_none_above}
 use Rattle.nv_recover.proofs.RowMoments.{rows_still}
 use Rattle.nv_recover.proofs.TellLaws.{both_moments}
 use Rattle.nv_recover.proofs.empty.clear_words.Goals as goal
@@ -20,6 +20,7 @@ loop-entry-init g c = record {
       rows_still row (λ was. InEachRowImage (SayTheSame (row_words was)))
       (rows_same c.args.bounds.now (length row) row row c.requires.quiet c.requires.header (cleared_rows most 0 (length row) row row (cleared_none most row) refl));
   parts = c.requires.parts;
+  further = refl;
   lines = refl;
   cause = refl;
   devices = refl;
@@ -49,6 +50,11 @@ returns-in_err-clear_word-clause-moments g c =
     clearing_throughout g.L.Lines.history c.args.bounds.now c.loop-entry.entry (map g.L.Lines.history c.args.parts.now) c.loop-entry.parts was c.clear_word.new.part
     c.requires.quiet c.requires.header c.loop-entry.invariant.done inside (itself_at c.loop-entry.parts i c.index-parts-entry.result inside)
     c.clear_word.ensures.moments c.loop-entry.invariant.moments
+
+pub returns-in_err-clear_word-clause-further : goal.returns-in_err-clear_word-clause-further
+returns-in_err-clear_word-clause-further g c =
+    further_same g.L.Lines.history c.loop-entry.parts (1 + c.loop-entry.entry) (1 + c.args.bounds.now.entries) c.clear_word.new.part (omega arith)
+    ∙ c.loop-entry.invariant.further
 
 pub returns-in_err-clear_word-clause-lines : goal.returns-in_err-clear_word-clause-lines
 returns-in_err-clear_word-clause-lines g c =
@@ -95,6 +101,7 @@ loop-entry-preserved g c =
       parts =
           has_parts_set g.L.Lines.room version_1 c.args.bounds.now.page c.args.bounds.now.entries parts i was new inside is
           c.in_ok-clear_word.ensures.room c.loop-entry.invariant.parts;
+      further = further_same g.L.Lines.history parts i (1 + c.args.bounds.now.entries) new (omega arith) ∙ c.loop-entry.invariant.further;
       lines = same_in_row (λ part. (g.L.Lines.room part).lines) parts i was new is c.clear_word.ensures.lines ∙ c.loop-entry.invariant.lines;
       cause = same_sum_in_row g.L.Lines.fault_count parts i was new inside is c.in_ok-clear_word.ensures.cause ∙ c.loop-entry.invariant.cause;
       devices = same_in_row g.L.Lines.device parts i was new is c.clear_word.ensures.device ∙ c.loop-entry.invariant.devices;

@@ -1,4 +1,4 @@
-use Rattle.std.proofs.Common.{◌≡◌, ◌+◌, map, sum_by}
+use Rattle.std.proofs.Common.{◌≡◌, ◌+◌, map, drop, sum_by}
 use Rattle.nv_plain.specs.Layouts.{version_1}
 use Rattle.nv_pmem.specs.Rows.{RowTells, InEachRowImage, row_words}
 use Rattle.nv_header.specs.Regions.{HasParts}
@@ -14,6 +14,7 @@ invariant-loop-entry g l = record {
   moments : RowTells (map g.L.Lines.history l.fn.parts) (λ was.
       ThroughoutRow (InEachRowImage (SayTheSame (row_words was))) (map g.L.Lines.history l.fn.parts) (map g.L.Lines.history l.parts));
   parts : HasParts version_1 l.bounds.page l.bounds.entries (map g.L.Lines.room l.parts);
+  further : drop (1 + l.bounds.entries) (map g.L.Lines.history l.parts) ≡ drop (1 + l.bounds.entries) (map g.L.Lines.history l.fn.parts);
   lines : map (λ part. (g.L.Lines.room part).lines) l.parts ≡ map (λ part. (g.L.Lines.room part).lines) l.fn.parts;
   cause : sum_by g.L.Lines.fault_count l.parts ≡ sum_by g.L.Lines.fault_count l.fn.parts;
   devices : map g.L.Lines.device l.parts ≡ map g.L.Lines.device l.fn.parts;
