@@ -277,7 +277,7 @@ module _ (row : List lines.History) (bounds : Bounds) (groups : List Group) (say
       both
 
   -- the numbers are those that the image recovers with
-  pub found_tells : (found : Recovered) → found.first ≡ bounds.tail → found.groups.items ≡ leaders_of groups
+  pub found_tells : (found : Recovered) → found.first ≡ bounds.tail → found.groups ≡ leaders_of groups
       → (bounds.tail ≤ end_of bounds.tail groups → end_of bounds.tail groups ≤ 2 ^ 60 → found.next ≡ end_of bounds.tail groups)
       → RowTells row (λ parts. HasFoundAll (row_words parts) found)
   found_tells found first leaders next =

@@ -23,7 +23,7 @@ pub record HasFoundAll (image : Image) (found : Recovered) : Type 0 where
   pub fits : Fits version_1 image
   pub first : (stores : Files) → found.first ≡ (recovered image stores).first
   pub next : (stores : Files) → found.next ≡ (recovered image stores).next
-  pub groups : (stores : Files) → found.groups.items ≡ (recovered image stores).groups
+  pub groups : (stores : Files) → found.groups ≡ (recovered image stores).groups
 
 -- The stores hold the files that the image stood for, and they are durable.
 pub record HoldRecovered (image : Image) (was now : List Store) : Type 0 where

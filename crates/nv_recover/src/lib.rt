@@ -8,10 +8,12 @@ mod error;
 mod group;
 mod groups;
 mod laws;
+mod leaders;
 mod recovering;
 
 pub use error::RecoverError;
 pub use laws::recoveries_give_the_same_files;
+pub use leaders::Leaders;
 pub use recovering::{Recovered, recover};
 
 #[cfg(test)]

@@ -18,11 +18,11 @@ ghost use Rattle.nv_recover.specs.Standing.{AreQuietStores, RecoverAlike};
 ghost use Rattle.nv_recover.specs.Telling.{AllTell};
 ghost use Rattle.nv_recover.specs.declared.error.RecoverError.TheVariants as error;
 
-use crate::RecoverError;
 use crate::apply::{sync_all, write_groups};
 use crate::empty::empty_log;
 use crate::group::Group;
 use crate::groups::find_groups;
+use crate::{Leaders, RecoverError};
 use nv_entry::Bounds;
 use nv_header::{Head, Names, Region};
 use nv_pmem::Lines;
@@ -40,7 +40,7 @@ pub struct Recovered {
     /// The number behind the last committed group; the tail found, where there was none.
     pub next: u64,
     /// The numbers of the leaders of the committed groups, rising.
-    pub groups: Vec<u64>,
+    pub groups: Leaders,
 }
 
 /// Recovers a region and its stores. `head` is what `read_head` gave of the parts, which have the lines that it needs, and
@@ -171,7 +171,7 @@ fn read_log<L: Lines>(
 fn recovered_from(alloc: Global, tail: u64, groups: &[Group]) -> Result<Recovered, RecoverError>
     requires { tail ≤ 2 ^ 60 }
     ensures first { IfOk result (λ found. found.first ≡ tail) }
-    ensures groups { IfOk result (λ found. found.groups.items ≡ leaders_of groups.now) }
+    ensures groups { IfOk result (λ found. found.groups ≡ leaders_of groups.now) }
     ensures next { IfOk result (λ found. tail ≤ end_of tail groups.now → end_of tail groups.now ≤ 2 ^ 60
         → found.next ≡ end_of tail groups.now) }
     ensures from_tail { IfOk result (λ found. tail ≤ found.next) }
@@ -188,7 +188,7 @@ fn recovered_from(alloc: Global, tail: u64, groups: &[Group]) -> Result<Recovere
         first: tail,
         // The groups that parts tell of end within the limits of the tail.
         next: end.clamp(tail, TAIL_LIMIT),
-        groups: leaders,
+        groups: Leaders::from_vec(leaders),
     })
 }
 
