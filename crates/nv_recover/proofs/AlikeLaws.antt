@@ -184,7 +184,8 @@ module _ (image other : Image) (same : SayTheSame image other) where
 
 -- ---- an empty log
 
-no_commit : (image : Image) → ((number : ℕ) → ¬ IsCommitted image number) → committed image ≡ []
+-- where no number is committed there is no group
+pub no_commit : (image : Image) → ((number : ℕ) → ¬ IsCommitted image number) → committed image ≡ []
 no_commit image none =
     filter_none (λ number. (entry_at image number).commit == number + 1) (header_of image).tail (header_of image).entries
     (λ number low high.

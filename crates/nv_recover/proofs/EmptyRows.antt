@@ -15,10 +15,10 @@ use Rattle.nv_entry.specs.Checks.{SaysBounds}
 use Rattle.nv_recover.specs.Alike.{SayTheSame}
 use Rattle.nv_recover.specs.Changes.{ThroughoutRow}
 use Rattle.nv_recover.specs.Emptying.{BothTell, MayBeTrimmed, HasSmallWord, HasNoneAbove}
-use Rattle.nv_recover.specs.Telling.{AllTell}
+use Rattle.nv_recover.specs.Telling.{AllTell, row_tells_from, row_tells_at}
 use Rattle.nv_recover.proofs.EmptyLaws.{same_trimmed}
 use Rattle.nv_recover.proofs.EmptyParts.{same_untrimmed, untrimmed}
-use Rattle.nv_recover.proofs.Present.{presents_tell, row_tells_from, row_tells_at}
+use Rattle.nv_recover.proofs.Present.{presents_tell}
 use Rattle.nv_recover.proofs.RowMoments.{device_throughout}
 use Rattle.nv_recover.proofs.Throughout.{throughout_then}
 use Rattle.nv_recover.proofs.TellLaws.{RowsTell, both_itself, both_more, both_both, EachPair, rows_each, rows_more, rows_new, tells_set}

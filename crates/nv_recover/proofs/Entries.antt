@@ -17,11 +17,11 @@ use Rattle.nv_recover.specs.Applying.{AcrossTells, AcrossThroughout, ChangesAtMo
 use Rattle.nv_recover.specs.Changes.{ThroughoutRow}
 use Rattle.nv_recover.specs.Groups.{AreGroups, numbers_of}
 use Rattle.nv_recover.specs.Standing.{AreQuietStores, RecoverAlike, files_of}
-use Rattle.nv_recover.specs.Telling.{AllTell}
+use Rattle.nv_recover.specs.Telling.{AllTell, row_tells_from, row_tells_at}
 use Rattle.nv_recover.specs.declared.group.Group.{Group}
 use Rattle.nv_recover.proofs.ApplyLaws.{alike_none, alike_more, alike_left_or_torn, alike_from_quiet, written_files}
 use Rattle.nv_recover.proofs.GroupLaws.{number_of, group_of, all_files}
-use Rattle.nv_recover.proofs.Present.{row_tells_from, row_tells_at, presents_long, are_now_same}
+use Rattle.nv_recover.proofs.Present.{presents_long, are_now_same}
 use Rattle.nv_recover.proofs.RowMoments.{across_throughout, across_one}
 use Rattle.nv_recover.proofs.StoreRows.{row_whole}
 use Rattle.nv_recover.proofs.Throughout.{row_throughout_more}

@@ -1,15 +1,23 @@
 -- Recoveries that are stopped, one after another: by induction over the stops.
-use Rattle.std.proofs.Common.{List, [], ◌∷◌, take, refl, sym, ◌∙◌, subst}
+use Rattle.std.proofs.Common.{◌≡◌, ◌⊎◌, inl, inr, List, [], ◌∷◌, length, take, refl, sym, ap, ◌∙◌, subst, arith}
+use Rattle.std.proofs.lemmas.List.{take_all}
+use Rattle.nv_plain.specs.Files.{Files}
+use Rattle.nv_plain.specs.Images.{Image, header_of}
+use Rattle.nv_plain.specs.Layouts.{version_1}
+use Rattle.nv_plain.specs.Recovered.{next_after, recovered}
 use Rattle.nv_pmem.specs.Part.{Part}
-use Rattle.nv_pmem.specs.Rows.{RowTells}
+use Rattle.nv_pmem.specs.Rows.{IsRowImage, RowTells}
 use Rattle.nv_pmem.specs.Runs.{run}
 use Rattle.nv_store.specs.Store.{Store}
+use Rattle.nv_header.specs.Heads.{first_names}
 use Rattle.nv_recover.specs.Changes.{Devices, devices_after_change}
-use Rattle.nv_recover.specs.Interrupted.{Start, StartReads, StartFits, files_from, start_of, IsRun, IsStop, AreStops, last_of}
+use Rattle.nv_recover.specs.Interrupted.{HasDoneLog, Start, StartReads, StartFits, files_from, start_of, IsRun, IsStop, AreStops, last_of}
 use Rattle.nv_recover.specs.Recovering.{StandThroughout}
-use Rattle.nv_recover.specs.Standing.{StandsFor, StandsStill, ReadsAlike, TakesPlace}
-use Rattle.nv_recover.specs.Telling.{AllTell, AreNow}
-use Rattle.nv_recover.proofs.Present.{row_tells_at, presents}
+use Rattle.nv_recover.specs.Standing.{AreStoreImages, HasEmptiedLog, HasSameLog, StandsFor, StandsStill, ReadsAlike, TakesPlace}
+use Rattle.nv_recover.specs.Telling.{AllTell, AreNow, row_tells_at}
+use Rattle.nv_recover.proofs.AlikeLaws.{no_commit}
+use Rattle.nv_recover.proofs.EmptyLaws.{empty_none}
+use Rattle.nv_recover.proofs.Present.{presents}
 use Rattle.nv_recover.proofs.RowMoments.{still_tell}
 
 -- what one stop comes to takes the place of before
@@ -36,7 +44,72 @@ promise_keeps_telling old new parts_tell stores_tell promise =
     let Tell : Devices → Type 0 = λ devices. AllTell devices.parts × AllTell devices.stores in
     subst Tell (sym through.did.states) (still_tell through.steps old (parts_tell, stores_tell))
 
--- What any number of stops come to has a header that reads alike,
+-- after its last change there is one moment more
+pub end_is_stop : (before after : Start) (old new : Devices) (parts : List Part) (stores : List Store) → IsRun before old new → AreNow new.parts parts → AreNow new.stores stores
+    → IsRowImage parts after.image → AreStoreImages stores after.bytes → IsStop before after
+end_is_stop before after old new parts stores runs parts_are stores_are image bytes =
+    let all : run devices_after_change (take (length runs.steps) runs.steps) old ≡ new =
+    ap (λ steps. run devices_after_change steps old) (take_all (length runs.steps) runs.steps (omega arith)) ∙ sym runs.did.states in
+    let Parts : Devices → Type 0 = λ devices. AreNow devices.parts parts in
+    let Stores : Devices → Type 0 = λ devices. AreNow devices.stores stores in
+    record {
+      old = old;
+      new = new;
+      run_is = runs;
+      count = length runs.steps;
+      no_more = omega arith;
+      parts = parts;
+      stores = stores;
+      parts_are = subst Parts (sym all) parts_are;
+      stores_are = subst Stores (sym all) stores_are;
+      image = image;
+      bytes = bytes;
+    }
+
+-- a log that was emptied is done
+emptied_done : (image other : Image) → HasEmptiedLog image other → HasDoneLog image other
+emptied_done image other empty =
+    let none = λ (stores : Files). no_commit other (empty_none (header_of image).page (header_of image).entries (first_names version_1 image (header_of image).files) (recovered image stores).next other (empty stores)) in
+    record {
+      first = λ stores. (empty stores).header.tail_is;
+      groups = none;
+      next = λ stores. ap (next_after other) (none stores) ∙ (empty stores).header.tail_is;
+    }
+
+-- one log after another
+log_then : (first between last : Image) → HasSameLog first between ⊎ HasEmptiedLog first between → HasSameLog between last ⊎ HasDoneLog between last → HasSameLog first last ⊎ HasDoneLog first last
+log_then first between last (inl one) (inl two) = inl (record {
+  first = λ stores. two.first stores ∙ one.first stores;
+  groups = λ stores. two.groups stores ∙ one.groups stores;
+  next = λ stores. two.next stores ∙ one.next stores;
+})
+log_then first between last (inl one) (inr two) = inr (record {
+  first = λ stores. two.first stores ∙ one.next stores;
+  groups = two.groups;
+  next = λ stores. two.next stores ∙ one.next stores;
+})
+log_then first between last (inr empty) (inl two) =
+    let one = emptied_done first between empty in
+    inr (record {
+      first = λ stores. two.first stores ∙ one.first stores;
+      groups = λ stores. two.groups stores ∙ one.groups stores;
+      next = λ stores. two.next stores ∙ one.next stores;
+    })
+log_then first between last (inr empty) (inr two) =
+    let one = emptied_done first between empty in
+    inr (record {
+      first = λ stores. two.first stores ∙ one.next stores;
+      groups = two.groups;
+      next = λ stores. two.next stores ∙ one.next stores;
+    })
+
+-- What any number of stops come to has the first log, or one that is done;
+pub stops_log : (first : Start) (later : List Start) → AreStops first later → HasSameLog first.image (last_of first later).image ⊎ HasDoneLog first.image (last_of first later).image
+stops_log first [] stops = inl (record { first = λ stores. refl; groups = λ stores. refl; next = λ stores. refl })
+stops_log first (next ∷ later) stops =
+    log_then first.image next.image (last_of next later).image (stop_stands first next stops.0).log (stops_log next later stops.1)
+
+-- it has a header that reads alike,
 pub stops_read : (first : Start) (later : List Start) → AreStops first later → StartReads first → ReadsAlike first.image (last_of first later).image
 stops_read first [] stops reads = record { readable = reads; page = refl; entries = refl; names = refl }
 stops_read first (next ∷ later) stops reads =

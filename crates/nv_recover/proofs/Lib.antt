@@ -18,6 +18,7 @@ pub mod HeadRows
 pub mod Ends
 pub mod StandLaws
 pub mod RoomLaws
+pub mod FileLaws
 pub mod Interrupted
 pub mod LostPower
 pub mod TestRegions

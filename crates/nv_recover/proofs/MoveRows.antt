@@ -14,11 +14,11 @@ use Rattle.nv_header.specs.Regions.{ReadsAs, IsAtRest}
 use Rattle.nv_recover.specs.Alike.{SayTheSame}
 use Rattle.nv_recover.specs.Changes.{ThroughoutRow}
 use Rattle.nv_recover.specs.Emptying.{BothTell, HasNoneAbove, CommitsNoneFrom, SaysTheSameOrEmpty}
-use Rattle.nv_recover.specs.Telling.{AllTell}
+use Rattle.nv_recover.specs.Telling.{AllTell, row_tells_from, row_tells_at}
 use Rattle.nv_recover.proofs.EmptyLaws.{same_words, same_same, none_too, reads_too, moved_empty}
 use Rattle.nv_recover.proofs.EmptyParts.{IsMoved, MayBeMoved, HasTail}
 use Rattle.nv_recover.proofs.EmptyRows.{quiet_same, part_history}
-use Rattle.nv_recover.proofs.Present.{presents_tell, row_tells_from, row_tells_at}
+use Rattle.nv_recover.proofs.Present.{presents_tell}
 use Rattle.nv_recover.proofs.RowMoments.{device_throughout, rows_throughout}
 use Rattle.nv_recover.proofs.TellLaws.{RowsTell, both_itself, both_more, both_both, EachPair, rows_each, rows_more, rows_new}
 use Rattle.nv_recover.proofs.Throughout.{row_throughout_more}

@@ -1,8 +1,7 @@
 -- The present states of a row of devices that all tell.
-use Rattle.std.proofs.Common.{◌≡◌, ◌≢◌, ℕ, ◌<◌, List, [], ◌∷◌, length, get_or, set, zero, suc, refl, sym, ap, ◌∙◌, subst, arith}
+use Rattle.std.proofs.Common.{◌≡◌, ◌↔◌, ℕ, ◌<◌, List, [], ◌∷◌, length, get_or, set, zero, suc, refl, sym, ap, ◌∙◌, subst, arith}
 use Rattle.std.proofs.lemmas.List.Elements.{All-head, All-tail, All-nil, All-cons}
 use Rattle.nv_pmem.specs.Moments.{Tells}
-use Rattle.nv_pmem.specs.Rows.{RowTells}
 use Rattle.nv_recover.specs.Telling.{AllTell, IsNow, AreNow}
 
 -- a device that tells has one
@@ -13,9 +12,6 @@ pub record Present {S : Type 0} (history : List S) : Type 0 where
 pub present : {S : Type 0} (history : List S) → 0 < length history → Present history
 present [] some = absurd (omega arith)
 present (now ∷ past) some = record { state = now; is = record { past = past; is = refl } }
-
-nil_no_cons : {S : Type 0} (now : S) (past : List S) → [] ≢ now ∷ past
-nil_no_cons now past is = cc
 
 cons_same : {S : Type 0} (a b : S) (past other : List S) → a ∷ past ≡ b ∷ other → a ≡ b
 cons_same a b past other is = cc
@@ -43,24 +39,6 @@ tells_at {S} history P now one told =
     let At : List S → Type 0 = λ these. Tells these P in
     subst At one.is told
 
--- What the present states have, the row tells, and the other way round.
-pub row_tells_from : {S : Type 0} (row : List (List S)) (P : List S → Type 0) → ((states : List S) → AreNow row states → P states) → RowTells row P
-row_tells_from [] P each = each [] tt
-row_tells_from ([] ∷ row) P each = tt
-row_tells_from ((now ∷ past) ∷ row) P each =
-    row_tells_from row (λ others. P (now ∷ others)) (λ others are. each (now ∷ others) (record { past = past; is = refl }, are))
-
-pub row_tells_at : {S : Type 0} (row : List (List S)) (P : List S → Type 0) (states : List S) → AreNow row states → RowTells row P → P states
-row_tells_at [] P [] are told = told
-row_tells_at [] P (now ∷ states) are told = absurd are
-row_tells_at ([] ∷ row) P [] are told = absurd are
-row_tells_at ([] ∷ row) P (now ∷ states) are told = absurd (nil_no_cons now are.0.past are.0.is)
-row_tells_at ((n ∷ past) ∷ row) P [] are told = absurd are
-row_tells_at {S} ((n ∷ past) ∷ row) P (now ∷ states) are told =
-    let Told : S → Type 0 = λ s. RowTells row (λ others. P (s ∷ others)) in
-    row_tells_at row (λ others. P (now ∷ others)) states are.1
-    (subst Told (cons_same n now past are.0.past are.0.is) told)
-
 -- a row of which all tell has present states, and a row that has them tells
 pub record Presents {S : Type 0} (row : List (List S)) : Type 0 where
   pub states : List S
@@ -81,6 +59,9 @@ presents_tell {S} [] states are = All-nil (λ (history : List S). 0 < length his
 presents_tell (history ∷ row) [] are = absurd are
 presents_tell {S} (history ∷ row) (now ∷ states) are =
     All-cons (λ (history : List S). 0 < length history) history row (now_tells history now are.0) (presents_tell row states are.1)
+
+pub rows_have_states : {S : Type 0} (row : List (List S)) → AllTell row ↔ ((states : List S) × AreNow row states)
+rows_have_states row = (λ tell. let here = presents row tell in (here.states, here.are), λ here. presents_tell row here.0 here.1)
 
 pub presents_long : {S : Type 0} (row : List (List S)) (states : List S) → AreNow row states → length states ≡ length row
 presents_long [] [] are = refl

@@ -24,7 +24,7 @@ use Rattle.nv_recover.specs.Emptying.{CommitsNoneFrom, SaysTheSameOrEmpty}
 use Rattle.nv_recover.specs.Groups.{AreGroups, leaders_of}
 use Rattle.nv_recover.specs.Recovering.{HasFoundAll, HoldRecovered, StandThroughout, UnfitIsUnwritten, end_of}
 use Rattle.nv_recover.specs.Standing.{AreStoreImages, AreQuietStores, HasEmptiedLog, HasSameLog, LeaveNoMore, ReadsAlike, RecoverAlike, StandsStill, TakesPlace, files_of}
-use Rattle.nv_recover.specs.Telling.{AllTell, AreNow}
+use Rattle.nv_recover.specs.Telling.{AllTell, AreNow, row_tells_from, row_tells_at}
 use Rattle.nv_recover.specs.declared.group.Group.{Group}
 use Rattle.nv_recover.specs.declared.recovering.Recovered.{Recovered}
 use Rattle.nv_recover.proofs.AlikeLaws.{same_fits, same_recovered, empty_fits, empty_recovered}
@@ -32,7 +32,7 @@ use Rattle.nv_recover.proofs.ApplyLaws.{alike_none, quiet_image}
 use Rattle.nv_recover.proofs.EmptyLaws.{same_words, reads_too, empty_none}
 use Rattle.nv_recover.proofs.Ends.{ends}
 use Rattle.nv_recover.proofs.Entries.{unwritten, quiet_alike}
-use Rattle.nv_recover.proofs.Present.{row_tells_from, row_tells_at, are_now_same}
+use Rattle.nv_recover.proofs.Present.{are_now_same}
 use Rattle.nv_recover.proofs.RowMoments.{across_last, across_still, across_throughout}
 use Rattle.nv_recover.proofs.StoreRows.{across_tells}
 use Rattle.nv_recover.proofs.Throughout.{throughout_then, stores_throughout, parts_throughout}

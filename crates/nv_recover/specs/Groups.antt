@@ -27,3 +27,7 @@ pub record IsLeastBad (layout : Layout) (image : Image) (number : ℕ) : Type 0 
   pub commits : IsCommitted image leader
   pub breaks : IsFirstBad layout image leader number
   pub least : (other bad : ℕ) → IsCommitted image other → IsFirstBad layout image other bad → number ≤ bad
+
+-- An image that fits has no such number.
+abbrev pub FittingHasNoBad : Type 0
+FittingHasNoBad = (layout : Layout) (image : Image) (number : ℕ) → Fits layout image → ¬ IsLeastBad layout image number

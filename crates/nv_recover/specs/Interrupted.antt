@@ -1,5 +1,5 @@
 -- Interrupted: recoveries that power failures stop, one after another.
-use Rattle.std.specs.Prelude.{◌≡◌, ℕ, ◌≤◌, List, [], ◌∷◌, length, take}
+use Rattle.std.specs.Prelude.{◌≡◌, ◌⊎◌, ℕ, ◌≤◌, List, [], ◌∷◌, length, take}
 use Rattle.nv_plain.specs.Files.{Files}
 use Rattle.nv_plain.specs.Images.{Image}
 use Rattle.nv_plain.specs.Layouts.{version_1}
@@ -11,7 +11,7 @@ use Rattle.nv_store.specs.Store.{Store}
 use Rattle.nv_header.specs.Heads.{IsHead}
 use Rattle.nv_recover.specs.Changes.{Devices, devices_after_change, ThroughoutDevices}
 use Rattle.nv_recover.specs.Recovering.{StandThroughout}
-use Rattle.nv_recover.specs.Standing.{AreStoreImages, ReadsAlike, StandsStill, files_of}
+use Rattle.nv_recover.specs.Standing.{AreStoreImages, HasSameLog, ReadsAlike, StandsStill, files_of}
 use Rattle.nv_recover.specs.Telling.{AllTell, AreNow}
 
 -- What a recovery begins on: an image of a region, and the bytes of its stores.
@@ -55,6 +55,13 @@ pub record IsStop (before after : Start) : Type 0 where
   pub image : IsRowImage parts after.image
   pub bytes : AreStoreImages stores after.bytes
 
+-- Power may also fail after the last change of a recovery, whatever it answered.
+abbrev pub EndsAreStops : Type 0
+EndsAreStops =
+    (before after : Start) (old new : Devices) (parts : List Part) (stores : List Store)
+    → IsRun before old new → AreNow new.parts parts → AreNow new.stores stores
+    → IsRowImage parts after.image → AreStoreImages stores after.bytes → IsStop before after
+
 -- Any number of stops, each of a recovery that began on what the one before it came to.
 abbrev pub AreStops : Start → List Start → Type 0
 AreStops first [] = Unit {0}
@@ -83,6 +90,18 @@ abbrev pub StopsKeepHeader : Type 0
 StopsKeepHeader =
     (first : Start) (later : List Start)
     → AreStops first later → StartReads first → ReadsAlike first.image (last_of first later).image
+
+-- The log of the other image has no groups, and is where that of the image goes on.
+pub record HasDoneLog (image other : Image) : Type 0 where
+  pub first : (stores : Files) → (recovered other stores).first ≡ (recovered image stores).next
+  pub groups : (stores : Files) → (recovered other stores).groups ≡ []
+  pub next : (stores : Files) → (recovered other stores).next ≡ (recovered image stores).next
+
+-- The last log says what the first one does, or all of it is done.
+abbrev pub StopsKeepLog : Type 0
+StopsKeepLog =
+    (first : Start) (later : List Start)
+    → AreStops first later → HasSameLog first.image (last_of first later).image ⊎ HasDoneLog first.image (last_of first later).image
 
 -- Where the first image fits the last one does.
 abbrev pub StopsKeepFit : Type 0

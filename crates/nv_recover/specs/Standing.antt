@@ -2,8 +2,8 @@
 use Rattle.std.specs.Prelude.{◌≡◌, ◌⊎◌, ℕ, ◌<◌, List, length, map, slice_index_or, All}
 use Rattle.nv_plain.specs.Files.{Files, contents_of}
 use Rattle.nv_plain.specs.Images.{Image, header_of}
-use Rattle.nv_plain.specs.Layouts.{version_1}
-use Rattle.nv_plain.specs.Recovered.{Fits, recovered}
+use Rattle.nv_plain.specs.Layouts.{Layout, version_1}
+use Rattle.nv_plain.specs.Recovered.{Fits, recovered, region_files}
 use Rattle.nv_pmem.specs.Part.{Part}
 use Rattle.nv_pmem.specs.Rows.{IsRowImage}
 use Rattle.nv_header.specs.Heads.{IsHead, first_names}
@@ -28,6 +28,12 @@ LeaveNoMore was now = (bytes : Files) → AreStoreImages now bytes → AreStoreI
 abbrev pub AreQuietStores : List Store → Type 0
 AreQuietStores stores = All IsQuiet stores
 
+-- An image whose header can be read stands for the files that it recovers to.
+abbrev pub ReadableStandsForRecovered : Type 0
+ReadableStandsForRecovered =
+    (layout : Layout) (lines : ℕ) (image : Image) (bytes : Files)
+    → IsHead layout lines image → region_files image bytes ≡ (recovered image bytes).files
+
 -- A region's image and its stores' bytes stand for some files: the image fits, and recovers to them.
 pub record StandsFor (image : Image) (bytes files : Files) : Type 0 where
   pub fits : Fits version_1 image
@@ -47,7 +53,7 @@ pub record HasSameLog (image other : Image) : Type 0 where
   pub groups : (stores : Files) → (recovered other stores).groups ≡ (recovered image stores).groups
   pub next : (stores : Files) → (recovered other stores).next ≡ (recovered image stores).next
 
--- The log of the other image is empty, and goes on with the next number of the image.
+-- The log of the other image is empty, now and for each later tail, and goes on with the next number of the image.
 abbrev pub HasEmptiedLog : Image → Image → Type 0
 HasEmptiedLog image other =
     (stores : Files)
