@@ -49,8 +49,9 @@ pub struct Recovered {
 ///
 /// At each moment, whatever a power failure leaves of the parts and the stores has a header that reads as before, but for
 /// the tail, has the log as it was or an empty one that goes on with `next`, and stands for the same files: recovery may be
-/// run again on it, however often it is stopped. Of an image that doesn't fit nothing is written, and after any error but
-/// a fault of the region the parts were only read. The parts come back, in their order.
+/// run again on it, however often it is stopped. Of an image that doesn't fit, as after BadEntry, nothing is written, and
+/// after any error but a fault of the region the parts were only read. The parts come back, in their order, and those
+/// behind the entries' are left alone.
 pub fn recover<L: Lines + Drop, B: Backing>(
     alloc: Global,
     head: Head,
