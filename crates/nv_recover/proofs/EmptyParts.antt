@@ -9,7 +9,7 @@ use Rattle.nv_pmem.proofs.ImageLaws.{image_of_now, quiet_image}
 use Rattle.nv_pmem.proofs.StepLaws.{tells_more, tells_both, tells_told}
 use Rattle.nv_recover.specs.Emptying.{BothTell, IsTrimmed, MayBeTrimmed, HasSmallWord}
 use Rattle.nv_recover.proofs.RowMoments.{moment_now, moments_more}
-use Rattle.nv_recover.proofs.TellLaws.{both_itself, both_more, both_both, both_old, both_new, both_step}
+use Rattle.nv_recover.proofs.Present.{both_itself, both_more, both_both, both_old, both_new, both_step}
 
 -- ---- a part that isn't changed
 

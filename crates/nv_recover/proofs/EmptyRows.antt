@@ -1,7 +1,7 @@
 -- The parts of a region whose commit words are cleared, and whose tail moves then.
 use Rattle.std.proofs.Common.{◌≡◌, ◌⊎◌, ◌↔◌, inl, inr, ℕ, ◌+◌, ◌<◌, ◌≤◌, List, [], length, map, drop, get_or, slice_index_or, slice_set, refl, sym, ap, ◌∙◌, subst, arith}
 use Rattle.std.proofs.lemmas.Bool.{cases_eq, cases_lt}
-use Rattle.std.proofs.lemmas.List.{get_or_default, get_or-map, get_or_past, get_or-set_same, get_or-set_other, drop-set-lt, length-map, length-set, map-set}
+use Rattle.std.proofs.lemmas.List.{get_or-map, get_or_past, get_or-set_same, get_or-set_other, drop-set-lt, length-map, length-set, map-set}
 use Rattle.nv_plain.specs.Images.{Image}
 use Rattle.nv_pmem.specs.Images.{IsImage, IsQuiet}
 use Rattle.nv_pmem.specs.Part.{Part, word_of}
@@ -18,10 +18,9 @@ use Rattle.nv_recover.specs.Emptying.{BothTell, MayBeTrimmed, HasSmallWord, HasN
 use Rattle.nv_recover.specs.Telling.{AllTell, row_tells_from, row_tells_at}
 use Rattle.nv_recover.proofs.EmptyLaws.{same_trimmed}
 use Rattle.nv_recover.proofs.EmptyParts.{same_untrimmed, untrimmed}
-use Rattle.nv_recover.proofs.Present.{presents_tell}
+use Rattle.nv_recover.proofs.Present.{presents_tell, RowsTell, both_itself, both_more, both_both, EachPair, rows_each, rows_more, rows_new, tells_set}
 use Rattle.nv_recover.proofs.RowMoments.{device_throughout}
 use Rattle.nv_recover.proofs.Throughout.{throughout_then}
-use Rattle.nv_recover.proofs.TellLaws.{RowsTell, both_itself, both_more, both_both, EachPair, rows_each, rows_more, rows_new, tells_set}
 
 -- ---- a part in its row
 
@@ -243,24 +242,20 @@ rows_none_above bounds count old new some back quiet says rows =
 
 -- ---- devices, of which one is cleared
 
--- a device at its place
-pub itself_at : {X : Type 0} (parts : List X) (i : ℕ) (d : X) → i < length parts → get_or parts i d ≡ get_or parts i (get_or parts i d)
-itself_at parts i d inside = get_or_default parts i d (get_or parts i d) inside
-
-pub devices_tell : {X : Type 0} (history : X → History) (parts : List X) (i : ℕ) (was new : X) → i < length parts → was ≡ get_or parts i was → (0 < length (history was)) ↔ (0 < length (history new))
+pub devices_tell : {X : Type 0} (history : X → History) (parts : List X) (i : ℕ) (was new d : X) → i < length parts → was ≡ get_or parts i d → (0 < length (history was)) ↔ (0 < length (history new))
     → AllTell (map history parts) ↔ AllTell (map history (slice_set parts i new))
-devices_tell history parts i was new inside is tells =
+devices_tell history parts i was new d inside is tells =
     let From : History → Type 0 = λ these. (0 < length these) ↔ (0 < length (history new)) in
     let To : List History → Type 0 = λ row. AllTell (map history parts) ↔ AllTell row in
-    subst To (sym (map-set history parts i new)) (tells_set (map history parts) i (history new) (subst From (part_history history parts i was was inside is) tells))
+    subst To (sym (map-set history parts i new)) (tells_set (map history parts) i (history new) (subst From (part_history history parts i was d inside is) tells))
 
 -- While one is, each image says the same as before.
-pub clearing_throughout : {X : Type 0} (history : X → History) (bounds : Bounds) (done : ℕ) (old : List History) (parts : List X) (was new : X)
-    → RowTells old AreQuiet → RowTells old (λ these. SaysBounds bounds (row_words these)) → AreClearedTo (bounds.tail + bounds.entries) done old (map history parts) → 1 + done < length parts → was ≡ get_or parts (1 + done) was
+pub clearing_throughout : {X : Type 0} (history : X → History) (bounds : Bounds) (done : ℕ) (old : List History) (parts : List X) (was new d : X)
+    → RowTells old AreQuiet → RowTells old (λ these. SaysBounds bounds (row_words these)) → AreClearedTo (bounds.tail + bounds.entries) done old (map history parts) → 1 + done < length parts → was ≡ get_or parts (1 + done) d
     → Tells (history was) (λ before. EachMoment (MayBeTrimmed (bounds.tail + bounds.entries) before) (history was) (history new))
     → RowTells old (λ these. ThroughoutRow (InEachRowImage (SayTheSame (row_words these))) old (map history parts))
     → RowTells old (λ these. ThroughoutRow (InEachRowImage (SayTheSame (row_words these))) old (map history (slice_set parts (1 + done) new)))
-clearing_throughout history bounds done old parts was new quiet says before inside is moments through =
+clearing_throughout history bounds done old parts was new d quiet says before inside is moments through =
     let most = bounds.tail + bounds.entries in
     let Same : List Part → List Part → Type 0 = λ these. InEachRowImage (SayTheSame (row_words these)) in
     let between : List History = map history parts in
@@ -269,19 +264,19 @@ clearing_throughout history bounds done old parts was new quiet says before insi
     (λ these are.
     throughout_then (λ row. RowTells row (Same these))
     (row_tells_at old (λ these. ThroughoutRow (Same these) old between) these are through)
-    (device_throughout history parts (1 + done) was new (MayBeTrimmed most) (Same these) inside is (before.tells.0 (presents_tell old these are))
+    (device_throughout history parts (1 + done) was new d (MayBeTrimmed most) (Same these) inside is (before.tells.0 (presents_tell old these are))
     (λ states trimmed.
     row_tells_at old (λ these. RowTells (slice_set between (1 + done) states) (Same these)) these are
     (rows_same bounds (length old) old (slice_set between (1 + done) states) quiet says
     (stopped_rows most done (length old) old between states before refl trimmed)))
     moments))
 
-pub devices_more : {X : Type 0} (history : X → History) (most done : ℕ) (old : List History) (parts : List X) (was new : X) → AreClearedTo most done old (map history parts) → 1 + done < length parts
-    → was ≡ get_or parts (1 + done) was → BothTell (history was) (history new) (MayBeTrimmed most) → BothTell (history was) (history new) (HasSmallWord most) → (0 < length (history was)) ↔ (0 < length (history new))
+pub devices_more : {X : Type 0} (history : X → History) (most done : ℕ) (old : List History) (parts : List X) (was new d : X) → AreClearedTo most done old (map history parts) → 1 + done < length parts
+    → was ≡ get_or parts (1 + done) d → BothTell (history was) (history new) (MayBeTrimmed most) → BothTell (history was) (history new) (HasSmallWord most) → (0 < length (history was)) ↔ (0 < length (history new))
     → AreClearedTo most (done + 1) old (map history (slice_set parts (1 + done) new))
-devices_more history most done old parts was new before inside is trimmed small tells =
+devices_more history most done old parts was new d before inside is trimmed small tells =
     let i = 1 + done in
-    let old_is = part_history history parts i was was inside is in
+    let old_is = part_history history parts i was d inside is in
     let Trimmed : History → Type 0 = λ these. BothTell these (history new) (MayBeTrimmed most) in
     let Small : History → Type 0 = λ these. BothTell these (history new) (HasSmallWord most) in
     let Told : History → Type 0 = λ these. (0 < length these) ↔ (0 < length (history new)) in

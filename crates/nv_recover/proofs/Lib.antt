@@ -9,7 +9,6 @@ pub mod Pieces
 pub mod GroupLaws
 pub mod Entries
 pub mod ApplyLaws
-pub mod TellLaws
 pub mod EmptyLaws
 pub mod EmptyParts
 pub mod EmptyRows

@@ -18,9 +18,8 @@ use Rattle.nv_recover.specs.Telling.{AllTell, row_tells_from, row_tells_at}
 use Rattle.nv_recover.proofs.EmptyLaws.{same_words, same_same, none_too, reads_too, moved_empty}
 use Rattle.nv_recover.proofs.EmptyParts.{IsMoved, MayBeMoved, HasTail}
 use Rattle.nv_recover.proofs.EmptyRows.{quiet_same, part_history}
-use Rattle.nv_recover.proofs.Present.{presents_tell}
+use Rattle.nv_recover.proofs.Present.{presents_tell, RowsTell, both_itself, both_more, both_both, EachPair, rows_each, rows_more, rows_new}
 use Rattle.nv_recover.proofs.RowMoments.{device_throughout, rows_throughout}
-use Rattle.nv_recover.proofs.TellLaws.{RowsTell, both_itself, both_more, both_both, EachPair, rows_each, rows_more, rows_new}
 use Rattle.nv_recover.proofs.Throughout.{row_throughout_more}
 
 -- ---- the header changes, and no other part
@@ -134,16 +133,16 @@ moved_row page entries names tail next row header some low small can moved =
     can (first_rows (MayBeMoved next) count row header refl (omega arith) moved)
 
 -- While the tail moves, each image says the same as before, or has an empty log.
-pub moving_throughout : {X : Type 0} (history : X → History) (page entries : ℕ) (names : List (List ℕ)) (tail next : ℕ) (parts : List X) (was new : X) → 1 ≤ length parts → was ≡ get_or parts 0 was → tail ≤ next → next ≤ 2 ^ 60
+pub moving_throughout : {X : Type 0} (history : X → History) (page entries : ℕ) (names : List (List ℕ)) (tail next : ℕ) (parts : List X) (was new d : X) → 1 ≤ length parts → was ≡ get_or parts 0 d → tail ≤ next → next ≤ 2 ^ 60
     → RowTells (map history parts) (CanMove page entries names tail next) → Tells (history was) (λ before. EachMoment (MayBeMoved next before) (history was) (history new))
     → RowTells (map history parts) (λ these. ThroughoutRow (InEachRowImage (SaysTheSameOrEmpty page entries names next (row_words these))) (map history parts) (map history (slice_set parts 0 new)))
-moving_throughout history page entries names tail next parts was new some is low small can moments =
+moving_throughout history page entries names tail next parts was new d some is low small can moments =
     let row : List History = map history parts in
     let after : List History = map history (slice_set parts 0 new) in
     let Says : List Part → List Part → Type 0 = λ these. InEachRowImage (SaysTheSameOrEmpty page entries names next (row_words these)) in
     row_tells_from row (λ these. ThroughoutRow (Says these) row after)
     (λ these are.
-    device_throughout history parts 0 was new (MayBeMoved next) (Says these) (omega arith) is (presents_tell row these are)
+    device_throughout history parts 0 was new d (MayBeMoved next) (Says these) (omega arith) is (presents_tell row these are)
     (λ header moved.
     row_tells_at row (λ these. RowTells (slice_set row 0 header) (Says these)) these are
     (moved_row page entries names tail next row header (omega (arith, length-map parts history)) low small can moved))

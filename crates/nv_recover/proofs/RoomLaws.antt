@@ -7,8 +7,7 @@ use Rattle.nv_plain.specs.Layouts.{version_1}
 use Rattle.nv_pmem.specs.Limits.{entry_lines}
 use Rattle.nv_pmem.specs.Room.{Room, Keeps}
 use Rattle.nv_header.specs.Regions.{part_lines, IsRoomy, HasParts}
-use Rattle.nv_header.proofs.InRow.{roomy_part}
-use Rattle.nv_recover.proofs.EmptyRows.{itself_at}
+use Rattle.nv_header.proofs.InRow.{roomy_line_0, roomy_part}
 
 module _ {X : Type 0} (room : X → Room) (page entries : ℕ) where
   pub parts_count : (parts : List X) → HasParts version_1 page entries (map room parts) → 1 + entries ≤ length parts
@@ -16,7 +15,22 @@ module _ {X : Type 0} (room : X → Room) (page entries : ℕ) where
 
   roomy_at : (parts : List X) (i : ℕ) (d : X) → HasParts version_1 page entries (map room parts) → i ≤ entries → IsRoomy (part_lines version_1 page i) (room (get_or parts i d))
   roomy_at parts i d has within =
-      roomy_part room version_1 page entries parts i (get_or parts i d) has within (itself_at parts i d (omega (arith, parts_count parts has)))
+      roomy_part room version_1 page entries parts i (get_or parts i d) d has within refl
+
+  -- an entry has a part,
+  pub entry_inside : (parts : List X) (entry : ℕ) → HasParts version_1 page entries (map room parts) → entry < entries → 1 + entry < length parts
+  entry_inside parts entry has below = omega (arith, parts_count parts has)
+
+  -- whose first line can be stored to
+  pub entry_line : (parts : List X) (entry : ℕ) (d : X) → HasParts version_1 page entries (map room parts) → entry < entries
+      → (0 < (room (get_or parts (1 + entry) d)).lines) × (1 ≤ (room (get_or parts (1 + entry) d)).spare 0)
+  entry_line parts entry d has below = roomy_line_0 page (1 + entry) _ (roomy_at parts (1 + entry) d has (omega arith))
+
+  -- so can the line of the tail, in the header's part
+  pub tail_line : (parts : List X) (d : X) → HasParts version_1 page entries (map room parts) → (18 ≤ (room (get_or parts 0 d)).lines) × (1 ≤ (room (get_or parts 0 d)).spare 1)
+  tail_line parts d has =
+      let roomy = roomy_at parts 0 d has (omega arith) in
+      (roomy.there, omega (arith, roomy.spare 1 (omega arith)))
 
   -- each entry's part has those of an entry
   pub parts_slots : (parts : List X) → HasParts version_1 page entries (map room parts) → All (λ part. entry_lines page ≤ (room part).lines) (take entries (drop 1 parts))

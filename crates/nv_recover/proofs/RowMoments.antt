@@ -16,8 +16,7 @@ use Rattle.nv_recover.specs.Changes.{Change, row_after_change, ThroughoutRow, De
 use Rattle.nv_recover.specs.Changes.DeviceChange.{OfParts, OfStores}
 use Rattle.nv_recover.specs.Emptying.{BothTell}
 use Rattle.nv_recover.specs.Telling.{AllTell, row_tells_from, row_tells_at}
-use Rattle.nv_recover.proofs.Present.{present, tells_from, tells_at, presents, presents_tell, are_now_same}
-use Rattle.nv_recover.proofs.TellLaws.{RowsTell, tells_set}
+use Rattle.nv_recover.proofs.Present.{present, tells_from, tells_at, presents, presents_tell, are_now_same, RowsTell, tells_set}
 use Rattle.nv_recover.proofs.Throughout.{throughout_none, throughout_one, throughout_then, throughout_last, row_throughout_more}
 
 -- ---- one device
@@ -84,13 +83,13 @@ module _ {S : Type 0} (row : List (List S)) (i : ℕ) (P : List S → Type 0) (Q
       subst At (sym moments.states) (later moments.since moments.each moments.at_first)
 
 -- What each moment of a call on a device of a row makes of the row holds throughout the call.
-pub device_throughout : {X S : Type 0} (history : X → List S) (parts : List X) (i : ℕ) (was new : X) (R : S → S → Type 0) (P : List S → Type 0) → i < length parts → was ≡ slice_index_or parts i was → AllTell (map history parts)
+pub device_throughout : {X S : Type 0} (history : X → List S) (parts : List X) (i : ℕ) (was new d : X) (R : S → S → Type 0) (P : List S → Type 0) → i < length parts → was ≡ slice_index_or parts i d → AllTell (map history parts)
     → ((states : List S) → BothTell (slice_index_or (map history parts) i []) states R → RowTells (slice_set (map history parts) i states) P)
     → Tells (history was) (λ before. EachMoment (R before) (history was) (history new)) → ThroughoutRow P (map history parts) (map history (slice_set parts i new))
-device_throughout {S = S} history parts i was new R P inside at tell each moments =
+device_throughout {S = S} history parts i was new d R P inside at tell each moments =
     let row : List (List S) = map history parts in
     let within : i < length row = omega (arith, length-map parts history) in
-    let is : history was ≡ slice_index_or row i [] = ap history at ∙ sym (get_or-map history parts i was [] inside) in
+    let is : history was ≡ slice_index_or row i [] = ap history at ∙ sym (get_or-map history parts i d [] inside) in
     let here = present (slice_index_or row i []) (tell i [] within) in
     let At : List S → Type 0 = λ old. Tells old (λ before. EachMoment (R before) old (history new)) in
     let Through : List (List S) → Type 0 = λ after. ThroughoutRow P row after in

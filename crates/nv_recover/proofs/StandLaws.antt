@@ -1,7 +1,6 @@
 -- What the parts and stores stand for, at each moment of recovery.
 use Rattle.std.proofs.Common.{◌≡◌, inl, inr, ℕ, ◌<◌, ◌≤◌, ◌^◌, List, [], length, map, slice_index_or, sym, ap, ◌∙◌, subst, arith}
 use Rattle.std.proofs.lemmas.List.{length-map, get_or-map}
-use Rattle.std.specs.Prelude.{Result, Ok, Err, IfErr}
 use Rattle.nv_plain.specs.Files.{Files}
 use Rattle.nv_plain.specs.Images.{Image}
 use Rattle.nv_plain.specs.Layouts.{version_1}
@@ -237,11 +236,6 @@ stand_last page entries names tail first read then last old new found one two re
     stand_emptied page entries names tail first reads quiet old new (subst Alike one alike) found.next last
     (row_tells_more first (λ these. HasFoundAll (row_words these) found) (λ these. (stores : Files) → found.next ≡ (recovered (row_words these) stores).next) (λ these all. all.next) found_all)
     (subst Says (two ∙ one) (says names (subst Reads (sym (two ∙ one)) reads))) (subst Hold one hold)
-
--- what holds of any error holds at an error
-pub if_err_any : {T E : Type 0} {P : E → Type 0} (result : Result T E) → ((error : E) → P error) → IfErr result P
-if_err_any (Ok value) each = tt
-if_err_any (Err error) each = each error
 
 -- ---- an image that doesn't fit
 

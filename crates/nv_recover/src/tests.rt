@@ -5,7 +5,7 @@ ghost use Rattle.nv_store.specs.MemStore.{store_history};
 ghost use Rattle.nv_recover.specs.Standing.{AreQuietStores};
 
 use crate::{RecoverError, Recovered, recover};
-use nv_header::{Region, check_lines, read_head};
+use nv_header::{Region, check_lines, needed_lines_make_parts, read_head};
 use nv_pmem::{Fuse, Lines, MemPart, Pick, Picker};
 use nv_store::{Backing, MemStore, StoreFault};
 use std::alloc::Global;
@@ -151,6 +151,7 @@ fn recovery(
     lose_power(&mut parts, stores, pick);
     let head = read_head(alloc, &mut parts)?;
     check_lines(&parts, &head)?;
+    needed_lines_make_parts();
     if stores.len() != head.names.len() {
         return Err(RecoverError::RegionFault.into());
     }

@@ -1,7 +1,7 @@
 use Rattle.std.proofs.Common.{◌↔◌, ◌<◌, length, subst}
 use Rattle.nv_pmem.specs.Steps.{History}
 use Rattle.nv_recover.proofs.EmptyParts.{untrimmed_moments, trimmed_moments, stored_small, same_small}
-use Rattle.nv_recover.proofs.TellLaws.{some_tells}
+use Rattle.nv_recover.proofs.Present.{some_tells}
 use Rattle.nv_recover.proofs.empty.clear_word.Goals as goal
 
 pub returns-in_err-load-clause-moments : goal.returns-in_err-load-clause-moments

@@ -1,14 +1,17 @@
-use Rattle.std.proofs.Common.{◌≡◌, ◌+◌, ◌<◌, List, length, get_or, map, refl, ◌∙◌, subst, arith}
+use Rattle.std.proofs.Common.{◌≡◌, ◌+◌, List, length, get_or, map, refl, ◌∙◌, subst, arith}
+use Rattle.std.proofs.Math.Seq.{map-set_same}
 use Rattle.std.proofs.lemmas.List.{length-map}
 use Rattle.nv_plain.specs.Layouts.{version_1}
 use Rattle.nv_pmem.specs.Rows.{InEachRowImage, row_words}
 use Rattle.nv_pmem.specs.Steps.{History}
-use Rattle.nv_header.proofs.InRow.{same_in_row, same_sum_in_row, roomy_part, has_parts_set, roomy_line_0}
+use Rattle.nv_pmem.proofs.OneOfRow.{same_sum_in_row}
+use Rattle.nv_header.proofs.InRow.{has_parts_set}
 use Rattle.nv_recover.specs.Alike.{SayTheSame}
 use Rattle.nv_recover.specs.Emptying.{MayBeTrimmed}
-use Rattle.nv_recover.proofs.EmptyRows.{AreClearedTo, cleared_none, clearing_throughout, devices_tell, devices_more, itself_at, cleared_rows, further_same, small_rows, rows_same, rows_quiet, rows_none_above}
+use Rattle.nv_recover.proofs.EmptyRows.{AreClearedTo, cleared_none, clearing_throughout, devices_tell, devices_more, cleared_rows, further_same, small_rows, rows_same, rows_quiet, rows_none_above}
+use Rattle.nv_recover.proofs.RoomLaws.{entry_inside, entry_line}
 use Rattle.nv_recover.proofs.RowMoments.{rows_still}
-use Rattle.nv_recover.proofs.TellLaws.{both_moments}
+use Rattle.nv_recover.proofs.Present.{both_moments}
 use Rattle.nv_recover.proofs.empty.clear_words.Goals as goal
 
 pub loop-entry-init : goal.loop-entry-init
@@ -28,28 +31,20 @@ loop-entry-init g c = record {
 
 pub clear_word-requires-clause-line : goal.clear_word-requires-clause-line
 clear_word-requires-clause-line g c =
-    let i = 1 + c.loop-entry.entry in
-    let inside : i < length c.loop-entry.parts = omega (arith, c.loop-entry.invariant.parts.count, length-map c.loop-entry.parts g.L.Lines.room) in
-    (roomy_line_0 c.args.bounds.now.page i _
-    (roomy_part g.L.Lines.room version_1 c.args.bounds.now.page c.args.bounds.now.entries c.loop-entry.parts i (get_or c.loop-entry.parts i c.index-parts-entry.result)
-    c.loop-entry.invariant.parts (omega arith) (itself_at c.loop-entry.parts i c.index-parts-entry.result inside))).0
+    (entry_line g.L.Lines.room c.args.bounds.now.page c.args.bounds.now.entries c.loop-entry.parts c.loop-entry.entry c.index-parts-entry.result
+    c.loop-entry.invariant.parts (omega arith)).0
 
 pub clear_word-requires-clause-spare : goal.clear_word-requires-clause-spare
 clear_word-requires-clause-spare g c =
-    let i = 1 + c.loop-entry.entry in
-    let inside : i < length c.loop-entry.parts = omega (arith, c.loop-entry.invariant.parts.count, length-map c.loop-entry.parts g.L.Lines.room) in
-    (roomy_line_0 c.args.bounds.now.page i _
-    (roomy_part g.L.Lines.room version_1 c.args.bounds.now.page c.args.bounds.now.entries c.loop-entry.parts i (get_or c.loop-entry.parts i c.index-parts-entry.result)
-    c.loop-entry.invariant.parts (omega arith) (itself_at c.loop-entry.parts i c.index-parts-entry.result inside))).1
+    (entry_line g.L.Lines.room c.args.bounds.now.page c.args.bounds.now.entries c.loop-entry.parts c.loop-entry.entry c.index-parts-entry.result
+    c.loop-entry.invariant.parts (omega arith)).1
 
 pub returns-in_err-clear_word-clause-moments : goal.returns-in_err-clear_word-clause-moments
 returns-in_err-clear_word-clause-moments g c =
-    let i = 1 + c.loop-entry.entry in
-    let was = get_or c.loop-entry.parts i c.index-parts-entry.result in
-    let inside : i < length c.loop-entry.parts = omega (arith, c.loop-entry.invariant.parts.count, length-map c.loop-entry.parts g.L.Lines.room) in
-    clearing_throughout g.L.Lines.history c.args.bounds.now c.loop-entry.entry (map g.L.Lines.history c.args.parts.now) c.loop-entry.parts was c.clear_word.new.part
-    c.requires.quiet c.requires.header c.loop-entry.invariant.done inside (itself_at c.loop-entry.parts i c.index-parts-entry.result inside)
-    c.clear_word.ensures.moments c.loop-entry.invariant.moments
+    let inside = entry_inside g.L.Lines.room c.args.bounds.now.page c.args.bounds.now.entries c.loop-entry.parts c.loop-entry.entry c.loop-entry.invariant.parts (omega arith) in
+    clearing_throughout g.L.Lines.history c.args.bounds.now c.loop-entry.entry (map g.L.Lines.history c.args.parts.now) c.loop-entry.parts
+    (get_or c.loop-entry.parts (1 + c.loop-entry.entry) c.index-parts-entry.result) c.clear_word.new.part c.index-parts-entry.result
+    c.requires.quiet c.requires.header c.loop-entry.invariant.done inside refl c.clear_word.ensures.moments c.loop-entry.invariant.moments
 
 pub returns-in_err-clear_word-clause-further : goal.returns-in_err-clear_word-clause-further
 returns-in_err-clear_word-clause-further g c =
@@ -58,53 +53,46 @@ returns-in_err-clear_word-clause-further g c =
 
 pub returns-in_err-clear_word-clause-lines : goal.returns-in_err-clear_word-clause-lines
 returns-in_err-clear_word-clause-lines g c =
-    let i = 1 + c.loop-entry.entry in
-    let inside : i < length c.loop-entry.parts = omega (arith, c.loop-entry.invariant.parts.count, length-map c.loop-entry.parts g.L.Lines.room) in
-    same_in_row (λ part. (g.L.Lines.room part).lines) c.loop-entry.parts i (get_or c.loop-entry.parts i c.index-parts-entry.result) c.clear_word.new.part
-    (itself_at c.loop-entry.parts i c.index-parts-entry.result inside) c.clear_word.ensures.lines
+    map-set_same (λ part. (g.L.Lines.room part).lines) c.loop-entry.parts (1 + c.loop-entry.entry) c.clear_word.new.part c.index-parts-entry.result c.clear_word.ensures.lines
     ∙ c.loop-entry.invariant.lines
 
 pub returns-in_err-clear_word-clause-devices : goal.returns-in_err-clear_word-clause-devices
 returns-in_err-clear_word-clause-devices g c =
-    let i = 1 + c.loop-entry.entry in
-    let inside : i < length c.loop-entry.parts = omega (arith, c.loop-entry.invariant.parts.count, length-map c.loop-entry.parts g.L.Lines.room) in
-    same_in_row g.L.Lines.device c.loop-entry.parts i (get_or c.loop-entry.parts i c.index-parts-entry.result) c.clear_word.new.part
-    (itself_at c.loop-entry.parts i c.index-parts-entry.result inside) c.clear_word.ensures.device
+    map-set_same g.L.Lines.device c.loop-entry.parts (1 + c.loop-entry.entry) c.clear_word.new.part c.index-parts-entry.result c.clear_word.ensures.device
     ∙ c.loop-entry.invariant.devices
 
 pub returns-in_err-clear_word-clause-tells : goal.returns-in_err-clear_word-clause-tells
 returns-in_err-clear_word-clause-tells g c =
-    let i = 1 + c.loop-entry.entry in
-    let inside : i < length c.loop-entry.parts = omega (arith, c.loop-entry.invariant.parts.count, length-map c.loop-entry.parts g.L.Lines.room) in
-    let more = devices_tell g.L.Lines.history c.loop-entry.parts i (get_or c.loop-entry.parts i c.index-parts-entry.result) c.clear_word.new.part inside
-    (itself_at c.loop-entry.parts i c.index-parts-entry.result inside) c.clear_word.ensures.tells in
+    let inside = entry_inside g.L.Lines.room c.args.bounds.now.page c.args.bounds.now.entries c.loop-entry.parts c.loop-entry.entry c.loop-entry.invariant.parts (omega arith) in
+    let more = devices_tell g.L.Lines.history c.loop-entry.parts (1 + c.loop-entry.entry) _ c.clear_word.new.part c.index-parts-entry.result inside refl c.clear_word.ensures.tells in
     let before = c.loop-entry.invariant.done.tells in
     (λ all. more.0 (before.0 all), λ all. before.1 (more.1 all))
 
 pub loop-entry-preserved : goal.loop-entry-preserved
 loop-entry-preserved g c =
     let i = 1 + c.loop-entry.entry in
+    let most = c.args.bounds.now.tail + c.args.bounds.now.entries in
     let parts = c.loop-entry.parts in
-    let was = get_or parts i c.index-parts-entry.result in
+    let d = c.index-parts-entry.result in
+    let was = get_or parts i d in
     let new = c.clear_word.new.part in
-    let inside : i < length parts = omega (arith, c.loop-entry.invariant.parts.count, length-map c.loop-entry.parts g.L.Lines.room) in
-    let is = itself_at parts i c.index-parts-entry.result inside in
+    let old : List History = map g.L.Lines.history c.args.parts.now in
+    let inside = entry_inside g.L.Lines.room c.args.bounds.now.page c.args.bounds.now.entries parts c.loop-entry.entry c.loop-entry.invariant.parts (omega arith) in
     record {
       done =
-          devices_more g.L.Lines.history (c.args.bounds.now.tail + c.args.bounds.now.entries) c.loop-entry.entry (map g.L.Lines.history c.args.parts.now) parts was new
-          c.loop-entry.invariant.done inside is
-          (both_moments (g.L.Lines.history was) (g.L.Lines.history new) (MayBeTrimmed (c.args.bounds.now.tail + c.args.bounds.now.entries)) c.clear_word.ensures.moments)
+          devices_more g.L.Lines.history most c.loop-entry.entry old parts was new d c.loop-entry.invariant.done inside refl
+          (both_moments (g.L.Lines.history was) (g.L.Lines.history new) (MayBeTrimmed most) c.clear_word.ensures.moments)
           c.in_ok-clear_word.ensures.cleared c.clear_word.ensures.tells;
       moments =
-          clearing_throughout g.L.Lines.history c.args.bounds.now c.loop-entry.entry (map g.L.Lines.history c.args.parts.now) parts was new c.requires.quiet c.requires.header
-          c.loop-entry.invariant.done inside is c.clear_word.ensures.moments c.loop-entry.invariant.moments;
+          clearing_throughout g.L.Lines.history c.args.bounds.now c.loop-entry.entry old parts was new d c.requires.quiet c.requires.header
+          c.loop-entry.invariant.done inside refl c.clear_word.ensures.moments c.loop-entry.invariant.moments;
       parts =
-          has_parts_set g.L.Lines.room version_1 c.args.bounds.now.page c.args.bounds.now.entries parts i was new inside is
+          has_parts_set g.L.Lines.room version_1 c.args.bounds.now.page c.args.bounds.now.entries parts i was new d inside refl
           c.in_ok-clear_word.ensures.room c.loop-entry.invariant.parts;
       further = further_same g.L.Lines.history parts i (1 + c.args.bounds.now.entries) new (omega arith) ∙ c.loop-entry.invariant.further;
-      lines = same_in_row (λ part. (g.L.Lines.room part).lines) parts i was new is c.clear_word.ensures.lines ∙ c.loop-entry.invariant.lines;
-      cause = same_sum_in_row g.L.Lines.fault_count parts i was new inside is c.in_ok-clear_word.ensures.cause ∙ c.loop-entry.invariant.cause;
-      devices = same_in_row g.L.Lines.device parts i was new is c.clear_word.ensures.device ∙ c.loop-entry.invariant.devices;
+      lines = map-set_same (λ part. (g.L.Lines.room part).lines) parts i new d c.clear_word.ensures.lines ∙ c.loop-entry.invariant.lines;
+      cause = same_sum_in_row g.L.Lines.fault_count parts i was new d inside refl c.in_ok-clear_word.ensures.cause ∙ c.loop-entry.invariant.cause;
+      devices = map-set_same g.L.Lines.device parts i new d c.clear_word.ensures.device ∙ c.loop-entry.invariant.devices;
     }
 
 pub returns-clause-cleared : goal.returns-clause-cleared

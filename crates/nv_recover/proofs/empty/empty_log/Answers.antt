@@ -1,16 +1,16 @@
-use Rattle.std.proofs.Common.{◌≤◌, List, length, get_or, map, slice_set, refl, arith}
-use Rattle.std.proofs.lemmas.List.{length-map}
+use Rattle.std.proofs.Common.{◌<◌, ◌≤◌, List, length, get_or, map, slice_set, refl, arith}
 use Rattle.std.proofs.lemmas.Result.{on_ok_weaker}
 use Rattle.nv_plain.specs.Layouts.{version_1}
 use Rattle.nv_pmem.specs.Rows.{InEachRowImage, row_words}
 use Rattle.nv_pmem.specs.Steps.{History}
-use Rattle.nv_header.proofs.InRow.{roomy_part, has_parts_set, stays_settled}
+use Rattle.nv_header.proofs.InRow.{has_parts_set, stays_settled}
 use Rattle.nv_recover.specs.Alike.{SayTheSame}
 use Rattle.nv_recover.proofs.EmptyParts.{MayBeMoved, moved_moments, stored_tail}
-use Rattle.nv_recover.proofs.EmptyRows.{devices_tell, itself_at}
+use Rattle.nv_recover.proofs.EmptyRows.{devices_tell}
 use Rattle.nv_recover.proofs.MoveRows.{can_after, moving_throughout, rest_rows, same_then, same_alone}
+use Rattle.nv_recover.proofs.RoomLaws.{parts_count, tail_line}
 use Rattle.nv_recover.proofs.RowMoments.{rows_last}
-use Rattle.nv_recover.proofs.TellLaws.{both_moments, some_tells, on_both}
+use Rattle.nv_recover.proofs.Present.{both_moments, some_tells, on_both}
 use Rattle.nv_recover.proofs.empty.empty_log.Goals as goal
 
 pub returns-in_err-clear_words-clause-moments : goal.returns-in_err-clear_words-clause-moments
@@ -20,72 +20,66 @@ returns-in_err-clear_words-clause-moments g c names reads =
 
 pub move_tail-requires-clause-lines : goal.move_tail-requires-clause-lines
 move_tail-requires-clause-lines g c =
-    let parts = c.clear_words.new.parts in
-    let inside : 1 ≤ length parts = omega (arith, c.in_ok-clear_words.ensures.parts.count, length-map parts g.L.Lines.room) in
-    (roomy_part g.L.Lines.room version_1 c.args.bounds.now.page c.args.bounds.now.entries parts 0 (get_or parts 0 c.index-parts-0.result)
-    c.in_ok-clear_words.ensures.parts (omega arith) (itself_at parts 0 c.index-parts-0.result inside)).there
+    (tail_line g.L.Lines.room c.args.bounds.now.page c.args.bounds.now.entries c.clear_words.new.parts c.index-parts-0.result c.in_ok-clear_words.ensures.parts).0
 
 pub move_tail-requires-clause-spare : goal.move_tail-requires-clause-spare
 move_tail-requires-clause-spare g c =
-    let parts = c.clear_words.new.parts in
-    let inside : 1 ≤ length parts = omega (arith, c.in_ok-clear_words.ensures.parts.count, length-map parts g.L.Lines.room) in
-    let roomy = roomy_part g.L.Lines.room version_1 c.args.bounds.now.page c.args.bounds.now.entries parts 0 (get_or parts 0 c.index-parts-0.result)
-    c.in_ok-clear_words.ensures.parts (omega arith) (itself_at parts 0 c.index-parts-0.result inside) in
-    omega (arith, roomy.spare 1 (omega arith))
+    (tail_line g.L.Lines.room c.args.bounds.now.page c.args.bounds.now.entries c.clear_words.new.parts c.index-parts-0.result c.in_ok-clear_words.ensures.parts).1
 
 pub returns-clause-moments : goal.returns-clause-moments
 returns-clause-moments g c names reads =
     let bounds = c.args.bounds.now in
     let parts = c.clear_words.new.parts in
     let cleared = c.in_ok-clear_words.ensures in
-    let inside : 1 ≤ length parts = omega (arith, cleared.parts.count, length-map parts g.L.Lines.room) in
+    let inside : 1 ≤ length parts = omega (arith, parts_count g.L.Lines.room bounds.page bounds.entries parts cleared.parts) in
     let was = get_or parts 0 c.index-parts-0.result in
     let old : List History = map g.L.Lines.history c.args.parts.now in
     let between : List History = map g.L.Lines.history parts in
-    let new : List History = map g.L.Lines.history (slice_set parts 0 c.move_tail.new.header) in
     let same = rows_last old between (λ was. InEachRowImage (SayTheSame (row_words was))) cleared.moments in
-    same_then bounds.page bounds.entries names c.args.next old between new cleared.tells.0 cleared.moments
-    (moving_throughout g.L.Lines.history bounds.page bounds.entries names bounds.tail c.args.next parts was c.move_tail.new.header inside
-    (itself_at parts 0 c.index-parts-0.result inside) c.requires.from_tail c.requires.number
+    same_then bounds.page bounds.entries names c.args.next old between (map g.L.Lines.history (slice_set parts 0 c.move_tail.new.header)) cleared.tells.0 cleared.moments
+    (moving_throughout g.L.Lines.history bounds.page bounds.entries names bounds.tail c.args.next parts was c.move_tail.new.header c.index-parts-0.result inside
+    refl c.requires.from_tail c.requires.number
     (can_after bounds.page bounds.entries names bounds.tail c.args.next old between cleared.tells.1 same cleared.quiet cleared.cleared c.requires.none reads)
     (moved_moments c.args.next (g.L.Lines.history was) (g.L.Lines.history c.move_tail.new.header) c.move_tail.ensures.moments))
 
 pub returns-clause-tells : goal.returns-clause-tells
 returns-clause-tells g c =
     let parts = c.clear_words.new.parts in
-    let inside : 1 ≤ length parts = omega (arith, c.in_ok-clear_words.ensures.parts.count, length-map parts g.L.Lines.room) in
+    let inside : 0 < length parts = omega (arith, parts_count g.L.Lines.room c.args.bounds.now.page c.args.bounds.now.entries parts c.in_ok-clear_words.ensures.parts) in
     let before = c.in_ok-clear_words.ensures.tells in
-    let more = devices_tell g.L.Lines.history parts 0 (get_or parts 0 c.index-parts-0.result) c.move_tail.new.header inside
-    (itself_at parts 0 c.index-parts-0.result inside) (some_tells c.move_tail.ensures.begun) in
+    let more = devices_tell g.L.Lines.history parts 0 (get_or parts 0 c.index-parts-0.result) c.move_tail.new.header c.index-parts-0.result inside refl
+    (some_tells c.move_tail.ensures.begun) in
     (λ all. more.0 (before.0 all), λ all. before.1 (more.1 all))
 
 pub returns-clause-rest : goal.returns-clause-rest
 returns-clause-rest g c =
     let bounds = c.args.bounds.now in
     let parts = c.clear_words.new.parts in
+    let d = c.index-parts-0.result in
+    let new = c.move_tail.new.header in
     let cleared = c.in_ok-clear_words.ensures in
-    let inside : 1 ≤ length parts = omega (arith, cleared.parts.count, length-map parts g.L.Lines.room) in
-    let was = get_or parts 0 c.index-parts-0.result in
+    let inside : 0 < length parts = omega (arith, parts_count g.L.Lines.room bounds.page bounds.entries parts cleared.parts) in
+    let was = get_or parts 0 d in
     let old : List History = map g.L.Lines.history c.args.parts.now in
     let between : List History = map g.L.Lines.history parts in
-    let more = devices_tell g.L.Lines.history parts 0 was c.move_tail.new.header inside (itself_at parts 0 c.index-parts-0.result inside) (some_tells c.move_tail.ensures.begun) in
+    let more = devices_tell g.L.Lines.history parts 0 was new d inside refl (some_tells c.move_tail.ensures.begun) in
     let same = rows_last old between (λ was. InEachRowImage (SayTheSame (row_words was))) cleared.moments in
     on_both c.move_tail.result
     (λ moved quiet names reads.
-    rest_rows g.L.Lines.history bounds.page bounds.entries names bounds.tail c.args.next parts was c.move_tail.new.header c.index-parts-0.result inside refl
-    c.requires.from_tail c.requires.number more.1
+    rest_rows g.L.Lines.history bounds.page bounds.entries names bounds.tail c.args.next parts was new d inside refl c.requires.from_tail c.requires.number more.1
     (can_after bounds.page bounds.entries names bounds.tail c.args.next old between cleared.tells.1 same cleared.quiet cleared.cleared c.requires.none reads)
-    (both_moments (g.L.Lines.history was) (g.L.Lines.history c.move_tail.new.header) (MayBeMoved c.args.next)
-    (moved_moments c.args.next (g.L.Lines.history was) (g.L.Lines.history c.move_tail.new.header) c.move_tail.ensures.moments))
-    (stored_tail c.args.next (g.L.Lines.history was) (g.L.Lines.history c.move_tail.new.header) moved quiet))
+    (both_moments (g.L.Lines.history was) (g.L.Lines.history new) (MayBeMoved c.args.next)
+    (moved_moments c.args.next (g.L.Lines.history was) (g.L.Lines.history new) c.move_tail.ensures.moments))
+    (stored_tail c.args.next (g.L.Lines.history was) (g.L.Lines.history new) moved quiet))
     c.move_tail.ensures.moved c.move_tail.ensures.quiet
 
 pub returns-clause-parts : goal.returns-clause-parts
 returns-clause-parts g c =
     let bounds = c.args.bounds.now in
     let parts = c.clear_words.new.parts in
-    let inside : 1 ≤ length parts = omega (arith, c.in_ok-clear_words.ensures.parts.count, length-map parts g.L.Lines.room) in
+    let d = c.index-parts-0.result in
+    let inside : 0 < length parts = omega (arith, parts_count g.L.Lines.room bounds.page bounds.entries parts c.in_ok-clear_words.ensures.parts) in
     on_ok_weaker c.move_tail.result
-    (λ settled. has_parts_set g.L.Lines.room version_1 bounds.page bounds.entries parts 0 (get_or parts 0 c.index-parts-0.result) c.move_tail.new.header inside
-    (itself_at parts 0 c.index-parts-0.result inside) (stays_settled 1 1 c.move_tail.ensures.room settled) c.in_ok-clear_words.ensures.parts)
+    (λ settled. has_parts_set g.L.Lines.room version_1 bounds.page bounds.entries parts 0 (get_or parts 0 d) c.move_tail.new.header d inside refl
+    (stays_settled 1 1 c.move_tail.ensures.room settled) c.in_ok-clear_words.ensures.parts)
     c.move_tail.ensures.settled

@@ -10,8 +10,9 @@ use Rattle.nv_entry.specs.Checks.{SaysBounds}
 use Rattle.nv_recover.specs.Emptying.{CommitsNoneFrom}
 use Rattle.nv_recover.specs.Groups.{IsLeastBad}
 use Rattle.nv_recover.specs.declared.error.RecoverError.TheVariants.{BadEntry}
+use Rattle.nv_recover.proofs.Present.{if_err_any}
 use Rattle.nv_recover.proofs.RoomLaws.{slots_some, parts_slots, parts_still, lines_same}
-use Rattle.nv_recover.proofs.StandLaws.{both_rows, alike_still, if_err_any, stand_on, stand_last, unfit_read, unfit_found}
+use Rattle.nv_recover.proofs.StandLaws.{both_rows, alike_still, stand_on, stand_last, unfit_read, unfit_found}
 use Rattle.nv_recover.proofs.recovering.recover_parts.Goals as goal
 
 pub read_log-requires-clause-lines : goal.read_log-requires-clause-lines

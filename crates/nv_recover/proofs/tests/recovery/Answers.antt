@@ -6,7 +6,7 @@ use Rattle.nv_pmem.specs.Room.{Keeps}
 use Rattle.nv_pmem.specs.declared.mem_part.MemPart.{MemPart}
 use Rattle.nv_header.specs.Needs.{HasLines}
 use Rattle.nv_header.specs.Regions.{HasParts}
-use Rattle.nv_recover.proofs.TestRegions.{read_has_parts, written_back}
+use Rattle.nv_recover.proofs.TestRegions.{all_spare, written_back}
 use Rattle.nv_recover.proofs.tests.recovery.Goals as goal
 
 pub recover-answer-requires-clause-parts : goal.recover-answer-requires-clause-parts
@@ -24,9 +24,9 @@ recover-answer-requires-clause-parts c =
     let read_fits : length read ≡ len = omega (arith, c.read_head.auto.parts, c.deref_mut-3.ensures.len) in
     let read_is : read_back ≡ read = written_back len read (drop (length read) lost_back) read_fits in
     let Kept : List MemPart → Type 0 = λ old. AllZip (λ old new. Keeps (part_room old) (part_room new)) old read in
-    let Long : List MemPart → Type 0 = λ parts. HasLines version_1 page entries (map (λ part. (part_room part).lines) parts) in
+    let Long : List MemPart → Type 0 = λ parts. HasLines version_1 page entries (map part_room parts) in
     let Has : List MemPart → Type 0 = λ parts. HasParts version_1 page entries (map part_room parts) in
     let lines = (c.in_ok-check_lines.ensures.exact).0 refl in
     subst Has (sym read_is)
-    (read_has_parts page entries lost read c.lose_power.ensures.spare (subst Kept was_is c.in_ok-head.ensures.rooms)
-    (subst Long (c.deref.ensures.value ∙ read_is) lines))
+    (c.needed_lines_make_parts.ensures version_1 page entries (map part_room read) (subst Long (c.deref.ensures.value ∙ read_is) lines)
+    (all_spare lost read c.lose_power.ensures.spare (subst Kept was_is c.in_ok-head.ensures.read.rooms)))
