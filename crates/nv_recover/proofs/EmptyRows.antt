@@ -12,10 +12,11 @@ use Rattle.nv_pmem.proofs.ImageLaws.{quiet_image}
 use Rattle.nv_pmem.proofs.RowLaws.{row_tells_both}
 use Rattle.nv_entry.specs.declared.bounds.Bounds.{Bounds}
 use Rattle.nv_entry.specs.Checks.{SaysBounds}
+use Rattle.nv_header.specs.RowStates.{row_tells_at, row_tells_from}
 use Rattle.nv_recover.specs.Alike.{SayTheSame}
 use Rattle.nv_recover.specs.Changes.{ThroughoutRow}
 use Rattle.nv_recover.specs.Emptying.{BothTell, MayBeTrimmed, HasSmallWord, HasNoneAbove}
-use Rattle.nv_recover.specs.Telling.{AllTell, row_tells_from, row_tells_at}
+use Rattle.nv_recover.specs.Telling.{AllTell}
 use Rattle.nv_recover.proofs.EmptyLaws.{same_trimmed}
 use Rattle.nv_recover.proofs.EmptyParts.{same_untrimmed, untrimmed}
 use Rattle.nv_recover.proofs.Present.{presents_tell, RowsTell, both_itself, both_more, both_both, EachPair, rows_each, rows_more, rows_new, tells_set}

@@ -13,11 +13,12 @@ use Rattle.nv_entry.specs.declared.bounds.Bounds.{Bounds}
 use Rattle.nv_entry.specs.Checks.{SaysBounds}
 use Rattle.nv_store.specs.Steps.{History}
 use Rattle.nv_store.specs.Store.{Store, IsWhole}
+use Rattle.nv_header.specs.RowStates.{row_tells_at, row_tells_from}
 use Rattle.nv_recover.specs.Applying.{AcrossTells, AcrossThroughout, ChangesAtMostOne, IsGroupOf, IsNumberOf, HasPiece, StaysAlike, OneWritten, LeftOrOneTorn}
 use Rattle.nv_recover.specs.Changes.{ThroughoutRow}
 use Rattle.nv_recover.specs.Groups.{AreGroups, numbers_of}
 use Rattle.nv_recover.specs.Standing.{AreQuietStores, RecoverAlike, files_of}
-use Rattle.nv_recover.specs.Telling.{AllTell, row_tells_from, row_tells_at}
+use Rattle.nv_recover.specs.Telling.{AllTell}
 use Rattle.nv_recover.specs.declared.group.Group.{Group}
 use Rattle.nv_recover.proofs.ApplyLaws.{alike_none, alike_more, alike_left_or_torn, alike_from_quiet, written_files}
 use Rattle.nv_recover.proofs.GroupLaws.{number_of, group_of, all_files}

@@ -10,11 +10,12 @@ use Rattle.nv_pmem.specs.Rows.{IsRowImage, RowTells}
 use Rattle.nv_pmem.specs.Runs.{run}
 use Rattle.nv_store.specs.Store.{Store}
 use Rattle.nv_header.specs.Heads.{first_names}
+use Rattle.nv_header.specs.RowStates.{AreNow, row_tells_at}
 use Rattle.nv_recover.specs.Changes.{Devices, devices_after_change}
 use Rattle.nv_recover.specs.Interrupted.{HasDoneLog, Start, StartReads, StartFits, files_from, start_of, IsRun, IsStop, AreStops, last_of}
 use Rattle.nv_recover.specs.Recovering.{StandThroughout}
 use Rattle.nv_recover.specs.Standing.{AreStoreImages, HasEmptiedLog, HasSameLog, StandsFor, StandsStill, ReadsAlike, TakesPlace}
-use Rattle.nv_recover.specs.Telling.{AllTell, AreNow, row_tells_at}
+use Rattle.nv_recover.specs.Telling.{AllTell}
 use Rattle.nv_recover.proofs.AlikeLaws.{no_commit}
 use Rattle.nv_recover.proofs.EmptyLaws.{empty_none}
 use Rattle.nv_recover.proofs.Present.{presents}

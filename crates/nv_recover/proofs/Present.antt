@@ -9,8 +9,9 @@ use Rattle.nv_pmem.specs.Rows.{RowTells}
 use Rattle.nv_pmem.specs.Runs.{RanSome, grown}
 use Rattle.nv_pmem.proofs.RowLaws.{row_tells_more, row_tells_both}
 use Rattle.nv_pmem.proofs.StepLaws.{grown-told, grown-untold}
+use Rattle.nv_header.specs.RowStates.{AreNow, IsNow, row_tells_at, row_tells_from, tells_at}
 use Rattle.nv_recover.specs.Emptying.{BothTell}
-use Rattle.nv_recover.specs.Telling.{AllTell, IsNow, AreNow, row_tells_from, row_tells_at}
+use Rattle.nv_recover.specs.Telling.{AllTell}
 
 -- ---- a device
 
@@ -28,17 +29,6 @@ cons_same a b past other is = cc
 
 pub now_same : {S : Type 0} {history : List S} {a b : S} → IsNow history a → IsNow history b → a ≡ b
 now_same {history} {a} {b} one other = cons_same a b one.past other.past (sym one.is ∙ other.is)
-
--- What the present state has, the device tells, and the other way round.
-pub tells_from : {S : Type 0} (history : List S) (P : S → Type 0) (now : S) → IsNow history now → P now → Tells history P
-tells_from {S} history P now one here =
-    let At : List S → Type 0 = λ these. Tells these P in
-    subst At (sym one.is) here
-
-pub tells_at : {S : Type 0} (history : List S) (P : S → Type 0) (now : S) → IsNow history now → Tells history P → P now
-tells_at {S} history P now one told =
-    let At : List S → Type 0 = λ these. Tells these P in
-    subst At one.is told
 
 -- ---- a device before and after a call
 

@@ -11,12 +11,13 @@ use Rattle.nv_pmem.proofs.RowLaws.{row_tells_more, row_tells_both}
 use Rattle.nv_pmem.proofs.StepLaws.{tells_more}
 use Rattle.nv_store.specs.Steps.{History}
 use Rattle.nv_store.specs.Store.{Store}
+use Rattle.nv_header.specs.RowStates.{row_tells_at, row_tells_from, tells_at, tells_from}
 use Rattle.nv_recover.specs.Applying.{AcrossTells, AcrossThroughout, ChangesAtMostOne}
 use Rattle.nv_recover.specs.Changes.{Change, row_after_change, ThroughoutRow, Devices, DeviceChange, devices_after_change}
 use Rattle.nv_recover.specs.Changes.DeviceChange.{OfParts, OfStores}
 use Rattle.nv_recover.specs.Emptying.{BothTell}
-use Rattle.nv_recover.specs.Telling.{AllTell, row_tells_from, row_tells_at}
-use Rattle.nv_recover.proofs.Present.{present, tells_from, tells_at, presents, presents_tell, are_now_same, RowsTell, tells_set}
+use Rattle.nv_recover.specs.Telling.{AllTell}
+use Rattle.nv_recover.proofs.Present.{present, presents, presents_tell, are_now_same, RowsTell, tells_set}
 use Rattle.nv_recover.proofs.Throughout.{throughout_none, throughout_one, throughout_then, throughout_last, row_throughout_more}
 
 -- ---- one device

@@ -16,6 +16,7 @@ use Rattle.nv_store.proofs.StoreLaws.{quiet_is_quiet}
 use Rattle.nv_entry.specs.declared.bounds.Bounds.{Bounds}
 use Rattle.nv_entry.specs.Checks.{SaysBounds}
 use Rattle.nv_header.specs.Regions.{ReadsAs, HasEmptyLog, HasNoneFrom}
+use Rattle.nv_header.specs.RowStates.{AreNow, row_tells_at, row_tells_from}
 use Rattle.nv_recover.specs.Alike.{SayTheSame}
 use Rattle.nv_recover.specs.Applying.{AcrossTells, AcrossThroughout, StaysAlike}
 use Rattle.nv_recover.specs.Changes.{Devices, DevicesTell, ThroughoutRow, ThroughoutDevices}
@@ -23,7 +24,7 @@ use Rattle.nv_recover.specs.Emptying.{CommitsNoneFrom, SaysTheSameOrEmpty}
 use Rattle.nv_recover.specs.Groups.{AreGroups, leaders_of}
 use Rattle.nv_recover.specs.Recovering.{HasFoundAll, HoldRecovered, StandThroughout, UnfitIsUnwritten, end_of}
 use Rattle.nv_recover.specs.Standing.{AreStoreImages, AreQuietStores, HasEmptiedLog, HasSameLog, LeaveNoMore, ReadsAlike, RecoverAlike, StandsStill, TakesPlace, files_of}
-use Rattle.nv_recover.specs.Telling.{AllTell, AreNow, row_tells_from, row_tells_at}
+use Rattle.nv_recover.specs.Telling.{AllTell}
 use Rattle.nv_recover.specs.declared.group.Group.{Group}
 use Rattle.nv_recover.specs.declared.recovering.Recovered.{Recovered}
 use Rattle.nv_recover.proofs.AlikeLaws.{same_fits, same_recovered, empty_fits, empty_recovered}

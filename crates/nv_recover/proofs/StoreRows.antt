@@ -14,9 +14,10 @@ use Rattle.nv_store.specs.Store.{Store, IsWhole}
 use Rattle.nv_store.specs.Torn.{IsTorn, LeftOrTore}
 use Rattle.nv_store.proofs.ImageLaws.{image_of_quiet, seen_is_image}
 use Rattle.nv_store.proofs.StoreLaws.{write_is_torn, quiet_is_quiet}
+use Rattle.nv_header.specs.RowStates.{AreNow, IsNow, row_tells_at, row_tells_from}
 use Rattle.nv_recover.specs.Applying.{AcrossTells, ChangesAtMostOne, OneWritten, LeftOrOneTorn}
 use Rattle.nv_recover.specs.Standing.{AreStoreImages, LeaveNoMore, files_of}
-use Rattle.nv_recover.specs.Telling.{AllTell, IsNow, AreNow, row_tells_from, row_tells_at}
+use Rattle.nv_recover.specs.Telling.{AllTell}
 use Rattle.nv_recover.proofs.Present.{now_same, presents, presents_tell, presents_long, are_now_same, OneChanged, one_changed}
 
 -- ---- one store

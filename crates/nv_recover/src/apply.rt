@@ -41,15 +41,15 @@ pub(crate) fn write_groups<L: Lines, B: Backing>(
     requires parts { 1 + bounds.now.entries ≤ length parts.old }
     requires lines { All (λ part. entry_lines bounds.now.page ≤ (L.room part).lines) (take bounds.now.entries (drop 1 parts.old)) }
     requires page { length page.old ≡ bounds.now.page }
-    requires header { RowTells (map L.history parts.old) (λ parts. SaysBounds bounds.now (row_words parts)) }
-    requires groups { RowTells (map L.history parts.old) (λ parts. AreGroups (row_words parts) groups.now) }
+    requires header { RowTells (map L.history parts.old) (λ told. SaysBounds bounds.now (row_words told)) }
+    requires groups { RowTells (map L.history parts.old) (λ told. AreGroups (row_words told) groups.now) }
     requires stores { length stores.old ≡ bounds.now.files }
     requires quiet { RowTells (map B.history stores.old) AreQuietStores }
     ensures read { AreOnlyRead L.history L.room L.device parts.old parts.new }
     ensures moments { AcrossThroughout (map L.history parts.old) (map B.history stores.old) (map B.history stores.new) RecoverAlike }
-    ensures written { OnOk result (RowTells (map L.history parts.old) (λ parts. RowTells (map B.history stores.old) (λ was.
-        RowTells (map B.history stores.new) (λ now. files_of now ≡ (recovered (row_words parts) (files_of was)).files)))) }
-    ensures bad { (number : ℕ) → result ≡ Err (error.BadEntry number) → RowTells (map L.history parts.old) (λ parts. ⊥) }
+    ensures written { OnOk result (RowTells (map L.history parts.old) (λ told. RowTells (map B.history stores.old) (λ was.
+        RowTells (map B.history stores.new) (λ now. files_of now ≡ (recovered (row_words told) (files_of was)).files)))) }
+    ensures bad { (number : ℕ) → result ≡ Err (error.BadEntry number) → RowTells (map L.history parts.old) (λ told. ⊥) }
     ensures tells { AllTell (map B.history stores.old) → AllTell (map B.history stores.new) }
     ensures region_cause { HasRegionCause (sum_by L.fault_count parts.old) (sum_by L.fault_count parts.new) result }
     ensures store_cause { HasStoreCause (sum_by B.fault_count stores.old) (sum_by B.fault_count stores.new) result }
@@ -72,14 +72,14 @@ fn write_group<L: Lines, B: Backing>(
     requires parts { 1 + bounds.now.entries ≤ length parts.old }
     requires lines { All (λ part. entry_lines bounds.now.page ≤ (L.room part).lines) (take bounds.now.entries (drop 1 parts.old)) }
     requires page { length page.old ≡ bounds.now.page }
-    requires header { RowTells (map L.history parts.old) (λ parts. SaysBounds bounds.now (row_words parts)) }
-    requires group { RowTells (map L.history parts.old) (λ parts. IsGroupOf (row_words parts) group) }
+    requires header { RowTells (map L.history parts.old) (λ told. SaysBounds bounds.now (row_words told)) }
+    requires group { RowTells (map L.history parts.old) (λ told. IsGroupOf (row_words told) group) }
     requires stores { length stores.old ≡ bounds.now.files }
     ensures read { AreOnlyRead L.history L.room L.device parts.old parts.new }
     ensures moments { AcrossThroughout (map L.history parts.old) (map B.history stores.old) (map B.history stores.new) StaysAlike }
     ensures written { OnOk result (AcrossTells (map L.history parts.old) (map B.history stores.old) (map B.history stores.new)
         (λ image was now. files_of now ≡ fold (with_entry image) (files_of was) (range_with_len group.leader group.count))) }
-    ensures bad { (number : ℕ) → result ≡ Err (error.BadEntry number) → RowTells (map L.history parts.old) (λ parts. ⊥) }
+    ensures bad { (number : ℕ) → result ≡ Err (error.BadEntry number) → RowTells (map L.history parts.old) (λ told. ⊥) }
     ensures tells { AllTell (map B.history stores.old) → AllTell (map B.history stores.new) }
     ensures region_cause { HasRegionCause (sum_by L.fault_count parts.old) (sum_by L.fault_count parts.new) result }
     ensures store_cause { HasStoreCause (sum_by B.fault_count stores.old) (sum_by B.fault_count stores.new) result }
@@ -103,15 +103,15 @@ fn write_entry<L: Lines, B: Backing>(
     requires parts { 1 + bounds.now.entries ≤ length parts.old }
     requires lines { All (λ part. entry_lines bounds.now.page ≤ (L.room part).lines) (take bounds.now.entries (drop 1 parts.old)) }
     requires page { length page.old ≡ bounds.now.page }
-    requires header { RowTells (map L.history parts.old) (λ parts. SaysBounds bounds.now (row_words parts)) }
-    requires number { RowTells (map L.history parts.old) (λ parts. IsNumberOf (row_words parts) number) }
+    requires header { RowTells (map L.history parts.old) (λ told. SaysBounds bounds.now (row_words told)) }
+    requires number { RowTells (map L.history parts.old) (λ told. IsNumberOf (row_words told) number) }
     requires stores { length stores.old ≡ bounds.now.files }
     ensures read { AreOnlyRead L.history L.room L.device parts.old parts.new }
     ensures one { ChangesAtMostOne (map B.history stores.old) (map B.history stores.new) }
     ensures alike { AcrossTells (map L.history parts.old) (map B.history stores.old) (map B.history stores.new) StaysAlike }
     ensures written { OnOk result (AcrossTells (map L.history parts.old) (map B.history stores.old) (map B.history stores.new)
         (λ image was now. files_of now ≡ with_entry image (files_of was) number)) }
-    ensures bad { (other : ℕ) → result ≡ Err (error.BadEntry other) → RowTells (map L.history parts.old) (λ parts. ⊥) }
+    ensures bad { (other : ℕ) → result ≡ Err (error.BadEntry other) → RowTells (map L.history parts.old) (λ told. ⊥) }
     ensures tells { AllTell (map B.history stores.old) → AllTell (map B.history stores.new) }
     ensures region_cause { HasRegionCause (sum_by L.fault_count parts.old) (sum_by L.fault_count parts.new) result }
     ensures store_cause { HasStoreCause (sum_by B.fault_count stores.old) (sum_by B.fault_count stores.new) result }
@@ -140,12 +140,12 @@ fn load_piece<L: Lines>(
     requires parts { 1 + bounds.now.entries ≤ length parts.old }
     requires lines { All (λ part. entry_lines bounds.now.page ≤ (L.room part).lines) (take bounds.now.entries (drop 1 parts.old)) }
     requires page { length page.old ≡ bounds.now.page }
-    requires header { RowTells (map L.history parts.old) (λ parts. SaysBounds bounds.now (row_words parts)) }
-    requires size { RowTells (map L.history parts.old) (λ parts. (entry_at (row_words parts) number).size ≤ bounds.now.page) }
-    ensures piece { IfOk result (λ head. RowTells (map L.history parts.old) (λ parts.
-        HasPiece (row_words parts) number head.file head.at (take head.size page.new))) }
+    requires header { RowTells (map L.history parts.old) (λ told. SaysBounds bounds.now (row_words told)) }
+    requires size { RowTells (map L.history parts.old) (λ told. (entry_at (row_words told) number).size ≤ bounds.now.page) }
+    ensures piece { IfOk result (λ head. RowTells (map L.history parts.old) (λ told.
+        HasPiece (row_words told) number head.file head.at (take head.size page.new))) }
     ensures size { IfOk result (λ head. head.size ≤ length page.new) }
-    ensures bad { (other : ℕ) → result ≡ Err (error.BadEntry other) → RowTells (map L.history parts.old) (λ parts. ⊥) }
+    ensures bad { (other : ℕ) → result ≡ Err (error.BadEntry other) → RowTells (map L.history parts.old) (λ told. ⊥) }
     ensures no_store { result ≢ Err error.StoreFault }
     ensures read { AreOnlyRead L.history L.room L.device parts.old parts.new }
     ensures cause { HasRegionCause (sum_by L.fault_count parts.old) (sum_by L.fault_count parts.new) result }

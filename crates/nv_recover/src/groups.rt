@@ -23,10 +23,10 @@ pub(crate) fn find_groups<L: Lines>(
 ) -> Result<Vec<Group>, RecoverError>
     requires parts { 1 + bounds.now.entries ≤ length parts.old }
     requires lines { All (λ part. 1 ≤ (L.room part).lines) (take bounds.now.entries (drop 1 parts.old)) }
-    requires header { RowTells (map L.history parts.old) (λ parts. SaysBounds bounds.now (row_words parts)) }
-    ensures found { IfOk result (λ groups. RowTells (map L.history parts.old) (λ parts. AreGroups (row_words parts) groups.items)) }
+    requires header { RowTells (map L.history parts.old) (λ told. SaysBounds bounds.now (row_words told)) }
+    ensures found { IfOk result (λ groups. RowTells (map L.history parts.old) (λ told. AreGroups (row_words told) groups.items)) }
     ensures bad { (number : ℕ) → result ≡ Err (error.BadEntry number)
-        → RowTells (map L.history parts.old) (λ parts. IsLeastBad version_1 (row_words parts) number) }
+        → RowTells (map L.history parts.old) (λ told. IsLeastBad version_1 (row_words told) number) }
     ensures read { AreOnlyRead L.history L.room L.device parts.old parts.new }
     ensures cause { HasRegionCause (sum_by L.fault_count parts.old) (sum_by L.fault_count parts.new) result }
     ensures no_store { result ≢ Err error.StoreFault }
@@ -47,14 +47,14 @@ fn look_at<L: Lines>(
 ) -> Result<(), RecoverError>
     requires parts { 1 + bounds.now.entries ≤ length parts.old }
     requires lines { All (λ part. 1 ≤ (L.room part).lines) (take bounds.now.entries (drop 1 parts.old)) }
-    requires header { RowTells (map L.history parts.old) (λ parts. SaysBounds bounds.now (row_words parts)) }
+    requires header { RowTells (map L.history parts.old) (λ told. SaysBounds bounds.now (row_words told)) }
     requires from { bounds.now.tail ≤ number }
     requires below { number < bounds.now.tail + bounds.now.entries }
-    ensures found { OnOk result (RowTells (map L.history parts.old) (λ parts.
-        HasFound (row_words parts) bounds.now.tail number groups.old.items
-        → HasFound (row_words parts) bounds.now.tail (number + 1) groups.new.items)) }
-    ensures bad { (bad : ℕ) → result ≡ Err (error.BadEntry bad) → RowTells (map L.history parts.old) (λ parts.
-        HasFound (row_words parts) bounds.now.tail number groups.old.items → IsLeastBad version_1 (row_words parts) bad) }
+    ensures found { OnOk result (RowTells (map L.history parts.old) (λ told.
+        HasFound (row_words told) bounds.now.tail number groups.old.items
+        → HasFound (row_words told) bounds.now.tail (number + 1) groups.new.items)) }
+    ensures bad { (bad : ℕ) → result ≡ Err (error.BadEntry bad) → RowTells (map L.history parts.old) (λ told.
+        HasFound (row_words told) bounds.now.tail number groups.old.items → IsLeastBad version_1 (row_words told) bad) }
     ensures read { AreOnlyRead L.history L.room L.device parts.old parts.new }
     ensures cause { HasRegionCause (sum_by L.fault_count parts.old) (sum_by L.fault_count parts.new) result }
     ensures no_store { result ≢ Err error.StoreFault }
@@ -72,13 +72,13 @@ fn look_at<L: Lines>(
 fn checked<L: Lines>(parts: &mut [L], bounds: &Bounds, leader: u64) -> Result<Group, RecoverError>
     requires parts { 1 + bounds.now.entries ≤ length parts.old }
     requires lines { All (λ part. 1 ≤ (L.room part).lines) (take bounds.now.entries (drop 1 parts.old)) }
-    requires header { RowTells (map L.history parts.old) (λ parts. SaysBounds bounds.now (row_words parts)) }
+    requires header { RowTells (map L.history parts.old) (λ told. SaysBounds bounds.now (row_words told)) }
     requires number { leader < bounds.now.tail + bounds.now.entries }
     ensures leader { IfOk result (λ group. group.leader ≡ leader) }
-    ensures whole { IfOk result (λ group. RowTells (map L.history parts.old) (λ parts.
-        IsGroup version_1 (row_words parts) leader × (group.count ≡ (entry_at (row_words parts) leader).count))) }
+    ensures whole { IfOk result (λ group. RowTells (map L.history parts.old) (λ told.
+        IsGroup version_1 (row_words told) leader × (group.count ≡ (entry_at (row_words told) leader).count))) }
     ensures bad { (number : ℕ) → result ≡ Err (error.BadEntry number)
-        → RowTells (map L.history parts.old) (λ parts. IsFirstBad version_1 (row_words parts) leader number) }
+        → RowTells (map L.history parts.old) (λ told. IsFirstBad version_1 (row_words told) leader number) }
     ensures read { AreOnlyRead L.history L.room L.device parts.old parts.new }
     ensures cause { HasRegionCause (sum_by L.fault_count parts.old) (sum_by L.fault_count parts.new) result }
     ensures no_store { result ≢ Err error.StoreFault }

@@ -1,9 +1,7 @@
-ghost use Rattle.nv_pmem.specs.Part.{Part};
-ghost use Rattle.nv_store.specs.Store.{Store};
 ghost use Rattle.nv_recover.specs.Groups.{FittingHasNoBad};
 ghost use Rattle.nv_recover.specs.Interrupted.{EndsAreStops, LastHoldsFiles, PromisesAreRuns, PromisesKeepTelling, StopsKeepFiles, StopsKeepFit, StopsKeepHeader, StopsKeepLog};
 ghost use Rattle.nv_recover.specs.Standing.{ReadableStandsForRecovered};
-ghost use Rattle.nv_recover.specs.Telling.{StatesAreOne, TellingRowsHaveStates};
+ghost use Rattle.nv_recover.specs.Telling.{StoresHaveOneState, TellingStoresHaveStates};
 
 /// Power may fail at any moment of a recovery, and again in the recovery after it, any number of times. The last header
 /// reads like the first one, and its log has the same groups, or none, and goes on with the same number. Where the
@@ -28,10 +26,8 @@ pub fn images_stand_for_files()
     ensures good { FittingHasNoBad }
 {}
 
-/// The parts of a row have present states where all of them tell, and then these alone; and so have stores.
-pub fn telling_rows_have_states()
-    ensures parts { TellingRowsHaveStates Part }
-    ensures parts_one { StatesAreOne Part }
-    ensures stores { TellingRowsHaveStates Store }
-    ensures stores_one { StatesAreOne Store }
+/// A row of stores has present states where all of them tell, and then these alone. For a region's parts nv_header says so.
+pub fn rows_of_stores_have_states()
+    ensures some { TellingStoresHaveStates }
+    ensures one { StoresHaveOneState }
 {}

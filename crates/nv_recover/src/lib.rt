@@ -12,7 +12,9 @@ mod leaders;
 mod recovering;
 
 pub use error::RecoverError;
-pub use laws::{images_stand_for_files, recoveries_give_the_same_files, telling_rows_have_states};
+pub use laws::{
+    images_stand_for_files, recoveries_give_the_same_files, rows_of_stores_have_states,
+};
 pub use leaders::Leaders;
 pub use recovering::{Recovered, recover};
 
