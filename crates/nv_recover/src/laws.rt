@@ -3,6 +3,8 @@ ghost use Rattle.nv_recover.specs.Interrupted.{EndsAreStops, LastHoldsFiles, Pro
 ghost use Rattle.nv_recover.specs.Standing.{ReadableStandsForRecovered};
 ghost use Rattle.nv_recover.specs.Telling.{StoresHaveOneState, TellingStoresHaveStates};
 
+use nv_entry::a_group_has_one_answer;
+
 /// Power may fail at any moment of a recovery, and again in the recovery after it, any number of times. The last header
 /// reads like the first one, and its log has the same groups, or none, and goes on with the same number. Where the
 /// committed groups of the first image are whole, so are those of the last one; it and its stores stand for the same files
@@ -24,7 +26,9 @@ pub fn recoveries_give_the_same_files()
 pub fn images_stand_for_files()
     ensures files { ReadableStandsForRecovered }
     ensures good { FittingHasNoBad }
-{}
+{
+    a_group_has_one_answer();
+}
 
 /// A row of stores has present states where all of them tell, and then these alone. For a region's parts nv_header says so.
 pub fn rows_of_stores_have_states()
