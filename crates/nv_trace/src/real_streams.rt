@@ -1,5 +1,7 @@
-ghost use Rattle.std.specs.Prelude.{◌≡◌, ◌<◌, ◌≤◌, IfOk, IfSome, OnErr, Some, length, take};
-ghost use Rattle.std.specs.Io.{WritesAtMost};
+ghost use Rattle.std.specs.Prelude.{◌≡◌, ◌≢◌, ◌<◌, ◌≤◌, IfErr, IfOk, IfSome, OnErr, OnOk, Some, length, take};
+ghost use Rattle.std.specs.IoError.{error_kind};
+ghost use Rattle.std.specs.declared.io.ErrorKind.TheVariants.{Interrupted};
+ghost use Rattle.std.specs.Io.{ReadsAtMost};
 ghost use Rattle.std.specs.Io.KnownBytes as known;
 ghost use Rattle.nv_plain.specs.Faults.{HasCause};
 ghost use Rattle.nv_trace.specs.Streams.{HasRead, Appends, counted};
@@ -7,7 +9,7 @@ ghost use Rattle.nv_trace.specs.RealStreams.{untold, reader_of, reader_faults, w
 
 use crate::{Failed, Sink, Source};
 use std::io;
-use std::io::{Read, Write};
+use std::io::{ErrorKind, Read, Write};
 
 /// A source over a reader. It tells nothing of what is left.
 #[derive(Debug, Drop)]
@@ -17,7 +19,8 @@ pub struct ReaderSource<R> {
 }
 
 impl<R: Read + Drop> ReaderSource<R> {
-    /// A source of what the reader gives. Each error of the reader is a failed read.
+    /// A source of what the reader gives. Each error of the reader is a failed read, but that a call which a signal
+    /// interrupted is made again (POSIX.1-2017, read: EINTR).
     pub fn new(reader: R) -> Self
         ensures reader { reader_of result ≡ reader }
         ensures faults { reader_faults result ≡ 0 }
@@ -42,7 +45,7 @@ impl<R: Read + Drop> Source for ReaderSource<R> {
             (R.remaining (reader_of self.old)) (R.remaining (reader_of self.new)) result buf.new }
         ensures failed { OnErr result (reader_faults self.new ≡ counted (reader_faults self.old)) }
     {
-        match self.reader.read(buf) {
+        match read_some(&mut self.reader, buf) {
             Ok(count) => Ok(count as u64),
             Err(_) => {
                 self.faults = self.faults.saturating_add(1);
@@ -64,8 +67,9 @@ pub struct WriterSink<W> {
 }
 
 impl<W: Write + Drop> WriterSink<W> {
-    /// A sink that gives to the writer. A write fails on each error of the writer, a failed flush among them, and where
-    /// the writer takes none of some bytes; how much the writer then took isn't known.
+    /// A sink that gives all of its bytes to the writer. A write fails on each error of the writer, a failed flush among
+    /// them, and where the writer takes none of some bytes; how much the writer then took isn't known. A call which a signal
+    /// interrupted is made again (POSIX.1-2017, write: EINTR).
     pub fn new(writer: W) -> Self
         ensures writer { writer_of result ≡ writer }
         ensures faults { writer_faults result ≡ 0 }
@@ -92,8 +96,8 @@ impl<W: Write + Drop> Sink for WriterSink<W> {
         ensures failed { OnErr result (writer_faults self.new ≡ counted (writer_faults self.old)) }
     {
         match write_and_flush(&mut self.writer, bytes) {
-            Ok(count) if count > 0 || bytes.is_empty() => Ok(count as u64),
-            _ => {
+            Ok(()) => Ok(bytes.len() as u64),
+            Err(_) => {
                 self.faults = self.faults.saturating_add(1);
                 Err(Failed)
             }
@@ -105,13 +109,39 @@ impl<W: Write + Drop> Sink for WriterSink<W> {
     }
 }
 
-// What stands in a buffer would be lost where the program ends.
-fn write_and_flush<W: Write>(writer: &mut W, bytes: &[u8]) -> io::Result<usize>
-    ensures count { WritesAtMost result bytes.now }
-    ensures passes { IfOk result
-        (λ count. known.Appends (W.contents writer.old) (W.contents writer.new) (take count bytes.now)) }
+// One read that no signal interrupts.
+fn read_some<R: Read>(reader: &mut R, buf: &mut [u8]) -> io::Result<usize>
+    ensures count { ReadsAtMost result buf.new }
+    ensures passes { known.ReadConsumes (R.remaining reader.old) (R.remaining reader.new) result buf.new }
+    ensures again { IfErr result (λ error. error_kind error ≢ Interrupted) }
 {
-    let count = writer.write(bytes)?;
-    writer.flush()?;
-    Ok(count)
+    for _ in 0..u64::MAX {
+        match reader.read(buf) {
+            Err(error) if error.kind() == ErrorKind::Interrupted => {}
+            answer => return answer,
+        }
+    }
+    Err(io::Error::from(ErrorKind::TimedOut))
+}
+
+// What stands in a buffer would be lost where the program ends.
+fn write_and_flush<W: Write>(writer: &mut W, bytes: &[u8]) -> io::Result<()>
+    ensures { OnOk result (known.Appends (W.contents writer.old) (W.contents writer.new) bytes.now) }
+{
+    writer.write_all(bytes)?;
+    flush(writer)
+}
+
+// A flush that no signal interrupts.
+fn flush<W: Write>(writer: &mut W) -> io::Result<()>
+    ensures passes { known.Keeps (W.contents writer.old) (W.contents writer.new) }
+    ensures again { IfErr result (λ error. error_kind error ≢ Interrupted) }
+{
+    for _ in 0..u64::MAX {
+        match writer.flush() {
+            Err(error) if error.kind() == ErrorKind::Interrupted => {}
+            answer => return answer,
+        }
+    }
+    Err(io::Error::from(ErrorKind::TimedOut))
 }

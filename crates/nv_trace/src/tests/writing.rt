@@ -173,3 +173,59 @@ fn broken_streams(rt: HostRuntime) {
         assert_eq!(rt; sink.faults(), 1);
     }
 }
+
+// Its first calls are interrupted by a signal, so many of each kind; then it gives or takes one byte at a time.
+#[derive(Drop)]
+struct Interrupted {
+    reads: u8,
+    writes: u8,
+    flushes: u8,
+    taken: usize,
+}
+
+fn interrupted_while(left: &mut u8) -> io::Result<()> {
+    if *left > 0 {
+        *left -= 1;
+        return Err(io::Error::from(ErrorKind::Interrupted));
+    }
+    Ok(())
+}
+
+impl Read for Interrupted {
+    fn read(&mut self, buf: &mut [u8]) -> io::Result<usize> {
+        interrupted_while(&mut self.reads)?;
+        Ok(buf.len().min(1))
+    }
+}
+
+impl Write for Interrupted {
+    fn write(&mut self, bytes: &[u8]) -> io::Result<usize> {
+        interrupted_while(&mut self.writes)?;
+        let count = bytes.len().min(1);
+        self.taken = self.taken.saturating_add(count);
+        Ok(count)
+    }
+
+    fn flush(&mut self) -> io::Result<()> {
+        interrupted_while(&mut self.flushes)
+    }
+}
+
+// A call that a signal interrupted is made again, and is no failure.
+#[test]
+fn interrupted_streams(rt: HostRuntime) {
+    let calls = || Interrupted {
+        reads: 2,
+        writes: 2,
+        flushes: 2,
+        taken: 0,
+    };
+    let mut source = ReaderSource::new(calls());
+    assert_eq!(rt; source.read(&mut [0; 4]), Ok(1));
+    assert_eq!(rt; source.faults(), 0);
+    let mut stream = calls();
+    let mut sink = WriterSink::new(&mut stream);
+    assert_eq!(rt; write_all(&mut sink, b"hello"), Ok(()));
+    assert_eq!(rt; sink.faults(), 0);
+    assert_eq!(rt; stream.taken, 5);
+}
