@@ -10,7 +10,7 @@ use Rattle.nv_trace.specs.Traced.{Traced}
 use Rattle.nv_trace.specs.declared.trace.TraceCall.{TraceCall}
 use Rattle.nv_trace.specs.declared.trace.TraceCall.TheVariants.{Pread, Pwrite, Fsync}
 use Rattle.nv_trace.specs.declared.trace.TracedCall.{TracedCall}
-use Rattle.nv_top.specs.Reports.{PlacedCall, RefusedCall, history_of, named, IsFaithful}
+use Rattle.nv_top.specs.Reports.{Sizes, PlacedCall, RefusedCall, history_of, named, IsFaithful}
 use Rattle.nv_top.specs.Runs.{one_file, placed_calls, refused_calls, AreMade, HasMade, with_bytes, report_of}
 use Rattle.nv_top.specs.declared.run.Outcome.{Outcome}
 
@@ -70,23 +70,23 @@ stands_opened (name ∷ []) descriptor bytes placed few some zero legal bytes_ar
     subst (λ file. StandsFor (name ∷ []) (file ∷ []) bytes placed) (sym zero) opened
 stands_opened (name ∷ other ∷ names) descriptor bytes placed few some zero legal bytes_are = absurd (omega arith)
 
-stands_for : (names : List (List ℕ)) (descriptors : List ℕ) (calls : List TracedCall) (head : ℕ) (bytes : List ℕ) (placed : List PlacedCall) (refused : List RefusedCall)
-    → AreMade calls head bytes placed refused → IsWellFormed (record { names = names; descriptors = descriptors; calls = calls })
+stands_for : (sizes : Sizes) (names : List (List ℕ)) (descriptors : List ℕ) (calls : List TracedCall) (head : ℕ) (bytes : List ℕ) (placed : List PlacedCall) (refused : List RefusedCall)
+    → AreMade sizes calls head bytes placed refused → IsWellFormed (record { names = names; descriptors = descriptors; calls = calls })
     → StandsFor names descriptors bytes placed
-stands_for names [] calls head bytes placed refused made well_formed =
+stands_for sizes names [] calls head bytes placed refused made well_formed =
     stands_unopened names [] bytes placed well_formed.names
     (none_placed calls placed refused (no_calls calls well_formed.calls) made.each_once) made.bytes_are
-stands_for names (descriptor ∷ []) calls head bytes placed refused made well_formed =
+stands_for sizes names (descriptor ∷ []) calls head bytes placed refused made well_formed =
     stands_opened names descriptor bytes placed well_formed.names well_formed.descriptors
     (All-head (λ file. file ≡ 0) descriptor [] well_formed.files) made.legal made.bytes_are
-stands_for names (descriptor ∷ other ∷ descriptors) calls head bytes placed refused made well_formed =
+stands_for sizes names (descriptor ∷ other ∷ descriptors) calls head bytes placed refused made well_formed =
     absurd (omega (arith, well_formed.names, well_formed.descriptors))
 
 -- A run that made the calls of a trace has a report that is faithful to it.
-pub HasMade-faithful : (trace : Traced) (head : ℕ) (bytes : List ℕ) (outcome : Outcome) → HasMade trace.calls head bytes outcome → IsWellFormed trace
-    → IsFaithful trace (report_of trace.names outcome bytes)
-HasMade-faithful trace head bytes outcome made well_formed =
-    let stands = stands_for trace.names trace.descriptors trace.calls head bytes (placed_calls outcome) (refused_calls outcome) made well_formed in
+pub HasMade-faithful : (sizes : Sizes) (trace : Traced) (head : ℕ) (bytes : List ℕ) (outcome : Outcome) → HasMade sizes trace.calls head bytes outcome → IsWellFormed trace
+    → IsFaithful sizes trace (report_of trace.names outcome bytes)
+HasMade-faithful sizes trace head bytes outcome made well_formed =
+    let stands = stands_for sizes trace.names trace.descriptors trace.calls head bytes (placed_calls outcome) (refused_calls outcome) made well_formed in
     record {
       legal = stands.legal;
       each_once = made.each_once;
@@ -94,5 +94,6 @@ HasMade-faithful trace head bytes outcome made well_formed =
       refused_in_order = made.refused_in_order;
       allowed = made.allowed;
       not_barred = made.not_barred;
+      room = omega (arith, made.drawn, made.room);
       files = stands.files;
     }

@@ -7,7 +7,7 @@ use Rattle.nv_trace.specs.Traced.{Traced}
 use Rattle.nv_trace.specs.declared.trace.TraceCall.{TraceCall}
 use Rattle.nv_trace.specs.declared.trace.TraceCall.TheVariants.{Pread, Pwrite, Fsync}
 use Rattle.nv_top.specs.Readings.{HasPlainNames}
-use Rattle.nv_top.specs.Reports.{Report, report_text, IsFaithful}
+use Rattle.nv_top.specs.Reports.{Sizes, Report, report_text, IsFaithful}
 
 -- a call on one of so many descriptors is a call on one of more
 within_more : (few more : ℕ) (call : TraceCall) → few ≤ more → IsCallWithin few call → IsCallWithin more call
@@ -22,11 +22,11 @@ calls_within trace well_formed k d inside =
     (omega (arith, well_formed.names, well_formed.descriptors)) (well_formed.calls k d inside)
 
 -- where the input is told, the report is faithful to its trace
-pub headline : (left : Option (List ℕ)) (trace : Traced) (report : Report) (text : List ℕ)
+pub headline : (sizes : Sizes) (left : Option (List ℕ)) (trace : Traced) (report : Report) (text : List ℕ)
     → IfSome left (λ input. ending_of input ≡ Whole trace)
-    → ((input : List ℕ) → ending_of input ≡ Whole trace → IsFaithful trace report)
+    → ((input : List ℕ) → ending_of input ≡ Whole trace → IsFaithful sizes trace report)
     → HasPlainNames report
     → text ≡ report_text report
-    → IfSome left (λ input. (t : Traced) × (r : Report) × (ending_of input ≡ Whole t) × IsFaithful t r × HasPlainNames r × (text ≡ report_text r))
-headline None trace report text whole faithful plain said = tt
-headline (Some input) trace report text whole faithful plain said = (trace, report, whole, faithful input whole, plain, said)
+    → IfSome left (λ input. (t : Traced) × (r : Report) × (ending_of input ≡ Whole t) × IsFaithful sizes t r × HasPlainNames r × (text ≡ report_text r))
+headline sizes None trace report text whole faithful plain said = tt
+headline sizes (Some input) trace report text whole faithful plain said = (trace, report, whole, faithful input whole, plain, said)

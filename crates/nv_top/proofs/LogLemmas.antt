@@ -12,7 +12,7 @@ use Rattle.nv_plain.specs.Files.{overwritten}
 use Rattle.nv_plain.specs.Images.{entry_of, data_of}
 use Rattle.nv_plain.specs.Pieces.{pages_touched, piece_of}
 use Rattle.nv_pmem.specs.Images.{InEachImage}
-use Rattle.nv_pmem.specs.Part.{Part, blank_line, word_of}
+use Rattle.nv_pmem.specs.Part.{Part, word_of}
 use Rattle.nv_pmem.specs.Room.{Room, Keeps}
 use Rattle.nv_pmem.specs.Moments.{Tells}
 use Rattle.nv_pmem.specs.Rows.{RowStep, DidSomeRow, RowTells, InEachRowImage, row_words}

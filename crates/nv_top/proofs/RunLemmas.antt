@@ -2,7 +2,7 @@
 use Rattle.std.proofs.Common.{◌≡◌, ℕ, ◌+◌, ◌<◌, ◌≤◌, ◌==◌, ◌&&◌, not, nat_lt, nat_le, Bool, true, false, cond, if◌then◌else◌, List, [], ◌∷◌, ◌++◌, length, map, filter, sum_by, take, get_or, All, Option, Some, None, MatchOption, Result, Ok, Err, option_and_then, IsPermutation, Bor, refl, sym, ap, subst, ◌∙◌, inl, inr, arith, append_assoc, append-nil, length-append}
 use Rattle.std.specs.List.Sorted.{IsStrictlyIncreasing}
 use Rattle.std.specs.Option.{option_map_or}
-use Rattle.std.proofs.lemmas.Bool.{cases_lt, cases_Bool, and_right, not_from_false, le-ltb, ltb-true, cond-true}
+use Rattle.std.proofs.lemmas.Bool.{cases_lt, cases_Bool, and_right, not_from_false, le-ltb, ltb-true, ltb-false, cond-true}
 use Rattle.std.proofs.lemmas.List.{length-map, length_push, get_or_append_left, get_or-append-add, get_or_push, get_or-map, get_or-take, length-take, map_push}
 use Rattle.std.proofs.lemmas.List.Elements.{All-head, All-tail, All-push, All-map, All-filter, All-weaker, filter-append}
 use Rattle.std.proofs.lemmas.List.Kept.{AllPairs-from_increasing}
@@ -24,7 +24,7 @@ use Rattle.nv_trace.specs.declared.trace.TracedCall.{TracedCall}
 use Rattle.nv_trace.specs.declared.report.Refusal.{Refusal}
 use Rattle.nv_trace.specs.declared.report.Refusal.TheVariants.{TooFar, TooLong, Again}
 use Rattle.nv_top.specs.Calls.{IsRefusedBy}
-use Rattle.nv_top.specs.Reports.{PlacedCall, RefusedCall, file_call, history_of, entry_count, barred, entries_taken, first_refusal, refusal_at, entries_of_history, not_later, WasFull, IsAllowed, lines_of}
+use Rattle.nv_top.specs.Reports.{PlacedCall, RefusedCall, Sizes, file_call, history_of, barred, entries_taken, first_refusal, refusal_at, entries_of_history, not_later, WasFull, IsAllowed, lines_of}
 use Rattle.nv_top.specs.Log.{present, overlaid, slots_of, file_of, StaysOver}
 use Rattle.nv_top.specs.Runs.{one_file, placed_call, refused_call, AreMade, IsAfterAll}
 use Rattle.nv_pmem.specs.Steps.{History}
@@ -82,27 +82,27 @@ lines_rise_on thread calls call rises after_all =
     ]
 
 -- how many entries the calls of a history took that are not the later ones of a call's thread, where the history grows
-entries_grow : (history : List PlacedCall) (more : PlacedCall) (call : TracedCall) → entries_of_history (not_later call history) ≤ entries_of_history (not_later call (history ++ more ∷ []))
-entries_grow history more call =
+entries_grow : (sizes : Sizes) (history : List PlacedCall) (more : PlacedCall) (call : TracedCall) → entries_of_history sizes (not_later call history) ≤ entries_of_history sizes (not_later call (history ++ more ∷ []))
+entries_grow sizes history more call =
     let test : PlacedCall → Bool = λ placed. not (placed.call.thread == call.thread && nat_lt call.line placed.call.line) in
-    let taken : PlacedCall → ℕ = λ placed. entries_taken placed.call.call in
-    let parts : entries_of_history (not_later call (history ++ more ∷ [])) ≡ entries_of_history (not_later call history) + sum_by taken (filter test (more ∷ [])) =
+    let taken : PlacedCall → ℕ = λ placed. entries_taken sizes placed.call.call in
+    let parts : entries_of_history sizes (not_later call (history ++ more ∷ [])) ≡ entries_of_history sizes (not_later call history) + sum_by taken (filter test (more ∷ [])) =
     ap (sum_by taken) (filter-append test history (more ∷ [])) ∙ sum_by-append taken (filter test history) (filter test (more ∷ [])) in
     omega (arith, parts)
 
-was_full_on : (history : List PlacedCall) (more : PlacedCall) (call : TracedCall) (refusal : Refusal) → WasFull history call refusal → WasFull (history ++ more ∷ []) call refusal
-was_full_on history more call TooFar full = full
-was_full_on history more call TooLong full = full
-was_full_on history more call (Again head tail) full =
-    (full.0, full.1, omega (arith, full.2, entries_grow history more call))
+was_full_on : (sizes : Sizes) (history : List PlacedCall) (more : PlacedCall) (call : TracedCall) (refusal : Refusal) → WasFull sizes history call refusal → WasFull sizes (history ++ more ∷ []) call refusal
+was_full_on sizes history more call TooFar full = full
+was_full_on sizes history more call TooLong full = full
+was_full_on sizes history more call (Again head tail) full =
+    record { takes = full.takes; retired = full.retired; full = full.full; drawn = omega (arith, full.drawn, entries_grow sizes history more call) }
 
 -- one more placed call takes no refusal's cause away
-allowed_on : (history : List PlacedCall) (more : PlacedCall) (call : TracedCall) (refusal : Refusal) → IsAllowed history call refusal → IsAllowed (history ++ more ∷ []) call refusal
-allowed_on history more call refusal allowed =
-    allowed_at (barred call.call) allowed
+allowed_on : (sizes : Sizes) (history : List PlacedCall) (more : PlacedCall) (call : TracedCall) (refusal : Refusal) → IsAllowed sizes history call refusal → IsAllowed sizes (history ++ more ∷ []) call refusal
+allowed_on sizes history more call refusal allowed =
+    allowed_at (barred sizes call.call) allowed
   where
-    allowed_at : (cause : Option Refusal) → MatchOption cause (WasFull history call refusal) (λ cause. refusal ≡ cause) → MatchOption cause (WasFull (history ++ more ∷ []) call refusal) (λ cause. refusal ≡ cause)
-    allowed_at None full = was_full_on history more call refusal full
+    allowed_at : (cause : Option Refusal) → MatchOption cause (WasFull sizes history call refusal) (λ cause. refusal ≡ cause) → MatchOption cause (WasFull sizes (history ++ more ∷ []) call refusal) (λ cause. refusal ≡ cause)
+    allowed_at None full = was_full_on sizes history more call refusal full
     allowed_at (Some cause) is = is
 
 -- where no placed call has a later line, none is left out
@@ -116,30 +116,41 @@ none_later history call after_all =
     (le-ltb call.line placed.call.line (omega arith)))) history after_all)
 
 -- the refusal of a call where so many entries were drawn is one that may be shown
-refusal_allowed : (history : List PlacedCall) (head : ℕ) (call : TracedCall) (refusal : Refusal) → head ≡ entries_of_history (not_later call history) → refusal_at head call.call ≡ Some refusal → IsAllowed history call refusal
-refusal_allowed history head call refusal drawn refused =
-    allowed_at (barred call.call) refused
+refusal_allowed : (sizes : Sizes) (history : List PlacedCall) (head : ℕ) (call : TracedCall) (refusal : Refusal) → head ≤ sizes.entries → head ≡ entries_of_history sizes (not_later call history) → refusal_at sizes head call.call ≡ Some refusal → IsAllowed sizes history call refusal
+refusal_allowed sizes history head call refusal room drawn refused =
+    allowed_at (barred sizes call.call) refused
   where
     full : Bool
-    full = nat_lt entry_count (head + entries_taken call.call)
+    full = nat_lt sizes.entries (head + entries_taken sizes call.call)
 
-    full_at : (is_full : Bool) → (is_full ≡ true → entry_count < head + entries_taken call.call) → (if is_full then Some (Again head 0) else None) ≡ Some refusal → WasFull history call refusal
+    full_at : (is_full : Bool) → (is_full ≡ true → sizes.entries < head + entries_taken sizes call.call) → (if is_full then Some (Again head 0) else None) ≡ Some refusal → WasFull sizes history call refusal
     full_at true above is =
         let again : Again head 0 ≡ refusal = cc in
-        subst (WasFull history call) again (refl, omega (arith, above refl), omega arith)
+        subst (WasFull sizes history call) again
+        (record { takes = omega (arith, above refl); retired = refl; full = omega (arith, above refl); drawn = omega arith })
     full_at false above is = absurd cc
 
-    allowed_at : (cause : Option Refusal) → first_refusal cause (if nat_lt entry_count (head + entries_taken call.call) then Some (Again head 0) else None) ≡ Some refusal → MatchOption cause (WasFull history call refusal) (λ cause. refusal ≡ cause)
-    allowed_at None is = full_at (nat_lt entry_count (head + entries_taken call.call)) (ltb-true entry_count (head + entries_taken call.call)) is
+    allowed_at : (cause : Option Refusal) → first_refusal cause (if nat_lt sizes.entries (head + entries_taken sizes call.call) then Some (Again head 0) else None) ≡ Some refusal → MatchOption cause (WasFull sizes history call refusal) (λ cause. refusal ≡ cause)
+    allowed_at None is = full_at (nat_lt sizes.entries (head + entries_taken sizes call.call)) (ltb-true sizes.entries (head + entries_taken sizes call.call)) is
     allowed_at (Some cause) is = cc
 
 -- a call that is not refused is not barred
-not_refused : (head : ℕ) (call : TracedCall) → refusal_at head call.call ≡ None → barred call.call ≡ None
-not_refused head call is = not_refused_at (barred call.call) is
+not_refused : (sizes : Sizes) (head : ℕ) (call : TracedCall) → refusal_at sizes head call.call ≡ None → barred sizes call.call ≡ None
+not_refused sizes head call is = not_refused_at (barred sizes call.call) is
   where
-    not_refused_at : (cause : Option Refusal) → first_refusal cause (if nat_lt entry_count (head + entries_taken call.call) then Some (Again head 0) else None) ≡ None → cause ≡ None
+    not_refused_at : (cause : Option Refusal) → first_refusal cause (if nat_lt sizes.entries (head + entries_taken sizes call.call) then Some (Again head 0) else None) ≡ None → cause ≡ None
     not_refused_at None is = refl
     not_refused_at (Some cause) is = cc
+
+-- and there is room for what it takes
+room_left : (sizes : Sizes) (head : ℕ) (call : TracedCall) → refusal_at sizes head call.call ≡ None → head + entries_taken sizes call.call ≤ sizes.entries
+room_left sizes head call is = room_at (barred sizes call.call) (nat_lt sizes.entries (head + entries_taken sizes call.call)) (ltb-false sizes.entries (head + entries_taken sizes call.call)) is
+  where
+    room_at : (cause : Option Refusal) (is_full : Bool) → (is_full ≡ false → head + entries_taken sizes call.call ≤ sizes.entries)
+        → first_refusal cause (if is_full then Some (Again head 0) else None) ≡ None → head + entries_taken sizes call.call ≤ sizes.entries
+    room_at None true left is = absurd cc
+    room_at None false left is = left refl
+    room_at (Some cause) is_full left is = absurd cc
 
 -- what a call's answer says of its refusal
 pub none_from_ok : {T : Type 0} (cause : Option Refusal) (value : T) → IsRefusedBy cause (Ok value) → cause ≡ None
@@ -167,8 +178,8 @@ all_from_map : {X Y : Type 0} (P : X → Type 0) (f : Y → X) (ys : List Y) →
 all_from_map P f ys all k d below =
     subst P (get_or-map f ys k d (f d) below) (all k (f d) (omega (arith, length-map ys f)))
 
-none_made : AreMade [] 0 [] [] []
-none_made = record {
+none_made : (sizes : Sizes) → AreMade sizes [] 0 [] [] []
+none_made sizes = record {
   legal = tt;
   bytes_are = refl;
   each_once = IsPermutation-refl [];
@@ -177,16 +188,17 @@ none_made = record {
   allowed = λ k d below. absurd (omega arith);
   not_barred = λ k d below. absurd (omega arith);
   drawn = refl;
+  room = omega arith;
 }
 
 -- nothing was made yet
-pub made_nothing : (head : ℕ) (bytes : List ℕ) (placed : List PlacedCall) (refused : List RefusedCall) → head ≡ 0 → bytes ≡ [] → placed ≡ [] → refused ≡ []
-    → AreMade [] head bytes placed refused
-made_nothing head bytes placed refused none no_bytes none_placed none_refused =
-    let drawn = subst (λ n. AreMade [] n [] [] []) (sym none) none_made in
-    let written = subst (λ file. AreMade [] head file [] []) (sym no_bytes) drawn in
-    let taken = subst (λ calls. AreMade [] head bytes calls []) (sym none_placed) written in
-    subst (AreMade [] head bytes placed) (sym none_refused) taken
+pub made_nothing : (sizes : Sizes) (head : ℕ) (bytes : List ℕ) (placed : List PlacedCall) (refused : List RefusedCall) → head ≡ 0 → bytes ≡ [] → placed ≡ [] → refused ≡ []
+    → AreMade sizes [] head bytes placed refused
+made_nothing sizes head bytes placed refused none no_bytes none_placed none_refused =
+    let drawn = subst (λ n. AreMade sizes [] n [] [] []) (sym none) (none_made sizes) in
+    let written = subst (λ file. AreMade sizes [] head file [] []) (sym no_bytes) drawn in
+    let taken = subst (λ calls. AreMade sizes [] head bytes calls []) (sym none_placed) written in
+    subst (AreMade sizes [] head bytes placed) (sym none_refused) taken
 
 -- a log that has no entry yet
 pub no_bytes : {P : Type 0} (history : P → History) (log : Log P) → log.head ≡ 0 → file_of history log ≡ []
@@ -206,8 +218,8 @@ StaysOver-trans first second = record {
 }
 
 -- A run goes on by a call that is after all others.
-module _ (calls : List TracedCall) (head : ℕ) (bytes : List ℕ) (placed : List PlacedCall) (refused : List RefusedCall) (call : TracedCall)
-    (made : AreMade calls head bytes placed refused) (after_all : IsAfterAll calls call) where
+module _ (sizes : Sizes) (calls : List TracedCall) (head : ℕ) (bytes : List ℕ) (placed : List PlacedCall) (refused : List RefusedCall) (call : TracedCall)
+    (made : AreMade sizes calls head bytes placed refused) (after_all : IsAfterAll calls call) where
   all_earlier : All (λ earlier. earlier.line < call.line) (map (λ p. p.call) placed ++ map (λ r. r.call) refused)
   all_earlier =
       All-permutation (λ earlier. earlier.line < call.line) calls (map (λ p. p.call) placed ++ map (λ r. r.call) refused)
@@ -220,18 +232,18 @@ module _ (calls : List TracedCall) (head : ℕ) (bytes : List ℕ) (placed : Lis
   refused_earlier = All-back (λ earlier. earlier.line < call.line) (map (λ p. p.call) placed) (map (λ r. r.call) refused) all_earlier
 
   pub made_placed : (reply : Reply) (new_head : ℕ) (new_bytes : List ℕ)
-      → refusal_at head call.call ≡ None
+      → refusal_at sizes head call.call ≡ None
       → reply ≡ reply_of (file_call (0 ∷ []) call.call) (one_file bytes)
       → one_file new_bytes ≡ files_after (file_call (0 ∷ []) call.call) (one_file bytes)
-      → new_head ≡ head + entries_taken call.call
-      → AreMade (calls ++ call ∷ []) new_head new_bytes (placed ++ record { call = call; reply = reply } ∷ []) refused
+      → new_head ≡ head + entries_taken sizes call.call
+      → AreMade sizes (calls ++ call ∷ []) new_head new_bytes (placed ++ record { call = call; reply = reply } ∷ []) refused
   made_placed reply new_head new_bytes taken replied written drawn =
       let last : PlacedCall = record { call = call; reply = reply } in
       let answered_of : PlacedCall → Answered = λ p. record { caller = p.call.thread; call = file_call (0 ∷ []) p.call.call; reply = p.reply } in
       let history : history_of (0 ∷ []) (placed ++ last ∷ []) ≡ history_of (0 ∷ []) placed ++ answered_of last ∷ [] = map_push answered_of placed last in
       let one_of : PlacedCall → TracedCall = λ p. p.call in
       let ones : map one_of (placed ++ last ∷ []) ≡ map one_of placed ++ call ∷ [] = map_push one_of placed last in
-      let entries_of : PlacedCall → ℕ = λ p. entries_taken p.call.call in
+      let entries_of : PlacedCall → ℕ = λ p. entries_taken sizes p.call.call in
       record {
         legal =
             subst (λ h. IsLegal h (empty_files 1)) (sym history)
@@ -249,17 +261,18 @@ module _ (calls : List TracedCall) (head : ℕ) (bytes : List ℕ) (placed : Lis
             (lines_rise_on thread (map one_of placed) call (made.in_order thread) placed_earlier);
         refused_in_order = made.refused_in_order;
         allowed =
-            All-weaker (λ r. IsAllowed placed r.call r.refusal) (λ r. IsAllowed (placed ++ last ∷ []) r.call r.refusal)
-            (λ r. allowed_on placed last r.call r.refusal) refused made.allowed;
-        not_barred = All-push (λ p. barred p.call.call ≡ None) placed last made.not_barred (not_refused head call taken);
+            All-weaker (λ r. IsAllowed sizes placed r.call r.refusal) (λ r. IsAllowed sizes (placed ++ last ∷ []) r.call r.refusal)
+            (λ r. allowed_on sizes placed last r.call r.refusal) refused made.allowed;
+        not_barred = All-push (λ p. barred sizes p.call.call ≡ None) placed last made.not_barred (not_refused sizes head call taken);
         drawn = omega (arith, drawn, made.drawn, sum_by-append entries_of placed (last ∷ []));
+        room = omega (arith, drawn, room_left sizes head call taken);
       }
 
   pub made_refused : (refusal : Refusal) (new_head : ℕ) (new_bytes : List ℕ)
-      → refusal_at head call.call ≡ Some refusal
+      → refusal_at sizes head call.call ≡ Some refusal
       → new_bytes ≡ bytes
       → new_head ≡ head
-      → AreMade (calls ++ call ∷ []) new_head new_bytes placed (refused ++ record { call = call; refusal = refusal } ∷ [])
+      → AreMade sizes (calls ++ call ∷ []) new_head new_bytes placed (refused ++ record { call = call; refusal = refusal } ∷ [])
   made_refused refusal new_head new_bytes is unwritten undrawn =
       let last : RefusedCall = record { call = call; refusal = refusal } in
       let one_of : RefusedCall → TracedCall = λ r. r.call in
@@ -277,10 +290,11 @@ module _ (calls : List TracedCall) (head : ℕ) (bytes : List ℕ) (placed : Lis
             subst IsStrictlyIncreasing (sym (map_push line_of refused last))
             (IsStrictlyIncreasing-push (map line_of refused) call.line made.refused_in_order (All-map (λ n. n < call.line) line_of refused earlier));
         allowed =
-            All-push (λ r. IsAllowed placed r.call r.refusal) refused last made.allowed
-            (refusal_allowed placed head call refusal (made.drawn ∙ ap entries_of_history (sym all_count)) is);
+            All-push (λ r. IsAllowed sizes placed r.call r.refusal) refused last made.allowed
+            (refusal_allowed sizes placed head call refusal made.room (made.drawn ∙ ap (entries_of_history sizes) (sym all_count)) is);
         not_barred = made.not_barred;
         drawn = undrawn ∙ made.drawn;
+        room = omega (arith, undrawn, made.room);
       }
 
 -- the calls of an outcome, one more of them placed or refused

@@ -1,5 +1,5 @@
 -- Reports: what one lists, its text, and when it is right.
-use Rattle.std.specs.Prelude.{◌≡◌, ℕ, ◌+◌, ◌*◌, ◌<◌, ◌≤◌, ◌==◌, ◌&&◌, not, nat_lt, if◌then◌else◌, List, [], ◌∷◌, ◌++◌, length, map, filter, sum_by, All, Option, Some, None, MatchOption, slice_index, IsPermutation}
+use Rattle.std.specs.Prelude.{◌≡◌, ℕ, ◌+◌, ◌*◌, ◌<◌, ◌≤◌, ◌==◌, ◌&&◌, not, nat_lt, min, if◌then◌else◌, List, [], ◌∷◌, ◌++◌, length, map, filter, sum_by, All, Option, Some, None, MatchOption, slice_index, IsPermutation}
 use Rattle.std.specs.List.{flat_map, zip}
 use Rattle.std.specs.List.Sorted.{IsStrictlyIncreasing}
 use Rattle.nv_plain.specs.declared.call.FileCall.{FileCall}
@@ -7,6 +7,7 @@ use Rattle.nv_plain.specs.declared.call.FileCall.TheVariants.{Read, Write, Sync}
 use Rattle.nv_plain.specs.declared.call.Reply.{Reply}
 use Rattle.nv_plain.specs.Files.{Files, empty_files}
 use Rattle.nv_plain.specs.Histories.{Answered, IsLegal, after}
+use Rattle.nv_plain.specs.Layouts.{version_1}
 use Rattle.nv_plain.specs.Pieces.{pages_touched}
 use Rattle.nv_trace.specs.declared.trace.TraceCall.{TraceCall}
 use Rattle.nv_trace.specs.declared.trace.TraceCall.TheVariants.{Pread, Pwrite, Fsync}
@@ -71,33 +72,29 @@ abbrev pub named : List (List ℕ) → Files → List NamedFile
 named names files = map (λ pair. record { name = pair.0; bytes = pair.1 }) (zip names files.contents)
 
 -- the sizes of a run: bytes of a page, entries of the log, pages of a file
-abbrev pub page_size : ℕ
-page_size = 64
-
-abbrev pub entry_count : ℕ
-entry_count = 16
-
-abbrev pub page_count : ℕ
-page_count = 64
+pub record Sizes : Type 0 where
+  pub page : ℕ
+  pub entries : ℕ
+  pub pages : ℕ
 
 -- why a call that moves so many bytes can't be made, where it may touch so many pages
-abbrev pub barred_by : (most at len : ℕ) → Option Refusal
-barred_by most at len =
-    if nat_lt (page_size * page_count) (at + len) then Some TooFar
-    else if nat_lt most (pages_touched at len page_size) then Some TooLong
+abbrev pub barred_by : Sizes → (most at len : ℕ) → Option Refusal
+barred_by sizes most at len =
+    if nat_lt (sizes.page * sizes.pages) (at + len) then Some TooFar
+    else if nat_lt most (pages_touched at len sizes.page) then Some TooLong
     else None
 
--- why a call can't be made, whatever the log holds: a write has one piece, a read no more pages than the log entries
-abbrev pub barred : TraceCall → Option Refusal
-barred (Pread fd at len) = barred_by entry_count at len
-barred (Pwrite fd at bytes) = barred_by 1 at (length bytes)
-barred (Fsync fd) = None
+-- why a call can't be made, whatever the log holds: a write has one piece, and a read touches no more pages than a group has entries
+abbrev pub barred : Sizes → TraceCall → Option Refusal
+barred sizes (Pread fd at len) = barred_by sizes (min version_1.group_limit sizes.entries) at len
+barred sizes (Pwrite fd at bytes) = barred_by sizes 1 at (length bytes)
+barred sizes (Fsync fd) = None
 
 -- how many entries a call takes
-abbrev pub entries_taken : TraceCall → ℕ
-entries_taken (Pread fd at len) = 0
-entries_taken (Pwrite fd at bytes) = pages_touched at (length bytes) page_size
-entries_taken (Fsync fd) = 0
+abbrev pub entries_taken : Sizes → TraceCall → ℕ
+entries_taken sizes (Pread fd at len) = 0
+entries_taken sizes (Pwrite fd at bytes) = pages_touched at (length bytes) sizes.page
+entries_taken sizes (Fsync fd) = 0
 
 -- the first of two refusals that there is
 abbrev pub first_refusal : Option Refusal → Option Refusal → Option Refusal
@@ -105,36 +102,42 @@ first_refusal (Some refusal) other = Some refusal
 first_refusal None other = other
 
 -- the refusal of a call where so many entries were drawn
-abbrev pub refusal_at : ℕ → TraceCall → Option Refusal
-refusal_at head call =
-    first_refusal (barred call) (if nat_lt entry_count (head + entries_taken call) then Some (Again head 0) else None)
+abbrev pub refusal_at : Sizes → ℕ → TraceCall → Option Refusal
+refusal_at sizes head call =
+    first_refusal (barred sizes call) (if nat_lt sizes.entries (head + entries_taken sizes call) then Some (Again head 0) else None)
 
 -- how many entries the calls of a history have taken
-abbrev pub entries_of_history : List PlacedCall → ℕ
-entries_of_history history = sum_by (λ placed. entries_taken placed.call.call) history
+abbrev pub entries_of_history : Sizes → List PlacedCall → ℕ
+entries_of_history sizes history = sum_by (λ placed. entries_taken sizes placed.call.call) history
 
 -- the placed calls but the later ones of a call's own thread
 abbrev pub not_later : TracedCall → List PlacedCall → List PlacedCall
 not_later call history =
     filter (λ placed. not (placed.call.thread == call.thread && nat_lt call.line placed.call.line)) history
 
--- The log had no room for the call: nothing was retired, and the entries drawn are some of those of the history.
-abbrev pub WasFull : List PlacedCall → TracedCall → Refusal → Type 0
-WasFull history call TooFar = ⊥
-WasFull history call TooLong = ⊥
-WasFull history call (Again head tail) =
-    (tail ≡ 0) × (tail + entry_count < head + entries_taken call.call) × (head ≤ entries_of_history (not_later call history))
+-- The log had no room for a call that takes entries: nothing was retired, and the entries drawn are some of those of the history.
+pub record HadNoRoom (sizes : Sizes) (history : List PlacedCall) (call : TracedCall) (head tail : ℕ) : Type 0 where
+  pub takes : 0 < entries_taken sizes call.call
+  pub retired : tail ≡ 0
+  pub full : tail + sizes.entries < head + entries_taken sizes call.call
+  pub drawn : head ≤ entries_of_history sizes (not_later call history)
+
+-- the refusal by a full log
+abbrev pub WasFull : Sizes → List PlacedCall → TracedCall → Refusal → Type 0
+WasFull sizes history call TooFar = ⊥
+WasFull sizes history call TooLong = ⊥
+WasFull sizes history call (Again head tail) = HadNoRoom sizes history call head tail
 
 -- A refusal that may be shown: the one that bars the call, or, where none does, that the log was full.
-abbrev pub IsAllowed : List PlacedCall → TracedCall → Refusal → Type 0
-IsAllowed history call refusal = MatchOption (barred call.call) (WasFull history call refusal) (λ cause. refusal ≡ cause)
+abbrev pub IsAllowed : Sizes → List PlacedCall → TracedCall → Refusal → Type 0
+IsAllowed sizes history call refusal = MatchOption (barred sizes call.call) (WasFull sizes history call refusal) (λ cause. refusal ≡ cause)
 
 -- the lines of a thread's calls
 abbrev pub lines_of : ℕ → List TracedCall → List ℕ
 lines_of thread calls = map (λ call. call.line) (filter (λ call. call.thread == thread) calls)
 
--- A report is faithful to a trace.
-pub record IsFaithful (trace : Traced) (report : Report) : Type 0 where
+-- A report is faithful to a trace that was run with these sizes.
+pub record IsFaithful (sizes : Sizes) (trace : Traced) (report : Report) : Type 0 where
   -- its history is one of plain files, which were empty before
   pub legal : IsLegal (history_of trace.descriptors report.history) (empty_files (length trace.names))
   -- each call of the trace stands in it once, in the history or among the refused, and no other call
@@ -143,7 +146,9 @@ pub record IsFaithful (trace : Traced) (report : Report) : Type 0 where
   pub in_order : (thread : ℕ) → IsStrictlyIncreasing (lines_of thread (map (λ p. p.call) report.history))
   pub refused_in_order : IsStrictlyIncreasing (map (λ r. r.call.line) report.refused)
   -- a refusal has its cause, and what is barred is refused
-  pub allowed : All (λ r. IsAllowed report.history r.call r.refusal) report.refused
-  pub not_barred : All (λ p. barred p.call.call ≡ None) report.history
+  pub allowed : All (λ r. IsAllowed sizes report.history r.call r.refusal) report.refused
+  pub not_barred : All (λ p. barred sizes p.call.call ≡ None) report.history
+  -- and so is a write for which the log has no entry left
+  pub room : entries_of_history sizes report.history ≤ sizes.entries
   -- the files are those after the history
   pub files : report.files ≡ named trace.names (after (history_of trace.descriptors report.history) (empty_files (length trace.names)))

@@ -1,5 +1,5 @@
 ghost use Rattle.std.specs.Prelude.{◌≡◌, ℕ, ◌+◌, Bool, true, false, map, sum_by, IfOk, IfSome, OnOk, OnErr, IsErrOf};
-ghost use Rattle.nv_plain.specs.Faults.{Rose};
+ghost use Rattle.nv_plain.specs.Faults.{Rose, saturated};
 ghost use Rattle.nv_top.specs.Log.{AllTell};
 ghost use Rattle.nv_top.specs.Opening.{IsBlankRegion};
 
@@ -22,7 +22,7 @@ pub trait Bench {
     /// Whether the devices can be powered off and tell their images.
     const IMAGES: bool;
 
-    /// How often its devices, those at home, and its openings have failed.
+    /// How often its devices, those at home, and its openings have failed: the sum, which stands still at 2^64 - 1.
     ghost fault_count: { Self → ℕ };
 
     /// Whether a region is open.
@@ -42,7 +42,7 @@ pub trait Bench {
         ensures told { tells self.old → IfOk result (λ parts. AllTell (map Self.Part.history parts.items)) }
         ensures open { OnOk result (is_open self.new ≡ true) }
         ensures closed { OnErr result (is_open self.new ≡ false) }
-        ensures lent { IfOk result (λ parts. fault_count self.old ≡ fault_count self.new + sum_by Self.Part.fault_count parts.items) }
+        ensures lent { IfOk result (λ parts. fault_count self.old ≡ saturated (fault_count self.new + sum_by Self.Part.fault_count parts.items)) }
         ensures failed { IsErrOf result BenchError.Failed → Rose (fault_count self.old) (fault_count self.new) }
         ensures no_memory { IsErrOf result BenchError.NoMemory → fault_count self.new ≡ fault_count self.old };
 
@@ -50,5 +50,9 @@ pub trait Bench {
     fn give_back(&mut self, parts: Vec<Self::Part>)
         requires { is_open self.old ≡ true }
         ensures closed { is_open self.new ≡ false }
-        ensures taken { fault_count self.new ≡ fault_count self.old + sum_by Self.Part.fault_count parts.items };
+        ensures taken { fault_count self.new ≡ saturated (fault_count self.old + sum_by Self.Part.fault_count parts.items) };
+
+    /// How often its devices, those at home, and its openings have failed; at most 2^64 - 1. Takes no memory.
+    fn faults(&self) -> u64
+        ensures { result ≡ fault_count self.now };
 }

@@ -6,6 +6,7 @@ ghost use Rattle.nv_trace.specs.Traced.{Traced};
 ghost use Rattle.nv_top.specs.Endings.{IsErrorLine, AppendsFront, usage_line, read_line, device_line, memory_line, input_line, IsTrace};
 ghost use Rattle.nv_top.specs.Readings.{HasPlainNames};
 ghost use Rattle.nv_top.specs.Reports.{Report, report_text, IsFaithful};
+ghost use Rattle.nv_top.specs.Runs.{run_sizes};
 ghost use Rattle.nv_top.specs.Stops.{IsCauseOf};
 ghost use Rattle.nv_top.specs.Words.{IsRun};
 ghost use Rattle.nv_top.specs.declared.ending.Stop.TheVariants as stops;
@@ -64,12 +65,12 @@ pub fn nv_main<R: Threads + Wait + Sync, I: Source, O: Sink, B: Bench, G: Gate +
     // With status 4 a front of such a line, or of the report, is written.
     ensures write_said { result ≡ WRITE_FAULT → ((text : List ℕ) × IsErrorLine text × AppendsFront (O.written out.old) (O.written out.new) text)
         ⊎ (B.tells bench.old → IfSome (I.left src.old) (λ input.
-        (trace : Traced) × (report : Report) × (ending_of input ≡ Whole trace) × IsFaithful trace report × HasPlainNames report
+        (trace : Traced) × (report : Report) × (ending_of input ≡ Whole trace) × IsFaithful run_sizes trace report × HasPlainNames report
         × AppendsFront (O.written out.old) (O.written out.new) (report_text report))) }
 
     // With status 0 the report is one legal history of plain files.
     ensures report { result ≡ DONE → B.tells bench.old → IfSome (I.left src.old) (λ input.
-        (trace : Traced) × (report : Report) × (ending_of input ≡ Whole trace) × IsFaithful trace report × HasPlainNames report
+        (trace : Traced) × (report : Report) × (ending_of input ≡ Whole trace) × IsFaithful run_sizes trace report × HasPlainNames report
         × Appends (O.written out.old) (O.written out.new) (report_text report)) }
 {
     // They serve the threads of a run; there is one thread yet, and it is this one.
@@ -100,7 +101,7 @@ fn report<I: Source, B: Bench>(
     ensures at_end { OnOk result (IfSome (I.left src.old) (λ _. I.left src.new ≡ Some [])) }
     ensures trace { OnOk result (IfSome (I.left src.old) IsTrace) }
     ensures report { IfOk result (λ text. B.tells bench.old → IfSome (I.left src.old) (λ input.
-        (trace : Traced) × (report : Report) × (ending_of input ≡ Whole trace) × IsFaithful trace report × HasPlainNames report
+        (trace : Traced) × (report : Report) × (ending_of input ≡ Whole trace) × IsFaithful run_sizes trace report × HasPlainNames report
         × (text.items ≡ report_text report))) }
 {
     if !is_run(words) {

@@ -1,11 +1,12 @@
 ghost use Rattle.std.specs.Prelude.{◌≡◌, ◌+◌, true, false, length, map, sum_by, All, vec_len, IfSome, IfOk, OnOk, OnErr, IsErrOf};
+ghost use Rattle.nv_plain.specs.Faults.{saturated};
 ghost use Rattle.nv_top.specs.Log.{AllTell};
 ghost use Rattle.nv_pmem.specs.MemPart.{part_history, part_room, part_faults, IsBlank};
 ghost use Rattle.nv_top.specs.Opening.{IsBlankRegion};
 
 use crate::bench::{Bench, BenchError};
 use nv_plain::NoMemory;
-use nv_pmem::{Fuse, Geometry, MemPart};
+use nv_pmem::{Fuse, Geometry, Lines, MemPart};
 use std::alloc::Global;
 use std::mem;
 
@@ -60,7 +61,7 @@ impl Bench for MemBench {
         ensures told { IfOk result (λ parts. AllTell (map part_history parts.items)) }
         ensures open { OnOk result (bench_is_open self.new ≡ true) }
         ensures closed { OnErr result (bench_is_open self.new ≡ false) }
-        ensures lent { IfOk result (λ parts. bench_faults self.old ≡ bench_faults self.new + sum_by part_faults parts.items) }
+        ensures lent { IfOk result (λ parts. bench_faults self.old ≡ saturated (bench_faults self.new + sum_by part_faults parts.items)) }
         ensures failed { IsErrOf result BenchError.Failed → ⊥ }
         ensures no_memory { IsErrOf result BenchError.NoMemory → bench_faults self.new ≡ bench_faults self.old }
     {
@@ -78,11 +79,26 @@ impl Bench for MemBench {
     fn give_back(&mut self, parts: Vec<MemPart>)
         requires { bench_is_open self.old ≡ true }
         ensures closed { bench_is_open self.new ≡ false }
-        ensures taken { bench_faults self.new ≡ bench_faults self.old + sum_by part_faults parts.items }
+        ensures taken { bench_faults self.new ≡ saturated (bench_faults self.old + sum_by part_faults parts.items) }
     {
         self.lent = false;
         self.parts = parts;
     }
+
+    fn faults(&self) -> u64 {
+        faults_of(&self.parts)
+    }
+}
+
+// The sum of the parts' counts, which stands still at 2^64 - 1.
+fn faults_of(parts: &[MemPart]) -> u64
+    ensures { result ≡ saturated (sum_by part_faults parts.now) }
+{
+    let mut sum: u64 = 0;
+    for part in parts {
+        sum = sum.saturating_add(part.faults());
+    }
+    sum
 }
 
 // The parts of a blank region: the header's, and one for each entry.

@@ -7,7 +7,7 @@ ghost use Rattle.nv_trace.specs.declared.report.Refusal.{Refusal};
 ghost use Rattle.nv_top.specs.Calls.{IsRefusedBy};
 ghost use Rattle.nv_top.specs.Log.{AllTell, slots_of, file_of, faults_of, IsLog, StaysOver};
 ghost use Rattle.nv_top.specs.Reports.{file_call, entries_taken, refusal_at};
-ghost use Rattle.nv_top.specs.Runs.{one_file, HasMade, IsRunGeometry, IsAfterAll, run_error_of};
+ghost use Rattle.nv_top.specs.Runs.{one_file, HasMade, IsAfterAll, sizes_of, run_sizes, run_error_of};
 ghost use Rattle.nv_top.specs.declared.log.CallError.TheVariants as call_errors;
 ghost use Rattle.nv_top.specs.declared.run.RunError.TheVariants.{Fault, NoMemory};
 ghost use Rattle.nv_trace.specs.declared.trace.TracedCall.{TracedCall};
@@ -84,18 +84,17 @@ impl<T: Drop> From<AllocFailed<T>> for RunError {
 // Makes a call on the log.
 fn answer<L: Lines>(alloc: Global, log: &mut Log<L>, call: &TraceCall) -> Result<Reply, CallError>
     requires log { IsLog L.history L.room log.old }
-    requires sizes { IsRunGeometry log.old.geometry }
     requires within { IsCallWithin 1 call.now }
     ensures log { result ≢ Err call_errors.Fault → IsLog L.history L.room log.new }
     ensures stays { StaysOver L.history L.device log.old log.new }
-    ensures refused { IsRefusedBy (refusal_at log.old.head call.now) result }
+    ensures refused { IsRefusedBy (refusal_at (sizes_of log.old.geometry) log.old.head call.now) result }
     ensures unchanged { (refusal : Refusal) → result ≡ Err (call_errors.Refused refusal) →
         (file_of L.history log.new ≡ file_of L.history log.old) × (log.new.head ≡ log.old.head) }
     ensures reply { IfOk result (λ reply. AllTell (slots_of L.history log.old) →
         reply ≡ reply_of (file_call (0 ∷ []) call.now) (one_file (file_of L.history log.old))) }
     ensures file { OnOk result (AllTell (slots_of L.history log.old) → one_file (file_of L.history log.new)
         ≡ files_after (file_call (0 ∷ []) call.now) (one_file (file_of L.history log.old))) }
-    ensures head { OnOk result (log.new.head ≡ log.old.head + entries_taken call.now) }
+    ensures head { OnOk result (log.new.head ≡ log.old.head + entries_taken (sizes_of log.old.geometry) call.now) }
     ensures faulted { result ≡ Err call_errors.Fault → Rose (faults_of L.fault_count log.old) (faults_of L.fault_count log.new) }
     ensures sound { result ≢ Err call_errors.Fault → faults_of L.fault_count log.new ≡ faults_of L.fault_count log.old }
 {
@@ -120,13 +119,12 @@ fn make<'a, L: Lines>(
     call: &'a TracedCall,
 ) -> Result<(), RunError>
     requires log { IsLog L.history L.room log.old }
-    requires sizes { IsRunGeometry log.old.geometry }
     requires within { IsCallWithin 1 call.now.call }
     ensures log { result ≢ Err Fault → IsLog L.history L.room log.new }
     ensures stays { StaysOver L.history L.device log.old log.new }
     ensures made { OnOk result ((calls : List TracedCall) → AllTell (slots_of L.history log.old) → IsAfterAll calls call.now →
-        HasMade calls log.old.head (file_of L.history log.old) outcome.old →
-        HasMade (calls ++ call.now ∷ []) log.new.head (file_of L.history log.new) outcome.new) }
+        HasMade (sizes_of log.old.geometry) calls log.old.head (file_of L.history log.old) outcome.old →
+        HasMade (sizes_of log.old.geometry) (calls ++ call.now ∷ []) log.new.head (file_of L.history log.new) outcome.new) }
     ensures faulted { result ≡ Err Fault → Rose (faults_of L.fault_count log.old) (faults_of L.fault_count log.new) }
     ensures sound { result ≢ Err Fault → faults_of L.fault_count log.new ≡ faults_of L.fault_count log.old }
 {
@@ -151,13 +149,12 @@ pub(crate) fn make_calls<'a, L: Lines>(
     calls: &'a [TracedCall],
 ) -> Result<Outcome<'a>, RunError>
     requires log { IsLog L.history L.room log.old }
-    requires sizes { IsRunGeometry log.old.geometry }
     requires fresh { log.old.head ≡ 0 }
     requires within { All (λ traced. IsCallWithin 1 traced.call) calls.now }
     ensures log { result ≢ Err Fault → IsLog L.history L.room log.new }
     ensures stays { StaysOver L.history L.device log.old log.new }
     ensures made { IfOk result (λ outcome. AllTell (slots_of L.history log.old) → IsStrictlyIncreasing (map (λ traced. traced.line) calls.now) →
-        HasMade calls.now log.new.head (file_of L.history log.new) outcome) }
+        HasMade (sizes_of log.old.geometry) calls.now log.new.head (file_of L.history log.new) outcome) }
     ensures faulted { result ≡ Err Fault → Rose (faults_of L.fault_count log.old) (faults_of L.fault_count log.new) }
     ensures sound { result ≢ Err Fault → faults_of L.fault_count log.new ≡ faults_of L.fault_count log.old }
 {
@@ -185,13 +182,12 @@ fn make_all<'a, L: Lines>(
     calls: &'a [TracedCall],
 ) -> Result<Ran<'a>, RunError>
     requires log { IsLog L.history L.room log.old }
-    requires sizes { IsRunGeometry log.old.geometry }
     requires fresh { log.old.head ≡ 0 }
     requires within { All (λ traced. IsCallWithin 1 traced.call) calls.now }
     ensures log { result ≢ Err Fault → IsLog L.history L.room log.new }
     ensures stays { StaysOver L.history L.device log.old log.new }
     ensures made { IfOk result (λ ran. AllTell (slots_of L.history log.old) → IsStrictlyIncreasing (map (λ traced. traced.line) calls.now) →
-        (head : ℕ) × HasMade calls.now head ran.file.items ran.outcome) }
+        (head : ℕ) × HasMade (sizes_of log.old.geometry) calls.now head ran.file.items ran.outcome) }
     ensures faulted { result ≡ Err Fault → Rose (faults_of L.fault_count log.old) (faults_of L.fault_count log.new) }
     ensures sound { result ≢ Err Fault → faults_of L.fault_count log.new ≡ faults_of L.fault_count log.old }
 {
@@ -215,7 +211,7 @@ pub(crate) fn run<'a, B: Bench>(
     requires within { All (λ traced. IsCallWithin 1 traced.call) calls.now }
     ensures closed { B.is_open bench.new ≡ false }
     ensures made { IfOk result (λ ran. B.tells bench.old → IsStrictlyIncreasing (map (λ traced. traced.line) calls.now) →
-        (head : ℕ) × HasMade calls.now head ran.file.items ran.outcome) }
+        (head : ℕ) × HasMade run_sizes calls.now head ran.file.items ran.outcome) }
     ensures faulted { result ≡ Err Fault → Rose (B.fault_count bench.old) (B.fault_count bench.new) }
     ensures sound { result ≢ Err Fault → B.fault_count bench.new ≡ B.fault_count bench.old }
 {

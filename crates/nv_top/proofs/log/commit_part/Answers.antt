@@ -1,5 +1,5 @@
 -- The hand holds the part alone.
-use Rattle.std.proofs.Common.{rules, vec_len, ℕ, ◌≡◌, ◌<◌, ◌≤◌, ◌↔◌, List, [], ◌∷◌, All, OnOk, length, map, ap, sym, subst, arith}
+use Rattle.std.proofs.Common.{rules, vec_len, ℕ, ◌≡◌, List, [], ◌∷◌, All, OnOk, map, ap, sym, subst, arith}
 use Rattle.std.proofs.lemmas.Grind.{common_steps}
 use Rattle.std.proofs.lemmas.List.Elements.{All-head, All-same}
 use Rattle.std.proofs.lemmas.Result.{on_ok_weaker}
