@@ -3,8 +3,9 @@
 #![tactic(auto)]
 
 use nv_plain::NoMemory;
-use nv_top::{MemBench, NO_MEMORY, OpenGate, nv_main};
-use nv_trace::{ReaderSource, WriterSink};
+use nv_top::{MemBench, NO_MEMORY, OpenGate, WRITE_FAULT, nv_main};
+use nv_trace::{Failed, ReaderSource, Sink, WriterSink, write_all};
+use std::io::ErrorKind;
 use std::process::ExitCode;
 use std::rt::Env;
 use std::sync::Wait;
@@ -12,40 +13,43 @@ use std::thread::Threads;
 use std::{env, io};
 
 fn main(rt: HostRuntime) -> ExitCode {
-    match run(&rt) {
-        Ok(status) => ExitCode::from(status),
-        Err(NoMemory) => {
-            let _ = println!(rt; "error no memory");
-            ExitCode::from(NO_MEMORY)
-        }
-    }
+    let mut sink = WriterSink::new(io::writer(&rt));
+    let status = match run(&rt, &mut sink) {
+        Ok(status) => status,
+        Err(NoMemory) => say_no_memory(&mut sink),
+    };
+    ExitCode::from(status)
 }
 
-fn run<R>(rt: &R) -> Result<u8, NoMemory>
+fn run<R, O: Sink>(rt: &R, sink: &mut O) -> Result<u8, NoMemory>
 where
-    R: AllocGlobal + Env + Input + Print + Threads + Wait + Sync,
+    R: AllocGlobal + Env + Input + Threads + Wait + Sync,
 {
     let alloc = rt.alloc();
     let words = words(rt)?;
     let mut bench = MemBench::new(alloc, &[])?;
     let mut source = ReaderSource::new(rt.reader());
-    let mut sink = WriterSink::new(io::writer(rt));
-    Ok(nv_main(
-        rt,
-        alloc,
-        &words,
-        &mut source,
-        &mut sink,
-        &mut bench,
-        &OpenGate,
-    ))
+    Ok(nv_main(rt, alloc, &words, &mut source, sink, &mut bench, &OpenGate))
 }
 
-// The words behind the program's name.
+fn say_no_memory<O: Sink>(sink: &mut O) -> u8 {
+    match write_all(sink, b"error no memory\n") {
+        Ok(()) => NO_MEMORY,
+        Err(Failed) => WRITE_FAULT,
+    }
+}
+
+// The words behind the program's name. Where one of them isn't UTF-8 they are no command, as where there is none.
 fn words<R: AllocGlobal + Env>(rt: &R) -> Result<Vec<String>, NoMemory> {
     let mut words = Vec::new(rt.alloc());
-    for word in env::args(rt).map_err(|_| NoMemory)?.skip(1) {
-        words.push(word)?;
+    match env::args(rt) {
+        Ok(all) => {
+            for word in all.skip(1) {
+                words.push(word)?;
+            }
+        }
+        Err(error) if error.kind() == ErrorKind::InvalidData => {}
+        Err(_) => return Err(NoMemory),
     }
     Ok(words)
 }

@@ -1,0 +1,105 @@
+#!/usr/bin/env python3
+"""Runs nv_sim as its users do, and compares what it writes and its exit status with a table.
+
+The gate before this proves what nv_main answers; here the words, the standard streams and the status go through the
+system. Closes with 'N passed, M failed', and fails where one fails.
+"""
+
+import os
+import resource
+import subprocess
+import sys
+
+HELLO = b"file a\nfd 0 a rw\n0 pwrite 0 0 68656c6c6f\n0 pread 0 0 16\n"
+REPORT = b"0 0 pwrite 0 0 5 = 5\n1 0 pread 0 0 16 = 68656c6c6f\nfile a 5 68656c6c6f\nend 2 0 0\n"
+USAGE = (b"error usage\n", 1)
+READ = (b"error read\n", 3)
+RUN = [b"run", b"--noworker"]
+
+
+def line(number):
+    return (b"error line %d form\n" % number, 2)
+
+
+# What the words and the input make of the program. No byte of the input is read where the words are no command.
+TABLE = [
+    ("hello", RUN, HELLO, (REPORT, 0)),
+    ("no line feed at the end", RUN, HELLO[:-1], (REPORT, 0)),
+    ("an empty input", RUN, b"", (b"end 0 0 0\n", 0)),
+    ("no words", [], HELLO, USAGE),
+    ("the command alone", [b"run"], HELLO, USAGE),
+    ("the option alone", [b"--noworker"], HELLO, USAGE),
+    ("words exchanged", [b"--noworker", b"run"], HELLO, USAGE),
+    ("the option twice", RUN + [b"--noworker"], HELLO, USAGE),
+    ("a word too many", RUN + [b""], HELLO, USAGE),
+    ("help", [b"--help"], HELLO, USAGE),
+    ("help of the command", [b"run", b"--help"], HELLO, USAGE),
+    ("two dashes", [b"--"], HELLO, USAGE),
+    ("an empty word", [b""], HELLO, USAGE),
+    ("another case", [b"Run", b"--noworker"], HELLO, USAGE),
+    ("the first word not UTF-8", [b"\xff", b"--noworker"], HELLO, USAGE),
+    ("the second word not UTF-8", [b"run", b"\xc3\x28"], HELLO, USAGE),
+    ("a third word not UTF-8", RUN + [b"\xed\xa0\x80"], HELLO, USAGE),
+    ("a bad first line", RUN, b"x\n" + HELLO, line(1)),
+    ("a bad second line", RUN, b"file a\nx\n", line(2)),
+    ("a bad last line that no line feed ends", RUN, HELLO + b"0 pread 0 0", line(5)),
+    ("a byte that no line has", RUN, HELLO + b"\xff\n", line(5)),
+    ("an input of the limit", RUN, b"#" * 67_108_864, (b"end 0 0 0\n", 0)),
+    ("an input past the limit", RUN, b"#" * 67_108_865, (b"error input long\n", 2)),
+    ("a bad line before the limit is passed", RUN, b"x\n" + b"#" * 67_108_864, line(1)),
+]
+
+
+def run(program, words, **streams):
+    return subprocess.run([program, *words], stderr=subprocess.PIPE, timeout=60, **streams)
+
+
+def table(program):
+    for name, words, given, wanted in TABLE:
+        done = run(program, words, input=given, stdout=subprocess.PIPE)
+        yield name, (done.stdout, done.returncode), wanted, done.stderr
+
+
+def streams(program):
+    """Standard streams that are closed, full or no file."""
+    done = run(program, RUN, stdin=os.open("/", os.O_RDONLY), stdout=subprocess.PIPE)
+    yield "a folder as input", (done.stdout, done.returncode), READ, done.stderr
+    done = run(program, RUN, stdout=subprocess.PIPE, preexec_fn=lambda: os.close(0))
+    yield "closed input", (done.stdout, done.returncode), READ, done.stderr
+    done = run(program, RUN, input=HELLO, preexec_fn=lambda: os.close(1))
+    yield "closed output", done.returncode, 4, done.stderr
+    for name, words in [("a report", RUN), ("an error line", [])]:
+        with open("/dev/full", "wb") as full:
+            done = run(program, words, input=HELLO, stdout=full)
+        yield f"no room for {name}", done.returncode, 4, done.stderr
+    reader, writer = os.pipe()
+    os.close(reader)
+    done = run(program, RUN, input=HELLO, stdout=writer)
+    os.close(writer)
+    yield "output that nobody reads", done.returncode, 4, done.stderr
+
+
+def memory(program):
+    """A program that may take 24 MiB, and a trace that it would have to keep."""
+    few = 24 << 20
+    limit = lambda: resource.setrlimit(resource.RLIMIT_AS, (few, few))
+    given = b"file a\nfd 0 a rw\n" + b"".join(b"0 pwrite 0 0 " + b"61" * 131_072 + b"\n" for _ in range(240))
+    done = run(program, RUN, input=given, stdout=subprocess.PIPE, preexec_fn=limit)
+    yield "want of memory", (done.stdout, done.returncode), (b"error no memory\n", 6), done.stderr
+
+
+def main(program):
+    passed = failed = 0
+    for cases in (table, streams, memory):
+        for name, found, wanted, errors in cases(program):
+            if found == wanted and errors == b"":
+                passed += 1
+            else:
+                failed += 1
+                print(f"nv_sim, {name}: found {found!r}, wanted {wanted!r}, standard error {errors!r}"[:600])
+    print(f"{passed} passed, {failed} failed")
+    return 1 if failed else 0
+
+
+if __name__ == "__main__":
+    sys.exit(main(sys.argv[1]))
