@@ -12,4 +12,3 @@ pub mod BlankParts
 pub mod EmptyLogs
 pub mod TailLaws
 pub mod NeededParts
-pub mod RowStateLaws

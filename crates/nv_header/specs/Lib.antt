@@ -9,4 +9,3 @@ pub mod Regions
 pub mod Additions
 pub mod Changes
 pub mod Laws
-pub mod RowStates

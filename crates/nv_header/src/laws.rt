@@ -1,6 +1,5 @@
 ghost use Rattle.nv_header.specs.Laws.{StandsForItsStores, EmptyLogRecoversNothing, LinesMakeParts, TailIsOldOrNew, TailIsMoved, TailEndsQuiet};
 ghost use Rattle.nv_header.specs.Refusals.{ReadIsNotRefused, IsRefusedOnce};
-ghost use Rattle.nv_header.specs.RowStates.{TellingRowsHaveStates, RowsHaveOneState, EachPartHasOne};
 
 /// A header has one answer: one that can be read is refused for none of its words, and one that can't be read is
 /// refused for one reason. So the refusals of `read_head` come exactly where they are stated, but that a fault, or want
@@ -28,12 +27,4 @@ pub fn the_tail_follows_steps()
     ensures moments { TailIsOldOrNew }
     ensures moved { TailIsMoved }
     ensures quiet { TailEndsQuiet }
-{}
-
-/// The present states of a row of parts that all tell: there are some, for each part one, and no others. What a row tells
-/// is what they have: `row_tells_at` and `row_tells_from`, beside their definition.
-pub fn rows_have_states()
-    ensures some { TellingRowsHaveStates }
-    ensures one { RowsHaveOneState }
-    ensures each { EachPartHasOne }
 {}

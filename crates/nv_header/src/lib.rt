@@ -36,7 +36,7 @@ pub use formatting::format;
 pub use head::{Head, HeadError, HeadField};
 pub use laws::{
     a_header_has_one_answer, an_empty_region_stands_for_its_stores, needed_lines_make_parts,
-    rows_have_states, the_tail_follows_steps,
+    the_tail_follows_steps,
 };
 pub use lines::{Truncated, check_lines};
 pub use names::Names;

@@ -9,3 +9,4 @@ pub mod ReadLaws
 pub mod PastLaws
 pub mod OneOfRow
 pub mod Ranges
+mod RowStateLaws

@@ -12,3 +12,4 @@ pub mod Draws
 pub mod Picked
 pub mod Told
 pub mod MemPart
+pub mod RowStates

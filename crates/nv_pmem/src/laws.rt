@@ -1,5 +1,6 @@
 ghost use Rattle.nv_pmem.specs.Laws.{StoredIsLoaded, OthersAreKept, StepsKeepLines, BlankIsZeros};
 ghost use Rattle.nv_pmem.specs.Laws.{LoadsAreAnImage, StepsAddTheirStores, NoStoreAddsNothing, QuietHasOneImage, FlushAndFenceSettle, QuietStays, BlankIsQuiet};
+ghost use Rattle.nv_pmem.specs.RowStates.{TellingRowsHaveStates, RowsHaveOneState, EachPartHasOne};
 
 /// What loads of a part give, as the calls of [`Lines`](crate::Lines) go on.
 pub fn loads_follow_calls()
@@ -19,4 +20,12 @@ pub fn images_follow_calls()
     ensures settled { FlushAndFenceSettle }
     ensures stays { QuietStays }
     ensures blank { BlankIsQuiet }
+{}
+
+/// The present states of a row of parts that all tell: there are some, for each part one, and no others. What a row tells
+/// is what they have: `row_tells_at` and `row_tells_from`, beside their definition.
+pub fn rows_have_states()
+    ensures some { TellingRowsHaveStates }
+    ensures one { RowsHaveOneState }
+    ensures each { EachPartHasOne }
 {}

@@ -12,7 +12,7 @@ use Rattle.nv_pmem.proofs.ImageLaws.{quiet_image}
 use Rattle.nv_pmem.proofs.RowLaws.{row_tells_both}
 use Rattle.nv_entry.specs.declared.bounds.Bounds.{Bounds}
 use Rattle.nv_entry.specs.Checks.{SaysBounds}
-use Rattle.nv_header.specs.RowStates.{row_tells_at, row_tells_from}
+use Rattle.nv_pmem.specs.RowStates.{row_tells_at, row_tells_from}
 use Rattle.nv_recover.specs.Alike.{SayTheSame}
 use Rattle.nv_recover.specs.Changes.{ThroughoutRow}
 use Rattle.nv_recover.specs.Emptying.{BothTell, MayBeTrimmed, HasSmallWord, HasNoneAbove}

@@ -13,7 +13,7 @@ use Rattle.nv_entry.specs.declared.bounds.Bounds.{Bounds}
 use Rattle.nv_entry.specs.Checks.{SaysBounds}
 use Rattle.nv_store.specs.Steps.{History}
 use Rattle.nv_store.specs.Store.{Store, IsWhole}
-use Rattle.nv_header.specs.RowStates.{row_tells_at, row_tells_from}
+use Rattle.nv_pmem.specs.RowStates.{row_tells_at, row_tells_from}
 use Rattle.nv_recover.specs.Applying.{AcrossTells, AcrossThroughout, ChangesAtMostOne, IsGroupOf, IsNumberOf, HasPiece, StaysAlike, OneWritten, LeftOrOneTorn}
 use Rattle.nv_recover.specs.Changes.{ThroughoutRow}
 use Rattle.nv_recover.specs.Groups.{AreGroups, numbers_of}

@@ -10,7 +10,7 @@ use Rattle.nv_pmem.specs.Rows.{IsRowImage, RowTells}
 use Rattle.nv_pmem.specs.Runs.{run}
 use Rattle.nv_store.specs.Store.{Store}
 use Rattle.nv_header.specs.Heads.{first_names}
-use Rattle.nv_header.specs.RowStates.{AreNow, row_tells_at}
+use Rattle.nv_pmem.specs.RowStates.{AreNow, row_tells_at}
 use Rattle.nv_recover.specs.Changes.{Devices, devices_after_change}
 use Rattle.nv_recover.specs.Interrupted.{HasDoneLog, Start, StartReads, StartFits, files_from, start_of, IsRun, IsStop, AreStops, last_of}
 use Rattle.nv_recover.specs.Recovering.{StandThroughout}

@@ -11,7 +11,7 @@ use Rattle.nv_pmem.specs.Rows.{RowTells, IsRowImage, InEachRowImage, row_words, 
 use Rattle.nv_pmem.specs.Steps.{History}
 use Rattle.nv_pmem.proofs.RowLaws.{row_image_of_now, row_tells_more, row_tells_both}
 use Rattle.nv_header.specs.Regions.{ReadsAs, IsAtRest}
-use Rattle.nv_header.specs.RowStates.{row_tells_at, row_tells_from}
+use Rattle.nv_pmem.specs.RowStates.{row_tells_at, row_tells_from}
 use Rattle.nv_recover.specs.Alike.{SayTheSame}
 use Rattle.nv_recover.specs.Changes.{ThroughoutRow}
 use Rattle.nv_recover.specs.Emptying.{BothTell, HasNoneAbove, CommitsNoneFrom, SaysTheSameOrEmpty}

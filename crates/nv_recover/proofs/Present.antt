@@ -9,7 +9,7 @@ use Rattle.nv_pmem.specs.Rows.{RowTells}
 use Rattle.nv_pmem.specs.Runs.{RanSome, grown}
 use Rattle.nv_pmem.proofs.RowLaws.{row_tells_more, row_tells_both}
 use Rattle.nv_pmem.proofs.StepLaws.{grown-told, grown-untold}
-use Rattle.nv_header.specs.RowStates.{AreNow, IsNow, row_tells_at, row_tells_from, tells_at}
+use Rattle.nv_pmem.specs.RowStates.{AreNow, IsNow, row_tells_at, row_tells_from, tells_at}
 use Rattle.nv_recover.specs.Emptying.{BothTell}
 use Rattle.nv_recover.specs.Telling.{AllTell}
 

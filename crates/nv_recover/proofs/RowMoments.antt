@@ -11,7 +11,7 @@ use Rattle.nv_pmem.proofs.RowLaws.{row_tells_more, row_tells_both}
 use Rattle.nv_pmem.proofs.StepLaws.{tells_more}
 use Rattle.nv_store.specs.Steps.{History}
 use Rattle.nv_store.specs.Store.{Store}
-use Rattle.nv_header.specs.RowStates.{row_tells_at, row_tells_from, tells_at, tells_from}
+use Rattle.nv_pmem.specs.RowStates.{row_tells_at, row_tells_from, tells_at, tells_from}
 use Rattle.nv_recover.specs.Applying.{AcrossTells, AcrossThroughout, ChangesAtMostOne}
 use Rattle.nv_recover.specs.Changes.{Change, row_after_change, ThroughoutRow, Devices, DeviceChange, devices_after_change}
 use Rattle.nv_recover.specs.Changes.DeviceChange.{OfParts, OfStores}

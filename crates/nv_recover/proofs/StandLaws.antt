@@ -16,7 +16,7 @@ use Rattle.nv_store.proofs.StoreLaws.{quiet_is_quiet}
 use Rattle.nv_entry.specs.declared.bounds.Bounds.{Bounds}
 use Rattle.nv_entry.specs.Checks.{SaysBounds}
 use Rattle.nv_header.specs.Regions.{ReadsAs, HasEmptyLog, HasNoneFrom}
-use Rattle.nv_header.specs.RowStates.{AreNow, row_tells_at, row_tells_from}
+use Rattle.nv_pmem.specs.RowStates.{AreNow, row_tells_at, row_tells_from}
 use Rattle.nv_recover.specs.Alike.{SayTheSame}
 use Rattle.nv_recover.specs.Applying.{AcrossTells, AcrossThroughout, StaysAlike}
 use Rattle.nv_recover.specs.Changes.{Devices, DevicesTell, ThroughoutRow, ThroughoutDevices}

@@ -14,7 +14,7 @@ use Rattle.nv_store.specs.Store.{Store, IsWhole}
 use Rattle.nv_store.specs.Torn.{IsTorn, LeftOrTore}
 use Rattle.nv_store.proofs.ImageLaws.{image_of_quiet, seen_is_image}
 use Rattle.nv_store.proofs.StoreLaws.{write_is_torn, quiet_is_quiet}
-use Rattle.nv_header.specs.RowStates.{AreNow, IsNow, row_tells_at, row_tells_from}
+use Rattle.nv_pmem.specs.RowStates.{AreNow, IsNow, row_tells_at, row_tells_from}
 use Rattle.nv_recover.specs.Applying.{AcrossTells, ChangesAtMostOne, OneWritten, LeftOrOneTorn}
 use Rattle.nv_recover.specs.Standing.{AreStoreImages, LeaveNoMore, files_of}
 use Rattle.nv_recover.specs.Telling.{AllTell}

@@ -9,7 +9,7 @@ use Rattle.nv_pmem.specs.Rows.{IsRowImage, row_words}
 use Rattle.nv_pmem.specs.Runs.{run}
 use Rattle.nv_store.specs.Store.{Store}
 use Rattle.nv_header.specs.Heads.{IsHead}
-use Rattle.nv_header.specs.RowStates.{AreNow}
+use Rattle.nv_pmem.specs.RowStates.{AreNow}
 use Rattle.nv_recover.specs.Changes.{Devices, devices_after_change, ThroughoutDevices}
 use Rattle.nv_recover.specs.Recovering.{StandThroughout}
 use Rattle.nv_recover.specs.Standing.{AreStoreImages, HasSameLog, ReadsAlike, StandsStill, files_of}

@@ -1,6 +1,6 @@
 -- Telling: devices that tell what they hold.
 use Rattle.std.specs.Prelude.{◌≡◌, ◌<◌, ◌↔◌, List, length, All}
-use Rattle.nv_header.specs.RowStates.{AreNow}
+use Rattle.nv_pmem.specs.RowStates.{AreNow}
 use Rattle.nv_store.specs.Steps.{History}
 use Rattle.nv_store.specs.Store.{Store}
 

@@ -3,7 +3,7 @@ use Rattle.std.proofs.Common.{◌≡◌, ◌<◌, [], ◌∷◌, length, zero, s
 use Rattle.std.proofs.lemmas.List.Elements.{All-head, All-tail}
 use Rattle.nv_pmem.specs.Part.{Part}
 use Rattle.nv_pmem.specs.Steps.{History}
-use Rattle.nv_header.specs.RowStates.{IsNow, TellingRowsHaveStates, RowsHaveOneState, EachPartHasOne}
+use Rattle.nv_pmem.specs.RowStates.{IsNow, TellingRowsHaveStates, RowsHaveOneState, EachPartHasOne}
 
 pub rows_have_states : TellingRowsHaveStates
 rows_have_states [] tell = record { states = []; are = tt }
