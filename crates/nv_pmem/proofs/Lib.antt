@@ -1,5 +1,6 @@
 pub mod DurableLaws
 pub mod ImageLaws
+pub mod MadeLaws
 pub mod LineLaws
 pub mod PickedLaws
 pub mod Rooms

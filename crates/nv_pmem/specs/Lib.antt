@@ -10,6 +10,7 @@ pub mod Room
 pub mod Limits
 pub mod Draws
 pub mod Picked
+pub mod Made
 pub mod Told
 pub mod MemPart
 pub mod RowStates

@@ -33,5 +33,10 @@ pub record IsBlank (lines : ℕ) (part : MemPart) : Type 0 where
   pub spare : (line : ℕ) → line < lines → (part_room part).spare line ≡ 15
   pub faults : part_faults part ≡ 0
 
+-- it holds these lines, has had no other state and has never failed
+pub record IsNew (now : Part) (part : MemPart) : Type 0 where
+  pub history : part_history part ≡ now ∷ []
+  pub faults : part_faults part ≡ 0
+
 pub part_told_lines : (part : MemPart) (now : Part) (past : History) → part_history part ≡ now ∷ past → length now ≡ (part_room part).lines
 part_told_lines part now past told = cc

@@ -1,6 +1,8 @@
 ghost use Rattle.std.specs.Prelude.{◌≡◌, ◌<◌, ◌≤◌, length};
 ghost use Rattle.nv_pmem.specs.Part.{blank_line, newest, word_at, stored, flushed, fenced};
-ghost use Rattle.nv_pmem.specs.Picked.{content_of, taken, picked_line};
+ghost use Rattle.nv_pmem.specs.Made.{words_in};
+ghost use Rattle.nv_pmem.specs.Steps.{word_in};
+ghost use Rattle.nv_pmem.specs.Picked.{settled, content_of, taken, picked_line};
 
 use crate::{Pick, Picker};
 use arrayvec::ArrayVec;
@@ -36,6 +38,30 @@ impl MemLine {
             oldest: [0; 8],
             later: ArrayVec::new(),
             flushed: None,
+        }
+    }
+
+    /// The line of 64 bytes, which has no other content.
+    pub(crate) fn of(bytes: &[u8; 64]) -> Self
+        ensures { result ≡ settled (words_in bytes.now) }
+    {
+        MemLine {
+            oldest: words_of_bytes(bytes),
+            later: ArrayVec::new(),
+            flushed: None,
+        }
+    }
+
+    pub(crate) fn copy(&self) -> Self
+        ensures { result ≡ self.now }
+    {
+        let mut later = ArrayVec::new();
+        let fits = later.try_extend_from_slice(&self.later).is_ok();
+        prove!(fits);
+        MemLine {
+            oldest: self.oldest,
+            later,
+            flushed: self.flushed,
         }
     }
 
@@ -116,4 +142,29 @@ impl MemLine {
             _ => self.later[count - 1],
         }
     }
+}
+
+#[tactic(auto, unfolding(crate::specs::Made::words_in))]
+fn words_of_bytes(bytes: &[u8; 64]) -> [u64; 8]
+    ensures { result ≡ words_in bytes.now }
+{
+    [
+        word_of_bytes(bytes, 0),
+        word_of_bytes(bytes, 1),
+        word_of_bytes(bytes, 2),
+        word_of_bytes(bytes, 3),
+        word_of_bytes(bytes, 4),
+        word_of_bytes(bytes, 5),
+        word_of_bytes(bytes, 6),
+        word_of_bytes(bytes, 7),
+    ]
+}
+
+pub(crate) fn word_of_bytes(bytes: &[u8; 64], word: usize) -> u64
+    requires { word < 8 }
+    ensures { result ≡ word_in bytes.now word }
+{
+    let mut little_endian = [0; 8];
+    little_endian.copy_from_slice(&bytes[8 * word..][..8]);
+    u64::from_le_bytes(little_endian)
 }

@@ -1,6 +1,7 @@
-ghost use Rattle.std.specs.Prelude.{◌≡◌, ℕ, ◌<◌, ◌≤◌, [], ◌∷◌, IfOk, OnOk, OnErr};
+ghost use Rattle.std.specs.Prelude.{◌≡◌, ℕ, ◌%◌, ◌<◌, ◌≤◌, [], ◌∷◌, length, IfOk, OnOk, OnErr};
 ghost use Rattle.nv_plain.specs.Faults.{HasCause};
 ghost use Rattle.nv_pmem.specs.Images.{IsImage, IsQuiet};
+ghost use Rattle.nv_pmem.specs.Made.{part_in, resized};
 ghost use Rattle.nv_pmem.specs.Part.{word_of};
 ghost use Rattle.nv_pmem.specs.Picked.{picked};
 ghost use Rattle.nv_pmem.specs.Steps.{Store, Flush, Fence, Did, DidSome, line_stores};
@@ -20,7 +21,7 @@ pub struct MemPart {
 }
 
 impl MemPart {
-    ghost use Rattle.nv_pmem.specs.MemPart.{IsBlank, part_now, part_history, part_room, part_faults, part_device};
+    ghost use Rattle.nv_pmem.specs.MemPart.{IsBlank, IsNew, part_now, part_history, part_room, part_faults, part_device};
 
     /// A part of so many lines of zeros, durable, whose calls all go well. It takes about 1,050 bytes a line.
     pub fn new(alloc: Global, lines: u64) -> Result<Self, NoMemory>
@@ -44,6 +45,39 @@ impl MemPart {
             told: Told::blank(alloc, lines as usize)?,
             health: Health::new(fuse),
         })
+    }
+
+    /// A part that holds these bytes, in lines of 64 and words of 8, little-endian, all durable. Its calls fail as the fuse
+    /// says; with no fuse they all go well.
+    pub fn of(alloc: Global, bytes: &[u8], fuse: Option<Fuse>) -> Result<Self, NoMemory>
+        requires { length bytes.now % 64 ≡ 0 }
+        ensures made { IfOk result (IsNew (part_in bytes.now)) }
+        ensures quiet { IfOk result (λ part. IsQuiet (part_now part)) }
+    {
+        Ok(MemPart {
+            told: Told::of(alloc, bytes)?,
+            health: Health::new(fuse),
+        })
+    }
+
+    /// A part of so many lines that holds what this one does, each line with all of its contents: new ones are zeros, and
+    /// those that are too many are left out. It is a new device: its history and its count of faults begin with it.
+    pub fn resized(&self, alloc: Global, lines: u64, fuse: Option<Fuse>) -> Result<Self, NoMemory>
+        ensures { IfOk result (IsNew (resized lines (part_now self.now))) }
+    {
+        Ok(MemPart {
+            told: self.told.resized(alloc, lines as usize)?,
+            health: Health::new(fuse),
+        })
+    }
+
+    /// The value of a word. It isn't a call of `Lines`: no fuse counts it.
+    pub fn peek(&self, line: u64, word: u64) -> u64
+        requires line { line < (part_room self.now).lines }
+        requires word { word < 8 }
+        ensures { result ≡ word_of (part_now self.now) line word }
+    {
+        self.told.load(line as usize, word as usize)
     }
 
     /// Loses power: each line is left with one of the contents that it may have, the one that the picker takes, and the

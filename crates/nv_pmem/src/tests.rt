@@ -169,6 +169,21 @@ fn a_part_that_loses_power_is_left_as_it_is_picked(rt: HostRuntime) -> Result<()
     Ok(())
 }
 
+// Bytes 0 to 127, little-endian: word 1 of line 1 is bytes 72 to 79.
+#[test]
+fn a_part_of_bytes_is_made_longer_and_shorter(rt: HostRuntime) -> Result<(), NoMemory> {
+    let bytes: [u8; 128] = array::from_fn(|i| (i % 128) as u8);
+    let mut part = MemPart::of(rt.alloc(), &bytes, None)?;
+    assert_eq!(rt; part.lines(), 2);
+    assert_eq!(rt; part.load(1, 1), Ok(0x4f4e_4d4c_4b4a_4948));
+    let mut longer = part.resized(rt.alloc(), 3, None)?;
+    assert_eq!(rt; longer.lines(), 3);
+    assert_eq!(rt; longer.load(1, 1), Ok(0x4f4e_4d4c_4b4a_4948));
+    assert_eq!(rt; longer.load(2, 0), Ok(0));
+    assert_eq!(rt; longer.resized(rt.alloc(), 1, None)?.lines(), 1);
+    Ok(())
+}
+
 #[test]
 fn a_durable_store_is_left_by_every_pick(rt: HostRuntime) -> Result<(), NoMemory> {
     let mut part = MemPart::new(rt.alloc(), 2)?;

@@ -1,12 +1,13 @@
-ghost use Rattle.std.specs.Prelude.{◌≡◌, ◌<◌, ◌≤◌, [], ◌∷◌, replicate, IfOk};
-ghost use Rattle.nv_pmem.specs.Part.{blank_line, word_of};
-ghost use Rattle.nv_pmem.specs.Picked.{picked};
+ghost use Rattle.std.specs.Prelude.{◌≡◌, ◌+◌, ◌*◌, ◌<◌, ◌≤◌, [], ◌∷◌, length, replicate, IfOk};
+ghost use Rattle.nv_pmem.specs.Made.{words_in, line_in, part_in, resized};
+ghost use Rattle.nv_pmem.specs.Part.{blank_line, line_of, word_of};
+ghost use Rattle.nv_pmem.specs.Picked.{settled, picked};
 ghost use Rattle.nv_pmem.specs.Room.{Keeps, Takes, Frees};
 ghost use Rattle.nv_pmem.specs.Runs.{run, grown};
-ghost use Rattle.nv_pmem.specs.Steps.{Store, Flush, Fence, after_step, line_stores, word_in};
+ghost use Rattle.nv_pmem.specs.Steps.{Store, Flush, Fence, after_step, line_stores};
 
 use crate::Picker;
-use crate::mem_line::MemLine;
+use crate::mem_line::{MemLine, word_of_bytes};
 use crate::past::Past;
 use nv_plain::NoMemory;
 use std::alloc::Global;
@@ -32,6 +33,44 @@ impl Told {
             lines,
             past: Past::new(),
         })
+    }
+
+    /// The lines that hold these bytes; what is behind the last whole line is left out.
+    pub(crate) fn of(alloc: Global, bytes: &[u8]) -> Result<Self, NoMemory>
+        ensures { IfOk result (λ told. told_history told ≡ part_in bytes.now ∷ []) }
+    {
+        let mut lines = Vec::new(alloc);
+        for line in 0..bytes.len() / 64 {
+            lines.push(line_in(bytes, line))?;
+        }
+        Ok(Told {
+            lines,
+            past: Past::new(),
+        })
+    }
+
+    /// A copy of so many of the lines, with lines of zeros where there are fewer.
+    pub(crate) fn resized(&self, alloc: Global, count: usize) -> Result<Self, NoMemory>
+        ensures { IfOk result (λ told. told_history told ≡ resized count self.now.lines.items ∷ []) }
+    {
+        let mut lines = Vec::new(alloc);
+        for line in 0..count {
+            lines.push(self.line(line))?;
+        }
+        Ok(Told {
+            lines,
+            past: Past::new(),
+        })
+    }
+
+    // A copy of a line, or zeros.
+    fn line(&self, line: usize) -> MemLine
+        ensures { result ≡ line_of self.now.lines.items line }
+    {
+        match self.lines.get(line) {
+            Some(line) => line.copy(),
+            None => MemLine::blank(),
+        }
     }
 
     pub(crate) fn len(&self) -> usize
@@ -104,11 +143,12 @@ impl Told {
     }
 }
 
-fn word_of_bytes(bytes: &[u8; 64], word: usize) -> u64
-    requires { word < 8 }
-    ensures { result ≡ word_in bytes.now word }
+// The line that these bytes have at a place.
+fn line_in(bytes: &[u8], line: usize) -> MemLine
+    requires { 64 * line + 64 ≤ length bytes.now }
+    ensures { result ≡ settled (words_in (line_in bytes.now line)) }
 {
-    let mut little_endian = [0; 8];
-    little_endian.copy_from_slice(&bytes[8 * word..][..8]);
-    u64::from_le_bytes(little_endian)
+    let mut content = [0; 64];
+    content.copy_from_slice(&bytes[64 * line..64 * line + 64]);
+    MemLine::of(&content)
 }
