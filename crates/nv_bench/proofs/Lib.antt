@@ -1,0 +1,5 @@
+pub mod Through
+pub mod Lists
+pub mod PartLaws
+pub mod StoreLaws
+pub mod PowerLaws

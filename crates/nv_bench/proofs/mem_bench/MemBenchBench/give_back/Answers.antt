@@ -1,0 +1,23 @@
+use Rattle.std.proofs.Common.{◌≡◌, ◌++◌, List, map, ap, sym, ◌∙◌}
+use Rattle.std.specs.Prelude.{Some, string_bytes}
+use Rattle.nv_pmem.specs.Part.{Part}
+use Rattle.nv_store.specs.Store.{Store}
+use Rattle.nv_bench.specs.Holding.{Holding, NamedStore, named_stores}
+use Rattle.nv_bench.specs.Shelf.{shelved}
+use Rattle.nv_bench.proofs.PartLaws.{are_parts}
+use Rattle.nv_bench.proofs.StoreLaws.{are_stores}
+use Rattle.nv_bench.proofs.mem_bench.MemBenchBench.give_back.Goals as goal
+
+held : List Part → List NamedStore → Holding
+held parts stores = record { parts = parts; stores = stores }
+
+holdings : (parts now : List Part) (stores left : List NamedStore) → now ≡ parts → stores ≡ left → Some (held parts stores) ≡ Some (held now left)
+holdings parts now stores left parts_are stores_are = λ i. Some (held (sym parts_are i) (stores_are i))
+
+pub returns-clause-told : goal.returns-clause-told
+unfolding held
+returns-clause-told c now stores parts_now stores_now =
+    let lent = map string_bytes c.args.self.now.lent.items in
+    holdings _ now _ _ (are_parts c.args.parts.items now parts_now)
+    (c.put.ensures.stores
+    ∙ ap (λ (these : List Store). shelved c.args.self.now.shelf ++ named_stores lent these) (sym (are_stores c.args.stores.items stores stores_now)))

@@ -1,0 +1,46 @@
+use Rattle.std.proofs.Common.{◌≡◌, ◌+◌, List, map, ap, sum_by, ◌∙◌, arith}
+use Rattle.std.specs.Prelude.{Some, string_bytes}
+use Rattle.std.specs.Vec.{with_items}
+use Rattle.std.proofs.lemmas.List.{with_items_is}
+use Rattle.nv_pmem.specs.MemPart.{part_now, part_faults}
+use Rattle.nv_pmem.specs.declared.mem_part.MemPart.{MemPart}
+use Rattle.nv_bench.specs.Holding.{Holding}
+use Rattle.nv_bench.specs.Powered.{powered, powered_parts}
+use Rattle.nv_bench.specs.MemBench.{held_by, faults_by}
+use Rattle.nv_bench.specs.Shelf.{shelved, shelf_faults}
+use Rattle.nv_plain.specs.Faults.{saturated}
+use Rattle.nv_bench.specs.declared.shelf.Shelf.{Shelf}
+use Rattle.nv_bench.proofs.Lists.{sum_by-same}
+use Rattle.nv_bench.proofs.PowerLaws.{holding_left}
+use Rattle.nv_bench.proofs.mem_bench.MemBenchBench.power.Goals as goal
+
+abbrev held_with : List MemPart → Shelf → Holding
+held_with parts shelf = record { parts = map part_now parts; stores = shelved shelf }
+
+pub returns-clause-off : goal.returns-clause-off
+returns-clause-off c =
+    let old = c.args.self.now in
+    let back = with_items_is old.parts c.power_parts.new.parts (omega (arith, c.power_parts.auto.parts, c.deref_mut.ensures.len)) in
+    let left = holding_left c.args.pick c.new-picker.result c.power_parts.new.picker (map part_now old.parts.items) (map part_now c.power_parts.new.parts) (shelved old.shelf) (shelved c.lose_power.new.self)
+    c.new-picker.ensures
+    (c.power_parts.ensures.parts ∙ ap (λ (these : List MemPart). (powered_parts c.new-picker.result (map part_now these)).0) c.deref_mut.ensures.value)
+    (c.power_parts.ensures.draws ∙ ap (λ (these : List MemPart). (powered_parts c.new-picker.result (map part_now these)).1) c.deref_mut.ensures.value)
+    c.lose_power.ensures.stores in
+    let faults : saturated (old.gone + sum_by part_faults c.power_parts.new.parts + shelf_faults c.lose_power.new.self) ≡ faults_by old =
+    ap (λ n. saturated (old.gone + n + shelf_faults c.lose_power.new.self)) (sum_by-same part_faults c.power_parts.new.parts old.parts.items (c.power_parts.ensures.faults ∙ ap (map part_faults) c.deref_mut.ensures.value))
+    ∙ ap (λ n. saturated (old.gone + sum_by part_faults old.parts.items + n)) c.lose_power.ensures.faults in
+    let held : held_with c.power_parts.new.parts c.lose_power.new.self ≡ powered c.args.pick (held_by old) = left in
+    let items : held_with (with_items old.parts c.power_parts.new.parts).items c.lose_power.new.self ≡ powered c.args.pick (held_by old) =
+    ap (λ (these : List MemPart). held_with these c.lose_power.new.self) back ∙ held in
+    let count : saturated (old.gone + sum_by part_faults (with_items old.parts c.power_parts.new.parts).items + shelf_faults c.lose_power.new.self) ≡ faults_by old =
+    ap (λ (these : List MemPart). saturated (old.gone + sum_by part_faults these + shelf_faults c.lose_power.new.self)) back ∙ faults in
+    let settled : c.faults-self.result ≡ faults_by old = c.faults-self.ensures ∙ count in
+    λ i. record {
+      told = Some (items i);
+      is_open = old.is_open;
+      lent = map string_bytes old.lent.items;
+      faults = count i;
+      arms = old.arms;
+      armed = old.armed;
+      settled = settled i;
+    }

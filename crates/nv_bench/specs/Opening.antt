@@ -1,0 +1,37 @@
+-- Opening: the parts that a bench gives out as those of its region.
+use Rattle.std.specs.Prelude.{ℕ, ◌<◌, ◌≤◌, ◌==◌, Bool, if◌then◌else◌, List, [], ◌∷◌, map, slice_index_or, Option, Some, None}
+use Rattle.std.specs.List.{range_with_len}
+use Rattle.nv_plain.specs.Images.{header_of}
+use Rattle.nv_plain.specs.Layouts.{Layout, version_1}
+use Rattle.nv_pmem.specs.Limits.{entry_lines}
+use Rattle.nv_pmem.specs.Images.{IsQuiet}
+use Rattle.nv_pmem.specs.Made.{resized}
+use Rattle.nv_pmem.specs.Part.{Part}
+use Rattle.nv_pmem.specs.Room.{Room}
+use Rattle.nv_pmem.specs.Rows.{row_words}
+use Rattle.nv_pmem.specs.Steps.{History}
+use Rattle.nv_pmem.specs.declared.geometry.Geometry.{Geometry}
+
+-- Parts are blank where there is no part 0, it has no line, or word 0 of its line 0 is 0.
+abbrev pub is_blank : List Part → Bool
+is_blank parts = (header_of (row_words parts)).magic == 0
+
+-- the parts of a geometry, made of these: the header's, and one for each entry
+abbrev pub sized : Layout → Geometry → List Part → List Part
+sized layout geometry parts =
+    resized layout.header_lines (slice_index_or parts 0 [])
+    ∷ map (λ i. resized (entry_lines geometry.page) (slice_index_or parts i [])) (range_with_len 1 geometry.entries)
+
+-- The parts that stand there are given; but where a geometry is wanted of blank ones, they are made those of it first.
+abbrev pub opened : Option Geometry → List Part → List Part
+opened None parts = parts
+opened (Some geometry) parts = if is_blank parts then sized version_1 geometry parts else parts
+
+-- each line can take 15 contents
+pub record IsFresh (room : Room) : Type 0 where
+  pub spare : (line : ℕ) → line < room.lines → 15 ≤ room.spare line
+
+-- A part as a bench opens it: where it is quiet, or doesn't tell, each line can take 15 contents.
+abbrev pub IsFreshWhereQuiet : History → Room → Type 0
+IsFreshWhereQuiet [] room = IsFresh room
+IsFreshWhereQuiet (now ∷ past) room = IsQuiet now → IsFresh room

@@ -1,0 +1,12 @@
+//! Benches: the devices that a program runs over, which can be opened, given back, and lose power.
+#![tactic(auto)]
+
+mod bench;
+mod laws;
+mod mem_bench;
+mod parts;
+mod shelf;
+
+pub use bench::{Bench, BenchError};
+pub use laws::power_leaves_an_image;
+pub use mem_bench::MemBench;
