@@ -10,3 +10,6 @@ mod shelf;
 pub use bench::{Bench, BenchError};
 pub use laws::power_leaves_an_image;
 pub use mem_bench::MemBench;
+
+#[cfg(test)]
+mod tests;
