@@ -147,8 +147,8 @@ fn power_stores(stores: &mut [MemStore], picker: &mut Picker)
     }
 }
 
-/// How often these stores have failed.
-pub(crate) fn faults_of_stores(stores: &[MemStore]) -> u64
+// How often these stores have failed.
+fn faults_of_stores(stores: &[MemStore]) -> u64
     ensures { result ≡ saturated (sum_by store_faults stores.now) }
 {
     let mut faults: u64 = 0;
