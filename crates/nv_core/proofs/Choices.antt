@@ -1,0 +1,104 @@
+-- Choices: what holds of both branches holds of the choice; and a pass that may step is not idle.
+use Rattle.std.proofs.Common.{◌≡◌, ◌≢◌, Bool, true, false, if◌then◌else◌, List, [], ◌∷◌, refl, sym, ap, subst, ◌∙◌}
+use Rattle.std.proofs.lemmas.Bool.{true≢false}
+use Rattle.nv_core.specs.Words.{Sizes, Word, STOP, ORDER, HEAD, TAIL, SIZE, LENGTH, STORE, PAGE, DIRTY}
+use Rattle.nv_core.specs.Passes.{Stage, Idle, Leaving, Releasing, Giving, Returning, Pass}
+use Rattle.nv_core.specs.Deeds.{Deed, Loads, Takes, Gives, Places, Stops, Draws, Seizes, Pledges, Readies, Grows, Breaks}
+use Rattle.nv_core.specs.Stages.{leaving}
+use Rattle.nv_core.specs.Order.{Values, MayStep, MayLoad, MayTake, MayGive, MayPlace, IsFailing}
+
+pub if_both : {T : Type 0} (P : T → Type 0) (b : Bool) (one other : T) → (b ≡ true → P one) → (b ≡ false → P other) → P (if b then one else other)
+if_both P true one other so not_so = so refl
+if_both P false one other so not_so = not_so refl
+
+pub when_true : {T : Type 0} (b : Bool) (one other : T) → b ≡ true → (if b then one else other) ≡ one
+when_true b one other e = ap (λ c. if c then one else other) e
+
+pub when_false : {T : Type 0} (b : Bool) (one other : T) → b ≡ false → (if b then one else other) ≡ other
+when_false b one other e = ap (λ c. if c then one else other) e
+
+pub not_both : {b : Bool} → b ≡ true → b ≡ false → ⊥
+not_both so not_so = true≢false (sym so ∙ not_so)
+
+-- where nothing is left the call is over, and else it is on its way out
+pub leaving_both : (P : Stage → Type 0) (hands : List Word) → (hands ≡ [] → P Idle) → (hands ≢ [] → P Leaving) → P (leaving hands)
+leaving_both P [] none some = none refl
+leaving_both P (first ∷ rest) none some = some (λ e. true≢false (ap is_cons e))
+  where
+    is_cons : List Word → Bool
+    is_cons [] = false
+    is_cons (one ∷ more) = true
+
+-- ---- a pass that may step is at no other place than its step says, and not idle
+
+abbrev is_idle : Stage → Bool
+is_idle Idle = true
+is_idle stage = false
+
+pub busy : (stage other : Stage) → stage ≡ other → is_idle other ≡ false → stage ≢ Idle
+busy stage other e not_so idle = not_both (ap is_idle idle) (ap is_idle e ∙ not_so)
+
+give_idle : (pass : Pass) (word : Word) → MayGive pass word Idle → ⊥
+give_idle pass (SIZE file) may = may
+give_idle pass (PAGE page) may = may
+give_idle pass (STORE file) may = may
+give_idle pass word may = may
+
+load_idle : (sizes : Sizes) (values : Values) (pass : Pass) (word : Word) → MayLoad sizes values pass word → pass.stage ≢ Idle
+load_idle sizes values pass (LENGTH file) may = busy _ _ may.0 refl
+load_idle sizes values pass STOP may = busy _ _ may refl
+load_idle sizes values pass ORDER may = busy _ _ may refl
+load_idle sizes values pass HEAD may = busy _ _ may refl
+load_idle sizes values pass TAIL may = busy _ _ may refl
+load_idle sizes values pass (DIRTY page) may = busy _ _ may.1.stage refl
+load_idle sizes values pass word may = absurd may
+
+take_idle : (pass : Pass) (word : Word) → MayTake pass word → pass.stage ≢ Idle
+take_idle pass (PAGE page) may = busy _ _ may refl
+take_idle pass (SIZE file) may = busy _ _ may.0 refl
+take_idle pass (STORE file) may = busy _ _ may.1 refl
+take_idle pass word may = absurd may
+
+pub step_idle : (sizes : Sizes) (values : Values) (pass : Pass) (deed : Deed) → MayStep sizes values pass deed → pass.stage ≢ Idle
+step_idle sizes values pass (Loads word) may = load_idle sizes values pass word may
+step_idle sizes values pass (Takes cell) may = take_idle pass cell may
+step_idle sizes values pass (Gives cell) may = λ idle. give_idle pass cell (subst (MayGive pass cell) idle may)
+step_idle sizes values pass (Places reply) may = λ idle. subst (MayPlace sizes values pass reply) idle may
+step_idle sizes values pass Stops may = λ idle. subst IsFailing idle may
+step_idle sizes values pass Draws may = busy _ _ may refl
+step_idle sizes values pass (Seizes number) may = busy _ _ may refl
+step_idle sizes values pass (Pledges page) may = busy _ _ may refl
+step_idle sizes values pass (Readies number) may = busy _ _ may refl
+step_idle sizes values pass Grows may = busy _ _ may refl
+step_idle sizes values pass (Breaks number) may = busy _ _ may refl
+step_idle sizes values pass deed may = absurd may
+
+-- the stages at which a lock is given back
+abbrev pub IsGivingBack : Stage → Type 0
+IsGivingBack Leaving = Unit {0}
+IsGivingBack Releasing = Unit {0}
+IsGivingBack (Giving page) = Unit {0}
+IsGivingBack (Returning page) = Unit {0}
+IsGivingBack stage = ⊥
+
+pub gives_back : (pass : Pass) (word : Word) (stage : Stage) → MayGive pass word stage → IsGivingBack stage
+gives_back pass (SIZE file) Releasing may = tt
+gives_back pass (PAGE page) (Giving next) may = tt
+gives_back pass (STORE file) (Returning page) may = tt
+gives_back pass word Leaving may = tt
+gives_back pass word stage may = absurd may
+
+-- and which lock at which
+abbrev pub IsGiven : Stage → Word → Type 0
+IsGiven Leaving word = Unit {0}
+IsGiven Releasing (SIZE file) = Unit {0}
+IsGiven (Giving page) (PAGE other) = Unit {0}
+IsGiven (Returning page) (STORE file) = Unit {0}
+IsGiven stage word = ⊥
+
+pub gives_one : (pass : Pass) (word : Word) (stage : Stage) → MayGive pass word stage → IsGiven stage word
+gives_one pass (SIZE file) Releasing may = tt
+gives_one pass (PAGE page) (Giving next) may = tt
+gives_one pass (STORE file) (Returning page) may = tt
+gives_one pass word Leaving may = tt
+gives_one pass word stage may = absurd may

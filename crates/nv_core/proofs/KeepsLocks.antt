@@ -1,0 +1,152 @@
+-- Each event keeps the locks.
+use Rattle.std.proofs.Common.{◌≡◌, ◌≢◌, ℕ, ◌+◌, ◌<◌, ◌≤◌, ◌==◌, true, false, if◌then◌else◌, List, [], ◌∷◌, inl, inr, refl, sym, ap, subst, ◌∙◌, arith}
+use Rattle.std.proofs.lemmas.Bool.{eqb-true, eqb-false, eq-eqb, ne_eqb, cases_eq}
+use Rattle.nv_plain.specs.declared.call.FileCall.{FileCall}
+use Rattle.nv_core.specs.Words.{Sizes, Word, PAGE, SIZE, STORE, ENTRY, is_shut, is_lock, kind_of, entry_word}
+use Rattle.nv_core.specs.Passes.{Stage, Leaving, Releasing, Giving, Returning, Readying, Pass, IsUnseized, IsFilling, IsAmong, IsLastTaken, file_of, end_page, times}
+use Rattle.nv_core.specs.Deeds.{Deed, Stays, Comes, moved, move_of, slot_of, page_at, ready_word, Loads, Takes, Gives, Places, Stops, Draws, Seizes, Pledges, Readies, Grows, Breaks, Splits, Leaves, Joins, word_of, value_after}
+use Rattle.nv_core.specs.Order.{Values, Work, MayTake, MayGive}
+use Rattle.nv_core.specs.Core.{Core, changes, changed, after_step, after_begin, after_work}
+use Rattle.nv_core.specs.Events.{MayFind}
+use Rattle.nv_core.specs.Standing.{StandsAt}
+use Rattle.nv_core.specs.Holding.{one_if, is_among, HoldsLocks}
+use Rattle.nv_core.specs.Locks.{Keyed, Locks}
+use Rattle.nv_core.specs.Sound.{Sound}
+use Rattle.nv_core.proofs.Changes.{differ, by_number}
+use Rattle.nv_core.proofs.Choices.{if_both, not_both, when_true, when_false}
+use Rattle.nv_core.proofs.LockLaws.{IsFit, locks_move, keyed_same, times_here}
+use Rattle.nv_core.proofs.HoldingLaws.{among_in}
+use Rattle.nv_core.proofs.WordLaws.{given_lock}
+
+-- at readying the next is one of those that are being filled
+pub readying_next : (first entries next : ℕ) → IsAmong first entries next → IsFilling (Readying next) first entries next
+readying_next first entries next at = elim (cases_eq next first) [ inl e ↦ inl e | inr ne ↦ inr (let x = at.0 in (omega (arith, x, ne), omega arith, at.1)) ]
+
+-- what is given back is held
+last_held : (cell : Word) (hands : List Word) → IsLastTaken cell hands → 1 ≤ times cell hands
+last_held cell [] last = absurd last
+last_held cell (first ∷ rest) last = subst (λ w. 1 ≤ times cell (w ∷ rest)) (sym last) (let t = times_here cell rest in omega (arith, t))
+
+given_held : (sizes : Sizes) (pass : Pass) (cell : Word) (stage : Stage) → StandsAt sizes pass stage → HoldsLocks sizes pass stage → MayGive pass cell stage → 1 ≤ times cell pass.hands
+given_held sizes pass (SIZE file) Releasing at held may =
+    let a = held (SIZE file) (λ slot. differ (SIZE file) (ENTRY slot) refl) in
+    let b = when_true (file == file_of pass.call) (one_if pass.sized) 0 (eq-eqb file (file_of pass.call) may) in
+    let c : one_if pass.sized ≡ 1 = when_true pass.sized 1 0 at in omega (arith, a, b, c)
+given_held sizes pass (PAGE page) (Giving next) at held may =
+    let a = held (PAGE page) (λ slot. differ (PAGE page) (ENTRY slot) refl) in
+    let b = subst (λ p. one_if (is_among next (end_page sizes pass.call) p) ≡ 1) (sym may) (among_in next (end_page sizes pass.call) next (omega arith) at.1) in omega (arith, a, b)
+given_held sizes pass (STORE file) (Returning page) at held may =
+    let a = held (STORE file) (λ slot. differ (STORE file) (ENTRY slot) refl) in
+    let b : one_if (file == file_of pass.call) ≡ 1 = when_true (file == file_of pass.call) 1 0 (eq-eqb file (file_of pass.call) may) in omega (arith, a, b)
+given_held sizes pass (SIZE file) Leaving at held may = last_held (SIZE file) pass.hands may
+given_held sizes pass (PAGE page) Leaving at held may = last_held (PAGE page) pass.hands may
+given_held sizes pass (STORE file) Leaving at held may = last_held (STORE file) pass.hands may
+given_held sizes pass cell stage at held may = absurd may
+
+-- a lock that is not 0 is 1
+one : (value : ℕ) → value ≤ 1 → (value == 0) ≡ false → (value == 1) ≡ true
+one value small some = let ne = eqb-false value 0 some in eq-eqb value 1 (omega arith)
+
+zero_shut : (value : ℕ) → (value == 0) ≡ true → (value == 1) ≡ false
+zero_shut value none = let e = eqb-true value 0 none in ne_eqb value 1 (λ is. omega (arith, e, is))
+
+take_fit : (pass : Pass) (cell : Word) (value found : ℕ) → MayTake pass cell → value ≡ found → value ≤ 1
+    → IsFit cell value 1 (if found == 0 then Comes cell else Stays) pass.hands
+take_fit pass cell value found may is small = if_both (λ m. IsFit cell value 1 m pass.hands) (found == 0) (Comes cell) Stays
+    (λ e. (refl, unshut cell may (subst (λ n. (n == 0) ≡ true) (sym is) e), shut cell may)) (λ e. still cell may (subst (λ n. (n == 0) ≡ false) (sym is) e))
+  where
+    unshut : (cell : Word) → MayTake pass cell → (value == 0) ≡ true → is_shut cell value ≡ false
+    unshut (PAGE page) may e = zero_shut value e
+    unshut (SIZE file) may e = zero_shut value e
+    unshut (STORE file) may e = zero_shut value e
+    unshut cell may e = absurd may
+
+    shut : (cell : Word) → MayTake pass cell → is_shut cell 1 ≡ true
+    shut (PAGE page) may = refl
+    shut (SIZE file) may = refl
+    shut (STORE file) may = refl
+    shut cell may = absurd may
+
+    still : (cell : Word) → MayTake pass cell → (value == 0) ≡ false → is_shut cell 1 ≡ is_shut cell value
+    still (PAGE page) may e = sym (one value small e)
+    still (SIZE file) may e = sym (one value small e)
+    still (STORE file) may e = sym (one value small e)
+    still cell may e = absurd may
+
+taken_lock : (pass : Pass) (cell : Word) → MayTake pass cell → is_lock cell ≡ true
+taken_lock pass (PAGE page) may = refl
+taken_lock pass (SIZE file) may = refl
+taken_lock pass (STORE file) may = refl
+taken_lock pass cell may = absurd may
+
+unshut_lock : (cell : Word) → is_lock cell ≡ true → is_shut cell 0 ≡ false
+unshut_lock (ENTRY slot) lock = refl
+unshut_lock cell lock = refl
+
+-- the kind of an ENTRY word
+pub kind_is : (kind count page : ℕ) → kind < 8 → kind_of (entry_word kind count page) ≡ kind
+kind_is kind count page small = omega arith
+
+unshut_entry : (slot value : ℕ) → kind_of value ≢ 1 → kind_of value ≢ 3 → is_shut (ENTRY slot) value ≡ false
+unshut_entry slot value not_one not_three = when_false (kind_of value == 1) true (kind_of value == 3) (ne_eqb (kind_of value) 1 not_one) ∙ ne_eqb (kind_of value) 3 not_three
+
+fits : (sizes : Sizes) (first : Values) (by : ℕ) (core : Core) (found : ℕ) (deed : Deed) → Sound sizes first core → MayFind sizes by core deed found
+    → IsFit (word_of sizes (core.passes by) deed) (core.words (word_of sizes (core.passes by) deed)) (value_after sizes (core.passes by) deed found) (move_of sizes deed found) (core.passes (changes by core.made deed)).hands
+fits sizes first by core found (Loads word) sound may = ap (is_shut word) (sym may.is)
+fits sizes first by core found (Takes cell) sound may = take_fit (core.passes by) cell (core.words cell) found may.may may.is (sound.locks.bit cell (taken_lock (core.passes by) cell may.may))
+fits sizes first by core found (Gives cell) sound may =
+    (refl, given_held sizes (core.passes by) cell (core.passes by).stage (sound.standing by).at (sound.holding by).locks may.may, unshut_lock cell (given_lock (core.passes by) cell (core.passes by).stage may.may))
+fits sizes first by core found (Places reply) sound may = refl
+fits sizes first by core found Stops sound may = refl
+fits sizes first by core found Draws sound may = refl
+fits sizes first by core found (Seizes next) sound may =
+    let at = subst (StandsAt sizes (core.passes by)) may.may (sound.standing by).at in
+    let unseized = subst (λ s. IsUnseized s (core.passes by).first (core.passes by).entries next) (sym may.may) (omega arith, at.1.1) in
+    (refl, ap (is_shut (ENTRY (slot_of sizes next))) (sound.window.unseized_is by next unseized), refl)
+fits sizes first by core found (Pledges page) sound may = refl
+fits sizes first by core found (Readies next) sound may =
+    let at = subst (StandsAt sizes (core.passes by)) may.may (sound.standing by).at in
+    let fills = subst (λ s. IsFilling s (core.passes by).first (core.passes by).entries next) (sym may.may) (readying_next (core.passes by).first (core.passes by).entries next at.1) in
+    let one = (sound.holding by).filling next fills in
+    let kind = kind_is 2 (if next == (core.passes by).first then (core.passes by).entries else 0) (page_at sizes (core.passes by) next) (omega arith) in
+    (refl, omega (arith, one), unshut_entry (slot_of sizes next) (ready_word sizes (core.passes by) next) (λ e. omega (arith, e, kind)) (λ e. omega (arith, e, kind)))
+fits sizes first by core found Grows sound may = refl
+fits sizes first by core found (Breaks next) sound may =
+    let at = subst (StandsAt sizes (core.passes by)) may.may (sound.standing by).at in
+    let fills = subst (λ s. IsFilling s (core.passes by).first (core.passes by).entries next) (sym may.may) (omega arith, at.1.1) in
+    let one = (sound.holding by).filling next fills in
+    (refl, omega (arith, one), refl)
+fits sizes first by core found Splits sound may = refl
+fits sizes first by core found (Leaves cell) sound may = refl
+fits sizes first by core found (Joins number) sound may = refl
+
+hands_are : (sizes : Sizes) (first : Values) (by : ℕ) (core : Core) (found : ℕ) (deed : Deed) → Sound sizes first core → (changed sizes by core deed found).hands ≡ moved (move_of sizes deed found) (core.passes (changes by core.made deed)).hands
+hands_are sizes first by core found Splits sound = sym (sound.numbers.unborn (core.made + 1) (omega arith)).hands
+hands_are sizes first by core found deed sound = refl
+
+bits : (sizes : Sizes) (first : Values) (by : ℕ) (core : Core) (found : ℕ) (deed : Deed) → Sound sizes first core → MayFind sizes by core deed found → is_lock (word_of sizes (core.passes by) deed) ≡ true → value_after sizes (core.passes by) deed found ≤ 1
+bits sizes first by core found (Loads word) sound may lock = subst (λ n. n ≤ 1) may.is (sound.locks.bit word lock)
+bits sizes first by core found (Takes cell) sound may lock = omega arith
+bits sizes first by core found (Gives cell) sound may lock = omega arith
+bits sizes first by core found deed sound may lock = absurd (not_both lock refl)
+
+pub locks_step : (sizes : Sizes) (first : Values) (by : ℕ) (core : Core) (deed : Deed) (found : ℕ) → Sound sizes first core → MayFind sizes by core deed found → Locks (after_step sizes by deed found core)
+locks_step sizes first by core deed found sound may =
+    locks_move core sound.locks (changes by core.made deed) (changed sizes by core deed found) (word_of sizes (core.passes by) deed) (value_after sizes (core.passes by) deed found) (move_of sizes deed found)
+    (fits sizes first by core found deed sound may) (hands_are sizes first by core found deed sound) (bits sizes first by core found deed sound may) _ _ _ _
+
+-- ---- a call that begins, and a device call, move nothing
+
+locks_still : (core now : Core) → Locks core → ((cell : Word) → now.words cell ≡ core.words cell) → ((n : ℕ) → (now.passes n).hands ≡ (core.passes n).hands) → Locks now
+locks_still core now locks words hands = record {
+  bit = λ cell lock. subst (λ n. n ≤ 1) (sym (words cell)) (locks.bit cell lock);
+  keyed = λ cell. keyed_same (subst (λ n. Keyed (is_shut cell n) (λ m. times cell (core.passes m).hands)) (sym (words cell)) (locks.keyed cell)) (λ n. ap (times cell) (hands n));
+}
+
+pub locks_begin : (sizes : Sizes) (first : Values) (by : ℕ) (core : Core) (call : FileCall) → Sound sizes first core → Locks (after_begin sizes by call core)
+locks_begin sizes first by core call sound = locks_still core (after_begin sizes by call core) sound.locks (λ cell. refl)
+    (by_number (λ n (p : Pass). p.hands ≡ (core.passes n).hands) core.passes by _ refl (λ n ne. refl))
+
+pub locks_work : (sizes : Sizes) (first : Values) (by : ℕ) (core : Core) (work : Work) → Sound sizes first core → Locks (after_work sizes by work core)
+locks_work sizes first by core work sound = locks_still core (after_work sizes by work core) sound.locks (λ cell. refl)
+    (by_number (λ n (p : Pass). p.hands ≡ (core.passes n).hands) core.passes by _ refl (λ n ne. refl))

@@ -1,0 +1,196 @@
+-- Each event keeps STOP, the buffers and the devices.
+use Rattle.std.proofs.Common.{◌≡◌, ◌≢◌, ◌⊎◌, ℕ, ◌+◌, ◌-◌, ◌^◌, ◌≤◌, ◌==◌, min, Bool, true, false, if◌then◌else◌, length, inl, inr, refl, sym, ap, subst, ◌∙◌, arith, le_trans}
+use Rattle.std.proofs.lemmas.Bool.{eqb-false, or_cases}
+use Rattle.nv_plain.specs.Faults.{Rose}
+use Rattle.nv_plain.specs.declared.call.FileCall.{FileCall}
+use Rattle.nv_core.specs.Words.{Sizes, Word, STOP, ENTRY, PAGE, page_total}
+use Rattle.nv_core.specs.Values.{Ending, Made, Failed, called, faults_of, identity_of, buffers_in}
+use Rattle.nv_core.specs.Passes.{Stage, Locking, Checking, Copying, Seizing, Committing, Pledging, Readying, Placing, ReadFailing, WriteFailing, Breaking, Pass, page_count, first_page, end_page, without}
+use Rattle.nv_core.specs.Deeds.{Deed, Loads, Takes, Gives, Places, Stops, Draws, Seizes, Pledges, Readies, Grows, Breaks, Splits, Leaves, Joins, slot_of}
+use Rattle.nv_core.specs.Stages.{stage_after, after_stop, leaving}
+use Rattle.nv_core.specs.Stepped.{stopped_after}
+use Rattle.nv_core.specs.Order.{Values, Work, MayWork, MayStep, IsDue, IsFailing, MayEnd, commit_steps}
+use Rattle.nv_core.specs.Core.{Core, changes, changed, after_step, after_begin, after_work, stage_worked, values_worked, values_stepped}
+use Rattle.nv_core.specs.Events.{MayDo, MayFind, MayBegin}
+use Rattle.nv_core.specs.Stop.{HasFailed, Stop}
+use Rattle.nv_core.specs.BuffersKept.{BuffersKept}
+use Rattle.nv_core.specs.Devices.{Devices}
+use Rattle.nv_core.specs.Sound.{Sound}
+use Rattle.nv_core.proofs.Changes.{by_number, word_here}
+use Rattle.nv_core.proofs.Choices.{if_both, not_both}
+use Rattle.nv_core.proofs.ClearLaws.{IsClear, clear_to, clear_leaving}
+use Rattle.nv_core.proofs.WordLaws.{untouched, touches}
+use Rattle.nv_core.proofs.TotalLaws.{total_same}
+use Rattle.nv_core.proofs.ValueLaws.{faults_steady, identity_steady, buffers_steady, steady_stepped, steady_worked, identity_worked, buffers_worked, faults_rose, faults_worked}
+use Rattle.nv_core.proofs.Inherits.{inherits}
+
+-- ---- no step leads to a fault
+
+clear_failing : (stage : Stage) → IsClear stage → IsFailing stage → ⊥
+clear_failing ReadFailing clear is = clear
+clear_failing WriteFailing clear is = clear
+clear_failing stage clear is = is
+
+none_fails : (sizes : Sizes) (values : Values) (pass : Pass) (found : ℕ) (deed : Deed) → MayStep sizes values pass deed → IsFailing (stage_after sizes pass deed found) → ⊥
+none_fails sizes values pass found (Loads word) may = clear_failing _ (clear_to sizes values pass (Loads word) found tt may)
+none_fails sizes values pass found (Takes cell) may = clear_failing _ (clear_to sizes values pass (Takes cell) found tt may)
+none_fails sizes values pass found (Gives cell) may = clear_failing _ (clear_to sizes values pass (Gives cell) found tt may)
+none_fails sizes values pass found (Places reply) may = clear_failing _ (clear_to sizes values pass (Places reply) found tt may)
+none_fails sizes values pass found Grows may = clear_failing _ (clear_to sizes values pass Grows found tt may)
+none_fails sizes values pass found Stops may = stops pass.stage may
+  where
+    stops : (stage : Stage) → IsFailing stage → IsFailing (after_stop pass stage) → ⊥
+    stops ReadFailing is = clear_failing (leaving pass.hands) (clear_leaving pass.hands)
+    stops WriteFailing is = λ z. z
+    stops stage is = absurd is
+none_fails sizes values pass found Draws may = if_both (λ s. IsFailing s → ⊥) (found == pass.head) (Seizing found) (leaving pass.hands) (λ _ z. z) (λ _. clear_failing (leaving pass.hands) (clear_leaving pass.hands))
+none_fails sizes values pass found (Seizes next) may = if_both (λ s. IsFailing s → ⊥) (next + 1 == pass.first + pass.entries) (Committing 0) (Seizing (next + 1)) (λ _ z. z) (λ _ z. z)
+none_fails sizes values pass found (Pledges page) may = if_both (λ s. IsFailing s → ⊥) (page + 1 == end_page sizes pass.call) (Readying (if pass.entries == 1 then pass.first else pass.first + 1)) (Pledging (page + 1)) (λ _ z. z) (λ _ z. z)
+none_fails sizes values pass found (Readies next) may = if_both (λ s. IsFailing s → ⊥) (next == pass.first) Placing (Readying (if next + 1 == pass.first + pass.entries then pass.first else next + 1)) (λ _ z. z) (λ _ z. z)
+none_fails sizes values pass found (Breaks next) may = if_both (λ s. IsFailing s → ⊥) (next + 1 == pass.first + pass.entries) (leaving (without (ENTRY (slot_of sizes next)) pass.hands)) (Breaking (next + 1))
+    (λ _. clear_failing (leaving (without (ENTRY (slot_of sizes next)) pass.hands)) (clear_leaving (without (ENTRY (slot_of sizes next)) pass.hands))) (λ _ z. z)
+none_fails sizes values pass found deed may = absurd may
+
+-- ---- counts
+
+-- a count that rose stays so while it rises
+rose_on : (before was now : ℕ) → Rose before was → was ≤ now → Rose before now
+rose_on before was now rose up = record { never_falls = le_trans rose.never_falls up; more = le_trans rose.more up }
+
+rose_from : (before was now : ℕ) → before ≤ was → Rose was now → Rose before now
+rose_from before was now low rose = record { never_falls = le_trans low rose.never_falls; more = le_trans (least before was low (2 ^ 64 - 1)) rose.more }
+  where
+    least : (before was : ℕ) → before ≤ was → (most : ℕ) → min (before + 1) most ≤ min (was + 1) most
+    least before was low most = omega arith
+
+failed_on : (first old new : Values) → ((cell : Word) → faults_of (old cell) ≤ faults_of (new cell)) → HasFailed first old → HasFailed first new
+failed_on first old new up failed = record { cell = failed.cell; rose = rose_on (faults_of (first failed.cell)) (faults_of (old failed.cell)) (faults_of (new failed.cell)) failed.rose (up failed.cell) }
+
+-- ---- a step
+
+same_faults : (sizes : Sizes) (pass : Pass) (deed : Deed) (values : Values) (cell : Word) → faults_of (values cell) ≤ faults_of (values_stepped sizes pass deed values cell)
+same_faults sizes pass deed values cell = let e = steady_stepped faults_of faults_steady sizes pass deed values cell in omega (arith, e)
+
+-- the pass that a step changes
+stop_fails : (sizes : Sizes) (first : Values) (by : ℕ) (core : Core) (found : ℕ) (deed : Deed) → MayDo sizes by core deed → Sound sizes first core → IsFailing (changed sizes by core deed found).stage → HasFailed first core.values
+stop_fails sizes first by core found Splits may sound is = absurd is
+stop_fails sizes first by core found (Leaves cell) may sound is = sound.stop.failing by is
+stop_fails sizes first by core found (Joins number) may sound is = sound.stop.failing by is
+stop_fails sizes first by core found deed may sound is = absurd (none_fails sizes core.values (core.passes by) found deed may is)
+
+-- a pass that has seen STOP as 1 after a step, saw it so before, or found it so
+saw : (pass : Pass) (word : Word) (found : ℕ) → (stopped_after pass (Loads word) found ≡ true) → (pass.stopped ≡ true) ⊎ ((word ≡ STOP) × (found ≢ 0))
+saw pass STOP found is = go (found == 0) refl is
+  where
+    go : (b : Bool) → (found == 0) ≡ b → (if b then pass.stopped else true) ≡ true → (pass.stopped ≡ true) ⊎ ((STOP ≡ STOP) × (found ≢ 0))
+    go true e is = inl is
+    go false e is = inr (refl, eqb-false found 0 e)
+saw pass word found is = inl is
+
+stop_stays : (sizes : Sizes) (first : Values) (by : ℕ) (core : Core) (found : ℕ) (deed : Deed) → MayFind sizes by core deed found → Sound sizes first core → touches deed STOP ≡ false → (changed sizes by core deed found).stopped ≡ true → core.words STOP ≡ 1
+stop_stays sizes first by core found (Loads word) may sound other is = elim (saw (core.passes by) word found is) [
+  | inl old ↦ sound.stop.stays by old
+  | inr new ↦ let f : core.words STOP ≡ found = ap core.words (sym new.0) ∙ may.is in let ne = new.1 in let bit = sound.stop.bit in omega (arith, f, ne, bit)
+]
+stop_stays sizes first by core found Stops may sound other is = absurd (not_both refl other)
+stop_stays sizes first by core found Splits may sound other is = inherits (λ p. p.stopped ≡ true → core.words STOP ≡ 1) core
+    (λ one two a b both. elim (or_cases one.stopped two.stopped both) [ inl x ↦ a x | inr y ↦ b y ]) sound.stop.stays (λ p is. is) is
+stop_stays sizes first by core found deed may sound other is = sound.stop.stays by is
+
+on : (sizes : Sizes) (first : Values) (by : ℕ) (core : Core) (deed : Deed) → HasFailed first core.values → HasFailed first (values_stepped sizes (core.passes by) deed core.values)
+on sizes first by core deed = failed_on first core.values (values_stepped sizes (core.passes by) deed core.values) (same_faults sizes (core.passes by) deed core.values)
+
+fails_now : (sizes : Sizes) (first : Values) (by : ℕ) (core : Core) (deed : Deed) (found : ℕ) → Sound sizes first core → MayFind sizes by core deed found
+    → (n : ℕ) → IsFailing ((after_step sizes by deed found core).passes n).stage → HasFailed first (values_stepped sizes (core.passes by) deed core.values)
+fails_now sizes first by core deed found sound may = by_number (λ n (p : Pass). IsFailing p.stage → HasFailed first (values_stepped sizes (core.passes by) deed core.values)) core.passes (changes by core.made deed) (changed sizes by core deed found)
+    (λ is. on sizes first by core deed (stop_fails sizes first by core found deed may.may sound is)) (λ n ne is. on sizes first by core deed (sound.stop.failing n is))
+
+up : (sizes : Sizes) (first : Values) (by : ℕ) (core : Core) (deed : Deed) → Sound sizes first core → (cell : Word) → faults_of (first cell) ≤ faults_of (values_stepped sizes (core.passes by) deed core.values cell)
+up sizes first by core deed sound cell = le_trans (sound.stop.never_fell cell) (same_faults sizes (core.passes by) deed core.values cell)
+
+-- a step that leaves STOP
+stop_else : (sizes : Sizes) (first : Values) (by : ℕ) (core : Core) (deed : Deed) (found : ℕ) → Sound sizes first core → MayFind sizes by core deed found → touches deed STOP ≡ false → Stop first (after_step sizes by deed found core)
+stop_else sizes first by core deed found sound may other =
+    let same = untouched sizes by core deed found may STOP other in
+    record {
+      bit = subst (λ n. n ≤ 1) (sym same) sound.stop.bit;
+      stopped = λ is. on sizes first by core deed (sound.stop.stopped (sym same ∙ is));
+      failing = fails_now sizes first by core deed found sound may;
+      never_fell = up sizes first by core deed sound;
+      stays = by_number (λ n (p : Pass). p.stopped ≡ true → (after_step sizes by deed found core).words STOP ≡ 1) core.passes (changes by core.made deed) (changed sizes by core deed found)
+          (λ is. same ∙ stop_stays sizes first by core found deed may sound other is) (λ n ne is. same ∙ sound.stop.stays n is);
+    }
+
+pub stop_step : (sizes : Sizes) (first : Values) (by : ℕ) (core : Core) (deed : Deed) (found : ℕ) → Sound sizes first core → MayFind sizes by core deed found → Stop first (after_step sizes by deed found core)
+stop_step sizes first by core Stops found sound may = record {
+  bit = subst (λ n. n ≤ 1) (sym (word_here core.words STOP 1)) (omega arith);
+  stopped = λ is. sound.stop.failing by may.may;
+  failing = fails_now sizes first by core Stops found sound may;
+  never_fell = sound.stop.never_fell;
+  stays = λ n is. word_here core.words STOP 1;
+}
+stop_step sizes first by core deed found sound may = stop_else sizes first by core deed found sound may refl
+
+pub stop_begin : (sizes : Sizes) (first : Values) (by : ℕ) (core : Core) (call : FileCall) → Sound sizes first core → MayBegin sizes call (core.passes by) → Stop first (after_begin sizes by call core)
+stop_begin sizes first by core call sound may = record {
+  bit = sound.stop.bit;
+  stopped = sound.stop.stopped;
+  failing = by_number (λ n (p : Pass). IsFailing p.stage → HasFailed first core.values) core.passes by _
+      (if_both (λ s. IsFailing s → HasFailed first core.values) (page_count sizes call == 0) Checking (Locking (first_page sizes call)) (λ _ z. absurd z) (λ _ z. absurd z)) (λ n ne is. sound.stop.failing n is);
+  never_fell = sound.stop.never_fell;
+  stays = by_number (λ n (p : Pass). p.stopped ≡ true → core.words STOP ≡ 1) core.passes by _ (sound.stop.stays by) (λ n ne is. sound.stop.stays n is);
+}
+
+-- ---- a device call
+
+worked_fails : (sizes : Sizes) (values : Values) (pass : Pass) (work : Work) → IsDue sizes values pass work pass.stage → IsFailing (stage_worked sizes pass work.ending pass.stage) → (came : Bool) × (faults : ℕ) × (work.ending ≡ Failed came faults)
+worked_fails sizes values pass work due is = go work.ending refl pass.stage due is
+  where
+    go : (how : Ending) → work.ending ≡ how → (stage : Stage) → IsDue sizes values pass work stage → IsFailing (stage_worked sizes pass how stage) → (came : Bool) × (faults : ℕ) × (work.ending ≡ Failed came faults)
+    go (Failed came faults) e stage due is = (came, faults, e)
+    go Made e (Committing calls) due is = absurd (if_both (λ s. IsFailing s → ⊥) (calls + 1 == length (commit_steps sizes pass pass.call)) (Pledging (first_page sizes pass.call)) (Committing (calls + 1)) (λ _ z. z) (λ _ z. z) is)
+    go Made e (Copying page) due is = absurd is
+    go Made e stage due is = absurd due
+
+pub stop_work : (sizes : Sizes) (first : Values) (by : ℕ) (core : Core) (work : Work) → Sound sizes first core → MayWork sizes core.values (core.passes by) work → Stop first (after_work sizes by work core)
+stop_work sizes first by core work sound may = record {
+  bit = sound.stop.bit;
+  stopped = λ is. rises (sound.stop.stopped is);
+  failing = by_number (λ n (p : Pass). IsFailing p.stage → HasFailed first (values_worked (core.passes by) work core.values)) core.passes by _
+      (λ is. failed (worked_fails sizes core.values (core.passes by) work may.due is)) (λ n ne is. rises (sound.stop.failing n is));
+  never_fell = λ cell. le_trans (sound.stop.never_fell cell) (faults_worked (core.passes by) work core.values may.ends cell);
+  stays = by_number (λ n (p : Pass). p.stopped ≡ true → core.words STOP ≡ 1) core.passes by _ (sound.stop.stays by) (λ n ne is. sound.stop.stays n is);
+}
+  where
+    rises : HasFailed first core.values → HasFailed first (values_worked (core.passes by) work core.values)
+    rises = failed_on first core.values (values_worked (core.passes by) work core.values) (faults_worked (core.passes by) work core.values may.ends)
+
+    failed : (came : Bool) × (faults : ℕ) × (work.ending ≡ Failed came faults) → HasFailed first (values_worked (core.passes by) work core.values)
+    failed how =
+        let here = subst (λ e. Rose (faults_of (core.values work.cell)) (faults_of (called work.job e (core.values work.cell)))) (sym how.2)
+        (faults_rose work.job how.0 how.1 (core.values work.cell) (subst (MayEnd (core.values work.cell)) how.2 may.ends)) in
+        let is : faults_of (values_worked (core.passes by) work core.values work.cell) ≡ faults_of (called work.job work.ending (core.values work.cell)) =
+        steady_worked faults_of faults_steady (core.passes by) work core.values work.cell ∙ ap faults_of (word_here core.values work.cell (called work.job work.ending (core.values work.cell))) in
+        record { cell = work.cell; rose = rose_from (faults_of (first work.cell)) (faults_of (core.values work.cell)) _ (sound.stop.never_fell work.cell) (subst (Rose (faults_of (core.values work.cell))) (sym is) here) }
+
+-- ---- buffers and devices
+
+pub buffers_step : (sizes : Sizes) (first : Values) (by : ℕ) (core : Core) (deed : Deed) → Sound sizes first core → BuffersKept sizes (values_stepped sizes (core.passes by) deed core.values)
+buffers_step sizes first by core deed sound = record {
+  many =
+      total_same (page_total sizes) (λ page. buffers_in (core.values (PAGE page))) (λ page. buffers_in (values_stepped sizes (core.passes by) deed core.values (PAGE page)))
+      (λ page less. steady_stepped buffers_in buffers_steady sizes (core.passes by) deed core.values (PAGE page)) ∙ sound.buffers.many;
+}
+
+pub buffers_work : (sizes : Sizes) (first : Values) (by : ℕ) (core : Core) (work : Work) → Sound sizes first core → BuffersKept sizes (values_worked (core.passes by) work core.values)
+buffers_work sizes first by core work sound = record {
+  many =
+      total_same (page_total sizes) (λ page. buffers_in (core.values (PAGE page))) (λ page. buffers_in (values_worked (core.passes by) work core.values (PAGE page)))
+      (λ page less. buffers_worked (core.passes by) work core.values (PAGE page)) ∙ sound.buffers.many;
+}
+
+pub devices_step : (sizes : Sizes) (first : Values) (by : ℕ) (core : Core) (deed : Deed) → Sound sizes first core → Devices first (values_stepped sizes (core.passes by) deed core.values)
+devices_step sizes first by core deed sound = record { each = λ cell. steady_stepped identity_of identity_steady sizes (core.passes by) deed core.values cell ∙ sound.devices.each cell }
+
+pub devices_work : (sizes : Sizes) (first : Values) (by : ℕ) (core : Core) (work : Work) → Sound sizes first core → Devices first (values_worked (core.passes by) work core.values)
+devices_work sizes first by core work sound = record { each = λ cell. identity_worked (core.passes by) work core.values cell ∙ sound.devices.each cell }

@@ -1,0 +1,318 @@
+-- Each event keeps the log's window.
+use Rattle.std.proofs.Common.{◌≡◌, ◌≢◌, ◌⊎◌, ◌↔◌, ℕ, ◌+◌, ◌^◌, ◌<◌, ◌≤◌, ◌==◌, Bool, true, false, if◌then◌else◌, [], ◌++◌, length, inl, inr, refl, sym, ap, subst, ◌∙◌, arith, le_trans}
+use Rattle.std.proofs.lemmas.Bool.{eqb-true, eqb-false, cases_eq}
+use Rattle.nv_plain.specs.declared.call.FileCall.{FileCall}
+use Rattle.nv_core.specs.Words.{Sizes, HEAD, TAIL, ENTRY, filling, broken}
+use Rattle.nv_core.specs.Values.{Ending, Made, Failed}
+use Rattle.nv_core.specs.Passes.{Stage, Locking, Checking, Copying, Seizing, Committing, Pledging, Readying, Placing, ReadFailing, WriteFailing, Breaking, Pass, IsUnseized, IsFilling, IsAmong, is_write, page_count, first_page, end_page, without}
+use Rattle.nv_core.specs.Deeds.{Deed, slot_of, page_at, ready_word, Loads, Takes, Gives, Places, Stops, Draws, Seizes, Pledges, Readies, Grows, Breaks, Splits, Leaves, Joins, value_after}
+use Rattle.nv_core.specs.Stages.{stage_after, after_stop, leaving}
+use Rattle.nv_core.specs.Stepped.{stepped, begun}
+use Rattle.nv_core.specs.Order.{Values, Work, MayWork, IsDue, IsFailing, commit_steps, MayStep}
+use Rattle.nv_core.specs.Core.{Core, changes, changed, with_word, with_number, after_step, after_begin, after_work, worked, stage_worked}
+use Rattle.nv_core.specs.Events.{MayFind, MayBegin}
+use Rattle.nv_core.specs.Standing.{StandsAt, HasDrawn, IsPage, IsSmall, HasRoom}
+use Rattle.nv_core.specs.LogWindow.{HasUnseized, Fills, LogWindow}
+use Rattle.nv_core.specs.Sound.{Sound}
+use Rattle.nv_core.proofs.Changes.{word_here}
+use Rattle.nv_core.proofs.Choices.{if_both, when_true, when_false, busy}
+use Rattle.nv_core.proofs.ClearLaws.{IsClear, IsPlain, clear_unseized, clear_filling, clear_from, clear_to, clear_leaving}
+use Rattle.nv_core.proofs.PageLaws.{write_pages}
+use Rattle.nv_core.proofs.LockLaws.{only_holder}
+use Rattle.nv_core.proofs.WordLaws.{untouched, touches}
+use Rattle.nv_core.proofs.KeepsLocks.{kind_is, readying_next}
+use Rattle.nv_core.proofs.WindowLaws.{Alike, alike_self, alike_all, window_same, window_drawn, OneEntry, window_entry}
+
+-- two passes that have drawn nothing
+clear_alike : (old new : Pass) → IsClear old.stage → IsClear new.stage → Alike old new
+clear_alike old new was is = record {
+  unseized = λ n. (λ u. absurd (clear_unseized new.stage new.first new.entries n is u), λ u. absurd (clear_unseized old.stage old.first old.entries n was u));
+  filling = λ n. (λ u. absurd (clear_filling new.stage new.first new.entries n is u), λ u. absurd (clear_filling old.stage old.first old.entries n was u));
+}
+
+-- two that stand at stages of the same numbers
+at_alike : (old new : Pass) (was is : Stage) → old.stage ≡ was → new.stage ≡ is
+    → ((n : ℕ) → IsUnseized is new.first new.entries n ↔ IsUnseized was old.first old.entries n)
+    → ((n : ℕ) → IsFilling is new.first new.entries n ↔ IsFilling was old.first old.entries n) → Alike old new
+at_alike old new was is at now unseized filling = record {
+  unseized = λ n. subst (λ s. IsUnseized new.stage new.first new.entries n ↔ IsUnseized s old.first old.entries n) (sym at) (subst (λ s. IsUnseized s new.first new.entries n ↔ IsUnseized was old.first old.entries n) (sym now) (unseized n));
+  filling = λ n. subst (λ s. IsFilling new.stage new.first new.entries n ↔ IsFilling s old.first old.entries n) (sym at) (subst (λ s. IsFilling s new.first new.entries n ↔ IsFilling was old.first old.entries n) (sym now) (filling n));
+}
+
+none : {P : Type 0} → (P → ⊥) → (⊥ ↔ P)
+none no_ = (λ z. absurd z, λ p. absurd (no_ p))
+
+self : {P : Type 0} → P ↔ P
+self = (λ p. p, λ p. p)
+
+-- a pledge leaves what is being filled
+pledged_alike : (sizes : Sizes) (pass : Pass) (page : ℕ) (n : ℕ) → 1 ≤ pass.entries
+    → (IsUnseized (if page + 1 == end_page sizes pass.call then Readying (if pass.entries == 1 then pass.first else pass.first + 1) else Pledging (page + 1)) pass.first pass.entries n ↔ ⊥)
+    × (IsFilling (if page + 1 == end_page sizes pass.call then Readying (if pass.entries == 1 then pass.first else pass.first + 1) else Pledging (page + 1)) pass.first pass.entries n ↔ IsAmong pass.first pass.entries n)
+pledged_alike sizes pass page n some =
+    if_both (λ s. (IsUnseized s pass.first pass.entries n ↔ ⊥) × (IsFilling s pass.first pass.entries n ↔ IsAmong pass.first pass.entries n))
+    (page + 1 == end_page sizes pass.call) (Readying (if pass.entries == 1 then pass.first else pass.first + 1)) (Pledging (page + 1))
+    (λ _. (
+      self,
+      if_both (λ m. IsFilling (Readying m) pass.first pass.entries n ↔ IsAmong pass.first pass.entries n) (pass.entries == 1) pass.first (pass.first + 1)
+          (λ e. let one = eqb-true pass.entries 1 e in (
+            λ is. elim is [ inl leader ↦ (omega (arith, leader), omega (arith, leader, some)) | inr none ↦ absurd (let x = none.0 in omega (arith, x)) ],
+            λ is. inl (let x = is.0 in let y = is.1 in omega (arith, x, y, one)),
+          ))
+          (λ e. (
+            λ is. elim is [ inl leader ↦ (omega (arith, leader), omega (arith, leader, some)) | inr follower ↦ (let y = follower.1 in (omega (arith, y), follower.2)) ],
+            λ is. elim (cases_eq n pass.first) [ inl leader ↦ inl leader | inr ne ↦ inr (let x = is.0 in (omega arith, omega (arith, x, ne), is.1)) ],
+          )),
+    ))
+    (λ _. (self, self))
+
+-- ---- the steps that leave what is drawn
+
+-- the words of the window stay, and so does what is drawn
+stays : (sizes : Sizes) (first : Values) (by : ℕ) (core : Core) (deed : Deed) (found : ℕ) → Sound sizes first core → MayFind sizes by core deed found
+    → touches deed HEAD ≡ false → touches deed TAIL ≡ false → ((slot : ℕ) → touches deed (ENTRY slot) ≡ false)
+    → Alike (core.passes (changes by core.made deed)) (changed sizes by core deed found) → LogWindow sizes (after_step sizes by deed found core)
+stays sizes first by core deed found sound may head tail entry alike =
+    window_same sizes core (after_step sizes by deed found core) (untouched sizes by core deed found may HEAD head) (untouched sizes by core deed found may TAIL tail)
+    (λ slot. untouched sizes by core deed found may (ENTRY slot) (entry slot)) (alike_all core.passes (changes by core.made deed) (changed sizes by core deed found) alike) sound.window
+
+plain : (sizes : Sizes) (by : ℕ) (core : Core) (deed : Deed) (found number : ℕ) → IsPlain deed → MayStep sizes core.values (core.passes by) deed → Alike (core.passes by) (stepped sizes number core.history deed found (core.passes by))
+plain sizes by core deed found number is may = clear_alike (core.passes by) (stepped sizes number core.history deed found (core.passes by)) (clear_from sizes core.values (core.passes by) deed is may) (clear_to sizes core.values (core.passes by) deed found is may)
+
+stopped : (sizes : Sizes) (pass : Pass) (number : ℕ) (history : _) (found : ℕ) (stage : Stage) → pass.stage ≡ stage → IsFailing stage → Alike pass (stepped sizes number history Stops found pass)
+stopped sizes pass number history found ReadFailing at is =
+    at_alike pass (stepped sizes number history Stops found pass) ReadFailing (leaving pass.hands) at (ap (after_stop pass) at)
+    (λ n. (λ u. absurd (clear_unseized (leaving pass.hands) pass.first pass.entries n (clear_leaving pass.hands) u), λ z. absurd z))
+    (λ n. (λ u. absurd (clear_filling (leaving pass.hands) pass.first pass.entries n (clear_leaving pass.hands) u), λ z. absurd z))
+stopped sizes pass number history found WriteFailing at is =
+    at_alike pass (stepped sizes number history Stops found pass) WriteFailing (Breaking pass.first) at (ap (after_stop pass) at) (λ n. self) (λ n. self)
+stopped sizes pass number history found stage at is = absurd is
+
+-- ---- numbers are drawn
+
+drawn : (sizes : Sizes) (first : Values) (by : ℕ) (core : Core) (found : ℕ) → Sound sizes first core → MayFind sizes by core Draws found → LogWindow sizes (after_step sizes by Draws found core)
+drawn sizes first by core found sound may = go (found == (core.passes by).head) refl
+  where
+    was : IsClear (core.passes by).stage
+    was = subst IsClear (sym may.may) tt
+
+    at : (is_write (core.passes by).call ≡ true) × IsSmall sizes (core.passes by) × HasRoom sizes (core.passes by)
+    at = subst (StandsAt sizes (core.passes by)) may.may (sound.standing by).at
+
+    some : 1 ≤ page_count sizes (core.passes by).call
+    some = write_pages sizes (core.passes by).call at.0
+
+    few : page_count sizes (core.passes by).call ≤ sizes.entries
+    few = let b = ((sound.standing by).allowed (busy _ _ may.may refl)).short in omega (arith, b)
+
+    go : (b : Bool) → (found == (core.passes by).head) ≡ b → LogWindow sizes (after_step sizes by Draws found core)
+    go false e = stays_lost e
+      where
+        lost : (found == (core.passes by).head) ≡ false → stage_after sizes (core.passes by) Draws found ≡ leaving (core.passes by).hands
+        lost e = when_false (found == (core.passes by).head) (Seizing found) (leaving (core.passes by).hands) e
+
+        stays_lost : (found == (core.passes by).head) ≡ false → LogWindow sizes (after_step sizes by Draws found core)
+        stays_lost e = window_same sizes core (after_step sizes by Draws found core)
+            (word_here core.words HEAD _ ∙ when_false (found == (core.passes by).head) (found + page_count sizes (core.passes by).call) found e ∙ sym may.is) refl (λ slot. refl)
+            (alike_all core.passes by (changed sizes by core Draws found) (clear_alike (core.passes by) (changed sizes by core Draws found) was (subst IsClear (sym (lost e)) (clear_leaving (core.passes by).hands)))) sound.window
+    go true e =
+        let is : core.words HEAD ≡ (core.passes by).head = may.is ∙ eqb-true found (core.passes by).head e in
+        let value : value_after sizes (core.passes by) Draws found ≡ core.words HEAD + page_count sizes (core.passes by).call =
+        when_true (found == (core.passes by).head) (found + page_count sizes (core.passes by).call) found e ∙ ap (λ f. f + page_count sizes (core.passes by).call) (sym may.is) in
+        subst (λ v. LogWindow sizes record { words = with_word core.words HEAD v; values = core.values; passes = with_number core.passes by (changed sizes by core Draws found); history = core.history ++ []; made = core.made; ended = core.ended }) (sym value)
+        (window_drawn sizes core by (page_count sizes (core.passes by).call) (changed sizes by core Draws found) core.values (core.history ++ []) core.made core.ended sound.window
+        (le_trans some few)
+        (subst (λ h. h + page_count sizes (core.passes by).call ≤ 2 ^ 60) (sym is) at.1)
+        (let t = sound.loaded.tail by in let r = at.2 in omega (arith, is, t, r))
+        (λ s u. clear_unseized (core.passes by).stage (core.passes by).first (core.passes by).entries s was u)
+        (λ s u. clear_filling (core.passes by).stage (core.passes by).first (core.passes by).entries s was u)
+        (λ s. subst (λ b. IsFilling (if b then Seizing found else leaving (core.passes by).hands) (if b then found else (core.passes by).first) (if b then page_count sizes (core.passes by).call else (core.passes by).entries) s → ⊥) (sym e)
+        (λ u. let x = u.0 in let y = u.1 in omega (arith, x, y)))
+        (λ s. subst (λ b. IsUnseized (if b then Seizing found else leaving (core.passes by).hands) (if b then found else (core.passes by).first) (if b then page_count sizes (core.passes by).call else (core.passes by).entries) s
+        ↔ ((core.words HEAD ≤ s) × (s < core.words HEAD + page_count sizes (core.passes by).call))) (sym e)
+        (subst (λ h. ((found ≤ s) × (s < found + page_count sizes (core.passes by).call)) ↔ ((h ≤ s) × (s < h + page_count sizes (core.passes by).call))) (sym may.is) self)))
+
+-- ---- one entry changes
+
+-- no other pass fills an entry that one fills
+other_fills : (sizes : Sizes) (first : Values) (core : Core) (by next : ℕ) → Sound sizes first core → Fills (core.passes by) next → (n : ℕ) → n ≢ by → Fills (core.passes n) next → ⊥
+other_fills sizes first core by next sound fills n ne is =
+    let one = (sound.holding by).filling next fills in
+    let other = (sound.holding n).filling next is in
+    let none = (only_holder (sound.locks.keyed (ENTRY (slot_of sizes next))) by (omega (arith, one))).2 n ne in omega (arith, other, none)
+
+seizes_one : (sizes : Sizes) (first : Values) (by : ℕ) (core : Core) (found next : ℕ) → Sound sizes first core → MayFind sizes by core (Seizes next) found
+    → OneEntry sizes core by next filling (changed sizes by core (Seizes next) found)
+seizes_one sizes first by core found next sound may = record {
+  within = sound.window.unseized_in by next here;
+  unseized = λ s. if_both (λ g. IsUnseized g pass_first pass_entries s → HasUnseized (core.passes by) s × (s ≢ next)) (next + 1 == pass_first + pass_entries) (Committing 0) (Seizing (next + 1))
+      (λ _ u. absurd u) (λ _ u. let x = u.0 in let y = u.1 in (unseized_now s (omega (arith, x), y), λ e. omega (arith, e, x)));
+  fills = λ s. if_both (λ g. IsFilling g pass_first pass_entries s → (Fills (core.passes by) s × (s ≢ next)) ⊎ ((s ≡ next) × (filling ≡ 1))) (next + 1 == pass_first + pass_entries) (Committing 0) (Seizing (next + 1))
+      (λ e u. elim (cases_eq s next) [ inl same ↦ inr (same, refl) | inr ne ↦ inl (let last = eqb-true (next + 1) (pass_first + pass_entries) e in let x = u.0 in let y = u.1 in (fills_now s (x, omega (arith, y, ne, last)), ne)) ])
+      (λ _ u. elim (cases_eq s next) [ inl same ↦ inr (same, refl) | inr ne ↦ inl (let x = u.0 in let y = u.1 in (fills_now s (x, omega (arith, y, ne)), ne)) ]);
+  unseized_still = λ s u ne. let v : (next ≤ s) × (s < pass_first + pass_entries) = subst (λ g. IsUnseized g pass_first pass_entries s) may.may u in
+      if_both (λ g. IsUnseized g pass_first pass_entries s) (next + 1 == pass_first + pass_entries) (Committing 0) (Seizing (next + 1))
+      (λ e. absurd (let last = eqb-true (next + 1) (pass_first + pass_entries) e in let x = v.0 in let y = v.1 in omega (arith, x, y, ne, last)))
+      (λ _. let x = v.0 in (omega (arith, x, ne), v.1));
+  fills_still = λ s u ne. let v : (pass_first ≤ s) × (s < next) = subst (λ g. IsFilling g pass_first pass_entries s) may.may u in
+      if_both (λ g. IsFilling g pass_first pass_entries s) (next + 1 == pass_first + pass_entries) (Committing 0) (Seizing (next + 1))
+      (λ _. let y = v.1 in let z = at.1.1 in (v.0, omega (arith, y, z))) (λ _. let y = v.1 in (v.0, omega (arith, y)));
+  no_other_unseized = λ n ne u. ne (sound.window.unseized_by_one n by next u here);
+  no_other_filling = λ n ne u. let one = sound.window.filling_is n next u in let zero = sound.window.unseized_is by next here in omega (arith, one, zero);
+  is = inl (if_both (λ g. IsFilling g pass_first pass_entries next) (next + 1 == pass_first + pass_entries) (Committing 0) (Seizing (next + 1))
+      (λ _. at.1) (λ _. let x = at.1.0 in (x, omega arith)));
+}
+  where
+    pass_first : ℕ
+    pass_first = (core.passes by).first
+
+    pass_entries : ℕ
+    pass_entries = (core.passes by).entries
+
+    at : HasDrawn sizes (core.passes by).call (core.passes by).entries × IsAmong (core.passes by).first (core.passes by).entries next
+    at = subst (StandsAt sizes (core.passes by)) may.may (sound.standing by).at
+
+    here : HasUnseized (core.passes by) next
+    here = subst (λ g. IsUnseized g (core.passes by).first (core.passes by).entries next) (sym may.may) (omega arith, at.1.1)
+
+    unseized_now : (s : ℕ) → (next ≤ s) × (s < (core.passes by).first + (core.passes by).entries) → HasUnseized (core.passes by) s
+    unseized_now s u = subst (λ g. IsUnseized g (core.passes by).first (core.passes by).entries s) (sym may.may) u
+
+    fills_now : (s : ℕ) → ((core.passes by).first ≤ s) × (s < next) → Fills (core.passes by) s
+    fills_now s u = subst (λ g. IsFilling g (core.passes by).first (core.passes by).entries s) (sym may.may) u
+
+readies_one : (sizes : Sizes) (first : Values) (by : ℕ) (core : Core) (found next : ℕ) → Sound sizes first core → MayFind sizes by core (Readies next) found
+    → OneEntry sizes core by next (ready_word sizes (core.passes by) next) (changed sizes by core (Readies next) found)
+readies_one sizes first by core found next sound may = record {
+  within = sound.window.filling_in by next here;
+  unseized = λ s u. absurd (none_now s u);
+  fills = λ s u. inl (fills_was s u);
+  unseized_still = λ s u ne. absurd (subst (λ g. IsUnseized g (core.passes by).first (core.passes by).entries s) may.may u);
+  fills_still = λ s u ne. still s (subst (λ g. IsFilling g (core.passes by).first (core.passes by).entries s) may.may u) ne;
+  no_other_unseized = λ n ne u. let zero = sound.window.unseized_is n next u in let one = sound.window.filling_is by next here in omega (arith, one, zero);
+  no_other_filling = other_fills sizes first core by next sound here;
+  is = inr (let kind = kind_is 2 (if next == (core.passes by).first then (core.passes by).entries else 0) (page_at sizes (core.passes by) next) (omega arith) in (λ e. omega (arith, e, kind), λ e. omega (arith, e, kind)));
+}
+  where
+    After : Stage
+    After = if next == (core.passes by).first then Placing else Readying (if next + 1 == (core.passes by).first + (core.passes by).entries then (core.passes by).first else next + 1)
+
+    at : HasDrawn sizes (core.passes by).call (core.passes by).entries × IsAmong (core.passes by).first (core.passes by).entries next
+    at = subst (StandsAt sizes (core.passes by)) may.may (sound.standing by).at
+
+    fills_now : (s : ℕ) → IsFilling (Readying next) (core.passes by).first (core.passes by).entries s → Fills (core.passes by) s
+    fills_now s u = subst (λ g. IsFilling g (core.passes by).first (core.passes by).entries s) (sym may.may) u
+
+    here : Fills (core.passes by) next
+    here = fills_now next (readying_next (core.passes by).first (core.passes by).entries next at.1)
+
+    none_now : (s : ℕ) → HasUnseized (changed sizes by core (Readies next) found) s → ⊥
+    none_now s = if_both (λ g. IsUnseized g (core.passes by).first (core.passes by).entries s → ⊥) (next == (core.passes by).first) Placing
+        (Readying (if next + 1 == (core.passes by).first + (core.passes by).entries then (core.passes by).first else next + 1)) (λ _ u. u) (λ _ u. u)
+
+    fills_was : (s : ℕ) → Fills (changed sizes by core (Readies next) found) s → Fills (core.passes by) s × (s ≢ next)
+    fills_was s = if_both (λ g. IsFilling g (core.passes by).first (core.passes by).entries s → Fills (core.passes by) s × (s ≢ next)) (next == (core.passes by).first) Placing
+        (Readying (if next + 1 == (core.passes by).first + (core.passes by).entries then (core.passes by).first else next + 1)) (λ _ u. absurd u)
+        (λ e. let ne = eqb-false next (core.passes by).first e in
+        if_both (λ m. IsFilling (Readying m) (core.passes by).first (core.passes by).entries s → Fills (core.passes by) s × (s ≢ next)) (next + 1 == (core.passes by).first + (core.passes by).entries) (core.passes by).first (next + 1)
+        (λ _ u. elim u [ inl leader ↦ (fills_now s (inl leader), λ same. ne (sym same ∙ leader)) | inr none ↦ absurd (let x = none.0 in omega (arith, x)) ])
+        (λ _ u. elim u [
+          | inl leader ↦ (fills_now s (inl leader), λ same. ne (sym same ∙ leader))
+          | inr follower ↦ (let y = follower.1 in let x = at.1.0 in (fills_now s (inr (omega (arith, x, ne), omega (arith, y), follower.2)), λ same. omega (arith, same, y)))
+        ]))
+
+    still : (s : ℕ) → IsFilling (Readying next) (core.passes by).first (core.passes by).entries s → s ≢ next → Fills (changed sizes by core (Readies next) found) s
+    still s u ne = if_both (λ g. IsFilling g (core.passes by).first (core.passes by).entries s) (next == (core.passes by).first) Placing
+        (Readying (if next + 1 == (core.passes by).first + (core.passes by).entries then (core.passes by).first else next + 1))
+        (λ e. let same = eqb-true next (core.passes by).first e in absurd (elim u [ inl leader ↦ ne (leader ∙ sym same) | inr follower ↦ (let x = follower.0 in omega (arith, x, same)) ]))
+        (λ e. if_both (λ m. IsFilling (Readying m) (core.passes by).first (core.passes by).entries s) (next + 1 == (core.passes by).first + (core.passes by).entries) (core.passes by).first (next + 1)
+        (λ e. let last = eqb-true (next + 1) ((core.passes by).first + (core.passes by).entries) e in elim u [ inl leader ↦ inl leader | inr follower ↦ absurd (let y = follower.1 in let z = follower.2 in omega (arith, y, z, last, ne)) ])
+        (λ _. elim u [ inl leader ↦ inl leader | inr follower ↦ inr (let x = follower.0 in let y = follower.1 in (omega (arith, x), omega (arith, y, ne), follower.2)) ]))
+
+breaks_one : (sizes : Sizes) (first : Values) (by : ℕ) (core : Core) (found next : ℕ) → Sound sizes first core → MayFind sizes by core (Breaks next) found
+    → OneEntry sizes core by next broken (changed sizes by core (Breaks next) found)
+breaks_one sizes first by core found next sound may = record {
+  within = sound.window.filling_in by next here;
+  unseized = λ s u. absurd (none_now s u);
+  fills = λ s u. inl (fills_was s u);
+  unseized_still = λ s u ne. absurd (subst (λ g. IsUnseized g (core.passes by).first (core.passes by).entries s) may.may u);
+  fills_still = λ s u ne. still s (subst (λ g. IsFilling g (core.passes by).first (core.passes by).entries s) may.may u) ne;
+  no_other_unseized = λ n ne u. let zero = sound.window.unseized_is n next u in let one = sound.window.filling_is by next here in omega (arith, one, zero);
+  no_other_filling = other_fills sizes first core by next sound here;
+  is = inr (λ e. omega arith, λ e. omega arith);
+}
+  where
+    After : Stage
+    After = leaving (without (ENTRY (slot_of sizes next)) (core.passes by).hands)
+
+    at : HasDrawn sizes (core.passes by).call (core.passes by).entries × IsAmong (core.passes by).first (core.passes by).entries next
+    at = subst (StandsAt sizes (core.passes by)) may.may (sound.standing by).at
+
+    fills_now : (s : ℕ) → (next ≤ s) × (s < (core.passes by).first + (core.passes by).entries) → Fills (core.passes by) s
+    fills_now s u = subst (λ g. IsFilling g (core.passes by).first (core.passes by).entries s) (sym may.may) u
+
+    here : Fills (core.passes by) next
+    here = fills_now next (omega arith, at.1.1)
+
+    none_now : (s : ℕ) → HasUnseized (changed sizes by core (Breaks next) found) s → ⊥
+    none_now s = if_both (λ g. IsUnseized g (core.passes by).first (core.passes by).entries s → ⊥) (next + 1 == (core.passes by).first + (core.passes by).entries)
+        (leaving (without (ENTRY (slot_of sizes next)) (core.passes by).hands)) (Breaking (next + 1))
+        (λ _ u. clear_unseized (leaving (without (ENTRY (slot_of sizes next)) (core.passes by).hands)) (core.passes by).first (core.passes by).entries s (clear_leaving (without (ENTRY (slot_of sizes next)) (core.passes by).hands)) u) (λ _ u. u)
+
+    fills_was : (s : ℕ) → Fills (changed sizes by core (Breaks next) found) s → Fills (core.passes by) s × (s ≢ next)
+    fills_was s = if_both (λ g. IsFilling g (core.passes by).first (core.passes by).entries s → Fills (core.passes by) s × (s ≢ next)) (next + 1 == (core.passes by).first + (core.passes by).entries)
+        (leaving (without (ENTRY (slot_of sizes next)) (core.passes by).hands)) (Breaking (next + 1))
+        (λ _ u. absurd (clear_filling (leaving (without (ENTRY (slot_of sizes next)) (core.passes by).hands)) (core.passes by).first (core.passes by).entries s (clear_leaving (without (ENTRY (slot_of sizes next)) (core.passes by).hands)) u))
+        (λ _ u. let x = u.0 in (fills_now s (omega (arith, x), u.1), λ same. omega (arith, same, x)))
+
+    still : (s : ℕ) → (next ≤ s) × (s < (core.passes by).first + (core.passes by).entries) → s ≢ next → Fills (changed sizes by core (Breaks next) found) s
+    still s u ne = if_both (λ g. IsFilling g (core.passes by).first (core.passes by).entries s) (next + 1 == (core.passes by).first + (core.passes by).entries)
+        (leaving (without (ENTRY (slot_of sizes next)) (core.passes by).hands)) (Breaking (next + 1))
+        (λ e. absurd (let last = eqb-true (next + 1) ((core.passes by).first + (core.passes by).entries) e in let x = u.0 in let y = u.1 in omega (arith, x, y, ne, last)))
+        (λ _. let x = u.0 in (omega (arith, x, ne), u.1))
+
+-- ---- all steps
+
+pub window_step : (sizes : Sizes) (first : Values) (by : ℕ) (core : Core) (deed : Deed) (found : ℕ) → Sound sizes first core → MayFind sizes by core deed found → LogWindow sizes (after_step sizes by deed found core)
+window_step sizes first by core (Loads word) found sound may = stays sizes first by core (Loads word) found sound may refl refl (λ slot. refl) (plain sizes by core (Loads word) found by tt may.may)
+window_step sizes first by core (Takes cell) found sound may = stays sizes first by core (Takes cell) found sound may refl refl (λ slot. refl) (plain sizes by core (Takes cell) found by tt may.may)
+window_step sizes first by core (Gives cell) found sound may = stays sizes first by core (Gives cell) found sound may refl refl (λ slot. refl) (plain sizes by core (Gives cell) found by tt may.may)
+window_step sizes first by core (Places reply) found sound may = stays sizes first by core (Places reply) found sound may refl refl (λ slot. refl) (plain sizes by core (Places reply) found by tt may.may)
+window_step sizes first by core Stops found sound may = stays sizes first by core Stops found sound may refl refl (λ slot. refl) (stopped sizes (core.passes by) by core.history found (core.passes by).stage refl may.may)
+window_step sizes first by core Draws found sound may = drawn sizes first by core found sound may
+window_step sizes first by core (Seizes next) found sound may = window_entry sizes core by next filling (changed sizes by core (Seizes next) found) _ _ _ _ sound.window (seizes_one sizes first by core found next sound may)
+window_step sizes first by core (Pledges page) found sound may = stays sizes first by core (Pledges page) found sound may refl refl (λ slot. refl)
+    (let at : HasDrawn sizes (core.passes by).call (core.passes by).entries × IsPage sizes (core.passes by).call page = subst (StandsAt sizes (core.passes by)) may.may (sound.standing by).at in
+    at_alike (core.passes by) (changed sizes by core (Pledges page) found) (Pledging page) _ may.may refl (λ n. (pledged_alike sizes (core.passes by) page n at.0.some).0) (λ n. (pledged_alike sizes (core.passes by) page n at.0.some).1))
+window_step sizes first by core (Readies next) found sound may = window_entry sizes core by next _ (changed sizes by core (Readies next) found) _ _ _ _ sound.window (readies_one sizes first by core found next sound may)
+window_step sizes first by core Grows found sound may = stays sizes first by core Grows found sound may refl refl (λ slot. refl) (plain sizes by core Grows found by tt may.may)
+window_step sizes first by core (Breaks next) found sound may = window_entry sizes core by next broken (changed sizes by core (Breaks next) found) _ _ _ _ sound.window (breaks_one sizes first by core found next sound may)
+window_step sizes first by core Splits found sound may = stays sizes first by core Splits found sound may refl refl (λ slot. refl)
+    (clear_alike (core.passes (core.made + 1)) (changed sizes by core Splits found) (subst IsClear (sym (sound.numbers.unborn (core.made + 1) (omega arith)).idle) tt) tt)
+window_step sizes first by core (Leaves cell) found sound may = stays sizes first by core (Leaves cell) found sound may refl refl (λ slot. refl) record { unseized = λ n. self; filling = λ n. self }
+window_step sizes first by core (Joins number) found sound may = stays sizes first by core (Joins number) found sound may refl refl (λ slot. refl) (alike_self (core.passes by))
+
+-- ---- a call that begins, and a device call
+
+pub window_begin : (sizes : Sizes) (first : Values) (by : ℕ) (core : Core) (call : FileCall) → Sound sizes first core → MayBegin sizes call (core.passes by) → LogWindow sizes (after_begin sizes by call core)
+window_begin sizes first by core call sound may = window_same sizes core (after_begin sizes by call core) refl refl (λ slot. refl)
+    (alike_all core.passes by (begun sizes call (core.passes by)) (clear_alike (core.passes by) (begun sizes call (core.passes by)) (subst IsClear (sym may.idle) tt)
+    (if_both IsClear (page_count sizes call == 0) Checking (Locking (first_page sizes call)) (λ _. tt) (λ _. tt)))) sound.window
+
+worked_alike : (sizes : Sizes) (values : Values) (pass : Pass) (work : Work) (stage : Stage) (how : Ending) → IsDue sizes values pass work stage → (n : ℕ)
+    → (IsUnseized (stage_worked sizes pass how stage) pass.first pass.entries n ↔ IsUnseized stage pass.first pass.entries n)
+    × (IsFilling (stage_worked sizes pass how stage) pass.first pass.entries n ↔ IsFilling stage pass.first pass.entries n)
+worked_alike sizes values pass work (Committing calls) Made due n =
+    if_both (λ g. (IsUnseized g pass.first pass.entries n ↔ ⊥) × (IsFilling g pass.first pass.entries n ↔ IsAmong pass.first pass.entries n))
+    (calls + 1 == length (commit_steps sizes pass pass.call)) (Pledging (first_page sizes pass.call)) (Committing (calls + 1)) (λ _. (self, self)) (λ _. (self, self))
+worked_alike sizes values pass work (Committing calls) (Failed came faults) due n = (self, self)
+worked_alike sizes values pass work (Copying page) Made due n = (self, self)
+worked_alike sizes values pass work (Copying page) (Failed came faults) due n = (self, self)
+worked_alike sizes values pass work stage how due n = absurd due
+
+pub window_work : (sizes : Sizes) (first : Values) (by : ℕ) (core : Core) (work : Work) → Sound sizes first core → MayWork sizes core.values (core.passes by) work → LogWindow sizes (after_work sizes by work core)
+window_work sizes first by core work sound may = window_same sizes core (after_work sizes by work core) refl refl (λ slot. refl)
+    (alike_all core.passes by (worked sizes work (core.passes by)) record {
+      unseized = λ n. (worked_alike sizes core.values (core.passes by) work (core.passes by).stage work.ending may.due n).0;
+      filling = λ n. (worked_alike sizes core.values (core.passes by) work (core.passes by).stage work.ending may.due n).1;
+    }) sound.window

@@ -1,0 +1,124 @@
+-- Every event keeps the core sound, and so does every run.
+use Rattle.std.proofs.Common.{◌≡◌, ℕ, ◌≤◌, true, false, List, [], ◌∷◌, refl, sym, arith}
+use Rattle.nv_plain.specs.declared.call.FileCall.{FileCall}
+use Rattle.nv_core.specs.Words.{Sizes, Word, SIZE, STORE, is_shut, is_lock, CLEANER, HEADER, PAGE, CLEANUP, ENTRY}
+use Rattle.nv_core.specs.Deeds.{Deed}
+use Rattle.nv_core.specs.Order.{Values, Work, MayWork}
+use Rattle.nv_core.specs.Core.{Core, after_step, after_begin, after_work}
+use Rattle.nv_core.specs.Events.{Event, Act, Begins, Does, Calls, MayAct, MayFind, MayBegin, after_act, after_event, after, IsRun}
+use Rattle.nv_core.specs.Opening.{Mount, opening, opening_pass, opening_word}
+use Rattle.nv_core.specs.Sound.{Sound}
+use Rattle.nv_core.specs.Laws.{OpeningIsSound, EventsKeepSound, RunsAreSound}
+use Rattle.nv_core.proofs.Choices.{not_both}
+use Rattle.nv_core.proofs.HoldingLaws.{nothing}
+use Rattle.nv_core.proofs.KeepsNumbers.{numbers_step, numbers_one}
+use Rattle.nv_core.proofs.KeepsStanding.{standing_step, standing_begin, standing_work, holding_step, holding_begin, holding_work}
+use Rattle.nv_core.proofs.KeepsLocks.{locks_step, locks_begin, locks_work}
+use Rattle.nv_core.proofs.KeepsWindow.{window_step, window_begin, window_work}
+use Rattle.nv_core.proofs.KeepsLoaded.{loaded_step, loaded_begin, loaded_work}
+use Rattle.nv_core.proofs.KeepsStop.{stop_step, stop_begin, stop_work, buffers_step, buffers_work, devices_step, devices_work}
+
+sound_step : (sizes : Sizes) (first : Values) (by : ℕ) (core : Core) (deed : Deed) (found : ℕ) → Sound sizes first core → by ≤ core.made → MayFind sizes by core deed found → Sound sizes first (after_step sizes by deed found core)
+sound_step sizes first by core deed found sound made may = record {
+  numbers = numbers_step sizes by core deed found sound.numbers made may.may;
+  standing = standing_step sizes first by core deed found sound may.may;
+  holding = holding_step sizes first by core deed found sound may.may;
+  locks = locks_step sizes first by core deed found sound may;
+  window = window_step sizes first by core deed found sound may;
+  loaded = loaded_step sizes first by core deed found sound made may;
+  stop = stop_step sizes first by core deed found sound may;
+  buffers = buffers_step sizes first by core deed sound;
+  devices = devices_step sizes first by core deed sound;
+}
+
+sound_begin : (sizes : Sizes) (first : Values) (by : ℕ) (core : Core) (call : FileCall) → Sound sizes first core → by ≤ core.made → MayBegin sizes call (core.passes by) → Sound sizes first (after_begin sizes by call core)
+sound_begin sizes first by core call sound made may = record {
+  numbers = numbers_one core by _ core.values sound.numbers made;
+  standing = standing_begin sizes first by core call sound may;
+  holding = holding_begin sizes first by core call sound may;
+  locks = locks_begin sizes first by core call sound;
+  window = window_begin sizes first by core call sound may;
+  loaded = loaded_begin sizes first by core call sound may;
+  stop = stop_begin sizes first by core call sound may;
+  buffers = sound.buffers;
+  devices = sound.devices;
+}
+
+sound_work : (sizes : Sizes) (first : Values) (by : ℕ) (core : Core) (work : Work) → Sound sizes first core → by ≤ core.made → MayWork sizes core.values (core.passes by) work → Sound sizes first (after_work sizes by work core)
+sound_work sizes first by core work sound made may = record {
+  numbers = numbers_one core by _ _ sound.numbers made;
+  standing = standing_work sizes first by core work sound may;
+  holding = holding_work sizes first by core work sound may;
+  locks = locks_work sizes first by core work sound;
+  window = window_work sizes first by core work sound may;
+  loaded = loaded_work sizes first by core work sound may;
+  stop = stop_work sizes first by core work sound may;
+  buffers = buffers_work sizes first by core work sound;
+  devices = devices_work sizes first by core work sound;
+}
+
+sound_act : (sizes : Sizes) (first : Values) (by : ℕ) (core : Core) (act : Act) → Sound sizes first core → by ≤ core.made → MayAct sizes by core act → Sound sizes first (after_act sizes by act core)
+sound_act sizes first by core (Begins call deed found) sound made may = sound_step sizes first by (after_begin sizes by call core) deed found (sound_begin sizes first by core call sound made may.0) made may.1
+sound_act sizes first by core (Does deed found) sound made may = sound_step sizes first by core deed found sound made may
+sound_act sizes first by core (Calls work) sound made may = sound_work sizes first by core work sound made may
+
+pub events_keep_sound : EventsKeepSound
+events_keep_sound sizes first core event sound may = sound_act sizes first event.by core event.act sound may.made may.act
+
+-- ---- at opening
+
+-- nothing is shut
+open_cell : (mount : Mount) (cell : Word) → is_shut cell (opening_word mount cell) ≡ false
+open_cell mount (ENTRY slot) = refl
+open_cell mount cell = refl
+
+lock_word : (mount : Mount) (cell : Word) → is_lock cell ≡ true → opening_word mount cell ≤ 1
+lock_word mount CLEANER lock = omega arith
+lock_word mount HEADER lock = omega arith
+lock_word mount (SIZE file) lock = omega arith
+lock_word mount (STORE file) lock = omega arith
+lock_word mount (PAGE page) lock = omega arith
+lock_word mount (CLEANUP page) lock = omega arith
+lock_word mount cell lock = absurd (not_both lock refl)
+
+pub opening_is_sound : OpeningIsSound
+opening_is_sound mount is = record {
+  numbers = record { unborn = λ n less. record { idle = refl; hands = refl; mine = refl; faulted = refl; left = refl }; ended = λ n ended. absurd ended };
+  standing = λ n. record { at = tt; allowed = λ ne. absurd (ne refl) };
+  holding = λ n. record { locks = λ cell lock. sym (nothing mount.sizes (opening_pass mount) cell); filling = λ s fills. absurd fills; none = λ slot off. refl };
+  locks = record { bit = lock_word mount; keyed = λ cell. record { free = λ unshut n. refl; held = λ shut. absurd (not_both shut (open_cell mount cell)) } };
+  window = record {
+    order = omega arith;
+    room = omega arith;
+    small = is.small;
+    unseized_in = λ n s u. absurd u;
+    filling_in = λ n s u. absurd u;
+    unseized_is = λ n s u. absurd u;
+    filling_is = λ n s u. absurd u;
+    unseized_by_one = λ n m s u v. absurd u;
+    each = λ s within. absurd (let a = within.0 in let b = within.1 in omega (arith, a, b));
+    others = λ slot less off. refl;
+  };
+  loaded = record {
+    head = λ n. omega arith;
+    tail = λ n. omega arith;
+    length = λ n. omega arith;
+    head_is = (0, omega arith, refl);
+    tail_is = (0, omega arith, refl);
+    sized = λ n measured more. absurd measured;
+    length_is = λ n measured sized. absurd measured;
+    clean = λ n page saw. absurd saw;
+  };
+  stop = record { bit = omega arith; stopped = λ one. absurd (omega arith); failing = λ n fails. absurd fails; never_fell = λ cell. omega arith; stays = λ n stopped. absurd (not_both stopped refl) };
+  buffers = is.buffers;
+  devices = record { each = λ cell. refl };
+}
+
+-- ---- runs
+
+run_is_sound : (sizes : Sizes) (first : Values) (events : List Event) (core : Core) → Sound sizes first core → IsRun sizes core events → Sound sizes first (after sizes core events)
+run_is_sound sizes first [] core sound run = sound
+run_is_sound sizes first (event ∷ later) core sound run = run_is_sound sizes first later (after_event sizes event core) (events_keep_sound sizes first core event sound run.0) run.1
+
+pub runs_are_sound_all : RunsAreSound
+runs_are_sound_all mount events is run = run_is_sound mount.sizes mount.values events (opening mount) (opening_is_sound mount is) run

@@ -1,0 +1,28 @@
+-- Totals: what a change in one place makes of them.
+use Rattle.std.proofs.Common.{◌≡◌, ◌≢◌, ℕ, zero, suc, ◌+◌, ◌<◌, inl, inr, refl, sym, subst, arith}
+use Rattle.std.proofs.lemmas.Bool.{cases_eq}
+use Rattle.nv_core.specs.Totals.{total}
+
+-- the same values have the same total
+pub total_same : (count : ℕ) (old new : ℕ → ℕ) → ((n : ℕ) → n < count → new n ≡ old n) → total count new ≡ total count old
+unfolding total
+total_same zero old new is = refl
+total_same (suc count) old new is = let a = total_same count old new (λ n less. is n (omega arith)) in let b = is count (omega arith) in omega (arith, a, b)
+
+-- where one value changes, the total changes with it
+pub total_at : (count at : ℕ) (old new : ℕ → ℕ) → at < count → ((n : ℕ) → n ≢ at → new n ≡ old n) → total count new + old at ≡ total count old + new at
+unfolding total
+total_at zero at old new less is = absurd (omega arith)
+total_at (suc count) at old new less is = elim (cases_eq at count) [
+  | inl e ↦ subst (λ m. total (suc count) new + old m ≡ total (suc count) old + new m) (sym e)
+      (let a = total_same count old new (λ n below. is n (λ same. omega (arith, same, below, e))) in omega (arith, a))
+  | inr ne ↦ let a = total_at count at old new (omega arith) is in let b = is count (λ same. ne (sym same)) in omega (arith, a, b)
+]
+
+-- one number more
+pub total_more : (count : ℕ) (value : ℕ → ℕ) → total (count + 1) value ≡ total count value + value count
+unfolding total
+total_more count value = subst (λ n. total n value ≡ total count value + value count) (suc_is count) refl
+  where
+    suc_is : (n : ℕ) → suc n ≡ n + 1
+    suc_is n = omega arith

@@ -1,0 +1,95 @@
+-- Values: what steps and device calls leave of them.
+use Rattle.std.proofs.Common.{◌≡◌, ℕ, ◌≤◌, Bool, List, Some, refl, sym, subst, ◌∙◌, arith}
+use Rattle.nv_plain.specs.Faults.{Rose}
+use Rattle.nv_plain.specs.declared.call.FileCall.{FileCall}
+use Rattle.nv_plain.specs.declared.call.FileCall.TheVariants.{Write}
+use Rattle.nv_core.specs.Words.{Sizes, Word, PAGE}
+use Rattle.nv_core.specs.Values.{Value, Bare, APart, AStore, ABuffer, Job, Reads, Ending, Made, Failed, called, faults_of, identity_of, buffers_in, filled, patched}
+use Rattle.nv_core.specs.Passes.{Stage, Copying, Pass}
+use Rattle.nv_core.specs.Deeds.{Deed, Pledges, patched_by}
+use Rattle.nv_core.specs.Order.{Values, Work, MayEnd}
+use Rattle.nv_core.specs.Core.{with_word, values_read, values_worked, values_stepped}
+use Rattle.nv_core.proofs.Changes.{by_word}
+
+-- what a measure of values sees of a change in one place
+one_place : (measure : Value → ℕ) (values : Values) (word : Word) (value : Value) → measure value ≡ measure (values word) → (other : Word) → measure (with_word values word value other) ≡ measure (values other)
+one_place measure values word value is = by_word (λ other v. measure v ≡ measure (values other)) values word value is (λ other ne. refl)
+
+-- a measure that a buffer's bytes don't change
+pub record Steady (measure : Value → ℕ) : Type 0 where
+  pub filled_is : (bytes : List ℕ) (value : Value) → measure (filled bytes value) ≡ measure value
+  pub patched_is : (at : ℕ) (bytes : List ℕ) (value : Value) → measure (patched at bytes value) ≡ measure value
+
+steady : (measure : Value → ℕ) (n : ℕ) → ((buffer : _) → measure (ABuffer (Some buffer)) ≡ n) → Steady measure
+steady measure n is = record { filled_is = fills; patched_is = patches }
+  where
+    fills : (bytes : List ℕ) (value : Value) → measure (filled bytes value) ≡ measure value
+    fills bytes (ABuffer (Some buffer)) = is _ ∙ sym (is buffer)
+    fills bytes value = refl
+
+    patches : (at : ℕ) (bytes : List ℕ) (value : Value) → measure (patched at bytes value) ≡ measure value
+    patches at bytes (ABuffer (Some buffer)) = is _ ∙ sym (is buffer)
+    patches at bytes value = refl
+
+pub faults_steady : Steady faults_of
+faults_steady = steady faults_of 0 (λ buffer. refl)
+
+pub identity_steady : Steady identity_of
+identity_steady = steady identity_of 0 (λ buffer. refl)
+
+pub buffers_steady : Steady buffers_in
+buffers_steady = steady buffers_in 1 (λ buffer. refl)
+
+pub steady_stepped : (measure : Value → ℕ) → Steady measure → (sizes : Sizes) (pass : Pass) (deed : Deed) (values : Values) (cell : Word) → measure (values_stepped sizes pass deed values cell) ≡ measure (values cell)
+steady_stepped measure is sizes pass (Pledges page) values cell = one_place measure values (PAGE page) (patched_by sizes pass.call page (values (PAGE page))) (patched_same pass.call (values (PAGE page))) cell
+  where
+    patched_same : (call : FileCall) (value : Value) → measure (patched_by sizes call page value) ≡ measure value
+    patched_same (Write file at bytes) value = is.patched_is _ _ value
+    patched_same call value = refl
+steady_stepped measure is sizes pass deed values cell = refl
+
+steady_read : (measure : Value → ℕ) → Steady measure → (job : Job) (how : Ending) (stage : Stage) (values : Values) (cell : Word) → measure (values_read job how stage values cell) ≡ measure (values cell)
+steady_read measure is (Reads at bytes) Made (Copying page) values cell = one_place measure values (PAGE page) (filled bytes (values (PAGE page))) (is.filled_is bytes (values (PAGE page))) cell
+steady_read measure is job how stage values cell = refl
+
+-- what a device call leaves, of each cell but its own
+pub steady_worked : (measure : Value → ℕ) → Steady measure → (pass : Pass) (work : Work) (values : Values) (cell : Word)
+    → measure (values_worked pass work values cell) ≡ measure (with_word values work.cell (called work.job work.ending (values work.cell)) cell)
+steady_worked measure is pass work values cell = steady_read measure is work.job work.ending pass.stage (with_word values work.cell (called work.job work.ending (values work.cell))) cell
+
+pub identity_worked : (pass : Pass) (work : Work) (values : Values) (cell : Word) → identity_of (values_worked pass work values cell) ≡ identity_of (values cell)
+identity_worked pass work values cell = steady_worked identity_of identity_steady pass work values cell ∙ one_place identity_of values work.cell _ (same work.job work.ending (values work.cell)) cell
+  where
+    same : (job : Job) (how : Ending) (value : Value) → identity_of (called job how value) ≡ identity_of value
+    same job how Bare = refl
+    same job how (APart device) = refl
+    same job how (AStore device) = refl
+    same job how (ABuffer buffer) = refl
+
+pub buffers_worked : (pass : Pass) (work : Work) (values : Values) (cell : Word) → buffers_in (values_worked pass work values cell) ≡ buffers_in (values cell)
+buffers_worked pass work values cell = steady_worked buffers_in buffers_steady pass work values cell ∙ one_place buffers_in values work.cell _ (same work.job work.ending (values work.cell)) cell
+  where
+    same : (job : Job) (how : Ending) (value : Value) → buffers_in (called job how value) ≡ buffers_in value
+    same job how Bare = refl
+    same job how (APart device) = refl
+    same job how (AStore device) = refl
+    same job how (ABuffer buffer) = refl
+
+-- a device call that failed left its count above
+pub faults_rose : (job : Job) (came : Bool) (faults : ℕ) (value : Value) → MayEnd value (Failed came faults) → Rose (faults_of value) (faults_of (called job (Failed came faults) value))
+faults_rose job came faults (APart device) may = may
+faults_rose job came faults (AStore device) may = may
+faults_rose job came faults Bare may = absurd may
+faults_rose job came faults (ABuffer buffer) may = absurd may
+
+-- and no count falls
+pub faults_called : (job : Job) (how : Ending) (value : Value) → MayEnd value how → faults_of value ≤ faults_of (called job how value)
+faults_called job Made Bare may = omega arith
+faults_called job Made (APart device) may = omega arith
+faults_called job Made (AStore device) may = omega arith
+faults_called job Made (ABuffer buffer) may = omega arith
+faults_called job (Failed came faults) value may = (faults_rose job came faults value may).never_falls
+
+pub faults_worked : (pass : Pass) (work : Work) (values : Values) → MayEnd (values work.cell) work.ending → (cell : Word) → faults_of (values cell) ≤ faults_of (values_worked pass work values cell)
+faults_worked pass work values may cell = subst (λ n. faults_of (values cell) ≤ n) (sym (steady_worked faults_of faults_steady pass work values cell))
+    (by_word (λ other v. faults_of (values other) ≤ faults_of v) values work.cell (called work.job work.ending (values work.cell)) (faults_called work.job work.ending (values work.cell) may) (λ other ne. omega arith) cell)

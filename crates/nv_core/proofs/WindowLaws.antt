@@ -1,0 +1,165 @@
+-- The log's window: what keeps it.
+use Rattle.std.proofs.Common.{◌≡◌, ◌≢◌, ◌⊎◌, ◌↔◌, ℕ, ◌+◌, ◌^◌, ◌<◌, ◌≤◌, List, inl, inr, refl, sym, ap, subst, ◌∙◌, arith, le_trans}
+use Rattle.std.proofs.lemmas.Bool.{cases_eq, cases_lt, cases_order}
+use Rattle.std.proofs.lemmas.Nat.{mod_below}
+use Rattle.nv_plain.specs.Histories.{Answered}
+use Rattle.nv_core.specs.Words.{Sizes, HEAD, TAIL, ENTRY, index, kind_of, free, filling}
+use Rattle.nv_core.specs.Passes.{Pass}
+use Rattle.nv_core.specs.Deeds.{slot_of}
+use Rattle.nv_core.specs.Order.{Values}
+use Rattle.nv_core.specs.Core.{Core, with_word, with_number}
+use Rattle.nv_core.specs.LogWindow.{HasUnseized, Fills, InWindow, entry_at, IsNumbered, Drawn, Filling, Kept, LogWindow}
+use Rattle.nv_core.proofs.Changes.{word_here, word_else, number_here, number_else, by_number}
+use Rattle.nv_core.proofs.SlotLaws.{apart}
+
+-- numbers of the window have slots of their own
+pub apart_within : (sizes : Sizes) (core : Core) → LogWindow sizes core → (one other : ℕ) → InWindow core one → InWindow core other → one ≢ other → slot_of sizes one ≢ slot_of sizes other
+apart_within sizes core window one other a b ne = go (cases_order one other)
+  where
+    go : (one ≡ other) ⊎ ((one < other) ⊎ (other < one)) → slot_of sizes one ≢ slot_of sizes other
+    go (inl e) = absurd (ne e)
+    go (inr (inl less)) = apart sizes.entries one other less (let x = a.0 in let y = b.1 in let r = window.room in omega (arith, x, y, r))
+    go (inr (inr less)) = λ e. apart sizes.entries other one less (let x = b.0 in let y = a.1 in let r = window.room in omega (arith, x, y, r)) (sym e)
+
+-- ---- nothing of it changes
+
+-- two passes have drawn the same
+pub record Alike (old new : Pass) : Type 0 where
+  pub unseized : (number : ℕ) → HasUnseized new number ↔ HasUnseized old number
+  pub filling : (number : ℕ) → Fills new number ↔ Fills old number
+
+pub alike_self : (pass : Pass) → Alike pass pass
+alike_self pass = record { unseized = λ n. (λ is. is, λ is. is); filling = λ n. (λ is. is, λ is. is) }
+
+pub alike_all : (f : ℕ → Pass) (by : ℕ) (pass : Pass) → Alike (f by) pass → (n : ℕ) → Alike (f n) (with_number f by pass n)
+alike_all f by pass alike = by_number (λ n p. Alike (f n) p) f by pass alike (λ n ne. alike_self (f n))
+
+pub window_same : (sizes : Sizes) (core now : Core) → now.words HEAD ≡ core.words HEAD → now.words TAIL ≡ core.words TAIL → ((slot : ℕ) → now.words (ENTRY slot) ≡ core.words (ENTRY slot))
+    → ((n : ℕ) → Alike (core.passes n) (now.passes n)) → LogWindow sizes core → LogWindow sizes now
+window_same sizes core now head tail entry alike window = record {
+  order = subst (λ t. t ≤ now.words HEAD) (sym tail) (subst (λ h. core.words TAIL ≤ h) (sym head) window.order);
+  room = subst (λ t. now.words HEAD ≤ t + sizes.entries) (sym tail) (subst (λ h. h ≤ core.words TAIL + sizes.entries) (sym head) window.room);
+  small = subst (λ h. h ≤ 2 ^ 60) (sym head) window.small;
+  unseized_in = λ by s is. into s (window.unseized_in by s (((alike by).unseized s).0 is));
+  filling_in = λ by s is. into s (window.filling_in by s (((alike by).filling s).0 is));
+  unseized_is = λ by s is. entry (slot_of sizes s) ∙ window.unseized_is by s (((alike by).unseized s).0 is);
+  filling_is = λ by s is. entry (slot_of sizes s) ∙ window.filling_is by s (((alike by).filling s).0 is);
+  unseized_by_one = λ by other s is of. window.unseized_by_one by other s (((alike by).unseized s).0 is) (((alike other).unseized s).0 of);
+  each = λ s within. numbered s (window.each s (back s within));
+  others = λ slot less off. entry slot ∙ window.others slot less (λ s within. off s (into s within));
+}
+  where
+    into : (s : ℕ) → InWindow core s → InWindow now s
+    into s is = (subst (λ t. t ≤ s) (sym tail) is.0, subst (λ h. s < h) (sym head) is.1)
+
+    back : (s : ℕ) → InWindow now s → InWindow core s
+    back s is = (subst (λ t. t ≤ s) tail is.0, subst (λ h. s < h) head is.1)
+
+    numbered : (s : ℕ) → IsNumbered sizes core s → IsNumbered sizes now s
+    numbered s (Drawn by is) = Drawn by (((alike by).unseized s).1 is)
+    numbered s (Filling by is) = Filling by (((alike by).filling s).1 is)
+    numbered s (Kept some other) = Kept (λ e. some (ap kind_of (sym (entry (slot_of sizes s))) ∙ e)) (λ e. other (ap kind_of (sym (entry (slot_of sizes s))) ∙ e))
+
+-- ---- numbers are drawn
+
+pub window_drawn : (sizes : Sizes) (core : Core) (by count : ℕ) (pass : Pass) (values : Values) (history : List Answered) (made : ℕ) (ended : List ℕ) → LogWindow sizes core
+    → 1 ≤ sizes.entries → core.words HEAD + count ≤ 2 ^ 60 → core.words HEAD + count ≤ core.words TAIL + sizes.entries
+    → ((s : ℕ) → HasUnseized (core.passes by) s → ⊥) → ((s : ℕ) → Fills (core.passes by) s → ⊥) → ((s : ℕ) → Fills pass s → ⊥)
+    → ((s : ℕ) → HasUnseized pass s ↔ ((core.words HEAD ≤ s) × (s < core.words HEAD + count)))
+    → LogWindow sizes record { words = with_word core.words HEAD (core.words HEAD + count); values = values; passes = with_number core.passes by pass; history = history; made = made; ended = ended }
+window_drawn sizes core by count pass values history made ended window some small room none_unseized none_filling now_filling drawn = record {
+  order = le_trans window.order (omega arith);
+  room = room;
+  small = small;
+  unseized_in = by_number (λ n p. (s : ℕ) → HasUnseized p s → InNow s) core.passes by pass (λ s is. (le_trans window.order ((drawn s).0 is).0, ((drawn s).0 is).1)) (λ n ne s is. into s (window.unseized_in n s is));
+  filling_in = by_number (λ n p. (s : ℕ) → Fills p s → InNow s) core.passes by pass (λ s is. absurd (now_filling s is)) (λ n ne s is. into s (window.filling_in n s is));
+  unseized_is = by_number (λ n p. (s : ℕ) → HasUnseized p s → entry_at sizes core s ≡ free) core.passes by pass
+      (λ s is. window.others (slot_of sizes s) (mod_below s sizes.entries some) (λ n within. apart sizes.entries n s
+      (let x = within.1 in let y = ((drawn s).0 is).0 in omega (arith, x, y)) (let x = within.0 in let y = ((drawn s).0 is).1 in omega (arith, x, y, room)))) (λ n ne s is. window.unseized_is n s is);
+  filling_is = by_number (λ n p. (s : ℕ) → Fills p s → entry_at sizes core s ≡ filling) core.passes by pass (λ s is. absurd (now_filling s is)) (λ n ne s is. window.filling_is n s is);
+  unseized_by_one = by_number (λ n p. (m s : ℕ) → HasUnseized p s → HasUnseized (with_number core.passes by pass m) s → n ≡ m) core.passes by pass
+      (λ m s is. by_number (λ m p. HasUnseized p s → by ≡ m) core.passes by pass (λ _. refl) (λ m ne of. absurd (let x = (window.unseized_in m s of).1 in let y = ((drawn s).0 is).0 in omega (arith, x, y))) m)
+      (λ n ne m s is. by_number (λ m p. HasUnseized p s → n ≡ m) core.passes by pass (λ of. absurd (let x = (window.unseized_in n s is).1 in let y = ((drawn s).0 of).0 in omega (arith, x, y)))
+      (λ m other of. window.unseized_by_one n m s is of) m);
+  each = λ s within. elim (cases_lt s (core.words HEAD)) [
+    | inl old ↦ numbered s (window.each s (within.0, old))
+    | inr new ↦ Drawn by (subst (λ p. HasUnseized p s) (sym (number_here core.passes by pass)) ((drawn s).1 (new, within.1)))
+  ];
+  others = λ slot less off. window.others slot less (λ s within. off s (into s within));
+}
+  where
+    InNow : ℕ → Type 0
+    InNow s = (core.words TAIL ≤ s) × (s < core.words HEAD + count)
+
+    into : (s : ℕ) → InWindow core s → (core.words TAIL ≤ s) × (s < core.words HEAD + count)
+    into s is = let x = is.1 in (is.0, omega (arith, x))
+
+    still : (n : ℕ) (P : Pass → Type 0) → (P (core.passes by) → ⊥) → P (core.passes n) → P (with_number core.passes by pass n)
+    still n P none is = subst P (sym (number_else core.passes by pass n (λ e. none (subst (λ m. P (core.passes m)) e is)))) is
+
+    numbered : (s : ℕ) → IsNumbered sizes core s → IsNumbered sizes record { words = with_word core.words HEAD (core.words HEAD + count); values = values; passes = with_number core.passes by pass; history = history; made = made; ended = ended } s
+    numbered s (Drawn n is) = Drawn n (still n (λ p. HasUnseized p s) (none_unseized s) is)
+    numbered s (Filling n is) = Filling n (still n (λ p. Fills p s) (none_filling s) is)
+    numbered s (Kept not_free not_filling) = Kept not_free not_filling
+
+-- ---- one entry changes
+
+-- how the entry of a number changes: what its pass has drawn before and after, and what its word is then
+pub record OneEntry (sizes : Sizes) (core : Core) (by next value : ℕ) (pass : Pass) : Type 0 where
+  pub within : InWindow core next
+  pub unseized : (s : ℕ) → HasUnseized pass s → HasUnseized (core.passes by) s × (s ≢ next)
+  pub fills : (s : ℕ) → Fills pass s → (Fills (core.passes by) s × (s ≢ next)) ⊎ ((s ≡ next) × (value ≡ 1))
+  pub unseized_still : (s : ℕ) → HasUnseized (core.passes by) s → s ≢ next → HasUnseized pass s
+  pub fills_still : (s : ℕ) → Fills (core.passes by) s → s ≢ next → Fills pass s
+  pub no_other_unseized : (n : ℕ) → n ≢ by → HasUnseized (core.passes n) next → ⊥
+  pub no_other_filling : (n : ℕ) → n ≢ by → Fills (core.passes n) next → ⊥
+  pub is : Fills pass next ⊎ ((kind_of value ≢ free) × (kind_of value ≢ filling))
+
+pub window_entry : (sizes : Sizes) (core : Core) (by next value : ℕ) (pass : Pass) (values : Values) (history : List Answered) (made : ℕ) (ended : List ℕ) → LogWindow sizes core → OneEntry sizes core by next value pass
+    → LogWindow sizes record { words = with_word core.words (ENTRY (slot_of sizes next)) value; values = values; passes = with_number core.passes by pass; history = history; made = made; ended = ended }
+window_entry sizes core by next value pass values history made ended window one = record {
+  order = window.order;
+  room = window.room;
+  small = window.small;
+  unseized_in = by_number (λ n p. (s : ℕ) → HasUnseized p s → InWindow core s) core.passes by pass (λ s is. window.unseized_in by s (one.unseized s is).0) (λ n ne s is. window.unseized_in n s is);
+  filling_in = by_number (λ n p. (s : ℕ) → Fills p s → InWindow core s) core.passes by pass
+      (λ s is. elim (one.fills s is) [ inl old ↦ window.filling_in by s old.0 | inr new ↦ subst (InWindow core) (sym new.0) one.within ]) (λ n ne s is. window.filling_in n s is);
+  unseized_is = by_number (λ n p. (s : ℕ) → HasUnseized p s → with_word core.words (ENTRY (slot_of sizes next)) value (ENTRY (slot_of sizes s)) ≡ free) core.passes by pass
+      (λ s is. let old = one.unseized s is in else_at s (window.unseized_in by s old.0) old.1 ∙ window.unseized_is by s old.0)
+      (λ n ne s is. else_at s (window.unseized_in n s is) (λ e. one.no_other_unseized n ne (subst (HasUnseized (core.passes n)) e is)) ∙ window.unseized_is n s is);
+  filling_is = by_number (λ n p. (s : ℕ) → Fills p s → with_word core.words (ENTRY (slot_of sizes next)) value (ENTRY (slot_of sizes s)) ≡ filling) core.passes by pass
+      (λ s is. elim (one.fills s is) [
+        | inl old ↦ else_at s (window.filling_in by s old.0) old.1 ∙ window.filling_is by s old.0
+        | inr new ↦ subst (λ m. with_word core.words (ENTRY (slot_of sizes next)) value (ENTRY (slot_of sizes m)) ≡ filling) (sym new.0) (word_here core.words (ENTRY (slot_of sizes next)) value ∙ new.1)
+      ])
+      (λ n ne s is. else_at s (window.filling_in n s is) (λ e. one.no_other_filling n ne (subst (Fills (core.passes n)) e is)) ∙ window.filling_is n s is);
+  unseized_by_one = by_number (λ n p. (m s : ℕ) → HasUnseized p s → HasUnseized (with_number core.passes by pass m) s → n ≡ m) core.passes by pass
+      (λ m s is. by_number (λ m p. HasUnseized p s → by ≡ m) core.passes by pass (λ _. refl) (λ m ne of. window.unseized_by_one by m s (one.unseized s is).0 of) m)
+      (λ n ne m s is. by_number (λ m p. HasUnseized p s → n ≡ m) core.passes by pass (λ of. window.unseized_by_one n by s is (one.unseized s of).0) (λ m other of. window.unseized_by_one n m s is of) m);
+  each = λ s within. elim (cases_eq s next) [
+    | inl e ↦ subst (IsNumbered sizes Now) (sym e) (at_next one.is)
+    | inr ne ↦ numbered s within ne (window.each s within)
+  ];
+  others = λ slot less off. word_else core.words (ENTRY (slot_of sizes next)) value (ENTRY slot) (λ e. off next one.within (sym (ap index e))) ∙ window.others slot less off;
+}
+  where
+    Now : Core
+    Now = record { words = with_word core.words (ENTRY (slot_of sizes next)) value; values = values; passes = with_number core.passes by pass; history = history; made = made; ended = ended }
+
+    else_at : (s : ℕ) → InWindow core s → s ≢ next → with_word core.words (ENTRY (slot_of sizes next)) value (ENTRY (slot_of sizes s)) ≡ core.words (ENTRY (slot_of sizes s))
+    else_at s within ne = word_else core.words (ENTRY (slot_of sizes next)) value (ENTRY (slot_of sizes s)) (λ e. apart_within sizes core window s next within one.within ne (ap index e))
+
+    here : (P : Pass → Type 0) → P pass → P (with_number core.passes by pass by)
+    here P is = subst P (sym (number_here core.passes by pass)) is
+
+    at_next : Fills pass next ⊎ ((kind_of value ≢ free) × (kind_of value ≢ filling)) → IsNumbered sizes record { words = with_word core.words (ENTRY (slot_of sizes next)) value; values = values; passes = with_number core.passes by pass; history = history; made = made; ended = ended } next
+    at_next (inl fills) = Filling by (here (λ p. Fills p next) fills)
+    at_next (inr kept) = Kept (λ e. kept.0 (ap kind_of (sym (word_here core.words (ENTRY (slot_of sizes next)) value)) ∙ e)) (λ e. kept.1 (ap kind_of (sym (word_here core.words (ENTRY (slot_of sizes next)) value)) ∙ e))
+
+    still : (n : ℕ) (P : Pass → Type 0) → (P (core.passes by) → P pass) → P (core.passes n) → P (with_number core.passes by pass n)
+    still n P keeps = by_number (λ m p. P (core.passes m) → P p) core.passes by pass keeps (λ m ne is. is) n
+
+    numbered : (s : ℕ) → InWindow core s → s ≢ next → IsNumbered sizes core s → IsNumbered sizes record { words = with_word core.words (ENTRY (slot_of sizes next)) value; values = values; passes = with_number core.passes by pass; history = history; made = made; ended = ended } s
+    numbered s within ne (Drawn n is) = Drawn n (still n (λ p. HasUnseized p s) (λ is. one.unseized_still s is ne) is)
+    numbered s within ne (Filling n is) = Filling n (still n (λ p. Fills p s) (λ is. one.fills_still s is ne) is)
+    numbered s within ne (Kept not_free not_filling) = Kept (λ e. not_free (ap kind_of (sym (else_at s within ne)) ∙ e)) (λ e. not_filling (ap kind_of (sym (else_at s within ne)) ∙ e))

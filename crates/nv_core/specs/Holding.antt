@@ -1,0 +1,52 @@
+-- Holding: which cells a pass's hands hold, by where it stands.
+use Rattle.std.specs.Prelude.{◌≡◌, ◌≢◌, ℕ, ◌==◌, ◌&&◌, nat_le, nat_lt, Bool, if◌then◌else◌}
+use Rattle.nv_core.specs.Words.{Sizes, Word, SIZE, STORE, ENTRY, PAGE}
+use Rattle.nv_core.specs.Passes.{Stage, Idle, Locking, Copying, Returning, Giving, Leaving, ReadFailing, Pass, IsFilling, file_of, first_page, end_page, times}
+use Rattle.nv_core.specs.Deeds.{slot_of}
+
+-- 1 where a test holds, and else 0
+abbrev pub one_if : Bool → ℕ
+one_if test = if test then 1 else 0
+
+-- whether a page is one of some in a row
+abbrev pub is_among : (from end page : ℕ) → Bool
+is_among from end page = nat_le from page && nat_lt page end
+
+-- it holds the pages of its call, while it takes and gives them those up to or from the next
+abbrev pub page_held : Sizes → Pass → Stage → (page : ℕ) → ℕ
+page_held sizes pass Idle page = 0
+page_held sizes pass (Locking next) page = one_if (is_among (first_page sizes pass.call) next page)
+page_held sizes pass (Giving next) page = one_if (is_among next (end_page sizes pass.call) page)
+page_held sizes pass stage page = one_if (is_among (first_page sizes pass.call) (end_page sizes pass.call) page)
+
+-- SIZE where it has taken it and not given it back
+abbrev pub size_held : Pass → Stage → ℕ
+size_held pass Idle = 0
+size_held pass (Giving next) = 0
+size_held pass stage = one_if pass.sized
+
+-- STORE while it reads it
+abbrev pub store_held : Stage → ℕ
+store_held (Copying page) = 1
+store_held (Returning page) = 1
+store_held ReadFailing = 1
+store_held stage = 0
+
+-- how often its hands hold a lock
+abbrev pub lock_held : Sizes → Pass → Stage → Word → ℕ
+lock_held sizes pass stage (PAGE page) = page_held sizes pass stage page
+lock_held sizes pass stage (SIZE file) = if file == file_of pass.call then size_held pass stage else 0
+lock_held sizes pass stage (STORE file) = if file == file_of pass.call then store_held stage else 0
+lock_held sizes pass stage cell = 0
+
+-- its locks are those, but for a call on its way out, which gives them back one by one
+abbrev pub HoldsLocks : Sizes → Pass → Stage → Type 0
+HoldsLocks sizes pass Leaving = Unit {0}
+HoldsLocks sizes pass stage = (cell : Word) → ((slot : ℕ) → cell ≢ ENTRY slot) → times cell pass.hands ≡ lock_held sizes pass stage cell
+
+-- A pass holds its locks, and the entries that it is filling.
+pub record Holding (sizes : Sizes) (pass : Pass) : Type 0 where
+  pub locks : HoldsLocks sizes pass pass.stage
+  pub filling : (number : ℕ) → IsFilling pass.stage pass.first pass.entries number → times (ENTRY (slot_of sizes number)) pass.hands ≡ 1
+  pub none : (slot : ℕ) → ((number : ℕ) → IsFilling pass.stage pass.first pass.entries number → slot_of sizes number ≢ slot)
+      → times (ENTRY slot) pass.hands ≡ 0

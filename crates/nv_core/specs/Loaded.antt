@@ -1,0 +1,47 @@
+-- What was loaded: how the words that a pass has loaded stand to the words as they are.
+use Rattle.std.specs.Prelude.{◌≡◌, ℕ, ◌≤◌, true}
+use Rattle.nv_core.specs.Words.{HEAD, TAIL, LENGTH, DIRTY}
+use Rattle.nv_core.specs.Passes.{Stage, Checking, Ordering, Reading, Fetching, Copying, Returning, Heading, Tailing, Drawing, Seizing, Committing, Pledging, Readying, Placing, Growing, file_of}
+use Rattle.nv_core.specs.Stages.{exceeds}
+use Rattle.nv_core.specs.Core.{Core}
+
+-- a pass has loaded LENGTH for the last time in its call, and not yet changed it
+abbrev pub HasMeasured : Stage → Type 0
+HasMeasured Checking = Unit {0}
+HasMeasured Ordering = Unit {0}
+HasMeasured (Reading page) = Unit {0}
+HasMeasured (Fetching page) = Unit {0}
+HasMeasured (Copying page) = Unit {0}
+HasMeasured (Returning page) = Unit {0}
+HasMeasured Heading = Unit {0}
+HasMeasured Tailing = Unit {0}
+HasMeasured Drawing = Unit {0}
+HasMeasured (Seizing number) = Unit {0}
+HasMeasured (Committing calls) = Unit {0}
+HasMeasured (Pledging page) = Unit {0}
+HasMeasured (Readying number) = Unit {0}
+HasMeasured Placing = Unit {0}
+HasMeasured Growing = Unit {0}
+HasMeasured stage = ⊥
+
+-- a pass has loaded a page's DIRTY as 0, and its read of the store isn't over
+abbrev pub SawClean : Stage → (page : ℕ) → Type 0
+SawClean (Fetching next) page = next ≡ page
+SawClean (Copying next) page = next ≡ page
+SawClean (Returning next) page = next ≡ page
+SawClean stage page = ⊥
+
+-- HEAD, TAIL and LENGTH as a pass saw them are at most the words, and some pass saw HEAD, and some TAIL, as they are. A call that
+-- reaches past the length that it loaded has taken SIZE, LENGTH that was loaded under SIZE is still LENGTH, and a DIRTY that was
+-- loaded as 0 is still 0.
+pub record Loaded (core : Core) : Type 0 where
+  pub head : (number : ℕ) → (core.passes number).head ≤ core.words HEAD
+  pub tail : (number : ℕ) → (core.passes number).tail ≤ core.words TAIL
+  pub length : (number : ℕ) → (core.passes number).length ≤ core.words (LENGTH (file_of (core.passes number).call))
+  pub head_is : (number : ℕ) × (number ≤ core.made) × ((core.passes number).head ≡ core.words HEAD)
+  pub tail_is : (number : ℕ) × (number ≤ core.made) × ((core.passes number).tail ≡ core.words TAIL)
+  pub sized : (number : ℕ) → HasMeasured (core.passes number).stage → exceeds (core.passes number) (core.passes number).length ≡ true
+      → (core.passes number).sized ≡ true
+  pub length_is : (number : ℕ) → HasMeasured (core.passes number).stage → (core.passes number).sized ≡ true
+      → (core.passes number).length ≡ core.words (LENGTH (file_of (core.passes number).call))
+  pub clean : (number page : ℕ) → SawClean (core.passes number).stage page → core.words (DIRTY page) ≡ 0

@@ -1,0 +1,170 @@
+-- The order of steps: when a step or a device call of a pass may come.
+use Rattle.std.specs.Prelude.{◌≡◌, ℕ, ◌+◌, ◌-◌, ◌*◌, ◌%◌, ◌<◌, ◌≤◌, ◌==◌, true, false, if◌then◌else◌, List, [], ◌∷◌, length, slice_index_or, Option, Some, None}
+use Rattle.std.specs.List.{flat_map, range_with_len}
+use Rattle.nv_plain.specs.Faults.{Rose}
+use Rattle.nv_plain.specs.Files.{bytes_at, padded}
+use Rattle.nv_plain.specs.Pieces.{piece_of}
+use Rattle.nv_plain.specs.declared.call.FileCall.{FileCall}
+use Rattle.nv_plain.specs.declared.call.FileCall.TheVariants.{Read, Write, Sync}
+use Rattle.nv_plain.specs.declared.call.Reply.{Reply}
+use Rattle.nv_plain.specs.declared.call.Reply.TheVariants.{Bytes, Count, Done}
+use Rattle.nv_pmem.specs.Rows.{RowStep}
+use Rattle.nv_store.specs.Store.{Store}
+use Rattle.nv_entry.specs.Group.{group_steps}
+use Rattle.nv_core.specs.Words.{Sizes, Word, STOP, ORDER, HEAD, TAIL, LENGTH, SIZE, STORE, ENTRY, PAGE, DIRTY}
+use Rattle.nv_core.specs.Values.{Value, APart, AStore, Job, Writes, Reads, Ending, Made, Failed, is_valid, bytes_in}
+use Rattle.nv_core.specs.Passes.{Stage, Locking, Measuring, Sizing, Checking, Ordering, Reading, Fetching, Copying, Returning, Heading, Tailing, Drawing, Seizing, Committing, Pledging, Readying, Placing, Growing, Releasing, Giving, Leaving, ReadFailing, WriteFailing, Breaking, Pass, file_of, at_of, covered, end_read, first_page, IsLastTaken, times}
+use Rattle.nv_core.specs.Deeds.{Deed, Loads, Takes, Gives, Places, Stops, Draws, Seizes, Pledges, Readies, Grows, Breaks, slot_of}
+
+-- what the cells keep, by their words
+abbrev pub Values : Type 0
+Values = Word → Value
+
+-- ---- a read's reply
+
+-- a page that a read has fetched, or what its buffer has
+abbrev pub page_bytes : List (ℕ × List ℕ) → Values → (page : ℕ) → List ℕ
+page_bytes [] values page = bytes_in (values (PAGE page))
+page_bytes (one ∷ rest) values page = if one.0 == page then one.1 else page_bytes rest values page
+
+-- the bytes that a read has of its pages
+abbrev pub gathered : Sizes → Values → Pass → List ℕ
+gathered sizes values pass =
+    flat_map
+    (λ i. let piece = piece_of (at_of pass.call) (covered pass.call pass.length) sizes.page i in
+    bytes_at (page_bytes pass.fetched values (first_page sizes pass.call + i)) (piece.at % sizes.page) piece.size)
+    (range_with_len 0 (end_read sizes pass.call pass.length - first_page sizes pass.call))
+
+-- the pages of a read from one on, below another, have buffers that count
+abbrev pub AreValid : Values → (from end : ℕ) → Type 0
+AreValid values from end = (page : ℕ) → from ≤ page → page < end → is_valid (values (PAGE page)) ≡ true
+
+-- what a call that reads no page is answered
+abbrev pub plain_reply : FileCall → Reply
+plain_reply (Read file at len) = Bytes []
+plain_reply (Write file at bytes) = Count (length bytes)
+plain_reply (Sync file) = Done
+
+-- the reply with which a call may take its place
+abbrev pub MayPlace : Sizes → Values → Pass → Reply → Stage → Type 0
+MayPlace sizes values pass reply Placing = reply ≡ plain_reply pass.call
+MayPlace sizes values pass reply (Reading page) =
+    AreValid values page (end_read sizes pass.call pass.length) × (reply ≡ Bytes (gathered sizes values pass))
+MayPlace sizes values pass reply stage = ⊥
+
+-- ---- steps
+
+-- a read looks next at a page whose buffer doesn't count
+pub record IsMissed (sizes : Sizes) (values : Values) (pass : Pass) (page from : ℕ) : Type 0 where
+  pub stage : pass.stage ≡ Reading from
+  pub later : from ≤ page
+  pub within : page < end_read sizes pass.call pass.length
+  pub passed : AreValid values from page
+  pub missed : is_valid (values (PAGE page)) ≡ false
+
+-- a word may be loaded
+abbrev pub MayLoad : Sizes → Values → Pass → Word → Type 0
+MayLoad sizes values pass (LENGTH file) = (pass.stage ≡ Measuring) × (file ≡ file_of pass.call)
+MayLoad sizes values pass STOP = pass.stage ≡ Checking
+MayLoad sizes values pass ORDER = pass.stage ≡ Ordering
+MayLoad sizes values pass HEAD = pass.stage ≡ Heading
+MayLoad sizes values pass TAIL = pass.stage ≡ Tailing
+MayLoad sizes values pass (DIRTY page) = (from : ℕ) × IsMissed sizes values pass page from
+MayLoad sizes values pass word = ⊥
+
+-- a lock may be tried
+abbrev pub MayTake : Pass → Word → Type 0
+MayTake pass (PAGE page) = pass.stage ≡ Locking page
+MayTake pass (SIZE file) = (pass.stage ≡ Sizing) × (file ≡ file_of pass.call)
+MayTake pass (STORE file) = (page : ℕ) × (pass.stage ≡ Fetching page) × (file ≡ file_of pass.call)
+MayTake pass word = ⊥
+
+-- a lock may be given back: by a call that has its place, by one that has read its store, or else in the reverse order of taking
+abbrev pub MayGive : Pass → Word → Stage → Type 0
+MayGive pass (SIZE file) Releasing = file ≡ file_of pass.call
+MayGive pass (PAGE page) (Giving next) = page ≡ next
+MayGive pass (STORE file) (Returning page) = file ≡ file_of pass.call
+MayGive pass (SIZE file) Leaving = IsLastTaken (SIZE file) pass.hands
+MayGive pass (PAGE page) Leaving = IsLastTaken (PAGE page) pass.hands
+MayGive pass (STORE file) Leaving = IsLastTaken (STORE file) pass.hands
+MayGive pass word stage = ⊥
+
+-- a device has failed
+abbrev pub IsFailing : Stage → Type 0
+IsFailing ReadFailing = Unit {0}
+IsFailing WriteFailing = Unit {0}
+IsFailing stage = ⊥
+
+-- a step may come
+abbrev pub MayStep : Sizes → Values → Pass → Deed → Type 0
+MayStep sizes values pass (Loads word) = MayLoad sizes values pass word
+MayStep sizes values pass (Takes cell) = MayTake pass cell
+MayStep sizes values pass (Gives cell) = MayGive pass cell pass.stage
+MayStep sizes values pass (Places reply) = MayPlace sizes values pass reply pass.stage
+MayStep sizes values pass Stops = IsFailing pass.stage
+MayStep sizes values pass Draws = pass.stage ≡ Drawing
+MayStep sizes values pass (Seizes number) = pass.stage ≡ Seizing number
+MayStep sizes values pass (Pledges page) = pass.stage ≡ Pledging page
+MayStep sizes values pass (Readies number) = pass.stage ≡ Readying number
+MayStep sizes values pass Grows = pass.stage ≡ Growing
+MayStep sizes values pass (Breaks number) = pass.stage ≡ Breaking number
+MayStep sizes values pass _ = ⊥
+
+-- ---- device calls
+
+-- One device call of a pass: on what a cell keeps, what it was, how it ended.
+pub record Work : Type 0 where
+  pub cell : Word
+  pub job : Job
+  pub ending : Ending
+
+-- the device calls of a write's commit
+abbrev pub commit_steps : Sizes → Pass → FileCall → List RowStep
+commit_steps sizes pass (Write file at bytes) = group_steps sizes.page pass.first file at bytes
+commit_steps sizes pass call = []
+
+-- the next device call of a write's commit
+pub record IsNextCall (sizes : Sizes) (pass : Pass) (calls : ℕ) (work : Work) : Type 0 where
+  pub row : RowStep
+  pub there : calls < length (commit_steps sizes pass pass.call)
+  pub at : slice_index_or (commit_steps sizes pass pass.call) calls row ≡ row
+  pub cell : work.cell ≡ ENTRY (slot_of sizes (pass.first + row.part))
+  pub job : work.job ≡ Writes row.step
+
+-- what a store says of a page, with zeros behind the end
+abbrev pub SaysPage : Sizes → (at : ℕ) → List ℕ → Option Store → Type 0
+SaysPage sizes at bytes (Some store) = bytes ≡ padded (bytes_at store.seen at sizes.page) sizes.page
+SaysPage sizes at bytes None = length bytes ≡ sizes.page
+
+abbrev pub SaysOf : Sizes → (at : ℕ) → List ℕ → Value → Type 0
+SaysOf sizes at bytes (AStore device) = SaysPage sizes at bytes device.told
+SaysOf sizes at bytes value = ⊥
+
+-- where a page begins in its file
+abbrev pub page_start : Sizes → FileCall → (page : ℕ) → ℕ
+page_start sizes call page = (page - file_of call * sizes.pages) * sizes.page
+
+-- a read of a page from the store
+pub record IsPageRead (sizes : Sizes) (values : Values) (pass : Pass) (page : ℕ) (work : Work) : Type 0 where
+  pub bytes : List ℕ
+  pub cell : work.cell ≡ STORE (file_of pass.call)
+  pub job : work.job ≡ Reads (page_start sizes pass.call page) bytes
+  pub says : SaysOf sizes (page_start sizes pass.call page) bytes (values (STORE (file_of pass.call)))
+
+-- A device call ends by a fault only where the count rose.
+abbrev pub MayEnd : Value → Ending → Type 0
+MayEnd value Made = Unit {0}
+MayEnd (APart device) (Failed came faults) = Rose device.faults faults
+MayEnd (AStore device) (Failed came faults) = Rose device.faults faults
+MayEnd value (Failed came faults) = ⊥
+
+-- a device call may come
+abbrev pub IsDue : Sizes → Values → Pass → Work → Stage → Type 0
+IsDue sizes values pass work (Committing calls) = IsNextCall sizes pass calls work
+IsDue sizes values pass work (Copying page) = IsPageRead sizes values pass page work
+IsDue sizes values pass work stage = ⊥
+
+pub record MayWork (sizes : Sizes) (values : Values) (pass : Pass) (work : Work) : Type 0 where
+  pub due : IsDue sizes values pass work pass.stage
+  pub ends : MayEnd (values work.cell) work.ending
+  pub here : times work.cell pass.hands ≡ 1

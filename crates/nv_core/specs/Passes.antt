@@ -1,0 +1,172 @@
+-- Passes: a thread's view, its call at hand, and where in the order of steps it stands.
+use Rattle.std.specs.Prelude.{◌≡◌, ◌⊎◌, ℕ, ◌+◌, ◌-◌, ◌*◌, ◌/◌, ◌<◌, ◌≤◌, nat_lt, min, Bool, false, if◌then◌else◌, List, [], ◌∷◌, length}
+use Rattle.nv_plain.specs.Histories.{Answered}
+use Rattle.nv_plain.specs.Layouts.{version_1}
+use Rattle.nv_plain.specs.Pieces.{pages_touched}
+use Rattle.nv_plain.specs.declared.call.FileCall.{FileCall}
+use Rattle.nv_plain.specs.declared.call.FileCall.TheVariants.{Read, Write, Sync}
+use Rattle.nv_core.specs.Words.{Sizes, Word, same}
+
+-- Where a pass stands in the order of steps: what its next step is. A page is named by its number of all pages, an entry by its number.
+pub data Stage : Type 0 where
+  -- no call is open
+  Idle : Stage
+  -- every call: the PAGE of this page, LENGTH, SIZE, STOP, ORDER
+  Locking : (page : ℕ) → Stage
+  Measuring : Stage
+  Sizing : Stage
+  Checking : Stage
+  Ordering : Stage
+  -- a read: this page is looked at next; DIRTY was 0 and STORE is next; the store is read; STORE is given back
+  Reading : (page : ℕ) → Stage
+  Fetching : (page : ℕ) → Stage
+  Copying : (page : ℕ) → Stage
+  Returning : (page : ℕ) → Stage
+  -- a read whose page has entries that its store lacks
+  Waiting : (page : ℕ) → Stage
+  -- a write: HEAD, TAIL, the numbers, their entries, the device calls of the commit, each page's DIRTY, the entries again
+  Heading : Stage
+  Tailing : Stage
+  Drawing : Stage
+  Seizing : (number : ℕ) → Stage
+  Committing : (calls : ℕ) → Stage
+  Pledging : (page : ℕ) → Stage
+  Readying : (number : ℕ) → Stage
+  -- the place in the history, the new length, and what is given back: SIZE, the pages
+  Placing : Stage
+  Growing : Stage
+  Releasing : Stage
+  Giving : (page : ℕ) → Stage
+  -- a refusal gives back in the reverse order of taking; a fault first sets STOP, and breaks the entries of a write
+  Leaving : Stage
+  ReadFailing : Stage
+  WriteFailing : Stage
+  Breaking : (number : ℕ) → Stage
+
+-- A pass: where it stands, its call at hand or the last one, the cells that it holds, the last taken first, and what it has seen.
+pub record Pass : Type 0 where
+  pub stage : Stage
+  pub call : FileCall
+  pub hands : List Word
+  -- it has taken SIZE in this call
+  pub sized : Bool
+  -- LENGTH as it loaded it in this call, HEAD and TAIL as it last saw them
+  pub length : ℕ
+  pub head : ℕ
+  pub tail : ℕ
+  -- it has seen STOP as 1, or set it
+  pub stopped : Bool
+  -- the first number that it drew in this call, and how many
+  pub first : ℕ
+  pub entries : ℕ
+  -- the pages that it read from a store in this call
+  pub fetched : List (ℕ × List ℕ)
+  -- a call that ended by a fault, its first number and how many it had drawn
+  pub faulted : List (FileCall × ℕ × ℕ)
+  -- the history as it last saw it, and its own calls
+  pub seen : List Answered
+  pub mine : List Answered
+  -- what it has put back on its way into the pass that takes it in
+  pub left : List Word
+
+-- ---- a call's place among the pages
+
+-- the call's file
+abbrev pub file_of : FileCall → ℕ
+file_of (Read file at len) = file
+file_of (Write file at bytes) = file
+file_of (Sync file) = file
+
+-- its offset
+abbrev pub at_of : FileCall → ℕ
+at_of (Read file at len) = at
+at_of (Write file at bytes) = at
+at_of (Sync file) = 0
+
+-- how many bytes it asks for
+abbrev pub len_of : FileCall → ℕ
+len_of (Read file at len) = len
+len_of (Write file at bytes) = length bytes
+len_of (Sync file) = 0
+
+-- whether it is a write, and a read, of at least one byte
+abbrev pub is_write : FileCall → Bool
+is_write (Write file at bytes) = nat_lt 0 (length bytes)
+is_write _ = false
+
+abbrev pub is_read : FileCall → Bool
+is_read (Read file at len) = nat_lt 0 len
+is_read _ = false
+
+-- how many pages it touches
+abbrev pub page_count : Sizes → FileCall → ℕ
+page_count sizes call = pages_touched (at_of call) (len_of call) sizes.page
+
+-- a page of a file, among all
+abbrev pub page_number : Sizes → (file page : ℕ) → ℕ
+page_number sizes file page = file * sizes.pages + page
+
+-- the first page that it touches, and the one behind the last
+abbrev pub first_page : Sizes → FileCall → ℕ
+first_page sizes call = page_number sizes (file_of call) (at_of call / sizes.page)
+
+abbrev pub end_page : Sizes → FileCall → ℕ
+end_page sizes call = first_page sizes call + page_count sizes call
+
+-- how many bytes of a file of a length it covers: a read no more than there are
+abbrev pub covered : FileCall → (len : ℕ) → ℕ
+covered (Read file at count) len = min count (len - at)
+covered call len = len_of call
+
+-- the page behind the last that a read of a file of a length has bytes of
+abbrev pub end_read : Sizes → FileCall → (len : ℕ) → ℕ
+end_read sizes call len = first_page sizes call + pages_touched (at_of call) (covered call len) sizes.page
+
+-- A call that is not refused before its first step: its file is there, it lies in the file's pages, and the log could hold it.
+pub record IsAllowed (sizes : Sizes) (call : FileCall) : Type 0 where
+  pub known : file_of call < sizes.files
+  pub near : at_of call + len_of call ≤ sizes.page * sizes.pages
+  pub short : page_count sizes call ≤ min version_1.group_limit sizes.entries
+
+-- ---- cells in hands
+
+-- something is one of a list
+abbrev pub IsOneOf : {T : Type 0} → List T → T → Type 0
+IsOneOf [] one = ⊥
+IsOneOf (first ∷ rest) one = (one ≡ first) ⊎ IsOneOf rest one
+
+-- how often a cell stands in some hands
+abbrev pub times : Word → List Word → ℕ
+times cell [] = 0
+times cell (first ∷ rest) = (if same cell first then 1 else 0) + times cell rest
+
+-- the hands without a cell
+abbrev pub without : Word → List Word → List Word
+without cell [] = []
+without cell (first ∷ rest) = if same cell first then rest else first ∷ without cell rest
+
+-- the hands begin with a cell
+abbrev pub IsLastTaken : Word → List Word → Type 0
+IsLastTaken cell [] = ⊥
+IsLastTaken cell (first ∷ rest) = first ≡ cell
+
+-- ---- drawn numbers
+
+-- a number of a write that is drawn and not seized
+abbrev pub IsUnseized : Stage → (first entries number : ℕ) → Type 0
+IsUnseized (Seizing next) first entries number = (next ≤ number) × (number < first + entries)
+IsUnseized _ first entries number = ⊥
+
+-- a number of some in a row
+abbrev pub IsAmong : (first entries number : ℕ) → Type 0
+IsAmong first entries number = (first ≤ number) × (number < first + entries)
+
+-- A number whose entry a pass is filling: it has seized it, and neither readied nor broken it. Followers are readied before the leader.
+abbrev pub IsFilling : Stage → (first entries number : ℕ) → Type 0
+IsFilling (Seizing next) first entries number = (first ≤ number) × (number < next)
+IsFilling (Committing calls) first entries number = IsAmong first entries number
+IsFilling (Pledging page) first entries number = IsAmong first entries number
+IsFilling (Readying next) first entries number = (number ≡ first) ⊎ ((first < next) × (next ≤ number) × (number < first + entries))
+IsFilling WriteFailing first entries number = IsAmong first entries number
+IsFilling (Breaking next) first entries number = (next ≤ number) × (number < first + entries)
+IsFilling _ first entries number = ⊥

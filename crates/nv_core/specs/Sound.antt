@@ -1,0 +1,26 @@
+-- The invariant: what is so of the core in each state that a run leads to.
+use Rattle.std.specs.Prelude.{ℕ}
+use Rattle.nv_core.specs.Words.{Sizes}
+use Rattle.nv_core.specs.Order.{Values}
+use Rattle.nv_core.specs.Core.{Core}
+use Rattle.nv_core.specs.Numbers.{Numbers}
+use Rattle.nv_core.specs.Standing.{Standing}
+use Rattle.nv_core.specs.Holding.{Holding}
+use Rattle.nv_core.specs.Locks.{Locks}
+use Rattle.nv_core.specs.LogWindow.{LogWindow}
+use Rattle.nv_core.specs.Loaded.{Loaded}
+use Rattle.nv_core.specs.Stop.{Stop}
+use Rattle.nv_core.specs.BuffersKept.{BuffersKept}
+use Rattle.nv_core.specs.Devices.{Devices}
+
+-- The parts of the invariant, over the cells' values at opening.
+pub record Sound (sizes : Sizes) (first : Values) (core : Core) : Type 0 where
+  pub numbers : Numbers core
+  pub standing : (number : ℕ) → Standing sizes (core.passes number)
+  pub holding : (number : ℕ) → Holding sizes (core.passes number)
+  pub locks : Locks core
+  pub window : LogWindow sizes core
+  pub loaded : Loaded core
+  pub stop : Stop first core
+  pub buffers : BuffersKept sizes core.values
+  pub devices : Devices first core.values

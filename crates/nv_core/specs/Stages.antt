@@ -1,0 +1,83 @@
+-- Stages: where a pass stands after a step of each kind.
+use Rattle.std.specs.Prelude.{ℕ, ◌+◌, ◌^◌, ◌==◌, nat_lt, nat_le, Bool, not, ◌&&◌, if◌then◌else◌, List, [], ◌∷◌}
+use Rattle.nv_plain.specs.declared.call.FileCall.{FileCall}
+use Rattle.nv_core.specs.Words.{Sizes, Word, STOP, ORDER, HEAD, TAIL, LENGTH, SIZE, STORE, ENTRY, PAGE, DIRTY}
+use Rattle.nv_core.specs.Passes.{Stage, Idle, Locking, Measuring, Sizing, Checking, Ordering, Reading, Fetching, Copying, Returning, Waiting, Heading, Tailing, Drawing, Seizing, Committing, Pledging, Readying, Placing, Growing, Releasing, Giving, Leaving, WriteFailing, Breaking, Pass, at_of, len_of, is_write, is_read, page_count, first_page, end_page, without}
+use Rattle.nv_core.specs.Deeds.{Deed, slot_of, Loads, Takes, Gives, Places, Stops, Draws, Seizes, Pledges, Readies, Grows, Breaks}
+
+-- a refused call gives back what it holds, and is over where that is nothing
+abbrev pub leaving : List Word → Stage
+leaving [] = Idle
+leaving (cell ∷ rest) = Leaving
+
+-- a call that has its place gives back SIZE, and then the pages
+abbrev pub giving : Sizes → FileCall → Stage
+giving sizes call = if page_count sizes call == 0 then Idle else Giving (first_page sizes call)
+
+abbrev pub ending : Sizes → Pass → Stage
+ending sizes pass = if pass.sized then Releasing else giving sizes pass.call
+
+-- a call of at least one byte reaches past a length
+abbrev pub exceeds : Pass → (len : ℕ) → Bool
+exceeds pass len = nat_lt 0 (len_of pass.call) && nat_lt len (at_of pass.call + len_of pass.call)
+
+-- where a call begins: at its first page, or at STOP where it has none
+abbrev pub first_stage : Sizes → FileCall → Stage
+first_stage sizes call = if page_count sizes call == 0 then Checking else Locking (first_page sizes call)
+
+-- after ORDER: a write goes on with HEAD, a read with its first page
+abbrev pub ordered : Sizes → FileCall → Stage
+ordered sizes call =
+    if is_write call then Heading else (if is_read call then Reading (first_page sizes call) else Placing)
+
+abbrev pub after_load : Sizes → Pass → Word → (found : ℕ) → Stage
+after_load sizes pass (LENGTH file) found = if exceeds pass found && not pass.sized then Sizing else Checking
+after_load sizes pass STOP found = if found == 0 then Ordering else leaving pass.hands
+after_load sizes pass ORDER found = if nat_lt found (2 ^ 60) then ordered sizes pass.call else leaving pass.hands
+after_load sizes pass HEAD found = if nat_le (found + page_count sizes pass.call) (2 ^ 60) then Tailing else leaving pass.hands
+after_load sizes pass TAIL found =
+    if nat_le (pass.head + page_count sizes pass.call) (found + sizes.entries) then Drawing else leaving pass.hands
+after_load sizes pass (DIRTY page) found = if found == 0 then Fetching page else Waiting page
+after_load sizes pass word found = pass.stage
+
+-- the store is read next
+abbrev pub copying : Stage → Stage
+copying (Fetching page) = Copying page
+copying stage = stage
+
+-- a page that was taken is followed by the next one, or by LENGTH
+abbrev pub after_take : Sizes → Pass → Word → Stage
+after_take sizes pass (PAGE page) = if page + 1 == end_page sizes pass.call then Measuring else Locking (page + 1)
+after_take sizes pass (SIZE file) = Measuring
+after_take sizes pass (STORE file) = copying pass.stage
+after_take sizes pass word = pass.stage
+
+-- what a call that gives back stands at next
+abbrev pub after_give : Sizes → Pass → Word → Stage → Stage
+after_give sizes pass cell Leaving = leaving (without cell pass.hands)
+after_give sizes pass cell Releasing = giving sizes pass.call
+after_give sizes pass cell (Giving page) = if page + 1 == end_page sizes pass.call then Idle else Giving (page + 1)
+after_give sizes pass cell (Returning page) = Reading (page + 1)
+after_give sizes pass cell stage = stage
+
+-- a fault's STOP is followed by the entries of a write, or by what is held
+abbrev pub after_stop : Pass → Stage → Stage
+after_stop pass WriteFailing = Breaking pass.first
+after_stop pass stage = leaving pass.hands
+
+abbrev pub stage_after : Sizes → Pass → Deed → (found : ℕ) → Stage
+stage_after sizes pass (Loads word) found = after_load sizes pass word found
+stage_after sizes pass (Takes cell) found = if found == 0 then after_take sizes pass cell else leaving pass.hands
+stage_after sizes pass (Gives cell) found = after_give sizes pass cell pass.stage
+stage_after sizes pass (Places reply) found = if is_write pass.call && exceeds pass pass.length then Growing else ending sizes pass
+stage_after sizes pass Stops found = after_stop pass pass.stage
+stage_after sizes pass Draws found = if found == pass.head then Seizing found else leaving pass.hands
+stage_after sizes pass (Seizes number) found = if number + 1 == pass.first + pass.entries then Committing 0 else Seizing (number + 1)
+stage_after sizes pass (Pledges page) found =
+    if page + 1 == end_page sizes pass.call then Readying (if pass.entries == 1 then pass.first else pass.first + 1) else Pledging (page + 1)
+stage_after sizes pass (Readies number) found =
+    if number == pass.first then Placing else Readying (if number + 1 == pass.first + pass.entries then pass.first else number + 1)
+stage_after sizes pass Grows found = ending sizes pass
+stage_after sizes pass (Breaks number) found =
+    if number + 1 == pass.first + pass.entries then leaving (without (ENTRY (slot_of sizes number)) pass.hands) else Breaking (number + 1)
+stage_after sizes pass _ found = pass.stage

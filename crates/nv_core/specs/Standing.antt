@@ -1,0 +1,53 @@
+-- Standing: what is so of a pass by where it stands in the order of steps.
+use Rattle.std.specs.Prelude.{◌≡◌, ◌≢◌, ℕ, ◌+◌, ◌^◌, ◌<◌, ◌≤◌, true, false, []}
+use Rattle.nv_plain.specs.declared.call.FileCall.{FileCall}
+use Rattle.nv_core.specs.Words.{Sizes}
+use Rattle.nv_core.specs.Stages.{exceeds}
+use Rattle.nv_core.specs.Passes.{Stage, Idle, Locking, Sizing, Reading, Fetching, Copying, Returning, Heading, Tailing, Drawing, Seizing, Committing, Pledging, Readying, Growing, Releasing, Giving, Leaving, ReadFailing, WriteFailing, Breaking, Pass, IsAllowed, IsAmong, is_read, is_write, page_count, first_page, end_page}
+
+-- a page of a call
+abbrev pub IsPage : Sizes → FileCall → (page : ℕ) → Type 0
+IsPage sizes call page = (first_page sizes call ≤ page) × (page < end_page sizes call)
+
+-- a write has drawn its numbers, one for each page
+pub record HasDrawn (sizes : Sizes) (call : FileCall) (entries : ℕ) : Type 0 where
+  pub write : is_write call ≡ true
+  pub many : entries ≡ page_count sizes call
+  pub some : 1 ≤ entries
+
+-- the numbers that a write is to draw stay small
+abbrev pub IsSmall : Sizes → Pass → Type 0
+IsSmall sizes pass = pass.head + page_count sizes pass.call ≤ 2 ^ 60
+
+-- and the log has room for them, from TAIL as it was loaded
+abbrev pub HasRoom : Sizes → Pass → Type 0
+HasRoom sizes pass = pass.head + page_count sizes pass.call ≤ pass.tail + sizes.entries
+
+-- what it needs to stand where it does
+abbrev pub StandsAt : Sizes → Pass → Stage → Type 0
+StandsAt sizes pass (Locking page) = IsPage sizes pass.call page × (pass.sized ≡ false)
+StandsAt sizes pass Sizing = pass.sized ≡ false
+StandsAt sizes pass (Reading page) = (is_read pass.call ≡ true) × (first_page sizes pass.call ≤ page)
+StandsAt sizes pass (Fetching page) = (is_read pass.call ≡ true) × IsPage sizes pass.call page
+StandsAt sizes pass (Copying page) = (is_read pass.call ≡ true) × IsPage sizes pass.call page
+StandsAt sizes pass (Returning page) = (is_read pass.call ≡ true) × IsPage sizes pass.call page
+StandsAt sizes pass Heading = is_write pass.call ≡ true
+StandsAt sizes pass Tailing = (is_write pass.call ≡ true) × IsSmall sizes pass
+StandsAt sizes pass Drawing = (is_write pass.call ≡ true) × IsSmall sizes pass × HasRoom sizes pass
+StandsAt sizes pass (Seizing number) = HasDrawn sizes pass.call pass.entries × IsAmong pass.first pass.entries number
+StandsAt sizes pass (Committing calls) = HasDrawn sizes pass.call pass.entries
+StandsAt sizes pass (Pledging page) = HasDrawn sizes pass.call pass.entries × IsPage sizes pass.call page
+StandsAt sizes pass (Readying number) = HasDrawn sizes pass.call pass.entries × IsAmong pass.first pass.entries number
+StandsAt sizes pass Growing = exceeds pass pass.length ≡ true
+StandsAt sizes pass Releasing = pass.sized ≡ true
+StandsAt sizes pass (Giving page) = IsPage sizes pass.call page
+StandsAt sizes pass Leaving = pass.hands ≢ []
+StandsAt sizes pass ReadFailing = is_read pass.call ≡ true
+StandsAt sizes pass WriteFailing = HasDrawn sizes pass.call pass.entries
+StandsAt sizes pass (Breaking number) = HasDrawn sizes pass.call pass.entries × IsAmong pass.first pass.entries number
+StandsAt sizes pass stage = Unit {0}
+
+-- A pass stands so, and its call is one that may be begun.
+pub record Standing (sizes : Sizes) (pass : Pass) : Type 0 where
+  pub at : StandsAt sizes pass pass.stage
+  pub allowed : pass.stage ≢ Idle → IsAllowed sizes pass.call

@@ -1,0 +1,21 @@
+-- STOP: it is set only where a device has failed.
+use Rattle.std.specs.Prelude.{◌≡◌, ℕ, ◌≤◌, true}
+use Rattle.nv_plain.specs.Faults.{Rose}
+use Rattle.nv_core.specs.Words.{Word, STOP}
+use Rattle.nv_core.specs.Values.{faults_of}
+use Rattle.nv_core.specs.Order.{Values, IsFailing}
+use Rattle.nv_core.specs.Core.{Core}
+
+-- the count of some device rose since the opening
+pub record HasFailed (first now : Values) : Type 0 where
+  pub cell : Word
+  pub rose : Rose (faults_of (first cell)) (faults_of (now cell))
+
+-- STOP is 0 or 1. It is 1, and a pass is about to set it, only where a count rose, and no count ever fell. A pass that has seen it
+-- as 1 sees it so again.
+pub record Stop (first : Values) (core : Core) : Type 0 where
+  pub bit : core.words STOP ≤ 1
+  pub stopped : core.words STOP ≡ 1 → HasFailed first core.values
+  pub failing : (number : ℕ) → IsFailing (core.passes number).stage → HasFailed first core.values
+  pub never_fell : (cell : Word) → faults_of (first cell) ≤ faults_of (core.values cell)
+  pub stays : (number : ℕ) → (core.passes number).stopped ≡ true → core.words STOP ≡ 1

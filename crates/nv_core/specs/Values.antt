@@ -1,0 +1,108 @@
+-- Values: what the cells keep. A cell is a lock or an entry, by its word.
+use Rattle.std.specs.Prelude.{ℕ, Bool, true, false, if◌then◌else◌, List, [], Option, Some, option_map}
+use Rattle.nv_plain.specs.Files.{overwritten}
+use Rattle.nv_pmem.specs.Part.{Part}
+use Rattle.nv_pmem.specs.Steps.{Step as LineStep, after_step as after_line_step}
+use Rattle.nv_store.specs.Store.{Store}
+
+-- A device: what it tells of its state, or nothing, how often it has failed, and which one it is.
+pub record Device (State : Type 0) : Type 0 where
+  pub told : Option State
+  pub faults : ℕ
+  pub identity : ℕ
+
+-- A buffer: a page's bytes, and whether they count.
+pub record Buffer : Type 0 where
+  pub bytes : List ℕ
+  pub valid : Bool
+
+-- What a cell keeps: a part of the region, a store, a page's buffer or none, or nothing at all.
+pub data Value : Type 0 where
+  Bare : Value
+  APart : Device Part → Value
+  AStore : Device Store → Value
+  ABuffer : Option Buffer → Value
+
+-- ---- device calls
+
+-- One call on a device: a step of a part, or a read of a store, with the bytes that it gives.
+pub data Job : Type 0 where
+  Writes : LineStep → Job
+  Reads : (at : ℕ) (bytes : List ℕ) → Job
+
+-- How it ended: well; or failed, having done its work or not, with the count that it left.
+pub data Ending : Type 0 where
+  Made : Ending
+  Failed : (came : Bool) (faults : ℕ) → Ending
+
+-- whether a call did its work
+abbrev pub has_come : Ending → Bool
+has_come Made = true
+has_come (Failed came faults) = came
+
+-- how often a device has failed after a call
+abbrev pub faults_after : Ending → ℕ → ℕ
+faults_after Made before = before
+faults_after (Failed came faults) before = faults
+
+-- what a part tells after a call on it
+abbrev pub part_after : Job → Bool → Option Part → Option Part
+part_after (Writes step) true told = option_map (after_line_step step) told
+part_after _ _ told = told
+
+-- what a cell keeps after a call on its device
+abbrev pub called : Job → Ending → Value → Value
+called job ending (APart device) = APart record {
+  told = part_after job (has_come ending) device.told;
+  faults = faults_after ending device.faults;
+  identity = device.identity;
+}
+called job ending (AStore device) = AStore record {
+  told = device.told;
+  faults = faults_after ending device.faults;
+  identity = device.identity;
+}
+called job ending Bare = Bare
+called job ending (ABuffer buffer) = ABuffer buffer
+
+-- how often a cell's device has failed; no device never fails
+abbrev pub faults_of : Value → ℕ
+faults_of (APart device) = device.faults
+faults_of (AStore device) = device.faults
+faults_of _ = 0
+
+-- which device a cell keeps, counting parts and stores apart from 1; 0 where it keeps none
+abbrev pub identity_of : Value → ℕ
+identity_of (APart device) = device.identity
+identity_of (AStore device) = device.identity
+identity_of _ = 0
+
+-- ---- buffers
+
+-- how many buffers a cell keeps
+abbrev pub buffers_in : Value → ℕ
+buffers_in (ABuffer (Some buffer)) = 1
+buffers_in _ = 0
+
+-- whether a cell's buffer counts
+abbrev pub is_valid : Value → Bool
+is_valid (ABuffer (Some buffer)) = buffer.valid
+is_valid _ = false
+
+-- the bytes of a cell's buffer
+abbrev pub bytes_in : Value → List ℕ
+bytes_in (ABuffer (Some buffer)) = buffer.bytes
+bytes_in _ = []
+
+-- a page's bytes come into its buffer, if it has one
+abbrev pub filled : List ℕ → Value → Value
+filled bytes (ABuffer (Some buffer)) = ABuffer (Some record { bytes = bytes; valid = true })
+filled bytes value = value
+
+-- a piece comes into a buffer that counts
+abbrev pub patched : (at : ℕ) → List ℕ → Value → Value
+patched at bytes (ABuffer (Some buffer)) = ABuffer (Some record {
+  bytes = if buffer.valid then overwritten buffer.bytes at bytes else buffer.bytes;
+  valid = buffer.valid;
+})
+patched at bytes value = value
