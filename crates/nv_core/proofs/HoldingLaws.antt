@@ -30,7 +30,7 @@ pub among_above : (from end page : ℕ) → end ≤ page → one_if (is_among fr
 among_above from end page high = when_false (is_among from end page) 1 0 (and_right (nat_le from page) (nat_lt page end) (le-ltb page end high))
 
 -- one more page in the row, and one less
-among_more : (from end page : ℕ) → from ≤ end → one_if (is_among from (end + 1) page) ≡ one_if (page == end) + one_if (is_among from end page)
+pub among_more : (from end page : ℕ) → from ≤ end → one_if (is_among from (end + 1) page) ≡ one_if (page == end) + one_if (is_among from end page)
 among_more from end page low = elim (cases_eq page end) [
   | inl e ↦ subst (λ p. one_if (is_among from (end + 1) p) ≡ one_if (p == end) + one_if (is_among from end p)) (sym e)
       (let a = among_in from (end + 1) end low (omega arith) in let b = among_above from end end (omega arith) in let c : one_if (end == end) ≡ 1 = when_true (end == end) 1 0 (eq-eqb end end refl) in omega (arith, a, b, c))
@@ -44,7 +44,7 @@ among_more from end page low = elim (cases_eq page end) [
       ]
 ]
 
-among_less : (from end page : ℕ) → from < end → one_if (is_among from end page) ≡ one_if (page == from) + one_if (is_among (from + 1) end page)
+pub among_less : (from end page : ℕ) → from < end → one_if (is_among from end page) ≡ one_if (page == from) + one_if (is_among (from + 1) end page)
 among_less from end page low = elim (cases_eq page from) [
   | inl e ↦ subst (λ p. one_if (is_among from end p) ≡ one_if (p == from) + one_if (is_among (from + 1) end p)) (sym e)
       (let a = among_in from end from (omega arith) low in let b = among_below (from + 1) end from (omega arith) in let c : one_if (from == from) ≡ 1 = when_true (from == from) 1 0 (eq-eqb from from refl) in omega (arith, a, b, c))

@@ -68,7 +68,7 @@ same_tail sizes by core found Splits may made was = absurd (omega arith)
 same_tail sizes by core found (Loads word) may made was = was
 same_tail sizes by core found deed may made was = was
 
-more_made : (deed : Deed) (made : ℕ) → made ≤ made_stepped deed made
+pub more_made : (deed : Deed) (made : ℕ) → made ≤ made_stepped deed made
 more_made Splits made = omega arith
 more_made deed made = omega arith
 

@@ -46,7 +46,7 @@ self : {P : Type 0} → P ↔ P
 self = (λ p. p, λ p. p)
 
 -- a pledge leaves what is being filled
-pledged_alike : (sizes : Sizes) (pass : Pass) (page : ℕ) (n : ℕ) → 1 ≤ pass.entries
+pub pledged_alike : (sizes : Sizes) (pass : Pass) (page : ℕ) (n : ℕ) → 1 ≤ pass.entries
     → (IsUnseized (if page + 1 == end_page sizes pass.call then Readying (if pass.entries == 1 then pass.first else pass.first + 1) else Pledging (page + 1)) pass.first pass.entries n ↔ ⊥)
     × (IsFilling (if page + 1 == end_page sizes pass.call then Readying (if pass.entries == 1 then pass.first else pass.first + 1) else Pledging (page + 1)) pass.first pass.entries n ↔ IsAmong pass.first pass.entries n)
 pledged_alike sizes pass page n some =
@@ -141,7 +141,7 @@ other_fills sizes first core by next sound fills n ne is =
     let other = (sound.holding n).filling next is in
     let none = (only_holder (sound.locks.keyed (ENTRY (slot_of sizes next))) by (omega (arith, one))).2 n ne in omega (arith, other, none)
 
-seizes_one : (sizes : Sizes) (first : Values) (by : ℕ) (core : Core) (found next : ℕ) → Sound sizes first core → MayFind sizes by core (Seizes next) found
+pub seizes_one : (sizes : Sizes) (first : Values) (by : ℕ) (core : Core) (found next : ℕ) → Sound sizes first core → MayFind sizes by core (Seizes next) found
     → OneEntry sizes core by next filling (changed sizes by core (Seizes next) found)
 seizes_one sizes first by core found next sound may = record {
   within = sound.window.unseized_in by next here;
@@ -181,7 +181,7 @@ seizes_one sizes first by core found next sound may = record {
     fills_now : (s : ℕ) → ((core.passes by).first ≤ s) × (s < next) → Fills (core.passes by) s
     fills_now s u = subst (λ g. IsFilling g (core.passes by).first (core.passes by).entries s) (sym may.may) u
 
-readies_one : (sizes : Sizes) (first : Values) (by : ℕ) (core : Core) (found next : ℕ) → Sound sizes first core → MayFind sizes by core (Readies next) found
+pub readies_one : (sizes : Sizes) (first : Values) (by : ℕ) (core : Core) (found next : ℕ) → Sound sizes first core → MayFind sizes by core (Readies next) found
     → OneEntry sizes core by next (ready_word sizes (core.passes by) next) (changed sizes by core (Readies next) found)
 readies_one sizes first by core found next sound may = record {
   within = sound.window.filling_in by next here;
@@ -229,7 +229,7 @@ readies_one sizes first by core found next sound may = record {
         (λ e. let last = eqb-true (next + 1) ((core.passes by).first + (core.passes by).entries) e in elim u [ inl leader ↦ inl leader | inr follower ↦ absurd (let y = follower.1 in let z = follower.2 in omega (arith, y, z, last, ne)) ])
         (λ _. elim u [ inl leader ↦ inl leader | inr follower ↦ inr (let x = follower.0 in let y = follower.1 in (omega (arith, x), omega (arith, y, ne), follower.2)) ]))
 
-breaks_one : (sizes : Sizes) (first : Values) (by : ℕ) (core : Core) (found next : ℕ) → Sound sizes first core → MayFind sizes by core (Breaks next) found
+pub breaks_one : (sizes : Sizes) (first : Values) (by : ℕ) (core : Core) (found next : ℕ) → Sound sizes first core → MayFind sizes by core (Breaks next) found
     → OneEntry sizes core by next broken (changed sizes by core (Breaks next) found)
 breaks_one sizes first by core found next sound may = record {
   within = sound.window.filling_in by next here;

@@ -19,3 +19,6 @@ pub mod KeepsStop
 pub mod KeepsNumbers
 pub mod KeepsLoaded
 pub mod Reach
+pub mod KeepsBroken
+pub mod KeepsHistory
+pub mod KeepsDirty

@@ -1,5 +1,5 @@
 -- Every event keeps the core sound, and so does every run.
-use Rattle.std.proofs.Common.{◌≡◌, ℕ, ◌≤◌, true, false, List, [], ◌∷◌, refl, sym, arith}
+use Rattle.std.proofs.Common.{◌≡◌, ℕ, ◌+◌, ◌^◌, ◌≤◌, true, false, List, [], ◌∷◌, refl, sym, arith}
 use Rattle.nv_plain.specs.declared.call.FileCall.{FileCall}
 use Rattle.nv_core.specs.Words.{Sizes, Word, SIZE, STORE, is_shut, is_lock, CLEANER, HEADER, PAGE, CLEANUP, ENTRY}
 use Rattle.nv_core.specs.Deeds.{Deed}
@@ -16,6 +16,9 @@ use Rattle.nv_core.proofs.KeepsStanding.{standing_step, standing_begin, standing
 use Rattle.nv_core.proofs.KeepsLocks.{locks_step, locks_begin, locks_work}
 use Rattle.nv_core.proofs.KeepsWindow.{window_step, window_begin, window_work}
 use Rattle.nv_core.proofs.KeepsLoaded.{loaded_step, loaded_begin, loaded_work}
+use Rattle.nv_core.specs.Totals.{total}
+use Rattle.nv_core.proofs.KeepsBroken.{broken_step, broken_begin, broken_work}
+use Rattle.nv_core.proofs.KeepsHistory.{history_step, history_begin, history_work}
 use Rattle.nv_core.proofs.KeepsStop.{stop_step, stop_begin, stop_work, buffers_step, buffers_work, devices_step, devices_work}
 
 sound_step : (sizes : Sizes) (first : Values) (by : ℕ) (core : Core) (deed : Deed) (found : ℕ) → Sound sizes first core → by ≤ core.made → MayFind sizes by core deed found → Sound sizes first (after_step sizes by deed found core)
@@ -27,6 +30,8 @@ sound_step sizes first by core deed found sound made may = record {
   window = window_step sizes first by core deed found sound may;
   loaded = loaded_step sizes first by core deed found sound made may;
   stop = stop_step sizes first by core deed found sound may;
+  broken = broken_step sizes first by core deed found sound sound.broken may;
+  history = history_step sizes first by core deed found sound sound.history (broken_step sizes first by core deed found sound sound.broken may) made may;
   buffers = buffers_step sizes first by core deed sound;
   devices = devices_step sizes first by core deed sound;
 }
@@ -40,6 +45,8 @@ sound_begin sizes first by core call sound made may = record {
   window = window_begin sizes first by core call sound may;
   loaded = loaded_begin sizes first by core call sound may;
   stop = stop_begin sizes first by core call sound may;
+  broken = broken_begin sizes first by core call sound sound.broken may;
+  history = history_begin sizes by core call sound.history made may;
   buffers = sound.buffers;
   devices = sound.devices;
 }
@@ -53,6 +60,8 @@ sound_work sizes first by core work sound made may = record {
   window = window_work sizes first by core work sound may;
   loaded = loaded_work sizes first by core work sound may;
   stop = stop_work sizes first by core work sound may;
+  broken = broken_work sizes first by core work sound sound.broken may;
+  history = history_work sizes by core work sound.history made may;
   buffers = buffers_work sizes first by core work sound;
   devices = devices_work sizes first by core work sound;
 }
@@ -66,6 +75,11 @@ pub events_keep_sound : EventsKeepSound
 events_keep_sound sizes first core event sound may = sound_act sizes first event.by core event.act sound may.made may.act
 
 -- ---- at opening
+
+-- no call is open
+none_open : 0 + total (0 + 1) (λ number. 0) ≤ 2 ^ 60 + 0
+unfolding total
+none_open = omega arith
 
 -- nothing is shut
 open_cell : (mount : Mount) (cell : Word) → is_shut cell (opening_word mount cell) ≡ false
@@ -110,6 +124,14 @@ opening_is_sound mount is = record {
     clean = λ n page saw. absurd saw;
   };
   stop = record { bit = omega arith; stopped = λ one. absurd (omega arith); failing = λ n fails. absurd fails; never_fell = λ cell. omega arith; stays = λ n stopped. absurd (not_both stopped refl) };
+  broken = record { stopped = λ n some. absurd (some refl); once = λ n. omega arith; passed = λ n checked. absurd checked; pages = λ n m page fault is at checked. absurd is };
+  history = record {
+    order = refl;
+    few = none_open;
+    seen = λ n. ([], refl);
+    whole = (0, omega arith, refl);
+    mine = λ n. refl;
+  };
   buffers = is.buffers;
   devices = record { each = λ cell. refl };
 }

@@ -3,7 +3,7 @@ use Rattle.std.specs.Prelude.{◌≡◌, ℕ, ◌+◌, ◌==◌, ◌^◌, ◌≤
 use Rattle.nv_core.specs.Totals.{total}
 use Rattle.nv_plain.specs.Histories.{Answered}
 use Rattle.nv_core.specs.Words.{ORDER}
-use Rattle.nv_core.specs.Passes.{Stage, Reading, Fetching, Copying, Returning, Waiting, Heading, Tailing, Drawing, Seizing, Committing, Pledging, Readying, Placing, ReadFailing, WriteFailing, Breaking, Pass}
+use Rattle.nv_core.specs.Passes.{Stage, Reading, Fetching, Copying, Returning, Waiting, Heading, Tailing, Drawing, Seizing, Committing, Pledging, Readying, Placing, ReadFailing, WriteFailing, Pass}
 use Rattle.nv_core.specs.Core.{Core}
 
 -- a list begins with another
@@ -31,7 +31,6 @@ stage_open (Readying number) = 1
 stage_open Placing = 1
 stage_open ReadFailing = 1
 stage_open WriteFailing = 1
-stage_open (Breaking number) = 1
 stage_open stage = 0
 
 -- the same of a pass's calls, those that ended by a fault among them: they have no place either
@@ -48,5 +47,5 @@ pub record OneHistory (core : Core) : Type 0 where
   pub order : core.words ORDER ≡ length core.history
   pub few : core.words ORDER + open_count core.made core.passes ≤ 2 ^ 60 + core.made
   pub seen : (number : ℕ) → Begins (core.passes number).seen core.history
-  pub whole : (number : ℕ) × ((core.passes number).seen ≡ core.history)
+  pub whole : (number : ℕ) × (number ≤ core.made) × ((core.passes number).seen ≡ core.history)
   pub mine : (number : ℕ) → (core.passes number).mine ≡ calls_by number core.history

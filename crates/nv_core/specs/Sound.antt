@@ -10,6 +10,8 @@ use Rattle.nv_core.specs.Locks.{Locks}
 use Rattle.nv_core.specs.LogWindow.{LogWindow}
 use Rattle.nv_core.specs.Loaded.{Loaded}
 use Rattle.nv_core.specs.Stop.{Stop}
+use Rattle.nv_core.specs.Broken.{Broken}
+use Rattle.nv_core.specs.OneHistory.{OneHistory}
 use Rattle.nv_core.specs.BuffersKept.{BuffersKept}
 use Rattle.nv_core.specs.Devices.{Devices}
 
@@ -22,5 +24,7 @@ pub record Sound (sizes : Sizes) (first : Values) (core : Core) : Type 0 where
   pub window : LogWindow sizes core
   pub loaded : Loaded core
   pub stop : Stop first core
+  pub broken : Broken sizes core
+  pub history : OneHistory core
   pub buffers : BuffersKept sizes core.values
   pub devices : Devices first core.values
