@@ -1,24 +1,23 @@
 -- Each event keeps what became of broken writes.
-use Rattle.std.proofs.Common.{◌≡◌, ◌≢◌, ◌⊎◌, ℕ, ◌+◌, ◌^◌, ◌<◌, ◌≤◌, ◌==◌, nat_lt, nat_le, not, ◌&&◌, Bool, true, false, if◌then◌else◌, List, [], ◌∷◌, length, inl, inr, refl, sym, ap, subst, ◌∙◌, arith, le_trans}
+use Rattle.std.proofs.Common.{◌≡◌, ◌≢◌, ◌⊎◌, ℕ, ◌+◌, ◌≤◌, ◌==◌, not, ◌&&◌, Bool, true, false, if◌then◌else◌, List, [], ◌∷◌, length, inl, inr, refl, sym, ap, subst, ◌∙◌, arith}
 use Rattle.std.proofs.lemmas.Bool.{eqb-true, true≢false}
 use Rattle.nv_plain.specs.declared.call.FileCall.{FileCall}
 use Rattle.nv_plain.specs.declared.call.Reply.{Reply}
 use Rattle.nv_core.specs.Words.{Sizes, Word, STOP, ORDER, HEAD, TAIL, SIZE, LENGTH, STORE, ENTRY, PAGE, DIRTY, same}
-use Rattle.nv_core.specs.Values.{Ending, Made, Failed}
-use Rattle.nv_core.specs.Passes.{Stage, Idle, Locking, Measuring, Sizing, Checking, Ordering, Reading, Fetching, Copying, Returning, Waiting, Heading, Tailing, Drawing, Seizing, Committing, Pledging, Readying, Placing, Growing, Releasing, Giving, Leaving, ReadFailing, WriteFailing, Breaking, Pass, IsOneOf, page_count, first_page, end_page, without, times}
+use Rattle.nv_core.specs.Passes.{Stage, Locking, Measuring, Sizing, Checking, Ordering, Reading, Fetching, Copying, Returning, Heading, Tailing, Drawing, Seizing, Committing, Pledging, Readying, Placing, Growing, Releasing, Giving, Leaving, ReadFailing, WriteFailing, Breaking, Pass, IsOneOf, page_count, first_page, end_page, without, times}
 use Rattle.nv_core.specs.Deeds.{Deed, moved, move_of, Comes, Stays, Loads, Takes, Gives, Places, Stops, Draws, Seizes, Pledges, Readies, Grows, Breaks, Splits, Leaves, Joins, slot_of}
-use Rattle.nv_core.specs.Stages.{stage_after, after_load, after_take, after_give, after_stop, leaving, giving, ending, exceeds}
-use Rattle.nv_core.specs.Stepped.{stepped, stopped_after, faulted_after, begun}
-use Rattle.nv_core.specs.Order.{Values, Work, MayWork, MayStep, MayLoad, MayTake, MayGive, MayPlace, IsDue, IsFailing, commit_steps}
-use Rattle.nv_core.specs.Core.{Core, changes, changed, after_step, after_begin, after_work, worked, stage_worked}
+use Rattle.nv_core.specs.Stages.{stage_after, after_load, after_take, after_give, after_stop, leaving, exceeds}
+use Rattle.nv_core.specs.Stepped.{stopped_after, begun}
+use Rattle.nv_core.specs.Order.{Values, Work, MayWork, MayStep, MayLoad, MayTake, MayPlace, IsDue, IsFailing}
+use Rattle.nv_core.specs.Core.{Core, changes, changed, after_step, after_begin, after_work, worked}
 use Rattle.nv_core.specs.Events.{MayDo, MayFind, MayBegin}
-use Rattle.nv_core.specs.Standing.{StandsAt, IsPage}
-use Rattle.nv_core.specs.Holding.{one_if, is_among, HoldsLocks}
+use Rattle.nv_core.specs.Standing.{IsPage}
+use Rattle.nv_core.specs.Holding.{HoldsLocks}
 use Rattle.nv_core.specs.Broken.{HasChecked, Broken}
 use Rattle.nv_core.specs.Sound.{Sound}
 use Rattle.nv_core.proofs.Changes.{by_number, differ}
-use Rattle.nv_core.proofs.Choices.{if_both, not_both, when_true, leaving_both, IsGivingBack, gives_back}
-use Rattle.nv_core.proofs.LockLaws.{only_holder, times_else, times_without, times_without_else}
+use Rattle.nv_core.proofs.Choices.{if_both, leaving_both, IsGivingBack, gives_back}
+use Rattle.nv_core.proofs.LockLaws.{only_holder, times_else}
 use Rattle.nv_core.proofs.KeepsLoaded.{holds_page}
 
 -- ---- stages behind the load of STOP
@@ -197,11 +196,14 @@ broken_step sizes first by core deed found sound broken may = record {
   where
     who : ℕ
     who = changes by core.made deed
+
     now : Pass
     now = changed sizes by core deed found
+
     of_old : (n m page : ℕ) (fault : FileCall × ℕ × ℕ) → IsOneOf (core.passes n).faulted fault → IsPage sizes fault.0 page → HasChecked ((after_step sizes by deed found core).passes m).stage → times (PAGE page) ((after_step sizes by deed found core).passes m).hands ≡ 0
     of_old n m page fault is at = by_number (λ m (p : Pass). HasChecked p.stage → times (PAGE page) p.hands ≡ 0) core.passes (changes by core.made deed) (changed sizes by core deed found)
         (old_pages sizes first by core found deed sound broken may n page fault is at) (λ m ne. broken.pages n m page fault is at) m
+
     of_new : (deed : Deed) → MayFind sizes by core deed found → deed ≡ Stops → {page : ℕ} → IsPage sizes (core.passes by).call page → (m : ℕ) → HasChecked ((after_step sizes by deed found core).passes m).stage → times (PAGE page) ((after_step sizes by deed found core).passes m).hands ≡ 0
     of_new deed may is {page = page} at m = subst (λ d. MayFind sizes by core d found → HasChecked ((after_step sizes by d found core).passes m).stage → times (PAGE page) ((after_step sizes by d found core).passes m).hands ≡ 0) (sym is) (stops m) may
       where
@@ -223,6 +225,7 @@ broken_begin sizes first by core call sound broken may = record {
   where
     first_unchecked : HasChecked (if page_count sizes call == 0 then Checking else Locking (first_page sizes call)) → ⊥
     first_unchecked = if_both (λ s. HasChecked s → ⊥) (page_count sizes call == 0) Checking (Locking (first_page sizes call)) (λ _ z. z) (λ _ z. z)
+
     of_old : (n m page : ℕ) (fault : FileCall × ℕ × ℕ) → IsOneOf (core.passes n).faulted fault → IsPage sizes fault.0 page → HasChecked ((after_begin sizes by call core).passes m).stage → times (PAGE page) ((after_begin sizes by call core).passes m).hands ≡ 0
     of_old n m page fault is at = by_number (λ m (p : Pass). HasChecked p.stage → times (PAGE page) p.hands ≡ 0) core.passes by (begun sizes call (core.passes by)) (λ checked. absurd (first_unchecked checked)) (λ m ne. broken.pages n m page fault is at) m
 

@@ -1,27 +1,34 @@
 -- Each event keeps the dirty counters.
-use Rattle.std.proofs.Common.{◌≡◌, ◌≢◌, ◌⊎◌, ℕ, ◌+◌, ◌-◌, ◌*◌, ◌/◌, ◌%◌, ◌<◌, ◌≤◌, ◌==◌, min, nat_lt, nat_le, not, ◌&&◌, ◌||◌, Bool, true, false, if◌then◌else◌, List, [], ◌∷◌, length, inl, inr, refl, sym, ap, subst, ◌∙◌, arith, le_trans}
-use Rattle.std.proofs.lemmas.Bool.{eqb-true, eqb-false, eq-eqb, ne_eqb, le-leb, lt-leb, lt-ltb, le-ltb, leb-true, ltb-true, and_parts, and_from, and_left, and_right, or_cases, cases_eq, cases_lt, cases_Bool}
+use Rattle.std.proofs.Common.{◌≡◌, ◌≢◌, ◌⊎◌, ◌↔◌, ℕ, ◌+◌, ◌<◌, ◌≤◌, ◌==◌, nat_lt, nat_le, ◌&&◌, ◌||◌, Bool, true, false, if◌then◌else◌, List, ◌∷◌, length, inl, inr, refl, sym, ap, subst, ◌∙◌, arith}
+use Rattle.std.proofs.lemmas.Bool.{eqb-true, eqb-false, eq-eqb, ne_eqb, le-leb, lt-ltb, leb-true, ltb-true, and_parts, and_from, and_left, or_cases, cases_eq, cases_lt, cases_Bool}
 use Rattle.nv_plain.specs.declared.call.FileCall.{FileCall}
-use Rattle.nv_core.specs.Words.{Sizes, Word, PAGE, ENTRY, DIRTY, index, kind_of, page_of, ready, held, free, filling, broken, entry_word, is_shut}
-use Rattle.nv_core.specs.Passes.{Stage, Idle, Seizing, Committing, Pledging, Readying, Placing, Breaking, Pass, IsFilling, IsAmong, page_count, first_page, end_page, times}
+use Rattle.nv_core.specs.Words.{Sizes, Word, PAGE, ENTRY, DIRTY, index, kind_of, page_of, ready, held, filling, broken, entry_word}
+use Rattle.nv_core.specs.Passes.{Stage, Locking, Checking, Copying, Seizing, Committing, Pledging, Readying, Placing, ReadFailing, WriteFailing, Breaking, Pass, without, IsUnseized, IsFilling, IsAmong, IsAllowed, page_count, first_page, end_page, times}
 use Rattle.nv_core.specs.Deeds.{Deed, slot_of, page_at, ready_word, Loads, Takes, Gives, Places, Stops, Draws, Seizes, Pledges, Readies, Grows, Breaks, Splits, Leaves, Joins}
-use Rattle.nv_core.specs.Order.{Values, Work, MayWork}
-use Rattle.nv_core.specs.Core.{Core, changes, changed, with_word, with_number, after_step, after_begin, after_work}
+use Rattle.nv_core.specs.Values.{Ending, Made, Failed}
+use Rattle.nv_core.specs.Stages.{leaving, after_stop}
+use Rattle.nv_core.specs.Stepped.{stepped, begun}
+use Rattle.nv_core.specs.Order.{Values, Work, MayWork, MayStep, IsDue, IsFailing, commit_steps}
+use Rattle.nv_core.proofs.ClearLaws.{IsClear, IsPlain, clear_from, clear_to, clear_leaving}
+use Rattle.nv_core.proofs.HoldingSteps.{few_entries}
+use Rattle.std.proofs.lemmas.Nat.{mod_below}
+use Rattle.nv_core.specs.Core.{Core, changes, changed, with_word, with_number, after_step, after_begin, after_work, worked, stage_worked}
 use Rattle.nv_core.specs.Events.{MayFind, MayBegin}
 use Rattle.nv_core.specs.Standing.{StandsAt, IsPage, HasDrawn}
 use Rattle.nv_core.specs.Holding.{one_if, is_among, HoldsLocks}
-use Rattle.nv_core.specs.Locks.{Keyed, Locks, holds}
+use Rattle.nv_core.specs.Locks.{Locks}
 use Rattle.nv_core.specs.LogWindow.{Fills}
 use Rattle.nv_core.specs.DirtyCounters.{is_of_page, entries_of, number_on, pledged, DirtyCounters}
 use Rattle.nv_core.specs.Sound.{Sound}
-use Rattle.nv_core.proofs.Changes.{by_number, number_here, number_else, word_here, word_else}
-use Rattle.nv_core.proofs.Choices.{if_both, not_both, when_true, when_false, busy}
-use Rattle.nv_core.proofs.LockLaws.{only_holder}
+use Rattle.nv_core.proofs.Changes.{by_number, differ, number_here, number_else, word_here, word_else}
+use Rattle.nv_core.proofs.Choices.{if_both, when_true, when_false, busy}
+use Rattle.nv_core.proofs.LockLaws.{only_holder, times_without_else}
+use Rattle.nv_core.proofs.WindowLaws.{OneEntry}
 use Rattle.nv_core.proofs.HoldingLaws.{among_in, among_below, among_above, among_more}
 use Rattle.nv_core.proofs.WordLaws.{untouched, touches}
 use Rattle.nv_core.proofs.TotalLaws.{total_same, total_at}
 use Rattle.nv_core.proofs.KeepsWindow.{readies_one, pledged_alike}
-use Rattle.nv_core.proofs.KeepsLocks.{kind_is, locks_step}
+use Rattle.nv_core.proofs.KeepsLocks.{kind_is, locks_step, readying_next}
 use Rattle.nv_core.proofs.KeepsLoaded.{held_by_one, holds_page, pledged_page}
 
 -- a page's lock is 0 or held by one pass
@@ -48,31 +55,38 @@ silent : (sizes : Sizes) (core now : Core) (who : ℕ) (pass : Pass) → Locks c
 silent sizes core now who pass locks after dirty same entries passes none_before none_after = record {
   free = λ page zero. same page ∙ was_free page zero (page_held core locks page) ∙ sym (entries page);
   held = λ page n here. elim (cases_eq n who) [
-      inl e ↦ let p = subst (λ (q : Pass). times (PAGE page) q.hands ≡ 1) (passes n ∙ ap (with_number core.passes who pass) e ∙ number_here core.passes who pass) here in
+    | inl e ↦ let p = subst (λ (q : Pass). times (PAGE page) q.hands ≡ 1) (passes n ∙ ap (with_number core.passes who pass) e ∙ number_here core.passes who pass) here in
         same page ∙ clean page p (page_held core locks page) ∙ sym (entries page) ∙ none_more page n (subst (λ (q : Pass). pledged sizes q q.stage page ≡ 0) (sym (passes n ∙ ap (with_number core.passes who pass) e ∙ number_here core.passes who pass)) (none_after page))
-      | inr ne ↦ let is : now.passes n ≡ core.passes n = passes n ∙ number_else core.passes who pass n ne in
-        same page ∙ dirty.held page n (subst (λ (q : Pass). times (PAGE page) q.hands ≡ 1) is here) ∙ ap (λ e. e + pledged sizes (core.passes n) (core.passes n).stage page) (sym (entries page)) ∙ ap (λ (q : Pass). entries_of sizes now.words page + pledged sizes q q.stage page) (sym is) ];
+    | inr ne ↦ let is : now.passes n ≡ core.passes n = passes n ∙ number_else core.passes who pass n ne in
+        same page ∙ dirty.held page n (subst (λ (q : Pass). times (PAGE page) q.hands ≡ 1) is here) ∙ ap (λ e. e + pledged sizes (core.passes n) (core.passes n).stage page) (sym (entries page)) ∙ ap (λ (q : Pass). entries_of sizes now.words page + pledged sizes q q.stage page) (sym is)
+  ];
 }
   where
     none_more : (page n : ℕ) → pledged sizes (now.passes n) (now.passes n).stage page ≡ 0 → entries_of sizes now.words page ≡ entries_of sizes now.words page + pledged sizes (now.passes n) (now.passes n).stage page
     none_more page n z = omega (arith, z)
+
     by_who : (page : ℕ) → times (PAGE page) (core.passes who).hands ≡ 1 → core.words (DIRTY page) ≡ entries_of sizes core.words page
     by_who page here = let d = dirty.held page who here in let z = none_before page in omega (arith, d, z)
+
     still_held : (page n : ℕ) → n ≢ who → times (PAGE page) (core.passes n).hands ≡ 1 → times (PAGE page) (now.passes n).hands ≡ 1
     still_held page n ne here = subst (λ (q : Pass). times (PAGE page) q.hands ≡ 1) (sym (passes n ∙ number_else core.passes who pass n ne)) here
+
     was_free : (page : ℕ) → now.words (PAGE page) ≡ 0 → (core.words (PAGE page) ≡ 0) ⊎ ((n : ℕ) × (times (PAGE page) (core.passes n).hands ≡ 1)) → core.words (DIRTY page) ≡ entries_of sizes core.words page
     was_free page zero (inl unheld) = dirty.free page unheld
     was_free page zero (inr holder) = elim (cases_eq holder.0 who) [
-        inl e ↦ by_who page (subst (λ n. times (PAGE page) (core.passes n).hands ≡ 1) e holder.1)
-        | inr ne ↦ absurd (not_free now after page holder.0 (still_held page holder.0 ne holder.1) zero) ]
+      | inl e ↦ by_who page (subst (λ n. times (PAGE page) (core.passes n).hands ≡ 1) e holder.1)
+      | inr ne ↦ absurd (not_free now after page holder.0 (still_held page holder.0 ne holder.1) zero)
+    ]
+
     clean : (page : ℕ) → times (PAGE page) pass.hands ≡ 1 → (core.words (PAGE page) ≡ 0) ⊎ ((n : ℕ) × (times (PAGE page) (core.passes n).hands ≡ 1)) → core.words (DIRTY page) ≡ entries_of sizes core.words page
     clean page here (inl unheld) = dirty.free page unheld
     clean page here (inr holder) = elim (cases_eq holder.0 who) [
-        inl e ↦ by_who page (subst (λ n. times (PAGE page) (core.passes n).hands ≡ 1) e holder.1)
-        | inr ne ↦ absurd (
+      | inl e ↦ by_who page (subst (λ n. times (PAGE page) (core.passes n).hands ≡ 1) e holder.1)
+      | inr ne ↦ absurd (
           let mine : times (PAGE page) (now.passes who).hands ≡ 1 = subst (λ (q : Pass). times (PAGE page) q.hands ≡ 1) (sym (passes who ∙ number_here core.passes who pass)) here in
           let none = (only_holder (after.keyed (PAGE page)) who (omega (arith, mine))).2 holder.0 ne in
-          let one = still_held page holder.0 ne holder.1 in omega (arith, none, one)) ]
+          let one = still_held page holder.0 ne holder.1 in omega (arith, none, one))
+    ]
 
 -- ---- what is pledged, by what is being filled
 
@@ -92,25 +106,32 @@ readying_counts sizes pass next page = record {
   where
     inner : Bool
     inner = number_on sizes pass page == pass.first || (nat_lt pass.first next && is_among next (pass.first + pass.entries) (number_on sizes pass page))
+
     test : Bool
     test = nat_le (first_page sizes pass.call) page && (number_on sizes pass page == pass.first || (nat_lt pass.first next && is_among next (pass.first + pass.entries) (number_on sizes pass page)))
+
     or_left : (b c : Bool) → b ≡ true → (b || c) ≡ true
     or_left b c e = subst (λ x. (x || c) ≡ true) (sym e) refl
+
     or_right : (b c : Bool) → c ≡ true → (b || c) ≡ true
     or_right true c e = refl
     or_right false c e = e
+
     filled : IsFilling (Readying next) pass.first pass.entries (number_on sizes pass page) → (number_on sizes pass page == pass.first || (nat_lt pass.first next && is_among next (pass.first + pass.entries) (number_on sizes pass page))) ≡ true
     filled is = elim is [
-        inl leader ↦ or_left (number_on sizes pass page == pass.first) _ (eq-eqb (number_on sizes pass page) pass.first leader)
-        | inr follower ↦ or_right (number_on sizes pass page == pass.first) _ (and_from (nat_lt pass.first next) _ (lt-ltb pass.first next follower.0)
-          (and_from (nat_le next (number_on sizes pass page)) _ (le-leb next (number_on sizes pass page) follower.1) (lt-ltb (number_on sizes pass page) (pass.first + pass.entries) follower.2))) ]
+      | inl leader ↦ or_left (number_on sizes pass page == pass.first) _ (eq-eqb (number_on sizes pass page) pass.first leader)
+      | inr follower ↦ or_right (number_on sizes pass page == pass.first) _ (and_from (nat_lt pass.first next) _ (lt-ltb pass.first next follower.0)
+          (and_from (nat_le next (number_on sizes pass page)) _ (le-leb next (number_on sizes pass page) follower.1) (lt-ltb (number_on sizes pass page) (pass.first + pass.entries) follower.2)))
+    ]
+
     fills : (number_on sizes pass page == pass.first || (nat_lt pass.first next && is_among next (pass.first + pass.entries) (number_on sizes pass page))) ≡ true → IsFilling (Readying next) pass.first pass.entries (number_on sizes pass page)
     fills so = elim (or_cases (number_on sizes pass page == pass.first) _ so) [
-        inl leader ↦ inl (eqb-true (number_on sizes pass page) pass.first leader)
-        | inr follower ↦ inr (
+      | inl leader ↦ inl (eqb-true (number_on sizes pass page) pass.first leader)
+      | inr follower ↦ inr (
           let both = and_parts (nat_lt pass.first next) (is_among next (pass.first + pass.entries) (number_on sizes pass page)) follower in
           let range = and_parts (nat_le next (number_on sizes pass page)) (nat_lt (number_on sizes pass page) (pass.first + pass.entries)) both.1 in
-          (ltb-true pass.first next both.0, leb-true next (number_on sizes pass page) range.0, ltb-true (number_on sizes pass page) (pass.first + pass.entries) range.1)) ]
+          (ltb-true pass.first next both.0, leb-true next (number_on sizes pass page) range.0, ltb-true (number_on sizes pass page) (pass.first + pass.entries) range.1))
+    ]
 
 placing_counts : (sizes : Sizes) (pass : Pass) (page : ℕ) → CountsFilling sizes pass Placing page
 placing_counts sizes pass page = record { one = λ low is. absurd is; none = λ off. refl }
@@ -129,7 +150,7 @@ entries_at : (sizes : Sizes) (words : Word → ℕ) (slot value page : ℕ) → 
     → entries_of sizes (with_word words (ENTRY slot) value) page + one_if (is_of_page page (words (ENTRY slot))) ≡ entries_of sizes words page + one_if (is_of_page page value)
 entries_at sizes words slot value page less =
     let e = total_at sizes.entries slot (λ i. one_if (is_of_page page (words (ENTRY i)))) (λ i. one_if (is_of_page page (with_word words (ENTRY slot) value (ENTRY i)))) less
-      (λ i ne. ap (λ w. one_if (is_of_page page w)) (word_else words (ENTRY slot) value (ENTRY i) (λ e. ne (ap index e)))) in
+    (λ i ne. ap (λ w. one_if (is_of_page page w)) (word_else words (ENTRY slot) value (ENTRY i) (λ e. ne (ap index e)))) in
     let f : one_if (is_of_page page (with_word words (ENTRY slot) value (ENTRY slot))) ≡ one_if (is_of_page page value) = ap (λ w. one_if (is_of_page page w)) (word_here words (ENTRY slot) value) in
     omega (arith, e, f)
 
@@ -140,3 +161,299 @@ ready_of_page count page other few =
   where
     page_is : (count page : ℕ) → count ≤ 16 → page_of (entry_word ready count page) ≡ page
     page_is count page few = omega arith
+
+-- ---- steps that pledge nothing
+
+-- a stage at which nothing is pledged that isn't ready
+abbrev IsUnpledged : Stage → Type 0
+IsUnpledged (Pledging page) = ⊥
+IsUnpledged (Readying number) = ⊥
+IsUnpledged stage = Unit {0}
+
+unpledged : (sizes : Sizes) (pass : Pass) (page : ℕ) (stage : Stage) → IsUnpledged stage → pledged sizes pass stage page ≡ 0
+unpledged sizes pass page (Pledging next) is = absurd is
+unpledged sizes pass page (Readying next) is = absurd is
+unpledged sizes pass page stage is = refl
+
+clear_unpledged : (stage : Stage) → IsClear stage → IsUnpledged stage
+clear_unpledged (Pledging page) is = is
+clear_unpledged (Readying number) is = is
+clear_unpledged stage is = tt
+
+unpledged_leaving : (hands : List Word) → IsUnpledged (leaving hands)
+unpledged_leaving hands = clear_unpledged (leaving hands) (clear_leaving hands)
+
+-- a step between two such stages that leaves the counted words
+silent_step : (sizes : Sizes) (first : Values) (by : ℕ) (core : Core) (deed : Deed) (found : ℕ) → Sound sizes first core → DirtyCounters sizes core → MayFind sizes by core deed found
+    → ((page : ℕ) → touches deed (DIRTY page) ≡ false) → ((page : ℕ) → entries_of sizes (after_step sizes by deed found core).words page ≡ entries_of sizes core.words page)
+    → IsUnpledged (core.passes (changes by core.made deed)).stage → IsUnpledged (changed sizes by core deed found).stage → DirtyCounters sizes (after_step sizes by deed found core)
+silent_step sizes first by core deed found sound dirty may untouched_dirty entries before after =
+    silent sizes core (after_step sizes by deed found core) (changes by core.made deed) (changed sizes by core deed found) sound.locks (locks_step sizes first by core deed found sound may) dirty
+    (λ page. untouched sizes by core deed found may (DIRTY page) (untouched_dirty page)) entries (λ n. refl)
+    (λ page. unpledged sizes (core.passes (changes by core.made deed)) page (core.passes (changes by core.made deed)).stage before)
+    (λ page. unpledged sizes (changed sizes by core deed found) page (changed sizes by core deed found).stage after)
+
+-- no ENTRY word changes
+same_entries : (sizes : Sizes) (by : ℕ) (core : Core) (deed : Deed) (found : ℕ) → MayFind sizes by core deed found → ((slot : ℕ) → touches deed (ENTRY slot) ≡ false) → (page : ℕ) → entries_of sizes (after_step sizes by deed found core).words page ≡ entries_of sizes core.words page
+same_entries sizes by core deed found may not_so page = total_same sizes.entries (λ slot. one_if (is_of_page page (core.words (ENTRY slot)))) (λ slot. one_if (is_of_page page ((after_step sizes by deed found core).words (ENTRY slot))))
+    (λ slot less. ap (λ w. one_if (is_of_page page w)) (untouched sizes by core deed found may (ENTRY slot) (not_so slot)))
+
+plain_step : (sizes : Sizes) (first : Values) (by : ℕ) (core : Core) (deed : Deed) (found : ℕ) → Sound sizes first core → DirtyCounters sizes core → (may : MayFind sizes by core deed found) → IsPlain deed → MayStep sizes core.values (core.passes by) deed
+    → (changes by core.made deed ≡ by) → (changed sizes by core deed found ≡ stepped sizes by core.history deed found (core.passes by))
+    → ((page : ℕ) → touches deed (DIRTY page) ≡ false) → ((slot : ℕ) → touches deed (ENTRY slot) ≡ false) → DirtyCounters sizes (after_step sizes by deed found core)
+plain_step sizes first by core deed found sound dirty may plain step who what untouched_dirty untouched_entry =
+    silent_step sizes first by core deed found sound dirty may untouched_dirty (same_entries sizes by core deed found may untouched_entry)
+    (subst (λ n. IsUnpledged (core.passes n).stage) (sym who) (clear_unpledged _ (clear_from sizes core.values (core.passes by) deed plain step)))
+    (subst (λ (p : Pass). IsUnpledged p.stage) (sym what) (clear_unpledged _ (clear_to sizes core.values (core.passes by) deed found plain step)))
+
+-- nothing changes that is counted, and the passes hold and have pledged what they did
+dirty_still : (sizes : Sizes) (core now : Core) → DirtyCounters sizes core → ((word : Word) → now.words word ≡ core.words word) → ((n : ℕ) → (now.passes n).hands ≡ (core.passes n).hands)
+    → ((n page : ℕ) → pledged sizes (now.passes n) (now.passes n).stage page ≡ pledged sizes (core.passes n) (core.passes n).stage page) → DirtyCounters sizes now
+dirty_still sizes core now dirty words hands same = record {
+  free = λ page zero. words (DIRTY page) ∙ dirty.free page (sym (words (PAGE page)) ∙ zero) ∙ sym (entries page);
+  held = λ page n here. words (DIRTY page) ∙ dirty.held page n (ap (times (PAGE page)) (sym (hands n)) ∙ here) ∙ ap (λ e. e + pledged sizes (core.passes n) (core.passes n).stage page) (sym (entries page)) ∙ ap (λ p. entries_of sizes now.words page + p) (sym (same n page));
+}
+  where
+    entries : (page : ℕ) → entries_of sizes now.words page ≡ entries_of sizes core.words page
+    entries page = total_same sizes.entries (λ slot. one_if (is_of_page page (core.words (ENTRY slot)))) (λ slot. one_if (is_of_page page (now.words (ENTRY slot)))) (λ slot less. ap (λ w. one_if (is_of_page page w)) (words (ENTRY slot)))
+
+left_pledged : (sizes : Sizes) (pass : Pass) (left : List Word) (page : ℕ) (stage : Stage) → pledged sizes record pass { left = left } stage page ≡ pledged sizes pass stage page
+left_pledged sizes pass left page stage = refl
+
+-- ---- one entry changes that is of no page before or after
+
+entry_of_none : (sizes : Sizes) (words : Word → ℕ) (slot value page : ℕ) → slot < sizes.entries → is_of_page page (words (ENTRY slot)) ≡ false → is_of_page page value ≡ false → entries_of sizes (with_word words (ENTRY slot) value) page ≡ entries_of sizes words page
+entry_of_none sizes words slot value page less was is =
+    let e = entries_at sizes words slot value page less in
+    let a : one_if (is_of_page page (words (ENTRY slot))) ≡ 0 = when_false _ 1 0 was in let b : one_if (is_of_page page value) ≡ 0 = when_false _ 1 0 is in omega (arith, e, a, b)
+
+slot_less : (sizes : Sizes) (pass : Pass) (number : ℕ) → HasDrawn sizes pass.call pass.entries → IsAllowed sizes pass.call → slot_of sizes number < sizes.entries
+slot_less sizes pass number drawn allowed = mod_below number sizes.entries (let a = few_entries sizes pass.call pass.entries drawn allowed in let b = drawn.some in omega (arith, a, b))
+
+-- ---- a pledge
+
+pledges_step : (sizes : Sizes) (first : Values) (by : ℕ) (core : Core) (found page : ℕ) → Sound sizes first core → DirtyCounters sizes core → MayFind sizes by core (Pledges page) found → DirtyCounters sizes (after_step sizes by (Pledges page) found core)
+pledges_step sizes first by core found page sound dirty may = record {
+  free = λ p zero. elim (cases_eq p page) [
+    | inl e ↦ absurd (not_free core sound.locks page by mine (subst (λ q. core.words (PAGE q) ≡ 0) e (sym (untouched sizes by core (Pledges page) found may (PAGE p) refl) ∙ zero)))
+    | inr ne ↦ word_else core.words (DIRTY page) _ (DIRTY p) (λ e. ne (ap index e)) ∙ dirty.free p (sym (untouched sizes by core (Pledges page) found may (PAGE p) refl) ∙ zero) ∙ sym (same_entries sizes by core (Pledges page) found may (λ slot. refl) p)
+  ];
+  held = λ p. by_number (λ n (q : Pass). times (PAGE p) q.hands ≡ 1 → (after_step sizes by (Pledges page) found core).words (DIRTY p) ≡ entries_of sizes (after_step sizes by (Pledges page) found core).words p + pledged sizes q q.stage p) core.passes by (changed sizes by core (Pledges page) found)
+      (λ here. let old = dirty.held p by here in let e = same_entries sizes by core (Pledges page) found may (λ slot. refl) p in let m = more p in let s = was p in let d = dirty_now p in omega (arith, old, e, m, s, d))
+      (λ n ne here. let old = dirty.held p n here in let e = same_entries sizes by core (Pledges page) found may (λ slot. refl) p in
+      let d = word_else core.words (DIRTY page) (found + 1) (DIRTY p) (λ e. held_by_one sizes first core sound (PAGE page) by n mine (subst (λ q. times (PAGE q) (core.passes n).hands ≡ 1) (ap index e) here) ne) in omega (arith, old, e, d));
+}
+  where
+    pass : Pass
+    pass = core.passes by
+
+    at : HasDrawn sizes (core.passes by).call (core.passes by).entries × IsPage sizes (core.passes by).call page
+    at = subst (StandsAt sizes (core.passes by)) may.may (sound.standing by).at
+
+    mine : times (PAGE page) (core.passes by).hands ≡ 1
+    mine = pledged_page sizes (core.passes by) page at (subst (HoldsLocks sizes (core.passes by)) may.may (sound.holding by).locks)
+
+    was : (p : ℕ) → pledged sizes (core.passes by) (core.passes by).stage p ≡ one_if (is_among (first_page sizes (core.passes by).call) page p)
+    was p = ap (λ s. pledged sizes (core.passes by) s p) may.may
+
+    dirty_now : (p : ℕ) → (after_step sizes by (Pledges page) found core).words (DIRTY p) ≡ one_if (p == page) + core.words (DIRTY p)
+    dirty_now p = elim (cases_eq p page) [
+      | inl e ↦ subst (λ q. (after_step sizes by (Pledges page) found core).words (DIRTY q) ≡ one_if (q == page) + core.words (DIRTY q)) (sym e)
+          (let w = word_here core.words (DIRTY page) (found + 1) in let f = may.is in let o : one_if (page == page) ≡ 1 = when_true (page == page) 1 0 (eq-eqb page page refl) in omega (arith, w, f, o))
+      | inr ne ↦ (let w = word_else core.words (DIRTY page) (found + 1) (DIRTY p) (λ e. ne (ap index e)) in let o : one_if (p == page) ≡ 0 = when_false (p == page) 1 0 (ne_eqb p page ne) in omega (arith, w, o))
+    ]
+
+    -- after the last page all entries are pledged, and none is ready
+    all : (p : ℕ) → (page + 1 == end_page sizes (core.passes by).call) ≡ true → (x : ℕ) → ((n : ℕ) → IsFilling (Readying x) (core.passes by).first (core.passes by).entries n ↔ IsAmong (core.passes by).first (core.passes by).entries n)
+        → pledged sizes (core.passes by) (Readying x) p ≡ one_if (is_among (first_page sizes (core.passes by).call) (page + 1) p)
+    all p last x fills = elim (cases_lt p (first_page sizes (core.passes by).call)) [
+      | inl below ↦ (counts p).none (λ low. absurd (omega arith)) ∙ sym (among_below (first_page sizes (core.passes by).call) (page + 1) p below)
+      | inr above ↦ elim (cases_lt p (page + 1)) [
+        | inl within ↦ (counts p).one above ((fills (number_on sizes (core.passes by) p)).1 (omega arith, let e = eqb-true (page + 1) (end_page sizes (core.passes by).call) last in let m = at.0.many in omega (arith, e, m, above, within)))
+            ∙ sym (among_in (first_page sizes (core.passes by).call) (page + 1) p above within)
+        | inr past ↦ (counts p).none (λ low is. let r = (fills (number_on sizes (core.passes by) p)).0 is in let y = r.1 in let e = eqb-true (page + 1) (end_page sizes (core.passes by).call) last in let m = at.0.many in omega (arith, y, e, m, above, past))
+            ∙ sym (among_above (first_page sizes (core.passes by).call) (page + 1) p past)
+      ]
+    ]
+      where
+        counts : (p : ℕ) → CountsFilling sizes (core.passes by) (Readying x) p
+        counts p = readying_counts sizes (core.passes by) x p
+
+    more : (p : ℕ) → pledged sizes (changed sizes by core (Pledges page) found) (changed sizes by core (Pledges page) found).stage p ≡ one_if (p == page) + one_if (is_among (first_page sizes (core.passes by).call) page p)
+    more p = if_both (λ s. pledged sizes (core.passes by) s p ≡ one_if (p == page) + one_if (is_among (first_page sizes (core.passes by).call) page p)) (page + 1 == end_page sizes (core.passes by).call)
+        (Readying (if (core.passes by).entries == 1 then (core.passes by).first else (core.passes by).first + 1)) (Pledging (page + 1))
+        (λ last. all p last (if (core.passes by).entries == 1 then (core.passes by).first else (core.passes by).first + 1) (λ n. subst (λ s. IsFilling s (core.passes by).first (core.passes by).entries n ↔ IsAmong (core.passes by).first (core.passes by).entries n)
+        (when_true (page + 1 == end_page sizes (core.passes by).call) (Readying (if (core.passes by).entries == 1 then (core.passes by).first else (core.passes by).first + 1)) (Pledging (page + 1)) last) (pledged_alike sizes (core.passes by) page n at.0.some).1)
+        ∙ among_more (first_page sizes (core.passes by).call) page p at.1.0)
+        (λ _. among_more (first_page sizes (core.passes by).call) page p at.1.0)
+
+-- ---- an entry that is made ready
+
+fills_or_not : (first entries next number : ℕ) → IsFilling (Readying next) first entries number ⊎ (IsFilling (Readying next) first entries number → ⊥)
+fills_or_not first entries next number = elim (cases_eq number first) [
+  | inl leader ↦ inl (inl leader)
+  | inr not_leader ↦ elim (cases_lt first next) [
+    | inr below ↦ inr (λ is. elim is [ inl leader ↦ not_leader leader | inr follower ↦ (let x = follower.0 in omega (arith, x, below)) ])
+    | inl above ↦ elim (cases_lt number next) [
+      | inl done ↦ inr (λ is. elim is [ inl leader ↦ not_leader leader | inr follower ↦ (let x = follower.1 in omega (arith, x, done)) ])
+      | inr later ↦ elim (cases_lt number (first + entries)) [
+        | inl within ↦ inl (inr (above, later, within))
+        | inr past ↦ inr (λ is. elim is [ inl leader ↦ not_leader leader | inr follower ↦ (let x = follower.2 in omega (arith, x, past)) ])
+      ]
+    ]
+  ]
+]
+
+readies_step : (sizes : Sizes) (first : Values) (by : ℕ) (core : Core) (found next : ℕ) → Sound sizes first core → DirtyCounters sizes core → MayFind sizes by core (Readies next) found → DirtyCounters sizes (after_step sizes by (Readies next) found core)
+readies_step sizes first by core found next sound dirty may = record {
+  free = λ p zero. let z = sym (untouched sizes by core (Readies next) found may (PAGE p) refl) ∙ zero in
+      let old = dirty.free p z in let d = untouched sizes by core (Readies next) found may (DIRTY p) refl in
+      let e = entries_now p in
+      let o : one_if (here == p) ≡ 0 = when_false (here == p) 1 0 (ne_eqb here p (λ is. not_free core sound.locks here by mine (subst (λ q. core.words (PAGE q) ≡ 0) (sym is) z))) in omega (arith, old, d, e, o);
+  held = λ p. by_number (λ n (q : Pass). times (PAGE p) q.hands ≡ 1 → (after_step sizes by (Readies next) found core).words (DIRTY p) ≡ entries_of sizes (after_step sizes by (Readies next) found core).words p + pledged sizes q q.stage p) core.passes by (changed sizes by core (Readies next) found)
+      (λ held_now. let old = dirty.held p by (sym (times_without_else (PAGE p) (ENTRY (slot_of sizes next)) (core.passes by).hands (differ (PAGE p) (ENTRY (slot_of sizes next)) refl)) ∙ held_now) in
+      let d = untouched sizes by core (Readies next) found may (DIRTY p) refl in let e = entries_now p in let m = less p in omega (arith, old, d, e, m))
+      (λ n ne held_now. let old = dirty.held p n held_now in let d = untouched sizes by core (Readies next) found may (DIRTY p) refl in let e = entries_now p in
+      let o : one_if (here == p) ≡ 0 = when_false (here == p) 1 0 (ne_eqb here p (λ is. held_by_one sizes first core sound (PAGE here) by n mine (subst (λ q. times (PAGE q) (core.passes n).hands ≡ 1) (sym is) held_now) ne)) in omega (arith, old, d, e, o));
+}
+  where
+    here : ℕ
+    here = page_at sizes (core.passes by) next
+
+    at : HasDrawn sizes (core.passes by).call (core.passes by).entries × IsAmong (core.passes by).first (core.passes by).entries next
+    at = subst (StandsAt sizes (core.passes by)) may.may (sound.standing by).at
+
+    allowed : IsAllowed sizes (core.passes by).call
+    allowed = (sound.standing by).allowed (busy _ _ may.may refl)
+
+    is_page : IsPage sizes (core.passes by).call (page_at sizes (core.passes by) next)
+    is_page = (omega arith, let x = at.1.0 in let y = at.1.1 in let m = at.0.many in omega (arith, x, y, m))
+
+    mine : times (PAGE (page_at sizes (core.passes by) next)) (core.passes by).hands ≡ 1
+    mine = (let held = subst (HoldsLocks sizes (core.passes by)) may.may (sound.holding by).locks in
+        holds_page sizes (core.passes by) (page_at sizes (core.passes by) next) is_page (held (PAGE (page_at sizes (core.passes by) next)) (λ slot. differ (PAGE (page_at sizes (core.passes by) next)) (ENTRY slot) refl)))
+
+    fills_next : Fills (core.passes by) next
+    fills_next = subst (λ g. IsFilling g (core.passes by).first (core.passes by).entries next) (sym may.may) (readying_next (core.passes by).first (core.passes by).entries next at.1)
+
+    count : ℕ
+    count = if next == (core.passes by).first then (core.passes by).entries else 0
+
+    few : (if next == (core.passes by).first then (core.passes by).entries else 0) ≤ 16
+    few = if_both (λ c. c ≤ 16) (next == (core.passes by).first) (core.passes by).entries 0 (λ _. let m = at.0.many in let a : page_count sizes (core.passes by).call ≤ 16 = (let b = allowed.short in omega (arith, b)) in omega (arith, m, a)) (λ _. omega arith)
+
+    entries_now : (p : ℕ) → entries_of sizes (after_step sizes by (Readies next) found core).words p ≡ entries_of sizes core.words p + one_if (page_at sizes (core.passes by) next == p)
+    entries_now p =
+        let e = entries_at sizes core.words (slot_of sizes next) (ready_word sizes (core.passes by) next) p (slot_less sizes (core.passes by) next at.0 allowed) in
+        let a : one_if (is_of_page p (core.words (ENTRY (slot_of sizes next)))) ≡ 0 = when_false _ 1 0 (ap (is_of_page p) (sound.window.filling_is by next fills_next) ∙ not_of_page p 1 (λ e. omega (arith, e)) (λ e. omega (arith, e))) in
+        let b = ready_of_page (if next == (core.passes by).first then (core.passes by).entries else 0) (page_at sizes (core.passes by) next) p few in
+        omega (arith, e, a, b)
+
+    one : OneEntry sizes core by next (ready_word sizes (core.passes by) next) (changed sizes by core (Readies next) found)
+    one = readies_one sizes first by core found next sound may
+
+    ready_not_one : ready_word sizes (core.passes by) next ≡ 1 → ⊥
+    ready_not_one e = (let k = kind_is ready (if next == (core.passes by).first then (core.passes by).entries else 0) (page_at sizes (core.passes by) next) (omega arith) in let z : kind_of (ready_word sizes (core.passes by) next) ≡ 1 = ap kind_of e in omega (arith, k, z))
+
+    was : (p : ℕ) → CountsFilling sizes (core.passes by) (core.passes by).stage p
+    was p = subst (λ g. CountsFilling sizes (core.passes by) g p) (sym may.may) (readying_counts sizes (core.passes by) next p)
+
+    is_now : (p : ℕ) → CountsFilling sizes (core.passes by) (changed sizes by core (Readies next) found).stage p
+    is_now p = if_both (λ g. CountsFilling sizes (core.passes by) g p) (next == (core.passes by).first) Placing (Readying (if next + 1 == (core.passes by).first + (core.passes by).entries then (core.passes by).first else next + 1))
+        (λ _. placing_counts sizes (core.passes by) p) (λ _. readying_counts sizes (core.passes by) (if next + 1 == (core.passes by).first + (core.passes by).entries then (core.passes by).first else next + 1) p)
+
+    -- the page of the entry counts one less, and another page what it did
+    less : (p : ℕ) → pledged sizes (core.passes by) (changed sizes by core (Readies next) found).stage p + one_if (page_at sizes (core.passes by) next == p) ≡ pledged sizes (core.passes by) (core.passes by).stage p
+    less p = elim (cases_lt p (first_page sizes (core.passes by).call)) [
+      | inl below ↦ (let a = (is_now p).none (λ low. absurd (omega arith)) in let b = (was p).none (λ low. absurd (omega arith)) in
+          let o : one_if (page_at sizes (core.passes by) next == p) ≡ 0 = when_false (page_at sizes (core.passes by) next == p) 1 0 (ne_eqb (page_at sizes (core.passes by) next) p (λ is. omega (arith, is, below))) in omega (arith, a, b, o))
+      | inr above ↦ elim (cases_eq (number_on sizes (core.passes by) p) next) [
+        | inl same ↦ (let a = (is_now p).none (λ low fills. elim (one.fills (number_on sizes (core.passes by) p) fills) [ inl old ↦ old.1 same | inr new ↦ ready_not_one new.1 ]) in
+            let b = (was p).one above (subst (Fills (core.passes by)) (sym same) fills_next) in
+            let x = at.1.0 in
+            let o : one_if (page_at sizes (core.passes by) next == p) ≡ 1 = when_true (page_at sizes (core.passes by) next == p) 1 0 (eq-eqb (page_at sizes (core.passes by) next) p (omega (arith, same, above, x))) in omega (arith, a, b, o))
+        | inr other ↦ (
+            let x = at.1.0 in
+            let o : one_if (page_at sizes (core.passes by) next == p) ≡ 0 = when_false (page_at sizes (core.passes by) next == p) 1 0 (ne_eqb (page_at sizes (core.passes by) next) p (λ is. other (omega (arith, is, above, x)))) in
+            elim (fills_or_not (core.passes by).first (core.passes by).entries next (number_on sizes (core.passes by) p)) [
+              | inl fills ↦ (let f = subst (λ g. IsFilling g (core.passes by).first (core.passes by).entries (number_on sizes (core.passes by) p)) (sym may.may) fills in
+                  let a = (is_now p).one above (one.fills_still (number_on sizes (core.passes by) p) f other) in let b = (was p).one above f in omega (arith, a, b, o))
+              | inr none ↦ (let a = (is_now p).none (λ low fills. elim (one.fills (number_on sizes (core.passes by) p) fills) [
+                | inl old ↦ none (subst (λ g. IsFilling g (core.passes by).first (core.passes by).entries (number_on sizes (core.passes by) p)) may.may old.0)
+                | inr new ↦ other new.0
+              ]) in
+                  let b = (was p).none (λ low fills. none (subst (λ g. IsFilling g (core.passes by).first (core.passes by).entries (number_on sizes (core.passes by) p)) may.may fills)) in omega (arith, a, b, o))
+            ])
+      ]
+    ]
+
+-- ---- all steps
+
+stopped_unpledged : (pass : Pass) (stage : Stage) → IsFailing stage → IsUnpledged stage × IsUnpledged (after_stop pass stage)
+stopped_unpledged pass ReadFailing is = (tt, unpledged_leaving pass.hands)
+stopped_unpledged pass WriteFailing is = (tt, tt)
+stopped_unpledged pass stage is = absurd is
+
+pub dirty_step : (sizes : Sizes) (first : Values) (by : ℕ) (core : Core) (deed : Deed) (found : ℕ) → Sound sizes first core → DirtyCounters sizes core → MayFind sizes by core deed found → DirtyCounters sizes (after_step sizes by deed found core)
+dirty_step sizes first by core (Loads word) found sound dirty may = plain_step sizes first by core (Loads word) found sound dirty may tt may.may refl refl (λ page. refl) (λ slot. refl)
+dirty_step sizes first by core (Takes cell) found sound dirty may = plain_step sizes first by core (Takes cell) found sound dirty may tt may.may refl refl (λ page. refl) (λ slot. refl)
+dirty_step sizes first by core (Gives cell) found sound dirty may = plain_step sizes first by core (Gives cell) found sound dirty may tt may.may refl refl (λ page. refl) (λ slot. refl)
+dirty_step sizes first by core (Places reply) found sound dirty may = plain_step sizes first by core (Places reply) found sound dirty may tt may.may refl refl (λ page. refl) (λ slot. refl)
+dirty_step sizes first by core Grows found sound dirty may = plain_step sizes first by core Grows found sound dirty may tt may.may refl refl (λ page. refl) (λ slot. refl)
+dirty_step sizes first by core Stops found sound dirty may = let un = stopped_unpledged (core.passes by) (core.passes by).stage may.may in
+    silent_step sizes first by core Stops found sound dirty may (λ page. refl) (same_entries sizes by core Stops found may (λ slot. refl)) un.0 un.1
+dirty_step sizes first by core Draws found sound dirty may = silent_step sizes first by core Draws found sound dirty may (λ page. refl) (same_entries sizes by core Draws found may (λ slot. refl))
+    (subst IsUnpledged (sym may.may) tt) (if_both IsUnpledged (found == (core.passes by).head) (Seizing found) (leaving (core.passes by).hands) (λ _. tt) (λ _. unpledged_leaving (core.passes by).hands))
+dirty_step sizes first by core (Seizes next) found sound dirty may =
+    let at : HasDrawn sizes (core.passes by).call (core.passes by).entries × IsAmong (core.passes by).first (core.passes by).entries next = subst (StandsAt sizes (core.passes by)) may.may (sound.standing by).at in
+    let unseized = subst (λ g. IsUnseized g (core.passes by).first (core.passes by).entries next) (sym may.may) (omega arith, at.1.1) in
+    silent_step sizes first by core (Seizes next) found sound dirty may (λ page. refl)
+    (λ page. entry_of_none sizes core.words (slot_of sizes next) filling page (slot_less sizes (core.passes by) next at.0 ((sound.standing by).allowed (busy _ _ may.may refl)))
+    (ap (is_of_page page) (sound.window.unseized_is by next unseized) ∙ not_of_page page 0 (λ e. omega (arith, e)) (λ e. omega (arith, e))) (not_of_page page 1 (λ e. omega (arith, e)) (λ e. omega (arith, e))))
+    (subst IsUnpledged (sym may.may) tt) (if_both IsUnpledged (next + 1 == (core.passes by).first + (core.passes by).entries) (Committing 0) (Seizing (next + 1)) (λ _. tt) (λ _. tt))
+dirty_step sizes first by core (Pledges page) found sound dirty may = pledges_step sizes first by core found page sound dirty may
+dirty_step sizes first by core (Readies next) found sound dirty may = readies_step sizes first by core found next sound dirty may
+dirty_step sizes first by core (Breaks next) found sound dirty may =
+    let at : HasDrawn sizes (core.passes by).call (core.passes by).entries × IsAmong (core.passes by).first (core.passes by).entries next = subst (StandsAt sizes (core.passes by)) may.may (sound.standing by).at in
+    let fills = subst (λ g. IsFilling g (core.passes by).first (core.passes by).entries next) (sym may.may) (omega arith, at.1.1) in
+    silent_step sizes first by core (Breaks next) found sound dirty may (λ page. refl)
+    (λ page. entry_of_none sizes core.words (slot_of sizes next) broken page (slot_less sizes (core.passes by) next at.0 ((sound.standing by).allowed (busy _ _ may.may refl)))
+    (ap (is_of_page page) (sound.window.filling_is by next fills) ∙ not_of_page page 1 (λ e. omega (arith, e)) (λ e. omega (arith, e))) (not_of_page page 5 (λ e. omega (arith, e)) (λ e. omega (arith, e))))
+    (subst IsUnpledged (sym may.may) tt) (if_both IsUnpledged (next + 1 == (core.passes by).first + (core.passes by).entries) (leaving (without (ENTRY (slot_of sizes next)) (core.passes by).hands)) (Breaking (next + 1))
+    (λ _. unpledged_leaving (without (ENTRY (slot_of sizes next)) (core.passes by).hands)) (λ _. tt))
+dirty_step sizes first by core Splits found sound dirty may = silent_step sizes first by core Splits found sound dirty may (λ page. refl) (same_entries sizes by core Splits found may (λ slot. refl))
+    (subst IsUnpledged (sym (sound.numbers.unborn (core.made + 1) (omega arith)).idle) tt) tt
+dirty_step sizes first by core (Leaves cell) found sound dirty may = dirty_still sizes core (after_step sizes by (Leaves cell) found core) dirty (λ word. untouched sizes by core (Leaves cell) found may word refl)
+    (by_number (λ n (p : Pass). p.hands ≡ (core.passes n).hands) core.passes by (changed sizes by core (Leaves cell) found) refl (λ n ne. refl))
+    (λ n page. by_number (λ n (p : Pass). pledged sizes p p.stage page ≡ pledged sizes (core.passes n) (core.passes n).stage page) core.passes by (changed sizes by core (Leaves cell) found)
+    (left_pledged sizes (core.passes by) (cell ∷ (core.passes by).left) page (core.passes by).stage) (λ n ne. refl) n)
+dirty_step sizes first by core (Joins number) found sound dirty may = dirty_still sizes core (after_step sizes by (Joins number) found core) dirty (λ word. untouched sizes by core (Joins number) found may word refl)
+    (by_number (λ n (p : Pass). p.hands ≡ (core.passes n).hands) core.passes by (changed sizes by core (Joins number) found) refl (λ n ne. refl))
+    (λ n page. by_number (λ n (p : Pass). pledged sizes p p.stage page ≡ pledged sizes (core.passes n) (core.passes n).stage page) core.passes by (changed sizes by core (Joins number) found) refl (λ n ne. refl) n)
+
+-- ---- a call that begins, and a device call
+
+pub dirty_begin : (sizes : Sizes) (first : Values) (by : ℕ) (core : Core) (call : FileCall) → DirtyCounters sizes core → MayBegin sizes call (core.passes by) → DirtyCounters sizes (after_begin sizes by call core)
+dirty_begin sizes first by core call dirty may = dirty_still sizes core (after_begin sizes by call core) dirty (λ word. refl)
+    (by_number (λ n (p : Pass). p.hands ≡ (core.passes n).hands) core.passes by (begun sizes call (core.passes by)) refl (λ n ne. refl))
+    (λ n page. by_number (λ n (p : Pass). pledged sizes p p.stage page ≡ pledged sizes (core.passes n) (core.passes n).stage page) core.passes by (begun sizes call (core.passes by))
+    (if_both (λ s. pledged sizes (begun sizes call (core.passes by)) s page ≡ pledged sizes (core.passes by) (core.passes by).stage page) (page_count sizes call == 0) Checking (Locking (first_page sizes call)) (λ _. idle page) (λ _. idle page)) (λ n ne. refl) n)
+  where
+    idle : (page : ℕ) → 0 ≡ pledged sizes (core.passes by) (core.passes by).stage page
+    idle page = sym (ap (λ s. pledged sizes (core.passes by) s page) may.idle)
+
+pub dirty_work : (sizes : Sizes) (first : Values) (by : ℕ) (core : Core) (work : Work) → DirtyCounters sizes core → MayWork sizes core.values (core.passes by) work → DirtyCounters sizes (after_work sizes by work core)
+dirty_work sizes first by core work dirty may = dirty_still sizes core (after_work sizes by work core) dirty (λ word. refl)
+    (by_number (λ n (p : Pass). p.hands ≡ (core.passes n).hands) core.passes by (worked sizes work (core.passes by)) refl (λ n ne. refl))
+    (λ n page. by_number (λ n (p : Pass). pledged sizes p p.stage page ≡ pledged sizes (core.passes n) (core.passes n).stage page) core.passes by (worked sizes work (core.passes by)) (works page (core.passes by).stage work.ending may.due) (λ n ne. refl) n)
+  where
+    works : (page : ℕ) (stage : Stage) (how : Ending) → IsDue sizes core.values (core.passes by) work stage → pledged sizes (worked sizes work (core.passes by)) (stage_worked sizes (core.passes by) how stage) page ≡ pledged sizes (core.passes by) stage page
+    works page (Committing calls) Made due = if_both (λ s. pledged sizes (worked sizes work (core.passes by)) s page ≡ 0) (calls + 1 == length (commit_steps sizes (core.passes by) (core.passes by).call)) (Pledging (first_page sizes (core.passes by).call)) (Committing (calls + 1))
+        (λ _. elim (cases_lt page (first_page sizes (core.passes by).call)) [
+          | inl below ↦ among_below (first_page sizes (core.passes by).call) (first_page sizes (core.passes by).call) page below
+          | inr above ↦ among_above (first_page sizes (core.passes by).call) (first_page sizes (core.passes by).call) page above
+        ]) (λ _. refl)
+    works page (Committing calls) (Failed came faults) due = refl
+    works page (Copying next) Made due = refl
+    works page (Copying next) (Failed came faults) due = refl
+    works page stage how due = absurd due

@@ -1,26 +1,24 @@
 -- Each event keeps the history.
-use Rattle.std.proofs.Common.{◌≡◌, ◌≢◌, ◌⊎◌, ℕ, ◌+◌, ◌^◌, ◌<◌, ◌≤◌, ◌==◌, nat_lt, nat_le, not, ◌&&◌, Bool, true, false, if◌then◌else◌, List, [], ◌∷◌, ◌++◌, length, zero, suc, inl, inr, refl, sym, ap, subst, ◌∙◌, arith, le_trans, append_assoc, append-nil, length-append}
-use Rattle.std.specs.Prelude.{filter}
+use Rattle.std.proofs.Common.{◌≡◌, ◌≢◌, ◌⊎◌, ℕ, ◌+◌, ◌^◌, ◌<◌, ◌≤◌, ◌==◌, nat_lt, not, ◌&&◌, Bool, true, false, List, [], ◌∷◌, ◌++◌, length, zero, suc, inl, inr, refl, sym, ap, subst, ◌∙◌, arith, le_trans, append_assoc, append-nil, length-append}
 use Rattle.std.proofs.lemmas.List.Elements.{filter-append}
-use Rattle.std.proofs.lemmas.Bool.{eqb-true, ne_eqb, eq-eqb, ltb-true, cases_eq}
+use Rattle.std.proofs.lemmas.Bool.{ne_eqb, ltb-true}
 use Rattle.nv_plain.specs.Histories.{Answered}
 use Rattle.nv_plain.specs.declared.call.FileCall.{FileCall}
 use Rattle.nv_plain.specs.declared.call.Reply.{Reply}
 use Rattle.nv_core.specs.Totals.{total}
 use Rattle.nv_core.specs.Words.{Sizes, Word, STOP, ORDER, HEAD, TAIL, SIZE, LENGTH, STORE, ENTRY, PAGE, DIRTY}
-use Rattle.nv_core.specs.Values.{Ending, Made, Failed}
-use Rattle.nv_core.specs.Passes.{Stage, Idle, Locking, Measuring, Sizing, Checking, Ordering, Reading, Fetching, Copying, Returning, Waiting, Heading, Tailing, Drawing, Seizing, Committing, Pledging, Readying, Placing, Growing, Releasing, Giving, Leaving, ReadFailing, WriteFailing, Breaking, Pass, is_write, is_read, page_count, first_page, end_page, without}
+use Rattle.nv_core.specs.Passes.{Stage, Idle, Locking, Measuring, Sizing, Checking, Ordering, Reading, Fetching, Copying, Returning, Heading, Tailing, Drawing, Seizing, Committing, Pledging, Readying, Placing, Growing, Releasing, Giving, Leaving, ReadFailing, WriteFailing, Breaking, Pass, is_write, page_count, first_page, end_page, without}
 use Rattle.nv_core.specs.Deeds.{Deed, Loads, Takes, Gives, Places, Stops, Draws, Seizes, Pledges, Readies, Grows, Breaks, Splits, Leaves, Joins, slot_of}
-use Rattle.nv_core.specs.Stages.{stage_after, after_load, after_take, after_give, after_stop, leaving, giving, ending, exceeds, ordered, copying}
-use Rattle.nv_core.specs.Stepped.{stepped, added, seen_after, mine_after, begun}
-use Rattle.nv_core.specs.Order.{Values, Work, MayWork, MayStep, MayLoad, MayTake, MayGive, MayPlace, IsDue, IsFailing, commit_steps}
-use Rattle.nv_core.specs.Core.{Core, changes, changed, made_stepped, after_step, after_begin, after_work, worked, stage_worked, longer, with_number}
-use Rattle.nv_core.specs.Events.{MayDo, MayFind, MayBegin}
+use Rattle.nv_core.specs.Stages.{stage_after, after_load, after_take, after_give, after_stop, leaving, giving, ending, exceeds, ordered}
+use Rattle.nv_core.specs.Stepped.{stepped, added, begun}
+use Rattle.nv_core.specs.Order.{Values, Work, MayWork, MayStep, MayLoad, MayTake, MayPlace, IsDue, IsFailing}
+use Rattle.nv_core.specs.Core.{Core, changes, changed, made_stepped, after_step, after_begin, after_work, worked, stage_worked, with_number}
+use Rattle.nv_core.specs.Events.{MayFind, MayBegin}
 use Rattle.nv_core.specs.OneHistory.{Begins, calls_by, stage_open, open_calls, open_count, OneHistory}
 use Rattle.nv_core.specs.Broken.{HasChecked, Broken}
 use Rattle.nv_core.specs.Sound.{Sound}
 use Rattle.nv_core.proofs.Changes.{by_number, number_here, number_else, word_here, number_self}
-use Rattle.nv_core.proofs.Choices.{if_both, not_both, when_true, when_false, leaving_both, IsGivingBack, gives_back}
+use Rattle.nv_core.proofs.Choices.{if_both, when_true, when_false, leaving_both, IsGivingBack, gives_back}
 use Rattle.nv_core.proofs.WordLaws.{untouched, touches}
 use Rattle.nv_core.proofs.TotalLaws.{total_same, total_at, total_more}
 use Rattle.nv_core.proofs.Inherits.{inherits}
@@ -51,8 +49,9 @@ open_or_not stage = inl tt
 
 one_open : (sizes : Sizes) (core : Core) → Broken sizes core → (n : ℕ) → open_calls (core.passes n) ≤ 1
 one_open sizes core broken n = elim (open_or_not (core.passes n).stage) [
-    inl checked ↦ let none = ap length (broken.passed n checked) in let most = most_open (core.passes n).stage in omega (arith, none, most)
-    | inr none ↦ let once = broken.once n in omega (arith, none, once) ]
+  | inl checked ↦ let none = ap length (broken.passed n checked) in let most = most_open (core.passes n).stage in omega (arith, none, most)
+  | inr none ↦ let once = broken.once n in omega (arith, none, once)
+]
 
 total_most : (count : ℕ) (value : ℕ → ℕ) → ((n : ℕ) → value n ≤ 1) → total count value ≤ count
 unfolding total
@@ -154,8 +153,10 @@ few_step sizes by core found (Loads ORDER) one broken here may = go (nat_lt foun
   where
     now : Pass
     now = changed sizes by core (Loads ORDER) found
+
     all_small : (order count made limit : ℕ) → order < limit → count ≤ made + 1 → order + count ≤ limit + made
     all_small order count made limit small most = omega arith
+
     go : (b : Bool) → nat_lt found (2 ^ 60) ≡ b → (after_step sizes by (Loads ORDER) found core).words ORDER + open_count core.made (after_step sizes by (Loads ORDER) found core).passes ≤ 2 ^ 60 + core.made
     go true e =
         let w = untouched sizes by core (Loads ORDER) found may ORDER refl ∙ may.is in
@@ -209,9 +210,12 @@ same_seen sizes by core found deed un less is = is
 
 whole_else : (sizes : Sizes) (by : ℕ) (core : Core) (deed : Deed) (found : ℕ) → IsUnplaced deed → OneHistory core
     → (number : ℕ) × (number ≤ made_stepped deed core.made) × (((after_step sizes by deed found core).passes number).seen ≡ core.history)
-whole_else sizes by core deed found un one = let saw = one.whole in
-    (saw.0, le_trans saw.1 (more_made deed core.made), by_number (λ n (p : Pass). n ≤ core.made → (core.passes n).seen ≡ core.history → p.seen ≡ core.history) core.passes (changes by core.made deed) (changed sizes by core deed found)
-    (same_seen sizes by core found deed un) (λ n ne _ is. is) saw.0 saw.1 saw.2)
+whole_else sizes by core deed found un one = let saw = one.whole in (
+  saw.0,
+  le_trans saw.1 (more_made deed core.made),
+  by_number (λ n (p : Pass). n ≤ core.made → (core.passes n).seen ≡ core.history → p.seen ≡ core.history) core.passes (changes by core.made deed) (changed sizes by core deed found)
+      (same_seen sizes by core found deed un) (λ n ne _ is. is) saw.0 saw.1 saw.2,
+)
 
 whole_step : (sizes : Sizes) (by : ℕ) (core : Core) (found : ℕ) (deed : Deed) → OneHistory core → by ≤ core.made
     → (number : ℕ) × (number ≤ made_stepped deed core.made) × (((after_step sizes by deed found core).passes number).seen ≡ core.history ++ added by (core.passes by) deed)

@@ -1,5 +1,5 @@
 -- Every event keeps the core sound, and so does every run.
-use Rattle.std.proofs.Common.{◌≡◌, ℕ, ◌+◌, ◌^◌, ◌≤◌, true, false, List, [], ◌∷◌, refl, sym, arith}
+use Rattle.std.proofs.Common.{◌≡◌, ℕ, zero, suc, ◌+◌, ◌^◌, ◌≤◌, true, false, List, [], ◌∷◌, refl, sym, arith}
 use Rattle.nv_plain.specs.declared.call.FileCall.{FileCall}
 use Rattle.nv_core.specs.Words.{Sizes, Word, SIZE, STORE, is_shut, is_lock, CLEANER, HEADER, PAGE, CLEANUP, ENTRY}
 use Rattle.nv_core.specs.Deeds.{Deed}
@@ -19,6 +19,9 @@ use Rattle.nv_core.proofs.KeepsLoaded.{loaded_step, loaded_begin, loaded_work}
 use Rattle.nv_core.specs.Totals.{total}
 use Rattle.nv_core.proofs.KeepsBroken.{broken_step, broken_begin, broken_work}
 use Rattle.nv_core.proofs.KeepsHistory.{history_step, history_begin, history_work}
+use Rattle.nv_core.specs.Holding.{one_if}
+use Rattle.nv_core.specs.DirtyCounters.{is_of_page}
+use Rattle.nv_core.proofs.KeepsDirty.{dirty_step, dirty_begin, dirty_work}
 use Rattle.nv_core.proofs.KeepsStop.{stop_step, stop_begin, stop_work, buffers_step, buffers_work, devices_step, devices_work}
 
 sound_step : (sizes : Sizes) (first : Values) (by : ℕ) (core : Core) (deed : Deed) (found : ℕ) → Sound sizes first core → by ≤ core.made → MayFind sizes by core deed found → Sound sizes first (after_step sizes by deed found core)
@@ -28,6 +31,7 @@ sound_step sizes first by core deed found sound made may = record {
   holding = holding_step sizes first by core deed found sound may.may;
   locks = locks_step sizes first by core deed found sound may;
   window = window_step sizes first by core deed found sound may;
+  dirty = dirty_step sizes first by core deed found sound sound.dirty may;
   loaded = loaded_step sizes first by core deed found sound made may;
   stop = stop_step sizes first by core deed found sound may;
   broken = broken_step sizes first by core deed found sound sound.broken may;
@@ -43,6 +47,7 @@ sound_begin sizes first by core call sound made may = record {
   holding = holding_begin sizes first by core call sound may;
   locks = locks_begin sizes first by core call sound;
   window = window_begin sizes first by core call sound may;
+  dirty = dirty_begin sizes first by core call sound.dirty may;
   loaded = loaded_begin sizes first by core call sound may;
   stop = stop_begin sizes first by core call sound may;
   broken = broken_begin sizes first by core call sound sound.broken may;
@@ -58,6 +63,7 @@ sound_work sizes first by core work sound made may = record {
   holding = holding_work sizes first by core work sound may;
   locks = locks_work sizes first by core work sound;
   window = window_work sizes first by core work sound may;
+  dirty = dirty_work sizes first by core work sound.dirty may;
   loaded = loaded_work sizes first by core work sound may;
   stop = stop_work sizes first by core work sound may;
   broken = broken_work sizes first by core work sound sound.broken may;
@@ -75,6 +81,12 @@ pub events_keep_sound : EventsKeepSound
 events_keep_sound sizes first core event sound may = sound_act sizes first event.by core event.act sound may.made may.act
 
 -- ---- at opening
+
+-- no entry is counted
+none_counted : (count page : ℕ) → total count (λ slot. one_if (is_of_page page 0)) ≡ 0
+unfolding total
+none_counted zero page = refl
+none_counted (suc count) page = let again = none_counted count page in omega (arith, again)
 
 -- no call is open
 none_open : 0 + total (0 + 1) (λ number. 0) ≤ 2 ^ 60 + 0
@@ -113,6 +125,7 @@ opening_is_sound mount is = record {
     each = λ s within. absurd (let a = within.0 in let b = within.1 in omega (arith, a, b));
     others = λ slot less off. refl;
   };
+  dirty = record { free = λ page zero. sym (none_counted mount.sizes.entries page); held = λ page n here. absurd (omega (arith, here)) };
   loaded = record {
     head = λ n. omega arith;
     tail = λ n. omega arith;
