@@ -22,3 +22,6 @@ pub mod Reach
 pub mod KeepsBroken
 pub mod KeepsHistory
 pub mod KeepsDirty
+pub mod Nevers
+pub mod Places
+pub mod Walked

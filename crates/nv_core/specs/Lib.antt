@@ -23,3 +23,5 @@ pub mod Devices
 pub mod Sound
 pub mod Opening
 pub mod Laws
+pub mod Never
+pub mod Walks

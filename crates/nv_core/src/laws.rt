@@ -1,8 +1,43 @@
 ghost use Rattle.nv_core.specs.Laws.{OpeningIsSound, EventsKeepSound, RunsAreSound};
+ghost use Rattle.nv_core.specs.Never.{NoPlaceBeforeTheFence, NoPageBeforeThePlace, StoppedAfterAFault, NoLeaderBeforeAFollower, NoGrowthBeforeThePlace, NoTwoWritesOfAPage, NoStopWithoutAFault, NoSeizureOfAHeldEntry, NoDrawPastTheEnd};
+ghost use Rattle.nv_core.specs.Walks.{WalkBegins, FirstPageIsWord30, ReadIsWalked, WriteIsWalked, FaultIsWalked};
+ghost use Rattle.nv_core.specs.Words.{PlacesDiffer};
 
 /// The invariant holds at opening, every event keeps it, and so it holds in every state that a run leads to.
 pub fn runs_are_sound()
     ensures opening { OpeningIsSound }
     ensures events { EventsKeepSound }
     ensures runs { RunsAreSound }
+{}
+
+/// What no sound state allows: a place before the fence of a write's commit, a page given back before the place is drawn or
+/// before STOP is set after a fault, a leader made ready before a follower, a length that grows before its write has its
+/// place, two writes of a page in flight, STOP without a count that rose, an entry seized that isn't free, and numbers drawn
+/// past the log's end.
+pub fn no_sound_state_allows()
+    ensures fence { NoPlaceBeforeTheFence }
+    ensures page { NoPageBeforeThePlace }
+    ensures fault { StoppedAfterAFault }
+    ensures leader { NoLeaderBeforeAFollower }
+    ensures growth { NoGrowthBeforeThePlace }
+    ensures writes { NoTwoWritesOfAPage }
+    ensures stop { NoStopWithoutAFault }
+    ensures seizure { NoSeizureOfAHeldEntry }
+    ensures end { NoDrawPastTheEnd }
+{}
+
+/// Each word of a mount has a place of its own.
+pub fn words_have_places_of_their_own()
+    ensures { PlacesDiffer }
+{}
+
+/// Three runs of one mount by hand, with the words after each event: a read whose page comes from the store; a write by
+/// another pass, whole; and a write whose commit fails at its third device call, to the end of its giving back, while a read
+/// finds the page's lock held.
+pub fn walks_are_runs()
+    ensures mount { WalkBegins }
+    ensures place { FirstPageIsWord30 }
+    ensures read { ReadIsWalked }
+    ensures write { WriteIsWalked }
+    ensures fault { FaultIsWalked }
 {}

@@ -5,4 +5,6 @@
 
 mod laws;
 
-pub use laws::runs_are_sound;
+pub use laws::{
+    no_sound_state_allows, runs_are_sound, walks_are_runs, words_have_places_of_their_own,
+};

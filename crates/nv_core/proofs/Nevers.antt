@@ -1,0 +1,78 @@
+-- What no sound state allows.
+use Rattle.std.proofs.Common.{◌≡◌, ◌≢◌, ℕ, inl, inr, refl, sym, subst, arith}
+use Rattle.std.proofs.lemmas.Bool.{cases_eq}
+use Rattle.nv_core.specs.Words.{Word, PAGE, ENTRY}
+use Rattle.nv_core.specs.Passes.{Stage, Seizing, Committing, Pledging, Readying, Placing, WriteFailing, IsUnseized, IsFilling, IsAmong, times}
+use Rattle.nv_core.specs.Deeds.{Draws}
+use Rattle.nv_core.specs.Order.{MayPlace}
+use Rattle.nv_core.specs.Standing.{StandsAt, HasDrawn, IsPage}
+use Rattle.nv_core.specs.Holding.{HoldsLocks, lock_held}
+use Rattle.nv_core.specs.Never.{IsCommitting, IsInFlight, NoPlaceBeforeTheFence, NoPageBeforeThePlace, StoppedAfterAFault, NoLeaderBeforeAFollower, NoGrowthBeforeThePlace, NoTwoWritesOfAPage, NoStopWithoutAFault, NoSeizureOfAHeldEntry, NoDrawPastTheEnd}
+use Rattle.nv_core.proofs.Changes.{differ}
+use Rattle.nv_core.proofs.Choices.{gives_back, IsGivingBack}
+use Rattle.nv_core.proofs.KeepsLoaded.{held_by_one, holds_page}
+use Rattle.nv_core.proofs.KeepsWindow.{window_step}
+
+pub no_place_before_the_fence : NoPlaceBeforeTheFence
+no_place_before_the_fence sizes values pass reply committing may = go pass.stage committing may
+  where
+    go : (stage : Stage) → IsCommitting stage → MayPlace sizes values pass reply stage → ⊥
+    go (Seizing number) is may = may
+    go (Committing calls) is may = may
+    go WriteFailing is may = may
+    go stage is may = is
+
+pub no_page_before_the_place : NoPageBeforeThePlace
+no_page_before_the_place sizes values pass cell flight may = go pass.stage flight (gives_back pass cell pass.stage may)
+  where
+    go : (stage : Stage) → IsInFlight stage → IsGivingBack stage → ⊥
+    go (Seizing number) is may = may
+    go (Committing calls) is may = may
+    go (Pledging page) is may = may
+    go (Readying number) is may = may
+    go Placing is may = may
+    go WriteFailing is may = may
+    go stage is may = is
+
+pub stopped_after_a_fault : StoppedAfterAFault
+stopped_after_a_fault sizes first core by sound some = sound.stop.stays by (sound.broken.stopped by some)
+
+pub no_leader_before_a_follower : NoLeaderBeforeAFollower
+no_leader_before_a_follower sizes values pass number may fills =
+    let at = subst (λ s. IsFilling s pass.first pass.entries number) may fills in
+    elim at [ inl leader ↦ leader | inr none ↦ absurd (let x = none.0 in omega (arith, x)) ]
+
+pub no_growth_before_the_place : NoGrowthBeforeThePlace
+no_growth_before_the_place sizes values pass flight may = subst IsInFlight may flight
+
+pub no_two_writes_of_a_page : NoTwoWritesOfAPage
+no_two_writes_of_a_page sizes first core one other page sound flight flies here there = elim (cases_eq other one) [
+  | inl same ↦ sym same
+  | inr ne ↦ absurd (held_by_one sizes first core sound (PAGE page) one other (holds one flight here) (holds other flies there) ne)
+]
+  where
+    holds : (n : ℕ) → IsInFlight (core.passes n).stage → IsPage sizes (core.passes n).call page → times (PAGE page) (core.passes n).hands ≡ 1
+    holds n flight at = go (core.passes n).stage flight (sound.holding n).locks
+      where
+        held_at : (stage : Stage) → ((cell : Word) → ((slot : ℕ) → cell ≢ ENTRY slot) → times cell (core.passes n).hands ≡ lock_held sizes (core.passes n) Placing cell) → times (PAGE page) (core.passes n).hands ≡ 1
+        held_at stage held = holds_page sizes (core.passes n) page at (held (PAGE page) (λ slot. differ (PAGE page) (ENTRY slot) refl))
+
+        go : (stage : Stage) → IsInFlight stage → HoldsLocks sizes (core.passes n) stage → times (PAGE page) (core.passes n).hands ≡ 1
+        go (Seizing number) is held = held_at (Seizing number) held
+        go (Committing calls) is held = held_at (Committing calls) held
+        go (Pledging next) is held = held_at (Pledging next) held
+        go (Readying number) is held = held_at (Readying number) held
+        go Placing is held = held_at Placing held
+        go WriteFailing is held = held_at WriteFailing held
+        go stage is held = absurd is
+
+pub no_stop_without_a_fault : NoStopWithoutAFault
+no_stop_without_a_fault sizes first core by sound may = sound.stop.failing by may
+
+pub no_seizure_of_a_held_entry : NoSeizureOfAHeldEntry
+no_seizure_of_a_held_entry sizes first core by number sound may =
+    let at : HasDrawn sizes (core.passes by).call (core.passes by).entries × IsAmong (core.passes by).first (core.passes by).entries number = subst (StandsAt sizes (core.passes by)) may (sound.standing by).at in
+    sound.window.unseized_is by number (subst (λ s. IsUnseized s (core.passes by).first (core.passes by).entries number) (sym may) (omega arith, at.1.1))
+
+pub no_draw_past_the_end : NoDrawPastTheEnd
+no_draw_past_the_end sizes first core by found sound may = (window_step sizes first by core Draws found sound may).room

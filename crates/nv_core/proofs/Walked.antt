@@ -1,0 +1,229 @@
+-- The walks are runs.
+use Rattle.std.proofs.Common.{ℕ, ◌≤◌, replicate, refl, arith}
+use Rattle.nv_core.specs.Passes.{IsOneOf}
+use Rattle.nv_core.specs.Core.{Core}
+use Rattle.nv_core.specs.Events.{Act, MayAct, MayCome, IsStaying}
+use Rattle.nv_pmem.specs.Steps.{line_stores, durable_store}
+use Rattle.nv_entry.specs.Group.{group_steps, pieces_steps, piece_steps, data_steps, field_steps}
+use Rattle.nv_core.specs.Walks.{acts, walk_sizes, walk_call, ReadIsWalked, WriteIsWalked, FaultIsWalked, WalkBegins}
+use Rattle.nv_core.specs.Totals.{total}
+
+-- an act of a pass that is there
+comes : (core : Core) (by : ℕ) (act : Act) → by ≤ core.made → (IsOneOf core.ended by → ⊥) → IsStaying act (core.passes by) → MayAct walk_sizes by core act → MayCome walk_sizes (acts by act) core
+comes core by act made there staying may = record { made = made; there = there; staying = staying; act = may }
+
+pub read_is_walked : ReadIsWalked
+read_is_walked = record {
+  is_run = (
+    comes _ 0 _ (omega arith) (λ z. z) refl (record { idle = refl; allowed = record { known = omega arith; near = omega arith; short = omega arith } }, record { may = refl; is = refl }),
+    (
+      comes _ 0 _ (omega arith) (λ z. z) refl record { may = (refl, refl); is = refl },
+      (
+        comes _ 0 _ (omega arith) (λ z. z) refl record { may = refl; is = refl },
+        (
+          comes _ 0 _ (omega arith) (λ z. z) refl record { may = refl; is = refl },
+          (
+            comes _ 0 _ (omega arith) (λ z. z) refl record { may = (0, record { stage = refl; later = omega arith; within = omega arith; passed = λ page low high. absurd (omega (arith, low, high)); missed = refl }); is = refl },
+            (
+              comes _ 0 _ (omega arith) (λ z. z) refl record { may = (0, refl, refl); is = refl },
+              (
+                comes _ 0 _ (omega arith) (λ z. z) refl record { due = record { bytes = replicate 64 97; cell = refl; job = refl; says = refl }; ends = tt; here = refl },
+                (
+                  comes _ 0 _ (omega arith) (λ z. z) refl record { may = refl; is = refl },
+                  (
+                    comes _ 0 _ (omega arith) (λ z. z) refl record { may = (λ page low high. absurd (omega (arith, low, high)), refl); is = refl },
+                    (
+                      comes _ 0 _ (omega arith) (λ z. z) refl record { may = refl; is = refl },
+                      tt,
+                    ),
+                  ),
+                ),
+              ),
+            ),
+          ),
+        ),
+      ),
+    ),
+  );
+  words = refl;
+}
+
+pub write_is_walked : WriteIsWalked
+unfolding group_steps pieces_steps piece_steps data_steps field_steps line_stores durable_store
+write_is_walked = record {
+  is_run = (
+    comes _ 0 _ (omega arith) (λ z. z) refl record { may = refl; is = refl },
+    (
+      comes _ 1 _ (omega arith) (λ z. z) refl (record { idle = refl; allowed = record { known = omega arith; near = omega arith; short = omega arith } }, record { may = refl; is = refl }),
+      (
+        comes _ 1 _ (omega arith) (λ z. z) refl record { may = (refl, refl); is = refl },
+        (
+          comes _ 1 _ (omega arith) (λ z. z) refl record { may = refl; is = refl },
+          (
+            comes _ 1 _ (omega arith) (λ z. z) refl record { may = refl; is = refl },
+            (
+              comes _ 1 _ (omega arith) (λ z. z) refl record { may = refl; is = refl },
+              (
+                comes _ 1 _ (omega arith) (λ z. z) refl record { may = refl; is = refl },
+                (
+                  comes _ 1 _ (omega arith) (λ z. z) refl record { may = refl; is = refl },
+                  (
+                    comes _ 1 _ (omega arith) (λ z. z) refl record { may = refl; is = refl },
+                    (
+                      comes _ 1 _ (omega arith) (λ z. z) refl record { due = record { row = walk_call 0 0; there = omega arith; at = refl; cell = refl; job = refl }; ends = tt; here = refl },
+                      (
+                        comes _ 1 _ (omega arith) (λ z. z) refl record { due = record { row = walk_call 0 1; there = omega arith; at = refl; cell = refl; job = refl }; ends = tt; here = refl },
+                        (
+                          comes _ 1 _ (omega arith) (λ z. z) refl record { due = record { row = walk_call 0 2; there = omega arith; at = refl; cell = refl; job = refl }; ends = tt; here = refl },
+                          (
+                            comes _ 1 _ (omega arith) (λ z. z) refl record { due = record { row = walk_call 0 3; there = omega arith; at = refl; cell = refl; job = refl }; ends = tt; here = refl },
+                            (
+                              comes _ 1 _ (omega arith) (λ z. z) refl record { due = record { row = walk_call 0 4; there = omega arith; at = refl; cell = refl; job = refl }; ends = tt; here = refl },
+                              (
+                                comes _ 1 _ (omega arith) (λ z. z) refl record { due = record { row = walk_call 0 5; there = omega arith; at = refl; cell = refl; job = refl }; ends = tt; here = refl },
+                                (
+                                  comes _ 1 _ (omega arith) (λ z. z) refl record { due = record { row = walk_call 0 6; there = omega arith; at = refl; cell = refl; job = refl }; ends = tt; here = refl },
+                                  (
+                                    comes _ 1 _ (omega arith) (λ z. z) refl record { due = record { row = walk_call 0 7; there = omega arith; at = refl; cell = refl; job = refl }; ends = tt; here = refl },
+                                    (
+                                      comes _ 1 _ (omega arith) (λ z. z) refl record { due = record { row = walk_call 0 8; there = omega arith; at = refl; cell = refl; job = refl }; ends = tt; here = refl },
+                                      (
+                                        comes _ 1 _ (omega arith) (λ z. z) refl record { due = record { row = walk_call 0 9; there = omega arith; at = refl; cell = refl; job = refl }; ends = tt; here = refl },
+                                        (
+                                          comes _ 1 _ (omega arith) (λ z. z) refl record { due = record { row = walk_call 0 10; there = omega arith; at = refl; cell = refl; job = refl }; ends = tt; here = refl },
+                                          (
+                                            comes _ 1 _ (omega arith) (λ z. z) refl record { due = record { row = walk_call 0 11; there = omega arith; at = refl; cell = refl; job = refl }; ends = tt; here = refl },
+                                            (
+                                              comes _ 1 _ (omega arith) (λ z. z) refl record { due = record { row = walk_call 0 12; there = omega arith; at = refl; cell = refl; job = refl }; ends = tt; here = refl },
+                                              (
+                                                comes _ 1 _ (omega arith) (λ z. z) refl record { due = record { row = walk_call 0 13; there = omega arith; at = refl; cell = refl; job = refl }; ends = tt; here = refl },
+                                                (
+                                                  comes _ 1 _ (omega arith) (λ z. z) refl record { due = record { row = walk_call 0 14; there = omega arith; at = refl; cell = refl; job = refl }; ends = tt; here = refl },
+                                                  (
+                                                    comes _ 1 _ (omega arith) (λ z. z) refl record { due = record { row = walk_call 0 15; there = omega arith; at = refl; cell = refl; job = refl }; ends = tt; here = refl },
+                                                    (
+                                                      comes _ 1 _ (omega arith) (λ z. z) refl record { due = record { row = walk_call 0 16; there = omega arith; at = refl; cell = refl; job = refl }; ends = tt; here = refl },
+                                                      (
+                                                        comes _ 1 _ (omega arith) (λ z. z) refl record { due = record { row = walk_call 0 17; there = omega arith; at = refl; cell = refl; job = refl }; ends = tt; here = refl },
+                                                        (
+                                                          comes _ 1 _ (omega arith) (λ z. z) refl record { due = record { row = walk_call 0 18; there = omega arith; at = refl; cell = refl; job = refl }; ends = tt; here = refl },
+                                                          (
+                                                            comes _ 1 _ (omega arith) (λ z. z) refl record { may = refl; is = refl },
+                                                            (
+                                                              comes _ 1 _ (omega arith) (λ z. z) refl record { may = refl; is = refl },
+                                                              (
+                                                                comes _ 1 _ (omega arith) (λ z. z) refl record { may = refl; is = refl },
+                                                                (
+                                                                  comes _ 1 _ (omega arith) (λ z. z) refl record { may = refl; is = refl },
+                                                                  tt,
+                                                                ),
+                                                              ),
+                                                            ),
+                                                          ),
+                                                        ),
+                                                      ),
+                                                    ),
+                                                  ),
+                                                ),
+                                              ),
+                                            ),
+                                          ),
+                                        ),
+                                      ),
+                                    ),
+                                  ),
+                                ),
+                              ),
+                            ),
+                          ),
+                        ),
+                      ),
+                    ),
+                  ),
+                ),
+              ),
+            ),
+          ),
+        ),
+      ),
+    ),
+  );
+  words = refl;
+}
+
+pub fault_is_walked : FaultIsWalked
+unfolding group_steps pieces_steps piece_steps data_steps field_steps line_stores durable_store
+fault_is_walked = record {
+  is_run = (
+    comes _ 1 _ (omega arith) (λ z. z) refl (record { idle = refl; allowed = record { known = omega arith; near = omega arith; short = omega arith } }, record { may = refl; is = refl }),
+    (
+      comes _ 0 _ (omega arith) (λ z. z) refl (record { idle = refl; allowed = record { known = omega arith; near = omega arith; short = omega arith } }, record { may = refl; is = refl }),
+      (
+        comes _ 1 _ (omega arith) (λ z. z) refl record { may = (refl, refl); is = refl },
+        (
+          comes _ 1 _ (omega arith) (λ z. z) refl record { may = refl; is = refl },
+          (
+            comes _ 1 _ (omega arith) (λ z. z) refl record { may = refl; is = refl },
+            (
+              comes _ 1 _ (omega arith) (λ z. z) refl record { may = refl; is = refl },
+              (
+                comes _ 1 _ (omega arith) (λ z. z) refl record { may = refl; is = refl },
+                (
+                  comes _ 1 _ (omega arith) (λ z. z) refl record { may = refl; is = refl },
+                  (
+                    comes _ 1 _ (omega arith) (λ z. z) refl record { may = refl; is = refl },
+                    (
+                      comes _ 1 _ (omega arith) (λ z. z) refl record { due = record { row = walk_call 1 0; there = omega arith; at = refl; cell = refl; job = refl }; ends = tt; here = refl },
+                      (
+                        comes _ 1 _ (omega arith) (λ z. z) refl record { due = record { row = walk_call 1 1; there = omega arith; at = refl; cell = refl; job = refl }; ends = tt; here = refl },
+                        (
+                          comes _ 1 _ (omega arith) (λ z. z) refl record { due = record { row = walk_call 1 2; there = omega arith; at = refl; cell = refl; job = refl }; ends = tt; here = refl },
+                          (
+                            comes _ 1 _ (omega arith) (λ z. z) refl record { due = record { row = walk_call 1 3; there = omega arith; at = refl; cell = refl; job = refl }; ends = tt; here = refl },
+                            (
+                              comes _ 1 _ (omega arith) (λ z. z) refl record { due = record { row = walk_call 1 4; there = omega arith; at = refl; cell = refl; job = refl }; ends = tt; here = refl },
+                              (
+                                comes _ 1 _ (omega arith) (λ z. z) refl record { due = record { row = walk_call 1 5; there = omega arith; at = refl; cell = refl; job = refl }; ends = tt; here = refl },
+                                (
+                                  comes _ 1 _ (omega arith) (λ z. z) refl record { due = record { row = walk_call 1 6; there = omega arith; at = refl; cell = refl; job = refl }; ends = tt; here = refl },
+                                  (
+                                    comes _ 1 _ (omega arith) (λ z. z) refl record { due = record { row = walk_call 1 7; there = omega arith; at = refl; cell = refl; job = refl }; ends = tt; here = refl },
+                                    (
+                                      comes _ 1 _ (omega arith) (λ z. z) refl record { due = record { row = walk_call 1 8; there = omega arith; at = refl; cell = refl; job = refl }; ends = tt; here = refl },
+                                      (
+                                        comes _ 1 _ (omega arith) (λ z. z) refl record { due = record { row = walk_call 1 9; there = omega arith; at = refl; cell = refl; job = refl }; ends = record { never_falls = omega arith; more = omega arith }; here = refl },
+                                        (
+                                          comes _ 1 _ (omega arith) (λ z. z) refl record { may = tt; is = refl },
+                                          (
+                                            comes _ 1 _ (omega arith) (λ z. z) refl record { may = refl; is = refl },
+                                            (
+                                              comes _ 1 _ (omega arith) (λ z. z) refl record { may = refl; is = refl },
+                                              tt,
+                                            ),
+                                          ),
+                                        ),
+                                      ),
+                                    ),
+                                  ),
+                                ),
+                              ),
+                            ),
+                          ),
+                        ),
+                      ),
+                    ),
+                  ),
+                ),
+              ),
+            ),
+          ),
+        ),
+      ),
+    ),
+  );
+  words = refl;
+}
+
+pub walk_begins : WalkBegins
+unfolding total
+walk_begins = record { small = omega arith; buffers = record { many = refl } }

@@ -1,0 +1,15 @@
+use Rattle.nv_core.proofs.Nevers.{no_place_before_the_fence, no_page_before_the_place, stopped_after_a_fault, no_leader_before_a_follower, no_growth_before_the_place, no_two_writes_of_a_page, no_stop_without_a_fault, no_seizure_of_a_held_entry, no_draw_past_the_end}
+use Rattle.nv_core.proofs.laws.no_sound_state_allows.Goals as goal
+
+pub returns : goal.returns
+returns c = record {
+  fence = no_place_before_the_fence;
+  page = no_page_before_the_place;
+  fault = stopped_after_a_fault;
+  leader = no_leader_before_a_follower;
+  growth = no_growth_before_the_place;
+  writes = no_two_writes_of_a_page;
+  stop = no_stop_without_a_fault;
+  seizure = no_seizure_of_a_held_entry;
+  end = no_draw_past_the_end;
+}

@@ -1,0 +1,75 @@
+-- Never: steps that no sound state allows, and what a step that is allowed has before it.
+use Rattle.std.specs.Prelude.{◌≡◌, ◌≢◌, ℕ, ◌+◌, ◌≤◌, []}
+use Rattle.nv_plain.specs.declared.call.Reply.{Reply}
+use Rattle.nv_core.specs.Words.{Sizes, Word, STOP, HEAD, TAIL, ENTRY, free}
+use Rattle.nv_core.specs.Passes.{Stage, Seizing, Committing, Pledging, Readying, Placing, WriteFailing, Pass}
+use Rattle.nv_core.specs.Deeds.{Gives, Places, Stops, Draws, Seizes, Readies, Grows, slot_of}
+use Rattle.nv_core.specs.Order.{Values, MayStep}
+use Rattle.nv_core.specs.Core.{Core, after_step}
+use Rattle.nv_core.specs.Events.{MayFind}
+use Rattle.nv_core.specs.Standing.{IsPage}
+use Rattle.nv_core.specs.LogWindow.{Fills}
+use Rattle.nv_core.specs.Stop.{HasFailed}
+use Rattle.nv_core.specs.Sound.{Sound}
+
+-- a write has drawn numbers, and its commit is not over
+abbrev pub IsCommitting : Stage → Type 0
+IsCommitting (Seizing number) = Unit {0}
+IsCommitting (Committing calls) = Unit {0}
+IsCommitting WriteFailing = Unit {0}
+IsCommitting stage = ⊥
+
+-- a write has drawn numbers and has no place in the history
+abbrev pub IsInFlight : Stage → Type 0
+IsInFlight (Seizing number) = Unit {0}
+IsInFlight (Committing calls) = Unit {0}
+IsInFlight (Pledging page) = Unit {0}
+IsInFlight (Readying number) = Unit {0}
+IsInFlight Placing = Unit {0}
+IsInFlight WriteFailing = Unit {0}
+IsInFlight stage = ⊥
+
+-- A write takes no place before the last device call of its commit, the fence of its leader's commit word.
+abbrev pub NoPlaceBeforeTheFence : Type 0
+NoPlaceBeforeTheFence = (sizes : Sizes) (values : Values) (pass : Pass) (reply : Reply) → IsCommitting pass.stage → MayStep sizes values pass (Places reply) → ⊥
+
+-- A write in flight gives nothing back: no page before its place is drawn, and none after a fault before it has set STOP.
+abbrev pub NoPageBeforeThePlace : Type 0
+NoPageBeforeThePlace = (sizes : Sizes) (values : Values) (pass : Pass) (cell : Word) → IsInFlight pass.stage → MayStep sizes values pass (Gives cell) → ⊥
+
+-- Where a call has ended by a fault STOP is 1.
+abbrev pub StoppedAfterAFault : Type 0
+StoppedAfterAFault = (sizes : Sizes) (first : Values) (core : Core) (by : ℕ) → Sound sizes first core → (core.passes by).faulted ≢ [] → core.words STOP ≡ 1
+
+-- A leader is made ready when no follower is being filled any more.
+abbrev pub NoLeaderBeforeAFollower : Type 0
+NoLeaderBeforeAFollower =
+    (sizes : Sizes) (values : Values) (pass : Pass) (number : ℕ) → MayStep sizes values pass (Readies pass.first) → Fills pass number → number ≡ pass.first
+
+-- A length grows after its write has its place.
+abbrev pub NoGrowthBeforeThePlace : Type 0
+NoGrowthBeforeThePlace = (sizes : Sizes) (values : Values) (pass : Pass) → IsInFlight pass.stage → MayStep sizes values pass Grows → ⊥
+
+-- No page has two writes in flight.
+abbrev pub NoTwoWritesOfAPage : Type 0
+NoTwoWritesOfAPage =
+    (sizes : Sizes) (first : Values) (core : Core) (one other page : ℕ) → Sound sizes first core
+    → IsInFlight (core.passes one).stage → IsInFlight (core.passes other).stage
+    → IsPage sizes (core.passes one).call page → IsPage sizes (core.passes other).call page → one ≡ other
+
+-- STOP is set only where a count rose.
+abbrev pub NoStopWithoutAFault : Type 0
+NoStopWithoutAFault =
+    (sizes : Sizes) (first : Values) (core : Core) (by : ℕ) → Sound sizes first core → MayStep sizes core.values (core.passes by) Stops → HasFailed first core.values
+
+-- An entry is seized where it is free.
+abbrev pub NoSeizureOfAHeldEntry : Type 0
+NoSeizureOfAHeldEntry =
+    (sizes : Sizes) (first : Values) (core : Core) (by number : ℕ) → Sound sizes first core
+    → MayStep sizes core.values (core.passes by) (Seizes number) → core.words (ENTRY (slot_of sizes number)) ≡ free
+
+-- No numbers are drawn past the log's end.
+abbrev pub NoDrawPastTheEnd : Type 0
+NoDrawPastTheEnd =
+    (sizes : Sizes) (first : Values) (core : Core) (by found : ℕ) → Sound sizes first core
+    → MayFind sizes by core Draws found → (after_step sizes by Draws found core).words HEAD ≤ core.words TAIL + sizes.entries

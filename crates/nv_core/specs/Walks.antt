@@ -1,0 +1,169 @@
+-- Walks: a mount of one file, and runs of it, event by event, with the words after each.
+use Rattle.std.specs.Prelude.{◌≡◌, ℕ, ◌+◌, false, List, [], ◌∷◌, ◌++◌, Some, None, map, replicate, nat_lt, if◌then◌else◌, slice_index_or}
+use Rattle.nv_plain.specs.declared.call.FileCall.TheVariants.{Read, Write}
+use Rattle.nv_plain.specs.declared.call.Reply.TheVariants.{Bytes, Count}
+use Rattle.nv_pmem.specs.Part.{blank_line}
+use Rattle.nv_pmem.specs.Rows.{RowStep}
+use Rattle.nv_pmem.specs.Steps.{Fence}
+use Rattle.nv_entry.specs.Group.{group_steps}
+use Rattle.std.specs.List.{range_with_len}
+use Rattle.nv_store.specs.Store.{quiet_store}
+use Rattle.nv_core.specs.Words.{Sizes, place, STOP, ORDER, HEAD, TAIL, LENGTH, STORE, ENTRY, PAGE, DIRTY}
+use Rattle.nv_core.specs.Values.{Bare, APart, AStore, ABuffer, Writes, Reads, Ending, Made, Failed}
+use Rattle.nv_core.specs.Deeds.{Loads, Takes, Gives, Places, Splits, Draws, Seizes, Pledges, Readies, Stops, Breaks}
+use Rattle.nv_core.specs.Order.{Values}
+use Rattle.nv_core.specs.Core.{Core}
+use Rattle.nv_core.specs.Events.{Act, Begins, Does, Calls, Event, after_event, after, IsRun}
+use Rattle.nv_core.specs.Opening.{Mount, IsMount, opening}
+
+-- one file of 64 pages of 64 bytes, 16 entries and 4 buffers
+abbrev pub walk_sizes : Sizes
+walk_sizes = record { page = 64; files = 1; pages = 64; entries = 16; buffers = 4 }
+
+-- what the cells keep: entry parts of two blank lines, a store of 128 bytes, and buffers in the first four pages
+abbrev pub walk_values : Values
+walk_values (ENTRY slot) = APart record { told = Some (blank_line ∷ blank_line ∷ []); faults = 0; identity = slot + 1 }
+walk_values (STORE file) = AStore record { told = Some (quiet_store (replicate 128 97)); faults = 0; identity = 17 }
+walk_values (PAGE page) = ABuffer (if nat_lt page 4 then Some record { bytes = []; valid = false } else None)
+walk_values word = Bare
+
+abbrev pub walk_mount : Mount
+walk_mount = record { sizes = walk_sizes; next = 0; lengths = λ file. 128; values = walk_values }
+
+-- the words that a walk shows: STOP, ORDER, HEAD, LENGTH, STORE, the first page's PAGE and DIRTY, the first two entries
+abbrev pub shown : Core → List ℕ
+shown core = map core.words (STOP ∷ ORDER ∷ HEAD ∷ LENGTH 0 ∷ STORE 0 ∷ PAGE 0 ∷ DIRTY 0 ∷ ENTRY 0 ∷ ENTRY 1 ∷ [])
+
+-- the words after each event
+abbrev pub shown_after : Core → List Event → List (List ℕ)
+shown_after core [] = []
+shown_after core (event ∷ later) = shown (after_event walk_sizes event core) ∷ shown_after (after_event walk_sizes event core) later
+
+-- a pass does something
+abbrev pub acts : (by : ℕ) → Act → Event
+acts by act = record { by = by; act = act }
+
+-- Pass 0 reads 16 bytes at the start of the file. The first page's buffer doesn't count yet, so the page comes from the store.
+abbrev pub walk_read : List Event
+walk_read =
+    acts 0 (Begins (Read 0 0 16) (Takes (PAGE 0)) 0)
+    ∷ acts 0 (Does (Loads (LENGTH 0)) 128)
+    ∷ acts 0 (Does (Loads STOP) 0)
+    ∷ acts 0 (Does (Loads ORDER) 0)
+    ∷ acts 0 (Does (Loads (DIRTY 0)) 0)
+    ∷ acts 0 (Does (Takes (STORE 0)) 0)
+    ∷ acts 0 (Calls record { cell = STORE 0; job = Reads 0 (replicate 64 97); ending = Made })
+    ∷ acts 0 (Does (Gives (STORE 0)) 1)
+    ∷ acts 0 (Does (Places (Bytes (replicate 16 97))) 0)
+    ∷ acts 0 (Does (Gives (PAGE 0)) 1)
+    ∷ []
+
+-- It is a run, and these are the words after each of its events.
+pub record ReadIsWalked : Type 0 where
+  pub is_run : IsRun walk_sizes (opening walk_mount) walk_read
+  pub words : shown_after (opening walk_mount) walk_read
+      ≡ ((0 ∷ 0 ∷ 0 ∷ 128 ∷ 0 ∷ 1 ∷ 0 ∷ 0 ∷ 0 ∷ [])
+      ∷ (0 ∷ 0 ∷ 0 ∷ 128 ∷ 0 ∷ 1 ∷ 0 ∷ 0 ∷ 0 ∷ [])
+      ∷ (0 ∷ 0 ∷ 0 ∷ 128 ∷ 0 ∷ 1 ∷ 0 ∷ 0 ∷ 0 ∷ [])
+      ∷ (0 ∷ 0 ∷ 0 ∷ 128 ∷ 0 ∷ 1 ∷ 0 ∷ 0 ∷ 0 ∷ [])
+      ∷ (0 ∷ 0 ∷ 0 ∷ 128 ∷ 0 ∷ 1 ∷ 0 ∷ 0 ∷ 0 ∷ [])
+      ∷ (0 ∷ 0 ∷ 0 ∷ 128 ∷ 1 ∷ 1 ∷ 0 ∷ 0 ∷ 0 ∷ [])
+      ∷ (0 ∷ 0 ∷ 0 ∷ 128 ∷ 1 ∷ 1 ∷ 0 ∷ 0 ∷ 0 ∷ [])
+      ∷ (0 ∷ 0 ∷ 0 ∷ 128 ∷ 0 ∷ 1 ∷ 0 ∷ 0 ∷ 0 ∷ [])
+      ∷ (0 ∷ 1 ∷ 0 ∷ 128 ∷ 0 ∷ 1 ∷ 0 ∷ 0 ∷ 0 ∷ [])
+      ∷ (0 ∷ 1 ∷ 0 ∷ 128 ∷ 0 ∷ 0 ∷ 0 ∷ 0 ∷ 0 ∷ [])
+      ∷ [])
+
+-- ---- a write of 5 bytes at the start, by another pass
+
+abbrev pub walk_bytes : List ℕ
+walk_bytes = 1 ∷ 2 ∷ 3 ∷ 4 ∷ 5 ∷ []
+
+-- one of the device calls of its commit as entry `first`, in the order of their steps
+abbrev pub walk_call : (first call : ℕ) → RowStep
+walk_call first call = slice_index_or (group_steps 64 first 0 0 walk_bytes) call record { part = 0; step = Fence }
+
+abbrev pub calls_one : (first : ℕ) → Ending → (call : ℕ) → Event
+calls_one first ending call = acts 1 (Calls record { cell = ENTRY first; job = Writes (walk_call first call).step; ending = ending })
+
+-- Pass 0 makes pass 1, which writes.
+abbrev pub walk_write : List Event
+walk_write =
+    acts 0 (Does Splits 0)
+    ∷ acts 1 (Begins (Write 0 0 walk_bytes) (Takes (PAGE 0)) 0)
+    ∷ acts 1 (Does (Loads (LENGTH 0)) 128)
+    ∷ acts 1 (Does (Loads STOP) 0)
+    ∷ acts 1 (Does (Loads ORDER) 1)
+    ∷ acts 1 (Does (Loads HEAD) 0)
+    ∷ acts 1 (Does (Loads TAIL) 0)
+    ∷ acts 1 (Does Draws 0)
+    ∷ acts 1 (Does (Seizes 0) 0)
+    ∷ map (calls_one 0 Made) (range_with_len 0 19)
+    ++ acts 1 (Does (Pledges 0) 0)
+    ∷ acts 1 (Does (Readies 0) 1)
+    ∷ acts 1 (Does (Places (Count 5)) 1)
+    ∷ acts 1 (Does (Gives (PAGE 0)) 1)
+    ∷ []
+
+-- the core after the read
+abbrev pub read_core : Core
+read_core = after walk_sizes (opening walk_mount) walk_read
+
+pub record WriteIsWalked : Type 0 where
+  pub is_run : IsRun walk_sizes read_core walk_write
+  pub words : shown_after read_core walk_write
+      ≡ ((0 ∷ 1 ∷ 0 ∷ 128 ∷ 0 ∷ 0 ∷ 0 ∷ 0 ∷ 0 ∷ [])
+      ∷ replicate 6 (0 ∷ 1 ∷ 0 ∷ 128 ∷ 0 ∷ 1 ∷ 0 ∷ 0 ∷ 0 ∷ [])
+      ++ (0 ∷ 1 ∷ 1 ∷ 128 ∷ 0 ∷ 1 ∷ 0 ∷ 0 ∷ 0 ∷ [])
+      ∷ replicate 20 (0 ∷ 1 ∷ 1 ∷ 128 ∷ 0 ∷ 1 ∷ 0 ∷ 1 ∷ 0 ∷ [])
+      ++ (0 ∷ 1 ∷ 1 ∷ 128 ∷ 0 ∷ 1 ∷ 1 ∷ 1 ∷ 0 ∷ [])
+      ∷ (0 ∷ 1 ∷ 1 ∷ 128 ∷ 0 ∷ 1 ∷ 1 ∷ 10 ∷ 0 ∷ [])
+      ∷ (0 ∷ 2 ∷ 1 ∷ 128 ∷ 0 ∷ 1 ∷ 1 ∷ 10 ∷ 0 ∷ [])
+      ∷ (0 ∷ 2 ∷ 1 ∷ 128 ∷ 0 ∷ 0 ∷ 1 ∷ 10 ∷ 0 ∷ [])
+      ∷ [])
+
+-- ---- a second write, whose commit's third device call fails: the store of a field, behind the line's eight words and its flush
+
+-- While pass 1 holds the page, pass 0 finds its lock held and ends its call.
+abbrev pub walk_fault : List Event
+walk_fault =
+    acts 1 (Begins (Write 0 0 walk_bytes) (Takes (PAGE 0)) 0)
+    ∷ acts 0 (Begins (Read 0 0 16) (Takes (PAGE 0)) 1)
+    ∷ acts 1 (Does (Loads (LENGTH 0)) 128)
+    ∷ acts 1 (Does (Loads STOP) 0)
+    ∷ acts 1 (Does (Loads ORDER) 2)
+    ∷ acts 1 (Does (Loads HEAD) 1)
+    ∷ acts 1 (Does (Loads TAIL) 0)
+    ∷ acts 1 (Does Draws 1)
+    ∷ acts 1 (Does (Seizes 1) 0)
+    ∷ map (calls_one 1 Made) (range_with_len 0 9)
+    ++ calls_one 1 (Failed false 1) 9
+    ∷ acts 1 (Does Stops 0)
+    ∷ acts 1 (Does (Breaks 1) 1)
+    ∷ acts 1 (Does (Gives (PAGE 0)) 1)
+    ∷ []
+
+-- the core after the write
+abbrev pub write_core : Core
+write_core = after walk_sizes read_core walk_write
+
+pub record FaultIsWalked : Type 0 where
+  pub is_run : IsRun walk_sizes write_core walk_fault
+  pub words : shown_after write_core walk_fault
+      ≡ replicate 7 (0 ∷ 2 ∷ 1 ∷ 128 ∷ 0 ∷ 1 ∷ 1 ∷ 10 ∷ 0 ∷ [])
+      ++ (0 ∷ 2 ∷ 2 ∷ 128 ∷ 0 ∷ 1 ∷ 1 ∷ 10 ∷ 0 ∷ [])
+      ∷ replicate 11 (0 ∷ 2 ∷ 2 ∷ 128 ∷ 0 ∷ 1 ∷ 1 ∷ 10 ∷ 1 ∷ [])
+      ++ (1 ∷ 2 ∷ 2 ∷ 128 ∷ 0 ∷ 1 ∷ 1 ∷ 10 ∷ 1 ∷ [])
+      ∷ (1 ∷ 2 ∷ 2 ∷ 128 ∷ 0 ∷ 1 ∷ 1 ∷ 10 ∷ 5 ∷ [])
+      ∷ (1 ∷ 2 ∷ 2 ∷ 128 ∷ 0 ∷ 0 ∷ 1 ∷ 10 ∷ 5 ∷ [])
+      ∷ []
+
+-- ---- the layout
+
+-- the first page's lock is word 30
+abbrev pub FirstPageIsWord30 : Type 0
+FirstPageIsWord30 = place walk_sizes (PAGE 0) ≡ 30
+
+-- This is a mount from which runs begin.
+abbrev pub WalkBegins : Type 0
+WalkBegins = IsMount walk_mount
