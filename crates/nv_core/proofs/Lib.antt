@@ -25,3 +25,13 @@ pub mod KeepsDirty
 pub mod Nevers
 pub mod Places
 pub mod Walked
+pub mod Placed
+pub mod PlainPages
+pub mod FileLaws
+pub mod KeepsLengths
+pub mod BufferLaws
+pub mod GatheredLaws
+pub mod KeepsStores
+pub mod KeepsValidBuffers
+pub mod KeepsLegal
+pub mod KeepsContent

@@ -25,3 +25,9 @@ pub mod Opening
 pub mod Laws
 pub mod Never
 pub mod Walks
+pub mod PagesAfter
+pub mod StorePages
+pub mod Legal
+pub mod Lengths
+pub mod ValidBuffers
+pub mod Content

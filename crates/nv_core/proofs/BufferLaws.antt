@@ -1,0 +1,223 @@
+-- Buffers: what a step leaves of what its pass's pages have, and of what a read has gathered.
+use Rattle.std.proofs.Common.{◌≡◌, ℕ, ◌+◌, ◌^◌, ◌<◌, ◌≤◌, ◌==◌, nat_lt, nat_le, not, ◌&&◌, if◌then◌else◌, List, [], ◌∷◌, inl, inr, refl, sym, ap, subst, ◌∙◌, arith}
+use Rattle.std.proofs.lemmas.Bool.{cases_lt}
+use Rattle.nv_plain.specs.declared.call.FileCall.{FileCall}
+use Rattle.nv_core.specs.Words.{Sizes, Word, STOP, ORDER, HEAD, TAIL, SIZE, LENGTH, STORE, ENTRY, PAGE, DIRTY, same}
+use Rattle.nv_core.specs.Passes.{Stage, Idle, Locking, Measuring, Sizing, Checking, Ordering, Reading, Fetching, Copying, Returning, Waiting, Heading, Tailing, Drawing, Seizing, Committing, Pledging, Readying, Placing, Growing, Releasing, Giving, Leaving, ReadFailing, WriteFailing, Breaking, Pass, IsLastTaken, is_write, is_read, page_count, first_page, end_page, without, times}
+use Rattle.nv_core.specs.Deeds.{Deed, Loads, Takes, Gives, Places, Stops, Draws, Seizes, Pledges, Readies, Grows, Breaks, slot_of, move_of, moved}
+use Rattle.nv_core.specs.Stages.{stage_after, after_load, after_take, after_give, after_stop, leaving, giving, ending, ordered, copying, exceeds}
+use Rattle.nv_core.specs.Order.{Values, MayStep, MayLoad, MayTake, MayGive, IsFailing}
+use Rattle.nv_core.specs.Standing.{IsPage}
+use Rattle.nv_core.specs.Holding.{one_if, is_among, HoldsLocks}
+use Rattle.nv_core.specs.ValidBuffers.{patched_page, with_own}
+use Rattle.nv_core.proofs.Changes.{differ}
+use Rattle.nv_core.proofs.Choices.{if_both, leaving_both, IsGivingBack, gives_back}
+use Rattle.nv_core.proofs.LockLaws.{times_here, times_else}
+use Rattle.nv_core.proofs.HoldingLaws.{among_in, among_below, among_above}
+use Rattle.nv_core.proofs.FileLaws.{own_none}
+
+-- ---- which pages a pass holds
+
+-- the stages at which a pass holds all pages of its call
+abbrev pub IsWhole : Stage → Type 0
+IsWhole Ordering = Unit {0}
+IsWhole (Reading page) = Unit {0}
+IsWhole (Fetching page) = Unit {0}
+IsWhole (Copying page) = Unit {0}
+IsWhole (Returning page) = Unit {0}
+IsWhole (Committing calls) = Unit {0}
+IsWhole (Pledging page) = Unit {0}
+IsWhole (Readying number) = Unit {0}
+IsWhole Placing = Unit {0}
+IsWhole stage = ⊥
+
+whole_pages : (sizes : Sizes) (pass : Pass) (stage : Stage) → IsWhole stage → HoldsLocks sizes pass stage → (page : ℕ) → times (PAGE page) pass.hands ≡ one_if (is_among (first_page sizes pass.call) (end_page sizes pass.call) page)
+whole_pages sizes pass Ordering whole held page = held (PAGE page) (λ slot. differ (PAGE page) (ENTRY slot) refl)
+whole_pages sizes pass (Reading next) whole held page = held (PAGE page) (λ slot. differ (PAGE page) (ENTRY slot) refl)
+whole_pages sizes pass (Fetching next) whole held page = held (PAGE page) (λ slot. differ (PAGE page) (ENTRY slot) refl)
+whole_pages sizes pass (Copying next) whole held page = held (PAGE page) (λ slot. differ (PAGE page) (ENTRY slot) refl)
+whole_pages sizes pass (Returning next) whole held page = held (PAGE page) (λ slot. differ (PAGE page) (ENTRY slot) refl)
+whole_pages sizes pass (Committing calls) whole held page = held (PAGE page) (λ slot. differ (PAGE page) (ENTRY slot) refl)
+whole_pages sizes pass (Pledging next) whole held page = held (PAGE page) (λ slot. differ (PAGE page) (ENTRY slot) refl)
+whole_pages sizes pass (Readying number) whole held page = held (PAGE page) (λ slot. differ (PAGE page) (ENTRY slot) refl)
+whole_pages sizes pass Placing whole held page = held (PAGE page) (λ slot. differ (PAGE page) (ENTRY slot) refl)
+whole_pages sizes pass stage whole held page = absurd whole
+
+pub whole_holds : (sizes : Sizes) (pass : Pass) (stage : Stage) → IsWhole stage → HoldsLocks sizes pass stage → (page : ℕ) → IsPage sizes pass.call page → times (PAGE page) pass.hands ≡ 1
+whole_holds sizes pass stage whole held page is = whole_pages sizes pass stage whole held page ∙ among_in (first_page sizes pass.call) (end_page sizes pass.call) page is.0 is.1
+
+pub whole_page : (sizes : Sizes) (pass : Pass) (stage : Stage) → IsWhole stage → HoldsLocks sizes pass stage → (page : ℕ) → times (PAGE page) pass.hands ≡ 1 → IsPage sizes pass.call page
+whole_page sizes pass stage whole held page has =
+    let is = whole_pages sizes pass stage whole held page in
+    elim (cases_lt page (first_page sizes pass.call)) [
+      inl below ↦ absurd (let a = among_below (first_page sizes pass.call) (end_page sizes pass.call) page below in omega (arith, is, has, a))
+      | inr low ↦ elim (cases_lt page (end_page sizes pass.call)) [
+        inl high ↦ (low, high)
+        | inr above ↦ absurd (let a = among_above (first_page sizes pass.call) (end_page sizes pass.call) page above in omega (arith, is, has, a)) ] ]
+
+-- a pass that gives a page back holds it
+last_held : (cell : Word) (hands : List Word) → IsLastTaken cell hands → 1 ≤ times cell hands
+last_held cell [] last = absurd last
+last_held cell (first ∷ rest) last = subst (λ w. 1 ≤ times cell (w ∷ rest)) (sym last) (let t = times_here cell rest in omega (arith, t))
+
+pub page_given : (sizes : Sizes) (pass : Pass) (page : ℕ) (stage : Stage) → ((next : ℕ) → stage ≡ Giving next → next < end_page sizes pass.call) → HoldsLocks sizes pass stage → MayGive pass (PAGE page) stage → 1 ≤ times (PAGE page) pass.hands
+page_given sizes pass page (Giving next) below held may =
+    let a = held (PAGE page) (λ slot. differ (PAGE page) (ENTRY slot) refl) in
+    let b = subst (λ p. one_if (is_among next (end_page sizes pass.call) p) ≡ 1) (sym may) (among_in next (end_page sizes pass.call) next (omega arith) (below next refl)) in omega (arith, a, b)
+page_given sizes pass page Leaving below held may = last_held (PAGE page) pass.hands may
+page_given sizes pass page stage below held may = absurd may
+
+less_times : (cell other : Word) (hands : List Word) → times cell (without other hands) ≤ times cell hands
+less_times cell other [] = omega arith
+less_times cell other (first ∷ rest) = if_both (λ h. times cell h ≤ times cell (first ∷ rest)) (same other first) rest (first ∷ without other rest)
+    (λ _. omega arith) (λ _. let l = less_times cell other rest in omega (arith, l))
+
+-- the steps that take no lock
+abbrev pub IsUntaking : Deed → Type 0
+IsUntaking (Takes cell) = ⊥
+IsUntaking deed = Unit {0}
+
+pub no_more : (sizes : Sizes) (deed : Deed) (found page : ℕ) (hands : List Word) → IsUntaking deed → times (PAGE page) (moved (move_of sizes deed found) hands) ≤ times (PAGE page) hands
+no_more sizes (Takes cell) found page hands un = absurd un
+no_more sizes (Gives cell) found page hands un = less_times (PAGE page) cell hands
+no_more sizes (Seizes number) found page hands un = let e = times_else (PAGE page) (ENTRY (slot_of sizes number)) hands (differ (PAGE page) (ENTRY (slot_of sizes number)) refl) in omega (arith, e)
+no_more sizes (Readies number) found page hands un = less_times (PAGE page) (ENTRY (slot_of sizes number)) hands
+no_more sizes (Breaks number) found page hands un = less_times (PAGE page) (ENTRY (slot_of sizes number)) hands
+no_more sizes deed found page hands un = omega arith
+
+-- ---- stages at which no page is patched
+
+abbrev pub IsUnpatched : Stage → Type 0
+IsUnpatched (Pledging page) = ⊥
+IsUnpatched (Readying number) = ⊥
+IsUnpatched Placing = ⊥
+IsUnpatched stage = Unit {0}
+
+pub unpatched : (sizes : Sizes) (call : FileCall) (stage : Stage) (page : ℕ) (old : List ℕ) → IsUnpatched stage → patched_page sizes call stage page old ≡ old
+unpatched sizes call (Pledging next) page old un = absurd un
+unpatched sizes call (Readying number) page old un = absurd un
+unpatched sizes call Placing page old un = absurd un
+unpatched sizes call stage page old un = refl
+
+pub giving_back : (stage : Stage) → IsGivingBack stage → IsUnpatched stage
+giving_back Leaving back = tt
+giving_back Releasing back = tt
+giving_back (Giving page) back = tt
+giving_back (Returning page) back = tt
+giving_back stage back = absurd back
+
+-- the steps that neither place, pledge nor ready
+abbrev pub IsMild : Deed → Type 0
+IsMild (Places reply) = ⊥
+IsMild (Pledges page) = ⊥
+IsMild (Readies number) = ⊥
+IsMild deed = Unit {0}
+
+-- the steps that neither place nor pledge
+abbrev pub IsKeeping : Deed → Type 0
+IsKeeping (Places reply) = ⊥
+IsKeeping (Pledges page) = ⊥
+IsKeeping deed = Unit {0}
+
+at : (stage : Stage) {other : Stage} → other ≡ stage → IsUnpatched stage → IsUnpatched other
+at stage e is = subst IsUnpatched (sym e) is
+
+load_before : (sizes : Sizes) (values : Values) (pass : Pass) (word : Word) → MayLoad sizes values pass word → IsUnpatched pass.stage
+load_before sizes values pass (LENGTH file) may = at Measuring may.0 tt
+load_before sizes values pass STOP may = at Checking may tt
+load_before sizes values pass ORDER may = at Ordering may tt
+load_before sizes values pass HEAD may = at Heading may tt
+load_before sizes values pass TAIL may = at Tailing may tt
+load_before sizes values pass (DIRTY page) may = at (Reading may.0) may.1.stage tt
+load_before sizes values pass word may = absurd may
+
+take_before : (pass : Pass) (cell : Word) → MayTake pass cell → IsUnpatched pass.stage
+take_before pass (PAGE page) may = at (Locking page) may tt
+take_before pass (SIZE file) may = at Sizing may.0 tt
+take_before pass (STORE file) may = at (Fetching may.0) may.1 tt
+take_before pass cell may = absurd may
+
+failing_before : (stage : Stage) → IsFailing stage → IsUnpatched stage
+failing_before ReadFailing may = tt
+failing_before WriteFailing may = tt
+failing_before stage may = absurd may
+
+plain_before : (sizes : Sizes) (values : Values) (pass : Pass) (deed : Deed) → IsMild deed → MayStep sizes values pass deed → IsUnpatched pass.stage
+plain_before sizes values pass (Loads word) mild may = load_before sizes values pass word may
+plain_before sizes values pass (Takes cell) mild may = take_before pass cell may
+plain_before sizes values pass (Gives cell) mild may = giving_back pass.stage (gives_back pass cell pass.stage may)
+plain_before sizes values pass Stops mild may = failing_before pass.stage may
+plain_before sizes values pass Draws mild may = at Drawing may tt
+plain_before sizes values pass (Seizes number) mild may = at (Seizing number) may tt
+plain_before sizes values pass Grows mild may = at Growing may tt
+plain_before sizes values pass (Breaks number) mild may = at (Breaking number) may tt
+plain_before sizes values pass (Places reply) mild may = absurd mild
+plain_before sizes values pass (Pledges page) mild may = absurd mild
+plain_before sizes values pass (Readies number) mild may = absurd mild
+plain_before sizes values pass deed mild may = absurd may
+
+module _ (sizes : Sizes) (values : Values) (pass : Pass) (page : ℕ) (old : List ℕ) where
+  old_leaving : (hands : List Word) → patched_page sizes pass.call (leaving hands) page old ≡ old
+  old_leaving hands = leaving_both (λ s. patched_page sizes pass.call s page old ≡ old) hands (λ _. refl) (λ _. refl)
+
+  old_giving : patched_page sizes pass.call (giving sizes pass.call) page old ≡ old
+  old_giving = if_both (λ s. patched_page sizes pass.call s page old ≡ old) (page_count sizes pass.call == 0) Idle (Giving (first_page sizes pass.call)) (λ _. refl) (λ _. refl)
+
+  pub old_ending : patched_page sizes pass.call (ending sizes pass) page old ≡ old
+  old_ending = if_both (λ s. patched_page sizes pass.call s page old ≡ old) pass.sized Releasing (giving sizes pass.call) (λ _. refl) (λ _. old_giving)
+
+  old_load : (word : Word) (found : ℕ) → MayLoad sizes values pass word → patched_page sizes pass.call (after_load sizes pass word found) page old ≡ old
+  old_load (LENGTH file) found may = if_both (λ s. patched_page sizes pass.call s page old ≡ old) (exceeds pass found && not pass.sized) Sizing Checking (λ _. refl) (λ _. refl)
+  old_load STOP found may = if_both (λ s. patched_page sizes pass.call s page old ≡ old) (found == 0) Ordering (leaving pass.hands) (λ _. refl) (λ _. old_leaving pass.hands)
+  old_load ORDER found may = if_both (λ s. patched_page sizes pass.call s page old ≡ old) (nat_lt found (2 ^ 60)) (ordered sizes pass.call) (leaving pass.hands)
+      (λ _. if_both (λ s. patched_page sizes pass.call s page old ≡ old) (is_write pass.call) Heading (if is_read pass.call then Reading (first_page sizes pass.call) else Placing) (λ _. refl)
+      (λ other. if_both (λ s. patched_page sizes pass.call s page old ≡ old) (is_read pass.call) (Reading (first_page sizes pass.call)) Placing (λ _. refl) (λ _. own_none sizes pass.call page old other)))
+      (λ _. old_leaving pass.hands)
+  old_load HEAD found may = if_both (λ s. patched_page sizes pass.call s page old ≡ old) (nat_le (found + page_count sizes pass.call) (2 ^ 60)) Tailing (leaving pass.hands) (λ _. refl) (λ _. old_leaving pass.hands)
+  old_load TAIL found may = if_both (λ s. patched_page sizes pass.call s page old ≡ old) (nat_le (pass.head + page_count sizes pass.call) (found + sizes.entries)) Drawing (leaving pass.hands) (λ _. refl) (λ _. old_leaving pass.hands)
+  old_load (DIRTY next) found may = if_both (λ s. patched_page sizes pass.call s page old ≡ old) (found == 0) (Fetching next) (Waiting next) (λ _. refl) (λ _. refl)
+  old_load word found may = absurd may
+
+  old_take : (cell : Word) (found : ℕ) → MayTake pass cell → patched_page sizes pass.call (stage_after sizes pass (Takes cell) found) page old ≡ old
+  old_take (PAGE next) found may = if_both (λ s. patched_page sizes pass.call s page old ≡ old) (found == 0) (after_take sizes pass (PAGE next)) (leaving pass.hands)
+      (λ _. if_both (λ s. patched_page sizes pass.call s page old ≡ old) (next + 1 == end_page sizes pass.call) Measuring (Locking (next + 1)) (λ _. refl) (λ _. refl)) (λ _. old_leaving pass.hands)
+  old_take (SIZE file) found may = if_both (λ s. patched_page sizes pass.call s page old ≡ old) (found == 0) Measuring (leaving pass.hands) (λ _. refl) (λ _. old_leaving pass.hands)
+  old_take (STORE file) found may = if_both (λ s. patched_page sizes pass.call s page old ≡ old) (found == 0) (copying pass.stage) (leaving pass.hands)
+      (λ _. subst (λ s. patched_page sizes pass.call (copying s) page old ≡ old) (sym may.1) refl) (λ _. old_leaving pass.hands)
+  old_take cell found may = absurd may
+
+  old_give : (cell : Word) (stage : Stage) → IsGivingBack stage → patched_page sizes pass.call (after_give sizes pass cell stage) page old ≡ old
+  old_give cell Leaving back = old_leaving (without cell pass.hands)
+  old_give cell Releasing back = old_giving
+  old_give cell (Giving next) back = if_both (λ s. patched_page sizes pass.call s page old ≡ old) (next + 1 == end_page sizes pass.call) Idle (Giving (next + 1)) (λ _. refl) (λ _. refl)
+  old_give cell (Returning next) back = refl
+  old_give cell stage back = absurd back
+
+  old_stop : (stage : Stage) → IsFailing stage → patched_page sizes pass.call (after_stop pass stage) page old ≡ old
+  old_stop ReadFailing may = old_leaving pass.hands
+  old_stop WriteFailing may = refl
+  old_stop stage may = absurd may
+
+  pub plain_after : (deed : Deed) (found : ℕ) → IsMild deed → MayStep sizes values pass deed → patched_page sizes pass.call (stage_after sizes pass deed found) page old ≡ old
+  plain_after (Loads word) found mild may = old_load word found may
+  plain_after (Takes cell) found mild may = old_take cell found may
+  plain_after (Gives cell) found mild may = old_give cell pass.stage (gives_back pass cell pass.stage may)
+  plain_after Stops found mild may = old_stop pass.stage may
+  plain_after Draws found mild may = if_both (λ s. patched_page sizes pass.call s page old ≡ old) (found == pass.head) (Seizing found) (leaving pass.hands) (λ _. refl) (λ _. old_leaving pass.hands)
+  plain_after (Seizes next) found mild may = if_both (λ s. patched_page sizes pass.call s page old ≡ old) (next + 1 == pass.first + pass.entries) (Committing 0) (Seizing (next + 1)) (λ _. refl) (λ _. refl)
+  plain_after Grows found mild may = old_ending
+  plain_after (Breaks next) found mild may = if_both (λ s. patched_page sizes pass.call s page old ≡ old) (next + 1 == pass.first + pass.entries) (leaving (without (ENTRY (slot_of sizes next)) pass.hands)) (Breaking (next + 1))
+      (λ _. old_leaving (without (ENTRY (slot_of sizes next)) pass.hands)) (λ _. refl)
+  plain_after (Places reply) found mild may = absurd mild
+  plain_after (Pledges next) found mild may = absurd mild
+  plain_after (Readies next) found mild may = absurd mild
+  plain_after deed found mild may = absurd may
+
+  -- a step that neither places nor pledges leaves what is patched
+  pub patch_stays : (deed : Deed) (found : ℕ) → MayStep sizes values pass deed → IsKeeping deed → patched_page sizes pass.call (stage_after sizes pass deed found) page old ≡ patched_page sizes pass.call pass.stage page old
+  patch_stays (Readies next) found may which =
+      if_both (λ s. patched_page sizes pass.call s page old ≡ with_own sizes pass.call page old) (next == pass.first) Placing (Readying (if next + 1 == pass.first + pass.entries then pass.first else next + 1)) (λ _. refl) (λ _. refl)
+      ∙ sym (ap (λ s. patched_page sizes pass.call s page old) may)
+  patch_stays (Places reply) found may which = absurd which
+  patch_stays (Pledges next) found may which = absurd which
+  patch_stays deed found may which = plain_after deed found tt may ∙ sym (unpatched sizes pass.call pass.stage page old (plain_before sizes values pass deed tt may))

@@ -1,0 +1,129 @@
+-- What a read has gathered: it stays right through each step.
+use Rattle.std.proofs.Common.{◌≡◌, ℕ, ◌+◌, ◌^◌, ◌==◌, nat_lt, nat_le, not, ◌&&◌, true, false, if◌then◌else◌, List, [], ◌∷◌, inl, inr, refl, sym, ap, subst, ◌∙◌, arith}
+use Rattle.std.proofs.lemmas.Bool.{cases_lt, true≢false}
+use Rattle.nv_plain.specs.declared.call.FileCall.{FileCall}
+use Rattle.nv_plain.specs.declared.call.FileCall.TheVariants.{Read, Write, Sync}
+use Rattle.nv_core.specs.Words.{Sizes, Word, STOP, ORDER, HEAD, TAIL, SIZE, LENGTH, STORE, ENTRY, PAGE, DIRTY}
+use Rattle.nv_core.specs.Values.{is_valid, bytes_in}
+use Rattle.nv_core.specs.Passes.{Stage, Idle, Locking, Measuring, Sizing, Checking, Ordering, Reading, Fetching, Copying, Returning, Waiting, Heading, Tailing, Drawing, Seizing, Committing, Pledging, Readying, Placing, Growing, Releasing, Giving, Leaving, ReadFailing, WriteFailing, Breaking, Pass, is_write, is_read, page_count, first_page, end_page, without, times}
+use Rattle.nv_core.specs.Deeds.{Deed, Loads, Takes, Gives, Places, Stops, Draws, Seizes, Pledges, Readies, Grows, Breaks, slot_of}
+use Rattle.nv_core.specs.Stages.{stage_after, after_load, after_take, after_give, after_stop, leaving, giving, ending, ordered, copying, exceeds}
+use Rattle.nv_core.specs.Order.{Values, MayStep, MayLoad, MayTake, IsFailing, page_bytes}
+use Rattle.nv_core.specs.Standing.{StandsAt, IsPage}
+use Rattle.nv_core.specs.Holding.{HoldsLocks}
+use Rattle.nv_core.specs.ValidBuffers.{Gathered, GatheredAt}
+use Rattle.nv_core.proofs.Choices.{if_both, leaving_both, IsGivingBack, gives_back}
+use Rattle.nv_core.proofs.BufferLaws.{whole_holds}
+
+-- ---- other values, other passes' events
+
+pub page_bytes_same : (fetched : List (ℕ × List ℕ)) (values others : Values) (page : ℕ) → others (PAGE page) ≡ values (PAGE page) → page_bytes fetched others page ≡ page_bytes fetched values page
+page_bytes_same [] values others page is = ap bytes_in is
+page_bytes_same (one ∷ rest) values others page is = ap (λ b. if one.0 == page then one.1 else b) (page_bytes_same rest values others page is)
+
+module _ (sizes : Sizes) (now later : ℕ → List ℕ) (values others : Values) (pass : Pass) where
+  more : (next : ℕ) → ((page : ℕ) → IsPage sizes pass.call page → times (PAGE page) pass.hands ≡ 1)
+      → ((page : ℕ) → times (PAGE page) pass.hands ≡ 1 → (others (PAGE page) ≡ values (PAGE page)) × (later page ≡ now page))
+      → Gathered sizes now values pass.call pass.fetched next → Gathered sizes later others pass.call pass.fetched next
+  more next holds same was page is passed =
+      let e = same page (holds page is) in
+      page_bytes_same pass.fetched values others page e.0 ∙ was page is (elim passed [ inl low ↦ inl low | inr valid ↦ inr (sym (ap is_valid e.0) ∙ valid) ]) ∙ sym e.1
+
+  -- where the pages that the pass holds and what they have stay the same
+  pub gathered_same : (stage : Stage) → HoldsLocks sizes pass stage → ((page : ℕ) → times (PAGE page) pass.hands ≡ 1 → (others (PAGE page) ≡ values (PAGE page)) × (later page ≡ now page))
+      → GatheredAt sizes now values pass.call pass.fetched stage → GatheredAt sizes later others pass.call pass.fetched stage
+  gathered_same (Reading next) held same was = more next (whole_holds sizes pass (Reading next) tt held) same was
+  gathered_same (Fetching next) held same was = more next (whole_holds sizes pass (Fetching next) tt held) same was
+  gathered_same (Copying next) held same was = more next (whole_holds sizes pass (Copying next) tt held) same was
+  gathered_same (Returning next) held same was = more (next + 1) (whole_holds sizes pass (Returning next) tt held) same was
+  gathered_same (Locking page) held same was = was
+  gathered_same Measuring held same was = was
+  gathered_same Sizing held same was = was
+  gathered_same Checking held same was = was
+  gathered_same Ordering held same was = was
+  gathered_same Placing held same was = was
+  gathered_same stage held same was = tt
+
+-- ---- the pass's own steps
+
+write_only : (call : FileCall) → is_write call ≡ true → is_read call ≡ false
+write_only (Write file at bytes) write = refl
+write_only (Read file at len) write = absurd (true≢false (sym write))
+write_only (Sync file) write = absurd (true≢false (sym write))
+
+-- the pages that a call holds have what they are now, where their buffers count
+abbrev pub AreRight : Sizes → (now : ℕ → List ℕ) → Values → FileCall → Type 0
+AreRight sizes now values call = (page : ℕ) → IsPage sizes call page → is_valid (values (PAGE page)) ≡ true → bytes_in (values (PAGE page)) ≡ now page
+
+module _ (sizes : Sizes) (now : ℕ → List ℕ) (values : Values) (pass : Pass) where
+  at_leaving : (hands : List Word) → GatheredAt sizes now values pass.call pass.fetched (leaving hands)
+  at_leaving hands = leaving_both (GatheredAt sizes now values pass.call pass.fetched) hands (λ _. tt) (λ _. tt)
+
+  at_giving : GatheredAt sizes now values pass.call pass.fetched (giving sizes pass.call)
+  at_giving = if_both (GatheredAt sizes now values pass.call pass.fetched) (page_count sizes pass.call == 0) Idle (Giving (first_page sizes pass.call)) (λ _. tt) (λ _. tt)
+
+  pub at_ending : GatheredAt sizes now values pass.call pass.fetched (ending sizes pass)
+  at_ending = if_both (GatheredAt sizes now values pass.call pass.fetched) pass.sized Releasing (giving sizes pass.call) (λ _. tt) (λ _. at_giving)
+
+  old : (stage : Stage) → pass.stage ≡ stage → GatheredAt sizes now values pass.call pass.fetched pass.stage → GatheredAt sizes now values pass.call pass.fetched stage
+  old stage is was = subst (GatheredAt sizes now values pass.call pass.fetched) is was
+
+  first_read : pass.fetched ≡ [] → AreRight sizes now values pass.call → Gathered sizes now values pass.call pass.fetched (first_page sizes pass.call)
+  first_read none right page is passed = elim passed [
+      inl low ↦ absurd (let l = is.0 in omega (arith, l, low))
+      | inr valid ↦ ap (λ f. page_bytes f values page) none ∙ right page is valid ]
+
+  at_load : (word : Word) (found : ℕ) → MayLoad sizes values pass word → (pass.stage ≡ Ordering → AreRight sizes now values pass.call) → GatheredAt sizes now values pass.call pass.fetched pass.stage
+      → GatheredAt sizes now values pass.call pass.fetched (after_load sizes pass word found)
+  at_load (LENGTH file) found may right was = if_both (GatheredAt sizes now values pass.call pass.fetched) (exceeds pass found && not pass.sized) Sizing Checking (λ _. old Measuring may.0 was) (λ _. old Measuring may.0 was)
+  at_load STOP found may right was = if_both (GatheredAt sizes now values pass.call pass.fetched) (found == 0) Ordering (leaving pass.hands) (λ _. old Checking may was) (λ _. at_leaving pass.hands)
+  at_load ORDER found may right was = if_both (GatheredAt sizes now values pass.call pass.fetched) (nat_lt found (2 ^ 60)) (ordered sizes pass.call) (leaving pass.hands)
+      (λ _. if_both (GatheredAt sizes now values pass.call pass.fetched) (is_write pass.call) Heading (if is_read pass.call then Reading (first_page sizes pass.call) else Placing) (λ _. tt)
+        (λ _. if_both (GatheredAt sizes now values pass.call pass.fetched) (is_read pass.call) (Reading (first_page sizes pass.call)) Placing (λ _. first_read (old Ordering may was) (right may)) (λ none. none)))
+      (λ _. at_leaving pass.hands)
+  at_load HEAD found may right was = if_both (GatheredAt sizes now values pass.call pass.fetched) (nat_le (found + page_count sizes pass.call) (2 ^ 60)) Tailing (leaving pass.hands) (λ _. tt) (λ _. at_leaving pass.hands)
+  at_load TAIL found may right was = if_both (GatheredAt sizes now values pass.call pass.fetched) (nat_le (pass.head + page_count sizes pass.call) (found + sizes.entries)) Drawing (leaving pass.hands) (λ _. tt) (λ _. at_leaving pass.hands)
+  at_load (DIRTY next) found may right was = if_both (GatheredAt sizes now values pass.call pass.fetched) (found == 0) (Fetching next) (Waiting next)
+      (λ _ page is passed. let g : Gathered sizes now values pass.call pass.fetched may.0 = old (Reading may.0) may.1.stage was in
+        elim passed [
+          inl low ↦ elim (cases_lt page may.0) [ inl before ↦ g page is (inl before) | inr past ↦ g page is (inr (may.1.passed page past low)) ]
+          | inr valid ↦ g page is (inr valid) ])
+      (λ _. tt)
+  at_load word found may right was = absurd may
+
+  at_take : (cell : Word) (found : ℕ) → MayTake pass cell → GatheredAt sizes now values pass.call pass.fetched pass.stage → GatheredAt sizes now values pass.call pass.fetched (stage_after sizes pass (Takes cell) found)
+  at_take (PAGE page) found may was = if_both (GatheredAt sizes now values pass.call pass.fetched) (found == 0) (after_take sizes pass (PAGE page)) (leaving pass.hands)
+      (λ _. if_both (GatheredAt sizes now values pass.call pass.fetched) (page + 1 == end_page sizes pass.call) Measuring (Locking (page + 1)) (λ _. old (Locking page) may was) (λ _. old (Locking page) may was)) (λ _. at_leaving pass.hands)
+  at_take (SIZE file) found may was = if_both (GatheredAt sizes now values pass.call pass.fetched) (found == 0) Measuring (leaving pass.hands) (λ _. old Sizing may.0 was) (λ _. at_leaving pass.hands)
+  at_take (STORE file) found may was = if_both (GatheredAt sizes now values pass.call pass.fetched) (found == 0) (copying pass.stage) (leaving pass.hands)
+      (λ _. subst (λ s. GatheredAt sizes now values pass.call pass.fetched (copying s)) (sym may.1) (old (Fetching may.0) may.1 was)) (λ _. at_leaving pass.hands)
+  at_take cell found may was = absurd may
+
+  at_give : (cell : Word) (stage : Stage) → IsGivingBack stage → GatheredAt sizes now values pass.call pass.fetched stage → GatheredAt sizes now values pass.call pass.fetched (after_give sizes pass cell stage)
+  at_give cell Leaving back was = at_leaving (without cell pass.hands)
+  at_give cell Releasing back was = at_giving
+  at_give cell (Giving page) back was = if_both (GatheredAt sizes now values pass.call pass.fetched) (page + 1 == end_page sizes pass.call) Idle (Giving (page + 1)) (λ _. tt) (λ _. tt)
+  at_give cell (Returning page) back was = was
+  at_give cell stage back was = absurd back
+
+  at_stop : (stage : Stage) → IsFailing stage → GatheredAt sizes now values pass.call pass.fetched (after_stop pass stage)
+  at_stop ReadFailing may = at_leaving pass.hands
+  at_stop WriteFailing may = tt
+  at_stop stage may = absurd may
+
+  pub gathered_on : (deed : Deed) (found : ℕ) → MayStep sizes values pass deed → StandsAt sizes pass pass.stage → (pass.stage ≡ Ordering → AreRight sizes now values pass.call) → GatheredAt sizes now values pass.call pass.fetched pass.stage
+      → GatheredAt sizes now values pass.call pass.fetched (stage_after sizes pass deed found)
+  gathered_on (Loads word) found may stands right was = at_load word found may right was
+  gathered_on (Takes cell) found may stands right was = at_take cell found may was
+  gathered_on (Gives cell) found may stands right was = at_give cell pass.stage (gives_back pass cell pass.stage may) was
+  gathered_on (Places reply) found may stands right was = if_both (GatheredAt sizes now values pass.call pass.fetched) (is_write pass.call && exceeds pass pass.length) Growing (ending sizes pass) (λ _. tt) (λ _. at_ending)
+  gathered_on Stops found may stands right was = at_stop pass.stage may
+  gathered_on Draws found may stands right was = if_both (GatheredAt sizes now values pass.call pass.fetched) (found == pass.head) (Seizing found) (leaving pass.hands) (λ _. tt) (λ _. at_leaving pass.hands)
+  gathered_on (Seizes next) found may stands right was = if_both (GatheredAt sizes now values pass.call pass.fetched) (next + 1 == pass.first + pass.entries) (Committing 0) (Seizing (next + 1)) (λ _. tt) (λ _. tt)
+  gathered_on (Pledges page) found may stands right was = if_both (GatheredAt sizes now values pass.call pass.fetched) (page + 1 == end_page sizes pass.call) (Readying (if pass.entries == 1 then pass.first else pass.first + 1)) (Pledging (page + 1)) (λ _. tt) (λ _. tt)
+  gathered_on (Readies next) found may stands right was = if_both (GatheredAt sizes now values pass.call pass.fetched) (next == pass.first) Placing (Readying (if next + 1 == pass.first + pass.entries then pass.first else next + 1))
+      (λ _. write_only pass.call (let s : StandsAt sizes pass (Readying next) = subst (StandsAt sizes pass) may stands in s.0.write)) (λ _. tt)
+  gathered_on Grows found may stands right was = at_ending
+  gathered_on (Breaks next) found may stands right was = if_both (GatheredAt sizes now values pass.call pass.fetched) (next + 1 == pass.first + pass.entries) (leaving (without (ENTRY (slot_of sizes next)) pass.hands)) (Breaking (next + 1))
+      (λ _. at_leaving (without (ENTRY (slot_of sizes next)) pass.hands)) (λ _. tt)
+  gathered_on deed found may stands right was = absurd may

@@ -1,0 +1,26 @@
+-- Lengths: how the LENGTH of a file stands to its length after the history.
+use Rattle.std.specs.Prelude.{◌≡◌, ℕ, ◌+◌, ◌<◌, ◌≤◌, length}
+use Rattle.nv_plain.specs.Files.{Files, contents_of}
+use Rattle.nv_core.specs.Words.{Sizes, LENGTH, SIZE}
+use Rattle.nv_core.specs.Passes.{Growing, Pass, file_of, at_of, len_of, times}
+use Rattle.nv_core.specs.Core.{Core}
+use Rattle.nv_core.specs.PagesAfter.{files_now}
+
+-- the length of a file after the history
+abbrev pub length_now : Files → Core → (file : ℕ) → ℕ
+length_now opening core file = length (contents_of (files_now opening core) file)
+
+-- a pass has placed a write that extends a file, and is to set its LENGTH
+abbrev pub IsGrowing : Pass → (file : ℕ) → Type 0
+IsGrowing pass file = (pass.stage ≡ Growing) × (file_of pass.call ≡ file)
+
+-- such a pass holds SIZE, and the file ends where its write does
+pub record Extends (opening : Files) (core : Core) (number file : ℕ) : Type 0 where
+  pub size : times (SIZE file) (core.passes number).hands ≡ 1
+  pub ends : length_now opening core file ≡ at_of (core.passes number).call + len_of (core.passes number).call
+
+-- LENGTH is at most the length after the history, and it is that length but while a pass is to set it.
+pub record Lengths (sizes : Sizes) (opening : Files) (core : Core) : Type 0 where
+  pub most : (file : ℕ) → file < sizes.files → core.words (LENGTH file) ≤ length_now opening core file
+  pub is : (file : ℕ) → file < sizes.files → ((number : ℕ) → IsGrowing (core.passes number) file → ⊥) → core.words (LENGTH file) ≡ length_now opening core file
+  pub extends : (number file : ℕ) → IsGrowing (core.passes number) file → Extends opening core number file

@@ -1,0 +1,29 @@
+-- Store pages: what the stores tell, and where that is the page after the history.
+use Rattle.std.specs.Prelude.{◌≡◌, ℕ, ◌<◌, true, Option, Some, None}
+use Rattle.nv_plain.specs.Files.{Files}
+use Rattle.nv_store.specs.Store.{Store}
+use Rattle.nv_core.specs.Words.{Sizes, STORE, PAGE, DIRTY}
+use Rattle.nv_core.specs.Values.{Value, AStore}
+use Rattle.nv_core.specs.Passes.{is_read, times}
+use Rattle.nv_core.specs.Order.{Values}
+use Rattle.nv_core.specs.Core.{Core}
+use Rattle.nv_core.specs.PagesAfter.{page_from, file_of_page, start_of_page, page_now}
+
+-- what the store that a cell keeps tells of its state
+abbrev pub store_of : Value → Option Store
+store_of (AStore device) = device.told
+store_of value = None
+
+-- each store tells
+pub record StoresTell (sizes : Sizes) (first : Values) : Type 0 where
+  pub each : (file : ℕ) → file < sizes.files → (store : Store) × (store_of (first (STORE file)) ≡ Some store)
+
+-- each store tells what it told at opening
+pub record StoresKept (first now : Values) : Type 0 where
+  pub each : (file : ℕ) → store_of (now (STORE file)) ≡ store_of (first (STORE file))
+
+-- A page that a read holds and that has no entries is its store's page at opening. (This follows from the part on live pieces.)
+pub record StorePages (sizes : Sizes) (first : Values) (opening : Files) (core : Core) : Type 0 where
+  pub clean : (number page : ℕ) (store : Store) → is_read (core.passes number).call ≡ true → times (PAGE page) (core.passes number).hands ≡ 1
+      → core.words (DIRTY page) ≡ 0 → store_of (first (STORE (file_of_page sizes page))) ≡ Some store
+      → page_now sizes opening core page ≡ page_from store.seen (start_of_page sizes page) sizes.page

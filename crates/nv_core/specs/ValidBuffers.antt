@@ -1,0 +1,55 @@
+-- Valid buffers: what a page's buffer has where it counts, and what a read has gathered.
+use Rattle.std.specs.Prelude.{◌≡◌, ◌⊎◌, ℕ, ◌+◌, ◌-◌, ◌%◌, ◌<◌, nat_lt, true, false, if◌then◌else◌, List, [], length}
+use Rattle.nv_plain.specs.Files.{Files, overwritten}
+use Rattle.nv_plain.specs.Pieces.{piece_of, piece_bytes}
+use Rattle.nv_plain.specs.declared.call.FileCall.{FileCall}
+use Rattle.nv_plain.specs.declared.call.FileCall.TheVariants.{Write}
+use Rattle.nv_core.specs.Words.{Sizes, PAGE}
+use Rattle.nv_core.specs.Values.{is_valid, bytes_in}
+use Rattle.nv_core.specs.Passes.{Stage, Locking, Measuring, Sizing, Checking, Ordering, Reading, Fetching, Copying, Returning, Pledging, Readying, Placing, is_read, first_page, times}
+use Rattle.nv_core.specs.Order.{Values, page_bytes}
+use Rattle.nv_core.specs.Standing.{IsPage}
+use Rattle.nv_core.specs.Core.{Core}
+use Rattle.nv_core.specs.PagesAfter.{page_now}
+
+-- a page, overwritten by a write's piece on it
+abbrev pub with_own : Sizes → FileCall → (page : ℕ) → List ℕ → List ℕ
+with_own sizes (Write file at bytes) page old =
+    let piece = piece_of at (length bytes) sizes.page (page - first_page sizes (Write file at bytes)) in
+    overwritten old (piece.at % sizes.page) (piece_bytes bytes piece)
+with_own sizes call page old = old
+
+-- What the buffer of a page in hands has, by where its pass stands: a writer's pledged pages have its pieces before it takes its place.
+abbrev pub patched_page : Sizes → FileCall → Stage → (page : ℕ) → List ℕ → List ℕ
+patched_page sizes call (Pledging next) page old = if nat_lt page next then with_own sizes call page old else old
+patched_page sizes call (Readying number) page old = with_own sizes call page old
+patched_page sizes call Placing page old = with_own sizes call page old
+patched_page sizes call stage page old = old
+
+-- What a read has of each page that it has passed, and of each other page of it whose buffer counts, is what the page is now.
+abbrev pub Gathered : Sizes → (now : ℕ → List ℕ) → Values → FileCall → (fetched : List (ℕ × List ℕ)) → (next : ℕ) → Type 0
+Gathered sizes now values call fetched next =
+    (page : ℕ) → IsPage sizes call page → (page < next) ⊎ (is_valid (values (PAGE page)) ≡ true) → page_bytes fetched values page ≡ now page
+
+-- By where a pass stands: it has fetched nothing yet, or what it has gathered is right, or its call reads no byte.
+abbrev pub GatheredAt : Sizes → (now : ℕ → List ℕ) → Values → FileCall → (fetched : List (ℕ × List ℕ)) → Stage → Type 0
+GatheredAt sizes now values call fetched (Locking page) = fetched ≡ []
+GatheredAt sizes now values call fetched Measuring = fetched ≡ []
+GatheredAt sizes now values call fetched Sizing = fetched ≡ []
+GatheredAt sizes now values call fetched Checking = fetched ≡ []
+GatheredAt sizes now values call fetched Ordering = fetched ≡ []
+GatheredAt sizes now values call fetched (Reading next) = Gathered sizes now values call fetched next
+GatheredAt sizes now values call fetched (Fetching next) = Gathered sizes now values call fetched next
+GatheredAt sizes now values call fetched (Copying next) = Gathered sizes now values call fetched next
+GatheredAt sizes now values call fetched (Returning next) = Gathered sizes now values call fetched (next + 1)
+GatheredAt sizes now values call fetched Placing = is_read call ≡ false
+GatheredAt sizes now values call fetched stage = Unit {0}
+
+-- Where PAGE is free and its buffer counts, the buffer is the page after the history. In hands it is that too, but for the pieces of a write
+-- that isn't placed yet.
+pub record ValidBuffers (sizes : Sizes) (opening : Files) (core : Core) : Type 0 where
+  pub free : (page : ℕ) → core.words (PAGE page) ≡ 0 → is_valid (core.values (PAGE page)) ≡ true
+      → bytes_in (core.values (PAGE page)) ≡ page_now sizes opening core page
+  pub held : (number page : ℕ) → times (PAGE page) (core.passes number).hands ≡ 1 → is_valid (core.values (PAGE page)) ≡ true
+      → bytes_in (core.values (PAGE page)) ≡ patched_page sizes (core.passes number).call (core.passes number).stage page (page_now sizes opening core page)
+  pub gathered : (number : ℕ) → GatheredAt sizes (page_now sizes opening core) core.values (core.passes number).call (core.passes number).fetched (core.passes number).stage
