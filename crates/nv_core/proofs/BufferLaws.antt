@@ -50,10 +50,12 @@ pub whole_page : (sizes : Sizes) (pass : Pass) (stage : Stage) → IsWhole stage
 whole_page sizes pass stage whole held page has =
     let is = whole_pages sizes pass stage whole held page in
     elim (cases_lt page (first_page sizes pass.call)) [
-      inl below ↦ absurd (let a = among_below (first_page sizes pass.call) (end_page sizes pass.call) page below in omega (arith, is, has, a))
+      | inl below ↦ absurd (let a = among_below (first_page sizes pass.call) (end_page sizes pass.call) page below in omega (arith, is, has, a))
       | inr low ↦ elim (cases_lt page (end_page sizes pass.call)) [
-        inl high ↦ (low, high)
-        | inr above ↦ absurd (let a = among_above (first_page sizes pass.call) (end_page sizes pass.call) page above in omega (arith, is, has, a)) ] ]
+        | inl high ↦ (low, high)
+        | inr above ↦ absurd (let a = among_above (first_page sizes pass.call) (end_page sizes pass.call) page above in omega (arith, is, has, a))
+      ]
+    ]
 
 -- a pass that gives a page back holds it
 last_held : (cell : Word) (hands : List Word) → IsLastTaken cell hands → 1 ≤ times cell hands

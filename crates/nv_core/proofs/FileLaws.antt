@@ -35,21 +35,21 @@ files_same (Read other at len) files file there is = refl
 files_same (Sync other) files file there is = refl
 files_same (Write other at bytes) files file there (inr ne) = contents_else files other file (overwritten (contents_of files other) at bytes) ne
 files_same (Write other at bytes) files file there (inl none) = elim (cases_eq file other) [
-    inl e ↦ subst (λ f. contents_of (files_after (Write other at bytes) files) f ≡ contents_of files f) (sym e)
+  | inl e ↦ subst (λ f. contents_of (files_after (Write other at bytes) files) f ≡ contents_of files f) (sym e)
       (contents_here files other (overwritten (contents_of files other) at bytes) there
       ∙ ap (overwritten (contents_of files other) at) (no_bytes bytes (let l = ltb-false 0 (length bytes) none in omega (arith, l))))
-    | inr ne ↦ contents_else files other file (overwritten (contents_of files other) at bytes) ne
-  ]
+  | inr ne ↦ contents_else files other file (overwritten (contents_of files other) at bytes) ne
+]
 
 -- no call makes a file shorter
 pub files_grow : (call : FileCall) (files : Files) (file : ℕ) → file_of call < length files.contents → length (contents_of files file) ≤ length (contents_of (files_after call files) file)
 files_grow (Read other at len) files file there = omega arith
 files_grow (Sync other) files file there = omega arith
 files_grow (Write other at bytes) files file there = elim (cases_eq file other) [
-    inl e ↦ subst (λ f. length (contents_of files f) ≤ length (contents_of (files_after (Write other at bytes) files) f)) (sym e)
+  | inl e ↦ subst (λ f. length (contents_of files f) ≤ length (contents_of (files_after (Write other at bytes) files) f)) (sym e)
       (let h = ap length (contents_here files other (overwritten (contents_of files other) at bytes) there) in let g = length-overwritten_grows (contents_of files other) bytes at in omega (arith, h, g))
-    | inr ne ↦ let h = ap length (contents_else files other file (overwritten (contents_of files other) at bytes) ne) in omega (arith, h)
-  ]
+  | inr ne ↦ let h = ap length (contents_else files other file (overwritten (contents_of files other) at bytes) ne) in omega (arith, h)
+]
 
 -- the length of a file after a write of some bytes
 pub files_written : (call : FileCall) (files : Files) → file_of call < length files.contents → is_write call ≡ true
@@ -109,31 +109,32 @@ module _ (sizes : Sizes) (files : Files) (file at : ℕ) (bytes : List ℕ) (som
 
   pub write_else : (page : ℕ) → (IsPage sizes (Write file at bytes) page → ⊥) → page_in sizes (files_after (Write file at bytes) files) page ≡ page_in sizes files page
   write_else page other = elim (cases_eq (page / sizes.pages) file) [
-      inl e ↦
+    | inl e ↦
         ap (λ f. page_from (contents_of (files_after (Write file at bytes) files) f) (page % sizes.pages * sizes.page) sizes.page) e
         ∙ ap (λ b. page_from b (page % sizes.pages * sizes.page) sizes.page) (contents_here files file (overwritten (contents_of files file) at bytes) there)
         ∙ apart e
         ∙ ap (λ f. page_from (contents_of files f) (page % sizes.pages * sizes.page) sizes.page) (sym e)
-      | inr ne ↦ ap (λ b. page_from b (page % sizes.pages * sizes.page) sizes.page) (contents_else files file (page / sizes.pages) (overwritten (contents_of files file) at bytes) ne)
-    ]
+    | inr ne ↦ ap (λ b. page_from b (page % sizes.pages * sizes.page) sizes.page) (contents_else files file (page / sizes.pages) (overwritten (contents_of files file) at bytes) ne)
+  ]
     where
       is_number : page / sizes.pages ≡ file → page ≡ file * sizes.pages + page % sizes.pages
       is_number e = let d = div-add-mod page sizes.pages in let c = mul_comm sizes.pages (page / sizes.pages) in let f = ap (λ n. n * sizes.pages) e in omega (arith, d, c, f)
+
       apart : page / sizes.pages ≡ file → page_from (overwritten (contents_of files file) at bytes) (page % sizes.pages * sizes.page) sizes.page ≡ page_from (contents_of files file) (page % sizes.pages * sizes.page) sizes.page
       apart e = elim (cases_lt (page % sizes.pages) (at / sizes.page)) [
-          inl below ↦ untouched_page (contents_of files file) bytes at (page % sizes.pages * sizes.page) sizes.page
+        | inl below ↦ untouched_page (contents_of files file) bytes at (page % sizes.pages * sizes.page) sizes.page
             (let less : page % sizes.pages + 1 ≤ at / sizes.page = omega (arith, below) in let m = mul-le-mul_right sizes.page less in let d = div-mul-le_self at sizes.page in omega (arith, m, d))
-          | inr above ↦ elim (cases_lt (page % sizes.pages) (at / sizes.page + pages_touched at (length bytes) sizes.page)) [
-            inl within ↦ absurd (other (let n = is_number e in (omega (arith, n, above), omega (arith, n, within))))
-            | inr behind ↦ untouched_above (contents_of files file) bytes at (page % sizes.pages * sizes.page) sizes.page
+        | inr above ↦ elim (cases_lt (page % sizes.pages) (at / sizes.page + pages_touched at (length bytes) sizes.page)) [
+          | inl within ↦ absurd (other (let n = is_number e in (omega (arith, n, above), omega (arith, n, within))))
+          | inr behind ↦ untouched_above (contents_of files file) bytes at (page % sizes.pages * sizes.page) sizes.page
               (let i = page % sizes.pages - at / sizes.page in
               let far : pages_touched at (length bytes) sizes.page ≤ i = omega (arith, behind) in
               let b = page_start_behind at (length bytes) sizes.page i some_page some far in
               let z : at / sizes.page + i ≡ page % sizes.pages = omega (arith, above) in
               let q = ap (λ n. n * sizes.page) z in
               omega (arith, b, q))
-          ]
         ]
+      ]
 
 -- a piece of no bytes changes no page
 pub own_none : (sizes : Sizes) (call : FileCall) (page : ℕ) (old : List ℕ) → is_write call ≡ false → with_own sizes call page old ≡ old
@@ -150,30 +151,31 @@ pub page_placed : (sizes : Sizes) (call : FileCall) (files : Files) (page : ℕ)
 page_placed sizes (Read file at len) files page allowed there is = refl
 page_placed sizes (Sync file) files page allowed there is = refl
 page_placed sizes (Write file at bytes) files page allowed there is = elim (cases_lt 0 (length bytes)) [
-    inl some ↦ write_page sizes files file at bytes some allowed there page is
-    | inr none ↦ absurd (let z = pages_touched_none at (length bytes) sizes.page (let e : length bytes ≡ 0 = omega (arith, none) in e) in let l = is.0 in let h = is.1 in omega (arith, l, h, z))
-  ]
+  | inl some ↦ write_page sizes files file at bytes some allowed there page is
+  | inr none ↦ absurd (let z = pages_touched_none at (length bytes) sizes.page (let e : length bytes ≡ 0 = omega (arith, none) in e) in let l = is.0 in let h = is.1 in omega (arith, l, h, z))
+]
 
 pub page_else : (sizes : Sizes) (call : FileCall) (files : Files) (page : ℕ) → IsAllowed sizes call → file_of call < length files.contents → (IsPage sizes call page → ⊥)
     → page_in sizes (files_after call files) page ≡ page_in sizes files page
 page_else sizes (Read file at len) files page allowed there other = refl
 page_else sizes (Sync file) files page allowed there other = refl
 page_else sizes (Write file at bytes) files page allowed there other = elim (cases_lt 0 (length bytes)) [
-    inl some ↦ write_else sizes files file at bytes some allowed there page other
-    | inr none ↦ ap (λ b. page_from b (page % sizes.pages * sizes.page) sizes.page) (files_same (Write file at bytes) files (page / sizes.pages) there (inl (le-ltb 0 (length bytes) none)))
-  ]
+  | inl some ↦ write_else sizes files file at bytes some allowed there page other
+  | inr none ↦ ap (λ b. page_from b (page % sizes.pages * sizes.page) sizes.page) (files_same (Write file at bytes) files (page / sizes.pages) there (inl (le-ltb 0 (length bytes) none)))
+]
 
 -- a page of a call is one of its file
 pub page_near : (sizes : Sizes) (call : FileCall) → IsAllowed sizes call → (i : ℕ) → i < page_count sizes call → at_of call / sizes.page + i < sizes.pages
 page_near sizes call allowed i low = elim (cases_lt 0 (len_of call)) [
-    inr none ↦ absurd (let z = pages_touched_none (at_of call) (len_of call) sizes.page (let e : len_of call ≡ 0 = omega (arith, none) in e) in omega (arith, low, z))
-    | inl some ↦
+  | inr none ↦ absurd (let z = pages_touched_none (at_of call) (len_of call) sizes.page (let e : len_of call ≡ 0 = omega (arith, none) in e) in omega (arith, low, z))
+  | inl some ↦
       let near = allowed.near in
       let some_page : 1 ≤ sizes.page = page_some (cases_lt 0 sizes.page) some in
       elim (cases_lt (at_of call / sizes.page + i) sizes.pages) [
-        inl is ↦ is
-        | inr past ↦ absurd (let b = page_start_below (at_of call) (len_of call) sizes.page i some_page low in let m = mul-le-mul_right sizes.page past in let c = mul_comm sizes.page sizes.pages in omega (arith, near, b, m, c)) ]
-  ]
+        | inl is ↦ is
+        | inr past ↦ absurd (let b = page_start_below (at_of call) (len_of call) sizes.page i some_page low in let m = mul-le-mul_right sizes.page past in let c = mul_comm sizes.page sizes.pages in omega (arith, near, b, m, c))
+      ]
+]
   where
     page_some : (0 < sizes.page) ⊎ (sizes.page ≤ 0) → 0 < len_of call → 1 ≤ sizes.page
     page_some (inl is) some = is

@@ -70,8 +70,9 @@ module _ (sizes : Sizes) (now : ℕ → List ℕ) (values : Values) (pass : Pass
 
   first_read : pass.fetched ≡ [] → AreRight sizes now values pass.call → Gathered sizes now values pass.call pass.fetched (first_page sizes pass.call)
   first_read none right page is passed = elim passed [
-      inl low ↦ absurd (let l = is.0 in omega (arith, l, low))
-      | inr valid ↦ ap (λ f. page_bytes f values page) none ∙ right page is valid ]
+    | inl low ↦ absurd (let l = is.0 in omega (arith, l, low))
+    | inr valid ↦ ap (λ f. page_bytes f values page) none ∙ right page is valid
+  ]
 
   at_load : (word : Word) (found : ℕ) → MayLoad sizes values pass word → (pass.stage ≡ Ordering → AreRight sizes now values pass.call) → GatheredAt sizes now values pass.call pass.fetched pass.stage
       → GatheredAt sizes now values pass.call pass.fetched (after_load sizes pass word found)
@@ -79,15 +80,16 @@ module _ (sizes : Sizes) (now : ℕ → List ℕ) (values : Values) (pass : Pass
   at_load STOP found may right was = if_both (GatheredAt sizes now values pass.call pass.fetched) (found == 0) Ordering (leaving pass.hands) (λ _. old Checking may was) (λ _. at_leaving pass.hands)
   at_load ORDER found may right was = if_both (GatheredAt sizes now values pass.call pass.fetched) (nat_lt found (2 ^ 60)) (ordered sizes pass.call) (leaving pass.hands)
       (λ _. if_both (GatheredAt sizes now values pass.call pass.fetched) (is_write pass.call) Heading (if is_read pass.call then Reading (first_page sizes pass.call) else Placing) (λ _. tt)
-        (λ _. if_both (GatheredAt sizes now values pass.call pass.fetched) (is_read pass.call) (Reading (first_page sizes pass.call)) Placing (λ _. first_read (old Ordering may was) (right may)) (λ none. none)))
+      (λ _. if_both (GatheredAt sizes now values pass.call pass.fetched) (is_read pass.call) (Reading (first_page sizes pass.call)) Placing (λ _. first_read (old Ordering may was) (right may)) (λ none. none)))
       (λ _. at_leaving pass.hands)
   at_load HEAD found may right was = if_both (GatheredAt sizes now values pass.call pass.fetched) (nat_le (found + page_count sizes pass.call) (2 ^ 60)) Tailing (leaving pass.hands) (λ _. tt) (λ _. at_leaving pass.hands)
   at_load TAIL found may right was = if_both (GatheredAt sizes now values pass.call pass.fetched) (nat_le (pass.head + page_count sizes pass.call) (found + sizes.entries)) Drawing (leaving pass.hands) (λ _. tt) (λ _. at_leaving pass.hands)
   at_load (DIRTY next) found may right was = if_both (GatheredAt sizes now values pass.call pass.fetched) (found == 0) (Fetching next) (Waiting next)
       (λ _ page is passed. let g : Gathered sizes now values pass.call pass.fetched may.0 = old (Reading may.0) may.1.stage was in
-        elim passed [
-          inl low ↦ elim (cases_lt page may.0) [ inl before ↦ g page is (inl before) | inr past ↦ g page is (inr (may.1.passed page past low)) ]
-          | inr valid ↦ g page is (inr valid) ])
+      elim passed [
+        | inl low ↦ elim (cases_lt page may.0) [ inl before ↦ g page is (inl before) | inr past ↦ g page is (inr (may.1.passed page past low)) ]
+        | inr valid ↦ g page is (inr valid)
+      ])
       (λ _. tt)
   at_load word found may right was = absurd may
 

@@ -1,15 +1,19 @@
 -- Each event keeps the content.
-use Rattle.std.proofs.Common.{◌≡◌, ℕ, ◌≤◌, length}
+use Rattle.std.proofs.Common.{◌≡◌, ℕ, ◌≤◌, Bool, true, false, List, [], ◌∷◌, length, refl, ap, arith}
 use Rattle.nv_plain.specs.Files.{Files}
 use Rattle.nv_plain.specs.declared.call.FileCall.{FileCall}
 use Rattle.nv_core.specs.Words.{Sizes}
 use Rattle.nv_core.specs.Deeds.{Deed}
 use Rattle.nv_core.specs.Order.{Values, Work, MayWork}
 use Rattle.nv_core.specs.Core.{Core, after_step, after_begin, after_work}
-use Rattle.nv_core.specs.Events.{Event, Act, Begins, Does, Calls, MayAct, MayFind, MayBegin, after_act, after_event}
+use Rattle.nv_core.specs.Events.{Event, Act, Begins, Does, Calls, MayAct, MayFind, MayBegin, after_act, after_event, after, IsRun}
+use Rattle.nv_core.specs.Passes.{Stage, Idle, Growing}
+use Rattle.nv_core.specs.Opening.{opening}
 use Rattle.nv_core.specs.Sound.{Sound}
 use Rattle.nv_core.specs.StorePages.{StoresTell, StorePages}
-use Rattle.nv_core.specs.Content.{Content, EventsKeepContent}
+use Rattle.nv_core.specs.Content.{Content, EventsKeepContent, OpeningHasContent, StayClean, RunsKeepContent}
+use Rattle.nv_core.proofs.Choices.{not_both}
+use Rattle.nv_core.proofs.Reach.{events_keep_sound, opening_is_sound}
 use Rattle.nv_core.proofs.KeepsNumbers.{numbers_one}
 use Rattle.nv_core.proofs.KeepsStanding.{standing_begin, holding_begin}
 use Rattle.nv_core.proofs.KeepsLocks.{locks_begin}
@@ -77,3 +81,39 @@ content_act sizes first opening by core (Calls work) count tells sound clean was
 
 pub events_keep_content : EventsKeepContent
 events_keep_content sizes first opening core event count tells sound clean was may = content_act sizes first opening event.by core event.act count tells sound clean was may.made may.act
+
+-- ---- at opening, and through runs
+
+pub opening_has_content : OpeningHasContent
+opening_has_content mount files is = record {
+  legal = record { legal = tt };
+  lengths = record {
+    most = λ file low. let e = is.lengths file low in omega (arith, e);
+    is = λ file low none. is.lengths file low;
+    extends = λ number file grows. absurd (grows_not grows.0);
+  };
+  buffers = record {
+    free = λ page free valid. absurd (not_both valid (is.fresh page));
+    held = λ number page has valid. absurd (not_both valid (is.fresh page));
+    gathered = λ number. tt;
+  };
+  stores = record { each = λ file. refl };
+}
+  where
+    is_idle : Stage → Bool
+    is_idle Idle = true
+    is_idle stage = false
+
+    grows_not : Idle ≡ Growing → ⊥
+    grows_not e = not_both {b = is_idle Idle} refl (ap is_idle e)
+
+run_keeps : (sizes : Sizes) (first : Values) (files : Files) (events : List Event) (core : Core) → length files.contents ≡ sizes.files → StoresTell sizes first → Sound sizes first core → Content sizes first files core
+    → IsRun sizes core events → StayClean sizes first files core events → Content sizes first files (after sizes core events)
+run_keeps sizes first files [] core count tells sound was run clean = was
+run_keeps sizes first files (event ∷ later) core count tells sound was run clean =
+    run_keeps sizes first files later (after_event sizes event core) count tells (events_keep_sound sizes first core event sound run.0)
+    (events_keep_content sizes first files core event count tells sound clean.0 was run.0) run.1 clean.1
+
+pub runs_keep_content : RunsKeepContent
+runs_keep_content mount files events is opens run clean =
+    run_keeps mount.sizes mount.values files events (opening mount) opens.count opens.tell (opening_is_sound mount is) (opening_has_content mount files opens) run clean

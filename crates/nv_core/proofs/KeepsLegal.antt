@@ -38,11 +38,12 @@ use Rattle.nv_core.proofs.KeepsLengths.{place_growing, place_measured}
 -- the bytes that a read covers are those that it reads
 cover : (bytes : List ℕ) (at len loaded : ℕ) → loaded ≤ length bytes → (loaded < at + len → loaded ≡ length bytes) → bytes_at bytes at (min len (loaded - at)) ≡ bytes_at bytes at len
 cover bytes at len loaded low all = elim (cases_lt loaded (at + len)) [
-    inr within ↦ ap (λ n. bytes_at bytes at n) (let e : min len (loaded - at) ≡ len = omega (arith, within) in e)
-    | inl past ↦
+  | inr within ↦ ap (λ n. bytes_at bytes at n) (let e : min len (loaded - at) ≡ len = omega (arith, within) in e)
+  | inl past ↦
       let whole = all past in
       let left = length-drop at bytes in
-      take_all (min len (loaded - at)) (drop at bytes) (omega (arith, whole, left, past)) ∙ sym (take_all len (drop at bytes) (omega (arith, whole, left, past))) ]
+      take_all (min len (loaded - at)) (drop at bytes) (omega (arith, whole, left, past)) ∙ sym (take_all len (drop at bytes) (omega (arith, whole, left, past)))
+]
 
 none_read : (bytes : List ℕ) (at len loaded : ℕ) → 0 < len → (loaded < at + len → loaded ≡ length bytes) → min len (loaded - at) ≡ 0 → bytes_at bytes at len ≡ []
 none_read bytes at len loaded some all none = nothing (bytes_at bytes at len)
@@ -65,21 +66,24 @@ read_is sizes files values (Write file at bytes) loaded fetched read allowed low
 read_is sizes files values (Sync file) loaded fetched read allowed low all right = absurd (true≢false (sym read))
 read_is sizes files values (Read file at len) loaded fetched read allowed low all right =
     ap (λ n. flat_map part (range_with_len 0 n)) many ∙ elim (cases_lt 0 (min len (loaded - at))) [
-      inl some ↦
-        read_pages (contents_of files file) at (min len (loaded - at)) sizes.page some_page (omega (arith, low, some)) (λ i. page_bytes fetched values (first_page sizes (Read file at len) + i)) reads
-        ∙ cover (contents_of files file) at len loaded low all
+      | inl some ↦
+          read_pages (contents_of files file) at (min len (loaded - at)) sizes.page some_page (omega (arith, low, some)) (λ i. page_bytes fetched values (first_page sizes (Read file at len) + i)) reads
+          ∙ cover (contents_of files file) at len loaded low all
       | inr none ↦
-        let zero : min len (loaded - at) ≡ 0 = omega (arith, none) in
-        ap (λ n. flat_map part (range_with_len 0 n)) (pages_touched_none at (min len (loaded - at)) sizes.page zero)
-        ∙ sym (none_read (contents_of files file) at len loaded (ltb-true 0 len read) all zero)
+          let zero : min len (loaded - at) ≡ 0 = omega (arith, none) in
+          ap (λ n. flat_map part (range_with_len 0 n)) (pages_touched_none at (min len (loaded - at)) sizes.page zero)
+          ∙ sym (none_read (contents_of files file) at len loaded (ltb-true 0 len read) all zero)
     ]
   where
     part : ℕ → List ℕ
     part i = let piece = piece_of at (min len (loaded - at)) sizes.page i in bytes_at (page_bytes fetched values (first_page sizes (Read file at len) + i)) (piece.at % sizes.page) piece.size
+
     many : end_read sizes (Read file at len) loaded - first_page sizes (Read file at len) ≡ pages_touched at (min len (loaded - at)) sizes.page
     many = omega arith
+
     some_page : 1 ≤ sizes.page
     some_page = allowed_page sizes (Read file at len) allowed (ltb-true 0 len read)
+
     reads : (i : ℕ) → i < pages_touched at (min len (loaded - at)) sizes.page → page_bytes fetched values (first_page sizes (Read file at len) + i) ≡ page_from (contents_of files file) ((at / sizes.page + i) * sizes.page) sizes.page
     reads i there =
         let within = read_within sizes (Read file at len) loaded in
@@ -107,12 +111,15 @@ module _ (sizes : Sizes) (first : Values) (opening : Files) (by : ℕ) (core : C
       sized : (core.passes by).sized ≡ true
       sized = sound.loaded.sized by measured (and_from (nat_lt 0 (len_of (core.passes by).call)) (nat_lt (core.passes by).length (at_of (core.passes by).call + len_of (core.passes by).call))
           (read_some (core.passes by).call read) (lt-ltb (core.passes by).length (at_of (core.passes by).call + len_of (core.passes by).call) past))
+
       holds : times (SIZE (file_of (core.passes by).call)) (core.passes by).hands ≡ 1
       holds = holds_size sizes (core.passes by) (core.passes by).stage measured (sound.holding by).locks sized
+
       alone : (number : ℕ) → IsGrowing (core.passes number) (file_of (core.passes by).call) → ⊥
       alone number is = elim (cases_eq number by) [
-          inl e ↦ placing (subst (λ n. (core.passes n).stage ≡ Growing) e is.0)
-          | inr ne ↦ held_by_one sizes first core sound (SIZE (file_of (core.passes by).call)) by number holds (lengths.extends number (file_of (core.passes by).call) is).size ne ]
+        | inl e ↦ placing (subst (λ n. (core.passes n).stage ≡ Growing) e is.0)
+        | inr ne ↦ held_by_one sizes first core sound (SIZE (file_of (core.passes by).call)) by number holds (lengths.extends number (file_of (core.passes by).call) is).size ne
+      ]
 
 -- ---- replies
 
@@ -149,8 +156,8 @@ reply_is sizes first opening by core reply sound lengths buffers may = go (core.
         subst (GatheredAt sizes (page_now sizes opening core) core.values (core.passes by).call (core.passes by).fetched) at (buffers.gathered by) in
         placed.1
         ∙ ap Bytes (read_is sizes (files_now opening core) core.values (core.passes by).call (core.passes by).length (core.passes by).fetched stands.0 allowed
-          (loaded_low sizes first opening by core sound lengths measured grows allowed.known) (loaded_all sizes first opening by core sound lengths measured grows allowed.known stands.0)
-          (λ page is below. elim (cases_lt page next) [ inl low ↦ right page is (inl low) | inr past ↦ right page is (inr (placed.0 page past below)) ]))
+        (loaded_low sizes first opening by core sound lengths measured grows allowed.known) (loaded_all sizes first opening by core sound lengths measured grows allowed.known stands.0)
+        (λ page is below. elim (cases_lt page next) [ inl low ↦ right page is (inl low) | inr past ↦ right page is (inr (placed.0 page past below)) ]))
         ∙ read_reply (core.passes by).call (files_now opening core) stands.0
     go stage at placed = absurd placed
 
@@ -158,6 +165,8 @@ reply_is sizes first opening by core reply sound lengths buffers may = go (core.
 
 pub legal_step : (sizes : Sizes) (first : Values) (opening : Files) (by : ℕ) (core : Core) (deed : Deed) (found : ℕ) → Sound sizes first core → Lengths sizes opening core → ValidBuffers sizes opening core
     → MayFind sizes by core deed found → Legal opening core → Legal opening (after_step sizes by deed found core)
-legal_step sizes first opening by core (Places reply) found sound lengths buffers may was = record { legal =
-    IsLegal-push core.history record { caller = by; call = (core.passes by).call; reply = reply } opening was.legal (reply_is sizes first opening by core reply sound lengths buffers may.may) }
+legal_step sizes first opening by core (Places reply) found sound lengths buffers may was = record {
+  legal =
+      IsLegal-push core.history record { caller = by; call = (core.passes by).call; reply = reply } opening was.legal (reply_is sizes first opening by core reply sound lengths buffers may.may);
+}
 legal_step sizes first opening by core deed found sound lengths buffers may was = record { legal = subst (λ h. IsLegal h opening) (sym (same_history by core deed tt)) was.legal }

@@ -212,13 +212,17 @@ module _ (sizes : Sizes) (first : Values) (opening : Files) (by : ℕ) (core : C
           let m = was.most (file_of (core.passes by).call) known in
           let w = now_written write in
           omega (arith, l, loaded, m, w)
+
       all_same : (file : ℕ) → length_now opening (after_step sizes by (Places reply) found core) file ≡ length_now opening core file
       all_same file = elim (cases_Bool (is_write (core.passes by).call)) [
-          inl write ↦ elim (cases_eq file (file_of (core.passes by).call)) [
-            inl e ↦ subst (λ f. length_now opening (after_step sizes by (Places reply) found core) f ≡ length_now opening core f) (sym e)
+        | inl write ↦ elim (cases_eq file (file_of (core.passes by).call)) [
+          | inl e ↦ subst (λ f. length_now opening (after_step sizes by (Places reply) found core) f ≡ length_now opening core f) (sym e)
               (within write (sym (ap (λ b. b && exceeds (core.passes by) (core.passes by).length) write) ∙ short_of))
-            | inr ne ↦ now_same file (inr ne) ]
-          | inr other ↦ now_same file (inl other) ]
+          | inr ne ↦ now_same file (inr ne)
+        ]
+        | inr other ↦ now_same file (inl other)
+      ]
+
       now : (number file : ℕ) → IsGrowing ((after_step sizes by (Places reply) found core).passes number) file → ExtendsBy opening (after_step sizes by (Places reply) found core) file ((after_step sizes by (Places reply) found core).passes number)
       now number file = by_number (λ n (p : Pass). IsGrowing p file → ExtendsBy opening (after_step sizes by (Places reply) found core) file p) core.passes by (changed sizes by core (Places reply) found)
           (λ is. absurd (unlike _ (when_false (is_write (core.passes by).call && exceeds (core.passes by) (core.passes by).length) Growing (ending sizes (core.passes by)) short_of) (ungrown_ending sizes (core.passes by)) is.0))
@@ -234,17 +238,23 @@ module _ (sizes : Sizes) (first : Values) (opening : Files) (by : ℕ) (core : C
     where
       both : (is_write (core.passes by).call && exceeds (core.passes by) (core.passes by).length) ≡ true
       both = and_from (is_write (core.passes by).call) (exceeds (core.passes by) (core.passes by).length) write more
+
       growing_now : IsGrowing ((after_step sizes by (Places reply) found core).passes by) (file_of (core.passes by).call)
       growing_now = subst (λ (p : Pass). IsGrowing p (file_of (core.passes by).call)) (sym (number_here core.passes by (changed sizes by core (Places reply) found)))
           (when_true (is_write (core.passes by).call && exceeds (core.passes by) (core.passes by).length) Growing (ending sizes (core.passes by)) both, refl)
+
       sized : (core.passes by).sized ≡ true
       sized = sound.loaded.sized by measured more
+
       holds : times (SIZE (file_of (core.passes by).call)) (core.passes by).hands ≡ 1
       holds = holds_size sizes (core.passes by) (core.passes by).stage measured (sound.holding by).locks sized
+
       alone : (number : ℕ) → IsGrowing (core.passes number) (file_of (core.passes by).call) → ⊥
       alone number is = elim (cases_eq number by) [
-          inl e ↦ place_growing sizes core.values (core.passes by) reply may.may (subst (λ n. (core.passes n).stage ≡ Growing) e is.0)
-          | inr ne ↦ grown_by_one sizes first opening core sound (file_of (core.passes by).call) by number holds (was.extends number (file_of (core.passes by).call) is) ne ]
+        | inl e ↦ place_growing sizes core.values (core.passes by) reply may.may (subst (λ n. (core.passes n).stage ≡ Growing) e is.0)
+        | inr ne ↦ grown_by_one sizes first opening core sound (file_of (core.passes by).call) by number holds (was.extends number (file_of (core.passes by).call) is) ne
+      ]
+
       ends : length_now opening (after_step sizes by (Places reply) found core) (file_of (core.passes by).call) ≡ at_of (core.passes by).call + len_of (core.passes by).call
       ends =
           let l = ltb-true (core.passes by).length (at_of (core.passes by).call + len_of (core.passes by).call)
@@ -253,8 +263,10 @@ module _ (sizes : Sizes) (first : Values) (opening : Files) (by : ℕ) (core : C
           let old = was.is (file_of (core.passes by).call) known alone in
           let w = now_written write in
           omega (arith, l, loaded, old, w)
+
       apart : (number file : ℕ) → number ≢ by → IsGrowing (core.passes number) file → file ≢ file_of (core.passes by).call
       apart number file ne is e = alone number (subst (IsGrowing (core.passes number)) e is)
+
       now : (number file : ℕ) → IsGrowing ((after_step sizes by (Places reply) found core).passes number) file → ExtendsBy opening (after_step sizes by (Places reply) found core) file ((after_step sizes by (Places reply) found core).passes number)
       now number file = by_number (λ n (p : Pass). IsGrowing p file → ExtendsBy opening (after_step sizes by (Places reply) found core) file p) core.passes by (changed sizes by core (Places reply) found)
           (λ is. subst (λ f. ExtendsBy opening (after_step sizes by (Places reply) found core) f (changed sizes by core (Places reply) found)) is.1 (holds, ends))
@@ -262,8 +274,9 @@ module _ (sizes : Sizes) (first : Values) (opening : Files) (by : ℕ) (core : C
 
   lengths_place : Lengths sizes opening (after_step sizes by (Places reply) found core)
   lengths_place = elim (cases_Bool (is_write (core.passes by).call && exceeds (core.passes by) (core.passes by).length)) [
-      inl both ↦ let b = and_parts (is_write (core.passes by).call) (exceeds (core.passes by) (core.passes by).length) both in place_extends b.0 b.1
-      | inr short_of ↦ place_keeps short_of ]
+    | inl both ↦ let b = and_parts (is_write (core.passes by).call) (exceeds (core.passes by) (core.passes by).length) both in place_extends b.0 b.1
+    | inr short_of ↦ place_keeps short_of
+  ]
 
 -- ---- a step that sets LENGTH
 
@@ -286,16 +299,19 @@ module _ (sizes : Sizes) (first : Values) (opening : Files) (by : ℕ) (core : C
   lengths_grow : Lengths sizes opening (after_step sizes by Grows found core)
   lengths_grow = record {
     most = λ file low. elim (cases_eq file (file_of (core.passes by).call)) [
-        inl e ↦ subst (λ f. (after_step sizes by Grows found core).words (LENGTH f) ≤ length_now opening (after_step sizes by Grows found core) f) (sym e)
+      | inl e ↦ subst (λ f. (after_step sizes by Grows found core).words (LENGTH f) ≤ length_now opening (after_step sizes by Grows found core) f) (sym e)
           (let h = here_is in let s = same_now (file_of (core.passes by).call) in omega (arith, h, s))
-        | inr ne ↦ let w = word_is file ne in let s = same_now file in let m = was.most file low in omega (arith, w, s, m) ];
+      | inr ne ↦ let w = word_is file ne in let s = same_now file in let m = was.most file low in omega (arith, w, s, m)
+    ];
     is = λ file low none. elim (cases_eq file (file_of (core.passes by).call)) [
-        inl e ↦ subst (λ f. (after_step sizes by Grows found core).words (LENGTH f) ≡ length_now opening (after_step sizes by Grows found core) f) (sym e) (here_is ∙ sym (same_now (file_of (core.passes by).call)))
-        | inr ne ↦ word_is file ne
+      | inl e ↦ subst (λ f. (after_step sizes by Grows found core).words (LENGTH f) ≡ length_now opening (after_step sizes by Grows found core) f) (sym e) (here_is ∙ sym (same_now (file_of (core.passes by).call)))
+      | inr ne ↦ word_is file ne
           ∙ was.is file low (λ n is. elim (cases_eq n by) [
-            inl e ↦ ne (sym (subst (λ m. IsGrowing (core.passes m) file) e is).1)
-            | inr other ↦ none n (others n file other is) ])
-          ∙ sym (same_now file) ];
+            | inl e ↦ ne (sym (subst (λ m. IsGrowing (core.passes m) file) e is).1)
+            | inr other ↦ none n (others n file other is)
+          ])
+          ∙ sym (same_now file)
+    ];
     extends = λ n file is. let e = now n file is in record { size = e.0; ends = e.1 };
   }
     where
@@ -341,7 +357,7 @@ module _ (sizes : Sizes) (first : Values) (opening : Files) (by : ℕ) (core : C
     most = λ file low. let w = word_stays file in let s = now_else file in let m = was.most file low in omega (arith, w, s, m);
     is = λ file low none. word_stays file
         ∙ was.is file low (λ n is. none n (by_number (λ n (p : Pass). IsGrowing (core.passes n) file → IsGrowing p file) core.passes (changes by core.made deed) (changed sizes by core deed found)
-          (stays_growing sizes first by core found deed un ungrown sound may file) (λ n ne is. is) n is))
+        (stays_growing sizes first by core found deed un ungrown sound may file) (λ n ne is. is) n is))
         ∙ sym (now_else file);
     extends = λ n file is. let e = now n file is in record { size = e.0; ends = now_else file ∙ e.1 };
   }

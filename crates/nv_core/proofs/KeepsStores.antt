@@ -27,7 +27,9 @@ pub stores_step : (sizes : Sizes) (first : Values) (pass : Pass) (deed : Deed) (
 stores_step sizes first pass deed values was = record { each = λ file. ap store_of (step_store sizes pass deed values file) ∙ was.each file }
 
 pub stores_work : (first : Values) (pass : Pass) (work : Work) (values : Values) → StoresKept first values → StoresKept first (values_worked pass work values)
-stores_work first pass work values was = record { each = λ file.
-    ap store_of (read_store work.job work.ending pass.stage (with_word values work.cell (called work.job work.ending (values work.cell))) file)
-    ∙ by_word (λ w v. store_of v ≡ store_of (values w)) values work.cell (called work.job work.ending (values work.cell)) (called_store work.job work.ending (values work.cell)) (λ w ne. refl) (STORE file)
-    ∙ was.each file }
+stores_work first pass work values was = record {
+  each = λ file.
+      ap store_of (read_store work.job work.ending pass.stage (with_word values work.cell (called work.job work.ending (values work.cell))) file)
+      ∙ by_word (λ w v. store_of v ≡ store_of (values w)) values work.cell (called work.job work.ending (values work.cell)) (called_store work.job work.ending (values work.cell)) (λ w ne. refl) (STORE file)
+      ∙ was.each file;
+}

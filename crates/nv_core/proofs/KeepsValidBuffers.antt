@@ -66,9 +66,9 @@ free_after sizes first opening by core found (Takes cell) keeping sound may was 
 free_after sizes first opening by core found (Gives cell) keeping sound may was page free =
     by_word (λ w v. w ≡ PAGE page → v ≡ 0 → HasNow sizes opening core page) core.words cell 0
     (λ e z valid. let gives : MayGive (core.passes by) (PAGE page) (core.passes by).stage = subst (λ w. MayGive (core.passes by) w (core.passes by).stage) e may.may in
-      was.held by page (once sizes first core sound by page (page_given sizes (core.passes by) page (core.passes by).stage
-        (λ next is. let s : StandsAt sizes (core.passes by) (Giving next) = subst (StandsAt sizes (core.passes by)) is (sound.standing by).at in s.1) (sound.holding by).locks gives)) valid
-      ∙ unpatched sizes (core.passes by).call (core.passes by).stage page (page_now sizes opening core page) (giving_back (core.passes by).stage (gives_back (core.passes by) cell (core.passes by).stage may.may)))
+    was.held by page (once sizes first core sound by page (page_given sizes (core.passes by) page (core.passes by).stage
+    (λ next is. let s : StandsAt sizes (core.passes by) (Giving next) = subst (StandsAt sizes (core.passes by)) is (sound.standing by).at in s.1) (sound.holding by).locks gives)) valid
+    ∙ unpatched sizes (core.passes by).call (core.passes by).stage page (page_now sizes opening core page) (giving_back (core.passes by).stage (gives_back (core.passes by) cell (core.passes by).stage may.may)))
     (λ w ne e z. was.free page (ap core.words (sym e) ∙ z)) (PAGE page) refl free
 free_after sizes first opening by core found (Places reply) keeping sound may was page free = absurd keeping
 free_after sizes first opening by core found (Pledges other) keeping sound may was page free = absurd keeping
@@ -87,19 +87,19 @@ held_after sizes first opening by core found (Joins number) keeping sound may wa
 held_after sizes first opening by core found (Places reply) keeping sound may was page has valid = absurd keeping
 held_after sizes first opening by core found (Pledges other) keeping sound may was page has valid = absurd keeping
 held_after sizes first opening by core found (Takes cell) keeping sound may was page has valid = elim (cases_Bool (found == 0)) [
-    inl free ↦ elim (cases_Bool (same (PAGE page) cell)) [
-      inl is ↦
+  | inl free ↦ elim (cases_Bool (same (PAGE page) cell)) [
+    | inl is ↦
         was.free page (ap core.words (same_true (PAGE page) cell is) ∙ may.is ∙ eqb-true found 0 free) valid
         ∙ sym (plain_after sizes core.values (core.passes by) page (page_now sizes opening core page) (Takes cell) found tt may.may)
-      | inr other ↦
+    | inr other ↦
         was.held by page (sym (times_else (PAGE page) cell (core.passes by).hands (differ (PAGE page) cell other))
-          ∙ ap (λ m. times (PAGE page) (moved m (core.passes by).hands)) (sym (when_true (found == 0) (Comes cell) Stays free)) ∙ has) valid
+        ∙ ap (λ m. times (PAGE page) (moved m (core.passes by).hands)) (sym (when_true (found == 0) (Comes cell) Stays free)) ∙ has) valid
         ∙ sym (patch_stays sizes core.values (core.passes by) page (page_now sizes opening core page) (Takes cell) found may.may tt)
-    ]
-    | inr shut ↦
+  ]
+  | inr shut ↦
       was.held by page (ap (λ m. times (PAGE page) (moved m (core.passes by).hands)) (sym (when_false (found == 0) (Comes cell) Stays shut)) ∙ has) valid
       ∙ sym (patch_stays sizes core.values (core.passes by) page (page_now sizes opening core page) (Takes cell) found may.may tt)
-  ]
+]
 held_after sizes first opening by core found deed keeping sound may was page has valid =
     let less = no_more sizes deed found page (core.passes by).hands tt in
     was.held by page (once sizes first core sound by page (omega (arith, less, has))) valid
@@ -128,13 +128,13 @@ buffers_keep : (sizes : Sizes) (first : Values) (opening : Files) (by : ℕ) (co
 buffers_keep sizes first opening by core found deed keeping sound may was =
     subst (λ h. ValidBuffers sizes opening (record (after_step sizes by deed found core) { history = h })) (sym (same_history by core deed (kept_history deed keeping)))
     (subst (λ v. ValidBuffers sizes opening (record (after_step sizes by deed found core) { history = core.history; values = v })) (sym (same_values sizes (core.passes by) deed core.values keeping))
-      record {
-        free = free_after sizes first opening by core found deed keeping sound may was;
-        held = λ n page. by_number (λ n (p : Pass). HasHeld sizes opening core page p) core.passes (changes by core.made deed) (changed sizes by core deed found)
-            (held_after sizes first opening by core found deed keeping sound may was page) (λ n ne. was.held n page) n;
-        gathered = by_number (λ n (p : Pass). HasGathered sizes opening core p) core.passes (changes by core.made deed) (changed sizes by core deed found)
-            (gathered_after sizes first opening by core found deed keeping sound may was) (λ n ne. was.gathered n);
-      })
+    record {
+      free = free_after sizes first opening by core found deed keeping sound may was;
+      held = λ n page. by_number (λ n (p : Pass). HasHeld sizes opening core page p) core.passes (changes by core.made deed) (changed sizes by core deed found)
+          (held_after sizes first opening by core found deed keeping sound may was page) (λ n ne. was.held n page) n;
+      gathered = by_number (λ n (p : Pass). HasGathered sizes opening core p) core.passes (changes by core.made deed) (changed sizes by core deed found)
+          (gathered_after sizes first opening by core found deed keeping sound may was) (λ n ne. was.gathered n);
+    })
 
 -- ---- a step that places a call
 
@@ -189,18 +189,18 @@ module _ (sizes : Sizes) (first : Values) (opening : Files) (by : ℕ) (core : C
         was.free page none valid ∙ sym (now_else page (unheld sizes first core sound page none by));
     held = λ n page. by_number (λ n (p : Pass). HasHeld sizes opening (after_step sizes by (Places reply) found core) page p) core.passes by (changed sizes by core (Places reply) found)
         (λ has valid.
-          was.held by page has valid
-          ∙ place_patched sizes core.values (core.passes by) reply page (page_now sizes opening core page) (core.passes by).stage (sound.standing by).at may.may
-          ∙ sym (now_own page has)
-          ∙ sym (unpatched_then page (page_now sizes opening (after_step sizes by (Places reply) found core) page)))
+        was.held by page has valid
+        ∙ place_patched sizes core.values (core.passes by) reply page (page_now sizes opening core page) (core.passes by).stage (sound.standing by).at may.may
+        ∙ sym (now_own page has)
+        ∙ sym (unpatched_then page (page_now sizes opening (after_step sizes by (Places reply) found core) page)))
         (λ n ne has valid.
-          was.held n page has valid
-          ∙ ap (patched_page sizes (core.passes n).call (core.passes n).stage page) (sym (now_else page (others_none sizes first core sound page n by has (λ e. ne (sym e)))))) n;
+        was.held n page has valid
+        ∙ ap (patched_page sizes (core.passes n).call (core.passes n).stage page) (sym (now_else page (others_none sizes first core sound page n by has (λ e. ne (sym e)))))) n;
     gathered = by_number (λ n (p : Pass). HasGathered sizes opening (after_step sizes by (Places reply) found core) p) core.passes by (changed sizes by core (Places reply) found)
         (if_both (GatheredAt sizes (page_now sizes opening (after_step sizes by (Places reply) found core)) core.values (core.passes by).call (core.passes by).fetched) (is_write (core.passes by).call && exceeds (core.passes by) (core.passes by).length)
-          Growing (ending sizes (core.passes by)) (λ _. tt) (λ _. at_ending sizes (page_now sizes opening (after_step sizes by (Places reply) found core)) core.values (core.passes by)))
+        Growing (ending sizes (core.passes by)) (λ _. tt) (λ _. at_ending sizes (page_now sizes opening (after_step sizes by (Places reply) found core)) core.values (core.passes by)))
         (λ n ne. gathered_same sizes (page_now sizes opening core) (page_now sizes opening (after_step sizes by (Places reply) found core)) core.values core.values (core.passes n) (core.passes n).stage (sound.holding n).locks
-          (λ page has. (refl, now_else page (others_none sizes first core sound page n by has (λ e. ne (sym e))))) (was.gathered n));
+        (λ page has. (refl, now_else page (others_none sizes first core sound page n by has (λ e. ne (sym e))))) (was.gathered n));
   }
 
 -- ---- a step that pledges a page
@@ -253,8 +253,9 @@ module _ (sizes : Sizes) (first : Values) (opening : Files) (by : ℕ) (core : C
       (Readying (if (core.passes by).entries == 1 then (core.passes by).first else (core.passes by).first + 1)) (Pledging (own + 1))
       (λ e. let last = eqb-true (own + 1) (end_page sizes (core.passes by).call) e in let high = is.1 in when_true (nat_lt page own) (with_own sizes (core.passes by).call page old) old (lt-ltb page own (omega (arith, last, high, ne))))
       (λ _. ap (λ b. if b then with_own sizes (core.passes by).call page old else old) (elim (cases_lt page own) [
-        inl below ↦ lt-ltb page own below ∙ sym (lt-ltb page (own + 1) (omega (arith, below)))
-        | inr above ↦ le-ltb page own above ∙ sym (le-ltb page (own + 1) (omega (arith, above, ne))) ]))
+        | inl below ↦ lt-ltb page own below ∙ sym (lt-ltb page (own + 1) (omega (arith, below)))
+        | inr above ↦ le-ltb page own above ∙ sym (le-ltb page (own + 1) (omega (arith, above, ne)))
+      ]))
 
   buffers_pledge : ValidBuffers sizes opening (after_step sizes by (Pledges own) found core)
   buffers_pledge = subst (λ h. ValidBuffers sizes opening (record (after_step sizes by (Pledges own) found core) { history = h })) (sym (same_history by core (Pledges own) tt)) record {
@@ -263,22 +264,23 @@ module _ (sizes : Sizes) (first : Values) (opening : Files) (by : ℕ) (core : C
         let ne : page ≢ own = λ e. (let z = unheld sizes first core sound page none by in let h = subst (λ p. times (PAGE p) (core.passes by).hands ≡ 1) (sym e) has_own in omega (arith, z, h)) in
         ap bytes_in (value_else page ne) ∙ was.free page none (sym (ap is_valid (value_else page ne)) ∙ valid);
     held = λ n page. by_number (λ n (p : Pass). times (PAGE page) p.hands ≡ 1 → is_valid (values_stepped sizes (core.passes by) (Pledges own) core.values (PAGE page)) ≡ true
-          → bytes_in (values_stepped sizes (core.passes by) (Pledges own) core.values (PAGE page)) ≡ patched_page sizes p.call p.stage page (page_now sizes opening core page)) core.passes by (changed sizes by core (Pledges own) found)
+        → bytes_in (values_stepped sizes (core.passes by) (Pledges own) core.values (PAGE page)) ≡ patched_page sizes p.call p.stage page (page_now sizes opening core page)) core.passes by (changed sizes by core (Pledges own) found)
         (λ has. elim (cases_eq page own) [
-          inl e ↦ subst (λ q. is_valid (values_stepped sizes (core.passes by) (Pledges own) core.values (PAGE q)) ≡ true
+          | inl e ↦ subst (λ q. is_valid (values_stepped sizes (core.passes by) (Pledges own) core.values (PAGE q)) ≡ true
               → bytes_in (values_stepped sizes (core.passes by) (Pledges own) core.values (PAGE q)) ≡ patched_page sizes (core.passes by).call (changed sizes by core (Pledges own) found).stage q (page_now sizes opening core q)) (sym e)
-            (λ valid. let old = sym (valid_patched sizes (core.passes by).call own (core.values (PAGE own))) ∙ sym (ap is_valid value_own) ∙ valid in
+              (λ valid. let old = sym (valid_patched sizes (core.passes by).call own (core.values (PAGE own))) ∙ sym (ap is_valid value_own) ∙ valid in
               ap bytes_in value_own
               ∙ bytes_patched sizes (core.passes by).call own (core.values (PAGE own)) old
               ∙ ap (with_own sizes (core.passes by).call own) (was.held by own has_own old ∙ before_own (page_now sizes opening core own))
               ∙ sym (then_own (page_now sizes opening core own)))
-          | inr ne ↦ λ valid. ap bytes_in (value_else page ne) ∙ was.held by page has (sym (ap is_valid (value_else page ne)) ∙ valid) ∙ then_else page (page_now sizes opening core page) ne has ])
+          | inr ne ↦ λ valid. ap bytes_in (value_else page ne) ∙ was.held by page has (sym (ap is_valid (value_else page ne)) ∙ valid) ∙ then_else page (page_now sizes opening core page) ne has
+        ])
         (λ n ne has valid. let far = apart n page ne has in ap bytes_in (value_else page far) ∙ was.held n page has (sym (ap is_valid (value_else page far)) ∙ valid)) n;
     gathered = by_number (λ n (p : Pass). GatheredAt sizes (page_now sizes opening core) (values_stepped sizes (core.passes by) (Pledges own) core.values) p.call p.fetched p.stage) core.passes by (changed sizes by core (Pledges own) found)
         (if_both (GatheredAt sizes (page_now sizes opening core) (values_stepped sizes (core.passes by) (Pledges own) core.values) (core.passes by).call (core.passes by).fetched) (own + 1 == end_page sizes (core.passes by).call)
-          (Readying (if (core.passes by).entries == 1 then (core.passes by).first else (core.passes by).first + 1)) (Pledging (own + 1)) (λ _. tt) (λ _. tt))
+        (Readying (if (core.passes by).entries == 1 then (core.passes by).first else (core.passes by).first + 1)) (Pledging (own + 1)) (λ _. tt) (λ _. tt))
         (λ n ne. gathered_same sizes (page_now sizes opening core) (page_now sizes opening core) core.values (values_stepped sizes (core.passes by) (Pledges own) core.values) (core.passes n) (core.passes n).stage (sound.holding n).locks
-          (λ page has. (value_else page (apart n page ne has), refl)) (was.gathered n));
+        (λ page has. (value_else page (apart n page ne has), refl)) (was.gathered n));
   }
 
 -- ---- each step
@@ -367,10 +369,10 @@ module _ (sizes : Sizes) (first : Values) (opening : Files) (by : ℕ) (core : C
   failed : (came : Bool) (faults : ℕ) → work.ending ≡ Failed came faults → ValidBuffers sizes opening (after_work sizes by work core)
   failed came faults how = buffers_unread
       (λ page. ap (λ h. values_read work.job h (core.passes by).stage (with_word core.values work.cell (called work.job work.ending (core.values work.cell))) (PAGE page)) how
-        ∙ ap (λ (v : Values). v (PAGE page)) (read_failed work.job came faults (core.passes by).stage (with_word core.values work.cell (called work.job work.ending (core.values work.cell))))
-        ∙ called_else page)
+      ∙ ap (λ (v : Values). v (PAGE page)) (read_failed work.job came faults (core.passes by).stage (with_word core.values work.cell (called work.job work.ending (core.values work.cell))))
+      ∙ called_else page)
       (subst (λ h. GatheredAt sizes (page_now sizes opening core) (values_worked (core.passes by) work core.values) (core.passes by).call (worked sizes work (core.passes by)).fetched (stage_worked sizes (core.passes by) h (core.passes by).stage)) (sym how)
-        (ends (core.passes by).stage may.due))
+      (ends (core.passes by).stage may.due))
     where
       ends : (stage : Stage) → IsDue sizes core.values (core.passes by) work stage
           → GatheredAt sizes (page_now sizes opening core) (values_worked (core.passes by) work core.values) (core.passes by).call (worked sizes work (core.passes by)).fetched (stage_worked sizes (core.passes by) (Failed came faults) stage)
@@ -381,13 +383,14 @@ module _ (sizes : Sizes) (first : Values) (opening : Files) (by : ℕ) (core : C
   committed calls at how = buffers_unread
       (λ page. read_else work.job work.ending (core.passes by).stage (with_word core.values work.cell (called work.job work.ending (core.values work.cell))) page (λ e. apart (sym at ∙ e)) ∙ called_else page)
       (subst (λ s. GatheredAt sizes (page_now sizes opening core) (values_worked (core.passes by) work core.values) (core.passes by).call (worked sizes work (core.passes by)).fetched (stage_worked sizes (core.passes by) work.ending s)) (sym at)
-        (subst (λ h. GatheredAt sizes (page_now sizes opening core) (values_worked (core.passes by) work core.values) (core.passes by).call (worked sizes work (core.passes by)).fetched (stage_worked sizes (core.passes by) h (Committing calls))) (sym how)
-          (if_both (GatheredAt sizes (page_now sizes opening core) (values_worked (core.passes by) work core.values) (core.passes by).call (worked sizes work (core.passes by)).fetched)
-            (calls + 1 == length (commit_steps sizes (core.passes by) (core.passes by).call)) (Pledging (first_page sizes (core.passes by).call)) (Committing (calls + 1)) (λ _. tt) (λ _. tt))))
+      (subst (λ h. GatheredAt sizes (page_now sizes opening core) (values_worked (core.passes by) work core.values) (core.passes by).call (worked sizes work (core.passes by)).fetched (stage_worked sizes (core.passes by) h (Committing calls))) (sym how)
+      (if_both (GatheredAt sizes (page_now sizes opening core) (values_worked (core.passes by) work core.values) (core.passes by).call (worked sizes work (core.passes by)).fetched)
+      (calls + 1 == length (commit_steps sizes (core.passes by) (core.passes by).call)) (Pledging (first_page sizes (core.passes by).call)) (Committing (calls + 1)) (λ _. tt) (λ _. tt))))
     where
       is_copying : Stage → Bool
       is_copying (Copying page) = true
       is_copying stage = false
+
       apart : {page : ℕ} → Committing calls ≡ Copying page → ⊥
       apart e = true≢false (sym (ap is_copying e))
 
@@ -435,6 +438,7 @@ module _ (sizes : Sizes) (first : Values) (opening : Files) (by : ℕ) (core : C
       page_of_copy : Stage → ℕ
       page_of_copy (Copying next) = next
       page_of_copy stage = 0
+
       copied : {one other : ℕ} → Copying one ≡ Copying other → one ≡ other
       copied e = ap page_of_copy e
 
@@ -453,20 +457,22 @@ module _ (sizes : Sizes) (first : Values) (opening : Files) (by : ℕ) (core : C
   read_held : (page : ℕ) → times (PAGE page) (core.passes by).hands ≡ 1 → is_valid (values_worked (core.passes by) work core.values (PAGE page)) ≡ true
       → bytes_in (values_worked (core.passes by) work core.values (PAGE page)) ≡ patched_page sizes (core.passes by).call (worked sizes work (core.passes by)).stage page (page_now sizes opening core page)
   read_held page has valid = elim (cases_eq page own) [
-      inl e ↦ subst (λ p. is_valid (values_worked (core.passes by) work core.values (PAGE p)) ≡ true
-          → bytes_in (values_worked (core.passes by) work core.values (PAGE p)) ≡ patched_page sizes (core.passes by).call (worked sizes work (core.passes by)).stage p (page_now sizes opening core p)) (sym e)
+    | inl e ↦ subst (λ p. is_valid (values_worked (core.passes by) work core.values (PAGE p)) ≡ true
+        → bytes_in (values_worked (core.passes by) work core.values (PAGE p)) ≡ patched_page sizes (core.passes by).call (worked sizes work (core.passes by)).stage p (page_now sizes opening core p)) (sym e)
         (λ fits. ap bytes_in value_read ∙ filled_bytes due.bytes (core.values (PAGE own)) (sym (ap is_valid value_read) ∙ fits) ∙ read_now
-          ∙ sym (ap (λ s. patched_page sizes (core.passes by).call s own (page_now sizes opening core own)) stage_read)) valid
-      | inr ne ↦ ap bytes_in (value_apart page ne) ∙ still_held sizes first opening by core work sound may was page has (sym (ap is_valid (value_apart page ne)) ∙ valid) ]
+        ∙ sym (ap (λ s. patched_page sizes (core.passes by).call s own (page_now sizes opening core own)) stage_read)) valid
+    | inr ne ↦ ap bytes_in (value_apart page ne) ∙ still_held sizes first opening by core work sound may was page has (sym (ap is_valid (value_apart page ne)) ∙ valid)
+  ]
 
   read_gathered : Gathered sizes (page_now sizes opening core) (values_worked (core.passes by) work core.values) (core.passes by).call ((own, due.bytes) ∷ (core.passes by).fetched) (own + 1)
   read_gathered page is passed = elim (cases_eq page own) [
-      inl e ↦ subst (λ p. page_bytes ((own, due.bytes) ∷ (core.passes by).fetched) (values_worked (core.passes by) work core.values) p ≡ page_now sizes opening core p) (sym e)
+    | inl e ↦ subst (λ p. page_bytes ((own, due.bytes) ∷ (core.passes by).fetched) (values_worked (core.passes by) work core.values) p ≡ page_now sizes opening core p) (sym e)
         (when_true (own == own) due.bytes (page_bytes (core.passes by).fetched (values_worked (core.passes by) work core.values) own) (eq-eqb own own refl) ∙ read_now)
-      | inr ne ↦
+    | inr ne ↦
         when_false (own == page) due.bytes (page_bytes (core.passes by).fetched (values_worked (core.passes by) work core.values) page) (ne_eqb own page (λ e. ne (sym e)))
         ∙ page_bytes_same (core.passes by).fetched core.values (values_worked (core.passes by) work core.values) page (value_apart page ne)
-        ∙ before page is (elim passed [ inl low ↦ inl (omega (arith, low, ne)) | inr valid ↦ inr (sym (ap is_valid (value_apart page ne)) ∙ valid) ]) ]
+        ∙ before page is (elim passed [ inl low ↦ inl (omega (arith, low, ne)) | inr valid ↦ inr (sym (ap is_valid (value_apart page ne)) ∙ valid) ])
+  ]
     where
       before : Gathered sizes (page_now sizes opening core) core.values (core.passes by).call (core.passes by).fetched own
       before = subst (GatheredAt sizes (page_now sizes opening core) core.values (core.passes by).call (core.passes by).fetched) at (was.gathered by)
@@ -477,14 +483,14 @@ module _ (sizes : Sizes) (first : Values) (opening : Files) (by : ℕ) (core : C
         let ne : page ≢ own = λ e. (let z = unheld sizes first core sound page free by in let h = subst (λ p. times (PAGE p) (core.passes by).hands ≡ 1) (sym e) has_read in omega (arith, z, h)) in
         ap bytes_in (value_apart page ne) ∙ was.free page free (sym (ap is_valid (value_apart page ne)) ∙ valid);
     held = λ n page. by_number (λ n (p : Pass). times (PAGE page) p.hands ≡ 1 → is_valid (values_worked (core.passes by) work core.values (PAGE page)) ≡ true
-          → bytes_in (values_worked (core.passes by) work core.values (PAGE page)) ≡ patched_page sizes p.call p.stage page (page_now sizes opening core page)) core.passes by (worked sizes work (core.passes by))
+        → bytes_in (values_worked (core.passes by) work core.values (PAGE page)) ≡ patched_page sizes p.call p.stage page (page_now sizes opening core page)) core.passes by (worked sizes work (core.passes by))
         (read_held page)
         (λ n ne has valid. let apart = value_apart page (far n page ne has) in ap bytes_in apart ∙ was.held n page has (sym (ap is_valid apart) ∙ valid)) n;
     gathered = by_number (λ n (p : Pass). GatheredAt sizes (page_now sizes opening core) (values_worked (core.passes by) work core.values) p.call p.fetched p.stage) core.passes by (worked sizes work (core.passes by))
         (subst (λ s. GatheredAt sizes (page_now sizes opening core) (values_worked (core.passes by) work core.values) (core.passes by).call (worked sizes work (core.passes by)).fetched s) (sym stage_read)
-          (subst (λ f. Gathered sizes (page_now sizes opening core) (values_worked (core.passes by) work core.values) (core.passes by).call f (own + 1)) (sym fetched_read) read_gathered))
+        (subst (λ f. Gathered sizes (page_now sizes opening core) (values_worked (core.passes by) work core.values) (core.passes by).call f (own + 1)) (sym fetched_read) read_gathered))
         (λ n ne. gathered_same sizes (page_now sizes opening core) (page_now sizes opening core) core.values (values_worked (core.passes by) work core.values) (core.passes n) (core.passes n).stage (sound.holding n).locks
-          (λ page has. (value_apart page (far n page ne has), refl)) (was.gathered n));
+        (λ page has. (value_apart page (far n page ne has), refl)) (was.gathered n));
   }
 
 pub valid_work : (sizes : Sizes) (first : Values) (opening : Files) (by : ℕ) (core : Core) (work : Work) → Sound sizes first core → StoresTell sizes first → StoresKept first core.values → StorePages sizes first opening core

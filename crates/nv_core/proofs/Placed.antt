@@ -1,5 +1,5 @@
 -- Steps that place no call leave the history.
-use Rattle.std.proofs.Common.{◌≡◌, ℕ, List, [], ◌++◌, refl, ap, ◌∙◌, append-nil}
+use Rattle.std.proofs.Common.{◌≡◌, ℕ, [], ◌++◌, refl, ap, ◌∙◌, append-nil}
 use Rattle.nv_core.specs.Passes.{Pass}
 use Rattle.nv_core.specs.Deeds.{Deed, Places}
 use Rattle.nv_core.specs.Stepped.{added}

@@ -29,12 +29,12 @@ cut_page bytes start off size page in_page in_bytes =
     ext_get_or 0 (bytes_at (page_from bytes start page) off size) (bytes_at bytes (start + off) size)
     (omega (arith, length-take size (drop off (page_from bytes start page)), length-drop off (page_from bytes start page), length-page_from bytes start page, length-take size (drop (start + off) bytes), length-drop (start + off) bytes))
     (λ k below. let low : k < size = omega (arith, length-take size (drop off (page_from bytes start page))) in
-      get_or-take size (drop off (page_from bytes start page)) k 0 low
-      ∙ get_or-drop off (page_from bytes start page) k 0
-      ∙ get_or-page_from bytes start page (off + k) (omega (arith, low))
-      ∙ ap (λ n. get_or bytes n 0) (omega arith)
-      ∙ sym (get_or-drop (start + off) bytes k 0)
-      ∙ sym (get_or-take size (drop (start + off) bytes) k 0 low))
+    get_or-take size (drop off (page_from bytes start page)) k 0 low
+    ∙ get_or-drop off (page_from bytes start page) k 0
+    ∙ get_or-page_from bytes start page (off + k) (omega (arith, low))
+    ∙ ap (λ n. get_or bytes n 0) (omega arith)
+    ∙ sym (get_or-drop (start + off) bytes k 0)
+    ∙ sym (get_or-take size (drop (start + off) bytes) k 0 low))
 
 -- What a write leaves of a page that it touches: the page, overwritten by the bytes that fall into it. Those begin at an offset of the page,
 -- and at another one of the write.
@@ -45,22 +45,23 @@ module _ (bytes source : List ℕ) (at start page off from size : ℕ) (starts :
 
   patched_at : (k : ℕ) → k < page → get_or (page_from (overwritten bytes at source) start page) k 0 ≡ get_or (overwritten (page_from bytes start page) off (take size (drop from source))) k 0
   patched_at k below = get_or-page_from (overwritten bytes at source) start page k below ∙ elim (cases_lt k off) [
-      inl before ↦
+    | inl before ↦
         get_or-overwritten_below bytes source at (start + k) (let l = low (omega arith) in omega (arith, starts, l, before))
         ∙ sym (get_or-page_from bytes start page k below)
         ∙ sym (get_or-overwritten_below (page_from bytes start page) (take size (drop from source)) off k before)
-      | inr past ↦ elim (cases_lt k (off + size)) [
-        inl within ↦
+    | inr past ↦ elim (cases_lt k (off + size)) [
+      | inl within ↦
           get_or-overwritten_inside bytes source at (start + k) (omega (arith, starts, past)) (omega (arith, starts, within, in_write))
           ∙ ap (λ n. get_or source n 0) (omega (arith, starts, past))
           ∙ sym (get_or-drop from source (k - off) 0)
           ∙ sym (get_or-take size (drop from source) (k - off) 0 (omega (arith, past, within)))
           ∙ sym (get_or-overwritten_inside (page_from bytes start page) (take size (drop from source)) off k past (omega (arith, within, length_cut)))
-        | inr behind ↦
+      | inr behind ↦
           get_or-overwritten_above bytes source at (start + k) (let h = high (omega arith) in omega (arith, starts, behind, h))
           ∙ sym (get_or-page_from bytes start page k below)
           ∙ sym (get_or-overwritten_above (page_from bytes start page) (take size (drop from source)) off k (omega (arith, behind, length_cut)))
-      ] ]
+    ]
+  ]
 
   pub patch_page : page_from (overwritten bytes at source) start page ≡ overwritten (page_from bytes start page) off (take size (drop from source))
   patch_page =
@@ -75,18 +76,18 @@ untouched_page bytes source at start page before =
     let one = length-page_from (overwritten bytes at source) start page in
     ext_get_or 0 (page_from (overwritten bytes at source) start page) (page_from bytes start page) (omega (arith, one, length-page_from bytes start page))
     (λ k below. let low : k < page = omega (arith, one, below) in
-      get_or-page_from (overwritten bytes at source) start page k low
-      ∙ get_or-overwritten_below bytes source at (start + k) (omega (arith, low, before))
-      ∙ sym (get_or-page_from bytes start page k low))
+    get_or-page_from (overwritten bytes at source) start page k low
+    ∙ get_or-overwritten_below bytes source at (start + k) (omega (arith, low, before))
+    ∙ sym (get_or-page_from bytes start page k low))
 
 pub untouched_above : (bytes source : List ℕ) (at start page : ℕ) → at + length source ≤ start → page_from (overwritten bytes at source) start page ≡ page_from bytes start page
 untouched_above bytes source at start page behind =
     let one = length-page_from (overwritten bytes at source) start page in
     ext_get_or 0 (page_from (overwritten bytes at source) start page) (page_from bytes start page) (omega (arith, one, length-page_from bytes start page))
     (λ k below. let low : k < page = omega (arith, one, below) in
-      get_or-page_from (overwritten bytes at source) start page k low
-      ∙ get_or-overwritten_above bytes source at (start + k) (omega (arith, low, behind))
-      ∙ sym (get_or-page_from bytes start page k low))
+    get_or-page_from (overwritten bytes at source) start page k low
+    ∙ get_or-overwritten_above bytes source at (start + k) (omega (arith, low, behind))
+    ∙ sym (get_or-page_from bytes start page k low))
 
 -- ---- a read, page by page
 
@@ -103,12 +104,12 @@ page_rising at len page some_page some = (le-div_iff_mul-le some_page).1 (omega 
 -- where page i of some bytes begins, if there is one
 pub page_start_below : (at len page i : ℕ) → 1 ≤ page → i < pages_touched at len page → (at / page + i) * page < at + len
 page_start_below at len page i some_page below = elim (cases_lt 0 len) [
-    inl some ↦
+  | inl some ↦
       let last = (at + len - 1) / page in
       let low : at / page + i ≤ last = omega (arith, page_rising at len page some_page some, pages_touched_some at len page some) in
       omega (arith, mul-le-mul_right page low, div-mul-le_self (at + len - 1) page)
-    | inr none ↦ absurd (omega (arith, pages_touched_none at len page (omega arith)))
-  ]
+  | inr none ↦ absurd (omega (arith, pages_touched_none at len page (omega arith)))
+]
 
 -- the page behind the last one begins at or behind the end
 pub page_start_behind : (at len page i : ℕ) → 1 ≤ page → 0 < len → pages_touched at len page ≤ i → at + len ≤ (at / page + i) * page
@@ -198,9 +199,9 @@ module _ (bytes : List ℕ) (at len page : ℕ) (some_page : 1 ≤ page) (within
   all_reached : reached (pages_touched at len page) ≡ len
   unfolding reached
   all_reached = elim (cases_lt 0 len) [
-      inl some ↦ let b = page_start_behind at len page (pages_touched at len page) some_page some (omega arith) in omega (arith, b)
-      | inr none ↦ omega arith
-    ]
+    | inl some ↦ let b = page_start_behind at len page (pages_touched at len page) some_page some (omega arith) in omega (arith, b)
+    | inr none ↦ omega arith
+  ]
 
   pub read_pages : flat_map (λ i. let piece = piece_of at len page i in bytes_at (read i) (piece.at % page) piece.size) (range_with_len 0 (pages_touched at len page)) ≡ bytes_at bytes at len
   unfolding part reached start
