@@ -143,7 +143,7 @@ place_whole sizes values pass reply Placing may = tt
 place_whole sizes values pass reply (Reading page) may = tt
 place_whole sizes values pass reply stage may = absurd may
 
-read_only : (call : FileCall) → is_read call ≡ true → is_write call ≡ false
+pub read_only : (call : FileCall) → is_read call ≡ true → is_write call ≡ false
 read_only (Read file at len) read = refl
 read_only (Write file at bytes) read = absurd (true≢false (sym read))
 read_only (Sync file) read = refl

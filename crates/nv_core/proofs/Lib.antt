@@ -34,4 +34,5 @@ pub mod GatheredLaws
 pub mod KeepsStores
 pub mod KeepsValidBuffers
 pub mod KeepsLegal
+pub mod KeepsCleanPages
 pub mod KeepsContent

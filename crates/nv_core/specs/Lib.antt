@@ -30,4 +30,5 @@ pub mod StorePages
 pub mod Legal
 pub mod Lengths
 pub mod ValidBuffers
+pub mod CleanPages
 pub mod Content
