@@ -1,9 +1,8 @@
 -- Each event keeps the clean pages.
-use Rattle.std.proofs.Common.{◌≡◌, ◌≢◌, ◌⊎◌, ℕ, ◌+◌, ◌*◌, ◌/◌, ◌%◌, ◌^◌, ◌<◌, ◌≤◌, ◌==◌, nat_lt, nat_le, not, ◌&&◌, Bool, true, false, if◌then◌else◌, List, [], ◌∷◌, ◌++◌, length, inl, inr, refl, sym, ap, subst, ◌∙◌, arith, le_trans}
-use Rattle.std.proofs.lemmas.Bool.{eqb-true, cases_eq, cases_lt, cases_Bool}
+use Rattle.std.proofs.Common.{◌≡◌, ℕ, ◌+◌, ◌*◌, ◌/◌, ◌%◌, ◌^◌, ◌<◌, ◌≤◌, ◌==◌, nat_lt, nat_le, not, ◌&&◌, true, if◌then◌else◌, List, length, inl, inr, refl, sym, ap, subst, ◌∙◌, arith, le_trans}
+use Rattle.std.proofs.lemmas.Bool.{eqb-true, cases_eq, cases_Bool}
 use Rattle.nv_plain.specs.Files.{Files}
 use Rattle.nv_plain.specs.Histories.{after}
-use Rattle.nv_plain.specs.Calls.{files_after}
 use Rattle.nv_plain.specs.declared.call.FileCall.{FileCall}
 use Rattle.nv_plain.specs.declared.call.Reply.{Reply}
 use Rattle.nv_core.specs.Words.{Sizes, Word, STOP, ORDER, HEAD, TAIL, SIZE, LENGTH, STORE, ENTRY, PAGE, DIRTY}
@@ -11,9 +10,9 @@ use Rattle.nv_core.specs.Values.{Ending, Made, Failed}
 use Rattle.nv_core.specs.Passes.{Stage, Idle, Locking, Measuring, Sizing, Checking, Ordering, Reading, Fetching, Copying, Returning, Waiting, Heading, Tailing, Drawing, Seizing, Committing, Pledging, Readying, Placing, Growing, Releasing, Giving, Leaving, ReadFailing, WriteFailing, Breaking, Pass, IsAllowed, file_of, is_write, is_read, page_count, first_page, end_page, without}
 use Rattle.nv_core.specs.Deeds.{Deed, Loads, Takes, Gives, Places, Stops, Draws, Seizes, Pledges, Readies, Grows, Breaks, Splits, Leaves, Joins, slot_of}
 use Rattle.nv_core.specs.Stages.{stage_after, after_load, after_take, after_give, after_stop, leaving, giving, ending, ordered, copying, exceeds}
-use Rattle.nv_core.specs.Order.{Values, Work, MayWork, MayStep, MayLoad, MayTake, MayPlace, IsDue, IsFailing, commit_steps}
-use Rattle.nv_core.specs.Core.{Core, changes, changed, after_step, after_begin, after_work, worked, stage_worked}
-use Rattle.nv_core.specs.Events.{MayDo, MayFind}
+use Rattle.nv_core.specs.Order.{Values, Work, MayWork, MayLoad, MayTake, MayPlace, IsDue, IsFailing, commit_steps}
+use Rattle.nv_core.specs.Core.{Core, changes, changed, after_step, after_begin, after_work, stage_worked}
+use Rattle.nv_core.specs.Events.{MayFind}
 use Rattle.nv_core.specs.Standing.{StandsAt, IsPage}
 use Rattle.nv_core.specs.PagesAfter.{page_from, files_now, page_in, page_now}
 use Rattle.nv_core.specs.StorePages.{StorePages}
@@ -22,7 +21,7 @@ use Rattle.nv_core.specs.Sound.{Sound}
 use Rattle.nv_core.proofs.Changes.{by_number, by_word, word_here}
 use Rattle.nv_core.proofs.Choices.{if_both, not_both, leaving_both, IsGivingBack, gives_back, step_idle}
 use Rattle.nv_core.proofs.WordLaws.{untouched}
-use Rattle.nv_core.proofs.Placed.{IsUnplaced, same_history}
+use Rattle.nv_core.proofs.Placed.{same_history}
 use Rattle.nv_core.proofs.FileLaws.{files_same, page_else}
 use Rattle.nv_core.proofs.KeepsLengths.{known_file, files_placed}
 use Rattle.nv_core.proofs.KeepsValidBuffers.{read_only}
@@ -89,18 +88,19 @@ pledged_here sizes opening by core found Stops may was page has = absurd (none_s
 pledged_here sizes opening by core found Draws may was page has = absurd (if_both (λ s. HasPledged sizes (core.passes by).call s page → ⊥) (found == (core.passes by).head) (Seizing found) (leaving (core.passes by).hands) (λ _ z. z) (λ _. none_leaving sizes core.values (core.passes by) page (core.passes by).hands) has)
 pledged_here sizes opening by core found (Seizes next) may was page has = absurd (if_both (λ s. HasPledged sizes (core.passes by).call s page → ⊥) (next + 1 == (core.passes by).first + (core.passes by).entries) (Committing 0) (Seizing (next + 1)) (λ _ z. z) (λ _ z. z) has)
 pledged_here sizes opening by core found (Pledges own) may was page has = elim (cases_eq page own) [
-    inl e ↦ let w = word_here core.words (DIRTY own) (found + 1) in subst (λ p. 1 ≤ (after_step sizes by (Pledges own) found core).words (DIRTY p)) (sym e) (omega (arith, w))
-    | inr ne ↦ le_trans
+  | inl e ↦ let w = word_here core.words (DIRTY own) (found + 1) in subst (λ p. 1 ≤ (after_step sizes by (Pledges own) found core).words (DIRTY p)) (sym e) (omega (arith, w))
+  | inr ne ↦ le_trans
       (was.pledged by page (subst (λ s. HasPledged sizes (core.passes by).call s page) (sym may.may)
-        (if_both (λ s. HasPledged sizes (core.passes by).call s page → IsPage sizes (core.passes by).call page × (page < own)) (own + 1 == end_page sizes (core.passes by).call)
-          (Readying (if (core.passes by).entries == 1 then (core.passes by).first else (core.passes by).first + 1)) (Pledging (own + 1))
-          (λ e is. let last = eqb-true (own + 1) (end_page sizes (core.passes by).call) e in let high = is.1 in (is, omega (arith, last, high, ne)))
-          (λ _ is. let high = is.1 in (is.0, omega (arith, high, ne))) has)))
-      (dirty_up sizes by core found (Pledges own) may page) ]
+      (if_both (λ s. HasPledged sizes (core.passes by).call s page → IsPage sizes (core.passes by).call page × (page < own)) (own + 1 == end_page sizes (core.passes by).call)
+      (Readying (if (core.passes by).entries == 1 then (core.passes by).first else (core.passes by).first + 1)) (Pledging (own + 1))
+      (λ e is. let last = eqb-true (own + 1) (end_page sizes (core.passes by).call) e in let high = is.1 in (is, omega (arith, last, high, ne)))
+      (λ _ is. let high = is.1 in (is.0, omega (arith, high, ne))) has)))
+      (dirty_up sizes by core found (Pledges own) may page)
+]
 pledged_here sizes opening by core found (Readies next) may was page has = le_trans
     (was.pledged by page (subst (λ s. HasPledged sizes (core.passes by).call s page) (sym may.may)
-      (if_both (λ s. HasPledged sizes (core.passes by).call s page → IsPage sizes (core.passes by).call page) (next == (core.passes by).first) Placing
-        (Readying (if next + 1 == (core.passes by).first + (core.passes by).entries then (core.passes by).first else next + 1)) (λ _ is. is.0) (λ _ is. is) has)))
+    (if_both (λ s. HasPledged sizes (core.passes by).call s page → IsPage sizes (core.passes by).call page) (next == (core.passes by).first) Placing
+    (Readying (if next + 1 == (core.passes by).first + (core.passes by).entries then (core.passes by).first else next + 1)) (λ _ is. is.0) (λ _ is. is) has)))
     (dirty_up sizes by core found (Readies next) may page)
 pledged_here sizes opening by core found Grows may was page has = absurd (none_ending sizes core.values (core.passes by) page has)
 pledged_here sizes opening by core found (Breaks next) may was page has = absurd (if_both (λ s. HasPledged sizes (core.passes by).call s page → ⊥) (next + 1 == (core.passes by).first + (core.passes by).entries) (leaving (without (ENTRY (slot_of sizes next)) (core.passes by).hands)) (Breaking (next + 1))
@@ -122,13 +122,14 @@ clean_here : (sizes : Sizes) (first : Values) (opening : Files) (by : ℕ) (core
     → (page : ℕ) → core.words (DIRTY page) ≡ 0 → page_now sizes opening (after_step sizes by deed found core) page ≡ page_now sizes opening core page
 clean_here sizes first opening by core found (Places reply) count sound may was page none =
     ap (λ f. page_in sizes f page) (files_placed opening by core reply) ∙ elim (cases_Bool (is_write (core.passes by).call)) [
-      inl write ↦ page_else sizes (core.passes by).call (files_now opening core) page allowed there
-        (λ is. let p = was.pledged by page (placed_pages sizes core.values (core.passes by) reply page (core.passes by).stage (sound.standing by).at may.may write is) in omega (arith, p, none))
+      | inl write ↦ page_else sizes (core.passes by).call (files_now opening core) page allowed there
+          (λ is. let p = was.pledged by page (placed_pages sizes core.values (core.passes by) reply page (core.passes by).stage (sound.standing by).at may.may write is) in omega (arith, p, none))
       | inr other ↦ ap (λ b. page_from b (page % sizes.pages * sizes.page) sizes.page) (files_same (core.passes by).call (files_now opening core) (page / sizes.pages) there (inl other))
     ]
   where
     allowed : IsAllowed sizes (core.passes by).call
     allowed = (sound.standing by).allowed (step_idle sizes core.values (core.passes by) (Places reply) may.may)
+
     there : file_of (core.passes by).call < length (files_now opening core).contents
     there = known_file sizes first opening by core (Places reply) sound count may.may
 clean_here sizes first opening by core found deed count sound may was page none = ap (λ h. page_in sizes (after h opening) page) (same_history by core deed tt)
@@ -169,5 +170,7 @@ clean_work sizes opening by core work may was = clean_one sizes opening core by 
 
 -- a clean page is its store's
 pub store_pages : (sizes : Sizes) (first : Values) (opening : Files) (core : Core) → StoresSeen first opening → CleanPages sizes opening core → StorePages sizes first opening core
-store_pages sizes first opening core stores was = record { clean = λ number page store read has none told.
-    was.clean page none ∙ ap (λ b. page_from b (page % sizes.pages * sizes.page) sizes.page) (sym (stores.seen (page / sizes.pages) store told)) }
+store_pages sizes first opening core stores was = record {
+  clean = λ number page store read has none told.
+      was.clean page none ∙ ap (λ b. page_from b (page % sizes.pages * sizes.page) sizes.page) (sym (stores.seen (page / sizes.pages) store told));
+}

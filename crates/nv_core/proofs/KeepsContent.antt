@@ -1,5 +1,5 @@
 -- Each event keeps the content.
-use Rattle.std.proofs.Common.{◌≡◌, ℕ, ◌≤◌, Bool, true, false, List, [], ◌∷◌, length, refl, ap, arith}
+use Rattle.std.proofs.Common.{◌≡◌, ℕ, ◌≤◌, Bool, true, false, List, [], ◌∷◌, refl, ap, arith}
 use Rattle.nv_plain.specs.Files.{Files}
 use Rattle.nv_plain.specs.declared.call.FileCall.{FileCall}
 use Rattle.nv_core.specs.Words.{Sizes}
@@ -10,8 +10,7 @@ use Rattle.nv_core.specs.Events.{Event, Act, Begins, Does, Calls, MayAct, MayFin
 use Rattle.nv_core.specs.Passes.{Stage, Idle, Growing}
 use Rattle.nv_core.specs.Opening.{opening}
 use Rattle.nv_core.specs.Sound.{Sound}
-use Rattle.nv_core.specs.StorePages.{StoresTell, StorePages}
-use Rattle.nv_core.specs.Content.{Content, EventsKeepContent, OpeningHasContent, StayClean, RunsKeepContent}
+use Rattle.nv_core.specs.Content.{Content, HasFiles, EventsKeepContent, OpeningHasContent, RunsKeepContent}
 use Rattle.nv_core.proofs.Choices.{not_both}
 use Rattle.nv_core.proofs.Reach.{events_keep_sound, opening_is_sound}
 use Rattle.nv_core.proofs.KeepsNumbers.{numbers_one}
@@ -26,6 +25,7 @@ use Rattle.nv_core.proofs.KeepsHistory.{history_begin}
 use Rattle.nv_core.proofs.KeepsStores.{stores_step, stores_work}
 use Rattle.nv_core.proofs.KeepsLengths.{lengths_step, lengths_begin, lengths_work}
 use Rattle.nv_core.proofs.KeepsValidBuffers.{valid_step, valid_begin, valid_work}
+use Rattle.nv_core.proofs.KeepsCleanPages.{clean_step, clean_begin, clean_work, store_pages}
 use Rattle.nv_core.proofs.KeepsLegal.{legal_step}
 
 -- the core is sound where a call begins
@@ -45,42 +45,45 @@ begun_sound sizes first by core call sound made may = record {
   devices = sound.devices;
 }
 
-content_step : (sizes : Sizes) (first : Values) (opening : Files) (by : ℕ) (core : Core) (deed : Deed) (found : ℕ) → length opening.contents ≡ sizes.files
-    → Sound sizes first core → Content sizes first opening core → MayFind sizes by core deed found → Content sizes first opening (after_step sizes by deed found core)
-content_step sizes first opening by core deed found count sound was may = record {
-  legal = legal_step sizes first opening by core deed found sound was.lengths was.buffers may was.legal;
-  lengths = lengths_step sizes first opening by core deed found count sound may was.lengths;
-  buffers = valid_step sizes first opening by core deed found count sound may was.buffers;
+content_step : (sizes : Sizes) (first : Values) (files : Files) (by : ℕ) (core : Core) (deed : Deed) (found : ℕ) → HasFiles sizes first files → Sound sizes first core → Content sizes first files core → MayFind sizes by core deed found
+    → Content sizes first files (after_step sizes by deed found core)
+content_step sizes first files by core deed found has sound was may = record {
+  legal = legal_step sizes first files by core deed found sound was.lengths was.buffers may was.legal;
+  lengths = lengths_step sizes first files by core deed found has.count sound may was.lengths;
+  buffers = valid_step sizes first files by core deed found has.count sound may was.buffers;
   stores = stores_step sizes first (core.passes by) deed core.values was.stores;
+  clean = clean_step sizes first files by core deed found has.count sound may was.clean;
 }
 
-content_begin : (sizes : Sizes) (first : Values) (opening : Files) (by : ℕ) (core : Core) (call : FileCall) → Sound sizes first core → Content sizes first opening core → MayBegin sizes call (core.passes by)
-    → Content sizes first opening (after_begin sizes by call core)
-content_begin sizes first opening by core call sound was may = record {
+content_begin : (sizes : Sizes) (first : Values) (files : Files) (by : ℕ) (core : Core) (call : FileCall) → Sound sizes first core → Content sizes first files core → MayBegin sizes call (core.passes by)
+    → Content sizes first files (after_begin sizes by call core)
+content_begin sizes first files by core call sound was may = record {
   legal = record { legal = was.legal.legal };
-  lengths = lengths_begin sizes opening by core call may was.lengths;
-  buffers = valid_begin sizes first opening by core call sound may was.buffers;
+  lengths = lengths_begin sizes files by core call may was.lengths;
+  buffers = valid_begin sizes first files by core call sound may was.buffers;
   stores = was.stores;
+  clean = clean_begin sizes files by core call was.clean;
 }
 
-content_work : (sizes : Sizes) (first : Values) (opening : Files) (by : ℕ) (core : Core) (work : Work) → StoresTell sizes first → Sound sizes first core → StorePages sizes first opening core → Content sizes first opening core
-    → MayWork sizes core.values (core.passes by) work → Content sizes first opening (after_work sizes by work core)
-content_work sizes first opening by core work tells sound clean was may = record {
+content_work : (sizes : Sizes) (first : Values) (files : Files) (by : ℕ) (core : Core) (work : Work) → HasFiles sizes first files → Sound sizes first core → Content sizes first files core → MayWork sizes core.values (core.passes by) work
+    → Content sizes first files (after_work sizes by work core)
+content_work sizes first files by core work has sound was may = record {
   legal = record { legal = was.legal.legal };
-  lengths = lengths_work sizes opening by core work may was.lengths;
-  buffers = valid_work sizes first opening by core work sound tells was.stores clean may was.buffers;
+  lengths = lengths_work sizes files by core work may was.lengths;
+  buffers = valid_work sizes first files by core work sound has.tell was.stores (store_pages sizes first files core has.seen was.clean) may was.buffers;
   stores = stores_work first (core.passes by) work core.values was.stores;
+  clean = clean_work sizes files by core work may was.clean;
 }
 
-content_act : (sizes : Sizes) (first : Values) (opening : Files) (by : ℕ) (core : Core) (act : Act) → length opening.contents ≡ sizes.files → StoresTell sizes first → Sound sizes first core → StorePages sizes first opening core
-    → Content sizes first opening core → by ≤ core.made → MayAct sizes by core act → Content sizes first opening (after_act sizes by act core)
-content_act sizes first opening by core (Begins call deed found) count tells sound clean was made may =
-    content_step sizes first opening by (after_begin sizes by call core) deed found count (begun_sound sizes first by core call sound made may.0) (content_begin sizes first opening by core call sound was may.0) may.1
-content_act sizes first opening by core (Does deed found) count tells sound clean was made may = content_step sizes first opening by core deed found count sound was may
-content_act sizes first opening by core (Calls work) count tells sound clean was made may = content_work sizes first opening by core work tells sound clean was may
+content_act : (sizes : Sizes) (first : Values) (files : Files) (by : ℕ) (core : Core) (act : Act) → HasFiles sizes first files → Sound sizes first core → Content sizes first files core → by ≤ core.made → MayAct sizes by core act
+    → Content sizes first files (after_act sizes by act core)
+content_act sizes first files by core (Begins call deed found) has sound was made may =
+    content_step sizes first files by (after_begin sizes by call core) deed found has (begun_sound sizes first by core call sound made may.0) (content_begin sizes first files by core call sound was may.0) may.1
+content_act sizes first files by core (Does deed found) has sound was made may = content_step sizes first files by core deed found has sound was may
+content_act sizes first files by core (Calls work) has sound was made may = content_work sizes first files by core work has sound was may
 
 pub events_keep_content : EventsKeepContent
-events_keep_content sizes first opening core event count tells sound clean was may = content_act sizes first opening event.by core event.act count tells sound clean was may.made may.act
+events_keep_content sizes first files core event has sound was may = content_act sizes first files event.by core event.act has sound was may.made may.act
 
 -- ---- at opening, and through runs
 
@@ -98,6 +101,7 @@ opening_has_content mount files is = record {
     gathered = λ number. tt;
   };
   stores = record { each = λ file. refl };
+  clean = record { pledged = λ number page has. absurd has; clean = λ page none. refl };
 }
   where
     is_idle : Stage → Bool
@@ -107,13 +111,12 @@ opening_has_content mount files is = record {
     grows_not : Idle ≡ Growing → ⊥
     grows_not e = not_both {b = is_idle Idle} refl (ap is_idle e)
 
-run_keeps : (sizes : Sizes) (first : Values) (files : Files) (events : List Event) (core : Core) → length files.contents ≡ sizes.files → StoresTell sizes first → Sound sizes first core → Content sizes first files core
-    → IsRun sizes core events → StayClean sizes first files core events → Content sizes first files (after sizes core events)
-run_keeps sizes first files [] core count tells sound was run clean = was
-run_keeps sizes first files (event ∷ later) core count tells sound was run clean =
-    run_keeps sizes first files later (after_event sizes event core) count tells (events_keep_sound sizes first core event sound run.0)
-    (events_keep_content sizes first files core event count tells sound clean.0 was run.0) run.1 clean.1
+run_keeps : (sizes : Sizes) (first : Values) (files : Files) (events : List Event) (core : Core) → HasFiles sizes first files → Sound sizes first core → Content sizes first files core → IsRun sizes core events
+    → Content sizes first files (after sizes core events)
+run_keeps sizes first files [] core has sound was run = was
+run_keeps sizes first files (event ∷ later) core has sound was run =
+    run_keeps sizes first files later (after_event sizes event core) has (events_keep_sound sizes first core event sound run.0) (events_keep_content sizes first files core event has sound was run.0) run.1
 
 pub runs_keep_content : RunsKeepContent
-runs_keep_content mount files events is opens run clean =
-    run_keeps mount.sizes mount.values files events (opening mount) opens.count opens.tell (opening_is_sound mount is) (opening_has_content mount files opens) run clean
+runs_keep_content mount files events is opens run =
+    run_keeps mount.sizes mount.values files events (opening mount) opens.stores (opening_is_sound mount is) (opening_has_content mount files opens) run
