@@ -3,8 +3,10 @@
 //! with an empty body.
 #![tactic(auto)]
 
+mod content;
 mod laws;
 
+pub use content::runs_keep_content;
 pub use laws::{
     no_sound_state_allows, runs_are_sound, walks_are_runs, words_have_places_of_their_own,
 };
