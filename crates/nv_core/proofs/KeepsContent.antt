@@ -12,38 +12,12 @@ use Rattle.nv_core.specs.Opening.{opening}
 use Rattle.nv_core.specs.Sound.{Sound}
 use Rattle.nv_core.specs.Content.{Content, HasFiles, EventsKeepContent, OpeningHasContent, RunsKeepContent}
 use Rattle.nv_core.proofs.Choices.{not_both}
-use Rattle.nv_core.proofs.Reach.{events_keep_sound, opening_is_sound}
-use Rattle.nv_core.proofs.KeepsNumbers.{numbers_one}
-use Rattle.nv_core.proofs.KeepsStanding.{standing_begin, holding_begin}
-use Rattle.nv_core.proofs.KeepsLocks.{locks_begin}
-use Rattle.nv_core.proofs.KeepsWindow.{window_begin}
-use Rattle.nv_core.proofs.KeepsLoaded.{loaded_begin}
-use Rattle.nv_core.proofs.KeepsStop.{stop_begin}
-use Rattle.nv_core.proofs.KeepsBroken.{broken_begin}
-use Rattle.nv_core.proofs.KeepsDirty.{dirty_begin}
-use Rattle.nv_core.proofs.KeepsHistory.{history_begin}
+use Rattle.nv_core.proofs.Reach.{sound_begin, events_keep_sound, opening_is_sound}
 use Rattle.nv_core.proofs.KeepsStores.{stores_step, stores_work}
 use Rattle.nv_core.proofs.KeepsLengths.{lengths_step, lengths_begin, lengths_work}
 use Rattle.nv_core.proofs.KeepsValidBuffers.{valid_step, valid_begin, valid_work}
 use Rattle.nv_core.proofs.KeepsCleanPages.{clean_step, clean_begin, clean_work, store_pages}
 use Rattle.nv_core.proofs.KeepsLegal.{legal_step}
-
--- the core is sound where a call begins
-begun_sound : (sizes : Sizes) (first : Values) (by : ℕ) (core : Core) (call : FileCall) → Sound sizes first core → by ≤ core.made → MayBegin sizes call (core.passes by) → Sound sizes first (after_begin sizes by call core)
-begun_sound sizes first by core call sound made may = record {
-  numbers = numbers_one core by _ core.values sound.numbers made;
-  standing = standing_begin sizes first by core call sound may;
-  holding = holding_begin sizes first by core call sound may;
-  locks = locks_begin sizes first by core call sound;
-  window = window_begin sizes first by core call sound may;
-  dirty = dirty_begin sizes first by core call sound.dirty may;
-  loaded = loaded_begin sizes first by core call sound may;
-  stop = stop_begin sizes first by core call sound may;
-  broken = broken_begin sizes first by core call sound sound.broken may;
-  history = history_begin sizes by core call sound.history made may;
-  buffers = sound.buffers;
-  devices = sound.devices;
-}
 
 content_step : (sizes : Sizes) (first : Values) (files : Files) (by : ℕ) (core : Core) (deed : Deed) (found : ℕ) → HasFiles sizes first files → Sound sizes first core → Content sizes first files core → MayFind sizes by core deed found
     → Content sizes first files (after_step sizes by deed found core)
@@ -78,7 +52,7 @@ content_work sizes first files by core work has sound was may = record {
 content_act : (sizes : Sizes) (first : Values) (files : Files) (by : ℕ) (core : Core) (act : Act) → HasFiles sizes first files → Sound sizes first core → Content sizes first files core → by ≤ core.made → MayAct sizes by core act
     → Content sizes first files (after_act sizes by act core)
 content_act sizes first files by core (Begins call deed found) has sound was made may =
-    content_step sizes first files by (after_begin sizes by call core) deed found has (begun_sound sizes first by core call sound made may.0) (content_begin sizes first files by core call sound was may.0) may.1
+    content_step sizes first files by (after_begin sizes by call core) deed found has (sound_begin sizes first by core call sound made may.0) (content_begin sizes first files by core call sound was may.0) may.1
 content_act sizes first files by core (Does deed found) has sound was made may = content_step sizes first files by core deed found has sound was may
 content_act sizes first files by core (Calls work) has sound was made may = content_work sizes first files by core work has sound was may
 

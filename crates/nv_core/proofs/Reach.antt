@@ -40,7 +40,8 @@ sound_step sizes first by core deed found sound made may = record {
   devices = devices_step sizes first by core deed sound;
 }
 
-sound_begin : (sizes : Sizes) (first : Values) (by : ℕ) (core : Core) (call : FileCall) → Sound sizes first core → by ≤ core.made → MayBegin sizes call (core.passes by) → Sound sizes first (after_begin sizes by call core)
+-- a call that begins, before its first step
+pub sound_begin : (sizes : Sizes) (first : Values) (by : ℕ) (core : Core) (call : FileCall) → Sound sizes first core → by ≤ core.made → MayBegin sizes call (core.passes by) → Sound sizes first (after_begin sizes by call core)
 sound_begin sizes first by core call sound made may = record {
   numbers = numbers_one core by _ core.values sound.numbers made;
   standing = standing_begin sizes first by core call sound may;
