@@ -36,3 +36,4 @@ pub mod KeepsValidBuffers
 pub mod KeepsLegal
 pub mod KeepsCleanPages
 pub mod KeepsContent
+pub mod KeepsGroups

@@ -32,3 +32,4 @@ pub mod Lengths
 pub mod ValidBuffers
 pub mod CleanPages
 pub mod Content
+pub mod Groups
