@@ -37,3 +37,4 @@ pub mod KeepsLegal
 pub mod KeepsCleanPages
 pub mod KeepsContent
 pub mod KeepsGroups
+pub mod ApartLaws

@@ -33,3 +33,4 @@ pub mod ValidBuffers
 pub mod CleanPages
 pub mod Content
 pub mod Groups
+pub mod Apart

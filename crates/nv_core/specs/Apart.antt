@@ -1,0 +1,25 @@
+-- Writes apart: which calls may be made in another order with the same files.
+use Rattle.std.specs.Prelude.{◌≢◌, ◌⊎◌, ℕ, ◌+◌, ◌≤◌, List, [], ◌∷◌, length}
+use Rattle.nv_plain.specs.declared.call.FileCall.{FileCall}
+use Rattle.nv_plain.specs.declared.call.FileCall.TheVariants.{Write}
+use Rattle.nv_plain.specs.Files.{Files}
+use Rattle.nv_plain.specs.Calls.{files_after}
+
+-- two runs of bytes that don't meet
+abbrev pub AreDisjoint : (at len from count : ℕ) → Type 0
+AreDisjoint at len from count = (at + len ≤ from) ⊎ (from + count ≤ at)
+
+-- Two calls are apart where they are no writes of one file that touch one byte.
+abbrev pub AreApart : FileCall → FileCall → Type 0
+AreApart (Write file at bytes) (Write other from others) = (file ≢ other) ⊎ AreDisjoint at (length bytes) from (length others)
+AreApart one other = Unit {0}
+
+-- a call is apart from each of some others
+abbrev pub IsApartFrom : FileCall → List FileCall → Type 0
+IsApartFrom call [] = Unit {0}
+IsApartFrom call (one ∷ others) = AreApart call one × IsApartFrom call others
+
+-- the files after some calls, the first of them first
+abbrev pub after_calls : List FileCall → Files → Files
+after_calls [] files = files
+after_calls (call ∷ later) files = after_calls later (files_after call files)
