@@ -38,3 +38,7 @@ pub mod KeepsCleanPages
 pub mod KeepsContent
 pub mod KeepsGroups
 pub mod ApartLaws
+pub mod RowParts
+pub mod WrittenLaws
+pub mod KeepsWritten
+pub mod KeepsBytes

@@ -34,3 +34,4 @@ pub mod CleanPages
 pub mod Content
 pub mod Groups
 pub mod Apart
+pub mod Written

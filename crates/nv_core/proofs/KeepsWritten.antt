@@ -1,0 +1,579 @@
+-- Each event keeps the groups written, and the free entries blank.
+use Rattle.std.proofs.Common.{◌≡◌, ◌≢◌, ◌⊎◌, ℕ, zero, suc, ◌+◌, ◌<◌, ◌≤◌, ◌==◌, Bool, true, false, if◌then◌else◌, List, [], ◌∷◌, length, inl, inr, refl, sym, ap, ap₂, subst, ◌∙◌, arith}
+use Rattle.std.specs.Prelude.{slice_index_or}
+use Rattle.std.proofs.lemmas.Bool.{eqb-true, cases_eq, cases_lt}
+use Rattle.std.proofs.lemmas.Nat.{mod_below}
+use Rattle.std.proofs.lemmas.List.{get_or_past}
+use Rattle.nv_plain.specs.declared.call.FileCall.{FileCall}
+use Rattle.nv_plain.specs.declared.call.FileCall.TheVariants.{Read, Write, Sync}
+use Rattle.nv_pmem.specs.Limits.{IsPageSize, entry_lines}
+use Rattle.nv_pmem.specs.Part.{Part}
+use Rattle.nv_pmem.specs.Laws.{BlankIsQuiet}
+use Rattle.nv_pmem.specs.Images.{IsQuiet, InEachImage}
+use Rattle.nv_pmem.specs.Rows.{RowStep}
+use Rattle.nv_pmem.specs.Runs.{run}
+use Rattle.nv_entry.specs.Commits.{after_some}
+use Rattle.nv_core.specs.Words.{Sizes, Word, HEAD, TAIL, STORE, ENTRY, kind_of, free, filling, ready, broken, index}
+use Rattle.nv_core.specs.Values.{Ending, Made, Failed, Writes, called}
+use Rattle.nv_core.specs.Passes.{Stage, Locking, Checking, Copying, Seizing, Committing, Pledging, Readying, Placing, ReadFailing, WriteFailing, Breaking, Pass, IsUnseized, IsFilling, IsAmong, file_of, is_write, page_count, first_page, end_page, without}
+use Rattle.nv_core.specs.Deeds.{Deed, slot_of, page_at, ready_word, Loads, Takes, Gives, Places, Stops, Draws, Seizes, Pledges, Readies, Grows, Breaks, Splits, Leaves, Joins}
+use Rattle.nv_core.specs.Stages.{stage_after, after_stop, leaving}
+use Rattle.nv_core.specs.Stepped.{stepped, begun}
+use Rattle.nv_core.specs.Order.{Values, Work, MayWork, IsDue, IsNextCall, IsPageRead, IsFailing, commit_steps, MayStep}
+use Rattle.nv_core.specs.Core.{Core, changes, changed, with_word, with_number, after_step, after_begin, after_work, worked, stage_worked, values_worked}
+use Rattle.nv_core.specs.Events.{MayFind}
+use Rattle.nv_core.specs.Standing.{StandsAt, HasDrawn, IsSmall, HasRoom}
+use Rattle.nv_core.specs.LogWindow.{HasUnseized, Fills, InWindow, entry_at}
+use Rattle.nv_core.specs.Groups.{Group, Log, group_of, with_group, log_stepped, log_worked, calls_after, HasGroup, IsGrouped, IsOwn, Groups}
+use Rattle.nv_core.specs.Written.{IsPart, AreParts, CommitsNone, IsWritten, commit_length, HasCalls, IsBlank, Written, AreBytes}
+use Rattle.nv_core.specs.Sound.{Sound}
+use Rattle.nv_core.proofs.Changes.{by_number, by_word, number_here, number_else, word_here, word_else, differ}
+use Rattle.nv_core.proofs.Choices.{if_both, not_both, when_true, when_false, busy}
+use Rattle.nv_core.proofs.ClearLaws.{IsClear, IsPlain, clear_to, clear_leaving}
+use Rattle.nv_core.proofs.LockLaws.{only_holder}
+use Rattle.nv_core.proofs.PageLaws.{write_pages}
+use Rattle.nv_core.proofs.WordLaws.{untouched, touches}
+use Rattle.nv_core.proofs.HoldingSteps.{few_entries, apart_in}
+use Rattle.nv_core.proofs.KeepsLocks.{kind_is}
+use Rattle.nv_core.proofs.WindowLaws.{apart_within}
+use Rattle.nv_core.proofs.KeepsWindow.{window_step}
+use Rattle.nv_core.proofs.KeepsGroups.{is_draw, group_new, group_old, which}
+use Rattle.nv_core.proofs.RowParts.{in_group}
+use Rattle.nv_core.proofs.WrittenLaws.{part_now, part_stepped, part_worked, part_called, steps_of, written_same, written_more}
+
+-- ---- whose a leader is
+
+-- a pass has drawn a number, and not yet made it ready
+abbrev Owns : Pass → ℕ → Type 0
+Owns pass number = HasUnseized pass number ⊎ Fills pass number
+
+one_owner : (sizes : Sizes) (first : Values) (core : Core) → Sound sizes first core → (one other number : ℕ) → Owns (core.passes one) number → Owns (core.passes other) number → one ≡ other
+one_owner sizes first core sound one other number (inl a) (inl b) = sound.window.unseized_by_one one other number a b
+one_owner sizes first core sound one other number (inl a) (inr b) = absurd (let x = sound.window.unseized_is one number a in let y = sound.window.filling_is other number b in omega (arith, x, y))
+one_owner sizes first core sound one other number (inr a) (inl b) = absurd (let x = sound.window.filling_is one number a in let y = sound.window.unseized_is other number b in omega (arith, x, y))
+one_owner sizes first core sound one other number (inr a) (inr b) = elim (cases_eq other one) [
+  | inl e ↦ sym e
+  | inr ne ↦ absurd (
+      let here = (sound.holding one).filling number a in
+      let there = (sound.holding other).filling number b in
+      let none = (only_holder (sound.locks.keyed (ENTRY (slot_of sizes number))) one (omega (arith, here))).2 other ne in omega (arith, there, none))
+]
+
+-- the stages at which the device calls of a pass's group are counted
+abbrev pub IsCounted : Stage → Type 0
+IsCounted (Seizing number) = Unit {0}
+IsCounted (Committing calls) = Unit {0}
+IsCounted (Pledging page) = Unit {0}
+IsCounted (Readying number) = Unit {0}
+IsCounted stage = ⊥
+
+pub counted_group : (stage : Stage) → IsCounted stage → HasGroup stage
+counted_group (Seizing number) is = tt
+counted_group (Committing calls) is = tt
+counted_group (Pledging page) is = tt
+counted_group (Readying number) is = tt
+counted_group stage is = absurd is
+
+pub among_first : (sizes : Sizes) (pass : Pass) → HasDrawn sizes pass.call pass.entries → IsAmong pass.first pass.entries pass.first
+among_first sizes pass drawn = let s = drawn.some in (omega arith, omega (arith, s))
+
+pub counted_drawn : (sizes : Sizes) (pass : Pass) (stage : Stage) → IsCounted stage → StandsAt sizes pass stage → HasDrawn sizes pass.call pass.entries
+counted_drawn sizes pass (Seizing number) is at = at.0
+counted_drawn sizes pass (Committing calls) is at = at
+counted_drawn sizes pass (Pledging page) is at = at.0
+counted_drawn sizes pass (Readying number) is at = at.0
+counted_drawn sizes pass stage is at = absurd is
+
+leader_owned : (sizes : Sizes) (pass : Pass) (stage : Stage) → IsCounted stage → StandsAt sizes pass stage
+    → IsUnseized stage pass.first pass.entries pass.first ⊎ IsFilling stage pass.first pass.entries pass.first
+leader_owned sizes pass (Seizing next) is at = elim (cases_lt pass.first next) [
+  | inl less ↦ inr (omega arith, less)
+  | inr more ↦ inl (more, (among_first sizes pass at.0).1)
+]
+leader_owned sizes pass (Committing calls) is at = inr (among_first sizes pass at)
+leader_owned sizes pass (Pledging page) is at = inr (among_first sizes pass at.0)
+leader_owned sizes pass (Readying number) is at = inr (inl refl)
+leader_owned sizes pass stage is at = absurd is
+
+-- no two passes count one group's calls
+first_apart : (sizes : Sizes) (first : Values) (core : Core) → Sound sizes first core → (one other : ℕ) → IsCounted (core.passes one).stage → IsCounted (core.passes other).stage
+    → (core.passes one).first ≡ (core.passes other).first → one ≡ other
+first_apart sizes first core sound one other a b same = one_owner sizes first core sound one other (core.passes one).first
+    (leader_owned sizes (core.passes one) (core.passes one).stage a (sound.standing one).at)
+    (subst (Owns (core.passes other)) (sym same) (leader_owned sizes (core.passes other) (core.passes other).stage b (sound.standing other).at))
+
+-- ---- counts of calls
+
+clear_calls : (sizes : Sizes) (log : Log) (pass : Pass) (stage : Stage) → IsClear stage → HasCalls sizes log pass stage
+clear_calls sizes log pass (Seizing number) clear = absurd clear
+clear_calls sizes log pass (Committing calls) clear = absurd clear
+clear_calls sizes log pass (Pledging page) clear = absurd clear
+clear_calls sizes log pass (Readying number) clear = absurd clear
+clear_calls sizes log pass stage clear = tt
+
+calls_as : (sizes : Sizes) (log next : Log) (old new : Pass) → new.first ≡ old.first → new.call ≡ old.call → (stage : Stage) → (IsCounted stage → next.calls old.first ≡ log.calls old.first) → HasCalls sizes log old stage → HasCalls sizes next new stage
+calls_as sizes log next old new first call (Seizing number) same is = ap next.calls first ∙ same tt ∙ is
+calls_as sizes log next old new first call (Committing calls) same is = ap next.calls first ∙ same tt ∙ is
+calls_as sizes log next old new first call (Pledging page) same is = ap next.calls first ∙ same tt ∙ is ∙ sym (ap₂ (commit_length sizes) call first)
+calls_as sizes log next old new first call (Readying number) same is = ap next.calls first ∙ same tt ∙ is ∙ sym (ap₂ (commit_length sizes) call first)
+calls_as sizes log next old new first call stage same is = tt
+
+-- ---- nothing of a part changes
+
+module _ (sizes : Sizes) (tail : ℕ) (log : Log) (core now : Core) (head : now.words HEAD ≡ core.words HEAD) (window : now.words TAIL ≡ core.words TAIL)
+    (values : (slot : ℕ) → now.values (ENTRY slot) ≡ core.values (ENTRY slot)) where
+  written_kept : ((slot : ℕ) → now.words (ENTRY slot) ≡ free → core.words (ENTRY slot) ≡ free)
+      → ((n : ℕ) → InWindow core n → (log.group n).first ≡ n → kind_of (entry_at sizes now n) ≡ ready → (kind_of (entry_at sizes core n) ≡ ready) ⊎ (log.calls n ≡ commit_length sizes (log.group n).call n))
+      → ((by : ℕ) → HasCalls sizes log (now.passes by) (now.passes by).stage) → Written sizes tail log core → Written sizes tail log now
+  written_kept frees readies calls written = record {
+    groups = λ n is leads. written_same sizes core.values now.values tail (log.group n).call n (log.calls n)
+        (λ i less part is. subst (λ v. IsPart v part) (sym (values (slot_of sizes (n + i)))) is) (written.groups n (was n is) leads);
+    calls = calls;
+    ready = λ n is leads kind. elim (readies n (was n is) leads kind) [ inl old ↦ written.ready n (was n is) leads old | inr all ↦ all ];
+    free = λ slot less is. subst (λ v. IsBlank sizes v tail slot) (sym (values slot)) (written.free slot less (frees slot is));
+    low = subst (λ h. tail ≤ h) (sym head) written.low;
+  }
+    where
+      was : (n : ℕ) → InWindow now n → InWindow core n
+      was n is = (subst (λ t. t ≤ n) window is.0, subst (λ h. n < h) head is.1)
+
+-- ---- the steps that draw nothing
+
+-- the passes after a step
+calls_now : (sizes : Sizes) (log : Log) (tail : ℕ) (by : ℕ) (core : Core) (deed : Deed) (found : ℕ) → Written sizes tail log core
+    → HasCalls sizes log (changed sizes by core deed found) (changed sizes by core deed found).stage
+    → (n : ℕ) → HasCalls sizes log ((after_step sizes by deed found core).passes n) ((after_step sizes by deed found core).passes n).stage
+calls_now sizes log tail by core deed found written here = by_number (λ n (p : Pass). HasCalls sizes log p p.stage) core.passes (changes by core.made deed) (changed sizes by core deed found) here (λ n ne. written.calls n)
+
+-- a step that changes no ENTRY word
+plain_step : (sizes : Sizes) (tail : ℕ) (log : Log) (by : ℕ) (core : Core) (deed : Deed) (found : ℕ) → Written sizes tail log core → MayFind sizes by core deed found
+    → touches deed HEAD ≡ false → touches deed TAIL ≡ false → ((slot : ℕ) → touches deed (ENTRY slot) ≡ false)
+    → HasCalls sizes log (changed sizes by core deed found) (changed sizes by core deed found).stage → Written sizes tail log (after_step sizes by deed found core)
+plain_step sizes tail log by core deed found written may head window entry here =
+    written_kept sizes tail log core (after_step sizes by deed found core) (untouched sizes by core deed found may HEAD head) (untouched sizes by core deed found may TAIL window)
+    (part_stepped sizes (core.passes by) deed core.values)
+    (λ slot is. sym (untouched sizes by core deed found may (ENTRY slot) (entry slot)) ∙ is)
+    (λ n is leads kind. inl (ap kind_of (sym (untouched sizes by core deed found may (ENTRY (slot_of sizes n)) (entry (slot_of sizes n)))) ∙ kind))
+    (calls_now sizes log tail by core deed found written here) written
+
+clear_step : (sizes : Sizes) (tail : ℕ) (log : Log) (by : ℕ) (core : Core) (deed : Deed) (found number : ℕ) → IsPlain deed → MayStep sizes core.values (core.passes by) deed
+    → HasCalls sizes log (stepped sizes number core.history deed found (core.passes by)) (stage_after sizes (core.passes by) deed found)
+clear_step sizes tail log by core deed found number plain may = clear_calls sizes log (stepped sizes number core.history deed found (core.passes by)) (stage_after sizes (core.passes by) deed found) (clear_to sizes core.values (core.passes by) deed found plain may)
+
+-- a step that sets an ENTRY word that is neither free nor ready then
+entry_step : (sizes : Sizes) (tail : ℕ) (log : Log) (by : ℕ) (core : Core) (deed : Deed) (found slot value : ℕ) → Written sizes tail log core
+    → (after_step sizes by deed found core).words ≡ with_word core.words (ENTRY slot) value → kind_of value ≢ free → kind_of value ≢ ready
+    → HasCalls sizes log (changed sizes by core deed found) (changed sizes by core deed found).stage → Written sizes tail log (after_step sizes by deed found core)
+entry_step sizes tail log by core deed found slot value written words not_free not_ready here =
+    written_kept sizes tail log core (after_step sizes by deed found core)
+    (ap (λ w. w HEAD) words ∙ word_else core.words (ENTRY slot) value HEAD (differ HEAD (ENTRY slot) refl))
+    (ap (λ w. w TAIL) words ∙ word_else core.words (ENTRY slot) value TAIL (differ TAIL (ENTRY slot) refl))
+    (part_stepped sizes (core.passes by) deed core.values)
+    (λ other is. frees (ENTRY other) (sym (ap (λ w. w (ENTRY other)) words) ∙ is))
+    (λ n is leads kind. inl (readies (ENTRY (slot_of sizes n)) (ap (λ w. kind_of (w (ENTRY (slot_of sizes n)))) (sym words) ∙ kind)))
+    (calls_now sizes log tail by core deed found written here) written
+  where
+    frees : (word : Word) → with_word core.words (ENTRY slot) value word ≡ free → core.words word ≡ free
+    frees = by_word (λ word v. v ≡ free → core.words word ≡ free) core.words (ENTRY slot) value (λ e. absurd (not_free (ap kind_of e))) (λ word ne e. e)
+
+    readies : (word : Word) → kind_of (with_word core.words (ENTRY slot) value word) ≡ ready → kind_of (core.words word) ≡ ready
+    readies = by_word (λ word v. kind_of v ≡ ready → kind_of (core.words word) ≡ ready) core.words (ENTRY slot) value (λ e. absurd (not_ready e)) (λ word ne e. e)
+
+-- an entry is made ready: a leader only when all device calls of its group's commit have come
+ready_step : (sizes : Sizes) (first : Values) (tail : ℕ) (log : Log) (by : ℕ) (core : Core) (found next : ℕ) → Sound sizes first core → Groups sizes core log → Written sizes tail log core → MayFind sizes by core (Readies next) found
+    → Written sizes tail log (after_step sizes by (Readies next) found core)
+ready_step sizes first tail log by core found next sound groups written may =
+    written_kept sizes tail log core (after_step sizes by (Readies next) found core)
+    (word_else core.words (ENTRY (slot_of sizes next)) value HEAD (differ HEAD (ENTRY (slot_of sizes next)) refl))
+    (word_else core.words (ENTRY (slot_of sizes next)) value TAIL (differ TAIL (ENTRY (slot_of sizes next)) refl))
+    (λ slot. refl)
+    (λ other is. by_word (λ word v. v ≡ free → core.words word ≡ free) core.words (ENTRY (slot_of sizes next)) value (λ e. absurd (let k = kind_two in let z : kind_of value ≡ 0 = ap kind_of e in omega (arith, k, z))) (λ word ne e. e) (ENTRY other) is)
+    (λ n is leads kind. by_word (λ word v. word ≡ ENTRY (slot_of sizes n) → kind_of v ≡ ready → (kind_of (core.words word) ≡ ready) ⊎ (log.calls n ≡ commit_length sizes (log.group n).call n)) core.words (ENTRY (slot_of sizes next)) value
+    (λ e _. inr (leader n is leads (ap index e))) (λ word ne e k. inl k) (ENTRY (slot_of sizes n)) refl kind)
+    (calls_now sizes log tail by core (Readies next) found written
+    (if_both (λ s. HasCalls sizes log (changed sizes by core (Readies next) found) s) (next == (core.passes by).first) Placing
+    (Readying (if next + 1 == (core.passes by).first + (core.passes by).entries then (core.passes by).first else next + 1)) (λ _. tt) (λ _. all)))
+    written
+  where
+    value : ℕ
+    value = ready_word sizes (core.passes by) next
+
+    kind_two : kind_of (ready_word sizes (core.passes by) next) ≡ 2
+    kind_two = kind_is 2 (if next == (core.passes by).first then (core.passes by).entries else 0) (page_at sizes (core.passes by) next) (omega arith)
+
+    at : HasDrawn sizes (core.passes by).call (core.passes by).entries × IsAmong (core.passes by).first (core.passes by).entries next
+    at = subst (StandsAt sizes (core.passes by)) may.may (sound.standing by).at
+
+    all : log.calls (core.passes by).first ≡ commit_length sizes (core.passes by).call (core.passes by).first
+    all = subst (HasCalls sizes log (core.passes by)) may.may (written.calls by)
+
+    own : IsOwn core log (core.passes by) next
+    own = groups.own by (subst HasGroup (sym may.may) tt) next at.1
+
+    leader : (n : ℕ) → InWindow core n → (log.group n).first ≡ n → slot_of sizes next ≡ slot_of sizes n → log.calls n ≡ commit_length sizes (log.group n).call n
+    leader n is leads slots = elim (cases_eq next n) [
+      | inl same ↦
+          let g : log.group n ≡ group_of (core.passes by) = subst (λ m. log.group m ≡ group_of (core.passes by)) same own.group in
+          let f : (core.passes by).first ≡ n = sym (ap (λ one. one.first) g) ∙ leads in
+          subst (λ one. log.calls n ≡ commit_length sizes one.call n) (sym g) (subst (λ m. log.calls m ≡ commit_length sizes (core.passes by).call m) f all)
+      | inr ne ↦ absurd (apart_within sizes core sound.window next n own.within is ne slots)
+    ]
+
+same_stage : (sizes : Sizes) (tail : ℕ) (log : Log) (by : ℕ) (core : Core) (pass : Pass) → Written sizes tail log core → pass.first ≡ (core.passes by).first → pass.call ≡ (core.passes by).call
+    → HasCalls sizes log pass (core.passes by).stage
+same_stage sizes tail log by core pass written first call = calls_as sizes log log (core.passes by) pass first call (core.passes by).stage (λ _. refl) (written.calls by)
+
+stop_calls : (sizes : Sizes) (log : Log) (pass now : Pass) (stage : Stage) → IsFailing stage → HasCalls sizes log now (after_stop pass stage)
+stop_calls sizes log pass now ReadFailing is = clear_calls sizes log now (leaving pass.hands) (clear_leaving pass.hands)
+stop_calls sizes log pass now WriteFailing is = tt
+stop_calls sizes log pass now stage is = absurd is
+
+other_step : (sizes : Sizes) (first : Values) (tail : ℕ) (log : Log) (by : ℕ) (core : Core) (deed : Deed) (found : ℕ) → Sound sizes first core → Groups sizes core log → Written sizes tail log core → MayFind sizes by core deed found
+    → is_draw deed ≡ false → Written sizes tail log (after_step sizes by deed found core)
+other_step sizes first tail log by core (Loads word) found sound groups written may ne = plain_step sizes tail log by core (Loads word) found written may refl refl (λ slot. refl) (clear_step sizes tail log by core (Loads word) found by tt may.may)
+other_step sizes first tail log by core (Takes cell) found sound groups written may ne = plain_step sizes tail log by core (Takes cell) found written may refl refl (λ slot. refl) (clear_step sizes tail log by core (Takes cell) found by tt may.may)
+other_step sizes first tail log by core (Gives cell) found sound groups written may ne = plain_step sizes tail log by core (Gives cell) found written may refl refl (λ slot. refl) (clear_step sizes tail log by core (Gives cell) found by tt may.may)
+other_step sizes first tail log by core (Places reply) found sound groups written may ne = plain_step sizes tail log by core (Places reply) found written may refl refl (λ slot. refl) (clear_step sizes tail log by core (Places reply) found by tt may.may)
+other_step sizes first tail log by core Grows found sound groups written may ne = plain_step sizes tail log by core Grows found written may refl refl (λ slot. refl) (clear_step sizes tail log by core Grows found by tt may.may)
+other_step sizes first tail log by core Stops found sound groups written may ne = plain_step sizes tail log by core Stops found written may refl refl (λ slot. refl)
+    (stop_calls sizes log (core.passes by) (changed sizes by core Stops found) (core.passes by).stage may.may)
+other_step sizes first tail log by core Draws found sound groups written may ne = absurd (not_both refl ne)
+other_step sizes first tail log by core (Seizes next) found sound groups written may ne =
+    entry_step sizes tail log by core (Seizes next) found (slot_of sizes next) filling written refl (λ e. omega (arith, e)) (λ e. omega (arith, e))
+    (let none : log.calls (core.passes by).first ≡ 0 = subst (HasCalls sizes log (core.passes by)) may.may (written.calls by) in
+    if_both (HasCalls sizes log (changed sizes by core (Seizes next) found)) (next + 1 == (core.passes by).first + (core.passes by).entries) (Committing 0) (Seizing (next + 1)) (λ _. none) (λ _. none))
+other_step sizes first tail log by core (Pledges page) found sound groups written may ne = plain_step sizes tail log by core (Pledges page) found written may refl refl (λ slot. refl)
+    (let all : log.calls (core.passes by).first ≡ commit_length sizes (core.passes by).call (core.passes by).first = subst (HasCalls sizes log (core.passes by)) may.may (written.calls by) in
+    if_both (HasCalls sizes log (changed sizes by core (Pledges page) found)) (page + 1 == end_page sizes (core.passes by).call) (Readying (if (core.passes by).entries == 1 then (core.passes by).first else (core.passes by).first + 1)) (Pledging (page + 1)) (λ _. all) (λ _. all))
+other_step sizes first tail log by core (Readies next) found sound groups written may ne = ready_step sizes first tail log by core found next sound groups written may
+other_step sizes first tail log by core (Breaks next) found sound groups written may ne =
+    entry_step sizes tail log by core (Breaks next) found (slot_of sizes next) broken written refl (λ e. omega (arith, e)) (λ e. omega (arith, e))
+    (if_both (HasCalls sizes log (changed sizes by core (Breaks next) found)) (next + 1 == (core.passes by).first + (core.passes by).entries)
+    (leaving (without (ENTRY (slot_of sizes next)) (core.passes by).hands)) (Breaking (next + 1))
+    (λ _. clear_calls sizes log (changed sizes by core (Breaks next) found) (leaving (without (ENTRY (slot_of sizes next)) (core.passes by).hands)) (clear_leaving (without (ENTRY (slot_of sizes next)) (core.passes by).hands))) (λ _. tt))
+other_step sizes first tail log by core Splits found sound groups written may ne = plain_step sizes tail log by core Splits found written may refl refl (λ slot. refl) tt
+other_step sizes first tail log by core (Leaves cell) found sound groups written may ne = plain_step sizes tail log by core (Leaves cell) found written may refl refl (λ slot. refl) (same_stage sizes tail log by core (changed sizes by core (Leaves cell) found) written refl refl)
+other_step sizes first tail log by core (Joins number) found sound groups written may ne = plain_step sizes tail log by core (Joins number) found written may refl refl (λ slot. refl) (same_stage sizes tail log by core (changed sizes by core (Joins number) found) written refl refl)
+
+-- ---- a call that begins
+
+pub written_begin : (sizes : Sizes) (tail : ℕ) (log : Log) (by : ℕ) (core : Core) (call : FileCall) → Written sizes tail log core → Written sizes tail log (after_begin sizes by call core)
+written_begin sizes tail log by core call written = written_kept sizes tail log core (after_begin sizes by call core) refl refl (λ slot. refl) (λ slot is. is) (λ n is leads kind. inl kind)
+    (by_number (λ n (p : Pass). HasCalls sizes log p p.stage) core.passes by (begun sizes call (core.passes by))
+    (if_both (HasCalls sizes log (begun sizes call (core.passes by))) (page_count sizes call == 0) Checking (Locking (first_page sizes call)) (λ _. tt) (λ _. tt)) (λ n ne. written.calls n)) written
+
+-- ---- a device call of a commit
+
+steps_same : (sizes : Sizes) (pass : Pass) (call : FileCall) → commit_steps sizes pass call ≡ steps_of sizes call pass.first
+steps_same sizes pass (Read file at len) = refl
+steps_same sizes pass (Write file at bytes) = refl
+steps_same sizes pass (Sync file) = refl
+
+length_same : (sizes : Sizes) (pass : Pass) (call : FileCall) → length (commit_steps sizes pass call) ≡ commit_length sizes call pass.first
+length_same sizes pass (Read file at len) = refl
+length_same sizes pass (Write file at bytes) = refl
+length_same sizes pass (Sync file) = refl
+
+row_within : (sizes : Sizes) (pass : Pass) (call : FileCall) (calls : ℕ) (row : RowStep) → 1 ≤ page_count sizes call → calls < length (commit_steps sizes pass call) → slice_index_or (commit_steps sizes pass call) calls row ≡ row → row.part < page_count sizes call
+row_within sizes pass (Read file at len) calls row some less is = absurd (omega arith)
+row_within sizes pass (Write file at bytes) calls row some less is = in_group sizes.page pass.first file at bytes calls row some less is
+row_within sizes pass (Sync file) calls row some less is = absurd (omega arith)
+
+module _ (sizes : Sizes) (first : Values) (tail : ℕ) (log : Log) (by : ℕ) (core : Core) (work : Work) (calls : ℕ)
+    (sound : Sound sizes first core) (groups : Groups sizes core log) (written : Written sizes tail log core)
+    (at : (core.passes by).stage ≡ Committing calls) (due : IsNextCall sizes (core.passes by) calls work) where
+  pass_drawn : HasDrawn sizes (core.passes by).call (core.passes by).entries
+  pass_drawn = subst (StandsAt sizes (core.passes by)) at (sound.standing by).at
+
+  part_below : due.row.part < (core.passes by).entries
+  part_below = subst (λ n. due.row.part < n) (sym pass_drawn.many)
+      (row_within sizes (core.passes by) (core.passes by).call calls due.row (subst (λ n. 1 ≤ n) pass_drawn.many pass_drawn.some) due.there due.at)
+
+  among_part : IsAmong (core.passes by).first (core.passes by).entries ((core.passes by).first + due.row.part)
+  among_part = let b = part_below in (omega arith, omega (arith, b))
+
+  fills : (n : ℕ) → IsAmong (core.passes by).first (core.passes by).entries n → Fills (core.passes by) n
+  fills n is = subst (λ s. IsFilling s (core.passes by).first (core.passes by).entries n) (sym at) is
+
+  has_group : HasGroup (core.passes by).stage
+  has_group = subst HasGroup (sym at) tt
+
+  own_part : IsOwn core log (core.passes by) ((core.passes by).first + due.row.part)
+  own_part = groups.own by has_group ((core.passes by).first + due.row.part) among_part
+
+  own_first : IsOwn core log (core.passes by) (core.passes by).first
+  own_first = groups.own by has_group (core.passes by).first (among_first sizes (core.passes by) pass_drawn)
+
+  slot_here : ℕ
+  slot_here = slot_of sizes ((core.passes by).first + due.row.part)
+
+  value_here : values_worked (core.passes by) work core.values (ENTRY (slot_of sizes ((core.passes by).first + due.row.part))) ≡ called (Writes due.row.step) work.ending (core.values (ENTRY (slot_of sizes ((core.passes by).first + due.row.part))))
+  value_here =
+      part_worked (core.passes by) work core.values (slot_of sizes ((core.passes by).first + due.row.part))
+      ∙ ap (λ c. with_word core.values c (called work.job work.ending (core.values c)) (ENTRY (slot_of sizes ((core.passes by).first + due.row.part)))) due.cell
+      ∙ word_here core.values (ENTRY (slot_of sizes ((core.passes by).first + due.row.part))) (called work.job work.ending (core.values (ENTRY (slot_of sizes ((core.passes by).first + due.row.part)))))
+      ∙ ap (λ j. called j work.ending (core.values (ENTRY (slot_of sizes ((core.passes by).first + due.row.part))))) due.job
+
+  value_else : (slot : ℕ) → slot ≢ slot_of sizes ((core.passes by).first + due.row.part) → values_worked (core.passes by) work core.values (ENTRY slot) ≡ core.values (ENTRY slot)
+  value_else slot ne =
+      part_worked (core.passes by) work core.values slot
+      ∙ ap (λ c. with_word core.values c (called work.job work.ending (core.values c)) (ENTRY slot)) due.cell
+      ∙ word_else core.values (ENTRY (slot_of sizes ((core.passes by).first + due.row.part))) (called work.job work.ending (core.values (ENTRY (slot_of sizes ((core.passes by).first + due.row.part))))) (ENTRY slot) (λ e. ne (ap index e))
+
+  part_else : (slot : ℕ) → slot ≢ slot_of sizes ((core.passes by).first + due.row.part) → (part : Part) → IsPart (core.values (ENTRY slot)) part → IsPart (values_worked (core.passes by) work core.values (ENTRY slot)) part
+  part_else slot ne part is = subst (λ v. IsPart v part) (sym (value_else slot ne)) is
+
+  abbrev next_log : Log
+  next_log = record log { calls = with_number log.calls (core.passes by).first (calls_after work.ending calls) }
+
+  own_written : IsWritten sizes (values_worked (core.passes by) work core.values) tail (core.passes by).call (core.passes by).first (calls_after work.ending calls)
+  own_written =
+      let leads : (log.group (core.passes by).first).first ≡ (core.passes by).first = ap (λ g. g.first) own_first.group in
+      let was = written.groups (core.passes by).first own_first.within leads in
+      let count : log.calls (core.passes by).first ≡ calls = subst (HasCalls sizes log (core.passes by)) at (written.calls by) in
+      let now : IsWritten sizes core.values tail (core.passes by).call (core.passes by).first calls =
+      subst (λ c. IsWritten sizes core.values tail (core.passes by).call (core.passes by).first c) count
+      (subst (λ g. IsWritten sizes core.values tail g.call (core.passes by).first (log.calls (core.passes by).first)) own_first.group was) in
+      written_more sizes core.values (values_worked (core.passes by) work core.values) tail (core.passes by).call (core.passes by).first calls work.ending due.row
+      (subst (λ s. calls < length s) (steps_same sizes (core.passes by) (core.passes by).call) due.there)
+      (subst (λ s. slice_index_or s calls due.row ≡ due.row) (steps_same sizes (core.passes by) (core.passes by).call) due.at)
+      (λ one is. subst (λ v. IsPart v (part_now work.ending due.row.step one)) (sym value_here) (part_called due.row.step work.ending _ one is))
+      (λ i less ne one is. part_else (slot_of sizes ((core.passes by).first + i))
+      (apart_in sizes (core.passes by).first (core.passes by).entries ((core.passes by).first + i) ((core.passes by).first + due.row.part)
+      (few_entries sizes (core.passes by).call (core.passes by).entries pass_drawn ((sound.standing by).allowed (busy _ _ at refl)))
+      (let many = pass_drawn.many in (omega arith, omega (arith, less, many))) among_part (λ e. ne (omega (arith, e)))) one is)
+      now
+
+  other_written : (n : ℕ) → InWindow core n → (log.group n).first ≡ n → n ≢ (core.passes by).first
+      → IsWritten sizes (values_worked (core.passes by) work core.values) tail (log.group n).call n (log.calls n)
+  other_written n is leads ne =
+      written_same sizes core.values (values_worked (core.passes by) work core.values) tail (log.group n).call n (log.calls n)
+      (λ i less. part_else (slot_of sizes (n + i)) (slots i less)) (written.groups n is leads)
+    where
+      grouped : IsGrouped sizes core log n
+      grouped = groups.each n is
+
+      member : (i : ℕ) → i < page_count sizes (log.group n).call → IsAmong (log.group n).first (log.group n).entries (n + i)
+      member i less = let many = grouped.drawn.many in (omega (arith, leads), omega (arith, leads, less, many))
+
+      slots : (i : ℕ) → i < page_count sizes (log.group n).call → slot_of sizes (n + i) ≢ slot_of sizes ((core.passes by).first + due.row.part)
+      slots i less = apart_within sizes core sound.window (n + i) ((core.passes by).first + due.row.part)
+          (let m = (member i less).1 in let high = grouped.high in let low = is.0 in (omega (arith, low), omega (arith, m, high))) own_part.within
+          (λ e. ne (sym leads ∙ ap (λ g. g.first) (sym (grouped.same (n + i) (member i less)) ∙ ap log.group e ∙ own_part.group)))
+
+  commit_work : Written sizes tail next_log (after_work sizes by work core)
+  commit_work = record {
+    groups = λ n is leads. elim (cases_eq n (core.passes by).first) [
+      | inl same ↦ subst (λ m. IsWritten sizes (values_worked (core.passes by) work core.values) tail (log.group m).call m (with_number log.calls (core.passes by).first (calls_after work.ending calls) m)) (sym same)
+          (subst (λ g. IsWritten sizes (values_worked (core.passes by) work core.values) tail g.call (core.passes by).first (with_number log.calls (core.passes by).first (calls_after work.ending calls) (core.passes by).first)) (sym own_first.group)
+          (subst (IsWritten sizes (values_worked (core.passes by) work core.values) tail (core.passes by).call (core.passes by).first) (sym (number_here log.calls (core.passes by).first (calls_after work.ending calls))) own_written))
+      | inr ne ↦ subst (IsWritten sizes (values_worked (core.passes by) work core.values) tail (log.group n).call n) (sym (number_else log.calls (core.passes by).first (calls_after work.ending calls) n ne)) (other_written n is leads ne)
+    ];
+    calls = by_number (λ n (p : Pass). HasCalls sizes next_log p p.stage) core.passes by (worked sizes work (core.passes by))
+        (subst (λ s. HasCalls sizes next_log (worked sizes work (core.passes by)) (stage_worked sizes (core.passes by) work.ending s)) (sym at) (goes work.ending refl))
+        (λ n ne. calls_as sizes log next_log (core.passes n) (core.passes n) refl refl (core.passes n).stage
+        (λ counted. number_else log.calls (core.passes by).first (calls_after work.ending calls) (core.passes n).first
+        (λ e. ne (first_apart sizes first core sound n by counted (subst IsCounted (sym at) tt) e))) (written.calls n));
+    ready = λ n is leads kind. number_else log.calls (core.passes by).first (calls_after work.ending calls) n
+        (λ e. let one : entry_at sizes core n ≡ filling = subst (λ m. entry_at sizes core m ≡ filling) (sym e) (sound.window.filling_is by (core.passes by).first (fills (core.passes by).first (among_first sizes (core.passes by) pass_drawn))) in
+        let two : kind_of filling ≡ ready = ap kind_of (sym one) ∙ kind in omega (arith, two))
+        ∙ written.ready n is leads kind;
+    free = λ slot less is. subst (λ v. IsBlank sizes v tail slot) (sym (value_else slot
+        (λ e. let one : core.words (ENTRY slot) ≡ filling = ap (λ s. core.words (ENTRY s)) e ∙ sound.window.filling_is by ((core.passes by).first + due.row.part) (fills _ among_part) in omega (arith, one, is))))
+        (written.free slot less is);
+    low = written.low;
+  }
+    where
+      goes : (how : Ending) → work.ending ≡ how → HasCalls sizes next_log (worked sizes work (core.passes by)) (stage_worked sizes (core.passes by) how (Committing calls))
+      goes Made e =
+          let here : with_number log.calls (core.passes by).first (calls_after work.ending calls) (core.passes by).first ≡ calls + 1 =
+          number_here log.calls (core.passes by).first (calls_after work.ending calls) ∙ ap (λ how. calls_after how calls) e in
+          if_both (HasCalls sizes next_log (worked sizes work (core.passes by))) (calls + 1 == length (commit_steps sizes (core.passes by) (core.passes by).call)) (Pledging (first_page sizes (core.passes by).call)) (Committing (calls + 1))
+          (λ all. here ∙ eqb-true (calls + 1) (length (commit_steps sizes (core.passes by) (core.passes by).call)) all ∙ length_same sizes (core.passes by) (core.passes by).call) (λ _. here)
+      goes (Failed came faults) e = tt
+
+-- a page is read from a store
+read_work : (sizes : Sizes) (tail : ℕ) (log : Log) (by : ℕ) (core : Core) (work : Work) (page : ℕ) → Written sizes tail log core → (core.passes by).stage ≡ Copying page → IsPageRead sizes core.values (core.passes by) page work
+    → Written sizes tail log (after_work sizes by work core)
+read_work sizes tail log by core work page written at due = written_kept sizes tail log core (after_work sizes by work core) refl refl
+    (λ slot. part_worked (core.passes by) work core.values slot
+    ∙ ap (λ c. with_word core.values c (called work.job work.ending (core.values c)) (ENTRY slot)) due.cell
+    ∙ word_else core.values (STORE (file_of (core.passes by).call)) (called work.job work.ending (core.values (STORE (file_of (core.passes by).call)))) (ENTRY slot) (differ (ENTRY slot) (STORE (file_of (core.passes by).call)) refl))
+    (λ slot is. is) (λ n is leads kind. inl kind)
+    (by_number (λ n (p : Pass). HasCalls sizes log p p.stage) core.passes by (worked sizes work (core.passes by))
+    (subst (λ s. HasCalls sizes log (worked sizes work (core.passes by)) (stage_worked sizes (core.passes by) work.ending s)) (sym at) (goes work.ending)) (λ n ne. written.calls n)) written
+  where
+    goes : (how : Ending) → HasCalls sizes log (worked sizes work (core.passes by)) (stage_worked sizes (core.passes by) how (Copying page))
+    goes Made = tt
+    goes (Failed came faults) = tt
+
+pub written_work : (sizes : Sizes) (first : Values) (tail : ℕ) (log : Log) (by : ℕ) (core : Core) (work : Work) → Sound sizes first core → Groups sizes core log → Written sizes tail log core → MayWork sizes core.values (core.passes by) work
+    → Written sizes tail (log_worked (core.passes by) work.ending (core.passes by).stage log) (after_work sizes by work core)
+written_work sizes first tail log by core work sound groups written may = go (core.passes by).stage refl may.due
+  where
+    go : (stage : Stage) → (core.passes by).stage ≡ stage → IsDue sizes core.values (core.passes by) work stage → Written sizes tail (log_worked (core.passes by) work.ending stage log) (after_work sizes by work core)
+    go (Committing calls) at due = commit_work sizes first tail log by core work calls sound groups written at due
+    go (Copying page) at due = read_work sizes tail log by core work page written at due
+    go stage at due = absurd due
+
+-- ---- numbers are drawn
+
+-- a list of so many parts, each as it is to be
+chosen : (P : ℕ → Part → Type 0) (count : ℕ) → ((i : ℕ) → i < count → (part : Part) × P i part) → (parts : List Part) × (length parts ≡ count) × ((i : ℕ) → i < count → P i (slice_index_or parts i []))
+chosen P zero all = ([], refl, λ i less. absurd (omega (arith, less)))
+chosen P (suc count) all =
+    let rest = chosen (λ i. P (suc i)) count (λ i less. all (suc i) (omega (arith, less))) in
+    ((all 0 (omega arith)).0 ∷ rest.0, ap suc rest.1, each rest.0 rest.2)
+  where
+    each : (rest : List Part) → ((i : ℕ) → i < count → P (suc i) (slice_index_or rest i [])) → (i : ℕ) → i < suc count → P i (slice_index_or ((all 0 (omega arith)).0 ∷ rest) i [])
+    each rest is zero less = (all 0 (omega arith)).1
+    each rest is (suc i) less = is i (omega arith)
+
+-- what a part of a free entry is
+abbrev IsBlankPart : Sizes → Values → (tail first i : ℕ) → Part → Type 0
+IsBlankPart sizes values tail first i part =
+    IsPart (values (ENTRY (slot_of sizes (first + i)))) part × (entry_lines sizes.page ≤ length part) × IsQuiet part × InEachImage (CommitsNone sizes tail (slot_of sizes (first + i))) part
+
+pub nothing_made : (page first file at : ℕ) (bytes : List ℕ) (parts : List Part) → after_some page first file at bytes 0 parts ≡ parts
+unfolding run
+nothing_made page first file at bytes parts = refl
+
+none_written : (sizes : Sizes) (values : Values) (tail : ℕ) (call : FileCall) (first : ℕ) → BlankIsQuiet → IsPageSize sizes.page → AreBytes call → is_write call ≡ true → 1 ≤ page_count sizes call → tail ≤ first
+    → ((i : ℕ) → i < page_count sizes call → IsBlank sizes (values (ENTRY (slot_of sizes (first + i)))) tail (slot_of sizes (first + i)))
+    → IsWritten sizes values tail call first 0
+none_written sizes values tail (Read file at len) first blank_quiet page_is bytes_are write some low blank = absurd (not_both write refl)
+none_written sizes values tail (Sync file) first blank_quiet page_is bytes_are write some low blank = absurd (not_both write refl)
+none_written sizes values tail (Write file at bytes) first blank_quiet page_is bytes_are write some low blank =
+    let row = chosen (IsBlankPart sizes values tail first) (page_count sizes (Write file at bytes))
+    (λ i less. let b = blank i less in (b.part, (b.is, b.lines, b.quiet, b.stale))) in
+    made row.0 row.1 row.2
+  where
+    made : (parts : List Part) → length parts ≡ page_count sizes (Write file at bytes)
+        → ((i : ℕ) → i < page_count sizes (Write file at bytes) → IsBlankPart sizes values tail first i (slice_index_or parts i [])) → IsWritten sizes values tail (Write file at bytes) first 0
+    made parts count each = record {
+      before = parts;
+      fit = record { page_is = page_is; bytes_are = bytes_are; some = omega (arith, count, some); count = count; lines = λ i less. (each i (within i less)).1 };
+      quiet = record { each = λ i. elim (cases_lt i (length parts)) [ inl less ↦ (each i (within i less)).2 | inr past ↦ subst IsQuiet (sym (get_or_past parts i [] past)) (record { lines = λ line. blank_quiet }) ] };
+      stale = λ image is i less. (each i (within i less)).3 (image i) (is.each i);
+      now = subst (AreParts sizes values first) (sym (nothing_made sizes.page first file at bytes parts)) record { each = λ i less. (each i (within i less)).0 };
+      low = low;
+    }
+      where
+        within : (i : ℕ) → i < length parts → i < page_count sizes (Write file at bytes)
+        within i less = omega (arith, less, count)
+
+module _ (sizes : Sizes) (first : Values) (tail : ℕ) (log : Log) (by : ℕ) (core : Core) (found : ℕ) (blank_quiet : BlankIsQuiet) (page_is : IsPageSize sizes.page)
+    (sound : Sound sizes first core) (groups : Groups sizes core log) (written : Written sizes tail log core) (bytes_are : AreBytes (core.passes by).call)
+    (may : MayFind sizes by core Draws found) (drew : (found == (core.passes by).head) ≡ true) where
+  abbrev new_group : Group
+  new_group = record { call = (core.passes by).call; first = found; entries = page_count sizes (core.passes by).call }
+
+  abbrev new_core : Core
+  new_core = after_step sizes by Draws found core
+
+  new_head : new_core.words HEAD ≡ core.words HEAD + page_count sizes (core.passes by).call
+  new_head = word_here core.words HEAD _ ∙ when_true (found == (core.passes by).head) (found + page_count sizes (core.passes by).call) found drew ∙ ap (λ f. f + page_count sizes (core.passes by).call) (sym may.is)
+
+  -- where the pass that drew stands
+  new_stage : (changed sizes by core Draws found).stage ≡ Seizing found
+  new_stage = when_true (found == (core.passes by).head) (Seizing found) (leaving (core.passes by).hands) drew
+
+  new_first : (changed sizes by core Draws found).first ≡ found
+  new_first = when_true (found == (core.passes by).head) found (core.passes by).first drew
+
+  new_entries : (changed sizes by core Draws found).entries ≡ page_count sizes (core.passes by).call
+  new_entries = when_true (found == (core.passes by).head) (page_count sizes (core.passes by).call) (core.passes by).entries drew
+
+  -- the slots of what was drawn are free
+  new_free : (n : ℕ) → IsAmong found (page_count sizes (core.passes by).call) n → entry_at sizes core n ≡ free
+  new_free n is = (window_step sizes first by core Draws found sound may).unseized_is by n
+      (subst (λ p. HasUnseized p n) (sym (number_here core.passes by (changed sizes by core Draws found)))
+      (subst (λ s. IsUnseized s (changed sizes by core Draws found).first (changed sizes by core Draws found).entries n) (sym new_stage)
+      (is.0, subst (λ f. n < f + (changed sizes by core Draws found).entries) (sym new_first) (subst (λ c. n < found + c) (sym new_entries) is.1))))
+
+  abbrev drawn_log : Log
+  drawn_log = with_group new_group log
+
+  at_draw : (is_write (core.passes by).call ≡ true) × IsSmall sizes (core.passes by) × HasRoom sizes (core.passes by)
+  at_draw = subst (StandsAt sizes (core.passes by)) may.may (sound.standing by).at
+
+  some_drawn : 1 ≤ page_count sizes (core.passes by).call
+  some_drawn = write_pages sizes (core.passes by).call at_draw.0
+
+  is_drawn : HasDrawn sizes (core.passes by).call (page_count sizes (core.passes by).call)
+  is_drawn = record { write = at_draw.0; many = refl; some = some_drawn }
+
+  old_group : (n : ℕ) → n < core.words HEAD → drawn_log.group n ≡ log.group n
+  old_group = group_old sizes core new_core log new_group groups refl (sym may.is) new_head sound.window.order is_drawn
+
+  this_group : (n : ℕ) → IsAmong found (page_count sizes (core.passes by).call) n → drawn_log.group n ≡ new_group
+  this_group = group_new sizes core new_core log new_group groups refl (sym may.is) new_head sound.window.order is_drawn
+
+  old_calls : (n : ℕ) → n < core.words HEAD → drawn_log.calls n ≡ log.calls n
+  old_calls n less = number_else log.calls found 0 n (λ e. let f = may.is in omega (arith, e, f, less))
+
+  drawn_written : IsWritten sizes core.values tail (core.passes by).call found 0
+  drawn_written = none_written sizes core.values tail (core.passes by).call found blank_quiet page_is bytes_are at_draw.0 some_drawn
+      (let f = may.is in let l = written.low in omega (arith, f, l))
+      (λ i less. written.free (slot_of sizes (found + i)) (mod_below (found + i) sizes.entries (let b = ((sound.standing by).allowed (busy _ _ may.may refl)).short in let s = some_drawn in omega (arith, b, s)))
+      (new_free (found + i) (omega arith, omega (arith, less))))
+
+  split : (n : ℕ) → InWindow new_core n → InWindow core n ⊎ IsAmong found (page_count sizes (core.passes by).call) n
+  split = which sizes core new_core log new_group groups refl (sym may.is) new_head sound.window.order is_drawn
+
+  draw_groups : (n : ℕ) → InWindow new_core n → (drawn_log.group n).first ≡ n → IsWritten sizes core.values tail (drawn_log.group n).call n (drawn_log.calls n)
+  draw_groups n is leads = elim (split n is) [
+    | inl old ↦
+        subst (λ g. IsWritten sizes core.values tail g.call n (drawn_log.calls n)) (sym (old_group n old.1))
+        (subst (IsWritten sizes core.values tail (log.group n).call n) (sym (old_calls n old.1)) (written.groups n old (sym (ap (λ g. g.first) (old_group n old.1)) ∙ leads)))
+    | inr new ↦
+        let e : found ≡ n = sym (ap (λ g. g.first) (this_group n new)) ∙ leads in
+        subst (λ g. IsWritten sizes core.values tail g.call n (drawn_log.calls n)) (sym (this_group n new))
+        (subst (λ m. IsWritten sizes core.values tail (core.passes by).call m (drawn_log.calls m)) e
+        (subst (IsWritten sizes core.values tail (core.passes by).call found) (sym (number_here log.calls found 0)) drawn_written))
+  ]
+
+  draw_calls : (n : ℕ) → HasCalls sizes drawn_log (new_core.passes n) (new_core.passes n).stage
+  draw_calls = by_number (λ n (p : Pass). HasCalls sizes drawn_log p p.stage) core.passes by (changed sizes by core Draws found)
+      (subst (HasCalls sizes drawn_log (changed sizes by core Draws found)) (sym new_stage) (ap drawn_log.calls new_first ∙ number_here log.calls found 0))
+      (λ n ne. calls_as sizes log drawn_log (core.passes n) (core.passes n) refl refl (core.passes n).stage
+      (λ counted. old_calls (core.passes n).first
+      (groups.own n (counted_group (core.passes n).stage counted) (core.passes n).first
+      (among_first sizes (core.passes n) (counted_drawn sizes (core.passes n) (core.passes n).stage counted (sound.standing n).at))).within.1)
+      (written.calls n))
+
+  draw_ready : (n : ℕ) → InWindow new_core n → (drawn_log.group n).first ≡ n → kind_of (entry_at sizes core n) ≡ ready → drawn_log.calls n ≡ commit_length sizes (drawn_log.group n).call n
+  draw_ready n is leads kind = elim (split n is) [
+    | inl old ↦ old_calls n old.1 ∙ written.ready n old (sym (ap (λ g. g.first) (old_group n old.1)) ∙ leads) kind ∙ ap (λ g. commit_length sizes g.call n) (sym (old_group n old.1))
+    | inr new ↦ absurd (let z : kind_of free ≡ ready = ap kind_of (sym (new_free n new)) ∙ kind in omega (arith, z))
+  ]
+
+  draw_won : Written sizes tail drawn_log new_core
+  draw_won = record {
+    groups = draw_groups;
+    calls = draw_calls;
+    ready = draw_ready;
+    free = written.free;
+    low = let h = new_head in let l = written.low in omega (arith, h, l);
+  }
+
+draw_step : (sizes : Sizes) (first : Values) (tail : ℕ) (log : Log) (by : ℕ) (core : Core) (found : ℕ) → BlankIsQuiet → IsPageSize sizes.page → Sound sizes first core → Groups sizes core log → Written sizes tail log core → AreBytes (core.passes by).call → MayFind sizes by core Draws found
+    → Written sizes tail (log_stepped sizes (core.passes by) Draws found log) (after_step sizes by Draws found core)
+draw_step sizes first tail log by core found blank_quiet page_is sound groups written bytes_are may = go (found == (core.passes by).head) refl
+  where
+    go : (b : Bool) → (found == (core.passes by).head) ≡ b → Written sizes tail (log_stepped sizes (core.passes by) Draws found log) (after_step sizes by Draws found core)
+    go true e = subst (λ l. Written sizes tail l (after_step sizes by Draws found core))
+        (sym (when_true (found == (core.passes by).head) (with_group record { call = (core.passes by).call; first = found; entries = page_count sizes (core.passes by).call } log) log e))
+        (draw_won sizes first tail log by core found blank_quiet page_is sound groups written bytes_are may e)
+    go false e = subst (λ l. Written sizes tail l (after_step sizes by Draws found core))
+        (sym (when_false (found == (core.passes by).head) (with_group record { call = (core.passes by).call; first = found; entries = page_count sizes (core.passes by).call } log) log e))
+        (written_kept sizes tail log core (after_step sizes by Draws found core)
+        (word_here core.words HEAD _ ∙ when_false (found == (core.passes by).head) (found + page_count sizes (core.passes by).call) found e ∙ sym may.is) refl (λ slot. refl) (λ slot is. is) (λ n is leads kind. inl kind)
+        (calls_now sizes log tail by core Draws found written
+        (subst (HasCalls sizes log (changed sizes by core Draws found)) (sym (when_false (found == (core.passes by).head) (Seizing found) (leaving (core.passes by).hands) e))
+        (clear_calls sizes log (changed sizes by core Draws found) (leaving (core.passes by).hands) (clear_leaving (core.passes by).hands)))) written)
+
+pub written_step : (sizes : Sizes) (first : Values) (tail : ℕ) (log : Log) (by : ℕ) (core : Core) (deed : Deed) (found : ℕ) → BlankIsQuiet → IsPageSize sizes.page → Sound sizes first core → Groups sizes core log → Written sizes tail log core → AreBytes (core.passes by).call → MayFind sizes by core deed found
+    → Written sizes tail (log_stepped sizes (core.passes by) deed found log) (after_step sizes by deed found core)
+written_step sizes first tail log by core Draws found blank_quiet page_is sound groups written bytes_are may = draw_step sizes first tail log by core found blank_quiet page_is sound groups written bytes_are may
+written_step sizes first tail log by core deed found blank_quiet page_is sound groups written bytes_are may = other_step sizes first tail log by core deed found sound groups written may refl

@@ -1,0 +1,153 @@
+-- Written entries: what keeps them.
+use Rattle.std.proofs.Common.{◌≡◌, ◌≢◌, ◌⊎◌, ℕ, zero, suc, ◌+◌, ◌<◌, Bool, true, false, if◌then◌else◌, List, [], ◌∷◌, length, take, inl, inr, refl, sym, ap, subst, ◌∙◌, arith}
+use Rattle.std.proofs.Math.Numerals.{add-one}
+use Rattle.std.proofs.lemmas.Bool.{cases_eq}
+use Rattle.std.proofs.lemmas.List.{length-set, get_or-set_same, get_or-set_other}
+use Rattle.std.specs.Prelude.{slice_index_or, option_map}
+use Rattle.nv_plain.specs.declared.call.FileCall.{FileCall}
+use Rattle.nv_plain.specs.declared.call.FileCall.TheVariants.{Read, Write, Sync}
+use Rattle.nv_pmem.specs.Part.{Part}
+use Rattle.nv_pmem.specs.Runs.{run}
+use Rattle.nv_pmem.specs.Rows.{RowStep, row_after}
+use Rattle.nv_pmem.specs.Steps.{Step, after_step as after_line_step}
+use Rattle.nv_entry.specs.Group.{group_steps}
+use Rattle.nv_entry.specs.Commits.{after_some}
+use Rattle.nv_core.specs.Words.{Sizes, ENTRY, PAGE}
+use Rattle.nv_core.specs.Values.{Value, Bare, APart, AStore, ABuffer, Job, Writes, Reads, Ending, Made, Failed, called, has_come, filled}
+use Rattle.nv_core.specs.Passes.{Stage, Copying, Pass, page_count}
+use Rattle.nv_core.specs.Deeds.{Deed, Pledges, slot_of, patched_by}
+use Rattle.nv_core.specs.Order.{Values, Work}
+use Rattle.nv_core.specs.Core.{with_word, values_read, values_worked, values_stepped}
+use Rattle.nv_core.specs.Groups.{calls_after}
+use Rattle.nv_core.specs.Written.{IsPart, AreParts, IsWritten}
+use Rattle.nv_core.proofs.Changes.{word_else, differ}
+
+-- the device calls of a group's commit
+abbrev pub steps_of : Sizes → FileCall → (first : ℕ) → List RowStep
+steps_of sizes (Write file at bytes) first = group_steps sizes.page first file at bytes
+steps_of sizes call first = []
+
+-- ---- what an ENTRY cell keeps after a step, and after a device call
+
+pub part_stepped : (sizes : Sizes) (pass : Pass) (deed : Deed) (values : Values) (slot : ℕ) → values_stepped sizes pass deed values (ENTRY slot) ≡ values (ENTRY slot)
+part_stepped sizes pass (Pledges page) values slot = word_else values (PAGE page) (patched_by sizes pass.call page (values (PAGE page))) (ENTRY slot) (differ (ENTRY slot) (PAGE page) refl)
+part_stepped sizes pass deed values slot = refl
+
+part_read : (job : Job) (how : Ending) (stage : Stage) (values : Values) (slot : ℕ) → values_read job how stage values (ENTRY slot) ≡ values (ENTRY slot)
+part_read (Reads at bytes) Made (Copying page) values slot = word_else values (PAGE page) (filled bytes (values (PAGE page))) (ENTRY slot) (differ (ENTRY slot) (PAGE page) refl)
+part_read job how stage values slot = refl
+
+pub part_worked : (pass : Pass) (work : Work) (values : Values) (slot : ℕ) → values_worked pass work values (ENTRY slot) ≡ with_word values work.cell (called work.job work.ending (values work.cell)) (ENTRY slot)
+part_worked pass work values slot = part_read work.job work.ending pass.stage (with_word values work.cell (called work.job work.ending (values work.cell))) slot
+
+-- the part after a step on it, or as it was where the step did nothing
+abbrev pub part_now : Ending → Step → Part → Part
+part_now how step part = if has_come how then after_line_step step part else part
+
+pub part_called : (step : Step) (how : Ending) (value : Value) (part : Part) → IsPart value part → IsPart (called (Writes step) how value) (part_now how step part)
+part_called step Made (APart device) part is = ap (option_map (after_line_step step)) is
+part_called step (Failed true faults) (APart device) part is = ap (option_map (after_line_step step)) is
+part_called step (Failed false faults) (APart device) part is = is
+part_called step how Bare part is = absurd is
+part_called step how (AStore device) part is = absurd is
+part_called step how (ABuffer buffer) part is = absurd is
+
+-- ---- one more step of a run
+
+run_more : {T S : Type 0} (after : T → S → S) (steps : List T) (count : ℕ) (one : T) (state : S) → count < length steps → slice_index_or steps count one ≡ one
+    → run after (take (suc count) steps) state ≡ after one (run after (take count steps) state)
+unfolding run
+run_more after [] count one state less is = absurd (omega arith)
+run_more after (step ∷ steps) zero one state less is = ap (λ s. after s state) is
+run_more after (step ∷ steps) (suc count) one state less is = run_more after steps count one (after step state) (omega arith) is
+
+row_length : (steps : List RowStep) (parts : List Part) → length (run row_after steps parts) ≡ length parts
+unfolding run
+row_length [] parts = refl
+row_length (step ∷ steps) parts = row_length steps (row_after step parts) ∙ length-set parts step.part _
+
+-- the parts of a group are so many as its pages
+pub some_length : (page first file at : ℕ) (bytes : List ℕ) (steps : ℕ) (parts : List Part) → length (after_some page first file at bytes steps parts) ≡ length parts
+some_length page first file at bytes steps parts = row_length (take steps (group_steps page first file at bytes)) parts
+
+-- ---- nothing of a group's parts changes
+
+pub written_same : (sizes : Sizes) (old new : Values) (tail : ℕ) (call : FileCall) (first calls : ℕ)
+    → ((i : ℕ) → i < page_count sizes call → (part : Part) → IsPart (old (ENTRY (slot_of sizes (first + i)))) part → IsPart (new (ENTRY (slot_of sizes (first + i)))) part)
+    → IsWritten sizes old tail call first calls → IsWritten sizes new tail call first calls
+written_same sizes old new tail (Write file at bytes) first calls same written = record {
+  before = written.before;
+  fit = written.fit;
+  quiet = written.quiet;
+  stale = written.stale;
+  now = record { each = λ i less. same i (let l = some_length sizes.page first file at bytes calls written.before in let f = written.fit.count in omega (arith, less, l, f)) _ (written.now.each i less) };
+  low = written.low;
+}
+written_same sizes old new tail (Read file at len) first calls same written = absurd written
+written_same sizes old new tail (Sync file) first calls same written = absurd written
+
+-- ---- one of them is stepped on
+
+-- the parts of a row after one step on one of them
+abbrev pub StepsOn : Sizes → (first part : ℕ) → (old new : Values) → Ending → Step → Type 0
+StepsOn sizes first part old new how step = (one : Part) → IsPart (old (ENTRY (slot_of sizes (first + part)))) one → IsPart (new (ENTRY (slot_of sizes (first + part)))) (part_now how step one)
+
+parts_more : (sizes : Sizes) (old new : Values) (first : ℕ) (parts : List Part) (row : RowStep)
+    → StepsOn sizes first row.part old new Made row.step
+    → ((i : ℕ) → i < length parts → i ≢ row.part → (one : Part) → IsPart (old (ENTRY (slot_of sizes (first + i)))) one → IsPart (new (ENTRY (slot_of sizes (first + i)))) one)
+    → AreParts sizes old first parts → AreParts sizes new first (row_after row parts)
+parts_more sizes old new first parts row here else_ are = record { each = λ i less. go i (subst (λ n. i < n) (length-set parts row.part _) less) (cases_eq i row.part) }
+  where
+    go : (i : ℕ) → i < length parts → (i ≡ row.part) ⊎ (i ≢ row.part) → IsPart (new (ENTRY (slot_of sizes (first + i)))) (slice_index_or (row_after row parts) i [])
+    go i less (inl same) =
+        let fits : row.part < length parts = subst (λ n. n < length parts) same less in
+        subst (λ n. IsPart (new (ENTRY (slot_of sizes (first + n)))) (slice_index_or (row_after row parts) n [])) (sym same)
+        (subst (IsPart (new (ENTRY (slot_of sizes (first + row.part))))) (sym (get_or-set_same parts row.part _ [] fits)) (here _ (are.each row.part fits)))
+    go i less (inr ne) = subst (IsPart (new (ENTRY (slot_of sizes (first + i))))) (sym (get_or-set_other parts row.part i _ [] ne)) (else_ i less ne _ (are.each i less))
+
+-- the parts of a group after one more device call of its commit, which did its work or not
+pub written_more : (sizes : Sizes) (old new : Values) (tail : ℕ) (call : FileCall) (first calls : ℕ) (how : Ending) (row : RowStep)
+    → calls < length (steps_of sizes call first) → slice_index_or (steps_of sizes call first) calls row ≡ row
+    → StepsOn sizes first row.part old new how row.step
+    → ((i : ℕ) → i < page_count sizes call → i ≢ row.part → (one : Part) → IsPart (old (ENTRY (slot_of sizes (first + i)))) one → IsPart (new (ENTRY (slot_of sizes (first + i)))) one)
+    → IsWritten sizes old tail call first calls → IsWritten sizes new tail call first (calls_after how calls)
+written_more sizes old new tail (Write file at bytes) first calls how row there is here else_ written = go (has_come how) refl
+  where
+    steps : List RowStep
+    steps = group_steps sizes.page first file at bytes
+
+    was : List Part
+    was = after_some sizes.page first file at bytes calls written.before
+
+    few : (i : ℕ) → i < length (after_some sizes.page first file at bytes calls written.before) → i < page_count sizes (Write file at bytes)
+    few i less = let l = some_length sizes.page first file at bytes calls written.before in let f = written.fit.count in omega (arith, less, l, f)
+
+    grown : (b : Bool) → has_come how ≡ b → StepsOn sizes first row.part old new how row.step → (one : Part) → IsPart (old (ENTRY (slot_of sizes (first + row.part)))) one
+        → IsPart (new (ENTRY (slot_of sizes (first + row.part)))) (if b then after_line_step row.step one else one)
+    grown b e here one is = subst (λ c. IsPart (new (ENTRY (slot_of sizes (first + row.part)))) (if c then after_line_step row.step one else one)) e (here one is)
+
+    go : (b : Bool) → has_come how ≡ b → IsWritten sizes new tail (Write file at bytes) first (if has_come how then calls + 1 else calls)
+    go true e = subst (λ b. IsWritten sizes new tail (Write file at bytes) first (if b then calls + 1 else calls)) (sym e) record {
+      before = written.before;
+      fit = written.fit;
+      quiet = written.quiet;
+      stale = written.stale;
+      now = subst (AreParts sizes new first) (sym (ap (λ n. run row_after (take n steps) written.before) (add-one calls) ∙ run_more row_after steps calls row written.before there is))
+          (parts_more sizes old new first was row (grown true e here) (λ i less ne. else_ i (few i less) ne) written.now);
+      low = written.low;
+    }
+    go false e = subst (λ b. IsWritten sizes new tail (Write file at bytes) first (if b then calls + 1 else calls)) (sym e) record {
+      before = written.before;
+      fit = written.fit;
+      quiet = written.quiet;
+      stale = written.stale;
+      now = record {
+        each = λ i less. elim (cases_eq i row.part) [
+          | inl same ↦ subst (λ n. IsPart (new (ENTRY (slot_of sizes (first + n)))) (slice_index_or was n [])) (sym same) (grown false e here _ (written.now.each row.part (subst (λ n. n < length was) same less)))
+          | inr ne ↦ else_ i (few i less) ne _ (written.now.each i less)
+        ];
+      };
+      low = written.low;
+    }
+written_more sizes old new tail (Read file at len) first calls how row there is here else_ written = absurd written
+written_more sizes old new tail (Sync file) first calls how row there is here else_ written = absurd written
