@@ -42,3 +42,4 @@ pub mod RowParts
 pub mod WrittenLaws
 pub mod KeepsWritten
 pub mod KeepsBytes
+pub mod ImageLaws

@@ -35,3 +35,5 @@ pub mod Content
 pub mod Groups
 pub mod Apart
 pub mod Written
+pub mod EntryImages
+pub mod StaleWords
