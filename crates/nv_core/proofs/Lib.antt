@@ -43,3 +43,4 @@ pub mod WrittenLaws
 pub mod KeepsWritten
 pub mod KeepsBytes
 pub mod ImageLaws
+pub mod KeepsHeader

@@ -37,3 +37,4 @@ pub mod Apart
 pub mod Written
 pub mod EntryImages
 pub mod StaleWords
+pub mod HeaderStays
