@@ -44,3 +44,4 @@ pub mod KeepsWritten
 pub mod KeepsBytes
 pub mod ImageLaws
 pub mod KeepsHeader
+pub mod KeepsPieces

@@ -38,3 +38,4 @@ pub mod Written
 pub mod EntryImages
 pub mod StaleWords
 pub mod HeaderStays
+pub mod Pieces
