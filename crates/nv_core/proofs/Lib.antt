@@ -45,3 +45,4 @@ pub mod KeepsBytes
 pub mod ImageLaws
 pub mod KeepsHeader
 pub mod KeepsPieces
+pub mod KeepsInFlight

@@ -39,3 +39,4 @@ pub mod EntryImages
 pub mod StaleWords
 pub mod HeaderStays
 pub mod Pieces
+pub mod InFlight

@@ -1,0 +1,599 @@
+-- Each event keeps the writes in flight.
+use Rattle.std.proofs.Common.{◌≡◌, ◌≢◌, ◌⊎◌, ℕ, ◌+◌, ◌-◌, ◌^◌, ◌<◌, ◌≤◌, ◌==◌, nat_lt, nat_le, ◌&&◌, not, Bool, true, false, if◌then◌else◌, List, length, inl, inr, refl, sym, ap, subst, ◌∙◌, arith}
+use Rattle.std.proofs.lemmas.Bool.{eqb-true, eq-eqb, cases_eq, and_from, le-leb, lt-ltb}
+use Rattle.nv_plain.specs.declared.call.FileCall.{FileCall}
+use Rattle.nv_plain.specs.declared.call.FileCall.TheVariants.{Read, Write, Sync}
+use Rattle.nv_plain.specs.declared.call.Reply.{Reply}
+use Rattle.nv_core.specs.Words.{Sizes, Word, STOP, ORDER, HEAD, TAIL, LENGTH, DIRTY, PAGE, SIZE, STORE, ENTRY, kind_of, free, filling, ready, broken, index}
+use Rattle.nv_core.specs.Values.{Ending, Made, Failed}
+use Rattle.nv_core.specs.Passes.{Stage, Idle, Locking, Measuring, Sizing, Checking, Ordering, Reading, Heading, Tailing, Drawing, Fetching, Waiting, Copying, Seizing, Committing, Pledging, Readying, Placing, Growing, Releasing, Giving, Leaving, Returning, ReadFailing, WriteFailing, Breaking, Pass, IsUnseized, IsFilling, IsAmong, is_write, is_read, page_count, first_page, end_page, without, times}
+use Rattle.nv_core.specs.Deeds.{Deed, slot_of, page_at, ready_word, Loads, Takes, Gives, Places, Stops, Draws, Seizes, Pledges, Readies, Grows, Breaks, Splits, Leaves, Joins}
+use Rattle.nv_core.specs.Stages.{stage_after, after_load, after_take, after_give, after_stop, leaving, giving, ending, ordered, copying, exceeds}
+use Rattle.nv_core.specs.Stepped.{begun}
+use Rattle.nv_core.specs.Order.{Values, Work, MayWork, IsDue, IsFailing, commit_steps, MayStep, MayLoad, MayTake, MayPlace}
+use Rattle.nv_core.specs.Core.{Core, changes, changed, with_word, with_number, after_step, after_begin, after_work, worked, stage_worked}
+use Rattle.nv_core.specs.Events.{MayFind, MayBegin}
+use Rattle.nv_core.specs.Standing.{StandsAt, HasDrawn, IsPage, IsSmall, HasRoom}
+use Rattle.nv_core.specs.Holding.{one_if, is_among, HoldsLocks}
+use Rattle.nv_core.specs.LogWindow.{HasUnseized, InWindow, entry_at}
+use Rattle.nv_core.specs.Groups.{Group, Log, group_of, with_group, log_stepped, log_worked, IsOwn, Groups}
+use Rattle.nv_core.specs.Pieces.{page_of_number}
+use Rattle.nv_core.specs.InFlight.{placed_stepped, IsFlying, IsWaiting, InFlight}
+use Rattle.nv_core.specs.Sound.{Sound}
+use Rattle.nv_core.proofs.Changes.{by_number, by_word, number_here, number_else, word_here, word_else, differ}
+use Rattle.nv_core.proofs.Choices.{if_both, not_both, when_true, when_false, leaving_both, IsGivingBack, gives_back}
+use Rattle.nv_core.proofs.LockLaws.{only_holder}
+use Rattle.nv_core.proofs.PageLaws.{write_pages}
+use Rattle.nv_core.proofs.WordLaws.{untouched, touches}
+use Rattle.nv_core.proofs.KeepsLocks.{kind_is}
+use Rattle.nv_core.proofs.KeepsWindow.{window_step}
+use Rattle.nv_core.proofs.WindowLaws.{apart_within}
+use Rattle.nv_core.proofs.KeepsGroups.{is_draw, group_new, group_old, which, log_group}
+
+-- ---- where a flight begins and ends
+
+not_leaving : (pass : Pass) (hands : List Word) → IsFlying pass (leaving hands) → ⊥
+not_leaving pass hands = leaving_both (λ s. IsFlying pass s → ⊥) hands (λ _ z. z) (λ _ z. z)
+
+not_giving : (sizes : Sizes) (pass : Pass) (call : FileCall) → IsFlying pass (giving sizes call) → ⊥
+not_giving sizes pass call = if_both (λ s. IsFlying pass s → ⊥) (page_count sizes call == 0) Idle (Giving (first_page sizes call)) (λ _ z. z) (λ _ z. z)
+
+not_ending : (sizes : Sizes) (pass one : Pass) → IsFlying pass (ending sizes one) → ⊥
+not_ending sizes pass one = if_both (λ s. IsFlying pass s → ⊥) one.sized Releasing (giving sizes one.call) (λ _ z. z) (λ _. not_giving sizes pass one.call)
+
+not_loaded : (sizes : Sizes) (values : Values) (pass : Pass) (word : Word) (found : ℕ) → MayLoad sizes values pass word → IsFlying pass (after_load sizes pass word found) → ⊥
+not_loaded sizes values pass (LENGTH file) found may = if_both (λ s. IsFlying pass s → ⊥) (exceeds pass found && not pass.sized) Sizing Checking (λ _ z. z) (λ _ z. z)
+not_loaded sizes values pass STOP found may = if_both (λ s. IsFlying pass s → ⊥) (found == 0) Ordering (leaving pass.hands) (λ _ z. z) (λ _. not_leaving pass pass.hands)
+not_loaded sizes values pass ORDER found may = if_both (λ s. IsFlying pass s → ⊥) (nat_lt found (2 ^ 60)) (ordered sizes pass.call) (leaving pass.hands)
+    (λ _. if_both (λ s. IsFlying pass s → ⊥) (is_write pass.call) Heading (if is_read pass.call then Reading (first_page sizes pass.call) else Placing) (λ _ z. z)
+    (λ none. if_both (λ s. IsFlying pass s → ⊥) (is_read pass.call) (Reading (first_page sizes pass.call)) Placing (λ _ z. z) (λ _ z. not_both z none)))
+    (λ _. not_leaving pass pass.hands)
+not_loaded sizes values pass HEAD found may = if_both (λ s. IsFlying pass s → ⊥) (nat_le (found + page_count sizes pass.call) (2 ^ 60)) Tailing (leaving pass.hands) (λ _ z. z) (λ _. not_leaving pass pass.hands)
+not_loaded sizes values pass TAIL found may = if_both (λ s. IsFlying pass s → ⊥) (nat_le (pass.head + page_count sizes pass.call) (found + sizes.entries)) Drawing (leaving pass.hands) (λ _ z. z) (λ _. not_leaving pass pass.hands)
+not_loaded sizes values pass (DIRTY page) found may = if_both (λ s. IsFlying pass s → ⊥) (found == 0) (Fetching page) (Waiting page) (λ _ z. z) (λ _ z. z)
+not_loaded sizes values pass word found may = absurd may
+
+not_taken : (sizes : Sizes) (pass : Pass) (cell : Word) (found : ℕ) → MayTake pass cell → IsFlying pass (stage_after sizes pass (Takes cell) found) → ⊥
+not_taken sizes pass (PAGE page) found may = if_both (λ s. IsFlying pass s → ⊥) (found == 0) (after_take sizes pass (PAGE page)) (leaving pass.hands)
+    (λ _. if_both (λ s. IsFlying pass s → ⊥) (page + 1 == end_page sizes pass.call) Measuring (Locking (page + 1)) (λ _ z. z) (λ _ z. z)) (λ _. not_leaving pass pass.hands)
+not_taken sizes pass (SIZE file) found may = if_both (λ s. IsFlying pass s → ⊥) (found == 0) Measuring (leaving pass.hands) (λ _ z. z) (λ _. not_leaving pass pass.hands)
+not_taken sizes pass (STORE file) found may = if_both (λ s. IsFlying pass s → ⊥) (found == 0) (copying pass.stage) (leaving pass.hands)
+    (λ _. subst (λ s. IsFlying pass (copying s) → ⊥) (sym may.1) (λ z. z)) (λ _. not_leaving pass pass.hands)
+not_taken sizes pass cell found may = absurd may
+
+not_given : (sizes : Sizes) (pass : Pass) (cell : Word) (stage : Stage) → IsGivingBack stage → IsFlying pass (after_give sizes pass cell stage) → ⊥
+not_given sizes pass cell Leaving may = not_leaving pass (without cell pass.hands)
+not_given sizes pass cell Releasing may = not_giving sizes pass pass.call
+not_given sizes pass cell (Giving page) may = if_both (λ s. IsFlying pass s → ⊥) (page + 1 == end_page sizes pass.call) Idle (Giving (page + 1)) (λ _ z. z) (λ _ z. z)
+not_given sizes pass cell (Returning page) may = λ z. z
+not_given sizes pass cell stage may = absurd may
+
+flying_as : (old new : Pass) (stage : Stage) → new.call ≡ old.call → IsFlying new stage → IsFlying old stage
+flying_as old new (Seizing number) same is = tt
+flying_as old new (Committing calls) same is = tt
+flying_as old new (Pledging page) same is = tt
+flying_as old new (Readying number) same is = tt
+flying_as old new Placing same is = ap is_write (sym same) ∙ is
+flying_as old new stage same is = is
+
+-- a flight after a step but a draw was one before
+flew : (sizes : Sizes) (values : Values) (pass : Pass) (found : ℕ) (deed : Deed) → is_draw deed ≡ false → MayStep sizes values pass deed → IsFlying pass (stage_after sizes pass deed found) → IsFlying pass pass.stage
+flew sizes values pass found (Loads word) ne may is = absurd (not_loaded sizes values pass word found may is)
+flew sizes values pass found (Takes cell) ne may is = absurd (not_taken sizes pass cell found may is)
+flew sizes values pass found (Gives cell) ne may is = absurd (not_given sizes pass cell pass.stage (gives_back pass cell pass.stage may) is)
+flew sizes values pass found (Places reply) ne may is = absurd (if_both (λ s. IsFlying pass s → ⊥) (is_write pass.call && exceeds pass pass.length) Growing (ending sizes pass) (λ _ z. z) (λ _. not_ending sizes pass pass) is)
+flew sizes values pass found Grows ne may is = absurd (not_ending sizes pass pass is)
+flew sizes values pass found Stops ne may is = absurd (stops pass.stage may is)
+  where
+    stops : (stage : Stage) → IsFailing stage → IsFlying pass (after_stop pass stage) → ⊥
+    stops ReadFailing may = not_leaving pass pass.hands
+    stops WriteFailing may = λ z. z
+    stops stage may = absurd may
+flew sizes values pass found Draws ne may is = absurd (not_both refl ne)
+flew sizes values pass found (Seizes next) ne may is = subst (IsFlying pass) (sym may) tt
+flew sizes values pass found (Pledges page) ne may is = subst (IsFlying pass) (sym may) tt
+flew sizes values pass found (Readies next) ne may is = subst (IsFlying pass) (sym may) tt
+flew sizes values pass found (Breaks next) ne may is = absurd (if_both (λ s. IsFlying pass s → ⊥) (next + 1 == pass.first + pass.entries) (leaving (without (ENTRY (slot_of sizes next)) pass.hands)) (Breaking (next + 1))
+    (λ _. not_leaving pass (without (ENTRY (slot_of sizes next)) pass.hands)) (λ _ z. z) is)
+flew sizes values pass found deed ne may is = absurd may
+
+-- ---- a pass that is to take its place does nothing else
+
+abbrev is_placing : Stage → Bool
+is_placing Placing = true
+is_placing stage = false
+
+elsewhere : (stage other : Stage) → stage ≡ other → is_placing other ≡ false → stage ≡ Placing → ⊥
+elsewhere stage other e not_so placing = not_both (ap is_placing placing) (ap is_placing e ∙ not_so)
+
+abbrev is_place : Deed → Bool
+is_place (Places reply) = true
+is_place deed = false
+
+not_placing : (sizes : Sizes) (values : Values) (pass : Pass) (deed : Deed) → is_place deed ≡ false → MayStep sizes values pass deed → pass.stage ≡ Placing → ⊥
+not_placing sizes values pass (Loads (LENGTH file)) ne may = elsewhere _ _ may.0 refl
+not_placing sizes values pass (Loads STOP) ne may = elsewhere _ _ may refl
+not_placing sizes values pass (Loads ORDER) ne may = elsewhere _ _ may refl
+not_placing sizes values pass (Loads HEAD) ne may = elsewhere _ _ may refl
+not_placing sizes values pass (Loads TAIL) ne may = elsewhere _ _ may refl
+not_placing sizes values pass (Loads (DIRTY page)) ne may = elsewhere _ _ may.1.stage refl
+not_placing sizes values pass (Loads word) ne may = absurd may
+not_placing sizes values pass (Takes (PAGE page)) ne may = elsewhere _ _ may refl
+not_placing sizes values pass (Takes (SIZE file)) ne may = elsewhere _ _ may.0 refl
+not_placing sizes values pass (Takes (STORE file)) ne may = elsewhere _ _ may.1 refl
+not_placing sizes values pass (Takes cell) ne may = absurd may
+not_placing sizes values pass (Gives cell) ne may = λ e. subst IsGivingBack e (gives_back pass cell pass.stage may)
+not_placing sizes values pass (Places reply) ne may = absurd (not_both refl ne)
+not_placing sizes values pass Stops ne may = λ e. subst IsFailing e may
+not_placing sizes values pass Draws ne may = elsewhere _ _ may refl
+not_placing sizes values pass (Seizes next) ne may = elsewhere _ _ may refl
+not_placing sizes values pass (Pledges page) ne may = elsewhere _ _ may refl
+not_placing sizes values pass (Readies next) ne may = elsewhere _ _ may refl
+not_placing sizes values pass Grows ne may = elsewhere _ _ may refl
+not_placing sizes values pass (Breaks next) ne may = elsewhere _ _ may refl
+not_placing sizes values pass deed ne may = absurd may
+
+-- ---- passes in flight hold pages of their own
+
+-- a pass that draws, or has drawn, holds all pages of its write
+abbrev HasPages : Pass → Stage → Type 0
+HasPages pass Drawing = Unit {0}
+HasPages pass stage = IsFlying pass stage
+
+flying_pages : (pass : Pass) (stage : Stage) → IsFlying pass stage → HasPages pass stage
+flying_pages pass Drawing is = tt
+flying_pages pass stage is = is
+
+one_among : (from end page : ℕ) → from ≤ page → page < end → one_if (is_among from end page) ≡ 1
+one_among from end page low high = ap one_if (and_from (nat_le from page) (nat_lt page end) (le-leb from page low) (lt-ltb page end high))
+
+holds_page : (sizes : Sizes) (pass : Pass) (stage : Stage) → HasPages pass stage → HoldsLocks sizes pass stage → (page : ℕ) → IsPage sizes pass.call page → times (PAGE page) pass.hands ≡ 1
+holds_page sizes pass Drawing is holds page on = holds (PAGE page) (λ slot. differ (PAGE page) (ENTRY slot) refl) ∙ one_among (first_page sizes pass.call) (end_page sizes pass.call) page on.0 on.1
+holds_page sizes pass (Seizing number) is holds page on = holds (PAGE page) (λ slot. differ (PAGE page) (ENTRY slot) refl) ∙ one_among (first_page sizes pass.call) (end_page sizes pass.call) page on.0 on.1
+holds_page sizes pass (Committing calls) is holds page on = holds (PAGE page) (λ slot. differ (PAGE page) (ENTRY slot) refl) ∙ one_among (first_page sizes pass.call) (end_page sizes pass.call) page on.0 on.1
+holds_page sizes pass (Pledging next) is holds page on = holds (PAGE page) (λ slot. differ (PAGE page) (ENTRY slot) refl) ∙ one_among (first_page sizes pass.call) (end_page sizes pass.call) page on.0 on.1
+holds_page sizes pass (Readying number) is holds page on = holds (PAGE page) (λ slot. differ (PAGE page) (ENTRY slot) refl) ∙ one_among (first_page sizes pass.call) (end_page sizes pass.call) page on.0 on.1
+holds_page sizes pass Placing is holds page on = holds (PAGE page) (λ slot. differ (PAGE page) (ENTRY slot) refl) ∙ one_among (first_page sizes pass.call) (end_page sizes pass.call) page on.0 on.1
+holds_page sizes pass stage is holds page on = absurd is
+
+pub one_pass : (sizes : Sizes) (first : Values) (core : Core) → Sound sizes first core → (one other : ℕ) → HasPages (core.passes one) (core.passes one).stage → HasPages (core.passes other) (core.passes other).stage
+    → (page : ℕ) → IsPage sizes (core.passes one).call page → IsPage sizes (core.passes other).call page → one ≡ other
+one_pass sizes first core sound one other a b page x y = elim (cases_eq other one) [
+  | inl e ↦ sym e
+  | inr ne ↦ absurd (
+      let here = holds_page sizes (core.passes one) (core.passes one).stage a (sound.holding one).locks page x in
+      let there = holds_page sizes (core.passes other) (core.passes other).stage b (sound.holding other).locks page y in
+      let none = (only_holder (sound.locks.keyed (PAGE page)) one (omega (arith, here))).2 other ne in omega (arith, there, none))
+]
+
+-- ---- what keeps the writes in flight
+
+module _ (sizes : Sizes) (log : Log) (placed next : ℕ → Bool) (core now : Core) (head : now.words HEAD ≡ core.words HEAD) (tail : now.words TAIL ≡ core.words TAIL) where
+  flight_kept : ((by : ℕ) → IsFlying (now.passes by) (now.passes by).stage → IsFlying (core.passes by) (core.passes by).stage × (group_of (now.passes by) ≡ group_of (core.passes by)))
+      → ((by : ℕ) → IsFlying (now.passes by) (now.passes by).stage → next (now.passes by).first ≡ false)
+      → ((by : ℕ) → IsFlying (now.passes by) (now.passes by).stage → (now.passes by).stage ≡ Placing → kind_of (entry_at sizes now (now.passes by).first) ≡ ready)
+      → ((n : ℕ) → InWindow core n → (log.group n).first ≡ n → kind_of (entry_at sizes now n) ≡ ready → next n ≡ false → (by : ℕ) × IsWaiting (now.passes by) n)
+      → InFlight sizes log placed core → InFlight sizes log next now
+  flight_kept were unplaced firsts waits flight = record {
+    own = λ by is n among. let old = were by is in let e : group_of (now.passes by) ≡ group_of (core.passes by) = old.1 in
+        let own = flight.own by old.0 n (subst (λ g. IsAmong g.first g.entries n) e among) in
+        record { within = (subst (λ t. t ≤ n) (sym tail) own.within.0, subst (λ h. n < h) (sym head) own.within.1); group = own.group ∙ sym e };
+    drawn = λ by is. let old = were by is in let e : group_of (now.passes by) ≡ group_of (core.passes by) = old.1 in
+        subst (λ g. HasDrawn sizes g.call g.entries) (sym e) (flight.drawn by old.0);
+    apart = λ by is n within above on. let old = were by is in let e : group_of (now.passes by) ≡ group_of (core.passes by) = old.1 in
+        flight.apart by old.0 n (was n within) (subst (λ g. g.first + g.entries ≤ n) e above) (subst (λ g. IsPage sizes g.call (page_of_number sizes (log.group n) n)) e on);
+    unplaced = unplaced;
+    ready_first = firsts;
+    waiting = λ n within. waits n (was n within);
+  }
+    where
+      was : (n : ℕ) → InWindow now n → InWindow core n
+      was n is = (subst (λ t. t ≤ n) tail is.0, subst (λ h. n < h) head is.1)
+
+-- the passes after a step that draws nothing
+flew_all : (sizes : Sizes) (by : ℕ) (core : Core) (deed : Deed) (found : ℕ)
+    → (IsFlying (changed sizes by core deed found) (changed sizes by core deed found).stage → IsFlying (core.passes (changes by core.made deed)) (core.passes (changes by core.made deed)).stage × (group_of (changed sizes by core deed found) ≡ group_of (core.passes (changes by core.made deed))))
+    → (n : ℕ) → IsFlying ((after_step sizes by deed found core).passes n) ((after_step sizes by deed found core).passes n).stage → IsFlying (core.passes n) (core.passes n).stage × (group_of ((after_step sizes by deed found core).passes n) ≡ group_of (core.passes n))
+flew_all sizes by core deed found here = by_number (λ n (p : Pass). IsFlying p p.stage → IsFlying (core.passes n) (core.passes n).stage × (group_of p ≡ group_of (core.passes n))) core.passes (changes by core.made deed) (changed sizes by core deed found) here (λ n ne is. (is, refl))
+
+-- a step that makes no leader ready, places nothing and draws nothing
+same_flight : (sizes : Sizes) (log : Log) (placed : ℕ → Bool) (by : ℕ) (core : Core) (deed : Deed) (found : ℕ) → InFlight sizes log placed core
+    → (after_step sizes by deed found core).words HEAD ≡ core.words HEAD → (after_step sizes by deed found core).words TAIL ≡ core.words TAIL
+    → ((slot : ℕ) → kind_of ((after_step sizes by deed found core).words (ENTRY slot)) ≡ ready → kind_of (core.words (ENTRY slot)) ≡ ready)
+    → ((slot : ℕ) → kind_of (core.words (ENTRY slot)) ≡ ready → kind_of ((after_step sizes by deed found core).words (ENTRY slot)) ≡ ready)
+    → (IsFlying (changed sizes by core deed found) (changed sizes by core deed found).stage → IsFlying (core.passes (changes by core.made deed)) (core.passes (changes by core.made deed)).stage × (group_of (changed sizes by core deed found) ≡ group_of (core.passes (changes by core.made deed))))
+    → (IsFlying (changed sizes by core deed found) (changed sizes by core deed found).stage → (changed sizes by core deed found).stage ≡ Placing → kind_of (entry_at sizes core (changed sizes by core deed found).first) ≡ ready)
+    → ((n : ℕ) → IsWaiting (core.passes (changes by core.made deed)) n → IsWaiting (changed sizes by core deed found) n)
+    → InFlight sizes log placed (after_step sizes by deed found core)
+same_flight sizes log placed by core deed found flight head tail before still here firsts waits =
+    flight_kept sizes log placed placed core (after_step sizes by deed found core) head tail (flew_all sizes by core deed found here)
+    (λ n is. let old = flew_all sizes by core deed found here n is in let e : group_of ((after_step sizes by deed found core).passes n) ≡ group_of (core.passes n) = old.1 in
+    subst (λ g. placed g.first ≡ false) (sym e) (flight.unplaced n old.0))
+    (by_number (λ n (p : Pass). IsFlying p p.stage → p.stage ≡ Placing → kind_of (entry_at sizes (after_step sizes by deed found core) p.first) ≡ ready) core.passes (changes by core.made deed) (changed sizes by core deed found)
+    (λ is e. still (slot_of sizes (changed sizes by core deed found).first) (firsts is e)) (λ n ne is e. still (slot_of sizes (core.passes n).first) (flight.ready_first n is e)))
+    (λ n within leads kind none. let w = flight.waiting n within leads (before (slot_of sizes n) kind) none in
+    (w.0, by_number (λ m (p : Pass). IsWaiting (core.passes m) n → IsWaiting p n) core.passes (changes by core.made deed) (changed sizes by core deed found) (waits n) (λ m ne is. is) w.0 w.1))
+    flight
+
+-- ---- the steps
+
+-- a step that leaves the ENTRY words
+plain_flight : (sizes : Sizes) (log : Log) (placed : ℕ → Bool) (by : ℕ) (core : Core) (deed : Deed) (found : ℕ) → InFlight sizes log placed core → MayFind sizes by core deed found
+    → touches deed HEAD ≡ false → touches deed TAIL ≡ false → ((slot : ℕ) → touches deed (ENTRY slot) ≡ false) → changes by core.made deed ≡ by → is_draw deed ≡ false → is_place deed ≡ false
+    → MayStep sizes core.values (core.passes by) deed
+    → (IsFlying (changed sizes by core deed found) (changed sizes by core deed found).stage → IsFlying (core.passes (changes by core.made deed)) (core.passes (changes by core.made deed)).stage × (group_of (changed sizes by core deed found) ≡ group_of (core.passes (changes by core.made deed))))
+    → (IsFlying (changed sizes by core deed found) (changed sizes by core deed found).stage → (changed sizes by core deed found).stage ≡ Placing → ⊥)
+    → InFlight sizes log placed (after_step sizes by deed found core)
+plain_flight sizes log placed by core deed found flight may head tail entry same no_draw no_place step here firsts =
+    same_flight sizes log placed by core deed found flight (untouched sizes by core deed found may HEAD head) (untouched sizes by core deed found may TAIL tail)
+    (λ slot is. ap kind_of (sym (untouched sizes by core deed found may (ENTRY slot) (entry slot))) ∙ is)
+    (λ slot is. ap kind_of (untouched sizes by core deed found may (ENTRY slot) (entry slot)) ∙ is)
+    here (λ is e. absurd (firsts is e))
+    (λ n waiting. absurd (not_placing sizes core.values (core.passes by) deed no_place step (subst (λ m. (core.passes m).stage ≡ Placing) same waiting.stage)))
+
+-- one that sets an ENTRY word that isn't ready before or then
+entry_flight : (sizes : Sizes) (log : Log) (placed : ℕ → Bool) (by : ℕ) (core : Core) (deed : Deed) (found slot value : ℕ) → InFlight sizes log placed core
+    → (after_step sizes by deed found core).words ≡ with_word core.words (ENTRY slot) value → kind_of value ≢ ready → kind_of (core.words (ENTRY slot)) ≢ ready
+    → changes by core.made deed ≡ by → is_place deed ≡ false → MayStep sizes core.values (core.passes by) deed
+    → (IsFlying (changed sizes by core deed found) (changed sizes by core deed found).stage → IsFlying (core.passes (changes by core.made deed)) (core.passes (changes by core.made deed)).stage × (group_of (changed sizes by core deed found) ≡ group_of (core.passes (changes by core.made deed))))
+    → (IsFlying (changed sizes by core deed found) (changed sizes by core deed found).stage → (changed sizes by core deed found).stage ≡ Placing → ⊥)
+    → InFlight sizes log placed (after_step sizes by deed found core)
+entry_flight sizes log placed by core deed found slot value flight words not_now not_before same no_place step here firsts =
+    same_flight sizes log placed by core deed found flight
+    (ap (λ w. w HEAD) words ∙ word_else core.words (ENTRY slot) value HEAD (differ HEAD (ENTRY slot) refl))
+    (ap (λ w. w TAIL) words ∙ word_else core.words (ENTRY slot) value TAIL (differ TAIL (ENTRY slot) refl))
+    (λ other is. now (ENTRY other) (ap (λ w. kind_of (w (ENTRY other))) (sym words) ∙ is))
+    (λ other is. ap (λ w. kind_of (w (ENTRY other))) words ∙ before (ENTRY other) is)
+    here (λ is e. absurd (firsts is e))
+    (λ n waiting. absurd (not_placing sizes core.values (core.passes by) deed no_place step (subst (λ m. (core.passes m).stage ≡ Placing) same waiting.stage)))
+  where
+    now : (word : Word) → kind_of (with_word core.words (ENTRY slot) value word) ≡ ready → kind_of (core.words word) ≡ ready
+    now = by_word (λ word v. kind_of v ≡ ready → kind_of (core.words word) ≡ ready) core.words (ENTRY slot) value (λ e. absurd (not_now e)) (λ word ne e. e)
+
+    before : (word : Word) → kind_of (core.words word) ≡ ready → kind_of (with_word core.words (ENTRY slot) value word) ≡ ready
+    before = by_word (λ word v. kind_of (core.words word) ≡ ready → kind_of v ≡ ready) core.words (ENTRY slot) value (λ e. absurd (not_before e)) (λ word ne e. e)
+
+-- an entry is made ready
+module _ (sizes : Sizes) (first : Values) (log : Log) (placed : ℕ → Bool) (by : ℕ) (core : Core) (found next : ℕ) (sound : Sound sizes first core) (groups : Groups sizes core log) (flight : InFlight sizes log placed core) (may : MayFind sizes by core (Readies next) found) where
+  abbrev ready_core : Core
+  ready_core = after_step sizes by (Readies next) found core
+
+  flying_now : IsFlying (core.passes by) (core.passes by).stage
+  flying_now = subst (IsFlying (core.passes by)) (sym may.may) tt
+
+  among_next : IsAmong (core.passes by).first (core.passes by).entries next
+  among_next =
+      let at : HasDrawn sizes (core.passes by).call (core.passes by).entries × IsAmong (core.passes by).first (core.passes by).entries next = subst (StandsAt sizes (core.passes by)) may.may (sound.standing by).at in at.1
+
+  own_next : IsOwn core log (core.passes by) next
+  own_next = flight.own by flying_now next among_next
+
+  value_ready : kind_of (ready_word sizes (core.passes by) next) ≡ ready
+  value_ready = kind_is 2 (if next == (core.passes by).first then (core.passes by).entries else 0) (page_at sizes (core.passes by) next) (omega arith)
+
+  still_ready : (slot : ℕ) → kind_of (core.words (ENTRY slot)) ≡ ready → kind_of (ready_core.words (ENTRY slot)) ≡ ready
+  still_ready slot = by_word (λ word v. kind_of (core.words word) ≡ ready → kind_of v ≡ ready) core.words (ENTRY (slot_of sizes next)) (ready_word sizes (core.passes by) next) (λ _. value_ready) (λ word ne e. e) (ENTRY slot)
+
+  now_ready : kind_of (entry_at sizes ready_core next) ≡ ready
+  now_ready = ap kind_of (word_here core.words (ENTRY (slot_of sizes next)) (ready_word sizes (core.passes by) next)) ∙ value_ready
+
+  was_ready : (n : ℕ) → InWindow core n → n ≢ next → kind_of (entry_at sizes ready_core n) ≡ ready → kind_of (entry_at sizes core n) ≡ ready
+  was_ready n is ne kind = ap kind_of (sym (word_else core.words (ENTRY (slot_of sizes next)) (ready_word sizes (core.passes by) next) (ENTRY (slot_of sizes n))
+      (λ e. apart_within sizes core sound.window n next is own_next.within ne (ap index e)))) ∙ kind
+
+  flew_now : (n : ℕ) → IsFlying (ready_core.passes n) (ready_core.passes n).stage → IsFlying (core.passes n) (core.passes n).stage × (group_of (ready_core.passes n) ≡ group_of (core.passes n))
+  flew_now = flew_all sizes by core (Readies next) found (λ is. (flying_now, refl))
+
+  wait_now : (n : ℕ) → InWindow core n → (log.group n).first ≡ n → kind_of (entry_at sizes ready_core n) ≡ ready → placed n ≡ false → (w : ℕ) × IsWaiting (ready_core.passes w) n
+  wait_now n is leads kind none = elim (cases_eq n next) [
+    | inl same ↦
+        let g : log.group n ≡ group_of (core.passes by) = subst (λ m. log.group m ≡ group_of (core.passes by)) (sym same) own_next.group in
+        let f : (core.passes by).first ≡ n = sym (ap (λ one. one.first) g) ∙ leads in (
+          by,
+          subst (λ p. IsWaiting p n) (sym (number_here core.passes by (changed sizes by core (Readies next) found)))
+              (record {
+                stage = when_true (next == (core.passes by).first) Placing (Readying (if next + 1 == (core.passes by).first + (core.passes by).entries then (core.passes by).first else next + 1)) (eq-eqb next (core.passes by).first (sym same ∙ sym f));
+                write = (flight.drawn by flying_now).write;
+                first = f;
+              }),
+        )
+    | inr ne ↦ let w = flight.waiting n is leads (was_ready n is ne kind) none in (
+      w.0,
+      by_number (λ m (p : Pass). IsWaiting (core.passes m) n → IsWaiting p n) core.passes by (changed sizes by core (Readies next) found)
+          (λ waiting. absurd (elsewhere (core.passes by).stage (Readying next) may.may refl waiting.stage)) (λ m ne is. is) w.0 w.1,
+    )
+  ]
+
+  ready_flight : InFlight sizes log placed ready_core
+  ready_flight = flight_kept sizes log placed placed core ready_core
+      (word_else core.words (ENTRY (slot_of sizes next)) (ready_word sizes (core.passes by) next) HEAD (differ HEAD (ENTRY (slot_of sizes next)) refl))
+      (word_else core.words (ENTRY (slot_of sizes next)) (ready_word sizes (core.passes by) next) TAIL (differ TAIL (ENTRY (slot_of sizes next)) refl))
+      flew_now
+      (λ n is. let old = flew_now n is in let e : group_of (ready_core.passes n) ≡ group_of (core.passes n) = old.1 in subst (λ g. placed g.first ≡ false) (sym e) (flight.unplaced n old.0))
+      (by_number (λ n (p : Pass). IsFlying p p.stage → p.stage ≡ Placing → kind_of (entry_at sizes ready_core p.first) ≡ ready) core.passes by (changed sizes by core (Readies next) found)
+      (λ _ e. if_both (λ s. s ≡ Placing → kind_of (entry_at sizes ready_core (core.passes by).first) ≡ ready) (next == (core.passes by).first) Placing (Readying (if next + 1 == (core.passes by).first + (core.passes by).entries then (core.passes by).first else next + 1))
+      (λ last _. subst (λ m. kind_of (entry_at sizes ready_core m) ≡ ready) (eqb-true next (core.passes by).first last) now_ready)
+      (λ _ e. absurd (elsewhere _ _ refl refl e)) e)
+      (λ n ne is e. still_ready (slot_of sizes (core.passes n).first) (flight.ready_first n is e)))
+      wait_now flight
+
+-- a call is placed
+not_placed : (sizes : Sizes) (pass one : Pass) → IsFlying one (if is_write pass.call && exceeds pass pass.length then Growing else ending sizes pass) → ⊥
+not_placed sizes pass one = if_both (λ s. IsFlying one s → ⊥) (is_write pass.call && exceeds pass pass.length) Growing (ending sizes pass) (λ _ z. z) (λ _. not_ending sizes one pass)
+
+pub no_reading : (call : FileCall) → is_write call ≡ true → is_read call ≡ true → ⊥
+no_reading (Read file at len) write read = not_both write refl
+no_reading (Write file at bytes) write read = not_both read refl
+no_reading (Sync file) write read = not_both write refl
+
+placing : (sizes : Sizes) (values : Values) (pass : Pass) (reply : Reply) (stage : Stage) → StandsAt sizes pass stage → MayPlace sizes values pass reply stage → is_write pass.call ≡ true → IsFlying pass stage
+placing sizes values pass reply Placing at may write = write
+placing sizes values pass reply (Reading page) at may write = absurd (no_reading pass.call write at.0)
+placing sizes values pass reply stage at may write = absurd may
+
+-- the first page of a write is one of it
+first_on : (sizes : Sizes) (pass : Pass) → HasDrawn sizes pass.call pass.entries → IsPage sizes pass.call (first_page sizes pass.call)
+first_on sizes pass drawn = let s = drawn.some in let m = drawn.many in (omega arith, omega (arith, s, m))
+
+one_flight : (sizes : Sizes) (first : Values) (log : Log) (placed : ℕ → Bool) (core : Core) → Sound sizes first core → InFlight sizes log placed core → (one other : ℕ) → IsFlying (core.passes one) (core.passes one).stage → IsFlying (core.passes other) (core.passes other).stage
+    → (core.passes one).first ≡ (core.passes other).first → one ≡ other
+one_flight sizes first log placed core sound flight one other a b same =
+    let g = (own one a).group in let h = (own other b).group in
+    let e : group_of (core.passes one) ≡ group_of (core.passes other) = sym g ∙ ap log.group same ∙ h in
+    one_pass sizes first core sound one other (flying_pages (core.passes one) (core.passes one).stage a) (flying_pages (core.passes other) (core.passes other).stage b)
+    (first_page sizes (core.passes one).call) (first_on sizes (core.passes one) (flight.drawn one a))
+    (subst (λ c. IsPage sizes c (first_page sizes (core.passes one).call)) (ap (λ one. one.call) e) (first_on sizes (core.passes one) (flight.drawn one a)))
+  where
+    own : (n : ℕ) (is : IsFlying (core.passes n) (core.passes n).stage) → IsOwn core log (core.passes n) (core.passes n).first
+    own n is = flight.own n is (core.passes n).first (let s = (flight.drawn n is).some in (omega arith, omega (arith, s)))
+
+place_flight : (sizes : Sizes) (first : Values) (log : Log) (placed : ℕ → Bool) (by : ℕ) (core : Core) (found : ℕ) (reply : Reply) → Sound sizes first core → InFlight sizes log placed core → MayFind sizes by core (Places reply) found
+    → InFlight sizes log (placed_stepped (core.passes by) (Places reply) found placed) (after_step sizes by (Places reply) found core)
+place_flight sizes first log placed by core found reply sound flight may = go (is_write (core.passes by).call) refl
+  where
+    now : Core
+    now = after_step sizes by (Places reply) found core
+
+    gone : IsFlying (changed sizes by core (Places reply) found) (changed sizes by core (Places reply) found).stage → ⊥
+    gone = not_placed sizes (core.passes by) (changed sizes by core (Places reply) found)
+
+    entries : (slot : ℕ) → (after_step sizes by (Places reply) found core).words (ENTRY slot) ≡ core.words (ENTRY slot)
+    entries slot = untouched sizes by core (Places reply) found may (ENTRY slot) refl
+
+    go : (b : Bool) → is_write (core.passes by).call ≡ b → InFlight sizes log (placed_stepped (core.passes by) (Places reply) found placed) (after_step sizes by (Places reply) found core)
+    go false e = subst (λ p. InFlight sizes log p (after_step sizes by (Places reply) found core)) (sym (when_false (is_write (core.passes by).call) (with_number placed (core.passes by).first true) placed e))
+        (same_flight sizes log placed by core (Places reply) found flight (untouched sizes by core (Places reply) found may HEAD refl) (untouched sizes by core (Places reply) found may TAIL refl)
+        (λ slot is. ap kind_of (sym (entries slot)) ∙ is) (λ slot is. ap kind_of (entries slot) ∙ is)
+        (λ is. absurd (gone is)) (λ is. absurd (gone is)) (λ n waiting. absurd (not_both waiting.write e)))
+    go true e = subst (λ p. InFlight sizes log p (after_step sizes by (Places reply) found core)) (sym (when_true (is_write (core.passes by).call) (with_number placed (core.passes by).first true) placed e))
+        (flight_kept sizes log placed (with_number placed (core.passes by).first true) core (after_step sizes by (Places reply) found core)
+        (untouched sizes by core (Places reply) found may HEAD refl) (untouched sizes by core (Places reply) found may TAIL refl)
+        (flew_all sizes by core (Places reply) found (λ is. absurd (gone is)))
+        (by_number (λ n (p : Pass). IsFlying p p.stage → with_number placed (core.passes by).first true p.first ≡ false) core.passes by (changed sizes by core (Places reply) found) (λ is. absurd (gone is))
+        (λ n ne is. number_else placed (core.passes by).first true (core.passes n).first (λ same. ne (one_flight sizes first log placed core sound flight n by is flying same)) ∙ flight.unplaced n is))
+        (by_number (λ n (p : Pass). IsFlying p p.stage → p.stage ≡ Placing → kind_of (entry_at sizes (after_step sizes by (Places reply) found core) p.first) ≡ ready) core.passes by (changed sizes by core (Places reply) found) (λ is. absurd (gone is))
+        (λ n ne is at. ap kind_of (entries (slot_of sizes (core.passes n).first)) ∙ flight.ready_first n is at))
+        (λ n within leads kind none.
+        let ne : n ≢ (core.passes by).first = λ same. not_both (ap (with_number placed (core.passes by).first true) same ∙ number_here placed (core.passes by).first true) none in
+        let w = flight.waiting n within leads (ap kind_of (sym (entries (slot_of sizes n))) ∙ kind) (sym (number_else placed (core.passes by).first true n ne) ∙ none) in
+        (w.0, by_number (λ m (p : Pass). IsWaiting (core.passes m) n → IsWaiting p n) core.passes by (changed sizes by core (Places reply) found) (λ waiting. absurd (ne (sym waiting.first))) (λ m ne is. is) w.0 w.1))
+        flight)
+      where
+        flying : IsFlying (core.passes by) (core.passes by).stage
+        flying = placing sizes core.values (core.passes by) reply (core.passes by).stage (sound.standing by).at may.may e
+
+-- numbers are drawn
+draw_flight : (sizes : Sizes) (first : Values) (log : Log) (placed : ℕ → Bool) (by : ℕ) (core : Core) (found : ℕ) → Sound sizes first core → Groups sizes core log → InFlight sizes log placed core → MayFind sizes by core Draws found
+    → InFlight sizes (log_stepped sizes (core.passes by) Draws found log) (placed_stepped (core.passes by) Draws found placed) (after_step sizes by Draws found core)
+draw_flight sizes first log placed by core found sound groups flight may = go (found == (core.passes by).head) refl
+  where
+    group : Group
+    group = record { call = (core.passes by).call; first = found; entries = page_count sizes (core.passes by).call }
+
+    apart_here : (n : ℕ) → IsWaiting (core.passes by) n → ⊥
+    apart_here n waiting = elsewhere (core.passes by).stage Drawing may.may refl waiting.stage
+
+    go : (b : Bool) → (found == (core.passes by).head) ≡ b → InFlight sizes (log_stepped sizes (core.passes by) Draws found log) (placed_stepped (core.passes by) Draws found placed) (after_step sizes by Draws found core)
+    go false e = subst (λ l. InFlight sizes l (placed_stepped (core.passes by) Draws found placed) (after_step sizes by Draws found core)) (sym (when_false (found == (core.passes by).head) (with_group group log) log e))
+        (subst (λ p. InFlight sizes log p (after_step sizes by Draws found core)) (sym (when_false (found == (core.passes by).head) (with_number placed found false) placed e))
+        (same_flight sizes log placed by core Draws found flight
+        (word_here core.words HEAD _ ∙ when_false (found == (core.passes by).head) (found + page_count sizes (core.passes by).call) found e ∙ sym may.is) refl (λ slot is. is) (λ slot is. is)
+        (λ is. absurd (lost is)) (λ is. absurd (lost is)) (λ n waiting. absurd (apart_here n waiting))))
+      where
+        lost : IsFlying (changed sizes by core Draws found) (changed sizes by core Draws found).stage → ⊥
+        lost is = not_leaving (changed sizes by core Draws found) (core.passes by).hands (subst (IsFlying (changed sizes by core Draws found)) (when_false (found == (core.passes by).head) (Seizing found) (leaving (core.passes by).hands) e) is)
+    go true e = subst (λ l. InFlight sizes l (placed_stepped (core.passes by) Draws found placed) (after_step sizes by Draws found core)) (sym (when_true (found == (core.passes by).head) (with_group group log) log e))
+        (subst (λ p. InFlight sizes (with_group group log) p (after_step sizes by Draws found core)) (sym (when_true (found == (core.passes by).head) (with_number placed found false) placed e)) won)
+      where
+        now : Core
+        now = after_step sizes by Draws found core
+
+        head : (after_step sizes by Draws found core).words HEAD ≡ core.words HEAD + page_count sizes (core.passes by).call
+        head = word_here core.words HEAD _ ∙ when_true (found == (core.passes by).head) (found + page_count sizes (core.passes by).call) found e ∙ ap (λ f. f + page_count sizes (core.passes by).call) (sym may.is)
+
+        at : (is_write (core.passes by).call ≡ true) × IsSmall sizes (core.passes by) × HasRoom sizes (core.passes by)
+        at = subst (StandsAt sizes (core.passes by)) may.may (sound.standing by).at
+
+        drawn : HasDrawn sizes (core.passes by).call (page_count sizes (core.passes by).call)
+        drawn = record { write = at.0; many = refl; some = write_pages sizes (core.passes by).call at.0 }
+
+        split : (n : ℕ) → InWindow (after_step sizes by Draws found core) n → InWindow core n ⊎ IsAmong found (page_count sizes (core.passes by).call) n
+        split = which sizes core (after_step sizes by Draws found core) log group groups refl (sym may.is) head sound.window.order drawn
+
+        old : (n : ℕ) → n < core.words HEAD → (with_group group log).group n ≡ log.group n
+        old = group_old sizes core (after_step sizes by Draws found core) log group groups refl (sym may.is) head sound.window.order drawn
+
+        new : (n : ℕ) → IsAmong found (page_count sizes (core.passes by).call) n → (with_group group log).group n ≡ group
+        new = group_new sizes core (after_step sizes by Draws found core) log group groups refl (sym may.is) head sound.window.order drawn
+
+        stage : (changed sizes by core Draws found).stage ≡ Seizing found
+        stage = when_true (found == (core.passes by).head) (Seizing found) (leaving (core.passes by).hands) e
+
+        from : (changed sizes by core Draws found).first ≡ found
+        from = when_true (found == (core.passes by).head) found (core.passes by).first e
+
+        many : (changed sizes by core Draws found).entries ≡ page_count sizes (core.passes by).call
+        many = when_true (found == (core.passes by).head) (page_count sizes (core.passes by).call) (core.passes by).entries e
+
+        this : group_of (changed sizes by core Draws found) ≡ group
+        this = ap (λ b. record { call = (core.passes by).call; first = if b then found else (core.passes by).first; entries = if b then page_count sizes (core.passes by).call else (core.passes by).entries }) e
+
+        among : (n : ℕ) → IsAmong (changed sizes by core Draws found).first (changed sizes by core Draws found).entries n → IsAmong found (page_count sizes (core.passes by).call) n
+        among n is = subst (λ g. IsAmong g.first g.entries n) this is
+
+        within : (n : ℕ) → IsAmong found (page_count sizes (core.passes by).call) n → InWindow (after_step sizes by Draws found core) n
+        within n is = let f = may.is in let o = sound.window.order in let x = is.0 in let y = is.1 in (omega (arith, x, f, o), omega (arith, y, f, head))
+
+        was : (n : ℕ) → InWindow core n → InWindow (after_step sizes by Draws found core) n
+        was n is = let y = is.1 in (is.0, omega (arith, y, head))
+
+        not_ready : (n : ℕ) → IsAmong found (page_count sizes (core.passes by).call) n → kind_of (entry_at sizes core n) ≡ ready → ⊥
+        not_ready n is kind =
+            let none : entry_at sizes core n ≡ free = (window_step sizes first by core Draws found sound may).unseized_is by n
+            (subst (λ p. HasUnseized p n) (sym (number_here core.passes by (changed sizes by core Draws found)))
+            (subst (λ s. IsUnseized s (changed sizes by core Draws found).first (changed sizes by core Draws found).entries n) (sym stage)
+            (is.0, subst (λ f. n < f + (changed sizes by core Draws found).entries) (sym from) (subst (λ c. n < found + c) (sym many) is.1)))) in
+            let zero_ : kind_of free ≡ ready = ap kind_of (sym none) ∙ kind in omega (arith, zero_)
+
+        on_page : (n : ℕ) → IsAmong found (page_count sizes (core.passes by).call) n → IsPage sizes (core.passes by).call (first_page sizes (core.passes by).call + (n - found))
+        on_page n is = let x = is.0 in let y = is.1 in (omega arith, omega (arith, x, y))
+
+        apart_old : (m n : ℕ) → m ≢ by → IsFlying (core.passes m) (core.passes m).stage → InWindow (after_step sizes by Draws found core) n → (core.passes m).first + (core.passes m).entries ≤ n
+            → IsPage sizes (core.passes m).call (page_of_number sizes ((with_group group log).group n) n) → ⊥
+        apart_old m n ne is inside above on = elim (split n inside) [
+          | inl before ↦ flight.apart m is n before above (subst (λ g. IsPage sizes (core.passes m).call (page_of_number sizes g n)) (old n before.1) on)
+          | inr fresh_ ↦ ne (one_pass sizes first core sound m by (flying_pages (core.passes m) (core.passes m).stage is) (subst (HasPages (core.passes by)) (sym may.may) tt)
+              (first_page sizes (core.passes by).call + (n - found)) (subst (λ g. IsPage sizes (core.passes m).call (page_of_number sizes g n)) (new n fresh_) on) (on_page n fresh_))
+        ]
+
+        own_first : (m : ℕ) → IsFlying (core.passes m) (core.passes m).stage → (core.passes m).first < core.words HEAD
+        own_first m is = (flight.own m is (core.passes m).first (let s = (flight.drawn m is).some in (omega arith, omega (arith, s)))).within.1
+
+        won : InFlight sizes (with_group group log) (with_number placed found false) (after_step sizes by Draws found core)
+        won = record {
+          own = by_number (λ m (p : Pass). IsFlying p p.stage → (n : ℕ) → IsAmong p.first p.entries n → IsOwn (after_step sizes by Draws found core) (with_group group log) p n) core.passes by (changed sizes by core Draws found)
+              (λ _ n is. record { within = within n (among n is); group = new n (among n is) ∙ sym this })
+              (λ m ne is n inside. let o = flight.own m is n inside in record { within = was n o.within; group = old n o.within.1 ∙ o.group });
+          drawn = by_number (λ m (p : Pass). IsFlying p p.stage → HasDrawn sizes p.call p.entries) core.passes by (changed sizes by core Draws found)
+              (λ _. subst (HasDrawn sizes (core.passes by).call) (sym many) drawn) (λ m ne is. flight.drawn m is);
+          apart = by_number (λ m (p : Pass). IsFlying p p.stage → (n : ℕ) → InWindow (after_step sizes by Draws found core) n → p.first + p.entries ≤ n → IsPage sizes p.call (page_of_number sizes ((with_group group log).group n) n) → ⊥) core.passes by (changed sizes by core Draws found)
+              (λ _ n inside above on. let y = inside.1 in let f = may.is in omega (arith, above, from, many, y, head, f))
+              (λ m ne is n inside above on. apart_old m n ne is inside above on);
+          unplaced = by_number (λ m (p : Pass). IsFlying p p.stage → with_number placed found false p.first ≡ false) core.passes by (changed sizes by core Draws found)
+              (λ _. ap (with_number placed found false) from ∙ number_here placed found false)
+              (λ m ne is. number_else placed found false (core.passes m).first (λ same. let l = own_first m is in let f = may.is in omega (arith, same, l, f)) ∙ flight.unplaced m is);
+          ready_first = by_number (λ m (p : Pass). IsFlying p p.stage → p.stage ≡ Placing → kind_of (entry_at sizes (after_step sizes by Draws found core) p.first) ≡ ready) core.passes by (changed sizes by core Draws found)
+              (λ _ placing. absurd (elsewhere (changed sizes by core Draws found).stage (Seizing found) stage refl placing)) (λ m ne is placing. flight.ready_first m is placing);
+          waiting = λ n inside leads kind none. elim (split n inside) [
+            | inl before ↦
+                let w = flight.waiting n before (sym (ap (λ g. g.first) (old n before.1)) ∙ leads) kind (sym (number_else placed found false n (λ same. let l = before.1 in let f = may.is in omega (arith, same, l, f))) ∙ none) in
+                (w.0, by_number (λ m (p : Pass). IsWaiting (core.passes m) n → IsWaiting p n) core.passes by (changed sizes by core Draws found) (λ waiting. absurd (apart_here n waiting)) (λ m ne is. is) w.0 w.1)
+            | inr fresh_ ↦ absurd (not_ready n fresh_ kind)
+          ];
+        }
+
+-- ---- all steps
+
+pub flight_step : (sizes : Sizes) (first : Values) (log : Log) (placed : ℕ → Bool) (by : ℕ) (core : Core) (deed : Deed) (found : ℕ) → Sound sizes first core → Groups sizes core log → InFlight sizes log placed core → MayFind sizes by core deed found
+    → InFlight sizes (log_stepped sizes (core.passes by) deed found log) (placed_stepped (core.passes by) deed found placed) (after_step sizes by deed found core)
+flight_step sizes first log placed by core (Loads word) found sound groups flight may = plain_flight sizes log placed by core (Loads word) found flight may refl refl (λ slot. refl) refl refl refl may.may
+    (λ is. (flew sizes core.values (core.passes by) found (Loads word) refl may.may (flying_as (core.passes by) (changed sizes by core (Loads word) found) (changed sizes by core (Loads word) found).stage refl is), refl))
+    (λ is _. not_loaded sizes core.values (core.passes by) word found may.may (flying_as (core.passes by) (changed sizes by core (Loads word) found) (changed sizes by core (Loads word) found).stage refl is))
+flight_step sizes first log placed by core (Takes cell) found sound groups flight may = plain_flight sizes log placed by core (Takes cell) found flight may refl refl (λ slot. refl) refl refl refl may.may
+    (λ is. (flew sizes core.values (core.passes by) found (Takes cell) refl may.may (flying_as (core.passes by) (changed sizes by core (Takes cell) found) (changed sizes by core (Takes cell) found).stage refl is), refl))
+    (λ is _. not_taken sizes (core.passes by) cell found may.may (flying_as (core.passes by) (changed sizes by core (Takes cell) found) (changed sizes by core (Takes cell) found).stage refl is))
+flight_step sizes first log placed by core (Gives cell) found sound groups flight may = plain_flight sizes log placed by core (Gives cell) found flight may refl refl (λ slot. refl) refl refl refl may.may
+    (λ is. absurd (gone is)) (λ is _. gone is)
+  where
+    gone : IsFlying (changed sizes by core (Gives cell) found) (changed sizes by core (Gives cell) found).stage → ⊥
+    gone is = not_given sizes (core.passes by) cell (core.passes by).stage (gives_back (core.passes by) cell (core.passes by).stage may.may)
+        (flying_as (core.passes by) (changed sizes by core (Gives cell) found) (changed sizes by core (Gives cell) found).stage refl is)
+flight_step sizes first log placed by core (Places reply) found sound groups flight may = place_flight sizes first log placed by core found reply sound flight may
+flight_step sizes first log placed by core Stops found sound groups flight may = plain_flight sizes log placed by core Stops found flight may refl refl (λ slot. refl) refl refl refl may.may
+    (λ is. (flew sizes core.values (core.passes by) found Stops refl may.may (flying_as (core.passes by) (changed sizes by core Stops found) (changed sizes by core Stops found).stage refl is), refl))
+    (λ is. stopped (core.passes by).stage may.may)
+  where
+    stopped : (stage : Stage) → IsFailing stage → after_stop (core.passes by) stage ≡ Placing → ⊥
+    stopped ReadFailing failing = leaving_both (λ s. s ≡ Placing → ⊥) (core.passes by).hands (λ _. elsewhere _ _ refl refl) (λ _. elsewhere _ _ refl refl)
+    stopped WriteFailing failing = elsewhere _ _ refl refl
+    stopped stage failing = absurd failing
+flight_step sizes first log placed by core Draws found sound groups flight may = draw_flight sizes first log placed by core found sound groups flight may
+flight_step sizes first log placed by core (Seizes next) found sound groups flight may =
+    let at : HasDrawn sizes (core.passes by).call (core.passes by).entries × IsAmong (core.passes by).first (core.passes by).entries next = subst (StandsAt sizes (core.passes by)) may.may (sound.standing by).at in
+    let old : entry_at sizes core next ≡ free = sound.window.unseized_is by next (subst (λ s. IsUnseized s (core.passes by).first (core.passes by).entries next) (sym may.may) (omega arith, at.1.1)) in
+    entry_flight sizes log placed by core (Seizes next) found (slot_of sizes next) filling flight refl (λ e. omega (arith, e)) (λ e. let z : kind_of free ≡ ready = ap kind_of (sym old) ∙ e in omega (arith, z)) refl refl may.may
+    (λ is. (subst (IsFlying (core.passes by)) (sym may.may) tt, refl))
+    (λ _. if_both (λ s. s ≡ Placing → ⊥) (next + 1 == (core.passes by).first + (core.passes by).entries) (Committing 0) (Seizing (next + 1)) (λ _. elsewhere _ _ refl refl) (λ _. elsewhere _ _ refl refl))
+flight_step sizes first log placed by core (Pledges page) found sound groups flight may = plain_flight sizes log placed by core (Pledges page) found flight may refl refl (λ slot. refl) refl refl refl may.may
+    (λ is. (subst (IsFlying (core.passes by)) (sym may.may) tt, refl))
+    (λ _. if_both (λ s. s ≡ Placing → ⊥) (page + 1 == end_page sizes (core.passes by).call) (Readying (if (core.passes by).entries == 1 then (core.passes by).first else (core.passes by).first + 1)) (Pledging (page + 1)) (λ _. elsewhere _ _ refl refl) (λ _. elsewhere _ _ refl refl))
+flight_step sizes first log placed by core (Readies next) found sound groups flight may = ready_flight sizes first log placed by core found next sound groups flight may
+flight_step sizes first log placed by core Grows found sound groups flight may = plain_flight sizes log placed by core Grows found flight may refl refl (λ slot. refl) refl refl refl may.may
+    (λ is. absurd (not_ending sizes (changed sizes by core Grows found) (core.passes by) is)) (λ is _. not_ending sizes (changed sizes by core Grows found) (core.passes by) is)
+flight_step sizes first log placed by core (Breaks next) found sound groups flight may =
+    let at : HasDrawn sizes (core.passes by).call (core.passes by).entries × IsAmong (core.passes by).first (core.passes by).entries next = subst (StandsAt sizes (core.passes by)) may.may (sound.standing by).at in
+    let old : entry_at sizes core next ≡ filling = sound.window.filling_is by next (subst (λ s. IsFilling s (core.passes by).first (core.passes by).entries next) (sym may.may) (omega arith, at.1.1)) in
+    entry_flight sizes log placed by core (Breaks next) found (slot_of sizes next) broken flight refl (λ e. omega (arith, e)) (λ e. let z : kind_of filling ≡ ready = ap kind_of (sym old) ∙ e in omega (arith, z)) refl refl may.may
+    (λ is. (flew sizes core.values (core.passes by) found (Breaks next) refl may.may (flying_as (core.passes by) (changed sizes by core (Breaks next) found) (changed sizes by core (Breaks next) found).stage refl is), refl))
+    (λ _. if_both (λ s. s ≡ Placing → ⊥) (next + 1 == (core.passes by).first + (core.passes by).entries) (leaving (without (ENTRY (slot_of sizes next)) (core.passes by).hands)) (Breaking (next + 1))
+    (λ _. leaving_both (λ s. s ≡ Placing → ⊥) (without (ENTRY (slot_of sizes next)) (core.passes by).hands) (λ _. elsewhere _ _ refl refl) (λ _. elsewhere _ _ refl refl)) (λ _. elsewhere _ _ refl refl))
+flight_step sizes first log placed by core Splits found sound groups flight may = same_flight sizes log placed by core Splits found flight (untouched sizes by core Splits found may HEAD refl) (untouched sizes by core Splits found may TAIL refl)
+    (λ slot is. ap kind_of (sym (untouched sizes by core Splits found may (ENTRY slot) refl)) ∙ is) (λ slot is. ap kind_of (untouched sizes by core Splits found may (ENTRY slot) refl) ∙ is)
+    (λ is. absurd is) (λ is. absurd is)
+    (λ n waiting. absurd (elsewhere (core.passes (core.made + 1)).stage Idle (sound.numbers.unborn (core.made + 1) (omega arith)).idle refl waiting.stage))
+flight_step sizes first log placed by core (Leaves cell) found sound groups flight may = same_flight sizes log placed by core (Leaves cell) found flight (untouched sizes by core (Leaves cell) found may HEAD refl) (untouched sizes by core (Leaves cell) found may TAIL refl)
+    (λ slot is. ap kind_of (sym (untouched sizes by core (Leaves cell) found may (ENTRY slot) refl)) ∙ is) (λ slot is. ap kind_of (untouched sizes by core (Leaves cell) found may (ENTRY slot) refl) ∙ is)
+    (λ is. (flying_as (core.passes by) (changed sizes by core (Leaves cell) found) (core.passes by).stage refl is, refl))
+    (λ is at. flight.ready_first by (flying_as (core.passes by) (changed sizes by core (Leaves cell) found) (core.passes by).stage refl is) at)
+    (λ n waiting. record { stage = waiting.stage; write = waiting.write; first = waiting.first })
+flight_step sizes first log placed by core (Joins number) found sound groups flight may = same_flight sizes log placed by core (Joins number) found flight (untouched sizes by core (Joins number) found may HEAD refl) (untouched sizes by core (Joins number) found may TAIL refl)
+    (λ slot is. ap kind_of (sym (untouched sizes by core (Joins number) found may (ENTRY slot) refl)) ∙ is) (λ slot is. ap kind_of (untouched sizes by core (Joins number) found may (ENTRY slot) refl) ∙ is)
+    (λ is. (flying_as (core.passes by) (changed sizes by core (Joins number) found) (core.passes by).stage refl is, refl))
+    (λ is at. flight.ready_first by (flying_as (core.passes by) (changed sizes by core (Joins number) found) (core.passes by).stage refl is) at)
+    (λ n waiting. record { stage = waiting.stage; write = waiting.write; first = waiting.first })
+
+-- ---- a call that begins, and a device call
+
+pub flight_begin : (sizes : Sizes) (log : Log) (placed : ℕ → Bool) (by : ℕ) (core : Core) (call : FileCall) → InFlight sizes log placed core → MayBegin sizes call (core.passes by) → InFlight sizes log placed (after_begin sizes by call core)
+flight_begin sizes log placed by core call flight may = flight_kept sizes log placed placed core (after_begin sizes by call core) refl refl
+    (by_number (λ n (p : Pass). IsFlying p p.stage → IsFlying (core.passes n) (core.passes n).stage × (group_of p ≡ group_of (core.passes n))) core.passes by (begun sizes call (core.passes by)) (λ is. absurd (none is)) (λ n ne is. (is, refl)))
+    (by_number (λ n (p : Pass). IsFlying p p.stage → placed p.first ≡ false) core.passes by (begun sizes call (core.passes by)) (λ is. absurd (none is)) (λ n ne is. flight.unplaced n is))
+    (by_number (λ n (p : Pass). IsFlying p p.stage → p.stage ≡ Placing → kind_of (entry_at sizes core p.first) ≡ ready) core.passes by (begun sizes call (core.passes by)) (λ is. absurd (none is)) (λ n ne is. flight.ready_first n is))
+    (λ n within leads kind not_yet. let w = flight.waiting n within leads kind not_yet in
+    (w.0, by_number (λ m (p : Pass). IsWaiting (core.passes m) n → IsWaiting p n) core.passes by (begun sizes call (core.passes by)) (λ waiting. absurd (elsewhere (core.passes by).stage Idle may.idle refl waiting.stage)) (λ m ne is. is) w.0 w.1))
+    flight
+  where
+    none : IsFlying (begun sizes call (core.passes by)) (begun sizes call (core.passes by)).stage → ⊥
+    none = if_both (λ s. IsFlying (begun sizes call (core.passes by)) s → ⊥) (page_count sizes call == 0) Checking (Locking (first_page sizes call)) (λ _ z. z) (λ _ z. z)
+
+worked_flew : (sizes : Sizes) (values : Values) (pass one : Pass) (work : Work) (stage : Stage) (how : Ending) → IsDue sizes values pass work stage → IsFlying one (stage_worked sizes pass how stage) → IsFlying pass stage
+worked_flew sizes values pass one work (Committing calls) how due is = tt
+worked_flew sizes values pass one work (Copying page) Made due is = absurd is
+worked_flew sizes values pass one work (Copying page) (Failed came faults) due is = absurd is
+worked_flew sizes values pass one work stage how due is = absurd due
+
+worked_placing : (sizes : Sizes) (values : Values) (pass : Pass) (work : Work) (stage : Stage) (how : Ending) → IsDue sizes values pass work stage → stage_worked sizes pass how stage ≡ Placing → ⊥
+worked_placing sizes values pass work (Committing calls) Made due = if_both (λ s. s ≡ Placing → ⊥) (calls + 1 == length (commit_steps sizes pass pass.call)) (Pledging (first_page sizes pass.call)) (Committing (calls + 1)) (λ _. elsewhere _ _ refl refl) (λ _. elsewhere _ _ refl refl)
+worked_placing sizes values pass work (Committing calls) (Failed came faults) due = elsewhere _ _ refl refl
+worked_placing sizes values pass work (Copying page) Made due = elsewhere _ _ refl refl
+worked_placing sizes values pass work (Copying page) (Failed came faults) due = elsewhere _ _ refl refl
+worked_placing sizes values pass work stage how due = absurd due
+
+pub flight_work : (sizes : Sizes) (log : Log) (placed : ℕ → Bool) (by : ℕ) (core : Core) (work : Work) → InFlight sizes log placed core → MayWork sizes core.values (core.passes by) work
+    → InFlight sizes (log_worked (core.passes by) work.ending (core.passes by).stage log) placed (after_work sizes by work core)
+flight_work sizes log placed by core work flight may =
+    subst (λ g. InFlight sizes record { group = g; calls = (log_worked (core.passes by) work.ending (core.passes by).stage log).calls } placed (after_work sizes by work core)) (sym (log_group (core.passes by) work.ending (core.passes by).stage log))
+    record { own = λ by is n among. let o = same.own by is n among in record { within = o.within; group = o.group }; drawn = same.drawn; apart = same.apart; unplaced = same.unplaced; ready_first = same.ready_first; waiting = same.waiting }
+  where
+    flew_now : (n : ℕ) → IsFlying ((after_work sizes by work core).passes n) ((after_work sizes by work core).passes n).stage → IsFlying (core.passes n) (core.passes n).stage × (group_of ((after_work sizes by work core).passes n) ≡ group_of (core.passes n))
+    flew_now = by_number (λ n (p : Pass). IsFlying p p.stage → IsFlying (core.passes n) (core.passes n).stage × (group_of p ≡ group_of (core.passes n))) core.passes by (worked sizes work (core.passes by))
+        (λ is. (worked_flew sizes core.values (core.passes by) (worked sizes work (core.passes by)) work (core.passes by).stage work.ending may.due is, refl)) (λ n ne is. (is, refl))
+
+    same : InFlight sizes log placed (after_work sizes by work core)
+    same = flight_kept sizes log placed placed core (after_work sizes by work core) refl refl flew_now
+        (λ n is. let old = flew_now n is in let e : group_of ((after_work sizes by work core).passes n) ≡ group_of (core.passes n) = old.1 in subst (λ g. placed g.first ≡ false) (sym e) (flight.unplaced n old.0))
+        (by_number (λ n (p : Pass). IsFlying p p.stage → p.stage ≡ Placing → kind_of (entry_at sizes core p.first) ≡ ready) core.passes by (worked sizes work (core.passes by))
+        (λ is at. absurd (worked_placing sizes core.values (core.passes by) work (core.passes by).stage work.ending may.due at)) (λ n ne is. flight.ready_first n is))
+        (λ n within leads kind not_yet. let w = flight.waiting n within leads kind not_yet in
+        (w.0, by_number (λ m (p : Pass). IsWaiting (core.passes m) n → IsWaiting p n) core.passes by (worked sizes work (core.passes by)) (λ waiting. absurd (subst (IsDue sizes core.values (core.passes by) work) waiting.stage may.due)) (λ m ne is. is) w.0 w.1))
+        flight

@@ -1,0 +1,56 @@
+-- Writes in flight: those that a pass has drawn and that have no place yet.
+use Rattle.std.specs.Prelude.{◌≡◌, ℕ, ◌+◌, ◌≤◌, ◌==◌, Bool, true, false, if◌then◌else◌}
+use Rattle.nv_core.specs.Words.{Sizes, kind_of, ready}
+use Rattle.nv_core.specs.Passes.{Stage, Seizing, Committing, Pledging, Readying, Placing, Pass, IsAmong, is_write}
+use Rattle.nv_core.specs.Deeds.{Deed, Draws, Places}
+use Rattle.nv_core.specs.Stepped.{begun}
+use Rattle.nv_core.specs.Standing.{HasDrawn, IsPage}
+use Rattle.nv_core.specs.Core.{Core, with_number}
+use Rattle.nv_core.specs.Events.{Act, Begins, Does, Calls, Event}
+use Rattle.nv_core.specs.LogWindow.{InWindow, entry_at}
+use Rattle.nv_core.specs.Groups.{Log, IsOwn}
+use Rattle.nv_core.specs.Pieces.{page_of_number}
+
+-- Which leaders' writes have their place: after a step.
+abbrev pub placed_stepped : Pass → Deed → (found : ℕ) → (ℕ → Bool) → (ℕ → Bool)
+placed_stepped pass (Places reply) found placed = if is_write pass.call then with_number placed pass.first true else placed
+placed_stepped pass Draws found placed = if found == pass.head then with_number placed found false else placed
+placed_stepped pass deed found placed = placed
+
+-- and after an event
+abbrev pub placed_acted : Sizes → Pass → Act → (ℕ → Bool) → (ℕ → Bool)
+placed_acted sizes pass (Begins call deed found) placed = placed_stepped (begun sizes call pass) deed found placed
+placed_acted sizes pass (Does deed found) placed = placed_stepped pass deed found placed
+placed_acted sizes pass (Calls work) placed = placed
+
+abbrev pub placed_after : Sizes → Event → Core → (ℕ → Bool) → (ℕ → Bool)
+placed_after sizes event core placed = placed_acted sizes (core.passes event.by) event.act placed
+
+-- a pass has a write in flight, and no fault has ended it
+abbrev pub IsFlying : Pass → Stage → Type 0
+IsFlying pass (Seizing number) = Unit {0}
+IsFlying pass (Committing calls) = Unit {0}
+IsFlying pass (Pledging page) = Unit {0}
+IsFlying pass (Readying number) = Unit {0}
+IsFlying pass Placing = is_write pass.call ≡ true
+IsFlying pass stage = ⊥
+
+-- a pass whose write's leader is ready, and is to be placed next
+pub record IsWaiting (pass : Pass) (number : ℕ) : Type 0 where
+  pub stage : pass.stage ≡ Placing
+  pub write : is_write pass.call ≡ true
+  pub first : pass.first ≡ number
+
+-- The numbers of a write in flight are its group, and it isn't placed. No number above these is of a page of that write. A leader that is
+-- ready and not placed is that of a write that is placed next.
+pub record InFlight (sizes : Sizes) (log : Log) (placed : ℕ → Bool) (core : Core) : Type 0 where
+  pub own : (by : ℕ) → IsFlying (core.passes by) (core.passes by).stage → (number : ℕ) → IsAmong (core.passes by).first (core.passes by).entries number
+      → IsOwn core log (core.passes by) number
+  pub drawn : (by : ℕ) → IsFlying (core.passes by) (core.passes by).stage → HasDrawn sizes (core.passes by).call (core.passes by).entries
+  pub apart : (by : ℕ) → IsFlying (core.passes by) (core.passes by).stage → (number : ℕ) → InWindow core number
+      → (core.passes by).first + (core.passes by).entries ≤ number → IsPage sizes (core.passes by).call (page_of_number sizes (log.group number) number) → ⊥
+  pub unplaced : (by : ℕ) → IsFlying (core.passes by) (core.passes by).stage → placed (core.passes by).first ≡ false
+  pub ready_first : (by : ℕ) → IsFlying (core.passes by) (core.passes by).stage → (core.passes by).stage ≡ Placing
+      → kind_of (entry_at sizes core (core.passes by).first) ≡ ready
+  pub waiting : (number : ℕ) → InWindow core number → (log.group number).first ≡ number → kind_of (entry_at sizes core number) ≡ ready
+      → placed number ≡ false → (by : ℕ) × IsWaiting (core.passes by) number
