@@ -9,7 +9,7 @@ use Rattle.nv_core.specs.Core.{with_word, values_read, values_worked, values_ste
 use Rattle.nv_core.specs.StorePages.{store_of, StoresKept}
 use Rattle.nv_core.proofs.Changes.{by_word, word_else, differ}
 
-step_store : (sizes : Sizes) (pass : Pass) (deed : Deed) (values : Values) (file : ℕ) → values_stepped sizes pass deed values (STORE file) ≡ values (STORE file)
+pub step_store : (sizes : Sizes) (pass : Pass) (deed : Deed) (values : Values) (file : ℕ) → values_stepped sizes pass deed values (STORE file) ≡ values (STORE file)
 step_store sizes pass (Pledges page) values file = word_else values (PAGE page) (patched_by sizes pass.call page (values (PAGE page))) (STORE file) (differ (STORE file) (PAGE page) refl)
 step_store sizes pass deed values file = refl
 
@@ -19,7 +19,7 @@ called_store job how (APart device) = refl
 called_store job how (AStore device) = refl
 called_store job how (ABuffer buffer) = refl
 
-read_store : (job : Job) (how : Ending) (stage : Stage) (values : Values) (file : ℕ) → values_read job how stage values (STORE file) ≡ values (STORE file)
+pub read_store : (job : Job) (how : Ending) (stage : Stage) (values : Values) (file : ℕ) → values_read job how stage values (STORE file) ≡ values (STORE file)
 read_store (Reads at bytes) Made (Copying page) values file = word_else values (PAGE page) (filled bytes (values (PAGE page))) (STORE file) (differ (STORE file) (PAGE page) refl)
 read_store job how stage values file = refl
 

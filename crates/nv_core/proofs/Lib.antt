@@ -46,3 +46,5 @@ pub mod ImageLaws
 pub mod KeepsHeader
 pub mod KeepsPieces
 pub mod KeepsInFlight
+pub mod LiveLaws
+pub mod KeepsLive

@@ -40,3 +40,4 @@ pub mod StaleWords
 pub mod HeaderStays
 pub mod Pieces
 pub mod InFlight
+pub mod LivePieces

@@ -1,0 +1,85 @@
+-- Live pieces: the files after the history and the writes that are to be placed are the stores, overwritten by what the log has of them.
+use Rattle.std.specs.Prelude.{◌≡◌, ℕ, zero, suc, ◌-◌, ◌==◌, ◌&&◌, not, Bool, if◌then◌else◌, List, [], ◌∷◌, ◌++◌, length, map, Option, Some, None}
+use Rattle.std.specs.List.{range_with_len}
+use Rattle.nv_plain.specs.Files.{Files}
+use Rattle.nv_plain.specs.Histories.{Answered}
+use Rattle.nv_plain.specs.Pieces.{piece_of, piece_bytes}
+use Rattle.nv_plain.specs.declared.call.FileCall.{FileCall}
+use Rattle.nv_plain.specs.declared.call.FileCall.TheVariants.{Write}
+use Rattle.nv_store.specs.Store.{Store}
+use Rattle.nv_core.specs.Words.{Sizes, HEAD, TAIL, STORE, kind_of, ready}
+use Rattle.nv_core.specs.Values.{Value, AStore}
+use Rattle.nv_core.specs.Order.{Values}
+use Rattle.nv_core.specs.Core.{Core}
+use Rattle.nv_core.specs.LogWindow.{entry_at}
+use Rattle.nv_core.specs.Groups.{Group, Log}
+use Rattle.nv_core.specs.Apart.{after_calls}
+
+-- the calls that numbers have, so many of them from one on, in rising number
+abbrev pub rising : (ℕ → List FileCall) → (from count : ℕ) → List FileCall
+rising calls from zero = []
+rising calls from (suc count) = calls from ++ rising calls (suc from) count
+
+-- a call where a test holds
+abbrev pub call_if : Bool → FileCall → List FileCall
+call_if test call = if test then call ∷ [] else []
+
+-- ---- the live pieces
+
+-- piece i of a write, as a write of its own
+abbrev pub piece_write : Sizes → FileCall → (i : ℕ) → FileCall
+piece_write sizes (Write file at bytes) i =
+    let piece = piece_of at (length bytes) sizes.page i in
+    Write file piece.at (piece_bytes bytes piece)
+piece_write sizes call i = call
+
+-- the piece of a number of a group
+abbrev pub piece_call : Sizes → Group → (number : ℕ) → FileCall
+piece_call sizes group number = piece_write sizes group.call (number - group.first)
+
+-- whether a number's entry is ready
+abbrev pub is_ready : Sizes → Core → (number : ℕ) → Bool
+is_ready sizes core number = kind_of (entry_at sizes core number) == ready
+
+-- an entry is live where it is ready, and its leader too
+abbrev pub is_live : Sizes → Log → Core → (number : ℕ) → Bool
+is_live sizes log core number = is_ready sizes core number && is_ready sizes core (log.group number).first
+
+abbrev pub live_pieces : Sizes → Log → Core → List FileCall
+live_pieces sizes log core =
+    rising (λ number. call_if (is_live sizes log core number) (piece_call sizes (log.group number) number)) (core.words TAIL) (core.words HEAD - core.words TAIL)
+
+-- ---- the writes that are to be placed
+
+-- a leader is ready, and its write isn't placed
+abbrev pub is_to_place : Sizes → Log → (ℕ → Bool) → Core → (number : ℕ) → Bool
+is_to_place sizes log placed core number = ((log.group number).first == number && is_ready sizes core number) && not (placed number)
+
+abbrev pub to_place : Sizes → Log → (ℕ → Bool) → Core → List FileCall
+to_place sizes log placed core =
+    rising (λ number. call_if (is_to_place sizes log placed core number) (log.group number).call) (core.words TAIL) (core.words HEAD - core.words TAIL)
+
+-- ---- both
+
+-- the calls of a history
+abbrev pub calls_of : List Answered → List FileCall
+calls_of history = map (λ answered. answered.call) history
+
+-- the bytes that a store reads as
+abbrev pub told_bytes : Option Store → List ℕ
+told_bytes (Some store) = store.seen
+told_bytes None = []
+
+abbrev pub store_bytes : Value → List ℕ
+store_bytes (AStore device) = told_bytes device.told
+store_bytes value = []
+
+-- the files that the stores read as
+abbrev pub store_files : Sizes → Values → Files
+store_files sizes values = record { contents = map (λ file. store_bytes (values (STORE file))) (range_with_len 0 sizes.files) }
+
+-- From the files at opening, the history and then the writes that are to be placed, in rising number, leave the files that the stores read
+-- as, overwritten by the live pieces in rising number.
+pub record LivePieces (sizes : Sizes) (log : Log) (placed : ℕ → Bool) (opened : Files) (core : Core) : Type 0 where
+  pub files : after_calls (calls_of core.history ++ to_place sizes log placed core) opened
+      ≡ after_calls (live_pieces sizes log core) (store_files sizes core.values)
