@@ -32,7 +32,7 @@ use Rattle.nv_core.proofs.WrittenLaws.{some_length}
 use Rattle.nv_core.proofs.KeepsWritten.{IsCounted, counted_group, nothing_made, counted_drawn, among_first}
 
 -- a cell tells one state at a time
-part_one : (value : Value) (one other : Part) → IsPart value one → IsPart value other → one ≡ other
+pub part_one : (value : Value) (one other : Part) → IsPart value one → IsPart value other → one ≡ other
 part_one (APart device) one other a b = some_same one other (sym a ∙ b)
   where
     some_same : (one other : Part) → Some one ≡ Some other → one ≡ other

@@ -48,3 +48,5 @@ pub mod KeepsPieces
 pub mod KeepsInFlight
 pub mod LiveLaws
 pub mod KeepsLive
+pub mod OpeningLogContent
+pub mod KeepsLogContent

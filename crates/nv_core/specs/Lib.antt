@@ -41,3 +41,4 @@ pub mod HeaderStays
 pub mod Pieces
 pub mod InFlight
 pub mod LivePieces
+pub mod LogContent

@@ -1,12 +1,14 @@
 //! The core of a mount as plain data: the shared words, the passes and what each of their steps and device calls does, and
 //! the invariant that every interleaving of them keeps. There is no call that runs: the laws are the contracts of functions
-//! with an empty body.
+//! with an empty body, or of one that calls only the laws of the crates below.
 #![tactic(auto)]
 
 mod content;
 mod laws;
+mod log;
 
 pub use content::runs_keep_content;
 pub use laws::{
     no_sound_state_allows, runs_are_sound, walks_are_runs, words_have_places_of_their_own,
 };
+pub use log::runs_keep_the_log;

@@ -1,0 +1,108 @@
+-- Content of the log: the parts of the invariant about what the devices hold, where all of them tell.
+use Rattle.std.specs.Prelude.{◌≡◌, ℕ, ◌<◌, ◌≤◌, Bool, List, [], ◌∷◌}
+use Rattle.nv_plain.specs.Files.{Files}
+use Rattle.nv_pmem.specs.Limits.{IsPageSize}
+use Rattle.nv_pmem.specs.Part.{Part, word_of}
+use Rattle.nv_pmem.specs.Images.{IsQuiet}
+use Rattle.nv_core.specs.Words.{Sizes, HEADER, ENTRY}
+use Rattle.nv_core.specs.Values.{Value}
+use Rattle.nv_core.specs.Order.{Values}
+use Rattle.nv_core.specs.Core.{Core}
+use Rattle.nv_core.specs.Events.{Act, Begins, Event, MayCome, after_event, after, IsRun}
+use Rattle.nv_core.specs.Opening.{Mount, IsMount, opening}
+use Rattle.nv_core.specs.Sound.{Sound}
+use Rattle.nv_core.specs.Content.{HasFiles}
+use Rattle.nv_core.specs.Groups.{Log, log_after, Groups}
+use Rattle.nv_core.specs.Written.{IsPart, IsBlank, AreBytes, Written}
+use Rattle.nv_core.specs.EntryImages.{EntryImages}
+use Rattle.nv_core.specs.StaleWords.{StaleWords}
+use Rattle.nv_core.specs.HeaderStays.{HeaderStays}
+use Rattle.nv_core.specs.Pieces.{Pieces}
+use Rattle.nv_core.specs.InFlight.{placed_after, InFlight}
+use Rattle.nv_core.specs.LivePieces.{LivePieces}
+
+-- These parts, over the cells' values and the files at opening, the tail that the header has, the log, and which writes are placed.
+-- That a page with no entries is its store's page after the history is a part of Content: CleanPages.
+pub record LogContent (sizes : Sizes) (first : Values) (opened : Files) (tail : ℕ) (log : Log) (placed : ℕ → Bool) (core : Core) : Type 0 where
+  pub bytes : (number : ℕ) → AreBytes (core.passes number).call
+  pub groups : Groups sizes core log
+  pub written : Written sizes tail log core
+  pub header : HeaderStays first tail core.values
+  pub pieces : Pieces sizes log core
+  pub flight : InFlight sizes log placed core
+  pub live : LivePieces sizes log placed opened core
+
+-- ---- events
+
+-- a call that an act begins has bytes that are bytes
+abbrev pub BeginsWithBytes : Act → Type 0
+BeginsWithBytes (Begins call deed found) = AreBytes call
+BeginsWithBytes act = Unit {0}
+
+-- Every event that may come to a sound core keeps them, over the log and the placed writes after it.
+abbrev pub EventsKeepTheLog : Type 0
+EventsKeepTheLog =
+    (sizes : Sizes) (first : Values) (opened : Files) (tail : ℕ) (log : Log) (placed : ℕ → Bool) (core : Core) (event : Event)
+    → IsPageSize sizes.page → Sound sizes first core → LogContent sizes first opened tail log placed core
+    → BeginsWithBytes event.act → MayCome sizes event core
+    → LogContent sizes first opened tail (log_after sizes event core log) (placed_after sizes event core placed) (after_event sizes event core)
+
+-- ---- at opening
+
+-- a cell keeps the header's part: it is quiet, and reads this tail
+pub record HasTail (value : Value) (tail : ℕ) : Type 0 where
+  pub part : Part
+  pub is : IsPart value part
+  pub quiet : IsQuiet part
+  pub tail_is : word_of part 1 0 ≡ tail
+
+-- A mount opens an empty log: its header has a tail that is no higher than its next number, and the part of each entry is blank.
+pub record OpensLog (mount : Mount) (tail : ℕ) : Type 0 where
+  pub page : IsPageSize mount.sizes.page
+  pub low : tail ≤ mount.next
+  pub header : HasTail (mount.values HEADER) tail
+  pub blank : (slot : ℕ) → slot < mount.sizes.entries → IsBlank mount.sizes (mount.values (ENTRY slot)) tail slot
+
+-- They hold at opening, whatever log and placed writes one begins with, since the window is empty.
+abbrev pub OpeningHasTheLog : Type 0
+OpeningHasTheLog =
+    (mount : Mount) (files : Files) (tail : ℕ) (log : Log) (placed : ℕ → Bool)
+    → OpensLog mount tail → HasFiles mount.sizes mount.values files
+    → LogContent mount.sizes mount.values files tail log placed (opening mount)
+
+-- ---- runs
+
+-- each call that begins in a run has bytes that are bytes
+abbrev pub BeginWithBytes : List Event → Type 0
+BeginWithBytes [] = Unit {0}
+BeginWithBytes (event ∷ later) = BeginsWithBytes event.act × BeginWithBytes later
+
+-- the log after a run, and which writes are placed
+abbrev pub log_after_run : Sizes → Core → List Event → Log → Log
+log_after_run sizes core [] log = log
+log_after_run sizes core (event ∷ later) log = log_after_run sizes (after_event sizes event core) later (log_after sizes event core log)
+
+abbrev pub placed_after_run : Sizes → Core → List Event → (ℕ → Bool) → (ℕ → Bool)
+placed_after_run sizes core [] placed = placed
+placed_after_run sizes core (event ∷ later) placed = placed_after_run sizes (after_event sizes event core) later (placed_after sizes event core placed)
+
+-- So they hold after every run from the opening.
+abbrev pub RunsKeepTheLog : Type 0
+RunsKeepTheLog =
+    (mount : Mount) (files : Files) (tail : ℕ) (log : Log) (placed : ℕ → Bool) (events : List Event)
+    → IsMount mount → OpensLog mount tail → HasFiles mount.sizes mount.values files → IsRun mount.sizes (opening mount) events → BeginWithBytes events
+    → LogContent mount.sizes mount.values files tail (log_after_run mount.sizes (opening mount) events log) (placed_after_run mount.sizes (opening mount) events placed) (after mount.sizes (opening mount) events)
+
+-- ---- what a power failure may leave
+
+-- Where they hold, each image of the region has each group as a whole or not at all.
+abbrev pub GroupsAreInImages : Type 0
+GroupsAreInImages =
+    (sizes : Sizes) (first : Values) (opened : Files) (tail : ℕ) (log : Log) (placed : ℕ → Bool) (core : Core)
+    → 1 ≤ sizes.entries → Sound sizes first core → LogContent sizes first opened tail log placed core → EntryImages sizes log core
+
+-- And no image has a commit word of an earlier turn that would count.
+abbrev pub NoOldWordCounts : Type 0
+NoOldWordCounts =
+    (sizes : Sizes) (first : Values) (opened : Files) (tail : ℕ) (log : Log) (placed : ℕ → Bool) (core : Core)
+    → 1 ≤ sizes.entries → Sound sizes first core → LogContent sizes first opened tail log placed core → StaleWords sizes tail log core

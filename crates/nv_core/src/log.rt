@@ -1,0 +1,23 @@
+ghost use Rattle.nv_core.specs.LogContent.{EventsKeepTheLog, OpeningHasTheLog, RunsKeepTheLog, GroupsAreInImages, NoOldWordCounts};
+
+use nv_entry::groups_follow_steps;
+use nv_plain::write_is_its_pieces;
+use nv_pmem::{images_follow_calls, loads_follow_calls};
+
+/// What the log has is right at opening, every event keeps it, and so it is right after every run: the parts of each group
+/// are as so many device calls of its commit left them, the words of ready entries say what their pieces are, and the files
+/// after the history are the stores, overwritten by the live pieces. So each image of the region that a power failure may
+/// leave has each group as a whole or not at all, and no commit word of an earlier turn counts. It follows from the laws of
+/// parts, of writes and of groups that the body calls.
+pub fn runs_keep_the_log()
+    ensures opening { OpeningHasTheLog }
+    ensures events { EventsKeepTheLog }
+    ensures runs { RunsKeepTheLog }
+    ensures images { GroupsAreInImages }
+    ensures old { NoOldWordCounts }
+{
+    loads_follow_calls();
+    images_follow_calls();
+    write_is_its_pieces();
+    groups_follow_steps();
+}
