@@ -50,3 +50,4 @@ pub mod LiveLaws
 pub mod KeepsLive
 pub mod OpeningLogContent
 pub mod KeepsLogContent
+pub mod KeepsEntryWords

@@ -20,7 +20,7 @@ write_pages sizes (Read file at len) write = absurd (true≢false (sym write))
 write_pages sizes (Sync file) write = absurd (true≢false (sym write))
 
 -- a quotient grows with what is divided
-div_more : (few many page : ℕ) → few ≤ many → few / page ≤ many / page
+pub div_more : (few many page : ℕ) → few ≤ many → few / page ≤ many / page
 div_more few many zero less = let z = div-zero few in omega (arith, z)
 div_more few many (suc page) less = le-div (few / suc page) many (suc page) (omega arith) (le_trans (div-mul-le_self few (suc page)) less)
 

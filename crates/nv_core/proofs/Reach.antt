@@ -21,6 +21,8 @@ use Rattle.nv_core.proofs.KeepsBroken.{broken_step, broken_begin, broken_work}
 use Rattle.nv_core.proofs.KeepsHistory.{history_step, history_begin, history_work}
 use Rattle.nv_core.specs.Holding.{one_if}
 use Rattle.nv_core.specs.DirtyCounters.{is_of_page}
+use Rattle.nv_core.specs.EntryWords.{IsFree}
+use Rattle.nv_core.proofs.KeepsEntryWords.{words_step}
 use Rattle.nv_core.proofs.KeepsDirty.{dirty_step, dirty_begin, dirty_work}
 use Rattle.nv_core.proofs.KeepsStop.{stop_step, stop_begin, stop_work, buffers_step, buffers_work, devices_step, devices_work}
 
@@ -31,6 +33,7 @@ sound_step sizes first by core deed found sound made may = record {
   holding = holding_step sizes first by core deed found sound may.may;
   locks = locks_step sizes first by core deed found sound may;
   window = window_step sizes first by core deed found sound may;
+  entries = words_step sizes first by core deed found sound sound.entries may;
   dirty = dirty_step sizes first by core deed found sound sound.dirty may;
   loaded = loaded_step sizes first by core deed found sound made may;
   stop = stop_step sizes first by core deed found sound may;
@@ -48,6 +51,7 @@ sound_begin sizes first by core call sound made may = record {
   holding = holding_begin sizes first by core call sound may;
   locks = locks_begin sizes first by core call sound;
   window = window_begin sizes first by core call sound may;
+  entries = sound.entries;
   dirty = dirty_begin sizes first by core call sound.dirty may;
   loaded = loaded_begin sizes first by core call sound may;
   stop = stop_begin sizes first by core call sound may;
@@ -64,6 +68,7 @@ sound_work sizes first by core work sound made may = record {
   holding = holding_work sizes first by core work sound may;
   locks = locks_work sizes first by core work sound;
   window = window_work sizes first by core work sound may;
+  entries = sound.entries;
   dirty = dirty_work sizes first by core work sound.dirty may;
   loaded = loaded_work sizes first by core work sound may;
   stop = stop_work sizes first by core work sound may;
@@ -126,6 +131,7 @@ opening_is_sound mount is = record {
     each = λ s within. absurd (let a = within.0 in let b = within.1 in omega (arith, a, b));
     others = λ slot less off. refl;
   };
+  entries = record { each = λ slot. IsFree refl };
   dirty = record { free = λ page zero. sym (none_counted mount.sizes.entries page); held = λ page n here. absurd (omega (arith, here)) };
   loaded = record {
     head = λ n. omega arith;

@@ -8,7 +8,7 @@ use Rattle.nv_core.specs.Deeds.{slot_of}
 use Rattle.nv_core.proofs.LockLaws.{times_here, times_else, times_without, times_without_else}
 
 -- a greater quotient is at least one count more
-more : (count p q : ℕ) → p < q → p * count + count ≤ q * count
+pub more : (count p q : ℕ) → p < q → p * count + count ≤ q * count
 more count p q below = let m = mul-le-mul_right count below in omega (arith, m)
 
 -- numbers less than N apart have slots of their own

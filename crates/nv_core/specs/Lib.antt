@@ -14,6 +14,7 @@ pub mod Holding
 pub mod LogWindow
 pub mod Stop
 pub mod DirtyCounters
+pub mod EntryWords
 pub mod BuffersKept
 pub mod Loaded
 pub mod Numbers

@@ -8,6 +8,7 @@ use Rattle.nv_core.specs.Standing.{Standing}
 use Rattle.nv_core.specs.Holding.{Holding}
 use Rattle.nv_core.specs.Locks.{Locks}
 use Rattle.nv_core.specs.LogWindow.{LogWindow}
+use Rattle.nv_core.specs.EntryWords.{EntryWords}
 use Rattle.nv_core.specs.DirtyCounters.{DirtyCounters}
 use Rattle.nv_core.specs.Loaded.{Loaded}
 use Rattle.nv_core.specs.Stop.{Stop}
@@ -23,6 +24,7 @@ pub record Sound (sizes : Sizes) (first : Values) (core : Core) : Type 0 where
   pub holding : (number : ℕ) → Holding sizes (core.passes number)
   pub locks : Locks core
   pub window : LogWindow sizes core
+  pub entries : EntryWords sizes core.words
   pub dirty : DirtyCounters sizes core
   pub loaded : Loaded core
   pub stop : Stop first core

@@ -1,0 +1,61 @@
+-- Each event keeps what ENTRY words say.
+use Rattle.std.proofs.Common.{◌≡◌, ℕ, ◌+◌, ◌-◌, ◌*◌, ◌/◌, ◌<◌, ◌≤◌, ◌==◌, true, if◌then◌else◌, zero, suc, refl, sym, subst, arith, mul_comm}
+use Rattle.std.proofs.lemmas.Bool.{ltb-true, eqb-true, true≢false}
+use Rattle.std.proofs.lemmas.Nat.{div_below}
+use Rattle.nv_plain.specs.declared.call.FileCall.{FileCall}
+use Rattle.nv_plain.specs.declared.call.FileCall.TheVariants.{Read, Write, Sync}
+use Rattle.nv_core.specs.Words.{Sizes, ENTRY, same, page_total, filling, broken}
+use Rattle.nv_core.specs.Passes.{IsAmong, IsAllowed, is_write, at_of, len_of, file_of, page_count, end_page}
+use Rattle.nv_core.specs.Deeds.{Deed, slot_of, page_at, ready_word, Seizes, Readies, Breaks}
+use Rattle.nv_core.specs.Order.{Values}
+use Rattle.nv_core.specs.Core.{Core, with_word, after_step}
+use Rattle.nv_core.specs.Events.{MayFind}
+use Rattle.nv_core.specs.Standing.{StandsAt, HasDrawn}
+use Rattle.nv_core.specs.EntryWords.{IsEntryWord, IsFilled, IsBroken, IsReady, EntryWords}
+use Rattle.nv_core.specs.Sound.{Sound}
+use Rattle.nv_core.proofs.Choices.{if_both, busy}
+use Rattle.nv_core.proofs.SlotLaws.{more}
+use Rattle.nv_core.proofs.PageLaws.{div_more}
+use Rattle.nv_core.proofs.WordLaws.{untouched}
+
+-- a write has a byte
+some_bytes : (call : FileCall) → is_write call ≡ true → 1 ≤ len_of call
+some_bytes (Write file at bytes) write = ltb-true 0 _ write
+some_bytes (Read file at len) write = absurd (true≢false (sym write))
+some_bytes (Sync file) write = absurd (true≢false (sym write))
+
+-- bytes below so many pages touch pages below so many
+touched_within : (at len page pages : ℕ) → 1 ≤ len → at + len ≤ page * pages → at / page + (if len == 0 then 0 else (at + len - 1) / page - at / page + 1) ≤ pages
+touched_within at len page pages some near =
+    if_both (λ n. at / page + n ≤ pages) (len == 0) 0 ((at + len - 1) / page - at / page + 1)
+    (λ none. absurd (let z = eqb-true len 0 none in omega (arith, z, some)))
+    (λ _. let last = below page near in let less = div_more at (at + len - 1) page (omega (arith, some)) in omega (arith, last, less))
+  where
+    below : (page : ℕ) → at + len ≤ page * pages → (at + len - 1) / page < pages
+    below zero near = absurd (let z : zero * pages ≡ 0 = omega arith in omega (arith, z, near, some))
+    below (suc page) near = div_below (at + len - 1) (suc page) pages (omega arith) (let c = mul_comm pages (suc page) in omega (arith, c, near, some))
+
+-- the pages of a call that may be begun are pages of the mount
+pub pages_within : (sizes : Sizes) (call : FileCall) → IsAllowed sizes call → 1 ≤ len_of call → end_page sizes call ≤ page_total sizes
+pages_within sizes call allowed some =
+    let t = touched_within (at_of call) (len_of call) sizes.page sizes.pages some allowed.near in
+    let f = more sizes.pages (file_of call) sizes.files allowed.known in omega (arith, t, f)
+
+-- one word changes
+changed_word : (sizes : Sizes) (core : Core) (at value : ℕ) → EntryWords sizes core.words → IsEntryWord sizes value → (slot : ℕ) → IsEntryWord sizes (with_word core.words (ENTRY at) value (ENTRY slot))
+changed_word sizes core at value words is slot = if_both (IsEntryWord sizes) (same (ENTRY slot) (ENTRY at)) value (core.words (ENTRY slot)) (λ _. is) (λ _. words.each slot)
+
+pub words_step : (sizes : Sizes) (first : Values) (by : ℕ) (core : Core) (deed : Deed) (found : ℕ) → Sound sizes first core → EntryWords sizes core.words → MayFind sizes by core deed found → EntryWords sizes (after_step sizes by deed found core).words
+words_step sizes first by core (Seizes next) found sound words may = record { each = λ slot. changed_word sizes core (slot_of sizes next) filling words (IsFilled refl) slot }
+words_step sizes first by core (Breaks next) found sound words may = record { each = λ slot. changed_word sizes core (slot_of sizes next) broken words (IsBroken refl) slot }
+words_step sizes first by core (Readies next) found sound words may =
+    let at : HasDrawn sizes (core.passes by).call (core.passes by).entries × IsAmong (core.passes by).first (core.passes by).entries next = subst (StandsAt sizes (core.passes by)) may.may (sound.standing by).at in
+    let allowed = (sound.standing by).allowed (busy _ _ may.may refl) in
+    let most = pages_within sizes (core.passes by).call allowed (some_bytes (core.passes by).call at.0.write) in
+    record {
+      each = λ slot. changed_word sizes core (slot_of sizes next) (ready_word sizes (core.passes by) next) words
+          (IsReady (if next == (core.passes by).first then (core.passes by).entries else 0) (page_at sizes (core.passes by) next) refl
+          (if_both (λ c. c ≤ 16) (next == (core.passes by).first) (core.passes by).entries 0 (λ _. let m = at.0.many in let a : page_count sizes (core.passes by).call ≤ 16 = (let b = allowed.short in omega (arith, b)) in omega (arith, m, a)) (λ _. omega arith))
+          (let x = at.1.0 in let y = at.1.1 in let m = at.0.many in omega (arith, x, y, m, most))) slot;
+    }
+words_step sizes first by core deed found sound words may = record { each = λ slot. subst (IsEntryWord sizes) (sym (untouched sizes by core deed found may (ENTRY slot) refl)) (words.each slot) }
