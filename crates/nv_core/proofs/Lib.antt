@@ -51,3 +51,4 @@ pub mod KeepsLive
 pub mod OpeningLogContent
 pub mod KeepsLogContent
 pub mod KeepsEntryWords
+pub mod ReachLengths

@@ -1,9 +1,11 @@
 -- Lengths: how the LENGTH of a file stands to its length after the history.
-use Rattle.std.specs.Prelude.{◌≡◌, ℕ, ◌+◌, ◌<◌, ◌≤◌, length}
+use Rattle.std.specs.Prelude.{◌≡◌, ℕ, ◌+◌, ◌<◌, ◌≤◌, List, length}
 use Rattle.nv_plain.specs.Files.{Files, contents_of}
 use Rattle.nv_core.specs.Words.{Sizes, LENGTH, SIZE}
 use Rattle.nv_core.specs.Passes.{Growing, Pass, file_of, at_of, len_of, times}
 use Rattle.nv_core.specs.Core.{Core}
+use Rattle.nv_core.specs.Events.{Event, after, IsRun}
+use Rattle.nv_core.specs.Opening.{Mount, IsMount, opening}
 use Rattle.nv_core.specs.PagesAfter.{files_now}
 
 -- the length of a file after the history
@@ -24,3 +26,15 @@ pub record Lengths (sizes : Sizes) (opening : Files) (core : Core) : Type 0 wher
   pub most : (file : ℕ) → file < sizes.files → core.words (LENGTH file) ≤ length_now opening core file
   pub is : (file : ℕ) → file < sizes.files → ((number : ℕ) → IsGrowing (core.passes number) file → ⊥) → core.words (LENGTH file) ≡ length_now opening core file
   pub extends : (number file : ℕ) → IsGrowing (core.passes number) file → Extends opening core number file
+
+-- a mount's lengths are those of these files
+pub record AreLengthsOf (files : Files) (mount : Mount) : Type 0 where
+  pub count : length files.contents ≡ mount.sizes.files
+  pub each : (file : ℕ) → file < mount.sizes.files → mount.lengths file ≡ length (contents_of files file)
+
+-- After every run from the opening each LENGTH is that of its file after the history, but while a write has yet to say so. The stores may
+-- tell nothing.
+abbrev pub LengthsFollowTheHistory : Type 0
+LengthsFollowTheHistory =
+    (mount : Mount) (files : Files) (events : List Event) → IsMount mount → AreLengthsOf files mount
+    → IsRun mount.sizes (opening mount) events → Lengths mount.sizes files (after mount.sizes (opening mount) events)

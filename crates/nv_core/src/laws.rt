@@ -1,4 +1,5 @@
 ghost use Rattle.nv_core.specs.Laws.{OpeningIsSound, EventsKeepSound, RunsAreSound};
+ghost use Rattle.nv_core.specs.Lengths.{LengthsFollowTheHistory};
 ghost use Rattle.nv_core.specs.Never.{NoPlaceBeforeTheFence, NoPageBeforeThePlace, StoppedAfterAFault, NoLeaderBeforeAFollower, NoGrowthBeforeThePlace, NoTwoWritesOfAPage, NoStopWithoutAFault, NoSeizureOfAHeldEntry, NoDrawPastTheEnd};
 ghost use Rattle.nv_core.specs.Walks.{WalkBegins, FirstPageIsWord30, ReadIsWalked, WriteIsWalked, FaultIsWalked};
 ghost use Rattle.nv_core.specs.Words.{PlacesDiffer};
@@ -40,4 +41,10 @@ pub fn walks_are_runs()
     ensures read { ReadIsWalked }
     ensures write { WriteIsWalked }
     ensures fault { FaultIsWalked }
+{}
+
+/// After every run from the opening each LENGTH is the length of its file after the history, over the files whose lengths the
+/// mount was opened with; a write that made its file longer is the one exception, until it has said so.
+pub fn lengths_follow_the_history()
+    ensures { LengthsFollowTheHistory }
 {}

@@ -9,6 +9,7 @@ mod log;
 
 pub use content::runs_keep_content;
 pub use laws::{
-    no_sound_state_allows, runs_are_sound, walks_are_runs, words_have_places_of_their_own,
+    lengths_follow_the_history, no_sound_state_allows, runs_are_sound, walks_are_runs,
+    words_have_places_of_their_own,
 };
 pub use log::runs_keep_the_log;

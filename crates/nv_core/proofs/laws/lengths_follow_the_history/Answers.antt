@@ -1,0 +1,5 @@
+use Rattle.nv_core.proofs.ReachLengths.{lengths_follow}
+use Rattle.nv_core.proofs.laws.lengths_follow_the_history.Goals as goal
+
+pub returns : goal.returns
+returns c = lengths_follow
