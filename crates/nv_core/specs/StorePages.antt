@@ -22,7 +22,7 @@ pub record StoresTell (sizes : Sizes) (first : Values) : Type 0 where
 pub record StoresKept (first now : Values) : Type 0 where
   pub each : (file : ℕ) → store_of (now (STORE file)) ≡ store_of (first (STORE file))
 
--- A page that a read holds and that has no entries is its store's page at opening. (This follows from the part on live pieces.)
+-- A page that a read holds and that has no entries is its store's page at opening. (The part on clean pages gives it.)
 pub record StorePages (sizes : Sizes) (first : Values) (opening : Files) (core : Core) : Type 0 where
   pub clean : (number page : ℕ) (store : Store) → is_read (core.passes number).call ≡ true → times (PAGE page) (core.passes number).hands ≡ 1
       → core.words (DIRTY page) ≡ 0 → store_of (first (STORE (file_of_page sizes page))) ≡ Some store
