@@ -52,3 +52,4 @@ pub mod OpeningLogContent
 pub mod KeepsLogContent
 pub mod KeepsEntryWords
 pub mod ReachLengths
+pub mod WalkOpened

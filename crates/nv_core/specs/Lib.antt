@@ -43,3 +43,4 @@ pub mod Pieces
 pub mod InFlight
 pub mod LivePieces
 pub mod LogContent
+pub mod WalkOpens

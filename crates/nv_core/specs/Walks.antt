@@ -1,5 +1,5 @@
 -- Walks: a mount of one file, and runs of it, event by event, with the words after each.
-use Rattle.std.specs.Prelude.{◌≡◌, ℕ, ◌+◌, false, List, [], ◌∷◌, ◌++◌, Some, None, map, replicate, nat_lt, if◌then◌else◌, slice_index_or}
+use Rattle.std.specs.Prelude.{◌≡◌, ℕ, zero, ◌+◌, false, List, [], ◌∷◌, ◌++◌, Some, None, map, replicate, nat_lt, if◌then◌else◌, slice_index_or}
 use Rattle.nv_plain.specs.declared.call.FileCall.TheVariants.{Read, Write}
 use Rattle.nv_plain.specs.declared.call.Reply.TheVariants.{Bytes, Count}
 use Rattle.nv_pmem.specs.Part.{blank_line}
@@ -8,7 +8,7 @@ use Rattle.nv_pmem.specs.Steps.{Fence}
 use Rattle.nv_entry.specs.Group.{group_steps}
 use Rattle.std.specs.List.{range_with_len}
 use Rattle.nv_store.specs.Store.{quiet_store}
-use Rattle.nv_core.specs.Words.{Sizes, place, STOP, ORDER, HEAD, TAIL, LENGTH, STORE, ENTRY, PAGE, DIRTY}
+use Rattle.nv_core.specs.Words.{Sizes, place, STOP, ORDER, HEAD, TAIL, LENGTH, HEADER, STORE, ENTRY, PAGE, DIRTY}
 use Rattle.nv_core.specs.Values.{Bare, APart, AStore, ABuffer, Writes, Reads, Ending, Made, Failed}
 use Rattle.nv_core.specs.Deeds.{Loads, Takes, Gives, Places, Splits, Draws, Seizes, Pledges, Readies, Stops, Breaks}
 use Rattle.nv_core.specs.Order.{Values}
@@ -20,10 +20,11 @@ use Rattle.nv_core.specs.Opening.{Mount, IsMount, opening}
 abbrev pub walk_sizes : Sizes
 walk_sizes = record { page = 64; files = 1; pages = 64; entries = 16; buffers = 4 }
 
--- what the cells keep: entry parts of two blank lines, a store of 128 bytes, and buffers in the first four pages
+-- what the cells keep: a header's part and entry parts of two blank lines, a store of 128 bytes, and buffers in the first four pages
 abbrev pub walk_values : Values
 walk_values (ENTRY slot) = APart record { told = Some (blank_line ∷ blank_line ∷ []); faults = 0; identity = slot + 1 }
-walk_values (STORE file) = AStore record { told = Some (quiet_store (replicate 128 97)); faults = 0; identity = 17 }
+walk_values HEADER = APart record { told = Some (blank_line ∷ blank_line ∷ []); faults = 0; identity = 0 }
+walk_values (STORE zero) = AStore record { told = Some (quiet_store (replicate 128 97)); faults = 0; identity = 17 }
 walk_values (PAGE page) = ABuffer (if nat_lt page 4 then Some record { bytes = []; valid = false } else None)
 walk_values word = Bare
 

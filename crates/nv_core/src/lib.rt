@@ -12,4 +12,4 @@ pub use laws::{
     lengths_follow_the_history, no_sound_state_allows, runs_are_sound, walks_are_runs,
     words_have_places_of_their_own,
 };
-pub use log::runs_keep_the_log;
+pub use log::{a_mount_opens_a_file_and_a_log, runs_keep_the_log};

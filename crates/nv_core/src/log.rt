@@ -1,4 +1,5 @@
 ghost use Rattle.nv_core.specs.LogContent.{EventsKeepTheLog, OpeningHasTheLog, RunsKeepTheLog, GroupsAreInImages, NoOldWordCounts};
+ghost use Rattle.nv_core.specs.WalkOpens.{WalkOpensFiles, WalkOpensLog};
 
 use nv_entry::groups_follow_steps;
 use nv_plain::write_is_its_pieces;
@@ -20,4 +21,13 @@ pub fn runs_keep_the_log()
     images_follow_calls();
     write_is_its_pieces();
     groups_follow_steps();
+}
+
+/// What these laws ask of a mount can be met: that of the walks opens a file and an empty log.
+pub fn a_mount_opens_a_file_and_a_log()
+    ensures files { WalkOpensFiles }
+    ensures log { WalkOpensLog }
+{
+    loads_follow_calls();
+    images_follow_calls();
 }

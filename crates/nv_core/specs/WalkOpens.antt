@@ -1,0 +1,16 @@
+-- The walks' mount opens a file and an empty log: what the laws on content ask of a mount can be met.
+use Rattle.std.specs.Prelude.{[], ◌∷◌, replicate}
+use Rattle.nv_plain.specs.Files.{Files}
+use Rattle.nv_core.specs.Content.{Opens}
+use Rattle.nv_core.specs.LogContent.{OpensLog}
+use Rattle.nv_core.specs.Walks.{walk_mount}
+
+-- one file of 128 bytes
+abbrev pub walk_files : Files
+walk_files = record { contents = replicate 128 97 ∷ [] }
+
+abbrev pub WalkOpensFiles : Type 0
+WalkOpensFiles = Opens walk_mount walk_files
+
+abbrev pub WalkOpensLog : Type 0
+WalkOpensLog = OpensLog walk_mount 0
