@@ -1,3 +1,4 @@
 pub mod Ranges
 pub mod Logs
 pub mod OneLog
+pub mod WrittenSlots

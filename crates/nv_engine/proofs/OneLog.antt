@@ -129,7 +129,7 @@ module _ (layout : Layout) (page entries : ℕ) (names : List (List ℕ)) (tail 
   header_same : other 0 ≡ image 0
   header_same = λ at line word. differs.same 0 line word (λ same. absurd (omega (arith, same))) at
 
-  reads_on : ReadsAs layout page entries names tail other
+  pub reads_on : ReadsAs layout page entries names tail other
   reads_on = as_header layout page entries names tail image other header_same log.header
 
   -- the part of any other slot is the same

@@ -3,4 +3,4 @@
 
 mod laws;
 
-pub use laws::logs_have_one_meaning;
+pub use laws::{logs_have_one_meaning, writes_add_one_piece};
