@@ -1,3 +1,4 @@
 pub mod Laid
 pub mod Logged
 pub mod Written
+pub mod Overlaid

@@ -1,4 +1,5 @@
 ghost use Rattle.nv_engine.specs.Logged.{CommittedEntriesAddOne, LoggedImagesFit, LoggedImagesRecover, LogsAreOne, QuietRowsHaveOneLog, RestHasNoPieces, UncommittedEntriesAddNothing};
+ghost use Rattle.nv_engine.specs.Overlaid.{FilesAreOverlaid};
 ghost use Rattle.nv_engine.specs.Written.{WritesAddAtMostOne, WritesAddOne};
 
 /// What an image says whose log has some pieces, each a group of its own: it fits, and it recovers to exactly these, laid
@@ -19,4 +20,9 @@ pub fn logs_have_one_meaning()
 pub fn writes_add_one_piece()
     ensures moments { WritesAddAtMostOne }
     ensures done { WritesAddOne }
+{}
+
+/// Of a file under a log a read has to look at its own pieces alone, in their order.
+pub fn files_lie_beneath_their_pieces()
+    ensures { FilesAreOverlaid }
 {}

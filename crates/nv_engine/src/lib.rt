@@ -3,4 +3,4 @@
 
 mod laws;
 
-pub use laws::{logs_have_one_meaning, writes_add_one_piece};
+pub use laws::{files_lie_beneath_their_pieces, logs_have_one_meaning, writes_add_one_piece};

@@ -1,0 +1,31 @@
+-- The bytes of one file under the pieces of a log.
+use Rattle.std.proofs.Common.{◌≡◌, inl, inr, ℕ, ◌<◌, if◌then◌else◌, List, [], ◌∷◌, suc, slice_index_or, length, refl, sym, ap, ◌∙◌, arith}
+use Rattle.std.proofs.lemmas.Bool.{cases_eq, eq-eqb, ne_eqb}
+use Rattle.std.proofs.lemmas.List.{length-set, get_or-set_same, get_or-set_other}
+use Rattle.nv_plain.specs.Files.{Files, contents_of, overwritten}
+use Rattle.nv_engine.specs.Laid.{Piece, with_piece, laid}
+use Rattle.nv_engine.specs.Overlaid.{with_own, overlaid}
+
+-- one piece
+own_piece : (files : Files) (piece : Piece) (file : ℕ) → piece.file < length files.contents → contents_of (with_piece files piece) file ≡ with_own file (contents_of files file) piece
+own_piece files piece file known =
+    let new = overwritten (contents_of files piece.file) piece.at piece.bytes in
+    elim (cases_eq piece.file file) [
+      | inl same ↦
+          ap (contents_of (with_piece files piece)) (sym same)
+          ∙ get_or-set_same files.contents piece.file new [] known
+          ∙ ap (λ k. overwritten (contents_of files k) piece.at piece.bytes) same
+          ∙ sym (ap (λ test. if test then overwritten (contents_of files file) piece.at piece.bytes else contents_of files file) (eq-eqb piece.file file same))
+      | inr apart ↦
+          get_or-set_other files.contents piece.file file new [] (λ same. apart (sym same))
+          ∙ sym (ap (λ test. if test then overwritten (contents_of files file) piece.at piece.bytes else contents_of files file) (ne_eqb piece.file file apart))
+    ]
+
+pub files_overlaid : (files : Files) (pieces : List Piece) (file : ℕ) → ((i : ℕ) → (none : Piece) → i < length pieces → (slice_index_or pieces i none).file < length files.contents)
+    → contents_of (laid files pieces) file ≡ overlaid file (contents_of files file) pieces
+files_overlaid files [] file known = refl
+files_overlaid files (piece ∷ pieces) file known =
+    let first : piece.file < length files.contents = known 0 piece (omega arith) in
+    let new = overwritten (contents_of files piece.file) piece.at piece.bytes in
+    files_overlaid (with_piece files piece) pieces file (λ i none below. omega (arith, known (suc i) none (omega arith), length-set files.contents piece.file new))
+    ∙ ap (λ bytes. overlaid file bytes pieces) (own_piece files piece file first)

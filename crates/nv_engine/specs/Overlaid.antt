@@ -1,0 +1,19 @@
+-- Overlaid: the bytes of one file under the pieces of a log.
+use Rattle.std.specs.Prelude.{◌≡◌, ◌<◌, ◌==◌, if◌then◌else◌, ℕ, List, length, fold, All}
+use Rattle.nv_plain.specs.Files.{Files, contents_of, overwritten}
+use Rattle.nv_engine.specs.Laid.{Piece, laid}
+
+-- a file's bytes, overwritten by a piece if it is of that file
+abbrev pub with_own : ℕ → List ℕ → Piece → List ℕ
+with_own file bytes piece = if piece.file == file then overwritten bytes piece.at piece.bytes else bytes
+
+-- and by some pieces, the first of them first
+abbrev pub overlaid : ℕ → List ℕ → List Piece → List ℕ
+overlaid file bytes pieces = fold (with_own file) bytes pieces
+
+-- Of a file a read has to look at its own pieces alone, in their order.
+abbrev pub FilesAreOverlaid : Type 0
+FilesAreOverlaid =
+    (files : Files) (pieces : List Piece) (file : ℕ)
+    → All (λ piece. piece.file < length files.contents) pieces
+    → contents_of (laid files pieces) file ≡ overlaid file (contents_of files file) pieces
