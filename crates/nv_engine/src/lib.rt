@@ -1,4 +1,4 @@
-//! The engine: one thread's log over the parts of a region and its stores.
+//! One thread's log over the parts of a region and its stores: what its images say, as laws. The calls are to come.
 #![tactic(auto)]
 
 mod laws;
