@@ -11,14 +11,14 @@ use Rattle.nv_plain.specs.Pieces.{WriteIsItsPieces}
 use Rattle.nv_plain.specs.declared.call.FileCall.{FileCall}
 use Rattle.nv_plain.specs.declared.call.FileCall.TheVariants.{Read, Write, Sync}
 use Rattle.nv_plain.specs.declared.call.Reply.{Reply}
-use Rattle.nv_core.specs.Words.{Sizes, Word, HEAD, TAIL, STORE, ENTRY, PAGE, kind_of, free, filling, ready, broken, index}
-use Rattle.nv_core.specs.Values.{Value, Bare, APart, AStore, ABuffer, Job, Reads, Ending, Made, called, filled}
-use Rattle.nv_core.specs.Passes.{Stage, Copying, Reading, Seizing, Placing, Pass, IsAmong, IsUnseized, IsFilling, file_of, is_write, page_count, first_page}
-use Rattle.nv_core.specs.Deeds.{Deed, slot_of, page_at, ready_word, patched_by, Places, Draws, Seizes, Pledges, Readies, Breaks}
+use Rattle.nv_core.specs.Words.{Sizes, Word, HEAD, TAIL, STORE, ENTRY, kind_of, free, filling, ready, broken, index}
+use Rattle.nv_core.specs.Values.{Value, Bare, APart, AStore, ABuffer, Job, Ending, called}
+use Rattle.nv_core.specs.Passes.{Stage, Reading, Seizing, Placing, Pass, IsAmong, IsUnseized, IsFilling, file_of, is_write, page_count, first_page}
+use Rattle.nv_core.specs.Deeds.{Deed, slot_of, page_at, ready_word, Places, Draws, Seizes, Readies, Breaks}
 use Rattle.nv_core.specs.Stages.{leaving}
 use Rattle.nv_core.specs.Stepped.{added}
 use Rattle.nv_core.specs.Order.{Values, Work, MayPlace}
-use Rattle.nv_core.specs.Core.{Core, changed, with_word, with_number, after_step, after_begin, after_work, values_read, values_worked, values_stepped}
+use Rattle.nv_core.specs.Core.{Core, changed, with_word, with_number, after_step, after_begin, after_work, values_worked}
 use Rattle.nv_core.specs.Events.{MayFind}
 use Rattle.nv_core.specs.Standing.{StandsAt, HasDrawn, IsPage, IsSmall, HasRoom}
 use Rattle.nv_core.specs.LogWindow.{HasUnseized, InWindow, entry_at}

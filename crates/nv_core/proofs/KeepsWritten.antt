@@ -15,7 +15,7 @@ use Rattle.nv_pmem.specs.Runs.{run}
 use Rattle.nv_entry.specs.Commits.{after_some}
 use Rattle.nv_core.specs.Words.{Sizes, Word, HEAD, TAIL, STORE, ENTRY, kind_of, free, filling, ready, broken, index}
 use Rattle.nv_core.specs.Values.{Ending, Made, Failed, Writes, called}
-use Rattle.nv_core.specs.Passes.{Stage, Locking, Checking, Copying, Seizing, Committing, Pledging, Readying, Placing, ReadFailing, WriteFailing, Breaking, Pass, IsUnseized, IsFilling, IsAmong, file_of, is_write, page_count, first_page, end_page, without}
+use Rattle.nv_core.specs.Passes.{Stage, Locking, Checking, Copying, Seizing, Committing, Pledging, Readying, Placing, ReadFailing, WriteFailing, Breaking, Pass, IsUnseized, IsFilling, IsAmong, AreBytes, IsAllowed, file_of, is_write, page_count, first_page, end_page, without}
 use Rattle.nv_core.specs.Deeds.{Deed, slot_of, page_at, ready_word, Loads, Takes, Gives, Places, Stops, Draws, Seizes, Pledges, Readies, Grows, Breaks, Splits, Leaves, Joins}
 use Rattle.nv_core.specs.Stages.{stage_after, after_stop, leaving}
 use Rattle.nv_core.specs.Stepped.{stepped, begun}
@@ -25,7 +25,7 @@ use Rattle.nv_core.specs.Events.{MayFind}
 use Rattle.nv_core.specs.Standing.{StandsAt, HasDrawn, IsSmall, HasRoom}
 use Rattle.nv_core.specs.LogWindow.{HasUnseized, Fills, InWindow, entry_at}
 use Rattle.nv_core.specs.Groups.{Group, Log, group_of, with_group, log_stepped, log_worked, calls_after, HasGroup, IsGrouped, IsOwn, Groups}
-use Rattle.nv_core.specs.Written.{IsPart, AreParts, CommitsNone, IsWritten, commit_length, HasCalls, IsBlank, Written, AreBytes}
+use Rattle.nv_core.specs.Written.{IsPart, AreParts, CommitsNone, IsWritten, commit_length, HasCalls, IsBlank, Written}
 use Rattle.nv_core.specs.Sound.{Sound}
 use Rattle.nv_core.proofs.Changes.{by_number, by_word, number_here, number_else, word_here, word_else, differ}
 use Rattle.nv_core.proofs.Choices.{if_both, not_both, when_true, when_false, busy}
@@ -463,7 +463,7 @@ none_written sizes values tail (Write file at bytes) first blank_quiet page_is b
         within i less = omega (arith, less, count)
 
 module _ (sizes : Sizes) (first : Values) (tail : ℕ) (log : Log) (by : ℕ) (core : Core) (found : ℕ) (blank_quiet : BlankIsQuiet) (page_is : IsPageSize sizes.page)
-    (sound : Sound sizes first core) (groups : Groups sizes core log) (written : Written sizes tail log core) (bytes_are : AreBytes (core.passes by).call)
+    (sound : Sound sizes first core) (groups : Groups sizes core log) (written : Written sizes tail log core)
     (may : MayFind sizes by core Draws found) (drew : (found == (core.passes by).head) ≡ true) where
   abbrev new_group : Group
   new_group = record { call = (core.passes by).call; first = found; entries = page_count sizes (core.passes by).call }
@@ -497,6 +497,9 @@ module _ (sizes : Sizes) (first : Values) (tail : ℕ) (log : Log) (by : ℕ) (c
   at_draw : (is_write (core.passes by).call ≡ true) × IsSmall sizes (core.passes by) × HasRoom sizes (core.passes by)
   at_draw = subst (StandsAt sizes (core.passes by)) may.may (sound.standing by).at
 
+  allowed : IsAllowed sizes (core.passes by).call
+  allowed = (sound.standing by).allowed (busy _ _ may.may refl)
+
   some_drawn : 1 ≤ page_count sizes (core.passes by).call
   some_drawn = write_pages sizes (core.passes by).call at_draw.0
 
@@ -513,9 +516,9 @@ module _ (sizes : Sizes) (first : Values) (tail : ℕ) (log : Log) (by : ℕ) (c
   old_calls n less = number_else log.calls found 0 n (λ e. let f = may.is in omega (arith, e, f, less))
 
   drawn_written : IsWritten sizes core.values tail (core.passes by).call found 0
-  drawn_written = none_written sizes core.values tail (core.passes by).call found blank_quiet page_is bytes_are at_draw.0 some_drawn
+  drawn_written = none_written sizes core.values tail (core.passes by).call found blank_quiet page_is allowed.bytes at_draw.0 some_drawn
       (let f = may.is in let l = written.low in omega (arith, f, l))
-      (λ i less. written.free (slot_of sizes (found + i)) (mod_below (found + i) sizes.entries (let b = ((sound.standing by).allowed (busy _ _ may.may refl)).short in let s = some_drawn in omega (arith, b, s)))
+      (λ i less. written.free (slot_of sizes (found + i)) (mod_below (found + i) sizes.entries (let b = allowed.short in let s = some_drawn in omega (arith, b, s)))
       (new_free (found + i) (omega arith, omega (arith, less))))
 
   split : (n : ℕ) → InWindow new_core n → InWindow core n ⊎ IsAmong found (page_count sizes (core.passes by).call) n
@@ -557,14 +560,14 @@ module _ (sizes : Sizes) (first : Values) (tail : ℕ) (log : Log) (by : ℕ) (c
     low = let h = new_head in let l = written.low in omega (arith, h, l);
   }
 
-draw_step : (sizes : Sizes) (first : Values) (tail : ℕ) (log : Log) (by : ℕ) (core : Core) (found : ℕ) → BlankIsQuiet → IsPageSize sizes.page → Sound sizes first core → Groups sizes core log → Written sizes tail log core → AreBytes (core.passes by).call → MayFind sizes by core Draws found
+draw_step : (sizes : Sizes) (first : Values) (tail : ℕ) (log : Log) (by : ℕ) (core : Core) (found : ℕ) → BlankIsQuiet → IsPageSize sizes.page → Sound sizes first core → Groups sizes core log → Written sizes tail log core → MayFind sizes by core Draws found
     → Written sizes tail (log_stepped sizes (core.passes by) Draws found log) (after_step sizes by Draws found core)
-draw_step sizes first tail log by core found blank_quiet page_is sound groups written bytes_are may = go (found == (core.passes by).head) refl
+draw_step sizes first tail log by core found blank_quiet page_is sound groups written may = go (found == (core.passes by).head) refl
   where
     go : (b : Bool) → (found == (core.passes by).head) ≡ b → Written sizes tail (log_stepped sizes (core.passes by) Draws found log) (after_step sizes by Draws found core)
     go true e = subst (λ l. Written sizes tail l (after_step sizes by Draws found core))
         (sym (when_true (found == (core.passes by).head) (with_group record { call = (core.passes by).call; first = found; entries = page_count sizes (core.passes by).call } log) log e))
-        (draw_won sizes first tail log by core found blank_quiet page_is sound groups written bytes_are may e)
+        (draw_won sizes first tail log by core found blank_quiet page_is sound groups written may e)
     go false e = subst (λ l. Written sizes tail l (after_step sizes by Draws found core))
         (sym (when_false (found == (core.passes by).head) (with_group record { call = (core.passes by).call; first = found; entries = page_count sizes (core.passes by).call } log) log e))
         (written_kept sizes tail log core (after_step sizes by Draws found core)
@@ -573,7 +576,7 @@ draw_step sizes first tail log by core found blank_quiet page_is sound groups wr
         (subst (HasCalls sizes log (changed sizes by core Draws found)) (sym (when_false (found == (core.passes by).head) (Seizing found) (leaving (core.passes by).hands) e))
         (clear_calls sizes log (changed sizes by core Draws found) (leaving (core.passes by).hands) (clear_leaving (core.passes by).hands)))) written)
 
-pub written_step : (sizes : Sizes) (first : Values) (tail : ℕ) (log : Log) (by : ℕ) (core : Core) (deed : Deed) (found : ℕ) → BlankIsQuiet → IsPageSize sizes.page → Sound sizes first core → Groups sizes core log → Written sizes tail log core → AreBytes (core.passes by).call → MayFind sizes by core deed found
+pub written_step : (sizes : Sizes) (first : Values) (tail : ℕ) (log : Log) (by : ℕ) (core : Core) (deed : Deed) (found : ℕ) → BlankIsQuiet → IsPageSize sizes.page → Sound sizes first core → Groups sizes core log → Written sizes tail log core → MayFind sizes by core deed found
     → Written sizes tail (log_stepped sizes (core.passes by) deed found log) (after_step sizes by deed found core)
-written_step sizes first tail log by core Draws found blank_quiet page_is sound groups written bytes_are may = draw_step sizes first tail log by core found blank_quiet page_is sound groups written bytes_are may
-written_step sizes first tail log by core deed found blank_quiet page_is sound groups written bytes_are may = other_step sizes first tail log by core deed found sound groups written may refl
+written_step sizes first tail log by core Draws found blank_quiet page_is sound groups written may = draw_step sizes first tail log by core found blank_quiet page_is sound groups written may
+written_step sizes first tail log by core deed found blank_quiet page_is sound groups written may = other_step sizes first tail log by core deed found sound groups written may refl

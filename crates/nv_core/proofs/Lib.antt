@@ -41,7 +41,6 @@ pub mod ApartLaws
 pub mod RowParts
 pub mod WrittenLaws
 pub mod KeepsWritten
-pub mod KeepsBytes
 pub mod ImageLaws
 pub mod KeepsHeader
 pub mod KeepsPieces

@@ -102,7 +102,6 @@ header_opening one_image first tail has = record {
 
 pub opening_has_the_log : QuietHasOneImage → OpeningHasTheLog
 opening_has_the_log one_image mount files tail log placed opens has = record {
-  bytes = λ n. tt;
   groups = groups_opening mount.sizes log placed (opening mount) refl (λ n. refl);
   written = written_opening mount.sizes log placed (opening mount) refl (λ n. refl) tail opens.low opens.blank;
   header = header_opening one_image mount.values tail opens.header;

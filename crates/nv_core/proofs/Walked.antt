@@ -1,21 +1,31 @@
 -- The walks are runs.
-use Rattle.std.proofs.Common.{ℕ, ◌≤◌, replicate, refl, arith}
-use Rattle.nv_core.specs.Passes.{IsOneOf}
+use Rattle.std.proofs.Common.{ℕ, zero, suc, ◌≤◌, replicate, refl, arith}
+use Rattle.nv_plain.specs.declared.call.FileCall.TheVariants.{Write}
+use Rattle.nv_core.specs.Passes.{IsOneOf, AreBytes}
 use Rattle.nv_core.specs.Core.{Core}
 use Rattle.nv_core.specs.Events.{Act, MayAct, MayCome, IsStaying}
 use Rattle.nv_pmem.specs.Steps.{line_stores, durable_store}
 use Rattle.nv_entry.specs.Group.{group_steps, pieces_steps, piece_steps, data_steps, field_steps}
-use Rattle.nv_core.specs.Walks.{acts, walk_sizes, walk_call, ReadIsWalked, WriteIsWalked, FaultIsWalked, WalkBegins}
+use Rattle.nv_core.specs.Walks.{acts, walk_sizes, walk_bytes, walk_call, ReadIsWalked, WriteIsWalked, FaultIsWalked, WalkBegins}
 use Rattle.nv_core.specs.Totals.{total}
 
 -- an act of a pass that is there
 comes : (core : Core) (by : ℕ) (act : Act) → by ≤ core.made → (IsOneOf core.ended by → ⊥) → IsStaying act (core.passes by) → MayAct walk_sizes by core act → MayCome walk_sizes (acts by act) core
 comes core by act made there staying may = record { made = made; there = there; staying = staying; act = may }
 
+-- what the walks write are bytes
+are_bytes : AreBytes (Write 0 0 walk_bytes)
+are_bytes zero = omega arith
+are_bytes (suc zero) = omega arith
+are_bytes (suc (suc zero)) = omega arith
+are_bytes (suc (suc (suc zero))) = omega arith
+are_bytes (suc (suc (suc (suc zero)))) = omega arith
+are_bytes (suc (suc (suc (suc (suc i))))) = omega arith
+
 pub read_is_walked : ReadIsWalked
 read_is_walked = record {
   is_run = (
-    comes _ 0 _ (omega arith) (λ z. z) refl (record { idle = refl; allowed = record { known = omega arith; near = omega arith; short = omega arith } }, record { may = refl; is = refl }),
+    comes _ 0 _ (omega arith) (λ z. z) refl (record { idle = refl; allowed = record { known = omega arith; near = omega arith; short = omega arith; bytes = tt } }, record { may = refl; is = refl }),
     (
       comes _ 0 _ (omega arith) (λ z. z) refl record { may = (refl, refl); is = refl },
       (
@@ -54,7 +64,7 @@ write_is_walked = record {
   is_run = (
     comes _ 0 _ (omega arith) (λ z. z) refl record { may = refl; is = refl },
     (
-      comes _ 1 _ (omega arith) (λ z. z) refl (record { idle = refl; allowed = record { known = omega arith; near = omega arith; short = omega arith } }, record { may = refl; is = refl }),
+      comes _ 1 _ (omega arith) (λ z. z) refl (record { idle = refl; allowed = record { known = omega arith; near = omega arith; short = omega arith; bytes = are_bytes } }, record { may = refl; is = refl }),
       (
         comes _ 1 _ (omega arith) (λ z. z) refl record { may = (refl, refl); is = refl },
         (
@@ -155,9 +165,9 @@ pub fault_is_walked : FaultIsWalked
 unfolding group_steps pieces_steps piece_steps data_steps field_steps line_stores durable_store
 fault_is_walked = record {
   is_run = (
-    comes _ 1 _ (omega arith) (λ z. z) refl (record { idle = refl; allowed = record { known = omega arith; near = omega arith; short = omega arith } }, record { may = refl; is = refl }),
+    comes _ 1 _ (omega arith) (λ z. z) refl (record { idle = refl; allowed = record { known = omega arith; near = omega arith; short = omega arith; bytes = are_bytes } }, record { may = refl; is = refl }),
     (
-      comes _ 0 _ (omega arith) (λ z. z) refl (record { idle = refl; allowed = record { known = omega arith; near = omega arith; short = omega arith } }, record { may = refl; is = refl }),
+      comes _ 0 _ (omega arith) (λ z. z) refl (record { idle = refl; allowed = record { known = omega arith; near = omega arith; short = omega arith; bytes = tt } }, record { may = refl; is = refl }),
       (
         comes _ 1 _ (omega arith) (λ z. z) refl record { may = (refl, refl); is = refl },
         (

@@ -8,12 +8,12 @@ use Rattle.nv_core.specs.Words.{Sizes, HEADER, ENTRY}
 use Rattle.nv_core.specs.Values.{Value}
 use Rattle.nv_core.specs.Order.{Values}
 use Rattle.nv_core.specs.Core.{Core}
-use Rattle.nv_core.specs.Events.{Act, Begins, Event, MayCome, after_event, after, IsRun}
+use Rattle.nv_core.specs.Events.{Event, MayCome, after_event, after, IsRun}
 use Rattle.nv_core.specs.Opening.{Mount, IsMount, opening}
 use Rattle.nv_core.specs.Sound.{Sound}
 use Rattle.nv_core.specs.Content.{HasFiles}
 use Rattle.nv_core.specs.Groups.{Log, log_after, Groups}
-use Rattle.nv_core.specs.Written.{IsPart, IsBlank, AreBytes, Written}
+use Rattle.nv_core.specs.Written.{IsPart, IsBlank, Written}
 use Rattle.nv_core.specs.EntryImages.{EntryImages}
 use Rattle.nv_core.specs.StaleWords.{StaleWords}
 use Rattle.nv_core.specs.HeaderStays.{HeaderStays}
@@ -24,7 +24,6 @@ use Rattle.nv_core.specs.LivePieces.{LivePieces}
 -- These parts, over the cells' values and the files at opening, the tail that the header has, the log, and which writes are placed.
 -- That a page with no entries is its store's page after the history is a part of Content: CleanPages.
 pub record LogContent (sizes : Sizes) (first : Values) (opened : Files) (tail : ℕ) (log : Log) (placed : ℕ → Bool) (core : Core) : Type 0 where
-  pub bytes : (number : ℕ) → AreBytes (core.passes number).call
   pub groups : Groups sizes core log
   pub written : Written sizes tail log core
   pub header : HeaderStays first tail core.values
@@ -34,17 +33,12 @@ pub record LogContent (sizes : Sizes) (first : Values) (opened : Files) (tail : 
 
 -- ---- events
 
--- a call that an act begins has bytes that are bytes
-abbrev pub BeginsWithBytes : Act → Type 0
-BeginsWithBytes (Begins call deed found) = AreBytes call
-BeginsWithBytes act = Unit {0}
-
 -- Every event that may come to a sound core keeps them, over the log and the placed writes after it.
 abbrev pub EventsKeepTheLog : Type 0
 EventsKeepTheLog =
     (sizes : Sizes) (first : Values) (opened : Files) (tail : ℕ) (log : Log) (placed : ℕ → Bool) (core : Core) (event : Event)
     → IsPageSize sizes.page → Sound sizes first core → LogContent sizes first opened tail log placed core
-    → BeginsWithBytes event.act → MayCome sizes event core
+    → MayCome sizes event core
     → LogContent sizes first opened tail (log_after sizes event core log) (placed_after sizes event core placed) (after_event sizes event core)
 
 -- ---- at opening
@@ -72,11 +66,6 @@ OpeningHasTheLog =
 
 -- ---- runs
 
--- each call that begins in a run has bytes that are bytes
-abbrev pub BeginWithBytes : List Event → Type 0
-BeginWithBytes [] = Unit {0}
-BeginWithBytes (event ∷ later) = BeginsWithBytes event.act × BeginWithBytes later
-
 -- the log after a run, and which writes are placed
 abbrev pub log_after_run : Sizes → Core → List Event → Log → Log
 log_after_run sizes core [] log = log
@@ -90,7 +79,7 @@ placed_after_run sizes core (event ∷ later) placed = placed_after_run sizes (a
 abbrev pub RunsKeepTheLog : Type 0
 RunsKeepTheLog =
     (mount : Mount) (files : Files) (tail : ℕ) (log : Log) (placed : ℕ → Bool) (events : List Event)
-    → IsMount mount → OpensLog mount tail → HasFiles mount.sizes mount.values files → IsRun mount.sizes (opening mount) events → BeginWithBytes events
+    → IsMount mount → OpensLog mount tail → HasFiles mount.sizes mount.values files → IsRun mount.sizes (opening mount) events
     → LogContent mount.sizes mount.values files tail (log_after_run mount.sizes (opening mount) events log) (placed_after_run mount.sizes (opening mount) events placed) (after mount.sizes (opening mount) events)
 
 -- ---- what a power failure may leave

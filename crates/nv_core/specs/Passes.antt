@@ -1,5 +1,5 @@
 -- Passes: a thread's view, its call at hand, and where in the order of steps it stands.
-use Rattle.std.specs.Prelude.{◌≡◌, ◌⊎◌, ℕ, ◌+◌, ◌-◌, ◌*◌, ◌/◌, ◌<◌, ◌≤◌, nat_lt, min, Bool, false, if◌then◌else◌, List, [], ◌∷◌, length}
+use Rattle.std.specs.Prelude.{◌≡◌, ◌⊎◌, ℕ, ◌+◌, ◌-◌, ◌*◌, ◌/◌, ◌<◌, ◌≤◌, nat_lt, min, Bool, false, if◌then◌else◌, List, [], ◌∷◌, length, slice_index}
 use Rattle.nv_plain.specs.Histories.{Answered}
 use Rattle.nv_plain.specs.Layouts.{version_1}
 use Rattle.nv_plain.specs.Pieces.{pages_touched}
@@ -122,11 +122,18 @@ covered call len = len_of call
 abbrev pub end_read : Sizes → FileCall → (len : ℕ) → ℕ
 end_read sizes call len = first_page sizes call + pages_touched (at_of call) (covered call len) sizes.page
 
--- A call that is not refused before its first step: its file is there, it lies in the file's pages, and the log could hold it.
+-- the bytes of a write are bytes
+abbrev pub AreBytes : FileCall → Type 0
+AreBytes (Write file at bytes) = (i : ℕ) → slice_index bytes i < 256
+AreBytes call = Unit {0}
+
+-- A call that is not refused before its first step: its file is there, it lies in the file's pages, the log could hold it, and
+-- what it writes are bytes.
 pub record IsAllowed (sizes : Sizes) (call : FileCall) : Type 0 where
   pub known : file_of call < sizes.files
   pub near : at_of call + len_of call ≤ sizes.page * sizes.pages
   pub short : page_count sizes call ≤ min version_1.group_limit sizes.entries
+  pub bytes : AreBytes call
 
 -- ---- cells in hands
 

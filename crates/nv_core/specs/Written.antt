@@ -1,5 +1,5 @@
 -- Written entries: what the device calls of each group's commit have made of its parts.
-use Rattle.std.specs.Prelude.{◌≡◌, ◌≢◌, ℕ, ◌+◌, ◌<◌, ◌≤◌, List, [], length, slice_index, slice_index_or, Some}
+use Rattle.std.specs.Prelude.{◌≡◌, ◌≢◌, ℕ, ◌+◌, ◌<◌, ◌≤◌, List, [], length, slice_index_or, Some}
 use Rattle.nv_plain.specs.Images.{PartImage, Image}
 use Rattle.nv_plain.specs.declared.call.FileCall.{FileCall}
 use Rattle.nv_plain.specs.declared.call.FileCall.TheVariants.{Write}
@@ -85,8 +85,3 @@ pub record Written (sizes : Sizes) (tail : ℕ) (log : Log) (core : Core) : Type
       → log.calls number ≡ commit_length sizes (log.group number).call number
   pub free : (slot : ℕ) → slot < sizes.entries → core.words (ENTRY slot) ≡ free → IsBlank sizes (core.values (ENTRY slot)) tail slot
   pub low : tail ≤ core.words HEAD
-
--- the bytes of a write are bytes
-abbrev pub AreBytes : FileCall → Type 0
-AreBytes (Write file at bytes) = (i : ℕ) → slice_index bytes i < 256
-AreBytes call = Unit {0}
