@@ -28,7 +28,8 @@ pub enum BenchError {
 }
 
 /// The devices that a program runs over: the parts of one region, and stores by their names. What is opened is lent until
-/// it is given back; what is given back is what the next opening gives.
+/// it is given back; what is given back is what the next opening gives. A bench that doesn't tell what it holds gives
+/// devices that don't tell either.
 pub trait Bench {
     type Part: Lines + Drop + Send;
 
@@ -51,6 +52,7 @@ pub trait Bench {
         ensures lent { OnOk result (state self.new ≡ with_faults (state self.new).faults (region_lent (state self.old))) }
         ensures told { IfOk result (λ parts. IfSome (state self.old).told (λ holding.
             AreNow (map Self.Part.history parts.items) (opened want holding.parts))) }
+        ensures untold { IfOk result (λ parts. (state self.old).told ≡ None → All (λ part. Self.Part.history part ≡ []) parts.items) }
         ensures fresh { IfOk result (λ parts. All (λ part. IsFreshWhereQuiet (Self.Part.history part) (Self.Part.room part)) parts.items) }
         ensures counts { IfOk result (λ parts.
             (state self.old).faults ≡ saturated ((state self.new).faults + sum_by Self.Part.fault_count parts.items)) }
@@ -66,6 +68,7 @@ pub trait Bench {
         ensures lent { OnOk result (state self.new ≡ with_faults (state self.new).faults (store_lent name.now (state self.old))) }
         ensures told { IfOk result (λ store. IfSome (state self.old).told (λ holding.
             IsNow (Self.Store.history store) (store_of name.now holding.stores))) }
+        ensures untold { IfOk result (λ store. (state self.old).told ≡ None → Self.Store.history store ≡ []) }
         ensures counts { IfOk result (λ store.
             (state self.old).faults ≡ saturated ((state self.new).faults + Self.Store.fault_count store)) }
         ensures failed { result ≡ Err Failed → Rose (state self.old).faults (state self.new).faults }
