@@ -1,5 +1,5 @@
 -- Writes apart: a call that is apart from those before it may as well come first.
-use Rattle.std.proofs.Common.{◌≡◌, ◌≢◌, ◌⊎◌, ℕ, ◌+◌, ◌-◌, ◌<◌, ◌≤◌, List, [], ◌∷◌, ◌++◌, length, get_or, inl, inr, refl, sym, ap, subst, ◌∙◌, arith}
+use Rattle.std.proofs.Common.{◌≡◌, ◌≢◌, ◌⊎◌, ℕ, ◌+◌, ◌<◌, ◌≤◌, List, [], ◌∷◌, ◌++◌, length, get_or, inl, inr, refl, sym, ap, subst, ◌∙◌, arith}
 use Rattle.std.proofs.Math.ListN.{set}
 use Rattle.std.proofs.lemmas.Bool.{cases_lt, cases_eq}
 use Rattle.std.proofs.lemmas.List.{length-set, get_or-set_same, get_or-set_other, ext_get_or}
@@ -7,14 +7,8 @@ use Rattle.nv_plain.specs.declared.call.FileCall.{FileCall}
 use Rattle.nv_plain.specs.declared.call.FileCall.TheVariants.{Read, Write, Sync}
 use Rattle.nv_plain.specs.Files.{Files, overwritten}
 use Rattle.nv_plain.specs.Calls.{files_after}
-use Rattle.nv_plain.proofs.FileLemmas.{length-overwritten, get_or-overwritten_inside, get_or-overwritten_below, get_or-overwritten_above}
 use Rattle.nv_core.specs.Apart.{AreDisjoint, AreApart, IsApartFrom, after_calls}
-
--- ---- what an overwriting leaves, byte by byte
-
-pub outside : (bytes source : List ℕ) (at k : ℕ) → (k < at) ⊎ (at + length source ≤ k) → get_or (overwritten bytes at source) k 0 ≡ get_or bytes k 0
-outside bytes source at k (inl less) = get_or-overwritten_below bytes source at k less
-outside bytes source at k (inr more) = get_or-overwritten_above bytes source at k more
+use Rattle.nv_core.proofs.PlainLaws.{PlainLaws}
 
 -- ---- two that don't meet, in either order
 
@@ -29,28 +23,28 @@ turned : (at len from count : ℕ) → AreDisjoint at len from count → AreDisj
 turned at len from count (inl before) = inr before
 turned at len from count (inr behind) = inl behind
 
-byte_same : (bytes one other : List ℕ) (at from k : ℕ) → AreDisjoint at (length one) from (length other)
+byte_same : (plain : PlainLaws) (bytes one other : List ℕ) (at from k : ℕ) → AreDisjoint at (length one) from (length other)
     → get_or (overwritten (overwritten bytes at one) from other) k 0 ≡ get_or (overwritten (overwritten bytes from other) at one) k 0
-byte_same bytes one other at from k apart = elim (in_or_out at (length one) k) [
+byte_same plain bytes one other at from k apart = elim (in_or_out at (length one) k) [
   | inl here ↦ let out = other_out at (length one) from (length other) k apart here in
-      outside (overwritten bytes at one) other from k out ∙ get_or-overwritten_inside bytes one at k here.0 here.1 ∙ sym (get_or-overwritten_inside (overwritten bytes from other) one at k here.0 here.1)
+      plain.outside (overwritten bytes at one) other from k out ∙ plain.inside bytes one at k here.0 here.1 ∙ sym (plain.inside (overwritten bytes from other) one at k here.0 here.1)
   | inr out ↦ elim (in_or_out from (length other) k) [
-    | inl there ↦ get_or-overwritten_inside (overwritten bytes at one) other from k there.0 there.1 ∙ sym (outside (overwritten bytes from other) one at k out ∙ get_or-overwritten_inside bytes other from k there.0 there.1)
-    | inr away ↦ outside (overwritten bytes at one) other from k away ∙ outside bytes one at k out ∙ sym (outside (overwritten bytes from other) one at k out ∙ outside bytes other from k away)
+    | inl there ↦ plain.inside (overwritten bytes at one) other from k there.0 there.1 ∙ sym (plain.outside (overwritten bytes from other) one at k out ∙ plain.inside bytes other from k there.0 there.1)
+    | inr away ↦ plain.outside (overwritten bytes at one) other from k away ∙ plain.outside bytes one at k out ∙ sym (plain.outside (overwritten bytes from other) one at k out ∙ plain.outside bytes other from k away)
   ]
 ]
 
-pub overwritten-apart : (bytes one other : List ℕ) (at from : ℕ) → AreDisjoint at (length one) from (length other)
+pub overwritten-apart : (plain : PlainLaws) (bytes one other : List ℕ) (at from : ℕ) → AreDisjoint at (length one) from (length other)
     → overwritten (overwritten bytes at one) from other ≡ overwritten (overwritten bytes from other) at one
-overwritten-apart bytes [] other at from apart = refl
-overwritten-apart bytes (a ∷ one) [] at from apart = refl
-overwritten-apart bytes (a ∷ one) (b ∷ other) at from apart =
-    let u = length-overwritten bytes (a ∷ one) at (omega arith) in
-    let v = length-overwritten (overwritten bytes at (a ∷ one)) (b ∷ other) from (omega arith) in
-    let w = length-overwritten bytes (b ∷ other) from (omega arith) in
-    let z = length-overwritten (overwritten bytes from (b ∷ other)) (a ∷ one) at (omega arith) in
+overwritten-apart plain bytes [] other at from apart = refl
+overwritten-apart plain bytes (a ∷ one) [] at from apart = refl
+overwritten-apart plain bytes (a ∷ one) (b ∷ other) at from apart =
+    let u = plain.reach bytes (a ∷ one) at (omega arith) in
+    let v = plain.reach (overwritten bytes at (a ∷ one)) (b ∷ other) from (omega arith) in
+    let w = plain.reach bytes (b ∷ other) from (omega arith) in
+    let z = plain.reach (overwritten bytes from (b ∷ other)) (a ∷ one) at (omega arith) in
     ext_get_or 0 (overwritten (overwritten bytes at (a ∷ one)) from (b ∷ other)) (overwritten (overwritten bytes from (b ∷ other)) at (a ∷ one))
-    (omega (arith, u, v, w, z)) (λ k less. byte_same bytes (a ∷ one) (b ∷ other) at from k apart)
+    (omega (arith, u, v, w, z)) (λ k less. byte_same plain bytes (a ∷ one) (b ∷ other) at from k apart)
 
 -- ---- of files
 
@@ -104,33 +98,33 @@ both_here {A = A} d xs k f g swap =
         ∙ sym (at_other d (set xs k (g (get_or xs k d))) k _ i a ∙ at_other d xs k _ i a)
 
 -- two calls that are apart leave the same files in either order
-pub calls_apart : (one other : FileCall) (files : Files) → AreApart one other → files_after other (files_after one files) ≡ files_after one (files_after other files)
-calls_apart (Read file at len) (Read other from count) files apart = refl
-calls_apart (Read file at len) (Write other from others) files apart = refl
-calls_apart (Read file at len) (Sync other) files apart = refl
-calls_apart (Sync file) (Read other from count) files apart = refl
-calls_apart (Sync file) (Write other from others) files apart = refl
-calls_apart (Sync file) (Sync other) files apart = refl
-calls_apart (Write file at bytes) (Read other from count) files apart = refl
-calls_apart (Write file at bytes) (Sync other) files apart = refl
-calls_apart (Write file at bytes) (Write other from others) files apart = writes (cases_eq file other) apart
+pub calls_apart : (plain : PlainLaws) (one other : FileCall) (files : Files) → AreApart one other → files_after other (files_after one files) ≡ files_after one (files_after other files)
+calls_apart plain (Read file at len) (Read other from count) files apart = refl
+calls_apart plain (Read file at len) (Write other from others) files apart = refl
+calls_apart plain (Read file at len) (Sync other) files apart = refl
+calls_apart plain (Sync file) (Read other from count) files apart = refl
+calls_apart plain (Sync file) (Write other from others) files apart = refl
+calls_apart plain (Sync file) (Sync other) files apart = refl
+calls_apart plain (Write file at bytes) (Read other from count) files apart = refl
+calls_apart plain (Write file at bytes) (Sync other) files apart = refl
+calls_apart plain (Write file at bytes) (Write other from others) files apart = writes (cases_eq file other) apart
   where
     writes : (file ≡ other) ⊎ (file ≢ other) → AreApart (Write file at bytes) (Write other from others)
         → files_after (Write other from others) (files_after (Write file at bytes) files) ≡ files_after (Write file at bytes) (files_after (Write other from others) files)
     writes (inr ne) is = ap (λ c. record { contents = c }) (both_elsewhere [] files.contents file other (λ c. overwritten c at bytes) (λ c. overwritten c from others) ne)
     writes (inl same) (inl ne) = absurd (ne same)
     writes (inl same) (inr apart) = subst (λ o. files_after (Write o from others) (files_after (Write file at bytes) files) ≡ files_after (Write file at bytes) (files_after (Write o from others) files)) same
-        (ap (λ c. record { contents = c }) (both_here [] files.contents file (λ c. overwritten c at bytes) (λ c. overwritten c from others) (λ c. overwritten-apart c bytes others at from apart)))
+        (ap (λ c. record { contents = c }) (both_here [] files.contents file (λ c. overwritten c at bytes) (λ c. overwritten c from others) (λ c. overwritten-apart plain c bytes others at from apart)))
 
 -- ---- of a list of calls
 
 -- A call that is apart from those before it may as well come first.
-pub comes_first : (earlier : List FileCall) (call : FileCall) (later : List FileCall) (files : Files) → IsApartFrom call earlier
+pub comes_first : (plain : PlainLaws) (earlier : List FileCall) (call : FileCall) (later : List FileCall) (files : Files) → IsApartFrom call earlier
     → after_calls (earlier ++ call ∷ later) files ≡ after_calls (call ∷ (earlier ++ later)) files
-comes_first [] call later files apart = refl
-comes_first (one ∷ earlier) call later files apart =
-    comes_first earlier call later (files_after one files) apart.1
-    ∙ ap (after_calls (earlier ++ later)) (sym (calls_apart call one files apart.0))
+comes_first plain [] call later files apart = refl
+comes_first plain (one ∷ earlier) call later files apart =
+    comes_first plain earlier call later (files_after one files) apart.1
+    ∙ ap (after_calls (earlier ++ later)) (sym (calls_apart plain call one files apart.0))
 
 pub after_both : (earlier later : List FileCall) (files : Files) → after_calls (earlier ++ later) files ≡ after_calls later (after_calls earlier files)
 after_both [] later files = refl

@@ -9,12 +9,12 @@ use Rattle.nv_plain.specs.declared.call.FileCall.{FileCall}
 use Rattle.nv_plain.specs.declared.call.FileCall.TheVariants.{Read, Write, Sync}
 use Rattle.nv_plain.specs.Files.{Files, contents_of, with_contents, overwritten}
 use Rattle.nv_plain.specs.Calls.{files_after}
-use Rattle.nv_plain.proofs.FileLemmas.{length-overwritten, length-overwritten_grows}
 use Rattle.nv_core.specs.Words.{Sizes}
 use Rattle.nv_core.specs.Passes.{IsAllowed, file_of, at_of, len_of, is_write, first_page, page_count, page_number}
 use Rattle.nv_core.specs.Standing.{IsPage}
 use Rattle.nv_core.specs.PagesAfter.{page_from, page_in}
 use Rattle.nv_core.specs.ValidBuffers.{with_own}
+use Rattle.nv_core.proofs.PlainLaws.{PlainLaws, never_shorter}
 use Rattle.nv_core.proofs.PlainPages.{page_start_below, page_start_behind, pages_touched_none, patch_piece, untouched_page, untouched_above}
 
 -- what a file has after another one was changed, and after it was
@@ -42,23 +42,23 @@ files_same (Write other at bytes) files file there (inl none) = elim (cases_eq f
 ]
 
 -- no call makes a file shorter
-pub files_grow : (call : FileCall) (files : Files) (file : ℕ) → file_of call < length files.contents → length (contents_of files file) ≤ length (contents_of (files_after call files) file)
-files_grow (Read other at len) files file there = omega arith
-files_grow (Sync other) files file there = omega arith
-files_grow (Write other at bytes) files file there = elim (cases_eq file other) [
+pub files_grow : (plain : PlainLaws) (call : FileCall) (files : Files) (file : ℕ) → file_of call < length files.contents → length (contents_of files file) ≤ length (contents_of (files_after call files) file)
+files_grow plain (Read other at len) files file there = omega arith
+files_grow plain (Sync other) files file there = omega arith
+files_grow plain (Write other at bytes) files file there = elim (cases_eq file other) [
   | inl e ↦ subst (λ f. length (contents_of files f) ≤ length (contents_of (files_after (Write other at bytes) files) f)) (sym e)
-      (let h = ap length (contents_here files other (overwritten (contents_of files other) at bytes) there) in let g = length-overwritten_grows (contents_of files other) bytes at in omega (arith, h, g))
+      (let h = ap length (contents_here files other (overwritten (contents_of files other) at bytes) there) in let g = never_shorter plain (contents_of files other) bytes at in omega (arith, h, g))
   | inr ne ↦ let h = ap length (contents_else files other file (overwritten (contents_of files other) at bytes) ne) in omega (arith, h)
 ]
 
 -- the length of a file after a write of some bytes
-pub files_written : (call : FileCall) (files : Files) → file_of call < length files.contents → is_write call ≡ true
+pub files_written : (plain : PlainLaws) (call : FileCall) (files : Files) → file_of call < length files.contents → is_write call ≡ true
     → length (contents_of (files_after call files) (file_of call)) ≡ max (length (contents_of files (file_of call))) (at_of call + len_of call)
-files_written (Read other at len) files there write = absurd (true≢false (sym write))
-files_written (Sync other) files there write = absurd (true≢false (sym write))
-files_written (Write other at bytes) files there write =
+files_written plain (Read other at len) files there write = absurd (true≢false (sym write))
+files_written plain (Sync other) files there write = absurd (true≢false (sym write))
+files_written plain (Write other at bytes) files there write =
     ap length (contents_here files other (overwritten (contents_of files other) at bytes) there)
-    ∙ length-overwritten (contents_of files other) bytes at (ltb-true 0 (length bytes) write)
+    ∙ plain.reach (contents_of files other) bytes at (ltb-true 0 (length bytes) write)
 
 -- ---- pages
 
@@ -67,7 +67,7 @@ pub page_is : (sizes : Sizes) (files : Files) (file number : ℕ) → number < s
 page_is sizes files file number low =
     ap₂ (λ (f n : ℕ). page_from (contents_of files f) (n * sizes.page) sizes.page) (div-mul-add file sizes.pages number low) (mod-mul-add file sizes.pages number low)
 
-module _ (sizes : Sizes) (files : Files) (file at : ℕ) (bytes : List ℕ) (some : 0 < length bytes) (allowed : IsAllowed sizes (Write file at bytes)) (there : file < length files.contents) where
+module _ (plain : PlainLaws) (sizes : Sizes) (files : Files) (file at : ℕ) (bytes : List ℕ) (some : 0 < length bytes) (allowed : IsAllowed sizes (Write file at bytes)) (there : file < length files.contents) where
   some_page : 1 ≤ sizes.page
   some_page = go (cases_lt 0 sizes.page)
     where
@@ -95,7 +95,7 @@ module _ (sizes : Sizes) (files : Files) (file at : ℕ) (bytes : List ℕ) (som
   write_in i low =
       page_is sizes (files_after (Write file at bytes) files) file (at / sizes.page + i) (piece_near i low)
       ∙ ap (λ b. page_from b ((at / sizes.page + i) * sizes.page) sizes.page) (contents_here files file (overwritten (contents_of files file) at bytes) there)
-      ∙ patch_piece (contents_of files file) bytes at sizes.page i some_page some low
+      ∙ patch_piece plain (contents_of files file) bytes at sizes.page i some_page some low
       ∙ ap (λ b. overwritten b ((piece_of at (length bytes) sizes.page i).at % sizes.page) (piece_bytes bytes (piece_of at (length bytes) sizes.page i))) (sym (page_is sizes files file (at / sizes.page + i) (piece_near i low)))
 
   pub write_page : (page : ℕ) → IsPage sizes (Write file at bytes) page → page_in sizes (files_after (Write file at bytes) files) page ≡ with_own sizes (Write file at bytes) page (page_in sizes files page)
@@ -122,11 +122,11 @@ module _ (sizes : Sizes) (files : Files) (file at : ℕ) (bytes : List ℕ) (som
 
       apart : page / sizes.pages ≡ file → page_from (overwritten (contents_of files file) at bytes) (page % sizes.pages * sizes.page) sizes.page ≡ page_from (contents_of files file) (page % sizes.pages * sizes.page) sizes.page
       apart e = elim (cases_lt (page % sizes.pages) (at / sizes.page)) [
-        | inl below ↦ untouched_page (contents_of files file) bytes at (page % sizes.pages * sizes.page) sizes.page
+        | inl below ↦ untouched_page plain (contents_of files file) bytes at (page % sizes.pages * sizes.page) sizes.page
             (let less : page % sizes.pages + 1 ≤ at / sizes.page = omega (arith, below) in let m = mul-le-mul_right sizes.page less in let d = div-mul-le_self at sizes.page in omega (arith, m, d))
         | inr above ↦ elim (cases_lt (page % sizes.pages) (at / sizes.page + pages_touched at (length bytes) sizes.page)) [
           | inl within ↦ absurd (other (let n = is_number e in (omega (arith, n, above), omega (arith, n, within))))
-          | inr behind ↦ untouched_above (contents_of files file) bytes at (page % sizes.pages * sizes.page) sizes.page
+          | inr behind ↦ untouched_above plain (contents_of files file) bytes at (page % sizes.pages * sizes.page) sizes.page
               (let i = page % sizes.pages - at / sizes.page in
               let far : pages_touched at (length bytes) sizes.page ≤ i = omega (arith, behind) in
               let b = page_start_behind at (length bytes) sizes.page i some_page some far in
@@ -146,21 +146,21 @@ own_none sizes (Write file at []) page old none =
 own_none sizes (Write file at (first ∷ rest)) page old none = absurd (let l = ltb-false 0 (length (first ∷ rest)) none in omega (arith, l))
 
 -- the pages after one more call: those that it touches, and the others
-pub page_placed : (sizes : Sizes) (call : FileCall) (files : Files) (page : ℕ) → IsAllowed sizes call → file_of call < length files.contents → IsPage sizes call page
+pub page_placed : (plain : PlainLaws) (sizes : Sizes) (call : FileCall) (files : Files) (page : ℕ) → IsAllowed sizes call → file_of call < length files.contents → IsPage sizes call page
     → page_in sizes (files_after call files) page ≡ with_own sizes call page (page_in sizes files page)
-page_placed sizes (Read file at len) files page allowed there is = refl
-page_placed sizes (Sync file) files page allowed there is = refl
-page_placed sizes (Write file at bytes) files page allowed there is = elim (cases_lt 0 (length bytes)) [
-  | inl some ↦ write_page sizes files file at bytes some allowed there page is
+page_placed plain sizes (Read file at len) files page allowed there is = refl
+page_placed plain sizes (Sync file) files page allowed there is = refl
+page_placed plain sizes (Write file at bytes) files page allowed there is = elim (cases_lt 0 (length bytes)) [
+  | inl some ↦ write_page plain sizes files file at bytes some allowed there page is
   | inr none ↦ absurd (let z = pages_touched_none at (length bytes) sizes.page (let e : length bytes ≡ 0 = omega (arith, none) in e) in let l = is.0 in let h = is.1 in omega (arith, l, h, z))
 ]
 
-pub page_else : (sizes : Sizes) (call : FileCall) (files : Files) (page : ℕ) → IsAllowed sizes call → file_of call < length files.contents → (IsPage sizes call page → ⊥)
+pub page_else : (plain : PlainLaws) (sizes : Sizes) (call : FileCall) (files : Files) (page : ℕ) → IsAllowed sizes call → file_of call < length files.contents → (IsPage sizes call page → ⊥)
     → page_in sizes (files_after call files) page ≡ page_in sizes files page
-page_else sizes (Read file at len) files page allowed there other = refl
-page_else sizes (Sync file) files page allowed there other = refl
-page_else sizes (Write file at bytes) files page allowed there other = elim (cases_lt 0 (length bytes)) [
-  | inl some ↦ write_else sizes files file at bytes some allowed there page other
+page_else plain sizes (Read file at len) files page allowed there other = refl
+page_else plain sizes (Sync file) files page allowed there other = refl
+page_else plain sizes (Write file at bytes) files page allowed there other = elim (cases_lt 0 (length bytes)) [
+  | inl some ↦ write_else plain sizes files file at bytes some allowed there page other
   | inr none ↦ ap (λ b. page_from b (page % sizes.pages * sizes.page) sizes.page) (files_same (Write file at bytes) files (page / sizes.pages) there (inl (le-ltb 0 (length bytes) none)))
 ]
 

@@ -18,6 +18,7 @@ use Rattle.nv_core.specs.PagesAfter.{page_from, files_now, page_in, page_now}
 use Rattle.nv_core.specs.StorePages.{StorePages}
 use Rattle.nv_core.specs.CleanPages.{HasPledged, CleanPages, StoresSeen}
 use Rattle.nv_core.specs.Sound.{Sound}
+use Rattle.nv_core.proofs.PlainLaws.{PlainLaws}
 use Rattle.nv_core.proofs.Changes.{by_number, by_word, word_here}
 use Rattle.nv_core.proofs.Choices.{if_both, not_both, leaving_both, IsGivingBack, gives_back, step_idle}
 use Rattle.nv_core.proofs.WordLaws.{untouched}
@@ -118,11 +119,11 @@ placed_pages sizes values pass reply page Placing stands may write is = (is, wri
 placed_pages sizes values pass reply page (Reading next) stands may write is = not_both write (read_only pass.call stands.0)
 placed_pages sizes values pass reply page stage stands may write is = absurd may
 
-clean_here : (sizes : Sizes) (first : Values) (opening : Files) (by : ℕ) (core : Core) (found : ℕ) (deed : Deed) → length opening.contents ≡ sizes.files → Sound sizes first core → MayFind sizes by core deed found → CleanPages sizes opening core
+clean_here : (plain : PlainLaws) (sizes : Sizes) (first : Values) (opening : Files) (by : ℕ) (core : Core) (found : ℕ) (deed : Deed) → length opening.contents ≡ sizes.files → Sound sizes first core → MayFind sizes by core deed found → CleanPages sizes opening core
     → (page : ℕ) → core.words (DIRTY page) ≡ 0 → page_now sizes opening (after_step sizes by deed found core) page ≡ page_now sizes opening core page
-clean_here sizes first opening by core found (Places reply) count sound may was page none =
-    ap (λ f. page_in sizes f page) (files_placed opening by core reply) ∙ elim (cases_Bool (is_write (core.passes by).call)) [
-      | inl write ↦ page_else sizes (core.passes by).call (files_now opening core) page allowed there
+clean_here plain sizes first opening by core found (Places reply) count sound may was page none =
+    ap (λ f. page_in sizes f page) (files_placed plain opening by core reply) ∙ elim (cases_Bool (is_write (core.passes by).call)) [
+      | inl write ↦ page_else plain sizes (core.passes by).call (files_now opening core) page allowed there
           (λ is. let p = was.pledged by page (placed_pages sizes core.values (core.passes by) reply page (core.passes by).stage (sound.standing by).at may.may write is) in omega (arith, p, none))
       | inr other ↦ ap (λ b. page_from b (page % sizes.pages * sizes.page) sizes.page) (files_same (core.passes by).call (files_now opening core) (page / sizes.pages) there (inl other))
     ]
@@ -131,16 +132,16 @@ clean_here sizes first opening by core found (Places reply) count sound may was 
     allowed = (sound.standing by).allowed (step_idle sizes core.values (core.passes by) (Places reply) may.may)
 
     there : file_of (core.passes by).call < length (files_now opening core).contents
-    there = known_file sizes first opening by core (Places reply) sound count may.may
-clean_here sizes first opening by core found deed count sound may was page none = ap (λ h. page_in sizes (after h opening) page) (same_history by core deed tt)
+    there = known_file plain sizes first opening by core (Places reply) sound count may.may
+clean_here plain sizes first opening by core found deed count sound may was page none = ap (λ h. page_in sizes (after h opening) page) (same_history by core deed tt)
 
-pub clean_step : (sizes : Sizes) (first : Values) (opening : Files) (by : ℕ) (core : Core) (deed : Deed) (found : ℕ) → length opening.contents ≡ sizes.files → Sound sizes first core → MayFind sizes by core deed found → CleanPages sizes opening core
+pub clean_step : (plain : PlainLaws) (sizes : Sizes) (first : Values) (opening : Files) (by : ℕ) (core : Core) (deed : Deed) (found : ℕ) → length opening.contents ≡ sizes.files → Sound sizes first core → MayFind sizes by core deed found → CleanPages sizes opening core
     → CleanPages sizes opening (after_step sizes by deed found core)
-clean_step sizes first opening by core deed found count sound may was = record {
+clean_step plain sizes first opening by core deed found count sound may was = record {
   pledged = λ n page. by_number (λ n (p : Pass). HasPledged sizes p.call p.stage page → 1 ≤ (after_step sizes by deed found core).words (DIRTY page)) core.passes (changes by core.made deed) (changed sizes by core deed found)
       (pledged_here sizes opening by core found deed may was page) (λ n ne has. le_trans (was.pledged n page has) (dirty_up sizes by core found deed may page)) n;
   clean = λ page none. let up = dirty_up sizes by core found deed may page in let before : core.words (DIRTY page) ≡ 0 = omega (arith, up, none) in
-      clean_here sizes first opening by core found deed count sound may was page before ∙ was.clean page before;
+      clean_here plain sizes first opening by core found deed count sound may was page before ∙ was.clean page before;
 }
 
 -- what leaves words and history

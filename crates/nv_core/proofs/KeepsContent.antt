@@ -11,6 +11,7 @@ use Rattle.nv_core.specs.Passes.{Stage, Idle, Growing}
 use Rattle.nv_core.specs.Opening.{opening}
 use Rattle.nv_core.specs.Sound.{Sound}
 use Rattle.nv_core.specs.Content.{Content, HasFiles, EventsKeepContent, OpeningHasContent, RunsKeepContent}
+use Rattle.nv_core.proofs.PlainLaws.{PlainLaws}
 use Rattle.nv_core.proofs.Choices.{not_both}
 use Rattle.nv_core.proofs.Reach.{sound_begin, events_keep_sound, opening_is_sound}
 use Rattle.nv_core.proofs.KeepsStores.{stores_step, stores_work}
@@ -19,14 +20,14 @@ use Rattle.nv_core.proofs.KeepsValidBuffers.{valid_step, valid_begin, valid_work
 use Rattle.nv_core.proofs.KeepsCleanPages.{clean_step, clean_begin, clean_work, store_pages}
 use Rattle.nv_core.proofs.KeepsLegal.{legal_step}
 
-content_step : (sizes : Sizes) (first : Values) (files : Files) (by : ℕ) (core : Core) (deed : Deed) (found : ℕ) → HasFiles sizes first files → Sound sizes first core → Content sizes first files core → MayFind sizes by core deed found
+content_step : (plain : PlainLaws) (sizes : Sizes) (first : Values) (files : Files) (by : ℕ) (core : Core) (deed : Deed) (found : ℕ) → HasFiles sizes first files → Sound sizes first core → Content sizes first files core → MayFind sizes by core deed found
     → Content sizes first files (after_step sizes by deed found core)
-content_step sizes first files by core deed found has sound was may = record {
-  legal = legal_step sizes first files by core deed found sound was.lengths was.buffers may was.legal;
-  lengths = lengths_step sizes first files by core deed found has.count sound may was.lengths;
-  buffers = valid_step sizes first files by core deed found has.count sound may was.buffers;
+content_step plain sizes first files by core deed found has sound was may = record {
+  legal = legal_step plain sizes first files by core deed found sound was.lengths was.buffers may was.legal;
+  lengths = lengths_step plain sizes first files by core deed found has.count sound may was.lengths;
+  buffers = valid_step plain sizes first files by core deed found has.count sound may was.buffers;
   stores = stores_step sizes first (core.passes by) deed core.values was.stores;
-  clean = clean_step sizes first files by core deed found has.count sound may was.clean;
+  clean = clean_step plain sizes first files by core deed found has.count sound may was.clean;
 }
 
 content_begin : (sizes : Sizes) (first : Values) (files : Files) (by : ℕ) (core : Core) (call : FileCall) → Sound sizes first core → Content sizes first files core → MayBegin sizes call (core.passes by)
@@ -49,15 +50,15 @@ content_work sizes first files by core work has sound was may = record {
   clean = clean_work sizes files by core work may was.clean;
 }
 
-content_act : (sizes : Sizes) (first : Values) (files : Files) (by : ℕ) (core : Core) (act : Act) → HasFiles sizes first files → Sound sizes first core → Content sizes first files core → by ≤ core.made → MayAct sizes by core act
+content_act : (plain : PlainLaws) (sizes : Sizes) (first : Values) (files : Files) (by : ℕ) (core : Core) (act : Act) → HasFiles sizes first files → Sound sizes first core → Content sizes first files core → by ≤ core.made → MayAct sizes by core act
     → Content sizes first files (after_act sizes by act core)
-content_act sizes first files by core (Begins call deed found) has sound was made may =
-    content_step sizes first files by (after_begin sizes by call core) deed found has (sound_begin sizes first by core call sound made may.0) (content_begin sizes first files by core call sound was may.0) may.1
-content_act sizes first files by core (Does deed found) has sound was made may = content_step sizes first files by core deed found has sound was may
-content_act sizes first files by core (Calls work) has sound was made may = content_work sizes first files by core work has sound was may
+content_act plain sizes first files by core (Begins call deed found) has sound was made may =
+    content_step plain sizes first files by (after_begin sizes by call core) deed found has (sound_begin sizes first by core call sound made may.0) (content_begin sizes first files by core call sound was may.0) may.1
+content_act plain sizes first files by core (Does deed found) has sound was made may = content_step plain sizes first files by core deed found has sound was may
+content_act plain sizes first files by core (Calls work) has sound was made may = content_work sizes first files by core work has sound was may
 
-pub events_keep_content : EventsKeepContent
-events_keep_content sizes first files core event has sound was may = content_act sizes first files event.by core event.act has sound was may.made may.act
+pub events_keep_content : PlainLaws → EventsKeepContent
+events_keep_content plain sizes first files core event has sound was may = content_act plain sizes first files event.by core event.act has sound was may.made may.act
 
 -- ---- at opening, and through runs
 
@@ -85,12 +86,12 @@ opening_has_content mount files is = record {
     grows_not : Idle ≡ Growing → ⊥
     grows_not e = not_both {b = is_idle Idle} refl (ap is_idle e)
 
-run_keeps : (sizes : Sizes) (first : Values) (files : Files) (events : List Event) (core : Core) → HasFiles sizes first files → Sound sizes first core → Content sizes first files core → IsRun sizes core events
+run_keeps : (plain : PlainLaws) (sizes : Sizes) (first : Values) (files : Files) (events : List Event) (core : Core) → HasFiles sizes first files → Sound sizes first core → Content sizes first files core → IsRun sizes core events
     → Content sizes first files (after sizes core events)
-run_keeps sizes first files [] core has sound was run = was
-run_keeps sizes first files (event ∷ later) core has sound was run =
-    run_keeps sizes first files later (after_event sizes event core) has (events_keep_sound sizes first core event sound run.0) (events_keep_content sizes first files core event has sound was run.0) run.1
+run_keeps plain sizes first files [] core has sound was run = was
+run_keeps plain sizes first files (event ∷ later) core has sound was run =
+    run_keeps plain sizes first files later (after_event sizes event core) has (events_keep_sound sizes first core event sound run.0) (events_keep_content plain sizes first files core event has sound was run.0) run.1
 
-pub runs_keep_content : RunsKeepContent
-runs_keep_content mount files events is opens run =
-    run_keeps mount.sizes mount.values files events (opening mount) opens.stores (opening_is_sound mount is) (opening_has_content mount files opens) run
+pub runs_keep_content : PlainLaws → RunsKeepContent
+runs_keep_content plain mount files events is opens run =
+    run_keeps plain mount.sizes mount.values files events (opening mount) opens.stores (opening_is_sound mount is) (opening_has_content mount files opens) run

@@ -11,7 +11,6 @@ use Rattle.nv_plain.specs.declared.call.FileCall.{FileCall}
 use Rattle.nv_plain.specs.declared.call.FileCall.TheVariants.{Read, Write, Sync}
 use Rattle.nv_plain.specs.declared.call.Reply.{Reply}
 use Rattle.nv_plain.specs.declared.call.Reply.TheVariants.{Bytes}
-use Rattle.nv_plain.proofs.HistoryLemmas.{IsLegal-push}
 use Rattle.nv_core.specs.Words.{Sizes, SIZE}
 use Rattle.nv_core.specs.Passes.{Stage, Reading, Placing, Growing, IsAllowed, file_of, at_of, len_of, is_read, page_count, first_page, end_read, covered, page_number, times}
 use Rattle.nv_core.specs.Deeds.{Deed, Places}
@@ -25,6 +24,7 @@ use Rattle.nv_core.specs.Legal.{Legal}
 use Rattle.nv_core.specs.Lengths.{length_now, IsGrowing, Lengths}
 use Rattle.nv_core.specs.ValidBuffers.{GatheredAt, Gathered, ValidBuffers}
 use Rattle.nv_core.specs.Sound.{Sound}
+use Rattle.nv_core.proofs.PlainLaws.{PlainLaws}
 use Rattle.nv_core.proofs.Choices.{step_idle}
 use Rattle.nv_core.proofs.PageLaws.{read_within}
 use Rattle.nv_core.proofs.PlainPages.{pages_touched_none, read_pages}
@@ -163,10 +163,10 @@ reply_is sizes first opening by core reply sound lengths buffers may = go (core.
 
 -- ---- all of it
 
-pub legal_step : (sizes : Sizes) (first : Values) (opening : Files) (by : ℕ) (core : Core) (deed : Deed) (found : ℕ) → Sound sizes first core → Lengths sizes opening core → ValidBuffers sizes opening core
+pub legal_step : (plain : PlainLaws) (sizes : Sizes) (first : Values) (opening : Files) (by : ℕ) (core : Core) (deed : Deed) (found : ℕ) → Sound sizes first core → Lengths sizes opening core → ValidBuffers sizes opening core
     → MayFind sizes by core deed found → Legal opening core → Legal opening (after_step sizes by deed found core)
-legal_step sizes first opening by core (Places reply) found sound lengths buffers may was = record {
+legal_step plain sizes first opening by core (Places reply) found sound lengths buffers may was = record {
   legal =
-      IsLegal-push core.history record { caller = by; call = (core.passes by).call; reply = reply } opening was.legal (reply_is sizes first opening by core reply sound lengths buffers may.may);
+      (plain.legally core.history record { caller = by; call = (core.passes by).call; reply = reply } opening).1 (was.legal, reply_is sizes first opening by core reply sound lengths buffers may.may);
 }
-legal_step sizes first opening by core deed found sound lengths buffers may was = record { legal = subst (λ h. IsLegal h opening) (sym (same_history by core deed tt)) was.legal }
+legal_step plain sizes first opening by core deed found sound lengths buffers may was = record { legal = subst (λ h. IsLegal h opening) (sym (same_history by core deed tt)) was.legal }

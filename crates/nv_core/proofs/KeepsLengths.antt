@@ -7,7 +7,6 @@ use Rattle.nv_plain.specs.Calls.{files_after}
 use Rattle.nv_plain.specs.declared.call.FileCall.{FileCall}
 use Rattle.nv_plain.specs.declared.call.FileCall.TheVariants.{Read, Write, Sync}
 use Rattle.nv_plain.specs.declared.call.Reply.{Reply}
-use Rattle.nv_plain.proofs.HistoryLemmas.{after-append, length-after}
 use Rattle.nv_core.specs.Words.{Sizes, Word, STOP, ORDER, HEAD, TAIL, SIZE, LENGTH, STORE, ENTRY, PAGE, DIRTY, index}
 use Rattle.nv_core.specs.Values.{Ending, Made, Failed}
 use Rattle.nv_core.specs.Passes.{Stage, Idle, Locking, Measuring, Sizing, Checking, Ordering, Reading, Fetching, Copying, Returning, Waiting, Heading, Tailing, Drawing, Seizing, Committing, Pledging, Readying, Placing, Growing, Releasing, Giving, Leaving, ReadFailing, WriteFailing, Breaking, Pass, file_of, at_of, len_of, is_write, is_read, page_count, first_page, end_page, without, times}
@@ -21,6 +20,7 @@ use Rattle.nv_core.specs.Loaded.{HasMeasured}
 use Rattle.nv_core.specs.PagesAfter.{files_now}
 use Rattle.nv_core.specs.Lengths.{length_now, IsGrowing, Extends, Lengths}
 use Rattle.nv_core.specs.Sound.{Sound}
+use Rattle.nv_core.proofs.PlainLaws.{PlainLaws}
 use Rattle.nv_core.proofs.Changes.{by_number, number_here, number_else, word_here, word_else}
 use Rattle.nv_core.proofs.Choices.{if_both, when_true, when_false, leaving_both, IsGivingBack, gives_back, step_idle}
 use Rattle.nv_core.proofs.WordLaws.{untouched, touches}
@@ -138,16 +138,16 @@ place_measured sizes values pass reply (Reading page) may = tt
 place_measured sizes values pass reply stage may = absurd may
 
 -- the call of a pass that may step is one of a file that is there
-pub known_file : (sizes : Sizes) (first : Values) (opening : Files) (by : ℕ) (core : Core) (deed : Deed) → Sound sizes first core → length opening.contents ≡ sizes.files
+pub known_file : (plain : PlainLaws) (sizes : Sizes) (first : Values) (opening : Files) (by : ℕ) (core : Core) (deed : Deed) → Sound sizes first core → length opening.contents ≡ sizes.files
     → MayStep sizes core.values (core.passes by) deed → file_of (core.passes by).call < length (files_now opening core).contents
-known_file sizes first opening by core deed sound count may =
+known_file plain sizes first opening by core deed sound count may =
     let known = ((sound.standing by).allowed (step_idle sizes core.values (core.passes by) deed may)).known in
-    let all = length-after core.history opening in
+    let all = plain.count core.history opening in
     omega (arith, known, all, count)
 
 -- the files after it
-pub files_placed : (opening : Files) (by : ℕ) (core : Core) (reply : Reply) → after (core.history ++ added by (core.passes by) (Places reply)) opening ≡ files_after (core.passes by).call (files_now opening core)
-files_placed opening by core reply = after-append core.history (added by (core.passes by) (Places reply)) opening
+pub files_placed : (plain : PlainLaws) (opening : Files) (by : ℕ) (core : Core) (reply : Reply) → after (core.history ++ added by (core.passes by) (Places reply)) opening ≡ files_after (core.passes by).call (files_now opening core)
+files_placed plain opening by core reply = plain.goes_on core.history record { caller = by; call = (core.passes by).call; reply = reply } opening
 
 -- two passes that grow one file are one
 grown_by_one : (sizes : Sizes) (first : Values) (opening : Files) (core : Core) → Sound sizes first core → (file one other : ℕ) → times (SIZE file) (core.passes one).hands ≡ 1
@@ -164,20 +164,20 @@ write_some (Sync file) write = absurd (true≢false (sym write))
 abbrev ExtendsBy : Files → Core → (file : ℕ) → Pass → Type 0
 ExtendsBy opening core file pass = (times (SIZE file) pass.hands ≡ 1) × (length_now opening core file ≡ at_of pass.call + len_of pass.call)
 
-module _ (sizes : Sizes) (first : Values) (opening : Files) (by : ℕ) (core : Core) (reply : Reply) (found : ℕ) (count : length opening.contents ≡ sizes.files)
+module _ (plain : PlainLaws) (sizes : Sizes) (first : Values) (opening : Files) (by : ℕ) (core : Core) (reply : Reply) (found : ℕ) (count : length opening.contents ≡ sizes.files)
     (sound : Sound sizes first core) (may : MayFind sizes by core (Places reply) found) (was : Lengths sizes opening core) where
   there : file_of (core.passes by).call < length (files_now opening core).contents
-  there = known_file sizes first opening by core (Places reply) sound count may.may
+  there = known_file plain sizes first opening by core (Places reply) sound count may.may
 
   now_same : (file : ℕ) → (is_write (core.passes by).call ≡ false) ⊎ (file ≢ file_of (core.passes by).call) → length_now opening (after_step sizes by (Places reply) found core) file ≡ length_now opening core file
-  now_same file other = ap (λ f. length (contents_of f file)) (files_placed opening by core reply) ∙ ap length (files_same (core.passes by).call (files_now opening core) file there other)
+  now_same file other = ap (λ f. length (contents_of f file)) (files_placed plain opening by core reply) ∙ ap length (files_same (core.passes by).call (files_now opening core) file there other)
 
   now_more : (file : ℕ) → length_now opening core file ≤ length_now opening (after_step sizes by (Places reply) found core) file
-  now_more file = let e = ap (λ f. length (contents_of f file)) (files_placed opening by core reply) in let g = files_grow (core.passes by).call (files_now opening core) file there in omega (arith, e, g)
+  now_more file = let e = ap (λ f. length (contents_of f file)) (files_placed plain opening by core reply) in let g = files_grow plain (core.passes by).call (files_now opening core) file there in omega (arith, e, g)
 
   now_written : is_write (core.passes by).call ≡ true → length_now opening (after_step sizes by (Places reply) found core) (file_of (core.passes by).call)
       ≡ max (length_now opening core (file_of (core.passes by).call)) (at_of (core.passes by).call + len_of (core.passes by).call)
-  now_written write = ap (λ f. length (contents_of f (file_of (core.passes by).call))) (files_placed opening by core reply) ∙ files_written (core.passes by).call (files_now opening core) there write
+  now_written write = ap (λ f. length (contents_of f (file_of (core.passes by).call))) (files_placed plain opening by core reply) ∙ files_written plain (core.passes by).call (files_now opening core) there write
 
   measured : HasMeasured (core.passes by).stage
   measured = place_measured sizes core.values (core.passes by) reply (core.passes by).stage may.may
@@ -366,11 +366,11 @@ module _ (sizes : Sizes) (first : Values) (opening : Files) (by : ℕ) (core : C
       now number file = by_number (λ n (p : Pass). IsGrowing p file → ExtendsBy opening core file p) core.passes (changes by core.made deed) (changed sizes by core deed found)
           (was_growing sizes first opening by core found deed un sound may was file) (λ n ne is. ((was.extends n file is).size, (was.extends n file is).ends)) number
 
-pub lengths_step : (sizes : Sizes) (first : Values) (opening : Files) (by : ℕ) (core : Core) (deed : Deed) (found : ℕ) → length opening.contents ≡ sizes.files
+pub lengths_step : (plain : PlainLaws) (sizes : Sizes) (first : Values) (opening : Files) (by : ℕ) (core : Core) (deed : Deed) (found : ℕ) → length opening.contents ≡ sizes.files
     → Sound sizes first core → MayFind sizes by core deed found → Lengths sizes opening core → Lengths sizes opening (after_step sizes by deed found core)
-lengths_step sizes first opening by core (Places reply) found count sound may was = lengths_place sizes first opening by core reply found count sound may was
-lengths_step sizes first opening by core Grows found count sound may was = lengths_grow sizes first opening by core found sound may was
-lengths_step sizes first opening by core deed found count sound may was = lengths_else sizes first opening by core deed found tt tt sound may was
+lengths_step plain sizes first opening by core (Places reply) found count sound may was = lengths_place plain sizes first opening by core reply found count sound may was
+lengths_step plain sizes first opening by core Grows found count sound may was = lengths_grow sizes first opening by core found sound may was
+lengths_step plain sizes first opening by core deed found count sound may was = lengths_else sizes first opening by core deed found tt tt sound may was
 
 -- what leaves words and history, of a pass that grows no file before or after
 lengths_one : (sizes : Sizes) (opening : Files) (core : Core) (by : ℕ) (pass : Pass) (values : Values) → ((core.passes by).stage ≡ Growing → ⊥) → (pass.stage ≡ Growing → ⊥) → Lengths sizes opening core

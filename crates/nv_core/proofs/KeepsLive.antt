@@ -7,7 +7,6 @@ use Rattle.std.proofs.lemmas.List.{append-nil, length-set, set-get_or}
 use Rattle.nv_plain.specs.Files.{Files}
 use Rattle.nv_plain.specs.Calls.{files_after}
 use Rattle.nv_plain.specs.Histories.{Answered}
-use Rattle.nv_plain.specs.Pieces.{WriteIsItsPieces}
 use Rattle.nv_plain.specs.declared.call.FileCall.{FileCall}
 use Rattle.nv_plain.specs.declared.call.FileCall.TheVariants.{Read, Write, Sync}
 use Rattle.nv_plain.specs.declared.call.Reply.{Reply}
@@ -28,6 +27,7 @@ use Rattle.nv_core.specs.InFlight.{placed_stepped, IsFlying, IsWaiting, InFlight
 use Rattle.nv_core.specs.Apart.{AreApart, IsApartFrom, after_calls}
 use Rattle.nv_core.specs.LivePieces.{rising, call_if, piece_write, piece_call, is_ready, is_live, live_pieces, is_to_place, to_place, calls_of, store_bytes, store_files, LivePieces}
 use Rattle.nv_core.specs.Sound.{Sound}
+use Rattle.nv_core.proofs.PlainLaws.{PlainLaws}
 use Rattle.nv_core.proofs.Changes.{by_word, number_here, number_else, word_here, word_else, differ}
 use Rattle.nv_core.proofs.Choices.{when_true, when_false, busy}
 use Rattle.nv_core.proofs.WordLaws.{untouched, touches}
@@ -160,11 +160,11 @@ stores_length : (sizes : Sizes) (values : Values) → length (store_files sizes 
 stores_length sizes values = many_files (λ file. store_bytes (values (STORE file))) 0 sizes.files
 
 -- a call between two lists, for whom it is apart from those behind it
-call_last : (history before behind : List FileCall) (call : FileCall) (files : Files) → IsApartFrom call behind
+call_last : (plain : PlainLaws) (history before behind : List FileCall) (call : FileCall) (files : Files) → IsApartFrom call behind
     → after_calls (history ++ (before ++ (call ∷ behind))) files ≡ files_after call (after_calls (history ++ (before ++ behind)) files)
-call_last history before behind call files apart =
+call_last plain history before behind call files apart =
     after_both history (before ++ (call ∷ behind)) files ∙ after_both before (call ∷ behind) (after_calls history files)
-    ∙ come_last (call ∷ []) behind (after_calls before (after_calls history files)) (one_apart call behind apart)
+    ∙ come_last plain (call ∷ []) behind (after_calls before (after_calls history files)) (one_apart call behind apart)
     ∙ after_both behind (call ∷ []) (after_calls before (after_calls history files))
     ∙ ap (files_after call) (sym (after_both history (before ++ behind) files ∙ after_both before behind (after_calls history files)))
   where
@@ -181,7 +181,7 @@ and_false : (b : Bool) → (b && false) ≡ false
 and_false true = refl
 and_false false = refl
 
-module _ (law : WriteIsItsPieces) (sizes : Sizes) (first : Values) (log : Log) (placed : ℕ → Bool) (opened : Files) (by : ℕ) (core : Core) (found next : ℕ) (page_is : 1 ≤ sizes.page)
+module _ (plain : PlainLaws) (sizes : Sizes) (first : Values) (log : Log) (placed : ℕ → Bool) (opened : Files) (by : ℕ) (core : Core) (found next : ℕ) (page_is : 1 ≤ sizes.page)
     (sound : Sound sizes first core) (groups : Groups sizes core log) (pieces : Pieces sizes log core) (flight : InFlight sizes log placed core) (live : LivePieces sizes log placed opened core) (may : MayFind sizes by core (Readies next) found) where
   abbrev now : Core
   now = after_step sizes by (Readies next) found core
@@ -343,9 +343,9 @@ module _ (law : WriteIsItsPieces) (sizes : Sizes) (first : Values) (log : Log) (
     live_files =
         ap (λ c. after_calls c (store_files sizes core.values)) live_now
         ∙ after_both low_live (group_live ++ high_live) (store_files sizes core.values)
-        ∙ come_last group_live high_live (after_calls low_live (store_files sizes core.values)) live_apart
+        ∙ come_last plain group_live high_live (after_calls low_live (store_files sizes core.values)) live_apart
         ∙ after_both high_live group_live (after_calls low_live (store_files sizes core.values))
-        ∙ pieces_after law sizes (core.passes by).call next (after_calls high_live (after_calls low_live (store_files sizes core.values))) page_is at_next.0.write
+        ∙ pieces_after plain.pieces sizes (core.passes by).call next (after_calls high_live (after_calls low_live (store_files sizes core.values))) page_is at_next.0.write
         (subst (λ n. file_of (core.passes by).call < n) (sym (after_length high_live (after_calls low_live (store_files sizes core.values)) ∙ after_length low_live (store_files sizes core.values) ∙ stores_length sizes core.values))
         ((sound.standing by).allowed (busy _ _ may.may refl)).known)
         ∙ ap (files_after (core.passes by).call) (sym (ap (λ c. after_calls c (store_files sizes core.values)) live_was ∙ after_both low_live high_live (store_files sizes core.values)))
@@ -412,7 +412,7 @@ module _ (law : WriteIsItsPieces) (sizes : Sizes) (first : Values) (log : Log) (
     leader_live = record {
       files =
           ap₂ (λ h p. after_calls (calls_of h ++ p) opened) (append-nil core.history) place_now
-          ∙ call_last (calls_of core.history) low_place high_place (core.passes by).call opened place_apart
+          ∙ call_last plain (calls_of core.history) low_place high_place (core.passes by).call opened place_apart
           ∙ ap (files_after (core.passes by).call) (ap (λ p. after_calls (calls_of core.history ++ p) opened) (sym place_was) ∙ live.files)
           ∙ sym live_files;
     }
@@ -430,7 +430,7 @@ none_written (Write file at []) files none = ap (λ c. record { contents = c }) 
 none_written (Write file at (first ∷ rest)) files none = absurd (true≢false (sym (lt-ltb 0 (length (first ∷ rest)) (omega arith)) ∙ none))
 none_written (Sync file) files none = refl
 
-module _ (sizes : Sizes) (first : Values) (log : Log) (placed : ℕ → Bool) (opened : Files) (by : ℕ) (core : Core) (found : ℕ) (reply : Reply) (page_is : 1 ≤ sizes.page)
+module _ (plain : PlainLaws) (sizes : Sizes) (first : Values) (log : Log) (placed : ℕ → Bool) (opened : Files) (by : ℕ) (core : Core) (found : ℕ) (reply : Reply) (page_is : 1 ≤ sizes.page)
     (sound : Sound sizes first core) (groups : Groups sizes core log) (flight : InFlight sizes log placed core) (live : LivePieces sizes log placed opened core) (may : MayFind sizes by core (Places reply) found) where
   abbrev placed_core : Core
   placed_core = after_step sizes by (Places reply) found core
@@ -570,7 +570,7 @@ module _ (sizes : Sizes) (first : Values) (log : Log) (placed : ℕ → Bool) (o
           ap₂ (λ h p. after_calls (h ++ p) opened) place_history then_to_place
           ∙ after_both (calls_of core.history ++ (core.passes by).call ∷ []) (before_it ++ behind_it) opened
           ∙ ap (after_calls (before_it ++ behind_it)) (after_both (calls_of core.history) ((core.passes by).call ∷ []) opened)
-          ∙ sym (comes_first before_it (core.passes by).call behind_it (after_calls (calls_of core.history) opened) before_apart)
+          ∙ sym (comes_first plain before_it (core.passes by).call behind_it (after_calls (calls_of core.history) opened) before_apart)
           ∙ sym (after_both (calls_of core.history) (before_it ++ ((core.passes by).call ∷ behind_it)) opened)
           ∙ ap (λ p. after_calls (calls_of core.history ++ p) opened) (sym was_to_place)
           ∙ live.files
@@ -583,15 +583,15 @@ place_stage sizes values pass reply Placing at may write = refl
 place_stage sizes values pass reply (Reading page) at may write = absurd (no_reading pass.call write at.0)
 place_stage sizes values pass reply stage at may write = absurd may
 
-place_step : (sizes : Sizes) (first : Values) (log : Log) (placed : ℕ → Bool) (opened : Files) (by : ℕ) (core : Core) (found : ℕ) (reply : Reply) → 1 ≤ sizes.page → Sound sizes first core → Groups sizes core log → InFlight sizes log placed core
+place_step : (plain : PlainLaws) (sizes : Sizes) (first : Values) (log : Log) (placed : ℕ → Bool) (opened : Files) (by : ℕ) (core : Core) (found : ℕ) (reply : Reply) → 1 ≤ sizes.page → Sound sizes first core → Groups sizes core log → InFlight sizes log placed core
     → LivePieces sizes log placed opened core → MayFind sizes by core (Places reply) found → LivePieces sizes log (placed_stepped (core.passes by) (Places reply) found placed) opened (after_step sizes by (Places reply) found core)
-place_step sizes first log placed opened by core found reply page_is sound groups flight live may = go (is_write (core.passes by).call) refl
+place_step plain sizes first log placed opened by core found reply page_is sound groups flight live may = go (is_write (core.passes by).call) refl
   where
     go : (b : Bool) → is_write (core.passes by).call ≡ b → LivePieces sizes log (placed_stepped (core.passes by) (Places reply) found placed) opened (after_step sizes by (Places reply) found core)
     go true e = subst (λ p. LivePieces sizes log p opened (after_step sizes by (Places reply) found core)) (sym (when_true (is_write (core.passes by).call) (with_number placed (core.passes by).first true) placed e))
-        (write_place sizes first log placed opened by core found reply page_is sound groups flight live may e (place_stage sizes core.values (core.passes by) reply (core.passes by).stage (sound.standing by).at may.may e))
+        (write_place plain sizes first log placed opened by core found reply page_is sound groups flight live may e (place_stage sizes core.values (core.passes by) reply (core.passes by).stage (sound.standing by).at may.may e))
     go false e = subst (λ p. LivePieces sizes log p opened (after_step sizes by (Places reply) found core)) (sym (when_false (is_write (core.passes by).call) (with_number placed (core.passes by).first true) placed e))
-        (plain_place sizes first log placed opened by core found reply page_is sound groups flight live may e)
+        (plain_place plain sizes first log placed opened by core found reply page_is sound groups flight live may e)
 
 -- ---- numbers are drawn
 
@@ -682,24 +682,24 @@ draw_step sizes first log placed opened by core found sound groups live may = go
 
 -- ---- all steps
 
-pub live_step : (sizes : Sizes) (first : Values) (log : Log) (placed : ℕ → Bool) (opened : Files) (by : ℕ) (core : Core) (deed : Deed) (found : ℕ) → WriteIsItsPieces → 1 ≤ sizes.page → Sound sizes first core → Groups sizes core log → Pieces sizes log core
+pub live_step : (sizes : Sizes) (first : Values) (log : Log) (placed : ℕ → Bool) (opened : Files) (by : ℕ) (core : Core) (deed : Deed) (found : ℕ) → PlainLaws → 1 ≤ sizes.page → Sound sizes first core → Groups sizes core log → Pieces sizes log core
     → InFlight sizes log placed core → LivePieces sizes log placed opened core → MayFind sizes by core deed found
     → LivePieces sizes (log_stepped sizes (core.passes by) deed found log) (placed_stepped (core.passes by) deed found placed) opened (after_step sizes by deed found core)
-live_step sizes first log placed opened by core (Places reply) found law page_is sound groups pieces flight live may = place_step sizes first log placed opened by core found reply page_is sound groups flight live may
-live_step sizes first log placed opened by core Draws found law page_is sound groups pieces flight live may = draw_step sizes first log placed opened by core found sound groups live may
-live_step sizes first log placed opened by core (Readies next) found law page_is sound groups pieces flight live may = elim (cases_eq next (core.passes by).first) [
-  | inl leader ↦ leader_live law sizes first log placed opened by core found next page_is sound groups pieces flight live may leader
-  | inr ne ↦ follower_live law sizes first log placed opened by core found next page_is sound groups pieces flight live may ne
+live_step sizes first log placed opened by core (Places reply) found plain page_is sound groups pieces flight live may = place_step plain sizes first log placed opened by core found reply page_is sound groups flight live may
+live_step sizes first log placed opened by core Draws found plain page_is sound groups pieces flight live may = draw_step sizes first log placed opened by core found sound groups live may
+live_step sizes first log placed opened by core (Readies next) found plain page_is sound groups pieces flight live may = elim (cases_eq next (core.passes by).first) [
+  | inl leader ↦ leader_live plain sizes first log placed opened by core found next page_is sound groups pieces flight live may leader
+  | inr ne ↦ follower_live plain sizes first log placed opened by core found next page_is sound groups pieces flight live may ne
 ]
-live_step sizes first log placed opened by core (Seizes next) found law page_is sound groups pieces flight live may =
+live_step sizes first log placed opened by core (Seizes next) found plain page_is sound groups pieces flight live may =
     let at : HasDrawn sizes (core.passes by).call (core.passes by).entries × IsAmong (core.passes by).first (core.passes by).entries next = subst (StandsAt sizes (core.passes by)) may.may (sound.standing by).at in
     let old : entry_at sizes core next ≡ free = sound.window.unseized_is by next (subst (λ s. IsUnseized s (core.passes by).first (core.passes by).entries next) (sym may.may) (omega arith, at.1.1)) in
     entry_live sizes first log placed opened by core (Seizes next) found (slot_of sizes next) filling sound live refl (λ e. omega (arith, e)) (λ e. let z : kind_of free ≡ ready = ap kind_of (sym old) ∙ e in omega (arith, z)) refl
-live_step sizes first log placed opened by core (Breaks next) found law page_is sound groups pieces flight live may =
+live_step sizes first log placed opened by core (Breaks next) found plain page_is sound groups pieces flight live may =
     let at : HasDrawn sizes (core.passes by).call (core.passes by).entries × IsAmong (core.passes by).first (core.passes by).entries next = subst (StandsAt sizes (core.passes by)) may.may (sound.standing by).at in
     let old : entry_at sizes core next ≡ filling = sound.window.filling_is by next (subst (λ s. IsFilling s (core.passes by).first (core.passes by).entries next) (sym may.may) (omega arith, at.1.1)) in
     entry_live sizes first log placed opened by core (Breaks next) found (slot_of sizes next) broken sound live refl (λ e. omega (arith, e)) (λ e. let z : kind_of filling ≡ ready = ap kind_of (sym old) ∙ e in omega (arith, z)) refl
-live_step sizes first log placed opened by core deed found law page_is sound groups pieces flight live may = plain_live sizes first log placed opened by core deed found sound live may refl refl (λ slot. refl) refl
+live_step sizes first log placed opened by core deed found plain page_is sound groups pieces flight live may = plain_live sizes first log placed opened by core deed found sound live may refl refl (λ slot. refl) refl
 
 -- ---- a call that begins, and a device call
 

@@ -1,7 +1,6 @@
 -- Each event keeps the content of the log, and so does every run.
 use Rattle.std.proofs.Common.{ℕ, ◌≤◌, Bool, List, [], ◌∷◌, subst, arith}
 use Rattle.nv_plain.specs.Files.{Files}
-use Rattle.nv_plain.specs.Pieces.{WriteIsItsPieces}
 use Rattle.nv_plain.specs.declared.call.FileCall.{FileCall}
 use Rattle.nv_pmem.specs.Limits.{IsPageSize}
 use Rattle.nv_pmem.specs.Laws.{BlankIsQuiet, StepsKeepLines, LoadsAreAnImage, QuietHasOneImage}
@@ -17,6 +16,7 @@ use Rattle.nv_core.specs.Groups.{Log, log_stepped, log_worked, log_acted, log_af
 use Rattle.nv_core.specs.InFlight.{placed_stepped, placed_acted, placed_after}
 use Rattle.nv_core.specs.LogContent.{LogContent, EventsKeepTheLog, log_after_run, placed_after_run, RunsKeepTheLog, GroupsAreInImages, NoOldWordCounts}
 use Rattle.nv_core.specs.Sound.{Sound}
+use Rattle.nv_core.proofs.PlainLaws.{PlainLaws}
 use Rattle.nv_core.proofs.Changes.{number_here}
 use Rattle.nv_core.proofs.Reach.{sound_begin, events_keep_sound, opening_is_sound}
 use Rattle.nv_core.proofs.OpeningLogContent.{opening_has_the_log}
@@ -28,7 +28,7 @@ use Rattle.nv_core.proofs.KeepsPieces.{pieces_step, pieces_begin, pieces_work}
 use Rattle.nv_core.proofs.KeepsInFlight.{flight_step, flight_begin, flight_work}
 use Rattle.nv_core.proofs.KeepsLive.{live_step, live_begin, live_work}
 
-module _ (blank : BlankIsQuiet) (lines : StepsKeepLines) (law : WriteIsItsPieces) (sizes : Sizes) (page_is : IsPageSize sizes.page) (first : Values) (opened : Files) (tail : ℕ) (log : Log) (placed : ℕ → Bool) (by : ℕ) (core : Core) where
+module _ (blank : BlankIsQuiet) (lines : StepsKeepLines) (plain : PlainLaws) (sizes : Sizes) (page_is : IsPageSize sizes.page) (first : Values) (opened : Files) (tail : ℕ) (log : Log) (placed : ℕ → Bool) (by : ℕ) (core : Core) where
   content_step : (deed : Deed) (found : ℕ) → Sound sizes first core → LogContent sizes first opened tail log placed core → MayFind sizes by core deed found
       → LogContent sizes first opened tail (log_stepped sizes (core.passes by) deed found log) (placed_stepped (core.passes by) deed found placed) (after_step sizes by deed found core)
   content_step deed found sound content may = record {
@@ -37,7 +37,7 @@ module _ (blank : BlankIsQuiet) (lines : StepsKeepLines) (law : WriteIsItsPieces
     header = header_step sizes first tail (core.passes by) deed core.values content.header;
     pieces = pieces_step sizes first log by core deed found sound content.groups content.pieces may;
     flight = flight_step sizes first log placed by core deed found sound content.groups content.flight may;
-    live = live_step sizes first log placed opened by core deed found law (let least = page_is.least in omega (arith, least)) sound content.groups content.pieces content.flight content.live may;
+    live = live_step sizes first log placed opened by core deed found plain (let least = page_is.least in omega (arith, least)) sound content.groups content.pieces content.flight content.live may;
   }
 
   content_begin : (call : FileCall) → Sound sizes first core → LogContent sizes first opened tail log placed core → MayBegin sizes call (core.passes by) → LogContent sizes first opened tail log placed (after_begin sizes by call core)
@@ -61,16 +61,16 @@ module _ (blank : BlankIsQuiet) (lines : StepsKeepLines) (law : WriteIsItsPieces
     live = live_work sizes first log placed opened by core work sound content.live;
   }
 
-module _ (blank : BlankIsQuiet) (lines : StepsKeepLines) (law : WriteIsItsPieces) where
+module _ (blank : BlankIsQuiet) (lines : StepsKeepLines) (plain : PlainLaws) where
   content_act : (sizes : Sizes) → IsPageSize sizes.page → (first : Values) (opened : Files) (tail : ℕ) (log : Log) (placed : ℕ → Bool) (by : ℕ) (core : Core) (act : Act)
       → Sound sizes first core → by ≤ core.made → LogContent sizes first opened tail log placed core → MayAct sizes by core act
       → LogContent sizes first opened tail (log_acted sizes (core.passes by) act log) (placed_acted sizes (core.passes by) act placed) (after_act sizes by act core)
-  content_act sizes page_is first opened tail log placed by core (Does deed found) sound made content may = content_step blank lines law sizes page_is first opened tail log placed by core deed found sound content may
-  content_act sizes page_is first opened tail log placed by core (Calls work) sound made content may = content_work blank lines law sizes page_is first opened tail log placed by core work sound content may
+  content_act sizes page_is first opened tail log placed by core (Does deed found) sound made content may = content_step blank lines plain sizes page_is first opened tail log placed by core deed found sound content may
+  content_act sizes page_is first opened tail log placed by core (Calls work) sound made content may = content_work blank lines plain sizes page_is first opened tail log placed by core work sound content may
   content_act sizes page_is first opened tail log placed by core (Begins call deed found) sound made content may =
       subst (λ p. LogContent sizes first opened tail (log_stepped sizes p deed found log) (placed_stepped p deed found placed) (after_step sizes by deed found (after_begin sizes by call core))) (number_here core.passes by (begun sizes call (core.passes by)))
-      (content_step blank lines law sizes page_is first opened tail log placed by (after_begin sizes by call core) deed found (sound_begin sizes first by core call sound made may.0)
-      (content_begin blank lines law sizes page_is first opened tail log placed by core call sound content may.0) may.1)
+      (content_step blank lines plain sizes page_is first opened tail log placed by (after_begin sizes by call core) deed found (sound_begin sizes first by core call sound made may.0)
+      (content_begin blank lines plain sizes page_is first opened tail log placed by core call sound content may.0) may.1)
 
   -- Each event keeps them.
   pub events_keep_the_log : EventsKeepTheLog

@@ -22,6 +22,7 @@ use Rattle.nv_core.specs.StorePages.{store_of, StoresTell, StoresKept, StorePage
 use Rattle.nv_core.specs.PagesAfter.{page_from, files_now, page_now, page_in}
 use Rattle.nv_core.specs.ValidBuffers.{patched_page, with_own, Gathered, GatheredAt, ValidBuffers}
 use Rattle.nv_core.specs.Sound.{Sound}
+use Rattle.nv_core.proofs.PlainLaws.{PlainLaws}
 use Rattle.nv_core.proofs.Changes.{by_number, by_word, word_here, word_else, same_true, differ}
 use Rattle.nv_core.proofs.Choices.{if_both, when_true, when_false, gives_back, step_idle, busy}
 use Rattle.nv_core.proofs.LockLaws.{only_holder, times_else}
@@ -155,13 +156,13 @@ place_patched sizes values pass reply page old Placing stands may = refl
 place_patched sizes values pass reply page old (Reading next) stands may = sym (own_none sizes pass.call page old (read_only pass.call stands.0))
 place_patched sizes values pass reply page old stage stands may = absurd may
 
-module _ (sizes : Sizes) (first : Values) (opening : Files) (by : ℕ) (core : Core) (reply : Reply) (found : ℕ) (count : length opening.contents ≡ sizes.files)
+module _ (plain : PlainLaws) (sizes : Sizes) (first : Values) (opening : Files) (by : ℕ) (core : Core) (reply : Reply) (found : ℕ) (count : length opening.contents ≡ sizes.files)
     (sound : Sound sizes first core) (may : MayFind sizes by core (Places reply) found) (was : ValidBuffers sizes opening core) where
   allowed : IsAllowed sizes (core.passes by).call
   allowed = (sound.standing by).allowed (step_idle sizes core.values (core.passes by) (Places reply) may.may)
 
   there : file_of (core.passes by).call < length (files_now opening core).contents
-  there = known_file sizes first opening by core (Places reply) sound count may.may
+  there = known_file plain sizes first opening by core (Places reply) sound count may.may
 
   whole : IsWhole (core.passes by).stage
   whole = place_whole sizes core.values (core.passes by) reply (core.passes by).stage may.may
@@ -169,14 +170,14 @@ module _ (sizes : Sizes) (first : Values) (opening : Files) (by : ℕ) (core : C
   -- the pages that it doesn't hold stay, and those that it holds get its pieces
   now_else : (page : ℕ) → times (PAGE page) (core.passes by).hands ≡ 0 → page_now sizes opening (after_step sizes by (Places reply) found core) page ≡ page_now sizes opening core page
   now_else page none =
-      ap (λ f. page_in sizes f page) (files_placed opening by core reply)
-      ∙ page_else sizes (core.passes by).call (files_now opening core) page allowed there
+      ap (λ f. page_in sizes f page) (files_placed plain opening by core reply)
+      ∙ page_else plain sizes (core.passes by).call (files_now opening core) page allowed there
       (λ is. let h = whole_holds sizes (core.passes by) (core.passes by).stage whole (sound.holding by).locks page is in omega (arith, h, none))
 
   now_own : (page : ℕ) → times (PAGE page) (core.passes by).hands ≡ 1 → page_now sizes opening (after_step sizes by (Places reply) found core) page ≡ with_own sizes (core.passes by).call page (page_now sizes opening core page)
   now_own page has =
-      ap (λ f. page_in sizes f page) (files_placed opening by core reply)
-      ∙ page_placed sizes (core.passes by).call (files_now opening core) page allowed there (whole_page sizes (core.passes by) (core.passes by).stage whole (sound.holding by).locks page has)
+      ap (λ f. page_in sizes f page) (files_placed plain opening by core reply)
+      ∙ page_placed plain sizes (core.passes by).call (files_now opening core) page allowed there (whole_page sizes (core.passes by) (core.passes by).stage whole (sound.holding by).locks page has)
 
   unpatched_then : (page : ℕ) (old : List ℕ) → patched_page sizes (core.passes by).call (changed sizes by core (Places reply) found).stage page old ≡ old
   unpatched_then page old = if_both (λ s. patched_page sizes (core.passes by).call s page old ≡ old) (is_write (core.passes by).call && exceeds (core.passes by) (core.passes by).length) Growing (ending sizes (core.passes by))
@@ -285,11 +286,11 @@ module _ (sizes : Sizes) (first : Values) (opening : Files) (by : ℕ) (core : C
 
 -- ---- each step
 
-pub valid_step : (sizes : Sizes) (first : Values) (opening : Files) (by : ℕ) (core : Core) (deed : Deed) (found : ℕ) → length opening.contents ≡ sizes.files
+pub valid_step : (plain : PlainLaws) (sizes : Sizes) (first : Values) (opening : Files) (by : ℕ) (core : Core) (deed : Deed) (found : ℕ) → length opening.contents ≡ sizes.files
     → Sound sizes first core → MayFind sizes by core deed found → ValidBuffers sizes opening core → ValidBuffers sizes opening (after_step sizes by deed found core)
-valid_step sizes first opening by core (Places reply) found count sound may was = buffers_place sizes first opening by core reply found count sound may was
-valid_step sizes first opening by core (Pledges page) found count sound may was = buffers_pledge sizes first opening by core page found sound may was
-valid_step sizes first opening by core deed found count sound may was = buffers_keep sizes first opening by core found deed tt sound may was
+valid_step plain sizes first opening by core (Places reply) found count sound may was = buffers_place plain sizes first opening by core reply found count sound may was
+valid_step plain sizes first opening by core (Pledges page) found count sound may was = buffers_pledge sizes first opening by core page found sound may was
+valid_step plain sizes first opening by core deed found count sound may was = buffers_keep sizes first opening by core found deed tt sound may was
 
 -- ---- a device call, and the beginning of a call
 

@@ -26,6 +26,7 @@ pub mod Nevers
 pub mod Places
 pub mod Walked
 pub mod Placed
+pub mod PlainLaws
 pub mod PlainPages
 pub mod FileLaws
 pub mod KeepsLengths

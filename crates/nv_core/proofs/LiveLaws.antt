@@ -16,6 +16,7 @@ use Rattle.nv_core.specs.Passes.{is_write, file_of, at_of, page_count, first_pag
 use Rattle.nv_core.specs.Standing.{IsPage}
 use Rattle.nv_core.specs.Apart.{AreApart, IsApartFrom, after_calls}
 use Rattle.nv_core.specs.LivePieces.{rising, piece_write}
+use Rattle.nv_core.proofs.PlainLaws.{PlainLaws}
 use Rattle.nv_core.proofs.ApartLaws.{comes_first}
 
 -- ---- calls in rising number
@@ -53,9 +54,9 @@ all_apart calls from zero others apart = tt
 all_apart calls from (suc count) others apart = (apart from (omega arith) (omega arith), all_apart calls (suc from) count others (λ n low high. apart n (omega arith) (omega arith)))
 
 -- they may as well come last
-pub come_last : (calls others : List FileCall) (files : Files) → AllApart calls others → after_calls (calls ++ others) files ≡ after_calls (others ++ calls) files
-come_last [] others files apart = ap (λ c. after_calls c files) (sym (append-nil others))
-come_last (call ∷ calls) others files apart = come_last calls others (files_after call files) apart.1 ∙ sym (comes_first others call calls files apart.0)
+pub come_last : (plain : PlainLaws) (calls others : List FileCall) (files : Files) → AllApart calls others → after_calls (calls ++ others) files ≡ after_calls (others ++ calls) files
+come_last plain [] others files apart = ap (λ c. after_calls c files) (sym (append-nil others))
+come_last plain (call ∷ calls) others files apart = come_last plain calls others (files_after call files) apart.1 ∙ sym (comes_first plain others call calls files apart.0)
 
 -- ---- the pieces of a write, one after another, are the write
 

@@ -1,17 +1,35 @@
 -- Pages of plain bytes: what a read gathers page by page is what it reads, and what a write leaves of each page.
-use Rattle.std.proofs.Common.{◌≡◌, ℕ, zero, suc, ◌+◌, ◌-◌, ◌*◌, ◌/◌, ◌%◌, ◌<◌, ◌≤◌, ◌==◌, min, List, ◌++◌, length, get_or, take, drop, refl, sym, ap, ap₂, ◌∙◌, arith, inl, inr}
+use Rattle.std.proofs.Common.{◌≡◌, ℕ, zero, suc, ◌+◌, ◌-◌, ◌*◌, ◌/◌, ◌%◌, ◌<◌, ◌≤◌, ◌==◌, min, max, List, ◌++◌, length, get_or, take, drop, replicate, refl, sym, ap, ap₂, ◌∙◌, arith, inl, inr}
 use Rattle.std.specs.List.{flat_map, range_with_len}
 use Rattle.std.proofs.lemmas.Bool.{cases_lt, eqb-true, eqb-false}
-use Rattle.std.proofs.lemmas.List.{length-take, length-drop, get_or-take, get_or-drop, ext_get_or, drop-drop}
+use Rattle.std.proofs.lemmas.List.{length-append, length-take, length-drop, length-replicate, get_or_append_left, get_or-append_right, get_or-take, get_or-drop, get_or-replicate, get_or_past, append-nil, append_assoc, ext_get_or, drop-drop}
 use Rattle.std.proofs.lemmas.Nat.{mod-mul-add}
 use Rattle.std.proofs.Math.Seq.{take-add}
 use Rattle.std.proofs.Math.Nat.{mul-le-mul_right, div-mul-le_self, le-div_iff_mul-le}
-use Rattle.nv_plain.specs.Files.{bytes_at, overwritten}
+use Rattle.nv_plain.specs.Files.{bytes_at, padded, overwritten}
 use Rattle.nv_plain.specs.Pieces.{pages_touched, piece_start, piece_of, piece_bytes}
-use Rattle.nv_plain.proofs.FileLemmas.{length-padded, get_or-padded, length-overwritten, get_or-overwritten_inside, get_or-overwritten_below, get_or-overwritten_above}
 use Rattle.nv_core.specs.PagesAfter.{page_from}
+use Rattle.nv_core.proofs.PlainLaws.{PlainLaws}
 use Rattle.nv_core.proofs.Choices.{if_both}
-use Rattle.nv_pmem.proofs.Ranges.{flat_map-more}
+
+-- ---- zeros behind some bytes
+
+length-padded : (bytes : List ℕ) (len : ℕ) → length (padded bytes len) ≡ max (length bytes) len
+length-padded bytes len = simp (length-append, length-replicate) (omega arith)
+
+get_or-zeros : (count k : ℕ) → get_or (replicate {A = ℕ} count 0) k 0 ≡ 0
+get_or-zeros count k = elim (cases_lt k count) [
+  | inl below ↦ get_or-replicate count k 0 0 below
+  | inr past ↦ get_or_past (replicate count 0) k 0 (omega (arith, length-replicate {A = ℕ} count 0))
+]
+
+get_or-padded : (bytes : List ℕ) (len k : ℕ) → get_or (padded bytes len) k 0 ≡ get_or bytes k 0
+get_or-padded bytes len k = elim (cases_lt k (length bytes)) [
+  | inl below ↦ get_or_append_left bytes _ 0 k below
+  | inr past ↦ get_or-append_right bytes _ (length bytes) k 0 refl past ∙ get_or-zeros (len - length bytes) (k - length bytes) ∙ sym (get_or_past bytes k 0 past)
+]
+
+-- ---- pages
 
 pub length-page_from : (bytes : List ℕ) (start page : ℕ) → length (page_from bytes start page) ≡ page
 length-page_from bytes start page = let a = length-padded (bytes_at bytes start page) page in let b = length-take page (drop start bytes) in omega (arith, a, b)
@@ -38,7 +56,7 @@ cut_page bytes start off size page in_page in_bytes =
 
 -- What a write leaves of a page that it touches: the page, overwritten by the bytes that fall into it. Those begin at an offset of the page,
 -- and at another one of the write.
-module _ (bytes source : List ℕ) (at start page off from size : ℕ) (starts : start + off ≡ at + from) (some : 0 < size) (in_page : off + size ≤ page) (in_write : from + size ≤ length source)
+module _ (plain : PlainLaws) (bytes source : List ℕ) (at start page off from size : ℕ) (starts : start + off ≡ at + from) (some : 0 < size) (in_page : off + size ≤ page) (in_write : from + size ≤ length source)
     (low : 0 < off → from ≡ 0) (high : off + size < page → from + size ≡ length source) where
   length_cut : length (take size (drop from source)) ≡ size
   length_cut = omega (arith, length-take size (drop from source), length-drop from source)
@@ -46,20 +64,20 @@ module _ (bytes source : List ℕ) (at start page off from size : ℕ) (starts :
   patched_at : (k : ℕ) → k < page → get_or (page_from (overwritten bytes at source) start page) k 0 ≡ get_or (overwritten (page_from bytes start page) off (take size (drop from source))) k 0
   patched_at k below = get_or-page_from (overwritten bytes at source) start page k below ∙ elim (cases_lt k off) [
     | inl before ↦
-        get_or-overwritten_below bytes source at (start + k) (let l = low (omega arith) in omega (arith, starts, l, before))
+        plain.outside bytes source at (start + k) (inl (let l = low (omega arith) in omega (arith, starts, l, before)))
         ∙ sym (get_or-page_from bytes start page k below)
-        ∙ sym (get_or-overwritten_below (page_from bytes start page) (take size (drop from source)) off k before)
+        ∙ sym (plain.outside (page_from bytes start page) (take size (drop from source)) off k (inl before))
     | inr past ↦ elim (cases_lt k (off + size)) [
       | inl within ↦
-          get_or-overwritten_inside bytes source at (start + k) (omega (arith, starts, past)) (omega (arith, starts, within, in_write))
+          plain.inside bytes source at (start + k) (omega (arith, starts, past)) (omega (arith, starts, within, in_write))
           ∙ ap (λ n. get_or source n 0) (omega (arith, starts, past))
           ∙ sym (get_or-drop from source (k - off) 0)
           ∙ sym (get_or-take size (drop from source) (k - off) 0 (omega (arith, past, within)))
-          ∙ sym (get_or-overwritten_inside (page_from bytes start page) (take size (drop from source)) off k past (omega (arith, within, length_cut)))
+          ∙ sym (plain.inside (page_from bytes start page) (take size (drop from source)) off k past (omega (arith, within, length_cut)))
       | inr behind ↦
-          get_or-overwritten_above bytes source at (start + k) (let h = high (omega arith) in omega (arith, starts, behind, h))
+          plain.outside bytes source at (start + k) (inr (let h = high (omega arith) in omega (arith, starts, behind, h)))
           ∙ sym (get_or-page_from bytes start page k below)
-          ∙ sym (get_or-overwritten_above (page_from bytes start page) (take size (drop from source)) off k (omega (arith, behind, length_cut)))
+          ∙ sym (plain.outside (page_from bytes start page) (take size (drop from source)) off k (inr (omega (arith, behind, length_cut))))
     ]
   ]
 
@@ -67,26 +85,26 @@ module _ (bytes source : List ℕ) (at start page off from size : ℕ) (starts :
   patch_page =
       let one = length-page_from (overwritten bytes at source) start page in
       ext_get_or 0 (page_from (overwritten bytes at source) start page) (overwritten (page_from bytes start page) off (take size (drop from source)))
-      (omega (arith, one, length-page_from bytes start page, length-overwritten (page_from bytes start page) (take size (drop from source)) off (omega (arith, length_cut, some)), length_cut, in_page))
+      (omega (arith, one, length-page_from bytes start page, plain.reach (page_from bytes start page) (take size (drop from source)) off (omega (arith, length_cut, some)), length_cut, in_page))
       (λ k below. patched_at k (omega (arith, one, below)))
 
 -- and of a page that it doesn't touch
-pub untouched_page : (bytes source : List ℕ) (at start page : ℕ) → (start + page ≤ at) → page_from (overwritten bytes at source) start page ≡ page_from bytes start page
-untouched_page bytes source at start page before =
+pub untouched_page : (plain : PlainLaws) (bytes source : List ℕ) (at start page : ℕ) → (start + page ≤ at) → page_from (overwritten bytes at source) start page ≡ page_from bytes start page
+untouched_page plain bytes source at start page before =
     let one = length-page_from (overwritten bytes at source) start page in
     ext_get_or 0 (page_from (overwritten bytes at source) start page) (page_from bytes start page) (omega (arith, one, length-page_from bytes start page))
     (λ k below. let low : k < page = omega (arith, one, below) in
     get_or-page_from (overwritten bytes at source) start page k low
-    ∙ get_or-overwritten_below bytes source at (start + k) (omega (arith, low, before))
+    ∙ plain.outside bytes source at (start + k) (inl (omega (arith, low, before)))
     ∙ sym (get_or-page_from bytes start page k low))
 
-pub untouched_above : (bytes source : List ℕ) (at start page : ℕ) → at + length source ≤ start → page_from (overwritten bytes at source) start page ≡ page_from bytes start page
-untouched_above bytes source at start page behind =
+pub untouched_above : (plain : PlainLaws) (bytes source : List ℕ) (at start page : ℕ) → at + length source ≤ start → page_from (overwritten bytes at source) start page ≡ page_from bytes start page
+untouched_above plain bytes source at start page behind =
     let one = length-page_from (overwritten bytes at source) start page in
     ext_get_or 0 (page_from (overwritten bytes at source) start page) (page_from bytes start page) (omega (arith, one, length-page_from bytes start page))
     (λ k below. let low : k < page = omega (arith, one, below) in
     get_or-page_from (overwritten bytes at source) start page k low
-    ∙ get_or-overwritten_above bytes source at (start + k) (omega (arith, low, behind))
+    ∙ plain.outside bytes source at (start + k) (inr (omega (arith, low, behind)))
     ∙ sym (get_or-page_from bytes start page k low))
 
 -- ---- a read, page by page
@@ -143,6 +161,15 @@ module _ (at len page i : ℕ) (some_page : 1 ≤ page) where
       let is : piece_start at page i ≡ (at / page + i) * page + off = omega arith in
       ap (λ n. n % page) is ∙ mod-mul-add (at / page + i) page off (omega (arith, below_next))
 
+-- one number more
+range_more : {A : Type 0} (f : ℕ → List A) (from count : ℕ) → flat_map f (range_with_len from (suc count)) ≡ flat_map f (range_with_len from count) ++ f (from + count)
+range_more f from zero = append-nil (f from) ∙ ap f (omega arith)
+range_more f from (suc count) =
+    let begin : from + 1 + count ≡ from + suc count = omega arith in
+    ap (λ rest. f from ++ rest) (range_more f (from + 1) count)
+    ∙ sym (append_assoc (f from) (flat_map f (range_with_len (from + 1) count)) (f (from + 1 + count)))
+    ∙ ap (λ last. (f from ++ flat_map f (range_with_len (from + 1) count)) ++ f last) begin
+
 module _ (bytes : List ℕ) (at len page : ℕ) (some_page : 1 ≤ page) (within : at + len ≤ length bytes) (read : ℕ → List ℕ)
     (reads : (i : ℕ) → i < pages_touched at len page → read i ≡ page_from bytes ((at / page + i) * page) page) where
   part : ℕ → List ℕ
@@ -190,8 +217,7 @@ module _ (bytes : List ℕ) (at len page : ℕ) (some_page : 1 ≤ page) (within
       let here : part (0 + i) ≡ take (piece_of at len page i).size (drop (reached i) (drop at bytes)) =
       ap part from ∙ part_is i less ∙ ap (take (piece_of at len page i).size) (sym (drop-drop (reached i) at bytes)) in
       let more : reached i + (piece_of at len page i).size ≡ reached (suc i) = sym (reached_more i less) ∙ ap reached (sym one) in
-      ap (λ n. flat_map part (range_with_len 0 n)) one
-      ∙ flat_map-more part 0 i
+      range_more part 0 i
       ∙ ap₂ (λ (one two : List ℕ). one ++ two) (front i (omega (arith, there))) here
       ∙ sym (take-add (reached i) (piece_of at len page i).size (drop at bytes))
       ∙ ap (λ n. take n (drop at bytes)) more
@@ -208,16 +234,16 @@ module _ (bytes : List ℕ) (at len page : ℕ) (some_page : 1 ≤ page) (within
   read_pages = front (pages_touched at len page) (omega arith) ∙ ap (λ n. take n (drop at bytes)) all_reached
 
 -- what a write leaves of the page of one of its pieces
-pub patch_piece : (bytes source : List ℕ) (at page i : ℕ) → 1 ≤ page → 0 < length source → i < pages_touched at (length source) page
+pub patch_piece : (plain : PlainLaws) (bytes source : List ℕ) (at page i : ℕ) → 1 ≤ page → 0 < length source → i < pages_touched at (length source) page
     → page_from (overwritten bytes at source) ((at / page + i) * page) page
     ≡ overwritten (page_from bytes ((at / page + i) * page) page) ((piece_of at (length source) page i).at % page) (piece_bytes source (piece_of at (length source) page i))
 unfolding start
-patch_piece bytes source at page i some_page some there =
+patch_piece plain bytes source at page i some_page some there =
     let s = (at / page + i) * page in
     let p = piece_start at page i in
     let size = (piece_of at (length source) page i).size in
     let low = page_start_below at (length source) page i some_page there in
     let next = next_start at (length source) page i some_page in
     let up = below_next at (length source) page i some_page in
-    patch_page bytes source at s page (p - s) (p - at) size (omega arith) (omega (arith, some, low, next, up)) (omega (arith, next, up)) (omega (arith, low)) (λ behind. omega (arith, behind)) (λ short. omega (arith, short, low, next, up))
+    patch_page plain bytes source at s page (p - s) (p - at) size (omega arith) (omega (arith, some, low, next, up)) (omega (arith, next, up)) (omega (arith, low)) (λ behind. omega (arith, behind)) (λ short. omega (arith, short, low, next, up))
     ∙ ap (λ o. overwritten (page_from bytes s page) o (take size (drop (p - at) source))) (sym (piece_off at (length source) page i some_page))

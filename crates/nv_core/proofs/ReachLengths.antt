@@ -9,14 +9,15 @@ use Rattle.nv_core.specs.Events.{Event, Act, Begins, Does, Calls, MayAct, IsRun,
 use Rattle.nv_core.specs.Opening.{opening}
 use Rattle.nv_core.specs.Lengths.{Lengths, LengthsFollowTheHistory}
 use Rattle.nv_core.specs.Sound.{Sound}
+use Rattle.nv_core.proofs.PlainLaws.{PlainLaws}
 use Rattle.nv_core.proofs.KeepsLengths.{lengths_step, lengths_begin, lengths_work}
 use Rattle.nv_core.proofs.Reach.{sound_begin, events_keep_sound, opening_is_sound}
 
-module _ (sizes : Sizes) (first : Values) (files : Files) (count : length files.contents ≡ sizes.files) where
+module _ (plain : PlainLaws) (sizes : Sizes) (first : Values) (files : Files) (count : length files.contents ≡ sizes.files) where
   acts : (by : ℕ) (core : Core) (act : Act) → Sound sizes first core → Lengths sizes files core → by ≤ core.made → MayAct sizes by core act → Lengths sizes files (after_act sizes by act core)
   acts by core (Begins call deed found) sound lengths made may =
-      lengths_step sizes first files by (after_begin sizes by call core) deed found count (sound_begin sizes first by core call sound made may.0) may.1 (lengths_begin sizes files by core call may.0 lengths)
-  acts by core (Does deed found) sound lengths made may = lengths_step sizes first files by core deed found count sound may lengths
+      lengths_step plain sizes first files by (after_begin sizes by call core) deed found count (sound_begin sizes first by core call sound made may.0) may.1 (lengths_begin sizes files by core call may.0 lengths)
+  acts by core (Does deed found) sound lengths made may = lengths_step plain sizes first files by core deed found count sound may lengths
   acts by core (Calls work) sound lengths made may = lengths_work sizes files by core work may lengths
 
   runs : (events : List Event) (core : Core) → Sound sizes first core → Lengths sizes files core → IsRun sizes core events → Lengths sizes files (after sizes core events)
@@ -27,6 +28,6 @@ module _ (sizes : Sizes) (first : Values) (files : Files) (count : length files.
 grows_not : Idle ≡ Growing → ⊥
 grows_not e = cc
 
-pub lengths_follow : LengthsFollowTheHistory
-lengths_follow mount files events is of run = runs mount.sizes mount.values files of.count events (opening mount) (opening_is_sound mount is)
+pub lengths_follow : PlainLaws → LengthsFollowTheHistory
+lengths_follow plain mount files events is of run = runs plain mount.sizes mount.values files of.count events (opening mount) (opening_is_sound mount is)
     record { most = λ file low. let e = of.each file low in omega (arith, e); is = λ file low off. of.each file low; extends = λ number file grows. absurd (grows_not grows.0) } run

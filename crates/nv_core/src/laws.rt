@@ -4,6 +4,8 @@ ghost use Rattle.nv_core.specs.Never.{NoPlaceBeforeTheFence, NoPageBeforeThePlac
 ghost use Rattle.nv_core.specs.Walks.{WalkBegins, FirstPageIsWord30, ReadIsWalked, WriteIsWalked, FaultIsWalked};
 ghost use Rattle.nv_core.specs.Words.{PlacesDiffer};
 
+use nv_plain::{history_goes_on, write_is_its_pieces, write_leaves_its_bytes};
+
 /// The invariant holds at opening, every event keeps it, and so it holds in every state that a run leads to.
 pub fn runs_are_sound()
     ensures opening { OpeningIsSound }
@@ -47,4 +49,8 @@ pub fn walks_are_runs()
 /// mount was opened with; a write that made its file longer is the one exception, until it has said so.
 pub fn lengths_follow_the_history()
     ensures { LengthsFollowTheHistory }
-{}
+{
+    write_leaves_its_bytes();
+    write_is_its_pieces();
+    history_goes_on();
+}

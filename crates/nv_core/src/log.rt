@@ -2,7 +2,7 @@ ghost use Rattle.nv_core.specs.LogContent.{EventsKeepTheLog, OpeningHasTheLog, R
 ghost use Rattle.nv_core.specs.WalkOpens.{WalkOpensFiles, WalkOpensLog};
 
 use nv_entry::groups_follow_steps;
-use nv_plain::write_is_its_pieces;
+use nv_plain::{history_goes_on, write_is_its_pieces, write_leaves_its_bytes};
 use nv_pmem::{images_follow_calls, loads_follow_calls};
 
 /// What the log has is right at opening, every event keeps it, and so it is right after every run: the parts of each group
@@ -19,7 +19,9 @@ pub fn runs_keep_the_log()
 {
     loads_follow_calls();
     images_follow_calls();
+    write_leaves_its_bytes();
     write_is_its_pieces();
+    history_goes_on();
     groups_follow_steps();
 }
 

@@ -1,5 +1,5 @@
 -- Plain files: what a list of regular files holds.
-use Rattle.std.specs.Prelude.{ℕ, ◌+◌, ◌-◌, List, [], ◌∷◌, ◌++◌, length, take, drop, replicate, slice_index_or, slice_set}
+use Rattle.std.specs.Prelude.{◌≡◌, ◌⊎◌, ℕ, ◌+◌, ◌-◌, ◌<◌, ◌≤◌, max, List, [], ◌∷◌, ◌++◌, length, take, drop, replicate, slice_index_or, slice_set}
 
 -- The state of plain files: the bytes of each, by file number.
 pub record Files : Type 0 where
@@ -31,3 +31,23 @@ abbrev pub overwritten : List ℕ → ℕ → List ℕ → List ℕ
 overwritten bytes at [] = bytes
 overwritten bytes at (first ∷ rest) =
     take at (padded bytes at) ++ (first ∷ rest) ++ drop (at + length (first ∷ rest)) bytes
+
+-- ---- what a write leaves of its file, byte by byte
+
+-- The bytes of a write stand from its offset on.
+abbrev pub WriteLeavesItsBytes : Type 0
+WriteLeavesItsBytes =
+    (bytes source : List ℕ) (at k : ℕ) → at ≤ k → k < at + length source
+    → slice_index_or (overwritten bytes at source) k 0 ≡ slice_index_or source (k - at) 0
+
+-- Each other byte is as it was, and those of a gap are 0.
+abbrev pub WriteLeavesTheRest : Type 0
+WriteLeavesTheRest =
+    (bytes source : List ℕ) (at k : ℕ) → (k < at) ⊎ (at + length source ≤ k)
+    → slice_index_or (overwritten bytes at source) k 0 ≡ slice_index_or bytes k 0
+
+-- A write of some bytes makes its file reach to its end, and leaves it as long as it was where it is longer.
+abbrev pub WriteReachesItsEnd : Type 0
+WriteReachesItsEnd =
+    (bytes source : List ℕ) (at : ℕ) → 0 < length source
+    → length (overwritten bytes at source) ≡ max (length bytes) (at + length source)

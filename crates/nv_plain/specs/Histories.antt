@@ -1,5 +1,5 @@
 -- Histories of calls on plain files.
-use Rattle.std.specs.Prelude.{◌≡◌, ◌↔◌, ℕ, List, [], ◌∷◌, ◌++◌}
+use Rattle.std.specs.Prelude.{◌≡◌, ◌↔◌, ℕ, List, [], ◌∷◌, ◌++◌, length}
 use Rattle.nv_plain.specs.declared.call.FileCall.{FileCall}
 use Rattle.nv_plain.specs.declared.call.Reply.{Reply}
 use Rattle.nv_plain.specs.Files.{Files}
@@ -34,3 +34,7 @@ GoesOnLegally =
     (earlier : List Answered) (answered : Answered) (files : Files)
     → IsLegal (earlier ++ answered ∷ []) files
     ↔ (IsLegal earlier files × (answered.reply ≡ reply_of answered.call (after earlier files)))
+
+-- No call makes a file or takes one away.
+abbrev pub HistoryKeepsFiles : Type 0
+HistoryKeepsFiles = (history : List Answered) (files : Files) → length (after history files).contents ≡ length files.contents

@@ -1,5 +1,6 @@
 ghost use Rattle.nv_plain.specs.Faults.{SaturatedCountsRise};
-ghost use Rattle.nv_plain.specs.Histories.{GoesOnFrom, GoesOnLegally};
+ghost use Rattle.nv_plain.specs.Files.{WriteLeavesItsBytes, WriteLeavesTheRest, WriteReachesItsEnd};
+ghost use Rattle.nv_plain.specs.Histories.{GoesOnFrom, GoesOnLegally, HistoryKeepsFiles};
 ghost use Rattle.nv_plain.specs.Pieces.{WriteIsItsPieces};
 
 /// A write is the same as its pieces, one after another.
@@ -7,11 +8,20 @@ pub fn write_is_its_pieces()
     ensures { WriteIsItsPieces }
 {}
 
+/// What a write leaves of its file, byte by byte: its own bytes where it goes, each other byte as it was, zeros in a gap
+/// behind the old end; and how long the file is then.
+pub fn write_leaves_its_bytes()
+    ensures inside { WriteLeavesItsBytes }
+    ensures outside { WriteLeavesTheRest }
+    ensures reach { WriteReachesItsEnd }
+{}
+
 /// A legal history goes on by one call: the files after it are those that the call leaves, and it is
-/// legal just where the call's reply is the right one on the files before.
+/// legal just where the call's reply is the right one on the files before. There are as many files after it as before.
 pub fn history_goes_on()
     ensures files { GoesOnFrom }
     ensures legal { GoesOnLegally }
+    ensures count { HistoryKeepsFiles }
 {}
 
 /// A count that stands still at 2^64 - 1 rises wherever the exact one rises: what is said of the exact sum of several

@@ -12,7 +12,9 @@ mod tests;
 
 pub use bytes::Bytes;
 pub use call::{FileCall, Reply};
-pub use laws::{history_goes_on, saturated_counts_rise, write_is_its_pieces};
+pub use laws::{
+    history_goes_on, saturated_counts_rise, write_is_its_pieces, write_leaves_its_bytes,
+};
 pub use memory::NoMemory;
 pub use name::is_file_name;
 pub use plain_files::PlainFiles;

@@ -1,12 +1,23 @@
+use Rattle.nv_core.proofs.PlainLaws.{PlainLaws}
 use Rattle.nv_core.proofs.OpeningLogContent.{opening_has_the_log}
 use Rattle.nv_core.proofs.KeepsLogContent.{events_keep_the_log, runs_keep_the_log_all, groups_are_in_images, no_old_word_counts}
 use Rattle.nv_core.proofs.log.runs_keep_the_log.Goals as goal
 
 pub returns : goal.returns
-returns c = record {
-  opening = opening_has_the_log c.images_follow_calls.ensures.quiet;
-  events = events_keep_the_log c.images_follow_calls.ensures.blank c.loads_follow_calls.ensures.lines c.write_is_its_pieces.ensures;
-  runs = runs_keep_the_log_all c.images_follow_calls.ensures.blank c.loads_follow_calls.ensures.lines c.write_is_its_pieces.ensures c.images_follow_calls.ensures.quiet;
-  images = groups_are_in_images c.images_follow_calls.ensures.now c.groups_follow_steps.ensures.atomic c.groups_follow_steps.ensures.whole c.groups_follow_steps.ensures.quiet;
-  old = no_old_word_counts c.images_follow_calls.ensures.now c.groups_follow_steps.ensures.only;
-}
+returns c =
+    let plain : PlainLaws = record {
+      inside = c.write_leaves_its_bytes.ensures.inside;
+      outside = c.write_leaves_its_bytes.ensures.outside;
+      reach = c.write_leaves_its_bytes.ensures.reach;
+      pieces = c.write_is_its_pieces.ensures;
+      goes_on = c.history_goes_on.ensures.files;
+      legally = c.history_goes_on.ensures.legal;
+      count = c.history_goes_on.ensures.count;
+    } in
+    record {
+      opening = opening_has_the_log c.images_follow_calls.ensures.quiet;
+      events = events_keep_the_log c.images_follow_calls.ensures.blank c.loads_follow_calls.ensures.lines plain;
+      runs = runs_keep_the_log_all c.images_follow_calls.ensures.blank c.loads_follow_calls.ensures.lines plain c.images_follow_calls.ensures.quiet;
+      images = groups_are_in_images c.images_follow_calls.ensures.now c.groups_follow_steps.ensures.atomic c.groups_follow_steps.ensures.whole c.groups_follow_steps.ensures.quiet;
+      old = no_old_word_counts c.images_follow_calls.ensures.now c.groups_follow_steps.ensures.only;
+    }
