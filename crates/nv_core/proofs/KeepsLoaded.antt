@@ -200,8 +200,6 @@ holds_size sizes pass stage measured held sized = go stage measured held
     go Releasing measured held = absurd measured
     go (Giving page) measured held = absurd measured
     go Leaving measured held = absurd measured
-    go ReadFailing measured held = absurd measured
-    go WriteFailing measured held = absurd measured
     go (Breaking number) measured held = absurd measured
     go stage measured held = one (held (SIZE (file_of pass.call)) (λ slot. differ (SIZE (file_of pass.call)) (ENTRY slot) refl))
 

@@ -19,7 +19,9 @@ pub mod KeepsStop
 pub mod KeepsNumbers
 pub mod KeepsLoaded
 pub mod Reach
+pub mod BarredLaws
 pub mod KeepsBroken
+pub mod KeepsBrokenLengths
 pub mod KeepsHistory
 pub mod KeepsDirty
 pub mod Nevers

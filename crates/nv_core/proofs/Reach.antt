@@ -18,6 +18,7 @@ use Rattle.nv_core.proofs.KeepsWindow.{window_step, window_begin, window_work}
 use Rattle.nv_core.proofs.KeepsLoaded.{loaded_step, loaded_begin, loaded_work}
 use Rattle.nv_core.specs.Totals.{total}
 use Rattle.nv_core.proofs.KeepsBroken.{broken_step, broken_begin, broken_work}
+use Rattle.nv_core.proofs.KeepsBrokenLengths.{broken_lengths_step, broken_lengths_begin, broken_lengths_work}
 use Rattle.nv_core.proofs.KeepsHistory.{history_step, history_begin, history_work}
 use Rattle.nv_core.specs.Holding.{one_if}
 use Rattle.nv_core.specs.DirtyCounters.{is_of_page}
@@ -38,6 +39,7 @@ sound_step sizes first by core deed found sound made may = record {
   loaded = loaded_step sizes first by core deed found sound made may;
   stop = stop_step sizes first by core deed found sound may;
   broken = broken_step sizes first by core deed found sound sound.broken may;
+  broken_lengths = broken_lengths_step sizes first by core deed found sound may;
   history = history_step sizes first by core deed found sound sound.history (broken_step sizes first by core deed found sound sound.broken may) made may;
   buffers = buffers_step sizes first by core deed sound;
   devices = devices_step sizes first by core deed sound;
@@ -56,6 +58,7 @@ sound_begin sizes first by core call sound made may = record {
   loaded = loaded_begin sizes first by core call sound may;
   stop = stop_begin sizes first by core call sound may;
   broken = broken_begin sizes first by core call sound sound.broken may;
+  broken_lengths = broken_lengths_begin sizes by core call sound.broken_lengths;
   history = history_begin sizes by core call sound.history made may;
   buffers = sound.buffers;
   devices = sound.devices;
@@ -73,6 +76,7 @@ sound_work sizes first by core work sound made may = record {
   loaded = loaded_work sizes first by core work sound may;
   stop = stop_work sizes first by core work sound may;
   broken = broken_work sizes first by core work sound sound.broken may;
+  broken_lengths = broken_lengths_work sizes by core work sound.broken_lengths may;
   history = history_work sizes by core work sound.history made may;
   buffers = buffers_work sizes first by core work sound;
   devices = devices_work sizes first by core work sound;
@@ -145,6 +149,7 @@ opening_is_sound mount is = record {
   };
   stop = record { bit = omega arith; stopped = λ one. absurd (omega arith); failing = λ n fails. absurd fails; never_fell = λ cell. omega arith; stays = λ n stopped. absurd (not_both stopped refl) };
   broken = record { stopped = λ n some. absurd (some refl); once = λ n. omega arith; passed = λ n checked. absurd checked; pages = λ n m page fault is at checked. absurd is };
+  broken_lengths = record { files = λ n m fault is at checked. absurd is };
   history = record {
     order = refl;
     few = none_open;

@@ -1,8 +1,7 @@
 -- Broken writes: what became of the pages of a write that a fault ended.
 use Rattle.std.specs.Prelude.{◌≡◌, ◌≢◌, ℕ, ◌≤◌, true, [], length}
-use Rattle.nv_plain.specs.declared.call.FileCall.{FileCall}
 use Rattle.nv_core.specs.Words.{Sizes, PAGE}
-use Rattle.nv_core.specs.Passes.{IsOneOf, Stage, Ordering, Reading, Fetching, Copying, Returning, Waiting, Heading, Tailing, Drawing, Seizing, Committing, Pledging, Readying, Placing, Growing, Releasing, Giving, ReadFailing, WriteFailing, times}
+use Rattle.nv_core.specs.Passes.{Fault, IsOneOf, Stage, Ordering, Reading, Fetching, Copying, Returning, Waiting, Heading, Tailing, Drawing, Seizing, Committing, Pledging, Readying, Placing, Growing, Releasing, Giving, ReadFailing, WriteFailing, times}
 use Rattle.nv_core.specs.Standing.{IsPage}
 use Rattle.nv_core.specs.Core.{Core}
 
@@ -35,5 +34,5 @@ pub record Broken (sizes : Sizes) (core : Core) : Type 0 where
   pub stopped : (number : ℕ) → (core.passes number).faulted ≢ [] → (core.passes number).stopped ≡ true
   pub once : (number : ℕ) → length (core.passes number).faulted ≤ 1
   pub passed : (number : ℕ) → HasChecked (core.passes number).stage → (core.passes number).faulted ≡ []
-  pub pages : (number other page : ℕ) (fault : FileCall × ℕ × ℕ) → IsOneOf (core.passes number).faulted fault → IsPage sizes fault.0 page
+  pub pages : (number other page : ℕ) (fault : Fault) → IsOneOf (core.passes number).faulted fault → IsPage sizes fault.call page
       → HasChecked (core.passes other).stage → times (PAGE page) (core.passes other).hands ≡ 0

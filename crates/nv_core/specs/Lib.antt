@@ -20,6 +20,7 @@ pub mod Loaded
 pub mod Numbers
 pub mod OneHistory
 pub mod Broken
+pub mod BrokenLengths
 pub mod Devices
 pub mod Sound
 pub mod Opening

@@ -1,7 +1,7 @@
 -- What was loaded: how the words that a pass has loaded stand to the words as they are.
 use Rattle.std.specs.Prelude.{◌≡◌, ℕ, ◌≤◌, true}
 use Rattle.nv_core.specs.Words.{HEAD, TAIL, LENGTH, DIRTY}
-use Rattle.nv_core.specs.Passes.{Stage, Checking, Ordering, Reading, Fetching, Copying, Returning, Heading, Tailing, Drawing, Seizing, Committing, Pledging, Readying, Placing, Growing, file_of}
+use Rattle.nv_core.specs.Passes.{Stage, Checking, Ordering, Reading, Fetching, Copying, Returning, Heading, Tailing, Drawing, Seizing, Committing, Pledging, Readying, Placing, Growing, ReadFailing, WriteFailing, file_of}
 use Rattle.nv_core.specs.Stages.{exceeds}
 use Rattle.nv_core.specs.Core.{Core}
 
@@ -22,6 +22,8 @@ HasMeasured (Pledging page) = Unit {0}
 HasMeasured (Readying number) = Unit {0}
 HasMeasured Placing = Unit {0}
 HasMeasured Growing = Unit {0}
+HasMeasured ReadFailing = Unit {0}
+HasMeasured WriteFailing = Unit {0}
 HasMeasured stage = ⊥
 
 -- a pass has loaded a page's DIRTY as 0, and its read of the store isn't over

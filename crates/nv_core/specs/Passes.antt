@@ -43,6 +43,13 @@ pub data Stage : Type 0 where
   WriteFailing : Stage
   Breaking : (number : ℕ) → Stage
 
+-- A call that ended by a fault: its first number and how many it had drawn, and LENGTH as it had loaded it.
+pub record Fault : Type 0 where
+  pub call : FileCall
+  pub first : ℕ
+  pub entries : ℕ
+  pub length : ℕ
+
 -- A pass: where it stands, its call at hand or the last one, the cells that it holds, the last taken first, and what it has seen.
 pub record Pass : Type 0 where
   pub stage : Stage
@@ -61,8 +68,8 @@ pub record Pass : Type 0 where
   pub entries : ℕ
   -- the pages that it read from a store in this call
   pub fetched : List (ℕ × List ℕ)
-  -- a call that ended by a fault, its first number and how many it had drawn
-  pub faulted : List (FileCall × ℕ × ℕ)
+  -- the calls that ended by a fault
+  pub faulted : List Fault
   -- the history as it last saw it, and its own calls
   pub seen : List Answered
   pub mine : List Answered

@@ -13,6 +13,7 @@ use Rattle.nv_core.specs.DirtyCounters.{DirtyCounters}
 use Rattle.nv_core.specs.Loaded.{Loaded}
 use Rattle.nv_core.specs.Stop.{Stop}
 use Rattle.nv_core.specs.Broken.{Broken}
+use Rattle.nv_core.specs.BrokenLengths.{BrokenLengths}
 use Rattle.nv_core.specs.OneHistory.{OneHistory}
 use Rattle.nv_core.specs.BuffersKept.{BuffersKept}
 use Rattle.nv_core.specs.Devices.{Devices}
@@ -29,6 +30,7 @@ pub record Sound (sizes : Sizes) (first : Values) (core : Core) : Type 0 where
   pub loaded : Loaded core
   pub stop : Stop first core
   pub broken : Broken sizes core
+  pub broken_lengths : BrokenLengths core
   pub history : OneHistory core
   pub buffers : BuffersKept sizes core.values
   pub devices : Devices first core.values

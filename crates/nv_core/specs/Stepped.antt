@@ -3,7 +3,7 @@ use Rattle.std.specs.Prelude.{ℕ, ◌==◌, Bool, true, false, if◌then◌else
 use Rattle.nv_plain.specs.Histories.{Answered}
 use Rattle.nv_plain.specs.declared.call.FileCall.{FileCall}
 use Rattle.nv_core.specs.Words.{Sizes, Word, STOP, HEAD, TAIL, LENGTH, SIZE}
-use Rattle.nv_core.specs.Passes.{Pass, page_count}
+use Rattle.nv_core.specs.Passes.{Fault, Pass, page_count}
 use Rattle.nv_core.specs.Deeds.{Deed, value_after, move_of, moved, Loads, Takes, Places, Stops, Draws, Leaves}
 use Rattle.nv_core.specs.Stages.{first_stage, stage_after}
 
@@ -42,9 +42,12 @@ abbrev pub entries_after : Sizes → Pass → Deed → (found : ℕ) → ℕ
 entries_after sizes pass Draws found = if found == pass.head then page_count sizes pass.call else pass.entries
 entries_after sizes pass _ found = pass.entries
 
--- the calls that ended by a fault
-abbrev pub faulted_after : Pass → Deed → List (FileCall × ℕ × ℕ)
-faulted_after pass Stops = (pass.call, pass.first, pass.entries) ∷ pass.faulted
+-- the call that a pass ends by a fault, and all of them
+abbrev pub fault_of : Pass → Fault
+fault_of pass = record { call = pass.call; first = pass.first; entries = pass.entries; length = pass.length }
+
+abbrev pub faulted_after : Pass → Deed → List Fault
+faulted_after pass Stops = fault_of pass ∷ pass.faulted
 faulted_after pass _ = pass.faulted
 
 -- what it has put back

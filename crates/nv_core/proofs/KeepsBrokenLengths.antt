@@ -1,0 +1,61 @@
+-- Each event keeps what became of the lengths of broken writes.
+use Rattle.std.proofs.Common.{◌≡◌, ℕ, ◌+◌, nat_lt, true, refl, sym, subst}
+use Rattle.std.proofs.lemmas.Bool.{and_from, lt-ltb, true≢false}
+use Rattle.nv_plain.specs.declared.call.FileCall.{FileCall}
+use Rattle.nv_plain.specs.declared.call.FileCall.TheVariants.{Read, Write, Sync}
+use Rattle.nv_core.specs.Words.{Sizes, Word, SIZE, STORE, ENTRY}
+use Rattle.nv_core.specs.Passes.{Fault, Stage, ReadFailing, WriteFailing, IsOneOf, file_of, at_of, len_of, is_write, times}
+use Rattle.nv_core.specs.Deeds.{Deed}
+use Rattle.nv_core.specs.Stepped.{fault_of}
+use Rattle.nv_core.specs.Order.{Values, Work, MayWork, IsFailing}
+use Rattle.nv_core.specs.Core.{Core, after_step, after_begin, after_work}
+use Rattle.nv_core.specs.Events.{MayFind}
+use Rattle.nv_core.specs.Broken.{HasChecked}
+use Rattle.nv_core.specs.BrokenLengths.{IsExtending, BrokenLengths}
+use Rattle.nv_core.specs.Loaded.{HasMeasured}
+use Rattle.nv_core.specs.Sound.{Sound}
+use Rattle.nv_core.proofs.Changes.{differ}
+use Rattle.nv_core.proofs.KeepsLoaded.{holds_size}
+use Rattle.nv_core.proofs.BarredLaws.{IsTakenBefore, barred_step, barred_begin, barred_work}
+
+-- the SIZE of its file, which the fault of an extending write bars
+abbrev Bars : Fault → Word → Type 0
+Bars fault cell = (cell ≡ SIZE (file_of fault.call)) × IsExtending fault
+
+early : (fault : Fault) (cell : Word) → Bars fault cell → IsTakenBefore cell
+early fault cell is = subst IsTakenBefore (sym is.0) record { store = λ file. differ (SIZE (file_of fault.call)) (STORE file) refl; entry = λ slot. differ (SIZE (file_of fault.call)) (ENTRY slot) refl }
+
+were_barred : (core : Core) → BrokenLengths core → (n m : ℕ) (cell : Word) (fault : Fault) → IsOneOf (core.passes n).faulted fault → Bars fault cell → HasChecked (core.passes m).stage → times cell (core.passes m).hands ≡ 0
+were_barred core was n m cell fault is at checked = subst (λ c. times c (core.passes m).hands ≡ 0) (sym at.0) (was.files n m fault is at.1 checked)
+
+-- a pass whose extending write fails holds SIZE
+some_bytes : (call : FileCall) → is_write call ≡ true → nat_lt 0 (len_of call) ≡ true
+some_bytes (Write file at bytes) write = write
+some_bytes (Read file at len) write = absurd (true≢false (sym write))
+some_bytes (Sync file) write = absurd (true≢false (sym write))
+
+failing_measured : (stage : Stage) → IsFailing stage → HasMeasured stage
+failing_measured ReadFailing fails = tt
+failing_measured WriteFailing fails = tt
+failing_measured stage fails = absurd fails
+
+failing_size : (sizes : Sizes) (first : Values) (core : Core) (by : ℕ) → Sound sizes first core → IsFailing (core.passes by).stage → IsExtending (fault_of (core.passes by)) → times (SIZE (file_of (core.passes by).call)) (core.passes by).hands ≡ 1
+failing_size sizes first core by sound fails extends =
+    let measured = failing_measured (core.passes by).stage fails in
+    let end = at_of (core.passes by).call + len_of (core.passes by).call in
+    holds_size sizes (core.passes by) (core.passes by).stage measured (sound.holding by).locks
+    (sound.loaded.sized by measured (and_from (nat_lt 0 (len_of (core.passes by).call)) (nat_lt (core.passes by).length end)
+    (some_bytes (core.passes by).call extends.0) (lt-ltb (core.passes by).length end extends.1)))
+
+pub broken_lengths_step : (sizes : Sizes) (first : Values) (by : ℕ) (core : Core) (deed : Deed) (found : ℕ) → Sound sizes first core → MayFind sizes by core deed found → BrokenLengths (after_step sizes by deed found core)
+broken_lengths_step sizes first by core deed found sound may = record {
+  files = λ n m fault is at. barred_step Bars early sizes first by core deed found sound may
+      (λ fails cell own. subst (λ c. times c (core.passes by).hands ≡ 1) (sym own.0) (failing_size sizes first core by sound fails own.1))
+      (were_barred core sound.broken_lengths) n m (SIZE (file_of fault.call)) fault is (refl, at);
+}
+
+pub broken_lengths_begin : (sizes : Sizes) (by : ℕ) (core : Core) (call : FileCall) → BrokenLengths core → BrokenLengths (after_begin sizes by call core)
+broken_lengths_begin sizes by core call was = record { files = λ n m fault is at. barred_begin Bars early sizes by core call (were_barred core was) n m (SIZE (file_of fault.call)) fault is (refl, at) }
+
+pub broken_lengths_work : (sizes : Sizes) (by : ℕ) (core : Core) (work : Work) → BrokenLengths core → MayWork sizes core.values (core.passes by) work → BrokenLengths (after_work sizes by work core)
+broken_lengths_work sizes by core work was may = record { files = λ n m fault is at. barred_work Bars early sizes by core work may (were_barred core was) n m (SIZE (file_of fault.call)) fault is (refl, at) }
