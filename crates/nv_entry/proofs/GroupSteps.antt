@@ -146,13 +146,32 @@ all_pieces page first file at bytes = pieces_steps page first file at bytes (pag
 abbrev pub HaveLines : (page count : ℕ) → List Part → Type 0
 HaveLines page count = EachPart (λ i now. entry_lines page ≤ length now) count
 
-module _ (page first file at : ℕ) (bytes : List ℕ) (is_page : IsPageSize page) where
-  -- ---- one entry
-
+module _ (page first file at : ℕ) (bytes : List ℕ) where
   steps_on-pieces : (i : ℕ) → i < pages_touched at (length bytes) page → steps_on i (all_pieces page first file at bytes) ≡ piece_steps page first file at bytes i
   unfolding pieces_steps
   steps_on-pieces i below =
       steps_on-parts (piece_steps page first file at bytes) i 0 (pages_touched at (length bytes) page) (omega arith) (omega arith)
+
+  mark-piece_still : (i line : ℕ) → mark_after_all line (piece_steps page first file at bytes i) quiet_line ≡ quiet_line
+  unfolding piece_steps
+  mark-piece_still i line =
+      let piece = piece_of at (length bytes) page i in
+      mark-entry_still (piece_bytes bytes piece) file piece.at piece.size (count_at (pages_touched at (length bytes) page) i) first line
+
+  -- a line that is quiet before all steps is quiet after them
+  pub group_still : (i line : ℕ) → i < pages_touched at (length bytes) page → mark_after_all line (steps_on i (group_steps page first file at bytes)) quiet_line ≡ quiet_line
+  unfolding group_steps
+  group_still i line below =
+      let pieces = all_pieces page first file at bytes in
+      let commit = durable_store 0 0 (first + 1) in
+      ap (λ these. mark_after_all line these quiet_line) (steps_on-append i pieces (on_part 0 commit))
+      ∙ mark_after_all-append line (steps_on i pieces) (steps_on i (on_part 0 commit)) quiet_line
+      ∙ ap (mark_after_all line (steps_on i (on_part 0 commit)))
+      (ap (λ these. mark_after_all line these quiet_line) (steps_on-pieces i below) ∙ mark-piece_still i line)
+      ∙ mark-commit_still (first + 1) i line
+
+module _ (page first file at : ℕ) (bytes : List ℕ) (is_page : IsPageSize page) where
+  -- ---- one entry
 
   size-piece : (i : ℕ) → i < pages_touched at (length bytes) page
       → length (piece_bytes bytes (piece_of at (length bytes) page i)) ≡ (piece_of at (length bytes) page i).size
@@ -176,12 +195,6 @@ module _ (page first file at : ℕ) (bytes : List ℕ) (is_page : IsPageSize pag
   mark-piece i line mark within =
       let piece = piece_of at (length bytes) page i in
       mark-entry (piece_bytes bytes piece) file piece.at piece.size (count_at (pages_touched at (length bytes) page) i) first line mark within
-
-  mark-piece_still : (i line : ℕ) → mark_after_all line (piece_steps page first file at bytes i) quiet_line ≡ quiet_line
-  unfolding piece_steps
-  mark-piece_still i line =
-      let piece = piece_of at (length bytes) page i in
-      mark-entry_still (piece_bytes bytes piece) file piece.at piece.size (count_at (pages_touched at (length bytes) page) i) first line
 
   -- What has the words that a part has after the steps holds the entry, whatever the commit word.
   holds_entry : (i : ℕ) (part : Part) (image : PartImage) → AreBytes bytes → i < pages_touched at (length bytes) page → entry_lines page ≤ length part
@@ -209,7 +222,7 @@ module _ (page first file at : ℕ) (bytes : List ℕ) (is_page : IsPageSize pag
   no_commit_word : (i found : ℕ) → i < pages_touched at (length bytes) page → IsStoredBy (steps_on i (all_pieces page first file at bytes)) 0 0 found → ⊥
   no_commit_word i found below stored =
       let At : List Step → Type 0 = λ these. IsStoredBy these 0 0 found in
-      elim (stored_by_piece i 0 0 found below (subst At (steps_on-pieces i below) stored)) [
+      elim (stored_by_piece i 0 0 found below (subst At (steps_on-pieces page first file at bytes i below) stored)) [
         | inl in_data ↦ omega arith
         | inr in_fields ↦ omega arith
       ]
@@ -258,7 +271,7 @@ module _ (page first file at : ℕ) (bytes : List ℕ) (is_page : IsPageSize pag
             let part = slice_index_or parts i [] in
             let steps = piece_steps page first file at bytes i in
             let At : List Step → Type 0 = λ these. IsImage (after_steps these part) (from.before i) in
-            let before : IsImage (after_steps steps part) (from.before i) = subst At (steps_on-pieces i below) (row_image_at pieces parts from.before i from.is) in
+            let before : IsImage (after_steps steps part) (from.before i) = subst At (steps_on-pieces page first file at bytes i below) (row_image_at pieces parts from.before i from.is) in
             holds_entry i part (image i) are below (lines.has i below) (λ line word within apart.
             kept i line word (inr apart)
             ∙ quiet_image (after_steps steps part) (from.before i) line word (quiet_after line steps part (mark-piece i line open_line within)) before);
@@ -334,7 +347,7 @@ module _ (page first file at : ℕ) (bytes : List ℕ) (is_page : IsPageSize pag
       let commit = durable_store 0 0 (first + 1) in
       let At : List Step → Type 0 = λ these. IsStoredBy these line word found in
       elim (stored_by-append (steps_on i pieces) (steps_on i (on_part 0 commit)) line word found (subst At (steps_on-append i pieces (on_part 0 commit)) stored)) [
-        | inl by_piece ↦ inl (stored_by_piece i line word found below (subst At (steps_on-pieces i below) by_piece))
+        | inl by_piece ↦ inl (stored_by_piece i line word found below (subst At (steps_on-pieces page first file at bytes i below) by_piece))
         | inr by_commit ↦
             let here = stored_by_on_part i 0 commit line word found by_commit in
             let place = only_commits (first + 1) line word found here.1 in
@@ -384,23 +397,11 @@ module _ (page first file at : ℕ) (bytes : List ℕ) (is_page : IsPageSize pag
 
   -- Quiet parts are quiet after them.
   pub group_quiet : (parts : List Part) → length parts ≡ pages_touched at (length bytes) page → AreQuiet parts → AreQuiet (run row_after (group_steps page first file at bytes) parts)
-  unfolding group_steps
   group_quiet parts long quiet =
-      let pieces = all_pieces page first file at bytes in
-      let commit = durable_store 0 0 (first + 1) in
-      let group = pieces ++ on_part 0 commit in
+      let group = group_steps page first file at bytes in
       record {
         each = λ i. elim (cases_lt i (pages_touched at (length bytes) page)) [
-          | inl below ↦ record {
-            lines = λ line.
-                row_quiet_still i line group parts
-                (ap (λ these. mark_after_all line these quiet_line) (steps_on-append i pieces (on_part 0 commit))
-                ∙ mark_after_all-append line (steps_on i pieces) (steps_on i (on_part 0 commit)) quiet_line
-                ∙ ap (mark_after_all line (steps_on i (on_part 0 commit)))
-                (ap (λ these. mark_after_all line these quiet_line) (steps_on-pieces i below) ∙ mark-piece_still i line)
-                ∙ mark-commit_still (first + 1) i line)
-                ((quiet.each i).lines line);
-          }
+          | inl below ↦ record { lines = λ line. row_quiet_still i line group parts (group_still page first file at bytes i line below) ((quiet.each i).lines line) }
           | inr past ↦
               let none : IsQuiet [] = record { lines = λ line. quiet_blank } in
               subst IsQuiet (sym (get_or_past (run row_after group parts) i [] (omega (arith, length-row_after group parts)))) none

@@ -7,6 +7,7 @@ pub mod PartRows
 pub mod PieceRanges
 pub mod PieceSteps
 pub mod Rooms
+pub mod RoomSteps
 pub mod Slots
 pub mod TestParts
 pub mod CommitLaws

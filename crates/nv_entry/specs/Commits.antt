@@ -4,9 +4,11 @@ use Rattle.std.specs.Prelude.{◌≡◌, ℕ, ◌<◌, ◌≤◌, List, [], leng
 use Rattle.nv_plain.specs.Pieces.{pages_touched}
 use Rattle.nv_pmem.specs.Limits.{IsPageSize, entry_lines}
 use Rattle.nv_pmem.specs.Part.{Part}
-use Rattle.nv_pmem.specs.Rows.{row_after, InEachRowImage, AreQuiet, row_words}
+use Rattle.nv_pmem.specs.Room.{Room}
+use Rattle.nv_pmem.specs.RoomSteps.{EndWith}
+use Rattle.nv_pmem.specs.Rows.{row_after, steps_on, InEachRowImage, AreQuiet, row_words}
 use Rattle.nv_pmem.specs.Runs.{run}
-use Rattle.nv_entry.specs.Group.{group_steps, IsUncommitted, IsUncommittedOrWhole, IsWhole, StoresOnly}
+use Rattle.nv_entry.specs.Group.{group_steps, IsUncommitted, IsUncommittedOrWhole, IsWhole, StoresOnly, IsReady}
 
 -- There is a part for each piece of a write, with the lines of an entry; the write has a byte, and each of its bytes is one.
 pub record AreGroupParts (page at : ℕ) (bytes : List ℕ) (parts : List Part) : Type 0 where
@@ -61,3 +63,10 @@ abbrev pub GroupsEndQuiet : Type 0
 GroupsEndQuiet =
     (page first file at : ℕ) (bytes : List ℕ) (parts : List Part)
     → AreGroupParts page at bytes parts → AreQuiet parts → AreQuiet (after_group page first file at bytes parts)
+
+-- Whatever room the steps leave, a part that is ready for an entry before them is ready again after them.
+abbrev pub GroupsEndReady : Type 0
+GroupsEndReady =
+    (page first file at : ℕ) (bytes : List ℕ) (i : ℕ) (room : Room)
+    → i < pages_touched at (length bytes) page → IsReady page room
+    → EndWith (IsReady page) (steps_on i (group_steps page first file at bytes)) room

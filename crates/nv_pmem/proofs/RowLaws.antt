@@ -1,5 +1,5 @@
 -- Laws about rows: what steps on several parts make of each of them, of their histories and of their images.
-use Rattle.std.proofs.Common.{◌≡◌, ◌≢◌, ℕ, ◌<◌, ◌==◌, if◌then◌else◌, ◌⊎◌, inl, inr, List, [], ◌∷◌, ◌++◌, All, length, take, drop, replicate, slice_set, slice_index_or, zero, suc, refl, sym, ap, ◌∙◌, subst, arith}
+use Rattle.std.proofs.Common.{◌≡◌, ◌≢◌, ℕ, ◌<◌, ◌⊎◌, inl, inr, List, [], ◌∷◌, ◌++◌, All, length, take, drop, replicate, slice_set, slice_index_or, zero, suc, refl, sym, ap, ◌∙◌, subst, arith}
 use Rattle.std.proofs.lemmas.Bool.{cases_eq, cases_lt, eq-eqb, ne_eqb}
 use Rattle.std.proofs.lemmas.List.{get_or-replicate, get_or-set_same, get_or-set_other, get_or_past, length-set, length-take, set_past, set-get_or, set-set, take-append-drop, take-take, take_at}
 use Rattle.std.proofs.lemmas.List.Elements.{All-head, All-tail}
@@ -8,17 +8,13 @@ use Rattle.nv_pmem.specs.Images.{IsImage, IsQuietLine}
 use Rattle.nv_pmem.specs.Moments.{Tells}
 use Rattle.nv_pmem.specs.Part.{Part, blank_line, newest, word_at, line_of, word_of}
 use Rattle.nv_pmem.specs.Rows.{RowStep, on_part, row_after, row_grown, DidRow, DidSomeRow, RowTells, row_words, IsRowImage, InEachRowImage, EachRowMoment}
+pub use Rattle.nv_pmem.specs.Rows.{steps_on}
 use Rattle.nv_pmem.specs.Runs.{run, grown}
 use Rattle.nv_pmem.specs.Steps.{Step, Store, Flush, Fence, History, after_step, Did, DidSome}
 use Rattle.nv_pmem.proofs.ImageLaws.{image_of_now, IsStoredBy, image_comes_from, open_line, quiet_line, mark_after_all, quiet_image, quiet_after, quiet_blank, quiet_still}
 use Rattle.nv_pmem.proofs.StepLaws.{after_steps, Always, always_front}
 
 -- ---- the steps on one part
-
--- those of a row's steps that are on this part
-abbrev pub steps_on : ℕ → List RowStep → List Step
-steps_on i [] = []
-steps_on i (one ∷ steps) = if i == one.part then one.step ∷ steps_on i steps else steps_on i steps
 
 pub steps_on-append : (i : ℕ) (first rest : List RowStep) → steps_on i (first ++ rest) ≡ steps_on i first ++ steps_on i rest
 steps_on-append i [] rest = refl

@@ -7,6 +7,7 @@ pub mod Stored
 pub mod Rows
 pub mod Laws
 pub mod Room
+pub mod RoomSteps
 pub mod Limits
 pub mod Draws
 pub mod Picked

@@ -1,5 +1,5 @@
 -- Rows: parts that are written together. The parts of a row are counted from 0, and the calls on them have one order.
-use Rattle.std.specs.Prelude.{◌≡◌, ℕ, ◌≤◌, List, [], ◌∷◌, length, map, take, slice_index_or, slice_set}
+use Rattle.std.specs.Prelude.{◌≡◌, ℕ, ◌≤◌, ◌==◌, if◌then◌else◌, List, [], ◌∷◌, length, map, take, slice_index_or, slice_set}
 use Rattle.std.specs.List.{AllZip}
 use Rattle.nv_plain.specs.Images.{Image}
 use Rattle.nv_pmem.specs.Images.{IsImage, IsQuiet}
@@ -17,6 +17,11 @@ pub record RowStep : Type 0 where
 abbrev pub on_part : ℕ → List Step → List RowStep
 on_part part [] = []
 on_part part (step ∷ steps) = record { part = part; step = step } ∷ on_part part steps
+
+-- those of a row's steps that are on this part
+abbrev pub steps_on : ℕ → List RowStep → List Step
+steps_on i [] = []
+steps_on i (one ∷ steps) = if i == one.part then one.step ∷ steps_on i steps else steps_on i steps
 
 -- the states of the parts after one more step
 abbrev pub row_after : RowStep → List Part → List Part
