@@ -2,6 +2,7 @@
 use Rattle.std.proofs.Common.{◌≡◌, ℕ, ◌≤◌, Bool, true, false, List, [], ◌∷◌, refl, ap, arith}
 use Rattle.nv_plain.specs.Files.{Files}
 use Rattle.nv_plain.specs.declared.call.FileCall.{FileCall}
+use Rattle.nv_entry.specs.Commits.{GroupsEndReady}
 use Rattle.nv_core.specs.Words.{Sizes}
 use Rattle.nv_core.specs.Deeds.{Deed}
 use Rattle.nv_core.specs.Order.{Values, Work, MayWork}
@@ -86,12 +87,12 @@ opening_has_content mount files is = record {
     grows_not : Idle ≡ Growing → ⊥
     grows_not e = not_both {b = is_idle Idle} refl (ap is_idle e)
 
-run_keeps : (plain : PlainLaws) (sizes : Sizes) (first : Values) (files : Files) (events : List Event) (core : Core) → HasFiles sizes first files → Sound sizes first core → Content sizes first files core → IsRun sizes core events
+run_keeps : (plain : PlainLaws) (ends : GroupsEndReady) (sizes : Sizes) (first : Values) (files : Files) (events : List Event) (core : Core) → HasFiles sizes first files → Sound sizes first core → Content sizes first files core → IsRun sizes core events
     → Content sizes first files (after sizes core events)
-run_keeps plain sizes first files [] core has sound was run = was
-run_keeps plain sizes first files (event ∷ later) core has sound was run =
-    run_keeps plain sizes first files later (after_event sizes event core) has (events_keep_sound sizes first core event sound run.0) (events_keep_content plain sizes first files core event has sound was run.0) run.1
+run_keeps plain ends sizes first files [] core has sound was run = was
+run_keeps plain ends sizes first files (event ∷ later) core has sound was run =
+    run_keeps plain ends sizes first files later (after_event sizes event core) has (events_keep_sound ends sizes first core event sound run.0) (events_keep_content plain sizes first files core event has sound was run.0) run.1
 
-pub runs_keep_content : PlainLaws → RunsKeepContent
-runs_keep_content plain mount files events is opens run =
-    run_keeps plain mount.sizes mount.values files events (opening mount) opens.stores (opening_is_sound mount is) (opening_has_content mount files opens) run
+pub runs_keep_content : PlainLaws → GroupsEndReady → RunsKeepContent
+runs_keep_content plain ends mount files events is opens run =
+    run_keeps plain ends mount.sizes mount.values files events (opening mount) opens.stores (opening_is_sound mount is) (opening_has_content mount files opens) run

@@ -4,6 +4,7 @@ use Rattle.std.specs.Prelude.{Option, Some, None, option_map}
 use Rattle.std.proofs.lemmas.Bool.{cases_eq}
 use Rattle.nv_pmem.specs.Part.{Part}
 use Rattle.nv_pmem.specs.Laws.{StepsKeepLines}
+use Rattle.nv_pmem.specs.Room.{Room}
 use Rattle.nv_pmem.specs.Runs.{run}
 use Rattle.nv_pmem.specs.Steps.{Step, after_step as after_line_step}
 use Rattle.nv_core.specs.Words.{Sizes, Word, HEADER, STORE, ENTRY, PAGE, index}
@@ -33,7 +34,7 @@ header_kept first tail old new same lines stays = record {
 
 -- ---- steps
 
-header_stepped : (sizes : Sizes) (pass : Pass) (deed : Deed) (values : Values) → values_stepped sizes pass deed values HEADER ≡ values HEADER
+pub header_stepped : (sizes : Sizes) (pass : Pass) (deed : Deed) (values : Values) → values_stepped sizes pass deed values HEADER ≡ values HEADER
 header_stepped sizes pass (Pledges page) values = word_else values (PAGE page) (patched_by sizes pass.call page (values (PAGE page))) HEADER (differ HEADER (PAGE page) refl)
 header_stepped sizes pass deed values = refl
 
@@ -43,7 +44,7 @@ header_step sizes first tail pass deed values stays = header_kept first tail val
 
 -- ---- device calls
 
-header_read : (job : Job) (how : Ending) (stage : Stage) (values : Values) → values_read job how stage values HEADER ≡ values HEADER
+pub header_read : (job : Job) (how : Ending) (stage : Stage) (values : Values) → values_read job how stage values HEADER ≡ values HEADER
 header_read (Reads at bytes) Made (Copying page) values = word_else values (PAGE page) (filled bytes (values (PAGE page))) HEADER (differ HEADER (PAGE page) refl)
 header_read job how stage values = refl
 
@@ -55,13 +56,13 @@ mapped : (step : Step) (told : Option Part) (part : Part) → option_map (after_
 mapped step None part is = cc
 mapped step (Some before) part is = (before, refl, cc)
 
-called_lines : StepsKeepLines → (step : Step) (how : Ending) (value : Value) (part : Part) → IsPart (called (Writes step) how value) part → HasLines value part
-called_lines keeps step Made (APart device) part is = let b = mapped step device.told part is in (b.0, b.1, ap length b.2 ∙ lines_kept keeps step b.0)
-called_lines keeps step (Failed true faults) (APart device) part is = let b = mapped step device.told part is in (b.0, b.1, ap length b.2 ∙ lines_kept keeps step b.0)
-called_lines keeps step (Failed false faults) (APart device) part is = (part, is, refl)
-called_lines keeps step how Bare part is = absurd is
-called_lines keeps step how (AStore device) part is = absurd is
-called_lines keeps step how (ABuffer buffer) part is = absurd is
+called_lines : StepsKeepLines → (step : Step) (left : Room) (how : Ending) (value : Value) (part : Part) → IsPart (called (Writes step left) how value) part → HasLines value part
+called_lines keeps step left Made (APart device room) part is = let b = mapped step device.told part is in (b.0, b.1, ap length b.2 ∙ lines_kept keeps step b.0)
+called_lines keeps step left (Failed true faults) (APart device room) part is = let b = mapped step device.told part is in (b.0, b.1, ap length b.2 ∙ lines_kept keeps step b.0)
+called_lines keeps step left (Failed false faults) (APart device room) part is = (part, is, refl)
+called_lines keeps step left how Bare part is = absurd is
+called_lines keeps step left how (AStore device) part is = absurd is
+called_lines keeps step left how (ABuffer buffer) part is = absurd is
 
 pub header_work : StepsKeepLines → (sizes : Sizes) (first : Values) (tail : ℕ) (pass : Pass) (work : Work) (values : Values) → HeaderStays first tail values → MayWork sizes values pass work → HeaderStays first tail (values_worked pass work values)
 header_work keeps sizes first tail pass work values stays may = go pass.stage may.due
@@ -77,7 +78,7 @@ header_work keeps sizes first tail pass work values stays may = go pass.stage ma
 
     entry : (calls : ℕ) (due : IsNextCall sizes pass calls work) (slot : ℕ) (part : Part) → IsPart (values_worked pass work values (ENTRY slot)) part → HasLines (values (ENTRY slot)) part
     entry calls due slot part is = elim (cases_eq slot (slot_of sizes (pass.first + due.row.part))) [
-      | inl same ↦ called_lines keeps due.row.step work.ending (values (ENTRY slot)) part
+      | inl same ↦ called_lines keeps due.row.step due.room work.ending (values (ENTRY slot)) part
           (subst (λ v. IsPart v part) (part_worked pass work values slot ∙ at (ENTRY slot) (due.cell ∙ ap ENTRY (sym same)) (ENTRY slot)
           ∙ word_here values (ENTRY slot) (called work.job work.ending (values (ENTRY slot))) ∙ ap (λ j. called j work.ending (values (ENTRY slot))) due.job) is)
       | inr ne ↦ entry_else (ENTRY (slot_of sizes (pass.first + due.row.part))) due.cell slot (λ e. ne (ap index e)) part is

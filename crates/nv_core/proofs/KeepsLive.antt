@@ -52,7 +52,7 @@ stores_same sizes old new same = ap (λ c. record { contents = c }) (map_same (�
 
 store_called : (job : Job) (how : Ending) (value : Value) → store_bytes (called job how value) ≡ store_bytes value
 store_called job how Bare = refl
-store_called job how (APart device) = refl
+store_called job how (APart device room) = refl
 store_called job how (AStore device) = refl
 store_called job how (ABuffer buffer) = refl
 

@@ -4,7 +4,7 @@ use Rattle.nv_plain.specs.Files.{Files}
 use Rattle.nv_plain.specs.declared.call.FileCall.{FileCall}
 use Rattle.nv_pmem.specs.Limits.{IsPageSize}
 use Rattle.nv_pmem.specs.Laws.{BlankIsQuiet, StepsKeepLines, LoadsAreAnImage, QuietHasOneImage}
-use Rattle.nv_entry.specs.Commits.{GroupsAreAtomic, GroupsBecomeWhole, GroupsEndQuiet, GroupsStoreNothingElse}
+use Rattle.nv_entry.specs.Commits.{GroupsAreAtomic, GroupsBecomeWhole, GroupsEndQuiet, GroupsStoreNothingElse, GroupsEndReady}
 use Rattle.nv_core.specs.Words.{Sizes}
 use Rattle.nv_core.specs.Deeds.{Deed}
 use Rattle.nv_core.specs.Stepped.{begun}
@@ -77,18 +77,18 @@ module _ (blank : BlankIsQuiet) (lines : StepsKeepLines) (plain : PlainLaws) whe
   events_keep_the_log sizes first opened tail log placed core event page_is sound content may =
       content_act sizes page_is first opened tail log placed event.by core event.act sound may.made content may.act
 
-  run_keeps : (sizes : Sizes) → IsPageSize sizes.page → (first : Values) (opened : Files) (tail : ℕ) (events : List Event) (log : Log) (placed : ℕ → Bool) (core : Core)
+  run_keeps : GroupsEndReady → (sizes : Sizes) → IsPageSize sizes.page → (first : Values) (opened : Files) (tail : ℕ) (events : List Event) (log : Log) (placed : ℕ → Bool) (core : Core)
       → Sound sizes first core → LogContent sizes first opened tail log placed core → IsRun sizes core events
       → LogContent sizes first opened tail (log_after_run sizes core events log) (placed_after_run sizes core events placed) (after sizes core events)
-  run_keeps sizes page_is first opened tail [] log placed core sound content run = content
-  run_keeps sizes page_is first opened tail (event ∷ later) log placed core sound content run =
-      run_keeps sizes page_is first opened tail later (log_after sizes event core log) (placed_after sizes event core placed) (after_event sizes event core)
-      (events_keep_sound sizes first core event sound run.0)
+  run_keeps ends sizes page_is first opened tail [] log placed core sound content run = content
+  run_keeps ends sizes page_is first opened tail (event ∷ later) log placed core sound content run =
+      run_keeps ends sizes page_is first opened tail later (log_after sizes event core log) (placed_after sizes event core placed) (after_event sizes event core)
+      (events_keep_sound ends sizes first core event sound run.0)
       (events_keep_the_log sizes first opened tail log placed core event page_is sound content run.0) run.1
 
-  pub runs_keep_the_log_all : QuietHasOneImage → RunsKeepTheLog
-  runs_keep_the_log_all one_image mount files tail log placed events is opens has run =
-      run_keeps mount.sizes opens.page mount.values files tail events log placed (opening mount) (opening_is_sound mount is)
+  pub runs_keep_the_log_all : GroupsEndReady → QuietHasOneImage → RunsKeepTheLog
+  runs_keep_the_log_all ends one_image mount files tail log placed events is opens has run =
+      run_keeps ends mount.sizes opens.page mount.values files tail events log placed (opening mount) (opening_is_sound mount is)
       (opening_has_the_log one_image mount files tail log placed opens has) run
 
 -- ---- what a power failure may leave

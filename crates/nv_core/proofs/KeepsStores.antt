@@ -15,7 +15,7 @@ step_store sizes pass deed values file = refl
 
 called_store : (job : Job) (how : Ending) (value : Value) → store_of (called job how value) ≡ store_of value
 called_store job how Bare = refl
-called_store job how (APart device) = refl
+called_store job how (APart device room) = refl
 called_store job how (AStore device) = refl
 called_store job how (ABuffer buffer) = refl
 

@@ -328,7 +328,7 @@ read_else job how stage values page ne = refl
 
 read_failed : (job : Job) (came : Bool) (faults : ℕ) (stage : Stage) (values : Values) → values_read job (Failed came faults) stage values ≡ values
 read_failed (Reads at bytes) came faults stage values = refl
-read_failed (Writes step) came faults stage values = refl
+read_failed (Writes step room) came faults stage values = refl
 
 -- what stands patched stays so
 work_patched : (sizes : Sizes) (values : Values) (pass : Pass) (work : Work) (how : Ending) (stage : Stage) (page : ℕ) (old : List ℕ) → HoldsLocks sizes pass stage → IsDue sizes values pass work stage → times (PAGE page) pass.hands ≡ 1

@@ -38,8 +38,8 @@ use Rattle.nv_core.proofs.KeepsLocks.{kind_is}
 use Rattle.nv_core.proofs.WindowLaws.{apart_within}
 use Rattle.nv_core.proofs.KeepsWindow.{window_step}
 use Rattle.nv_core.proofs.KeepsGroups.{is_draw, group_new, group_old, which}
-use Rattle.nv_core.proofs.RowParts.{in_group}
-use Rattle.nv_core.proofs.WrittenLaws.{part_now, part_stepped, part_worked, part_called, steps_of, written_same, written_more}
+use Rattle.nv_core.proofs.RowParts.{row_within}
+use Rattle.nv_core.proofs.WrittenLaws.{part_now, part_stepped, part_worked, part_called, value_called, value_not_called, steps_of, written_same, written_more}
 
 -- ---- whose a leader is
 
@@ -274,11 +274,6 @@ length_same sizes pass (Read file at len) = refl
 length_same sizes pass (Write file at bytes) = refl
 length_same sizes pass (Sync file) = refl
 
-row_within : (sizes : Sizes) (pass : Pass) (call : FileCall) (calls : ℕ) (row : RowStep) → 1 ≤ page_count sizes call → calls < length (commit_steps sizes pass call) → slice_index_or (commit_steps sizes pass call) calls row ≡ row → row.part < page_count sizes call
-row_within sizes pass (Read file at len) calls row some less is = absurd (omega arith)
-row_within sizes pass (Write file at bytes) calls row some less is = in_group sizes.page pass.first file at bytes calls row some less is
-row_within sizes pass (Sync file) calls row some less is = absurd (omega arith)
-
 module _ (sizes : Sizes) (first : Values) (tail : ℕ) (log : Log) (by : ℕ) (core : Core) (work : Work) (calls : ℕ)
     (sound : Sound sizes first core) (groups : Groups sizes core log) (written : Written sizes tail log core)
     (at : (core.passes by).stage ≡ Committing calls) (due : IsNextCall sizes (core.passes by) calls work) where
@@ -307,18 +302,11 @@ module _ (sizes : Sizes) (first : Values) (tail : ℕ) (log : Log) (by : ℕ) (c
   slot_here : ℕ
   slot_here = slot_of sizes ((core.passes by).first + due.row.part)
 
-  value_here : values_worked (core.passes by) work core.values (ENTRY (slot_of sizes ((core.passes by).first + due.row.part))) ≡ called (Writes due.row.step) work.ending (core.values (ENTRY (slot_of sizes ((core.passes by).first + due.row.part))))
-  value_here =
-      part_worked (core.passes by) work core.values (slot_of sizes ((core.passes by).first + due.row.part))
-      ∙ ap (λ c. with_word core.values c (called work.job work.ending (core.values c)) (ENTRY (slot_of sizes ((core.passes by).first + due.row.part)))) due.cell
-      ∙ word_here core.values (ENTRY (slot_of sizes ((core.passes by).first + due.row.part))) (called work.job work.ending (core.values (ENTRY (slot_of sizes ((core.passes by).first + due.row.part)))))
-      ∙ ap (λ j. called j work.ending (core.values (ENTRY (slot_of sizes ((core.passes by).first + due.row.part))))) due.job
+  value_here : values_worked (core.passes by) work core.values (ENTRY (slot_of sizes ((core.passes by).first + due.row.part))) ≡ called (Writes due.row.step due.room) work.ending (core.values (ENTRY (slot_of sizes ((core.passes by).first + due.row.part))))
+  value_here = value_called sizes (core.passes by) work core.values calls due
 
   value_else : (slot : ℕ) → slot ≢ slot_of sizes ((core.passes by).first + due.row.part) → values_worked (core.passes by) work core.values (ENTRY slot) ≡ core.values (ENTRY slot)
-  value_else slot ne =
-      part_worked (core.passes by) work core.values slot
-      ∙ ap (λ c. with_word core.values c (called work.job work.ending (core.values c)) (ENTRY slot)) due.cell
-      ∙ word_else core.values (ENTRY (slot_of sizes ((core.passes by).first + due.row.part))) (called work.job work.ending (core.values (ENTRY (slot_of sizes ((core.passes by).first + due.row.part))))) (ENTRY slot) (λ e. ne (ap index e))
+  value_else = value_not_called sizes (core.passes by) work core.values calls due
 
   part_else : (slot : ℕ) → slot ≢ slot_of sizes ((core.passes by).first + due.row.part) → (part : Part) → IsPart (core.values (ENTRY slot)) part → IsPart (values_worked (core.passes by) work core.values (ENTRY slot)) part
   part_else slot ne part is = subst (λ v. IsPart v part) (sym (value_else slot ne)) is
@@ -337,7 +325,7 @@ module _ (sizes : Sizes) (first : Values) (tail : ℕ) (log : Log) (by : ℕ) (c
       written_more sizes core.values (values_worked (core.passes by) work core.values) tail (core.passes by).call (core.passes by).first calls work.ending due.row
       (subst (λ s. calls < length s) (steps_same sizes (core.passes by) (core.passes by).call) due.there)
       (subst (λ s. slice_index_or s calls due.row ≡ due.row) (steps_same sizes (core.passes by) (core.passes by).call) due.at)
-      (λ one is. subst (λ v. IsPart v (part_now work.ending due.row.step one)) (sym value_here) (part_called due.row.step work.ending _ one is))
+      (λ one is. subst (λ v. IsPart v (part_now work.ending due.row.step one)) (sym value_here) (part_called due.row.step due.room work.ending _ one is))
       (λ i less ne one is. part_else (slot_of sizes ((core.passes by).first + i))
       (apart_in sizes (core.passes by).first (core.passes by).entries ((core.passes by).first + i) ((core.passes by).first + due.row.part)
       (few_entries sizes (core.passes by).call (core.passes by).entries pass_drawn ((sound.standing by).allowed (busy _ _ at refl)))

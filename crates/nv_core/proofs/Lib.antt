@@ -16,6 +16,7 @@ pub mod KeepsLocks
 pub mod KeepsWindow
 pub mod Inherits
 pub mod KeepsStop
+pub mod KeepsRooms
 pub mod KeepsNumbers
 pub mod KeepsLoaded
 pub mod Reach

@@ -1,6 +1,7 @@
 -- Every event keeps the core sound, and so does every run.
 use Rattle.std.proofs.Common.{◌≡◌, ℕ, zero, suc, ◌+◌, ◌^◌, ◌≤◌, true, false, List, [], ◌∷◌, refl, sym, arith}
 use Rattle.nv_plain.specs.declared.call.FileCall.{FileCall}
+use Rattle.nv_entry.specs.Commits.{GroupsEndReady}
 use Rattle.nv_core.specs.Words.{Sizes, Word, SIZE, STORE, is_shut, is_lock, CLEANER, HEADER, PAGE, CLEANUP, ENTRY}
 use Rattle.nv_core.specs.Deeds.{Deed}
 use Rattle.nv_core.specs.Order.{Values, Work, MayWork}
@@ -19,6 +20,7 @@ use Rattle.nv_core.proofs.KeepsLoaded.{loaded_step, loaded_begin, loaded_work}
 use Rattle.nv_core.specs.Totals.{total}
 use Rattle.nv_core.proofs.KeepsBroken.{broken_step, broken_begin, broken_work}
 use Rattle.nv_core.proofs.KeepsBrokenLengths.{broken_lengths_step, broken_lengths_begin, broken_lengths_work}
+use Rattle.nv_core.proofs.KeepsRooms.{rooms_step, rooms_begin, rooms_work}
 use Rattle.nv_core.proofs.KeepsHistory.{history_step, history_begin, history_work}
 use Rattle.nv_core.specs.Holding.{one_if}
 use Rattle.nv_core.specs.DirtyCounters.{is_of_page}
@@ -43,6 +45,7 @@ sound_step sizes first by core deed found sound made may = record {
   history = history_step sizes first by core deed found sound sound.history (broken_step sizes first by core deed found sound sound.broken may) made may;
   buffers = buffers_step sizes first by core deed sound;
   devices = devices_step sizes first by core deed sound;
+  rooms = rooms_step sizes first by core deed found sound may;
 }
 
 -- a call that begins, before its first step
@@ -62,10 +65,11 @@ sound_begin sizes first by core call sound made may = record {
   history = history_begin sizes by core call sound.history made may;
   buffers = sound.buffers;
   devices = sound.devices;
+  rooms = rooms_begin sizes by core call sound.rooms;
 }
 
-sound_work : (sizes : Sizes) (first : Values) (by : ℕ) (core : Core) (work : Work) → Sound sizes first core → by ≤ core.made → MayWork sizes core.values (core.passes by) work → Sound sizes first (after_work sizes by work core)
-sound_work sizes first by core work sound made may = record {
+sound_work : (ends : GroupsEndReady) (sizes : Sizes) (first : Values) (by : ℕ) (core : Core) (work : Work) → Sound sizes first core → by ≤ core.made → MayWork sizes core.values (core.passes by) work → Sound sizes first (after_work sizes by work core)
+sound_work ends sizes first by core work sound made may = record {
   numbers = numbers_one core by _ _ sound.numbers made;
   standing = standing_work sizes first by core work sound may;
   holding = holding_work sizes first by core work sound may;
@@ -80,15 +84,16 @@ sound_work sizes first by core work sound made may = record {
   history = history_work sizes by core work sound.history made may;
   buffers = buffers_work sizes first by core work sound;
   devices = devices_work sizes first by core work sound;
+  rooms = rooms_work ends sizes first by core work sound may;
 }
 
-sound_act : (sizes : Sizes) (first : Values) (by : ℕ) (core : Core) (act : Act) → Sound sizes first core → by ≤ core.made → MayAct sizes by core act → Sound sizes first (after_act sizes by act core)
-sound_act sizes first by core (Begins call deed found) sound made may = sound_step sizes first by (after_begin sizes by call core) deed found (sound_begin sizes first by core call sound made may.0) made may.1
-sound_act sizes first by core (Does deed found) sound made may = sound_step sizes first by core deed found sound made may
-sound_act sizes first by core (Calls work) sound made may = sound_work sizes first by core work sound made may
+sound_act : (ends : GroupsEndReady) (sizes : Sizes) (first : Values) (by : ℕ) (core : Core) (act : Act) → Sound sizes first core → by ≤ core.made → MayAct sizes by core act → Sound sizes first (after_act sizes by act core)
+sound_act ends sizes first by core (Begins call deed found) sound made may = sound_step sizes first by (after_begin sizes by call core) deed found (sound_begin sizes first by core call sound made may.0) made may.1
+sound_act ends sizes first by core (Does deed found) sound made may = sound_step sizes first by core deed found sound made may
+sound_act ends sizes first by core (Calls work) sound made may = sound_work ends sizes first by core work sound made may
 
-pub events_keep_sound : EventsKeepSound
-events_keep_sound sizes first core event sound may = sound_act sizes first event.by core event.act sound may.made may.act
+pub events_keep_sound : GroupsEndReady → EventsKeepSound
+events_keep_sound ends sizes first core event sound may = sound_act ends sizes first event.by core event.act sound may.made may.act
 
 -- ---- at opening
 
@@ -118,7 +123,7 @@ lock_word mount (CLEANUP page) lock = omega arith
 lock_word mount cell lock = absurd (not_both lock refl)
 
 pub opening_is_sound : OpeningIsSound
-opening_is_sound mount is = record {
+opening_is_sound mount is_mount = record {
   numbers = record { unborn = λ n less. record { idle = refl; hands = refl; mine = refl; faulted = refl; left = refl }; ended = λ n ended. absurd ended };
   standing = λ n. record { at = tt; allowed = λ ne. absurd (ne refl) };
   holding = λ n. record { locks = λ cell lock. sym (nothing mount.sizes (opening_pass mount) cell); filling = λ s fills. absurd fills; none = λ slot off. refl };
@@ -126,7 +131,7 @@ opening_is_sound mount is = record {
   window = record {
     order = omega arith;
     room = omega arith;
-    small = is.small;
+    small = is_mount.small;
     unseized_in = λ n s u. absurd u;
     filling_in = λ n s u. absurd u;
     unseized_is = λ n s u. absurd u;
@@ -157,15 +162,16 @@ opening_is_sound mount is = record {
     whole = (0, omega arith, refl);
     mine = λ n. refl;
   };
-  buffers = is.buffers;
+  buffers = is_mount.buffers;
   devices = record { each = λ cell. refl };
+  rooms = record { free = λ slot less is. is_mount.ready slot less; ready = λ slot less kind. is_mount.ready slot less; filling = λ by number fills. absurd fills; header = is_mount.header };
 }
 
 -- ---- runs
 
-run_is_sound : (sizes : Sizes) (first : Values) (events : List Event) (core : Core) → Sound sizes first core → IsRun sizes core events → Sound sizes first (after sizes core events)
-run_is_sound sizes first [] core sound run = sound
-run_is_sound sizes first (event ∷ later) core sound run = run_is_sound sizes first later (after_event sizes event core) (events_keep_sound sizes first core event sound run.0) run.1
+run_is_sound : (ends : GroupsEndReady) (sizes : Sizes) (first : Values) (events : List Event) (core : Core) → Sound sizes first core → IsRun sizes core events → Sound sizes first (after sizes core events)
+run_is_sound ends sizes first [] core sound run = sound
+run_is_sound ends sizes first (event ∷ later) core sound run = run_is_sound ends sizes first later (after_event sizes event core) (events_keep_sound ends sizes first core event sound run.0) run.1
 
-pub runs_are_sound_all : RunsAreSound
-runs_are_sound_all mount events is run = run_is_sound mount.sizes mount.values events (opening mount) (opening_is_sound mount is) run
+pub runs_are_sound_all : GroupsEndReady → RunsAreSound
+runs_are_sound_all ends mount events is run = run_is_sound ends mount.sizes mount.values events (opening mount) (opening_is_sound mount is) run

@@ -6,6 +6,11 @@ use Rattle.nv_plain.specs.Pieces.{pages_touched}
 use Rattle.nv_pmem.specs.Rows.{RowStep, on_part}
 use Rattle.nv_pmem.specs.Steps.{Step, durable_store}
 use Rattle.nv_entry.specs.Group.{piece_steps, pieces_steps, group_steps}
+use Rattle.nv_plain.specs.declared.call.FileCall.{FileCall}
+use Rattle.nv_plain.specs.declared.call.FileCall.TheVariants.{Read, Write, Sync}
+use Rattle.nv_core.specs.Words.{Sizes}
+use Rattle.nv_core.specs.Passes.{Pass, page_count}
+use Rattle.nv_core.specs.Order.{commit_steps}
 
 -- each of some steps is on one of so many parts
 AreBelow : (count : ℕ) → List RowStep → Type 0
@@ -47,3 +52,9 @@ below_group page first file at bytes some =
 pub in_group : (page first file at : ℕ) (bytes : List ℕ) (k : ℕ) (row : RowStep) → 1 ≤ pages_touched at (length bytes) page
     → k < length (group_steps page first file at bytes) → slice_index_or (group_steps page first file at bytes) k row ≡ row → row.part < pages_touched at (length bytes) page
 in_group page first file at bytes k row some less is = below_at (pages_touched at (length bytes) page) (group_steps page first file at bytes) k row (below_group page first file at bytes some) less is
+
+-- and so are those of a pass
+pub row_within : (sizes : Sizes) (pass : Pass) (call : FileCall) (calls : ℕ) (row : RowStep) → 1 ≤ page_count sizes call → calls < length (commit_steps sizes pass call) → slice_index_or (commit_steps sizes pass call) calls row ≡ row → row.part < page_count sizes call
+row_within sizes pass (Read file at len) calls row some less is = absurd (omega arith)
+row_within sizes pass (Write file at bytes) calls row some less is = in_group sizes.page pass.first file at bytes calls row some less is
+row_within sizes pass (Sync file) calls row some less is = absurd (omega arith)

@@ -43,27 +43,27 @@ walk_opens_files = record {
 
 -- ---- the log
 
-blank_each : (line : ℕ) → line_of (blank_line ∷ blank_line ∷ []) line ≡ blank_line
-blank_each zero = refl
-blank_each (suc zero) = refl
-blank_each (suc (suc line)) = refl
+blank_each : (count line : ℕ) → line_of (replicate count blank_line) line ≡ blank_line
+blank_each zero line = refl
+blank_each (suc count) zero = refl
+blank_each (suc count) (suc line) = blank_each count line
 
 module _ (blank : BlankIsQuiet) where
-  quiet_line : (line : ℕ) → IsQuietLine (line_of (blank_line ∷ blank_line ∷ []) line)
-  quiet_line line = subst IsQuietLine (sym (blank_each line)) blank
+  quiet_line : (count line : ℕ) → IsQuietLine (line_of (replicate count blank_line) line)
+  quiet_line count line = subst IsQuietLine (sym (blank_each count line)) blank
 
-  quiet : IsQuiet (blank_line ∷ blank_line ∷ [])
-  quiet = record { lines = quiet_line }
+  quiet : (count : ℕ) → IsQuiet (replicate count blank_line)
+  quiet count = record { lines = quiet_line count }
 
-  commits_none : BlankIsZeros → QuietHasOneImage → (slot : ℕ) → InEachImage (CommitsNone walk_sizes 0 slot) (blank_line ∷ blank_line ∷ [])
+  commits_none : BlankIsZeros → QuietHasOneImage → (slot : ℕ) → InEachImage (CommitsNone walk_sizes 0 slot) (replicate 2 blank_line)
   commits_none zeros one_image slot image left number at low e =
-      let z : 0 ≡ number + 1 = sym (one_image (blank_line ∷ blank_line ∷ []) image 0 0 (quiet_line 0) left ∙ zeros (blank_line ∷ blank_line ∷ []) 0 0 (blank_each 0)) ∙ e in
+      let z : 0 ≡ number + 1 = sym (one_image (replicate 2 blank_line) image 0 0 (quiet_line 2 0) left ∙ zeros (replicate 2 blank_line) 0 0 (blank_each 2 0)) ∙ e in
       omega (arith, z)
 
   pub walk_opens_log : BlankIsZeros → QuietHasOneImage → WalkOpensLog
   walk_opens_log zeros one_image = record {
     page = record { least = omega arith; most = omega arith; whole_lines = refl };
     low = omega arith;
-    header = record { part = blank_line ∷ blank_line ∷ []; is = refl; quiet = quiet; tail_is = zeros (blank_line ∷ blank_line ∷ []) 1 0 (blank_each 1) };
-    blank = λ slot low. record { part = blank_line ∷ blank_line ∷ []; is = refl; lines = omega arith; quiet = quiet; stale = commits_none zeros one_image slot };
+    header = record { part = replicate 18 blank_line; is = refl; quiet = quiet 18; tail_is = zeros (replicate 18 blank_line) 1 0 (blank_each 18 1) };
+    blank = λ slot low. record { part = replicate 2 blank_line; is = refl; lines = omega arith; quiet = quiet 2; stale = commits_none zeros one_image slot };
   }

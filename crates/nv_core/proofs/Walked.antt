@@ -4,9 +4,11 @@ use Rattle.nv_plain.specs.declared.call.FileCall.TheVariants.{Write}
 use Rattle.nv_core.specs.Passes.{IsOneOf, AreBytes}
 use Rattle.nv_core.specs.Core.{Core}
 use Rattle.nv_core.specs.Events.{Act, MayAct, MayCome, IsStaying}
-use Rattle.nv_pmem.specs.Steps.{line_stores, durable_store}
+use Rattle.nv_pmem.specs.Room.{Keeps, Takes}
+use Rattle.nv_pmem.specs.RoomSteps.{RoomAfter, RoomAfterFault}
+use Rattle.nv_pmem.specs.Steps.{Step, Store, Flush, Fence, line_stores, durable_store}
 use Rattle.nv_entry.specs.Group.{group_steps, pieces_steps, piece_steps, data_steps, field_steps}
-use Rattle.nv_core.specs.Walks.{acts, walk_sizes, walk_bytes, walk_call, ReadIsWalked, WriteIsWalked, FaultIsWalked, WalkBegins}
+use Rattle.nv_core.specs.Walks.{acts, walk_sizes, walk_bytes, walk_room, walk_call, ReadIsWalked, WriteIsWalked, FaultIsWalked, WalkBegins}
 use Rattle.nv_core.specs.Totals.{total}
 
 -- an act of a pass that is there
@@ -21,6 +23,23 @@ are_bytes (suc (suc zero)) = omega arith
 are_bytes (suc (suc (suc zero))) = omega arith
 are_bytes (suc (suc (suc (suc zero)))) = omega arith
 are_bytes (suc (suc (suc (suc (suc i))))) = omega arith
+
+-- a step may leave a part's room as it was
+keeps : Keeps (walk_room 2) (walk_room 2)
+keeps = record { lines = refl; spare = λ line. omega arith; after_fence = λ line. omega arith }
+
+takes : (count line : ℕ) → Takes count line (walk_room 2) (walk_room 2)
+takes count line = record { lines = refl; spare = omega arith; after_fence = omega arith; other_spare = λ other ne. omega arith; other_after_fence = λ other ne. omega arith }
+
+room_stays : (step : Step) → RoomAfter step (walk_room 2) (walk_room 2)
+room_stays (Store line word value) = takes 1 line
+room_stays (Flush line) = (keeps, omega arith)
+room_stays Fence = (keeps, record { spare = λ line. omega arith })
+
+fault_stays : (step : Step) → RoomAfterFault step (walk_room 2) (walk_room 2)
+fault_stays (Store line word value) = takes 8 line
+fault_stays (Flush line) = keeps
+fault_stays Fence = keeps
 
 pub read_is_walked : ReadIsWalked
 read_is_walked = record {
@@ -37,7 +56,7 @@ read_is_walked = record {
             (
               comes _ 0 _ (omega arith) (λ z. z) refl record { may = (0, refl, refl); is = refl },
               (
-                comes _ 0 _ (omega arith) (λ z. z) refl record { due = record { bytes = replicate 64 97; cell = refl; job = refl; says = refl }; ends = tt; here = refl },
+                comes _ 0 _ (omega arith) (λ z. z) refl record { due = record { bytes = replicate 64 97; cell = refl; job = refl; says = refl }; ends = tt; leaves = tt; here = refl },
                 (
                   comes _ 0 _ (omega arith) (λ z. z) refl record { may = refl; is = refl },
                   (
@@ -80,43 +99,43 @@ write_is_walked = record {
                   (
                     comes _ 1 _ (omega arith) (λ z. z) refl record { may = refl; is = refl },
                     (
-                      comes _ 1 _ (omega arith) (λ z. z) refl record { due = record { row = walk_call 0 0; there = omega arith; at = refl; cell = refl; job = refl }; ends = tt; here = refl },
+                      comes _ 1 _ (omega arith) (λ z. z) refl record { due = record { row = walk_call 0 0; there = omega arith; at = refl; cell = refl; room = walk_room 2; job = refl }; ends = tt; leaves = room_stays (walk_call 0 0).step; here = refl },
                       (
-                        comes _ 1 _ (omega arith) (λ z. z) refl record { due = record { row = walk_call 0 1; there = omega arith; at = refl; cell = refl; job = refl }; ends = tt; here = refl },
+                        comes _ 1 _ (omega arith) (λ z. z) refl record { due = record { row = walk_call 0 1; there = omega arith; at = refl; cell = refl; room = walk_room 2; job = refl }; ends = tt; leaves = room_stays (walk_call 0 1).step; here = refl },
                         (
-                          comes _ 1 _ (omega arith) (λ z. z) refl record { due = record { row = walk_call 0 2; there = omega arith; at = refl; cell = refl; job = refl }; ends = tt; here = refl },
+                          comes _ 1 _ (omega arith) (λ z. z) refl record { due = record { row = walk_call 0 2; there = omega arith; at = refl; cell = refl; room = walk_room 2; job = refl }; ends = tt; leaves = room_stays (walk_call 0 2).step; here = refl },
                           (
-                            comes _ 1 _ (omega arith) (λ z. z) refl record { due = record { row = walk_call 0 3; there = omega arith; at = refl; cell = refl; job = refl }; ends = tt; here = refl },
+                            comes _ 1 _ (omega arith) (λ z. z) refl record { due = record { row = walk_call 0 3; there = omega arith; at = refl; cell = refl; room = walk_room 2; job = refl }; ends = tt; leaves = room_stays (walk_call 0 3).step; here = refl },
                             (
-                              comes _ 1 _ (omega arith) (λ z. z) refl record { due = record { row = walk_call 0 4; there = omega arith; at = refl; cell = refl; job = refl }; ends = tt; here = refl },
+                              comes _ 1 _ (omega arith) (λ z. z) refl record { due = record { row = walk_call 0 4; there = omega arith; at = refl; cell = refl; room = walk_room 2; job = refl }; ends = tt; leaves = room_stays (walk_call 0 4).step; here = refl },
                               (
-                                comes _ 1 _ (omega arith) (λ z. z) refl record { due = record { row = walk_call 0 5; there = omega arith; at = refl; cell = refl; job = refl }; ends = tt; here = refl },
+                                comes _ 1 _ (omega arith) (λ z. z) refl record { due = record { row = walk_call 0 5; there = omega arith; at = refl; cell = refl; room = walk_room 2; job = refl }; ends = tt; leaves = room_stays (walk_call 0 5).step; here = refl },
                                 (
-                                  comes _ 1 _ (omega arith) (λ z. z) refl record { due = record { row = walk_call 0 6; there = omega arith; at = refl; cell = refl; job = refl }; ends = tt; here = refl },
+                                  comes _ 1 _ (omega arith) (λ z. z) refl record { due = record { row = walk_call 0 6; there = omega arith; at = refl; cell = refl; room = walk_room 2; job = refl }; ends = tt; leaves = room_stays (walk_call 0 6).step; here = refl },
                                   (
-                                    comes _ 1 _ (omega arith) (λ z. z) refl record { due = record { row = walk_call 0 7; there = omega arith; at = refl; cell = refl; job = refl }; ends = tt; here = refl },
+                                    comes _ 1 _ (omega arith) (λ z. z) refl record { due = record { row = walk_call 0 7; there = omega arith; at = refl; cell = refl; room = walk_room 2; job = refl }; ends = tt; leaves = room_stays (walk_call 0 7).step; here = refl },
                                     (
-                                      comes _ 1 _ (omega arith) (λ z. z) refl record { due = record { row = walk_call 0 8; there = omega arith; at = refl; cell = refl; job = refl }; ends = tt; here = refl },
+                                      comes _ 1 _ (omega arith) (λ z. z) refl record { due = record { row = walk_call 0 8; there = omega arith; at = refl; cell = refl; room = walk_room 2; job = refl }; ends = tt; leaves = room_stays (walk_call 0 8).step; here = refl },
                                       (
-                                        comes _ 1 _ (omega arith) (λ z. z) refl record { due = record { row = walk_call 0 9; there = omega arith; at = refl; cell = refl; job = refl }; ends = tt; here = refl },
+                                        comes _ 1 _ (omega arith) (λ z. z) refl record { due = record { row = walk_call 0 9; there = omega arith; at = refl; cell = refl; room = walk_room 2; job = refl }; ends = tt; leaves = room_stays (walk_call 0 9).step; here = refl },
                                         (
-                                          comes _ 1 _ (omega arith) (λ z. z) refl record { due = record { row = walk_call 0 10; there = omega arith; at = refl; cell = refl; job = refl }; ends = tt; here = refl },
+                                          comes _ 1 _ (omega arith) (λ z. z) refl record { due = record { row = walk_call 0 10; there = omega arith; at = refl; cell = refl; room = walk_room 2; job = refl }; ends = tt; leaves = room_stays (walk_call 0 10).step; here = refl },
                                           (
-                                            comes _ 1 _ (omega arith) (λ z. z) refl record { due = record { row = walk_call 0 11; there = omega arith; at = refl; cell = refl; job = refl }; ends = tt; here = refl },
+                                            comes _ 1 _ (omega arith) (λ z. z) refl record { due = record { row = walk_call 0 11; there = omega arith; at = refl; cell = refl; room = walk_room 2; job = refl }; ends = tt; leaves = room_stays (walk_call 0 11).step; here = refl },
                                             (
-                                              comes _ 1 _ (omega arith) (λ z. z) refl record { due = record { row = walk_call 0 12; there = omega arith; at = refl; cell = refl; job = refl }; ends = tt; here = refl },
+                                              comes _ 1 _ (omega arith) (λ z. z) refl record { due = record { row = walk_call 0 12; there = omega arith; at = refl; cell = refl; room = walk_room 2; job = refl }; ends = tt; leaves = room_stays (walk_call 0 12).step; here = refl },
                                               (
-                                                comes _ 1 _ (omega arith) (λ z. z) refl record { due = record { row = walk_call 0 13; there = omega arith; at = refl; cell = refl; job = refl }; ends = tt; here = refl },
+                                                comes _ 1 _ (omega arith) (λ z. z) refl record { due = record { row = walk_call 0 13; there = omega arith; at = refl; cell = refl; room = walk_room 2; job = refl }; ends = tt; leaves = room_stays (walk_call 0 13).step; here = refl },
                                                 (
-                                                  comes _ 1 _ (omega arith) (λ z. z) refl record { due = record { row = walk_call 0 14; there = omega arith; at = refl; cell = refl; job = refl }; ends = tt; here = refl },
+                                                  comes _ 1 _ (omega arith) (λ z. z) refl record { due = record { row = walk_call 0 14; there = omega arith; at = refl; cell = refl; room = walk_room 2; job = refl }; ends = tt; leaves = room_stays (walk_call 0 14).step; here = refl },
                                                   (
-                                                    comes _ 1 _ (omega arith) (λ z. z) refl record { due = record { row = walk_call 0 15; there = omega arith; at = refl; cell = refl; job = refl }; ends = tt; here = refl },
+                                                    comes _ 1 _ (omega arith) (λ z. z) refl record { due = record { row = walk_call 0 15; there = omega arith; at = refl; cell = refl; room = walk_room 2; job = refl }; ends = tt; leaves = room_stays (walk_call 0 15).step; here = refl },
                                                     (
-                                                      comes _ 1 _ (omega arith) (λ z. z) refl record { due = record { row = walk_call 0 16; there = omega arith; at = refl; cell = refl; job = refl }; ends = tt; here = refl },
+                                                      comes _ 1 _ (omega arith) (λ z. z) refl record { due = record { row = walk_call 0 16; there = omega arith; at = refl; cell = refl; room = walk_room 2; job = refl }; ends = tt; leaves = room_stays (walk_call 0 16).step; here = refl },
                                                       (
-                                                        comes _ 1 _ (omega arith) (λ z. z) refl record { due = record { row = walk_call 0 17; there = omega arith; at = refl; cell = refl; job = refl }; ends = tt; here = refl },
+                                                        comes _ 1 _ (omega arith) (λ z. z) refl record { due = record { row = walk_call 0 17; there = omega arith; at = refl; cell = refl; room = walk_room 2; job = refl }; ends = tt; leaves = room_stays (walk_call 0 17).step; here = refl },
                                                         (
-                                                          comes _ 1 _ (omega arith) (λ z. z) refl record { due = record { row = walk_call 0 18; there = omega arith; at = refl; cell = refl; job = refl }; ends = tt; here = refl },
+                                                          comes _ 1 _ (omega arith) (λ z. z) refl record { due = record { row = walk_call 0 18; there = omega arith; at = refl; cell = refl; room = walk_room 2; job = refl }; ends = tt; leaves = room_stays (walk_call 0 18).step; here = refl },
                                                           (
                                                             comes _ 1 _ (omega arith) (λ z. z) refl record { may = refl; is = refl },
                                                             (
@@ -183,25 +202,25 @@ fault_is_walked = record {
                   (
                     comes _ 1 _ (omega arith) (λ z. z) refl record { may = refl; is = refl },
                     (
-                      comes _ 1 _ (omega arith) (λ z. z) refl record { due = record { row = walk_call 1 0; there = omega arith; at = refl; cell = refl; job = refl }; ends = tt; here = refl },
+                      comes _ 1 _ (omega arith) (λ z. z) refl record { due = record { row = walk_call 1 0; there = omega arith; at = refl; cell = refl; room = walk_room 2; job = refl }; ends = tt; leaves = room_stays (walk_call 1 0).step; here = refl },
                       (
-                        comes _ 1 _ (omega arith) (λ z. z) refl record { due = record { row = walk_call 1 1; there = omega arith; at = refl; cell = refl; job = refl }; ends = tt; here = refl },
+                        comes _ 1 _ (omega arith) (λ z. z) refl record { due = record { row = walk_call 1 1; there = omega arith; at = refl; cell = refl; room = walk_room 2; job = refl }; ends = tt; leaves = room_stays (walk_call 1 1).step; here = refl },
                         (
-                          comes _ 1 _ (omega arith) (λ z. z) refl record { due = record { row = walk_call 1 2; there = omega arith; at = refl; cell = refl; job = refl }; ends = tt; here = refl },
+                          comes _ 1 _ (omega arith) (λ z. z) refl record { due = record { row = walk_call 1 2; there = omega arith; at = refl; cell = refl; room = walk_room 2; job = refl }; ends = tt; leaves = room_stays (walk_call 1 2).step; here = refl },
                           (
-                            comes _ 1 _ (omega arith) (λ z. z) refl record { due = record { row = walk_call 1 3; there = omega arith; at = refl; cell = refl; job = refl }; ends = tt; here = refl },
+                            comes _ 1 _ (omega arith) (λ z. z) refl record { due = record { row = walk_call 1 3; there = omega arith; at = refl; cell = refl; room = walk_room 2; job = refl }; ends = tt; leaves = room_stays (walk_call 1 3).step; here = refl },
                             (
-                              comes _ 1 _ (omega arith) (λ z. z) refl record { due = record { row = walk_call 1 4; there = omega arith; at = refl; cell = refl; job = refl }; ends = tt; here = refl },
+                              comes _ 1 _ (omega arith) (λ z. z) refl record { due = record { row = walk_call 1 4; there = omega arith; at = refl; cell = refl; room = walk_room 2; job = refl }; ends = tt; leaves = room_stays (walk_call 1 4).step; here = refl },
                               (
-                                comes _ 1 _ (omega arith) (λ z. z) refl record { due = record { row = walk_call 1 5; there = omega arith; at = refl; cell = refl; job = refl }; ends = tt; here = refl },
+                                comes _ 1 _ (omega arith) (λ z. z) refl record { due = record { row = walk_call 1 5; there = omega arith; at = refl; cell = refl; room = walk_room 2; job = refl }; ends = tt; leaves = room_stays (walk_call 1 5).step; here = refl },
                                 (
-                                  comes _ 1 _ (omega arith) (λ z. z) refl record { due = record { row = walk_call 1 6; there = omega arith; at = refl; cell = refl; job = refl }; ends = tt; here = refl },
+                                  comes _ 1 _ (omega arith) (λ z. z) refl record { due = record { row = walk_call 1 6; there = omega arith; at = refl; cell = refl; room = walk_room 2; job = refl }; ends = tt; leaves = room_stays (walk_call 1 6).step; here = refl },
                                   (
-                                    comes _ 1 _ (omega arith) (λ z. z) refl record { due = record { row = walk_call 1 7; there = omega arith; at = refl; cell = refl; job = refl }; ends = tt; here = refl },
+                                    comes _ 1 _ (omega arith) (λ z. z) refl record { due = record { row = walk_call 1 7; there = omega arith; at = refl; cell = refl; room = walk_room 2; job = refl }; ends = tt; leaves = room_stays (walk_call 1 7).step; here = refl },
                                     (
-                                      comes _ 1 _ (omega arith) (λ z. z) refl record { due = record { row = walk_call 1 8; there = omega arith; at = refl; cell = refl; job = refl }; ends = tt; here = refl },
+                                      comes _ 1 _ (omega arith) (λ z. z) refl record { due = record { row = walk_call 1 8; there = omega arith; at = refl; cell = refl; room = walk_room 2; job = refl }; ends = tt; leaves = room_stays (walk_call 1 8).step; here = refl },
                                       (
-                                        comes _ 1 _ (omega arith) (λ z. z) refl record { due = record { row = walk_call 1 9; there = omega arith; at = refl; cell = refl; job = refl }; ends = record { never_falls = omega arith; more = omega arith }; here = refl },
+                                        comes _ 1 _ (omega arith) (λ z. z) refl record { due = record { row = walk_call 1 9; there = omega arith; at = refl; cell = refl; room = walk_room 2; job = refl }; ends = record { never_falls = omega arith; more = omega arith }; leaves = fault_stays (walk_call 1 9).step; here = refl },
                                         (
                                           comes _ 1 _ (omega arith) (λ z. z) refl record { may = tt; is = refl },
                                           (
@@ -236,4 +255,9 @@ fault_is_walked = record {
 
 pub walk_begins : WalkBegins
 unfolding total
-walk_begins = record { small = omega arith; buffers = record { many = refl } }
+walk_begins = record {
+  small = omega arith;
+  buffers = record { many = refl };
+  ready = λ slot less. record { lines = omega arith; spare = λ line below. omega arith };
+  header = record { there = omega arith; spare = λ line below. omega arith };
+}

@@ -7,20 +7,21 @@ use Rattle.std.specs.Prelude.{slice_index_or, option_map}
 use Rattle.nv_plain.specs.declared.call.FileCall.{FileCall}
 use Rattle.nv_plain.specs.declared.call.FileCall.TheVariants.{Read, Write, Sync}
 use Rattle.nv_pmem.specs.Part.{Part}
+use Rattle.nv_pmem.specs.Room.{Room}
 use Rattle.nv_pmem.specs.Runs.{run}
 use Rattle.nv_pmem.specs.Rows.{RowStep, row_after}
 use Rattle.nv_pmem.specs.Steps.{Step, after_step as after_line_step}
 use Rattle.nv_entry.specs.Group.{group_steps}
 use Rattle.nv_entry.specs.Commits.{after_some}
-use Rattle.nv_core.specs.Words.{Sizes, ENTRY, PAGE}
+use Rattle.nv_core.specs.Words.{Sizes, Word, ENTRY, PAGE, index}
 use Rattle.nv_core.specs.Values.{Value, Bare, APart, AStore, ABuffer, Job, Writes, Reads, Ending, Made, Failed, called, has_come, filled}
 use Rattle.nv_core.specs.Passes.{Stage, Copying, Pass, page_count}
 use Rattle.nv_core.specs.Deeds.{Deed, Pledges, slot_of, patched_by}
-use Rattle.nv_core.specs.Order.{Values, Work}
+use Rattle.nv_core.specs.Order.{Values, Work, IsNextCall}
 use Rattle.nv_core.specs.Core.{with_word, values_read, values_worked, values_stepped}
 use Rattle.nv_core.specs.Groups.{calls_after}
 use Rattle.nv_core.specs.Written.{IsPart, AreParts, IsWritten}
-use Rattle.nv_core.proofs.Changes.{word_else, differ}
+use Rattle.nv_core.proofs.Changes.{word_here, word_else, differ}
 
 -- the device calls of a group's commit
 abbrev pub steps_of : Sizes → FileCall → (first : ℕ) → List RowStep
@@ -44,13 +45,31 @@ part_worked pass work values slot = part_read work.job work.ending pass.stage (w
 abbrev pub part_now : Ending → Step → Part → Part
 part_now how step part = if has_come how then after_line_step step part else part
 
-pub part_called : (step : Step) (how : Ending) (value : Value) (part : Part) → IsPart value part → IsPart (called (Writes step) how value) (part_now how step part)
-part_called step Made (APart device) part is = ap (option_map (after_line_step step)) is
-part_called step (Failed true faults) (APart device) part is = ap (option_map (after_line_step step)) is
-part_called step (Failed false faults) (APart device) part is = is
-part_called step how Bare part is = absurd is
-part_called step how (AStore device) part is = absurd is
-part_called step how (ABuffer buffer) part is = absurd is
+pub part_called : (step : Step) (left : Room) (how : Ending) (value : Value) (part : Part) → IsPart value part → IsPart (called (Writes step left) how value) (part_now how step part)
+part_called step left Made (APart device room) part is = ap (option_map (after_line_step step)) is
+part_called step left (Failed true faults) (APart device room) part is = ap (option_map (after_line_step step)) is
+part_called step left (Failed false faults) (APart device room) part is = is
+part_called step left how Bare part is = absurd is
+part_called step left how (AStore device) part is = absurd is
+part_called step left how (ABuffer buffer) part is = absurd is
+
+-- a device call of a commit changes what one of the entries' cells keeps
+module _ (sizes : Sizes) (pass : Pass) (work : Work) (values : Values) (calls : ℕ) (due : IsNextCall sizes pass calls work) where
+  abbrev cell_due : Word
+  cell_due = ENTRY (slot_of sizes (pass.first + due.row.part))
+
+  pub value_called : values_worked pass work values (ENTRY (slot_of sizes (pass.first + due.row.part))) ≡ called (Writes due.row.step due.room) work.ending (values (ENTRY (slot_of sizes (pass.first + due.row.part))))
+  value_called =
+      part_worked pass work values (slot_of sizes (pass.first + due.row.part))
+      ∙ ap (λ c. with_word values c (called work.job work.ending (values c)) cell_due) due.cell
+      ∙ word_here values cell_due (called work.job work.ending (values cell_due))
+      ∙ ap (λ j. called j work.ending (values cell_due)) due.job
+
+  pub value_not_called : (slot : ℕ) → slot ≢ slot_of sizes (pass.first + due.row.part) → values_worked pass work values (ENTRY slot) ≡ values (ENTRY slot)
+  value_not_called slot ne =
+      part_worked pass work values slot
+      ∙ ap (λ c. with_word values c (called work.job work.ending (values c)) (ENTRY slot)) due.cell
+      ∙ word_else values cell_due (called work.job work.ending (values cell_due)) (ENTRY slot) (λ e. ne (ap index e))
 
 -- ---- one more step of a run
 

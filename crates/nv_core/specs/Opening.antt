@@ -1,11 +1,12 @@
 -- Opening: the state in which a mount begins.
-use Rattle.std.specs.Prelude.{ℕ, ◌^◌, ◌≤◌, false, []}
+use Rattle.std.specs.Prelude.{ℕ, ◌^◌, ◌<◌, ◌≤◌, false, []}
 use Rattle.nv_plain.specs.declared.call.FileCall.TheVariants.{Sync}
-use Rattle.nv_core.specs.Words.{Sizes, Word, HEAD, TAIL, LENGTH, HINT}
+use Rattle.nv_core.specs.Words.{Sizes, Word, HEADER, HEAD, TAIL, LENGTH, ENTRY, HINT}
 use Rattle.nv_core.specs.Passes.{Idle, Pass}
 use Rattle.nv_core.specs.Order.{Values}
 use Rattle.nv_core.specs.Core.{Core}
 use Rattle.nv_core.specs.BuffersKept.{BuffersKept}
+use Rattle.nv_core.specs.Rooms.{KeepsReady, KeepsRoomy}
 
 -- What a mount is made of: its sizes, the next number of its region's log, the lengths of its stores, and what its cells keep.
 pub record Mount : Type 0 where
@@ -53,7 +54,9 @@ opening mount = record {
   ended = [];
 }
 
--- Its numbers are small, and it has as many buffers as its sizes say.
+-- Its numbers are small, it has as many buffers as its sizes say, and its parts have room.
 pub record IsMount (mount : Mount) : Type 0 where
   pub small : mount.next ≤ 2 ^ 60
   pub buffers : BuffersKept mount.sizes mount.values
+  pub ready : (slot : ℕ) → slot < mount.sizes.entries → KeepsReady mount.sizes (mount.values (ENTRY slot))
+  pub header : KeepsRoomy (mount.values HEADER)

@@ -8,6 +8,8 @@ use Rattle.nv_plain.specs.declared.call.FileCall.{FileCall}
 use Rattle.nv_plain.specs.declared.call.FileCall.TheVariants.{Read, Write, Sync}
 use Rattle.nv_plain.specs.declared.call.Reply.{Reply}
 use Rattle.nv_plain.specs.declared.call.Reply.TheVariants.{Bytes, Count, Done}
+use Rattle.nv_pmem.specs.Room.{Room}
+use Rattle.nv_pmem.specs.RoomSteps.{RoomAfter, RoomAfterFault}
 use Rattle.nv_pmem.specs.Rows.{RowStep}
 use Rattle.nv_store.specs.Store.{Store}
 use Rattle.nv_entry.specs.Group.{group_steps}
@@ -129,7 +131,8 @@ pub record IsNextCall (sizes : Sizes) (pass : Pass) (calls : ℕ) (work : Work) 
   pub there : calls < length (commit_steps sizes pass pass.call)
   pub at : slice_index_or (commit_steps sizes pass pass.call) calls row ≡ row
   pub cell : work.cell ≡ ENTRY (slot_of sizes (pass.first + row.part))
-  pub job : work.job ≡ Writes row.step
+  pub room : Room
+  pub job : work.job ≡ Writes row.step room
 
 -- what a store says of a page, with zeros behind the end
 abbrev pub SaysPage : Sizes → (at : ℕ) → List ℕ → Option Store → Type 0
@@ -154,9 +157,15 @@ pub record IsPageRead (sizes : Sizes) (values : Values) (pass : Pass) (page : �
 -- A device call ends by a fault only where the count rose.
 abbrev pub MayEnd : Value → Ending → Type 0
 MayEnd value Made = Unit {0}
-MayEnd (APart device) (Failed came faults) = Rose device.faults faults
+MayEnd (APart device room) (Failed came faults) = Rose device.faults faults
 MayEnd (AStore device) (Failed came faults) = Rose device.faults faults
 MayEnd value (Failed came faults) = ⊥
+
+-- It leaves a part no less room than its step does.
+abbrev pub MayLeave : Value → Job → Ending → Type 0
+MayLeave (APart device before) (Writes step room) Made = RoomAfter step before room
+MayLeave (APart device before) (Writes step room) (Failed came faults) = RoomAfterFault step before room
+MayLeave value job ending = Unit {0}
 
 -- a device call may come
 abbrev pub IsDue : Sizes → Values → Pass → Work → Stage → Type 0
@@ -167,4 +176,5 @@ IsDue sizes values pass work stage = ⊥
 pub record MayWork (sizes : Sizes) (values : Values) (pass : Pass) (work : Work) : Type 0 where
   pub due : IsDue sizes values pass work pass.stage
   pub ends : MayEnd (values work.cell) work.ending
+  pub leaves : MayLeave (values work.cell) work.job work.ending
   pub here : times work.cell pass.hands ≡ 1

@@ -17,6 +17,7 @@ use Rattle.nv_core.specs.BrokenLengths.{BrokenLengths}
 use Rattle.nv_core.specs.OneHistory.{OneHistory}
 use Rattle.nv_core.specs.BuffersKept.{BuffersKept}
 use Rattle.nv_core.specs.Devices.{Devices}
+use Rattle.nv_core.specs.Rooms.{Rooms}
 
 -- The parts of the invariant, over the cells' values at opening.
 pub record Sound (sizes : Sizes) (first : Values) (core : Core) : Type 0 where
@@ -34,3 +35,4 @@ pub record Sound (sizes : Sizes) (first : Values) (core : Core) : Type 0 where
   pub history : OneHistory core
   pub buffers : BuffersKept sizes core.values
   pub devices : Devices first core.values
+  pub rooms : Rooms sizes core

@@ -2,6 +2,7 @@
 use Rattle.std.specs.Prelude.{ℕ, Bool, true, false, if◌then◌else◌, List, [], Option, Some, option_map}
 use Rattle.nv_plain.specs.Files.{overwritten}
 use Rattle.nv_pmem.specs.Part.{Part}
+use Rattle.nv_pmem.specs.Room.{Room}
 use Rattle.nv_pmem.specs.Steps.{Step as LineStep, after_step as after_line_step}
 use Rattle.nv_store.specs.Store.{Store}
 
@@ -16,18 +17,18 @@ pub record Buffer : Type 0 where
   pub bytes : List ℕ
   pub valid : Bool
 
--- What a cell keeps: a part of the region, a store, a page's buffer or none, or nothing at all.
+-- What a cell keeps: a part of the region with its room, a store, a page's buffer or none, or nothing at all.
 pub data Value : Type 0 where
   Bare : Value
-  APart : Device Part → Value
+  APart : Device Part → Room → Value
   AStore : Device Store → Value
   ABuffer : Option Buffer → Value
 
 -- ---- device calls
 
--- One call on a device: a step of a part, or a read of a store, with the bytes that it gives.
+-- One call on a device: a step of a part, with the room that it leaves, or a read of a store, with the bytes that it gives.
 pub data Job : Type 0 where
-  Writes : LineStep → Job
+  Writes : LineStep → (room : Room) → Job
   Reads : (at : ℕ) (bytes : List ℕ) → Job
 
 -- How it ended: well; or failed, having done its work or not, with the count that it left.
@@ -47,16 +48,21 @@ faults_after (Failed came faults) before = faults
 
 -- what a part tells after a call on it
 abbrev pub part_after : Job → Bool → Option Part → Option Part
-part_after (Writes step) true told = option_map (after_line_step step) told
+part_after (Writes step room) true told = option_map (after_line_step step) told
 part_after _ _ told = told
+
+-- and the room that it has then
+abbrev pub room_after : Job → Room → Room
+room_after (Writes step room) before = room
+room_after (Reads at bytes) before = before
 
 -- what a cell keeps after a call on its device
 abbrev pub called : Job → Ending → Value → Value
-called job ending (APart device) = APart record {
+called job ending (APart device room) = APart record {
   told = part_after job (has_come ending) device.told;
   faults = faults_after ending device.faults;
   identity = device.identity;
-}
+} (room_after job room)
 called job ending (AStore device) = AStore record {
   told = device.told;
   faults = faults_after ending device.faults;
@@ -67,13 +73,13 @@ called job ending (ABuffer buffer) = ABuffer buffer
 
 -- how often a cell's device has failed; no device never fails
 abbrev pub faults_of : Value → ℕ
-faults_of (APart device) = device.faults
+faults_of (APart device room) = device.faults
 faults_of (AStore device) = device.faults
 faults_of _ = 0
 
 -- which device a cell keeps, counting parts and stores apart from 1; 0 where it keeps none
 abbrev pub identity_of : Value → ℕ
-identity_of (APart device) = device.identity
+identity_of (APart device room) = device.identity
 identity_of (AStore device) = device.identity
 identity_of _ = 0
 

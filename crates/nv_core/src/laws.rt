@@ -4,6 +4,7 @@ ghost use Rattle.nv_core.specs.Never.{NoPlaceBeforeTheFence, NoPageBeforeThePlac
 ghost use Rattle.nv_core.specs.Walks.{WalkBegins, FirstPageIsWord30, ReadIsWalked, WriteIsWalked, FaultIsWalked};
 ghost use Rattle.nv_core.specs.Words.{PlacesDiffer};
 
+use nv_entry::groups_follow_steps;
 use nv_plain::{history_goes_on, write_is_its_pieces, write_leaves_its_bytes};
 
 /// The invariant holds at opening, every event keeps it, and so it holds in every state that a run leads to.
@@ -11,7 +12,9 @@ pub fn runs_are_sound()
     ensures opening { OpeningIsSound }
     ensures events { EventsKeepSound }
     ensures runs { RunsAreSound }
-{}
+{
+    groups_follow_steps();
+}
 
 /// What no sound state allows: a place before the fence of a write's commit, a page given back before the place is drawn or
 /// before STOP is set after a fault, a leader made ready before a follower, a length that grows before its write has its
@@ -53,4 +56,5 @@ pub fn lengths_follow_the_history()
     write_leaves_its_bytes();
     write_is_its_pieces();
     history_goes_on();
+    groups_follow_steps();
 }

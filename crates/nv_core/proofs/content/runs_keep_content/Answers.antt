@@ -13,4 +13,4 @@ returns c =
       legally = c.history_goes_on.ensures.legal;
       count = c.history_goes_on.ensures.count;
     } in
-    record { opening = opening_has_content; events = events_keep_content plain; runs = runs_keep_content_all plain }
+    record { opening = opening_has_content; events = events_keep_content plain; runs = runs_keep_content_all plain c.groups_follow_steps.ensures.ready }

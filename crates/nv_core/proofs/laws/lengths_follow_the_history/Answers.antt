@@ -13,4 +13,4 @@ returns c =
       legally = c.history_goes_on.ensures.legal;
       count = c.history_goes_on.ensures.count;
     } in
-    lengths_follow plain
+    lengths_follow plain c.groups_follow_steps.ensures.ready

@@ -17,7 +17,7 @@ returns c =
     record {
       opening = opening_has_the_log c.images_follow_calls.ensures.quiet;
       events = events_keep_the_log c.images_follow_calls.ensures.blank c.loads_follow_calls.ensures.lines plain;
-      runs = runs_keep_the_log_all c.images_follow_calls.ensures.blank c.loads_follow_calls.ensures.lines plain c.images_follow_calls.ensures.quiet;
+      runs = runs_keep_the_log_all c.images_follow_calls.ensures.blank c.loads_follow_calls.ensures.lines plain c.groups_follow_steps.ensures.ready c.images_follow_calls.ensures.quiet;
       images = groups_are_in_images c.images_follow_calls.ensures.now c.groups_follow_steps.ensures.atomic c.groups_follow_steps.ensures.whole c.groups_follow_steps.ensures.quiet;
       old = no_old_word_counts c.images_follow_calls.ensures.now c.groups_follow_steps.ensures.only;
     }

@@ -1,0 +1,332 @@
+-- Each event keeps the rooms.
+use Rattle.std.proofs.Common.{◌≡◌, ◌≢◌, ◌⊎◌, ℕ, zero, suc, ◌+◌, ◌-◌, ◌<◌, ◌≤◌, ◌==◌, true, false, if◌then◌else◌, List, [], ◌∷◌, length, drop, inl, inr, refl, sym, ap, subst, ◌∙◌, arith}
+use Rattle.std.specs.Prelude.{slice_index_or}
+use Rattle.std.proofs.Math.Numerals.{add-one}
+use Rattle.std.proofs.lemmas.Bool.{eqb-true, eq-eqb, ne_eqb, cases_eq}
+use Rattle.std.proofs.lemmas.List.{drop_all}
+use Rattle.std.proofs.lemmas.Nat.{mod_below}
+use Rattle.nv_plain.specs.declared.call.FileCall.{FileCall}
+use Rattle.nv_plain.specs.declared.call.FileCall.TheVariants.{Read, Write, Sync}
+use Rattle.nv_pmem.specs.Room.{Room}
+use Rattle.nv_pmem.specs.Rows.{RowStep, steps_on}
+use Rattle.nv_pmem.specs.Steps.{Step}
+use Rattle.nv_entry.specs.Commits.{GroupsEndReady}
+use Rattle.nv_core.specs.Words.{Sizes, Word, HEADER, STORE, ENTRY, kind_of, free, filling, ready, broken, index}
+use Rattle.nv_core.specs.Values.{Value, Bare, APart, AStore, ABuffer, Writes, Ending, Made, Failed, called}
+use Rattle.nv_core.specs.Passes.{Stage, Locking, Checking, Copying, Seizing, Committing, Pledging, Readying, Placing, ReadFailing, WriteFailing, Breaking, Pass, IsUnseized, IsFilling, IsAmong, IsAllowed, file_of, page_count, first_page, end_page, without, times}
+use Rattle.nv_core.specs.Deeds.{Deed, slot_of, page_at, ready_word, Loads, Takes, Gives, Places, Stops, Draws, Seizes, Pledges, Readies, Grows, Breaks, Splits, Leaves, Joins}
+use Rattle.nv_core.specs.Stages.{after_stop, leaving}
+use Rattle.nv_core.specs.Stepped.{begun}
+use Rattle.nv_core.specs.Order.{Values, Work, MayWork, MayLeave, MayStep, IsDue, IsNextCall, IsPageRead, IsFailing, commit_steps}
+use Rattle.nv_core.specs.Core.{Core, changes, changed, with_word, after_step, after_begin, after_work, worked, stage_worked, values_worked}
+use Rattle.nv_core.specs.Events.{MayFind}
+use Rattle.nv_core.specs.Standing.{StandsAt, HasDrawn}
+use Rattle.nv_core.specs.LogWindow.{Fills, entry_at}
+use Rattle.nv_core.specs.Rooms.{EndsReady, KeepsReady, FillsReady, KeepsRoomy, Rooms}
+use Rattle.nv_core.specs.Sound.{Sound}
+use Rattle.nv_core.proofs.Changes.{by_number, by_word, word_else, differ}
+use Rattle.nv_core.proofs.Choices.{if_both, when_true, when_false, not_both, busy}
+use Rattle.nv_core.proofs.ClearLaws.{IsClear, clear_filling, clear_to, clear_leaving}
+use Rattle.nv_core.proofs.WordLaws.{untouched, touches}
+use Rattle.nv_core.proofs.HoldingSteps.{few_entries, apart_in}
+use Rattle.nv_core.proofs.KeepsLocks.{kind_is}
+use Rattle.nv_core.proofs.KeepsLoaded.{held_by_one}
+use Rattle.nv_core.proofs.KeepsHeader.{header_stepped, header_read}
+use Rattle.nv_core.proofs.RowParts.{row_within}
+use Rattle.nv_core.proofs.WrittenLaws.{part_stepped, part_worked, value_called, value_not_called}
+
+-- ---- no part changes
+
+module _ (sizes : Sizes) (core now : Core) (values : (slot : ℕ) → now.values (ENTRY slot) ≡ core.values (ENTRY slot)) (header : now.values HEADER ≡ core.values HEADER) where
+  rooms_kept : ((slot : ℕ) → now.words (ENTRY slot) ≡ free → core.words (ENTRY slot) ≡ free)
+      → ((slot : ℕ) → kind_of (now.words (ENTRY slot)) ≡ ready → (kind_of (core.words (ENTRY slot)) ≡ ready) ⊎ KeepsReady sizes (core.values (ENTRY slot)))
+      → ((by number : ℕ) → Fills (now.passes by) number → FillsReady sizes (now.passes by) (now.passes by).stage number (core.values (ENTRY (slot_of sizes number))))
+      → Rooms sizes core → Rooms sizes now
+  rooms_kept frees readies fills rooms = record {
+    free = λ slot less is. subst (KeepsReady sizes) (sym (values slot)) (rooms.free slot less (frees slot is));
+    ready = λ slot less is. subst (KeepsReady sizes) (sym (values slot)) (elim (readies slot is) [ inl old ↦ rooms.ready slot less old | inr new ↦ new ]);
+    filling = λ by number is. subst (FillsReady sizes (now.passes by) (now.passes by).stage number) (sym (values (slot_of sizes number))) (fills by number is);
+    header = subst KeepsRoomy (sym header) rooms.header;
+  }
+
+-- ---- entries being filled, after a step
+
+-- none is, where a pass's stage is clear
+none_filled : (sizes : Sizes) (pass : Pass) (number : ℕ) (value : Value) (stage : Stage) → IsClear stage → IsFilling stage pass.first pass.entries number → FillsReady sizes pass stage number value
+none_filled sizes pass number value stage clear is = absurd (clear_filling stage pass.first pass.entries number clear is)
+
+module _ (sizes : Sizes) (first : Values) (by : ℕ) (core : Core) (found : ℕ) (sound : Sound sizes first core) (rooms : Rooms sizes core) where
+  -- what a pass was filling at a stage
+  was_filled : (number : ℕ) (stage : Stage) → (core.passes by).stage ≡ stage → IsFilling stage (core.passes by).first (core.passes by).entries number
+      → FillsReady sizes (core.passes by) stage number (core.values (ENTRY (slot_of sizes number)))
+  was_filled number stage at is = subst (λ s. FillsReady sizes (core.passes by) s number (core.values (ENTRY (slot_of sizes number)))) at
+      (rooms.filling by number (subst (λ s. IsFilling s (core.passes by).first (core.passes by).entries number) (sym at) is))
+
+  -- an entry that was seized was free
+  seized : (next : ℕ) → MayFind sizes by core (Seizes next) found → (number : ℕ) → (core.passes by).first ≤ number → number < next + 1 → KeepsReady sizes (core.values (ENTRY (slot_of sizes number)))
+  seized next may number low high = elim (cases_eq number next) [
+    | inr ne ↦ was_filled number (Seizing next) may.may (low, omega (arith, high, ne))
+    | inl here ↦
+        let at : HasDrawn sizes (core.passes by).call (core.passes by).entries × IsAmong (core.passes by).first (core.passes by).entries next = subst (StandsAt sizes (core.passes by)) may.may (sound.standing by).at in
+        let few = few_entries sizes (core.passes by).call (core.passes by).entries at.0 ((sound.standing by).allowed (busy _ _ may.may refl)) in
+        subst (λ n. KeepsReady sizes (core.values (ENTRY (slot_of sizes n)))) (sym here)
+        (rooms.free (slot_of sizes next) (mod_below next sizes.entries (let some = at.0.some in omega (arith, few, some)))
+        (sound.window.unseized_is by next (subst (λ s. IsUnseized s (core.passes by).first (core.passes by).entries next) (sym may.may) (omega arith, at.1.1))))
+  ]
+
+  among : (number : ℕ) (stage : Stage) → (core.passes by).stage ≡ stage → HasDrawn sizes (core.passes by).call (core.passes by).entries → (x : ℕ) → IsFilling (Readying x) (core.passes by).first (core.passes by).entries number
+      → IsAmong (core.passes by).first (core.passes by).entries number
+  among number stage at drawn x (inl leader) = let some = drawn.some in (omega (arith, leader), omega (arith, leader, some))
+  among number stage at drawn x (inr other) = let a = other.0 in let b = other.1 in (omega (arith, a, b), other.2)
+
+  -- what it is filling after a step that makes one ready it was filling before
+  readied : (next number x : ℕ) → next ≢ (core.passes by).first → (x ≡ (core.passes by).first) ⊎ (x ≡ next + 1) → IsFilling (Readying x) (core.passes by).first (core.passes by).entries number
+      → IsFilling (Readying next) (core.passes by).first (core.passes by).entries number
+  readied next number x ne to (inl leader) = inl leader
+  readied next number x ne (inl last) (inr other) = absurd (let a = other.0 in omega (arith, a, last))
+  readied next number x ne (inr more) (inr other) = let a = other.0 in let b = other.1 in inr (omega (arith, a, more, ne), omega (arith, b, more), other.2)
+
+  stops : (number : ℕ) (pass : Pass) (stage : Stage) → IsFailing stage → IsFilling (after_stop (core.passes by) stage) pass.first pass.entries number
+      → FillsReady sizes pass (after_stop (core.passes by) stage) number (core.values (ENTRY (slot_of sizes number)))
+  stops number pass ReadFailing fails is = none_filled sizes pass number _ (leaving (core.passes by).hands) (clear_leaving (core.passes by).hands) is
+  stops number pass WriteFailing fails is = tt
+  stops number pass stage fails is = absurd fails
+
+  none_here : (deed : Deed) (number : ℕ) → IsClear (changed sizes by core deed found).stage → Fills (changed sizes by core deed found) number
+      → FillsReady sizes (changed sizes by core deed found) (changed sizes by core deed found).stage number (core.values (ENTRY (slot_of sizes number)))
+  none_here deed number = none_filled sizes (changed sizes by core deed found) number (core.values (ENTRY (slot_of sizes number))) (changed sizes by core deed found).stage
+
+  fills_here : (deed : Deed) → MayFind sizes by core deed found → (number : ℕ) → Fills (changed sizes by core deed found) number
+      → FillsReady sizes (changed sizes by core deed found) (changed sizes by core deed found).stage number (core.values (ENTRY (slot_of sizes number)))
+  fills_here (Loads word) may number is = none_here (Loads word) number (clear_to sizes core.values (core.passes by) (Loads word) found tt may.may) is
+  fills_here (Takes cell) may number is = none_here (Takes cell) number (clear_to sizes core.values (core.passes by) (Takes cell) found tt may.may) is
+  fills_here (Gives cell) may number is = none_here (Gives cell) number (clear_to sizes core.values (core.passes by) (Gives cell) found tt may.may) is
+  fills_here (Places reply) may number is = none_here (Places reply) number (clear_to sizes core.values (core.passes by) (Places reply) found tt may.may) is
+  fills_here Grows may number is = none_here Grows number (clear_to sizes core.values (core.passes by) Grows found tt may.may) is
+  fills_here Stops may number is = stops number (changed sizes by core Stops found) (core.passes by).stage may.may is
+  fills_here Draws may number is = if_both (λ s. IsFilling s (changed sizes by core Draws found).first (changed sizes by core Draws found).entries number → FillsReady sizes (changed sizes by core Draws found) s number (core.values (ENTRY (slot_of sizes number))))
+      (found == (core.passes by).head) (Seizing found) (leaving (core.passes by).hands)
+      (λ e is. absurd (let f = when_true (found == (core.passes by).head) found (core.passes by).first e in let low = is.0 in let high = is.1 in omega (arith, f, low, high)))
+      (λ _. none_filled sizes (changed sizes by core Draws found) number (core.values (ENTRY (slot_of sizes number))) (leaving (core.passes by).hands) (clear_leaving (core.passes by).hands)) is
+  fills_here (Seizes next) may number is = if_both (λ s. IsFilling s (core.passes by).first (core.passes by).entries number → FillsReady sizes (changed sizes by core (Seizes next) found) s number (core.values (ENTRY (slot_of sizes number))))
+      (next + 1 == (core.passes by).first + (core.passes by).entries) (Committing 0) (Seizing (next + 1))
+      (λ e is. let all = eqb-true (next + 1) ((core.passes by).first + (core.passes by).entries) e in let high = is.1 in seized next may number is.0 (omega (arith, all, high)))
+      (λ _ is. seized next may number is.0 is.1) is
+  fills_here (Pledges page) may number is =
+      let drawn : HasDrawn sizes (core.passes by).call (core.passes by).entries = (pledging may.may).0 in
+      if_both (λ s. IsFilling s (core.passes by).first (core.passes by).entries number → FillsReady sizes (changed sizes by core (Pledges page) found) s number (core.values (ENTRY (slot_of sizes number))))
+      (page + 1 == end_page sizes (core.passes by).call) (Readying (if (core.passes by).entries == 1 then (core.passes by).first else (core.passes by).first + 1)) (Pledging (page + 1))
+      (λ _ is. was_filled number (Pledging page) may.may (among number (Pledging page) may.may drawn _ is))
+      (λ _ is. was_filled number (Pledging page) may.may is) is
+    where
+      pledging : (core.passes by).stage ≡ Pledging page → StandsAt sizes (core.passes by) (Pledging page)
+      pledging at = subst (StandsAt sizes (core.passes by)) at (sound.standing by).at
+  fills_here (Readies next) may number is = elim (cases_eq next (core.passes by).first) [
+    | inl leader ↦ none_here (Readies next) number (subst IsClear (sym (when_true (next == (core.passes by).first) Placing later (eq-eqb next (core.passes by).first leader))) tt) is
+    | inr ne ↦
+        subst (λ s. FillsReady sizes (changed sizes by core (Readies next) found) s number (core.values (ENTRY (slot_of sizes number)))) (sym (when_false (next == (core.passes by).first) Placing later (ne_eqb next (core.passes by).first ne)))
+        (was_filled number (Readying next) may.may (readied next number to ne to_which (subst (λ s. IsFilling s (core.passes by).first (core.passes by).entries number) (when_false (next == (core.passes by).first) Placing later (ne_eqb next (core.passes by).first ne)) is)))
+  ]
+    where
+      to : ℕ
+      to = if next + 1 == (core.passes by).first + (core.passes by).entries then (core.passes by).first else next + 1
+
+      later : Stage
+      later = Readying (if next + 1 == (core.passes by).first + (core.passes by).entries then (core.passes by).first else next + 1)
+
+      to_which : (to ≡ (core.passes by).first) ⊎ (to ≡ next + 1)
+      to_which = if_both (λ x. (x ≡ (core.passes by).first) ⊎ (x ≡ next + 1)) (next + 1 == (core.passes by).first + (core.passes by).entries) (core.passes by).first (next + 1) (λ _. inl refl) (λ _. inr refl)
+  fills_here (Breaks next) may number is = if_both (λ s. IsFilling s (core.passes by).first (core.passes by).entries number → FillsReady sizes (changed sizes by core (Breaks next) found) s number (core.values (ENTRY (slot_of sizes number))))
+      (next + 1 == (core.passes by).first + (core.passes by).entries) (leaving (without (ENTRY (slot_of sizes next)) (core.passes by).hands)) (Breaking (next + 1))
+      (λ _. none_filled sizes (changed sizes by core (Breaks next) found) number (core.values (ENTRY (slot_of sizes number))) (leaving (without (ENTRY (slot_of sizes next)) (core.passes by).hands)) (clear_leaving (without (ENTRY (slot_of sizes next)) (core.passes by).hands)))
+      (λ _ _. tt) is
+  fills_here Splits may number is = absurd is
+  fills_here (Leaves cell) may number is = rooms.filling by number is
+  fills_here (Joins other) may number is = rooms.filling by number is
+
+  fills_now : (deed : Deed) → MayFind sizes by core deed found → (n number : ℕ) → Fills ((after_step sizes by deed found core).passes n) number
+      → FillsReady sizes ((after_step sizes by deed found core).passes n) ((after_step sizes by deed found core).passes n).stage number (core.values (ENTRY (slot_of sizes number)))
+  fills_now deed may n number = by_number (λ n (p : Pass). Fills p number → FillsReady sizes p p.stage number (core.values (ENTRY (slot_of sizes number)))) core.passes (changes by core.made deed) (changed sizes by core deed found)
+      (fills_here deed may number) (λ n ne. rooms.filling n number) n
+
+  -- ---- steps
+
+  -- one that changes no ENTRY word
+  plain_step : (deed : Deed) → MayFind sizes by core deed found → ((slot : ℕ) → touches deed (ENTRY slot) ≡ false) → Rooms sizes (after_step sizes by deed found core)
+  plain_step deed may entry = rooms_kept sizes core (after_step sizes by deed found core) (part_stepped sizes (core.passes by) deed core.values) (header_stepped sizes (core.passes by) deed core.values)
+      (λ slot is. sym (untouched sizes by core deed found may (ENTRY slot) (entry slot)) ∙ is)
+      (λ slot is. inl (ap kind_of (sym (untouched sizes by core deed found may (ENTRY slot) (entry slot))) ∙ is)) (fills_now deed may) rooms
+
+  -- one that sets an ENTRY word that isn't free then, and ready only where the part is
+  entry_step : (deed : Deed) (slot value : ℕ) → MayFind sizes by core deed found → (after_step sizes by deed found core).words ≡ with_word core.words (ENTRY slot) value → kind_of value ≢ free
+      → (kind_of value ≡ ready → KeepsReady sizes (core.values (ENTRY slot))) → Rooms sizes (after_step sizes by deed found core)
+  entry_step deed slot value may words not_free is_ready = rooms_kept sizes core (after_step sizes by deed found core) (part_stepped sizes (core.passes by) deed core.values) (header_stepped sizes (core.passes by) deed core.values)
+      (λ other is. frees (ENTRY other) (sym (ap (λ w. w (ENTRY other)) words) ∙ is))
+      (λ other is. readies (ENTRY other) (ap (λ w. kind_of (w (ENTRY other))) (sym words) ∙ is)) (fills_now deed may) rooms
+    where
+      frees : (word : Word) → with_word core.words (ENTRY slot) value word ≡ free → core.words word ≡ free
+      frees = by_word (λ word v. v ≡ free → core.words word ≡ free) core.words (ENTRY slot) value (λ e. absurd (not_free (ap kind_of e))) (λ word ne e. e)
+
+      readies : (word : Word) → kind_of (with_word core.words (ENTRY slot) value word) ≡ ready → (kind_of (core.words word) ≡ ready) ⊎ KeepsReady sizes (core.values word)
+      readies = by_word (λ word v. kind_of v ≡ ready → (kind_of (core.words word) ≡ ready) ⊎ KeepsReady sizes (core.values word)) core.words (ENTRY slot) value (λ e. inr (is_ready e)) (λ word ne e. inl e)
+
+pub rooms_step : (sizes : Sizes) (first : Values) (by : ℕ) (core : Core) (deed : Deed) (found : ℕ) → Sound sizes first core → MayFind sizes by core deed found → Rooms sizes (after_step sizes by deed found core)
+rooms_step sizes first by core (Seizes next) found sound may = entry_step sizes first by core found sound sound.rooms (Seizes next) (slot_of sizes next) filling may refl (λ e. omega (arith, e)) (λ e. absurd (omega (arith, e)))
+rooms_step sizes first by core (Breaks next) found sound may = entry_step sizes first by core found sound sound.rooms (Breaks next) (slot_of sizes next) broken may refl (λ e. omega (arith, e)) (λ e. absurd (omega (arith, e)))
+rooms_step sizes first by core (Readies next) found sound may =
+    entry_step sizes first by core found sound sound.rooms (Readies next) (slot_of sizes next) (ready_word sizes (core.passes by) next) may refl
+    (λ e. let k = kind_is 2 (if next == (core.passes by).first then (core.passes by).entries else 0) (page_at sizes (core.passes by) next) (omega arith) in omega (arith, k, e))
+    (λ _. was_filled sizes first by core found sound sound.rooms next (Readying next) may.may (fills (cases_eq next (core.passes by).first)))
+  where
+    at : HasDrawn sizes (core.passes by).call (core.passes by).entries × IsAmong (core.passes by).first (core.passes by).entries next
+    at = subst (StandsAt sizes (core.passes by)) may.may (sound.standing by).at
+
+    fills : (next ≡ (core.passes by).first) ⊎ (next ≢ (core.passes by).first) → IsFilling (Readying next) (core.passes by).first (core.passes by).entries next
+    fills (inl leader) = inl leader
+    fills (inr ne) = let low = at.1.0 in inr (omega (arith, low, ne), omega arith, at.1.1)
+rooms_step sizes first by core deed found sound may = plain_step sizes first by core found sound sound.rooms deed may (λ slot. refl)
+
+-- ---- a call that begins
+
+pub rooms_begin : (sizes : Sizes) (by : ℕ) (core : Core) (call : FileCall) → Rooms sizes core → Rooms sizes (after_begin sizes by call core)
+rooms_begin sizes by core call rooms = rooms_kept sizes core (after_begin sizes by call core) (λ slot. refl) refl (λ slot is. is) (λ slot is. inl is)
+    (λ n number. by_number (λ n (p : Pass). Fills p number → FillsReady sizes p p.stage number (core.values (ENTRY (slot_of sizes number)))) core.passes by (begun sizes call (core.passes by))
+    (if_both (λ s. IsFilling s 0 0 number → FillsReady sizes (begun sizes call (core.passes by)) s number (core.values (ENTRY (slot_of sizes number)))) (page_count sizes call == 0) Checking (Locking (first_page sizes call)) (λ _ is. absurd is) (λ _ is. absurd is))
+    (λ n ne. rooms.filling n number) n) rooms
+
+-- ---- a device call
+
+header_worked : (pass : Pass) (work : Work) (values : Values) → HEADER ≢ work.cell → values_worked pass work values HEADER ≡ values HEADER
+header_worked pass work values ne =
+    header_read work.job work.ending pass.stage (with_word values work.cell (called work.job work.ending (values work.cell)))
+    ∙ word_else values work.cell (called work.job work.ending (values work.cell)) HEADER ne
+
+-- the device calls to come, before and after one of them
+next_due : (steps : List RowStep) (calls : ℕ) (row : RowStep) → calls < length steps → slice_index_or steps calls row ≡ row → drop calls steps ≡ row ∷ drop (suc calls) steps
+next_due [] calls row less is = absurd (omega (arith, less))
+next_due (step ∷ steps) zero row less is = ap (λ one. one ∷ steps) is
+next_due (step ∷ steps) (suc calls) row less is = next_due steps calls row (omega (arith, less)) is
+
+-- a part that is ready is so after all device calls of a commit
+all_due : GroupsEndReady → (sizes : Sizes) (pass : Pass) (call : FileCall) (i : ℕ) (value : Value) → i < page_count sizes call → KeepsReady sizes value → EndsReady sizes (steps_on i (commit_steps sizes pass call)) value
+all_due ends sizes pass (Write file at bytes) i (APart device room) less is = ends sizes.page pass.first file at bytes i room less is
+all_due ends sizes pass (Read file at len) i value less is = is
+all_due ends sizes pass (Sync file) i value less is = is
+all_due ends sizes pass call i value less is = absurd is
+
+-- one of them comes
+one_comes : (sizes : Sizes) (step : Step) (room : Room) (steps : List Step) (value : Value) → EndsReady sizes (step ∷ steps) value → MayLeave value (Writes step room) Made → EndsReady sizes steps (called (Writes step room) Made value)
+one_comes sizes step room steps (APart device before) is leaves = is room leaves
+one_comes sizes step room steps Bare is leaves = absurd is
+one_comes sizes step room steps (AStore device) is leaves = absurd is
+one_comes sizes step room steps (ABuffer buffer) is leaves = absurd is
+
+module _ (ends : GroupsEndReady) (sizes : Sizes) (first : Values) (by : ℕ) (core : Core) (work : Work) (calls : ℕ)
+    (sound : Sound sizes first core) (may : MayWork sizes core.values (core.passes by) work)
+    (at : (core.passes by).stage ≡ Committing calls) (due : IsNextCall sizes (core.passes by) calls work) where
+  drawn : HasDrawn sizes (core.passes by).call (core.passes by).entries
+  drawn = subst (StandsAt sizes (core.passes by)) at (sound.standing by).at
+
+  steps : List RowStep
+  steps = commit_steps sizes (core.passes by) (core.passes by).call
+
+  below : due.row.part < (core.passes by).entries
+  below = subst (λ n. due.row.part < n) (sym drawn.many)
+      (row_within sizes (core.passes by) (core.passes by).call calls due.row (subst (λ n. 1 ≤ n) drawn.many drawn.some) due.there due.at)
+
+  here : IsAmong (core.passes by).first (core.passes by).entries ((core.passes by).first + due.row.part)
+  here = let b = below in (omega arith, omega (arith, b))
+
+  fills_here_at : (number : ℕ) → IsAmong (core.passes by).first (core.passes by).entries number → Fills (core.passes by) number
+  fills_here_at number is = subst (λ s. IsFilling s (core.passes by).first (core.passes by).entries number) (sym at) is
+
+  leaves : MayLeave (core.values (ENTRY (slot_of sizes ((core.passes by).first + due.row.part)))) (Writes due.row.step due.room) work.ending
+  leaves = subst (λ c. MayLeave (core.values c) (Writes due.row.step due.room) work.ending) due.cell (subst (λ j. MayLeave (core.values work.cell) j work.ending) due.job may.leaves)
+
+  -- what is to come of the part of an entry, before the call and after it
+  before_call : (number : ℕ) → IsAmong (core.passes by).first (core.passes by).entries number → EndsReady sizes (steps_on (number - (core.passes by).first) (drop calls (commit_steps sizes (core.passes by) (core.passes by).call))) (core.values (ENTRY (slot_of sizes number)))
+  before_call number is = go calls at
+    where
+      less : number - (core.passes by).first < page_count sizes (core.passes by).call
+      less = let low = is.0 in let high = is.1 in let many = drawn.many in omega (arith, low, high, many)
+
+      go : (calls : ℕ) → (core.passes by).stage ≡ Committing calls → EndsReady sizes (steps_on (number - (core.passes by).first) (drop calls (commit_steps sizes (core.passes by) (core.passes by).call))) (core.values (ENTRY (slot_of sizes number)))
+      go zero at = all_due ends sizes (core.passes by) (core.passes by).call (number - (core.passes by).first) (core.values (ENTRY (slot_of sizes number))) less
+          (was_filled sizes first by core 0 sound sound.rooms number (Committing zero) at is)
+      go (suc calls) at = was_filled sizes first by core 0 sound sound.rooms number (Committing (suc calls)) at is
+
+  after_call : work.ending ≡ Made → (number : ℕ) → IsAmong (core.passes by).first (core.passes by).entries number
+      → EndsReady sizes (steps_on (number - (core.passes by).first) (drop (suc calls) (commit_steps sizes (core.passes by) (core.passes by).call))) (values_worked (core.passes by) work core.values (ENTRY (slot_of sizes number)))
+  after_call made number is = elim (cases_eq (number - (core.passes by).first) due.row.part) [
+    | inl same ↦
+        let which : number ≡ (core.passes by).first + due.row.part = let low = is.0 in omega (arith, low, same) in
+        subst (λ n. EndsReady sizes rest (values_worked (core.passes by) work core.values (ENTRY (slot_of sizes n)))) (sym which)
+        (subst (EndsReady sizes rest) (sym (value_called sizes (core.passes by) work core.values calls due ∙ ap (λ how. called (Writes due.row.step due.room) how (core.values (ENTRY (slot_of sizes ((core.passes by).first + due.row.part))))) made))
+        (one_comes sizes due.row.step due.room rest (core.values (ENTRY (slot_of sizes ((core.passes by).first + due.row.part))))
+        (subst (λ n. EndsReady sizes (due.row.step ∷ rest) (core.values (ENTRY (slot_of sizes n)))) which
+        (subst (λ list. EndsReady sizes list (core.values (ENTRY (slot_of sizes number)))) (when_true (number - (core.passes by).first == due.row.part) (due.row.step ∷ rest) rest (eq-eqb (number - (core.passes by).first) due.row.part same)) split))
+        (subst (MayLeave (core.values (ENTRY (slot_of sizes ((core.passes by).first + due.row.part)))) (Writes due.row.step due.room)) made leaves)))
+    | inr other ↦
+        subst (EndsReady sizes rest) (sym (value_not_called sizes (core.passes by) work core.values calls due (slot_of sizes number)
+        (apart_in sizes (core.passes by).first (core.passes by).entries number ((core.passes by).first + due.row.part)
+        (few_entries sizes (core.passes by).call (core.passes by).entries drawn ((sound.standing by).allowed (busy _ _ at refl))) is here (λ e. other (omega (arith, e))))))
+        (subst (λ list. EndsReady sizes list (core.values (ENTRY (slot_of sizes number)))) (when_false (number - (core.passes by).first == due.row.part) (due.row.step ∷ rest) rest (ne_eqb (number - (core.passes by).first) due.row.part other)) split)
+  ]
+    where
+      rest : List Step
+      rest = steps_on (number - (core.passes by).first) (drop (suc calls) (commit_steps sizes (core.passes by) (core.passes by).call))
+
+      split : EndsReady sizes (steps_on (number - (core.passes by).first) (due.row ∷ drop (suc calls) (commit_steps sizes (core.passes by) (core.passes by).call))) (core.values (ENTRY (slot_of sizes number)))
+      split = subst (λ list. EndsReady sizes (steps_on (number - (core.passes by).first) list) (core.values (ENTRY (slot_of sizes number)))) (next_due (commit_steps sizes (core.passes by) (core.passes by).call) calls due.row due.there due.at) (before_call number is)
+
+  filled_now : (how : Ending) → work.ending ≡ how → (number : ℕ) → IsFilling (stage_worked sizes (core.passes by) how (Committing calls)) (core.passes by).first (core.passes by).entries number
+      → FillsReady sizes (worked sizes work (core.passes by)) (stage_worked sizes (core.passes by) how (Committing calls)) number (values_worked (core.passes by) work core.values (ENTRY (slot_of sizes number)))
+  filled_now (Failed came faults) made number is = tt
+  filled_now Made made number is = if_both (λ s. IsFilling s (core.passes by).first (core.passes by).entries number → FillsReady sizes (worked sizes work (core.passes by)) s number (values_worked (core.passes by) work core.values (ENTRY (slot_of sizes number))))
+      (calls + 1 == length (commit_steps sizes (core.passes by) (core.passes by).call)) (Pledging (first_page sizes (core.passes by).call)) (Committing (calls + 1))
+      (λ all is. let l = eqb-true (calls + 1) (length (commit_steps sizes (core.passes by) (core.passes by).call)) all in
+      subst (λ list. EndsReady sizes (steps_on (number - (core.passes by).first) list) (values_worked (core.passes by) work core.values (ENTRY (slot_of sizes number)))) (drop_all (suc calls) (commit_steps sizes (core.passes by) (core.passes by).call) (omega (arith, l))) (after_call made number is))
+      (λ _ is. subst (λ n. FillsReady sizes (worked sizes work (core.passes by)) (Committing n) number (values_worked (core.passes by) work core.values (ENTRY (slot_of sizes number)))) (sym (add-one calls)) (after_call made number is)) is
+
+  unlike : (slot : ℕ) (value : ℕ) → core.words (ENTRY slot) ≡ value → value ≢ filling → slot ≢ slot_of sizes ((core.passes by).first + due.row.part)
+  unlike slot value is ne e = ne (sym is ∙ ap (λ s. core.words (ENTRY s)) e ∙ sound.window.filling_is by ((core.passes by).first + due.row.part) (fills_here_at ((core.passes by).first + due.row.part) here))
+
+  commit_rooms : Rooms sizes (after_work sizes by work core)
+  commit_rooms = record {
+    free = λ slot less is. subst (KeepsReady sizes) (sym (value_not_called sizes (core.passes by) work core.values calls due slot (unlike slot free is (λ e. omega (arith, e))))) (sound.rooms.free slot less is);
+    ready = λ slot less is. subst (KeepsReady sizes) (sym (value_not_called sizes (core.passes by) work core.values calls due slot (unlike slot (core.words (ENTRY slot)) refl
+        (λ e. let z : kind_of filling ≡ ready = ap kind_of (sym e) ∙ is in omega (arith, z))))) (sound.rooms.ready slot less is);
+    filling = λ n number. by_number (λ n (p : Pass). Fills p number → FillsReady sizes p p.stage number (values_worked (core.passes by) work core.values (ENTRY (slot_of sizes number)))) core.passes by (worked sizes work (core.passes by))
+        (subst (λ s. IsFilling (stage_worked sizes (core.passes by) work.ending s) (core.passes by).first (core.passes by).entries number
+        → FillsReady sizes (worked sizes work (core.passes by)) (stage_worked sizes (core.passes by) work.ending s) number (values_worked (core.passes by) work core.values (ENTRY (slot_of sizes number)))) (sym at) (filled_now work.ending refl number))
+        (λ n ne is. subst (FillsReady sizes (core.passes n) (core.passes n).stage number) (sym (value_not_called sizes (core.passes by) work core.values calls due (slot_of sizes number) (apart n number ne is))) (sound.rooms.filling n number is)) n;
+    header = subst KeepsRoomy (sym (header_worked (core.passes by) work core.values (λ e. differ HEADER (ENTRY (slot_of sizes ((core.passes by).first + due.row.part))) refl (e ∙ due.cell)))) sound.rooms.header;
+  }
+    where
+      apart : (n number : ℕ) → n ≢ by → Fills (core.passes n) number → slot_of sizes number ≢ slot_of sizes ((core.passes by).first + due.row.part)
+      apart n number ne is e = held_by_one sizes first core sound (ENTRY (slot_of sizes ((core.passes by).first + due.row.part))) by n
+          ((sound.holding by).filling ((core.passes by).first + due.row.part) (fills_here_at ((core.passes by).first + due.row.part) here))
+          (subst (λ s. times (ENTRY s) (core.passes n).hands ≡ 1) e ((sound.holding n).filling number is)) ne
+
+read_rooms : (sizes : Sizes) (by : ℕ) (core : Core) (work : Work) (page : ℕ) → Rooms sizes core → (core.passes by).stage ≡ Copying page → IsPageRead sizes core.values (core.passes by) page work → Rooms sizes (after_work sizes by work core)
+read_rooms sizes by core work page rooms at due = rooms_kept sizes core (after_work sizes by work core)
+    (λ slot. part_worked (core.passes by) work core.values slot ∙ word_else core.values work.cell (called work.job work.ending (core.values work.cell)) (ENTRY slot) (λ e. differ (ENTRY slot) (STORE (file_of (core.passes by).call)) refl (e ∙ due.cell)))
+    (header_worked (core.passes by) work core.values (λ e. differ HEADER (STORE (file_of (core.passes by).call)) refl (e ∙ due.cell)))
+    (λ slot is. is) (λ slot is. inl is)
+    (λ n number. by_number (λ n (p : Pass). Fills p number → FillsReady sizes p p.stage number (core.values (ENTRY (slot_of sizes number)))) core.passes by (worked sizes work (core.passes by))
+    (subst (λ s. IsFilling (stage_worked sizes (core.passes by) work.ending s) (core.passes by).first (core.passes by).entries number
+    → FillsReady sizes (worked sizes work (core.passes by)) (stage_worked sizes (core.passes by) work.ending s) number (core.values (ENTRY (slot_of sizes number)))) (sym at) (go number work.ending))
+    (λ n ne. rooms.filling n number) n) rooms
+  where
+    go : (number : ℕ) (how : Ending) → IsFilling (stage_worked sizes (core.passes by) how (Copying page)) (core.passes by).first (core.passes by).entries number
+        → FillsReady sizes (worked sizes work (core.passes by)) (stage_worked sizes (core.passes by) how (Copying page)) number (core.values (ENTRY (slot_of sizes number)))
+    go number Made is = absurd is
+    go number (Failed came faults) is = absurd is
+
+pub rooms_work : GroupsEndReady → (sizes : Sizes) (first : Values) (by : ℕ) (core : Core) (work : Work) → Sound sizes first core → MayWork sizes core.values (core.passes by) work → Rooms sizes (after_work sizes by work core)
+rooms_work ends sizes first by core work sound may = go (core.passes by).stage refl may.due
+  where
+    go : (stage : Stage) → (core.passes by).stage ≡ stage → IsDue sizes core.values (core.passes by) work stage → Rooms sizes (after_work sizes by work core)
+    go (Committing calls) at due = commit_rooms ends sizes first by core work calls sound may at due
+    go (Copying page) at due = read_rooms sizes by core work page sound.rooms at due
+    go stage at due = absurd due

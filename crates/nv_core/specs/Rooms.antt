@@ -1,0 +1,46 @@
+-- Rooms: which parts can take the stores of an entry, or of the header's tail.
+use Rattle.std.specs.Prelude.{◌≡◌, ℕ, suc, ◌-◌, ◌<◌, List, [], drop}
+use Rattle.nv_plain.specs.Layouts.{version_1}
+use Rattle.nv_pmem.specs.RoomSteps.{EndWith}
+use Rattle.nv_pmem.specs.Rows.{steps_on}
+use Rattle.nv_pmem.specs.Steps.{Step}
+use Rattle.nv_entry.specs.Group.{IsReady}
+use Rattle.nv_header.specs.Regions.{IsRoomy}
+use Rattle.nv_core.specs.Words.{Sizes, HEADER, ENTRY, kind_of, free, ready}
+use Rattle.nv_core.specs.Values.{Value, APart}
+use Rattle.nv_core.specs.Passes.{Stage, Committing, WriteFailing, Breaking, Pass}
+use Rattle.nv_core.specs.Deeds.{slot_of}
+use Rattle.nv_core.specs.Order.{commit_steps}
+use Rattle.nv_core.specs.Core.{Core}
+use Rattle.nv_core.specs.LogWindow.{Fills}
+
+-- A cell keeps a part that is ready for an entry after some steps, whatever room they leave: it has an entry's lines, and each of
+-- them can take 15 contents.
+abbrev pub EndsReady : Sizes → List Step → Value → Type 0
+EndsReady sizes steps (APart device room) = EndWith (IsReady sizes.page) steps room
+EndsReady sizes steps value = ⊥
+
+-- and one that is so now
+abbrev pub KeepsReady : Sizes → Value → Type 0
+KeepsReady sizes value = EndsReady sizes [] value
+
+-- What the part of an entry that a pass is filling is: ready for the entry before the first device call of the commit, and after the
+-- last; between these, by the calls that are still to come. After a fault nothing is said of it.
+abbrev pub FillsReady : Sizes → Pass → Stage → (number : ℕ) → Value → Type 0
+FillsReady sizes pass (Committing (suc calls)) number value = EndsReady sizes (steps_on (number - pass.first) (drop (suc calls) (commit_steps sizes pass pass.call))) value
+FillsReady sizes pass WriteFailing number value = Unit {0}
+FillsReady sizes pass (Breaking next) number value = Unit {0}
+FillsReady sizes pass stage number value = KeepsReady sizes value
+
+-- a cell keeps a header's part, and each of its lines can take 15 contents
+abbrev pub KeepsRoomy : Value → Type 0
+KeepsRoomy (APart device room) = IsRoomy version_1.header_lines room
+KeepsRoomy value = ⊥
+
+-- The parts of entries that are free or ready are ready for an entry, and those being filled come to be so. The header's part has room.
+pub record Rooms (sizes : Sizes) (core : Core) : Type 0 where
+  pub free : (slot : ℕ) → slot < sizes.entries → core.words (ENTRY slot) ≡ free → KeepsReady sizes (core.values (ENTRY slot))
+  pub ready : (slot : ℕ) → slot < sizes.entries → kind_of (core.words (ENTRY slot)) ≡ ready → KeepsReady sizes (core.values (ENTRY slot))
+  pub filling : (by number : ℕ) → Fills (core.passes by) number
+      → FillsReady sizes (core.passes by) (core.passes by).stage number (core.values (ENTRY (slot_of sizes number)))
+  pub header : KeepsRoomy (core.values HEADER)
