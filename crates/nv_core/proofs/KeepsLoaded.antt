@@ -196,7 +196,6 @@ holds_size sizes pass stage measured held sized = go stage measured held
     go (Locking page) measured held = absurd measured
     go Measuring measured held = absurd measured
     go Sizing measured held = absurd measured
-    go (Waiting page) measured held = absurd measured
     go Releasing measured held = absurd measured
     go (Giving page) measured held = absurd measured
     go Leaving measured held = absurd measured

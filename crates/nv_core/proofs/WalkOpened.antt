@@ -1,5 +1,5 @@
 -- The walks' mount opens a file and an empty log.
-use Rattle.std.proofs.Common.{◌≡◌, ℕ, zero, suc, ◌+◌, ◌<◌, nat_lt, false, List, [], ◌∷◌, length, replicate, Option, Some, None, refl, sym, ap, subst, ◌∙◌, arith}
+use Rattle.std.proofs.Common.{◌≡◌, ℕ, zero, suc, ◌+◌, ◌<◌, nat_lt, false, List, [], length, replicate, Option, Some, None, refl, sym, ap, subst, ◌∙◌, arith}
 use Rattle.nv_plain.specs.Files.{contents_of}
 use Rattle.nv_store.specs.Store.{Store, quiet_store}
 use Rattle.nv_pmem.specs.Part.{blank_line, line_of}

@@ -1,32 +1,14 @@
 -- Broken writes: what became of the pages of a write that a fault ended.
 use Rattle.std.specs.Prelude.{◌≡◌, ◌≢◌, ℕ, ◌≤◌, true, [], length}
 use Rattle.nv_core.specs.Words.{Sizes, PAGE}
-use Rattle.nv_core.specs.Passes.{Fault, IsOneOf, Stage, Ordering, Reading, Fetching, Copying, Returning, Waiting, Heading, Tailing, Drawing, Seizing, Committing, Pledging, Readying, Placing, Growing, Releasing, Giving, ReadFailing, WriteFailing, times}
+use Rattle.nv_core.specs.Passes.{Fault, IsOneOf, Stage, times}
+use Rattle.nv_core.specs.Stages.{IsBetween}
 use Rattle.nv_core.specs.Standing.{IsPage}
 use Rattle.nv_core.specs.Core.{Core}
 
 -- a pass has loaded STOP as 0 in its call, and has not failed since
 abbrev pub HasChecked : Stage → Type 0
-HasChecked Ordering = Unit {0}
-HasChecked (Reading page) = Unit {0}
-HasChecked (Fetching page) = Unit {0}
-HasChecked (Copying page) = Unit {0}
-HasChecked (Returning page) = Unit {0}
-HasChecked (Waiting page) = Unit {0}
-HasChecked Heading = Unit {0}
-HasChecked Tailing = Unit {0}
-HasChecked Drawing = Unit {0}
-HasChecked (Seizing number) = Unit {0}
-HasChecked (Committing calls) = Unit {0}
-HasChecked (Pledging page) = Unit {0}
-HasChecked (Readying number) = Unit {0}
-HasChecked Placing = Unit {0}
-HasChecked Growing = Unit {0}
-HasChecked Releasing = Unit {0}
-HasChecked (Giving page) = Unit {0}
-HasChecked ReadFailing = Unit {0}
-HasChecked WriteFailing = Unit {0}
-HasChecked stage = ⊥
+HasChecked stage = IsBetween 4 7 stage
 
 -- A pass that has had a fault, one at most, has seen STOP as 1, and comes past it no more. A pass that has loaded STOP as 0 holds no PAGE of a call that
 -- a fault ended.

@@ -48,22 +48,19 @@ slot_of sizes number = number % sizes.entries
 abbrev pub page_at : Sizes → Pass → (number : ℕ) → ℕ
 page_at sizes pass number = first_page sizes pass.call + (number - pass.first)
 
--- the word that a step is made on
+-- the word that a step is made on: STOP for the others, of which only one changes it
 abbrev pub word_of : Sizes → Pass → Deed → Word
 word_of sizes pass (Loads word) = word
 word_of sizes pass (Takes word) = word
 word_of sizes pass (Gives word) = word
 word_of sizes pass (Places reply) = ORDER
-word_of sizes pass Stops = STOP
 word_of sizes pass Draws = HEAD
 word_of sizes pass (Seizes number) = ENTRY (slot_of sizes number)
 word_of sizes pass (Pledges page) = DIRTY page
 word_of sizes pass (Readies number) = ENTRY (slot_of sizes number)
 word_of sizes pass Grows = LENGTH (file_of pass.call)
 word_of sizes pass (Breaks number) = ENTRY (slot_of sizes number)
-word_of sizes pass Splits = STOP
-word_of sizes pass (Leaves cell) = STOP
-word_of sizes pass (Joins number) = STOP
+word_of sizes pass deed = STOP
 
 -- the ENTRY word of an entry that its pass makes ready
 abbrev pub ready_word : Sizes → Pass → (number : ℕ) → ℕ
@@ -71,7 +68,6 @@ ready_word sizes pass number = entry_word ready (if number == pass.first then pa
 
 -- the value of that word after the step, where it was found
 abbrev pub value_after : Sizes → Pass → Deed → (found : ℕ) → ℕ
-value_after sizes pass (Loads word) found = found
 value_after sizes pass (Takes word) found = 1
 value_after sizes pass (Gives word) found = 0
 value_after sizes pass (Places reply) found = found + 1
@@ -82,9 +78,7 @@ value_after sizes pass (Pledges page) found = found + 1
 value_after sizes pass (Readies number) found = ready_word sizes pass number
 value_after sizes pass Grows found = at_of pass.call + len_of pass.call
 value_after sizes pass (Breaks number) found = broken
-value_after sizes pass Splits found = found
-value_after sizes pass (Leaves cell) found = found
-value_after sizes pass (Joins number) found = found
+value_after sizes pass deed found = found
 
 -- What moves: nothing, or what a cell keeps comes into the hands, or goes back.
 pub data Move : Type 0 where

@@ -1,30 +1,13 @@
 -- What was loaded: how the words that a pass has loaded stand to the words as they are.
 use Rattle.std.specs.Prelude.{◌≡◌, ℕ, ◌≤◌, true}
 use Rattle.nv_core.specs.Words.{HEAD, TAIL, LENGTH, DIRTY}
-use Rattle.nv_core.specs.Passes.{Stage, Checking, Ordering, Reading, Fetching, Copying, Returning, Heading, Tailing, Drawing, Seizing, Committing, Pledging, Readying, Placing, Growing, ReadFailing, WriteFailing, file_of}
-use Rattle.nv_core.specs.Stages.{exceeds}
+use Rattle.nv_core.specs.Passes.{Stage, Fetching, Copying, Returning, file_of}
+use Rattle.nv_core.specs.Stages.{IsBetween, exceeds}
 use Rattle.nv_core.specs.Core.{Core}
 
 -- a pass has loaded LENGTH for the last time in its call, and not yet changed it
 abbrev pub HasMeasured : Stage → Type 0
-HasMeasured Checking = Unit {0}
-HasMeasured Ordering = Unit {0}
-HasMeasured (Reading page) = Unit {0}
-HasMeasured (Fetching page) = Unit {0}
-HasMeasured (Copying page) = Unit {0}
-HasMeasured (Returning page) = Unit {0}
-HasMeasured Heading = Unit {0}
-HasMeasured Tailing = Unit {0}
-HasMeasured Drawing = Unit {0}
-HasMeasured (Seizing number) = Unit {0}
-HasMeasured (Committing calls) = Unit {0}
-HasMeasured (Pledging page) = Unit {0}
-HasMeasured (Readying number) = Unit {0}
-HasMeasured Placing = Unit {0}
-HasMeasured Growing = Unit {0}
-HasMeasured ReadFailing = Unit {0}
-HasMeasured WriteFailing = Unit {0}
-HasMeasured stage = ⊥
+HasMeasured stage = IsBetween 3 6 stage
 
 -- a pass has loaded a page's DIRTY as 0, and its read of the store isn't over
 abbrev pub SawClean : Stage → (page : ℕ) → Type 0

@@ -3,7 +3,9 @@ use Rattle.std.specs.Prelude.{◌≡◌, ℕ, ◌+◌, ◌==◌, ◌^◌, ◌≤
 use Rattle.nv_core.specs.Totals.{total}
 use Rattle.nv_plain.specs.Histories.{Answered}
 use Rattle.nv_core.specs.Words.{ORDER}
-use Rattle.nv_core.specs.Passes.{Stage, Reading, Fetching, Copying, Returning, Waiting, Heading, Tailing, Drawing, Seizing, Committing, Pledging, Readying, Placing, ReadFailing, WriteFailing, Pass}
+use Rattle.nv_core.specs.Passes.{Stage, Pass}
+use Rattle.nv_core.specs.Stages.{turn}
+use Rattle.nv_core.specs.Holding.{one_if}
 use Rattle.nv_core.specs.Core.{Core}
 
 -- a list begins with another
@@ -16,22 +18,7 @@ calls_by number history = filter (λ answered. answered.caller == number) histor
 
 -- 1 for a call that has loaded ORDER and has no place yet, and else 0
 abbrev pub stage_open : Stage → ℕ
-stage_open (Reading page) = 1
-stage_open (Fetching page) = 1
-stage_open (Copying page) = 1
-stage_open (Returning page) = 1
-stage_open (Waiting page) = 1
-stage_open Heading = 1
-stage_open Tailing = 1
-stage_open Drawing = 1
-stage_open (Seizing number) = 1
-stage_open (Committing calls) = 1
-stage_open (Pledging page) = 1
-stage_open (Readying number) = 1
-stage_open Placing = 1
-stage_open ReadFailing = 1
-stage_open WriteFailing = 1
-stage_open stage = 0
+stage_open stage = one_if (turn stage == 5)
 
 -- the same of a pass's calls, those that ended by a fault among them: they have no place either
 abbrev pub open_calls : Pass → ℕ

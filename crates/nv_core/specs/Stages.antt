@@ -1,9 +1,34 @@
 -- Stages: where a pass stands after a step of each kind.
-use Rattle.std.specs.Prelude.{ℕ, ◌+◌, ◌^◌, ◌==◌, nat_lt, nat_le, Bool, not, ◌&&◌, if◌then◌else◌, List, [], ◌∷◌}
+use Rattle.std.specs.Prelude.{ℕ, ◌+◌, ◌^◌, ◌==◌, nat_lt, nat_le, Bool, true, false, not, ◌&&◌, if◌then◌else◌, List, [], ◌∷◌}
 use Rattle.nv_plain.specs.declared.call.FileCall.{FileCall}
 use Rattle.nv_core.specs.Words.{Sizes, Word, STOP, ORDER, HEAD, TAIL, LENGTH, SIZE, STORE, ENTRY, PAGE, DIRTY}
 use Rattle.nv_core.specs.Passes.{Stage, Idle, Locking, Measuring, Sizing, Checking, Ordering, Reading, Fetching, Copying, Returning, Waiting, Heading, Tailing, Drawing, Seizing, Committing, Pledging, Readying, Placing, Growing, Releasing, Giving, Leaving, WriteFailing, Breaking, Pass, at_of, len_of, is_write, is_read, page_count, first_page, end_page, without}
 use Rattle.nv_core.specs.Deeds.{Deed, slot_of, Loads, Takes, Gives, Places, Stops, Draws, Seizes, Pledges, Readies, Grows, Breaks}
+
+-- a test is true
+abbrev pub Holds : Bool → Type 0
+Holds true = Unit {0}
+Holds false = ⊥
+
+-- How far a pass is in its call: 1 at its pages, 2 at LENGTH, 3 at STOP, 4 at ORDER, 5 from there to its place in the history, 6 at its
+-- new length, 7 at what it gives back then. It is 0 where no call is open, and where one goes back.
+abbrev pub turn : Stage → ℕ
+turn Idle = 0
+turn (Locking page) = 1
+turn Measuring = 2
+turn Sizing = 2
+turn Checking = 3
+turn Ordering = 4
+turn Growing = 6
+turn Releasing = 7
+turn (Giving page) = 7
+turn Leaving = 0
+turn (Breaking number) = 0
+turn stage = 5
+
+-- it is at one of these, both included
+abbrev pub IsBetween : (from to : ℕ) → Stage → Type 0
+IsBetween from to stage = Holds (nat_le from (turn stage) && nat_le (turn stage) to)
 
 -- a refused call gives back what it holds, and is over where that is nothing
 abbrev pub leaving : List Word → Stage

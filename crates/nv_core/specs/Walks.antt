@@ -68,17 +68,12 @@ walk_read =
 pub record ReadIsWalked : Type 0 where
   pub is_run : IsRun walk_sizes (opening walk_mount) walk_read
   pub words : shown_after (opening walk_mount) walk_read
-      ≡ ((0 ∷ 0 ∷ 0 ∷ 128 ∷ 0 ∷ 1 ∷ 0 ∷ 0 ∷ 0 ∷ [])
-      ∷ (0 ∷ 0 ∷ 0 ∷ 128 ∷ 0 ∷ 1 ∷ 0 ∷ 0 ∷ 0 ∷ [])
-      ∷ (0 ∷ 0 ∷ 0 ∷ 128 ∷ 0 ∷ 1 ∷ 0 ∷ 0 ∷ 0 ∷ [])
-      ∷ (0 ∷ 0 ∷ 0 ∷ 128 ∷ 0 ∷ 1 ∷ 0 ∷ 0 ∷ 0 ∷ [])
-      ∷ (0 ∷ 0 ∷ 0 ∷ 128 ∷ 0 ∷ 1 ∷ 0 ∷ 0 ∷ 0 ∷ [])
-      ∷ (0 ∷ 0 ∷ 0 ∷ 128 ∷ 1 ∷ 1 ∷ 0 ∷ 0 ∷ 0 ∷ [])
-      ∷ (0 ∷ 0 ∷ 0 ∷ 128 ∷ 1 ∷ 1 ∷ 0 ∷ 0 ∷ 0 ∷ [])
-      ∷ (0 ∷ 0 ∷ 0 ∷ 128 ∷ 0 ∷ 1 ∷ 0 ∷ 0 ∷ 0 ∷ [])
+      ≡ replicate 5 (0 ∷ 0 ∷ 0 ∷ 128 ∷ 0 ∷ 1 ∷ 0 ∷ 0 ∷ 0 ∷ [])
+      ++ replicate 2 (0 ∷ 0 ∷ 0 ∷ 128 ∷ 1 ∷ 1 ∷ 0 ∷ 0 ∷ 0 ∷ [])
+      ++ (0 ∷ 0 ∷ 0 ∷ 128 ∷ 0 ∷ 1 ∷ 0 ∷ 0 ∷ 0 ∷ [])
       ∷ (0 ∷ 1 ∷ 0 ∷ 128 ∷ 0 ∷ 1 ∷ 0 ∷ 0 ∷ 0 ∷ [])
       ∷ (0 ∷ 1 ∷ 0 ∷ 128 ∷ 0 ∷ 0 ∷ 0 ∷ 0 ∷ 0 ∷ [])
-      ∷ [])
+      ∷ []
 
 -- ---- a write of 5 bytes at the start, by another pass
 

@@ -137,18 +137,6 @@ page_of word = word / 1024
 
 -- ---- cells
 
--- Whether a word of this value shuts its cell, so that some pass has what the cell keeps. A lock is free at 0, and an entry's part
--- is out while the entry is being filled, or read.
-abbrev pub is_shut : Word → ℕ → Bool
-is_shut CLEANER value = value == 1
-is_shut HEADER value = value == 1
-is_shut (SIZE file) value = value == 1
-is_shut (STORE file) value = value == 1
-is_shut (PAGE page) value = value == 1
-is_shut (CLEANUP page) value = value == 1
-is_shut (ENTRY slot) value = if kind_of value == 1 then true else kind_of value == 3
-is_shut _ value = false
-
 -- whether a word is a lock, which is 0 or 1
 abbrev pub is_lock : Word → Bool
 is_lock CLEANER = true
@@ -158,3 +146,9 @@ is_lock (STORE file) = true
 is_lock (PAGE page) = true
 is_lock (CLEANUP page) = true
 is_lock _ = false
+
+-- Whether a word of this value shuts its cell, so that some pass has what the cell keeps. A lock is free at 0, and an entry's part
+-- is out while the entry is being filled, or read.
+abbrev pub is_shut : Word → ℕ → Bool
+is_shut (ENTRY slot) value = if kind_of value == 1 then true else kind_of value == 3
+is_shut word value = is_lock word && value == 1
