@@ -6,7 +6,7 @@ use Rattle.nv_core.specs.Stages.{IsBetween}
 use Rattle.nv_core.specs.Standing.{IsPage}
 use Rattle.nv_core.specs.Core.{Core}
 
--- a pass has loaded STOP as 0 in its call, and has not failed since
+-- a pass has loaded STOP as 0 in its call, and has not set it since
 abbrev pub HasChecked : Stage → Type 0
 HasChecked stage = IsBetween 4 7 stage
 

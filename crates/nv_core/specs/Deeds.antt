@@ -48,7 +48,7 @@ slot_of sizes number = number % sizes.entries
 abbrev pub page_at : Sizes → Pass → (number : ℕ) → ℕ
 page_at sizes pass number = first_page sizes pass.call + (number - pass.first)
 
--- the word that a step is made on: STOP for the others, of which only one changes it
+-- the word that a step is made on; steps between passes load STOP
 abbrev pub word_of : Sizes → Pass → Deed → Word
 word_of sizes pass (Loads word) = word
 word_of sizes pass (Takes word) = word

@@ -161,7 +161,7 @@ MayEnd (APart device room) (Failed came faults) = Rose device.faults faults
 MayEnd (AStore device) (Failed came faults) = Rose device.faults faults
 MayEnd value (Failed came faults) = ⊥
 
--- It leaves a part no less room than its step does.
+-- It leaves a part the room that the clauses of its step promise.
 abbrev pub MayLeave : Value → Job → Ending → Type 0
 MayLeave (APart device before) (Writes step room) Made = RoomAfter step before room
 MayLeave (APart device before) (Writes step room) (Failed came faults) = RoomAfterFault step before room

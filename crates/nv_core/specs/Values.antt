@@ -58,16 +58,9 @@ room_after (Reads at bytes) before = before
 
 -- what a cell keeps after a call on its device
 abbrev pub called : Job → Ending → Value → Value
-called job ending (APart device room) = APart record {
-  told = part_after job (has_come ending) device.told;
-  faults = faults_after ending device.faults;
-  identity = device.identity;
-} (room_after job room)
-called job ending (AStore device) = AStore record {
-  told = device.told;
-  faults = faults_after ending device.faults;
-  identity = device.identity;
-}
+called job ending (APart device room) =
+    APart record device { told = part_after job (has_come ending) device.told; faults = faults_after ending device.faults } (room_after job room)
+called job ending (AStore device) = AStore record device { faults = faults_after ending device.faults }
 called job ending Bare = Bare
 called job ending (ABuffer buffer) = ABuffer buffer
 

@@ -7,7 +7,8 @@ ghost use Rattle.nv_core.specs.Words.{PlacesDiffer};
 use nv_entry::groups_follow_steps;
 use nv_plain::{history_goes_on, write_is_its_pieces, write_leaves_its_bytes};
 
-/// The invariant holds at opening, every event keeps it, and so it holds in every state that a run leads to.
+/// The invariant holds at opening, every event keeps it, and so it holds in every state that a run leads to. What it says of
+/// the room of parts follows from the law of groups that the body calls.
 pub fn runs_are_sound()
     ensures opening { OpeningIsSound }
     ensures events { EventsKeepSound }

@@ -4,6 +4,7 @@ pub mod MadeLaws
 pub mod LineLaws
 pub mod PickedLaws
 pub mod Rooms
+pub mod LineRooms
 pub mod RowLaws
 pub mod StepLaws
 pub mod ReadLaws

@@ -1,7 +1,7 @@
 -- Room after steps: what each step on a part leaves of its room, as the clauses of `Lines` say it of their calls.
-use Rattle.std.specs.Prelude.{◌≤◌, List, [], ◌∷◌}
+use Rattle.std.specs.Prelude.{◌≡◌, ℕ, ◌≤◌, List, [], ◌∷◌}
 use Rattle.nv_pmem.specs.Room.{Room, Keeps, Takes, Frees}
-use Rattle.nv_pmem.specs.Steps.{Step, Store, Flush, Fence}
+use Rattle.nv_pmem.specs.Steps.{Step, Store, Flush, Fence, line_stores}
 
 -- a step that ended well
 abbrev pub RoomAfter : Step → (old new : Room) → Type 0
@@ -18,3 +18,12 @@ RoomAfterFault step old new = Keeps old new
 abbrev pub EndWith : (Room → Type 0) → List Step → Room → Type 0
 EndWith P [] room = P room
 EndWith P (step ∷ steps) room = (next : Room) → RoomAfter step room next → EndWith P steps next
+
+-- the room before some steps and that after them, where each leaves what it may
+abbrev pub RoomThrough : List Step → (old new : Room) → Type 0
+RoomThrough [] old new = old ≡ new
+RoomThrough (step ∷ steps) old new = (next : Room) × RoomAfter step old next × RoomThrough steps next new
+
+-- A call that stores a line leaves what its eight stores may, one after another.
+abbrev pub LineIsItsStores : Type 0
+LineIsItsStores = (line : ℕ) (bytes : List ℕ) (old new : Room) → Takes 8 line old new → RoomThrough (line_stores line bytes) old new

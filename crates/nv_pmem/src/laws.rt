@@ -1,5 +1,6 @@
 ghost use Rattle.nv_pmem.specs.Laws.{StoredIsLoaded, OthersAreKept, StepsKeepLines, BlankIsZeros};
 ghost use Rattle.nv_pmem.specs.Laws.{LoadsAreAnImage, StepsAddTheirStores, NoStoreAddsNothing, QuietHasOneImage, FlushAndFenceSettle, QuietStays, BlankIsQuiet};
+ghost use Rattle.nv_pmem.specs.RoomSteps.{LineIsItsStores};
 ghost use Rattle.nv_pmem.specs.RowStates.{TellingRowsHaveStates, RowsHaveOneState, EachPartHasOne};
 
 /// What loads of a part give, as the calls of [`Lines`](crate::Lines) go on.
@@ -20,6 +21,11 @@ pub fn images_follow_calls()
     ensures settled { FlushAndFenceSettle }
     ensures stays { QuietStays }
     ensures blank { BlankIsQuiet }
+{}
+
+/// What the calls of [`Lines`](crate::Lines) say of a part's room is said step by step too.
+pub fn rooms_follow_calls()
+    ensures { LineIsItsStores }
 {}
 
 /// The present states of a row of parts that all tell: there are some, for each part one, and no others. What a row tells

@@ -17,7 +17,7 @@ pub use durable::store_durably;
 pub use fuse::Fuse;
 pub use geometry::{BadGeometry, Geometry, GeometryField};
 pub use health::{Health, Refused};
-pub use laws::{images_follow_calls, loads_follow_calls, rows_have_states};
+pub use laws::{images_follow_calls, loads_follow_calls, rooms_follow_calls, rows_have_states};
 pub use lines::{LineFault, Lines, RegionFault};
 pub use mem_part::MemPart;
 pub use past::Past;
