@@ -2,3 +2,9 @@ pub mod Laid
 pub mod Logged
 pub mod Written
 pub mod Overlaid
+pub mod Holding
+pub mod Keeping
+pub mod Refusals
+pub mod Answers
+pub mod Windows
+pub mod Changing

@@ -63,8 +63,9 @@ pub fn commit_group<L: Lines>(
     write_group(parts, page, first, file, at, bytes)
 }
 
-// The entries of a group, and then the leader's commit word. A slice can't grow, so this takes no memory.
-fn write_group<L: Lines>(
+/// As [`commit_group`], of parts of which nothing is known but that they are ready: what its stores, flushes and fences make
+/// of them is said by [`groups_follow_steps`](crate::groups_follow_steps). A slice can't grow, so this takes no memory.
+pub fn write_group<L: Lines>(
     parts: &mut [L],
     page: u64,
     first: u64,

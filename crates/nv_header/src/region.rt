@@ -67,4 +67,14 @@ impl<L: Lines> Region<L> {
     {
         self.parts
     }
+
+    /// The parts, in their order, and the names. Takes no memory.
+    pub fn into_parts_and_names(self) -> (Vec<L>, Names)
+        ensures parts { result.0 ≡ self.parts }
+        ensures names { result.1 ≡ self.names }
+        ensures region { IsRegion version_1 self.geometry.page self.geometry.entries self.names self.next
+            (map L.room result.0.items) (map L.history result.0.items) }
+    {
+        (self.parts, self.names)
+    }
 }

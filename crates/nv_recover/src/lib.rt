@@ -16,7 +16,7 @@ pub use laws::{
     images_stand_for_files, recoveries_give_the_same_files, rows_of_stores_have_states,
 };
 pub use leaders::Leaders;
-pub use recovering::{Recovered, recover};
+pub use recovering::{Recovered, recover, recover_parts};
 
 #[cfg(test)]
 mod tests;

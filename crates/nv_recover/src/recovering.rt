@@ -110,8 +110,9 @@ fn bounds_of(head: &Head) -> Bounds
     }
 }
 
-// Recovers parts and stores, whose header says these names and bounds.
-fn recover_parts<L: Lines, B: Backing>(
+/// As [`recover`], of parts whose header says these names and bounds, where they all tell: a region that was opened has no
+/// need to read its header again. They stay where they are.
+pub fn recover_parts<L: Lines, B: Backing>(
     alloc: Global,
     names: &Names,
     bounds: &Bounds,
