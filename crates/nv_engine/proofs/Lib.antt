@@ -3,3 +3,7 @@ pub mod Logs
 pub mod OneLog
 pub mod WrittenSlots
 pub mod Overlays
+pub mod WindowLemmas
+pub mod States
+pub mod Slots
+pub mod Commits

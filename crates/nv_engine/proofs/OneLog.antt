@@ -15,7 +15,7 @@ use Rattle.nv_engine.specs.Logged.{HoldsPiece, HasLog, DiffersInSlot}
 
 -- ---- an image has one log
 
-no_piece : Piece
+pub no_piece : Piece
 no_piece = record { file = 0; at = 0; bytes = [] }
 
 -- the piece that the entry of a number holds

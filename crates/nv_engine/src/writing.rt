@@ -12,7 +12,7 @@ ghost use Rattle.nv_engine.specs.Changing.{ChangesOne, Commits};
 ghost use Rattle.nv_engine.specs.declared.error.WriteError.TheVariants as error;
 
 use crate::{Log, WriteError};
-use nv_entry::{piece_count, write_group};
+use nv_entry::{groups_follow_steps, piece_count, write_group};
 use nv_pmem::{Geometry, Lines, RegionFault};
 use nv_store::Backing;
 
@@ -103,6 +103,7 @@ fn commit<L: Lines>(
     ensures cause { HasCause (sum_by L.fault_count parts.old) (sum_by L.fault_count parts.new) result }
     ensures devices { map L.device parts.new ≡ map L.device parts.old }
 {
+    groups_follow_steps();
     let slot = 1 + (number % geometry.entries) as usize;
     write_group(
         &mut parts[slot..slot + 1],
