@@ -7,3 +7,6 @@ pub mod WindowLemmas
 pub mod States
 pub mod Slots
 pub mod Commits
+pub mod Held
+pub mod Lengths
+pub mod Writes
