@@ -10,3 +10,4 @@ pub mod Commits
 pub mod Held
 pub mod Lengths
 pub mod Writes
+pub mod Opened
