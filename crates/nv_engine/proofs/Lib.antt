@@ -11,3 +11,4 @@ pub mod Held
 pub mod Lengths
 pub mod Writes
 pub mod Opened
+pub mod ReadLogs
