@@ -1,6 +1,6 @@
 -- The commit of one entry: what its steps make of the part that was lent for it, and of the row of parts.
 use borrow.Rule.Slice.PartMut.{put_mid}
-use Rattle.std.proofs.Common.{◌≡◌, ◌↔◌, ℕ, ◌+◌, ◌<◌, ◌≤◌, List, [], ◌∷◌, length, get_or, set, map, take, drop, sum_by, Result, Ok, Err, slice_index, zero, suc, refl, sym, ap, ◌∙◌, subst, arith}
+use Rattle.std.proofs.Common.{◌≡◌, ◌↔◌, ℕ, ◌<◌, ◌≤◌, List, [], ◌∷◌, length, get_or, set, map, take, drop, sum_by, Result, Ok, Err, slice_index, zero, suc, refl, sym, ap, ◌∙◌, subst, arith}
 use Rattle.std.specs.Prelude.{OnOk}
 use Rattle.std.proofs.lemmas.List.{get_or-map, map-set, length-take, length-drop}
 use Rattle.std.proofs.lemmas.Result.{on_ok_weaker}
@@ -10,7 +10,7 @@ use Rattle.nv_pmem.specs.Images.{IsQuiet}
 use Rattle.nv_pmem.specs.Limits.{IsPageSize, entry_lines}
 use Rattle.nv_pmem.specs.Moments.{Tells}
 use Rattle.nv_pmem.specs.Part.{Part}
-use Rattle.nv_pmem.specs.Rows.{RowStep, row_after, DidRow, DidSomeRow, RowTells, InEachRowImage, AreQuiet}
+use Rattle.nv_pmem.specs.Rows.{RowStep, row_after, DidRow, DidSomeRow, InEachRowImage, AreQuiet}
 use Rattle.nv_pmem.specs.Runs.{run}
 use Rattle.nv_pmem.specs.Steps.{History, after_step}
 use Rattle.nv_pmem.proofs.ImageLaws.{quiet_blank}
@@ -19,7 +19,7 @@ use Rattle.nv_pmem.proofs.RowLaws.{did_some_row_at, row_tells_did, row_tells_lon
 use Rattle.nv_pmem.proofs.StepLaws.{grown-told, grown-untold}
 use Rattle.nv_entry.specs.Commits.{AreGroupParts, GroupsAreAtomic, GroupsStoreNothingElse, GroupsBecomeWhole, GroupsEndQuiet}
 use Rattle.nv_entry.specs.Group.{group_steps, IsUncommitted, IsUncommittedOrWhole, IsWhole, StoresOnly}
-use Rattle.nv_engine.specs.Changing.{ChangesOne, CommitsTo, Commits}
+use Rattle.nv_engine.specs.Changing.{ChangesOne, Commits}
 use Rattle.nv_engine.specs.Holding.{written}
 
 -- ---- one element of a list, lent by itself

@@ -1,13 +1,13 @@
 -- The pieces of a log, and one more: what the commit of its entry makes of the states of the parts.
-use Rattle.std.proofs.Common.{◌≡◌, ℕ, ◌+◌, ◌-◌, ◌*◌, ◌/◌, ◌%◌, ◌^◌, ◌<◌, ◌≤◌, ◌==◌, if◌then◌else◌, inl, inr, false, List, [], ◌∷◌, ◌++◌, length, slice_index_or, slice_set, Result, Ok, Err, refl, sym, ap, ◌∙◌, subst, arith, length-append, zero, suc}
+use Rattle.std.proofs.Common.{◌≡◌, ℕ, ◌+◌, ◌-◌, ◌*◌, ◌/◌, ◌%◌, ◌^◌, ◌<◌, ◌≤◌, ◌==◌, if◌then◌else◌, inl, inr, false, List, [], ◌∷◌, ◌++◌, length, slice_index_or, slice_set, Result, Ok, Err, refl, sym, ap, ◌∙◌, subst, arith, length-append}
 use Rattle.std.specs.Prelude.{OnOk}
 use Rattle.std.specs.Result.{is_err}
 use Rattle.std.proofs.Math.Nat.{mod-add-div', mul-le-mul_right, mul-le-mul_left}
 use Rattle.std.proofs.lemmas.Bool.{cases_eq, eq-eqb, ne_eqb, true≢false}
 use Rattle.std.proofs.lemmas.Bool.Decides.{nat_tests}
-use Rattle.std.proofs.lemmas.List.{get_or-set_same, get_or-set_other, get_or_past}
+use Rattle.std.proofs.lemmas.List.{get_or-set_same, get_or-set_other}
 use Rattle.std.proofs.lemmas.List.Elements.{All-push}
-use Rattle.nv_plain.specs.Images.{Image, PartImage, entry_of}
+use Rattle.nv_plain.specs.Images.{Image, PartImage}
 use Rattle.nv_plain.specs.Layouts.{Layout, version_1}
 use Rattle.nv_plain.specs.Pieces.{pages_touched}
 use Rattle.nv_pmem.specs.Images.{IsImage, IsQuiet}

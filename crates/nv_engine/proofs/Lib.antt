@@ -12,3 +12,4 @@ pub mod Lengths
 pub mod Writes
 pub mod Opened
 pub mod ReadLogs
+pub mod Finished

@@ -50,7 +50,7 @@ module _ (layout : Layout) (page entries : ℕ) (names : List (List ℕ)) (tail 
   no_piece : Piece
   no_piece = record { file = 0; at = 0; bytes = [] }
 
-  files_known : (header_of image).files ≡ length names
+  pub files_known : (header_of image).files ≡ length names
   unfolding first_names
   files_known = sym (length-map-range_with_len (name_of layout image) 0 (header_of image).files) ∙ ap length log.header.names_are
 

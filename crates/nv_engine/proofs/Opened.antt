@@ -1,5 +1,5 @@
 -- A log over a region at rest has no piece.
-use Rattle.std.proofs.Common.{◌≡◌, ◌+◌, ◌≤◌, List, [], length, map, arith}
+use Rattle.std.proofs.Common.{◌≡◌, List, [], length, map, arith}
 use Rattle.std.proofs.lemmas.List.Elements.{All-nil}
 use Rattle.nv_plain.specs.Layouts.{version_1}
 use Rattle.nv_pmem.specs.Part.{Part}

@@ -1,14 +1,13 @@
 -- A read of a log: its parts and stores tell what they told, and the slots hold its pieces in their order.
-use Rattle.std.proofs.Common.{◌≡◌, ℕ, ◌+◌, ◌%◌, ◌<◌, ◌≤◌, Bool, false, List, [], ◌∷◌, length, map, slice_index_or, refl, sym, ap, ◌∙◌, subst, arith}
+use Rattle.std.proofs.Common.{◌≡◌, ℕ, ◌+◌, ◌%◌, ◌≤◌, Bool, false, List, length, map, slice_index_or, refl, sym, ap, ◌∙◌, subst, arith}
 use Rattle.std.proofs.lemmas.List.{with_items_is}
-use Rattle.std.specs.List.{AllZip}
 use Rattle.std.specs.Prelude.{vec_len}
 use Rattle.std.specs.Vec.{with_items}
 use Rattle.nv_plain.specs.Files.{Files}
 use Rattle.nv_plain.specs.Images.{Entry, Image, PartImage, entry_of, data_of}
 use Rattle.nv_plain.specs.Layouts.{version_1}
 use Rattle.nv_pmem.specs.Part.{Part}
-use Rattle.nv_pmem.specs.Room.{Room, Keeps}
+use Rattle.nv_pmem.specs.Room.{Room}
 use Rattle.nv_pmem.specs.Rows.{RowTells, AreOnlyRead, row_words}
 use Rattle.nv_pmem.specs.RowStates.{AreNow}
 use Rattle.nv_pmem.specs.Steps as lines
@@ -21,7 +20,6 @@ use Rattle.nv_recover.proofs.RoomLaws.{parts_still}
 use Rattle.nv_engine.specs.Holding.{HasPieces, HasSomePieces, Holds}
 use Rattle.nv_engine.specs.Keeping.{IsLog, ReadsOnly}
 use Rattle.nv_engine.specs.Laid.{Piece}
-use Rattle.nv_engine.specs.Logged.{HoldsPiece}
 use Rattle.nv_engine.specs.Windows.{HoldsPieceOf, HoldInOrder}
 use Rattle.nv_engine.specs.declared.log.Log.{Log}
 

@@ -1,5 +1,5 @@
 -- A write of a log: what the states of its parts hold after it.
-use Rattle.std.proofs.Common.{◌≡◌, ℕ, ◌+◌, ◌*◌, ◌%◌, ◌^◌, ◌<◌, ◌≤◌, List, [], ◌∷◌, ◌++◌, length, map, false, Result, sym, ap, ◌∙◌, subst, arith, length-append}
+use Rattle.std.proofs.Common.{◌≡◌, ℕ, ◌+◌, ◌%◌, ◌^◌, ◌<◌, ◌≤◌, List, [], ◌∷◌, ◌++◌, length, map, false, Result, subst, arith, length-append}
 use Rattle.std.specs.Result.{is_err}
 use Rattle.std.proofs.lemmas.List.{length-map}
 use Rattle.nv_plain.specs.Layouts.{version_1}
@@ -16,7 +16,7 @@ use Rattle.nv_engine.specs.Refusals.{file_limit}
 use Rattle.nv_engine.specs.Written.{IsNext, next_slot}
 use Rattle.nv_engine.specs.declared.log.Log.{Log}
 use Rattle.nv_engine.proofs.Held.{one_touched, piece_fits, fitting_more, logs_or_more, logs_more, quiet_still}
-use Rattle.nv_engine.proofs.States.{Changed, After, Before, length_now, states_after, states_before}
+use Rattle.nv_engine.proofs.States.{Changed, After, length_now, states_after, states_before}
 
 -- A write that is made: the piece is one that the log can take, and the commit of its entry made this of the row.
 pub record IsMade {L B T E : Type 0} (history : L → History) (log : Log L B) (result : Result T E) (piece : Piece) (new : List L) : Type 0 where

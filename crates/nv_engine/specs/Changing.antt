@@ -4,7 +4,6 @@ use Rattle.nv_pmem.specs.Images.{IsQuiet}
 use Rattle.nv_pmem.specs.Moments.{Tells}
 use Rattle.nv_pmem.specs.Part.{Part}
 use Rattle.nv_pmem.specs.Rows.{InEachRowImage}
-use Rattle.nv_pmem.specs.Steps.{History}
 use Rattle.nv_entry.specs.Group.{IsUncommitted, IsWhole}
 use Rattle.nv_engine.specs.Laid.{Piece}
 use Rattle.nv_engine.specs.Written.{IsBeingWritten}

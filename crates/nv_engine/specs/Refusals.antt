@@ -1,5 +1,5 @@
 -- Refusals: why a call of a log isn't made, in the order of the tests, and when the log stops.
-use Rattle.std.specs.Prelude.{◌≡◌, ◌⊎◌, ℕ, ◌+◌, ◌*◌, ◌^◌, nat_lt, min, if◌then◌else◌, Bool, true, Option, Some, None, Result, Ok, Err, IfErr}
+use Rattle.std.specs.Prelude.{◌≡◌, ℕ, ◌+◌, ◌*◌, ◌^◌, nat_lt, min, if◌then◌else◌, Bool, true, Option, Some, None, Result, Ok, Err, IfErr}
 use Rattle.nv_plain.specs.Faults.{Rose}
 use Rattle.nv_plain.specs.Layouts.{version_1}
 use Rattle.nv_plain.specs.Pieces.{pages_touched}

@@ -1,4 +1,4 @@
-ghost use Rattle.std.specs.Prelude.{◌≡◌, ℕ, ◌+◌, List, false, map, sum_by, Err, IfOk};
+ghost use Rattle.std.specs.Prelude.{◌≡◌, ℕ, ◌+◌, ◌^◌, ◌≤◌, List, false, length, map, sum_by, Err, IfOk};
 ghost use Rattle.nv_plain.specs.Files.{Files};
 ghost use Rattle.nv_pmem.specs.Rows.{RowTells};
 ghost use Rattle.nv_recover.specs.Causes.{HasRegionCause, HasStoreCause};
@@ -14,7 +14,7 @@ use crate::Log;
 use nv_entry::Bounds;
 use nv_header::Region;
 use nv_pmem::Lines;
-use nv_recover::{RecoverError, recover_parts};
+use nv_recover::{RecoverError, images_stand_for_files, recover_parts};
 use nv_store::Backing;
 use std::alloc::Global;
 
@@ -51,26 +51,31 @@ impl<L: Lines + Drop, B: Backing + Drop> Log<L, B> {
         ensures store_cause { HasStoreCause (sum_by B.fault_count self.stores.items) (sum_by B.fault_count (stores_after_finish result))
             (answer_of_finish result) }
     {
-        let Log {
-            mut parts,
-            mut stores,
-            geometry,
-            names,
-            tail,
-            ..
-        } = self;
-        let bounds = Bounds {
-            page: geometry.page,
-            entries: geometry.entries,
-            files: names.len() as u64,
-            tail,
-        };
-        match recover_parts(alloc, &names, &bounds, &mut parts, &mut stores) {
+        images_stand_for_files();
+        let mut log = self;
+        let bounds = log.bounds();
+        match recover_parts(alloc, &log.names, &bounds, &mut log.parts, &mut log.stores) {
             Ok(found) => {
-                let region = Region::from_parts(parts, geometry, names, found.next);
-                Ok((region, stores))
+                let region = Region::from_parts(log.parts, log.geometry, log.names, found.next);
+                Ok((region, log.stores))
             }
-            Err(error) => Err((parts, stores, error)),
+            Err(error) => Err((log.parts, log.stores, error)),
+        }
+    }
+
+    // What the header says of the entries.
+    fn bounds(&self) -> Bounds
+        requires { self.now.tail ≤ 2 ^ 60 }
+        ensures page { result.page ≡ self.now.geometry.page }
+        ensures entries { result.entries ≡ self.now.geometry.entries }
+        ensures files { result.files ≡ length self.now.names }
+        ensures tail { result.tail ≡ self.now.tail }
+    {
+        Bounds {
+            page: self.geometry.page,
+            entries: self.geometry.entries,
+            files: self.names.len() as u64,
+            tail: self.tail,
         }
     }
 }

@@ -1,5 +1,5 @@
 -- Each store has the length that it answers, and none is changed.
-use Rattle.std.proofs.Common.{◌≡◌, ◌+◌, ◌<◌, List, [], ◌∷◌, ◌++◌, length, map, take, slice_index_or, get_or, sym, ap, ◌∙◌, subst, arith}
+use Rattle.std.proofs.Common.{◌≡◌, ◌<◌, List, [], ◌∷◌, ◌++◌, length, map, take, slice_index_or, get_or, sym, ap, ◌∙◌, subst, arith}
 use Rattle.std.proofs.lemmas.List.{length-map, get_or-map, take_more, take_all, map_push}
 use Rattle.nv_pmem.specs.RowStates.{IsNow, tells_at}
 use Rattle.nv_pmem.proofs.OneOfRow.{same_in_row, same_sum_in_row}

@@ -1,5 +1,5 @@
 -- The store's bytes come first, and the entries over them.
-use Rattle.std.proofs.Common.{◌≡◌, ℕ, ◌+◌, ◌<◌, List, [], length, get_or, map, drop, slice_index_or, sym, ap, ◌∙◌, subst, arith}
+use Rattle.std.proofs.Common.{◌≡◌, ◌<◌, List, [], length, get_or, map, drop, slice_index_or, sym, ap, ◌∙◌, subst, arith}
 use Rattle.std.specs.Prelude.{◌++◌}
 use Rattle.std.proofs.lemmas.List.{length-map, get_or-map}
 use Rattle.nv_plain.specs.Files.{bytes_at}

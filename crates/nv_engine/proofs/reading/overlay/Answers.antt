@@ -2,7 +2,7 @@
 use Rattle.std.proofs.Common.{◌≡◌, ℕ, ◌+◌, ◌-◌, ◌%◌, ◌<◌, ◌≤◌, List, [], length, get_or, map, take, slice_index_or, refl, ap, sym, subst, ◌∙◌, arith}
 use Rattle.std.proofs.lemmas.List.{length-map, take_all, get_or-map}
 use Rattle.nv_pmem.specs.RowStates.{IsNow}
-use Rattle.nv_pmem.specs.Part.{Part, word_of}
+use Rattle.nv_pmem.specs.Part.{word_of}
 use Rattle.nv_pmem.specs.Steps.{History}
 use Rattle.nv_pmem.proofs.ReadLaws.{only_read_none, only_read_more, only_read_one, faults_set_same}
 use Rattle.nv_recover.proofs.RoomLaws.{parts_still}

@@ -1,5 +1,5 @@
 -- The part of the slot is lent by itself, and the others stay as they were.
-use Rattle.std.proofs.Common.{◌≡◌, ℕ, ◌+◌, ◌-◌, ◌%◌, ◌<◌, ◌≤◌, List, [], ◌∷◌, All, length, get_or, map, set, take, drop, sum_by, refl, sym, ap, ◌∙◌, subst, arith}
+use Rattle.std.proofs.Common.{◌≡◌, ◌+◌, ◌-◌, ◌%◌, ◌<◌, ◌≤◌, List, [], ◌∷◌, All, length, get_or, map, sum_by, refl, sym, ap, ◌∙◌, subst, arith}
 use Rattle.std.specs.Prelude.{OnOk}
 use Rattle.std.proofs.lemmas.List.Elements.{All-head, All-same, All-cons, All-nil}
 use Rattle.std.proofs.lemmas.Result.{on_ok_weaker}
@@ -7,7 +7,6 @@ use Rattle.nv_plain.specs.Faults.{HasCause}
 use Rattle.nv_plain.specs.Layouts.{version_1}
 use Rattle.nv_pmem.specs.Limits.{entry_lines}
 use Rattle.nv_pmem.specs.Rows.{DidRow, DidSomeRow}
-use Rattle.nv_pmem.specs.Steps.{History}
 use Rattle.nv_pmem.proofs.OneOfRow.{same_in_row}
 use Rattle.nv_pmem.proofs.StepLaws.{tells_told}
 use Rattle.nv_header.specs.Regions.{HasParts}

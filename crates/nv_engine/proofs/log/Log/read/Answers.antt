@@ -1,7 +1,6 @@
 -- What a read gives is a window of the file, which ends where the file ends.
-use Rattle.std.proofs.Common.{◌≡◌, ℕ, ◌+◌, ◌-◌, ◌<◌, ◌≤◌, List, [], length, map, min, replicate, slice_index_or, true, false, refl, sym, ap, ◌∙◌, subst, arith, rules}
+use Rattle.std.proofs.Common.{◌≡◌, ℕ, ◌+◌, ◌-◌, ◌<◌, List, [], length, map, min, slice_index_or, sym, ap, ◌∙◌, subst, arith, rules}
 use Rattle.std.proofs.lemmas.List.{with_items_is, get_or-map}
-use Rattle.std.proofs.lemmas.Bool.{true≢false}
 use Rattle.nv_plain.specs.Files.{Files, contents_of}
 use Rattle.nv_pmem.specs.Rows.{AreOnlyRead, row_words}
 use Rattle.nv_pmem.specs.RowStates.{AreNow}
@@ -11,7 +10,7 @@ use Rattle.nv_engine.specs.Overlaid.{overlaid}
 use Rattle.nv_engine.specs.Windows.{window_of, HoldInOrder}
 use Rattle.nv_engine.proofs.Lengths.{count_laid, files_count}
 use Rattle.nv_engine.proofs.Overlays.{files_overlaid}
-use Rattle.nv_engine.proofs.ReadLogs.{reads_none, reads_only, still_log, still_holds, hold_in_order}
+use Rattle.nv_engine.proofs.ReadLogs.{reads_none, still_log, hold_in_order}
 use Rattle.nv_engine.proofs.WindowLemmas.{window_of_read}
 use Rattle.nv_engine.proofs.log.Log.read.Goals as goal
 

@@ -1,15 +1,13 @@
 -- A write that isn't refused adds its piece to what the parts hold, and where it failed, adds it or not.
-use Rattle.std.proofs.Common.{◌≡◌, ℕ, ◌+◌, ◌*◌, ◌%◌, ◌^◌, ◌<◌, ◌≤◌, ◌++◌, [], ◌∷◌, List, length, map, set, false, refl, sym, ap, subst, ◌∙◌, arith}
+use Rattle.std.proofs.Common.{◌≡◌, ◌+◌, ◌%◌, List, map, set, false, sym, ap, subst, ◌∙◌, arith}
 use Rattle.std.specs.Result.{is_err}
 use Rattle.std.proofs.lemmas.Grind.{common_steps}
 use Rattle.std.proofs.lemmas.List.{with_items_is, length-set}
 use Rattle.nv_plain.specs.Layouts.{version_1}
-use Rattle.nv_plain.specs.Pieces.{pages_touched}
 use Rattle.nv_pmem.specs.RowStates.{AreNow, row_tells_from}
 use Rattle.nv_header.specs.Regions.{HasParts}
 use Rattle.nv_engine.specs.Changing.{ChangesOne, Commits}
 use Rattle.nv_engine.specs.Holding.{HasSomePieces, written}
-use Rattle.nv_engine.specs.Refusals.{file_limit}
 use Rattle.nv_engine.proofs.Held.{on_ok_here}
 use Rattle.nv_engine.proofs.Lengths.{lengths_more, files_count}
 use Rattle.nv_engine.proofs.Slots.{parts_count}
