@@ -1,8 +1,8 @@
 -- The commit of one entry: what its steps make of the part that was lent for it, and of the row of parts.
 use borrow.Rule.Slice.PartMut.{put_mid}
-use Rattle.std.proofs.Common.{◌≡◌, ◌↔◌, ℕ, ◌<◌, ◌≤◌, List, [], ◌∷◌, length, get_or, set, map, take, drop, sum_by, Result, Ok, Err, slice_index, zero, suc, refl, sym, ap, ◌∙◌, subst, arith}
+use Rattle.std.proofs.Common.{◌≡◌, ◌↔◌, ℕ, ◌+◌, ◌<◌, ◌≤◌, List, [], ◌∷◌, ◌++◌, length, get_or, set, map, take, drop, sum_by, Result, Ok, Err, slice_index, zero, suc, refl, sym, ap, ◌∙◌, subst, arith}
 use Rattle.std.specs.Prelude.{OnOk}
-use Rattle.std.proofs.lemmas.List.{get_or-map, map-set, length-take, length-drop}
+use Rattle.std.proofs.lemmas.List.{append-nil, get_or-map, map-set, length-take, length-drop}
 use Rattle.std.proofs.lemmas.Result.{on_ok_weaker}
 use Rattle.nv_plain.specs.Faults.{HasCause}
 use Rattle.nv_plain.specs.Pieces.{pages_touched}
@@ -10,17 +10,19 @@ use Rattle.nv_pmem.specs.Images.{IsQuiet}
 use Rattle.nv_pmem.specs.Limits.{IsPageSize, entry_lines}
 use Rattle.nv_pmem.specs.Moments.{Tells}
 use Rattle.nv_pmem.specs.Part.{Part}
-use Rattle.nv_pmem.specs.Rows.{RowStep, row_after, DidRow, DidSomeRow, InEachRowImage, AreQuiet}
+use Rattle.nv_pmem.specs.Rows.{RowStep, on_part, row_after, DidRow, DidSomeRow, InEachRowImage, AreQuiet}
 use Rattle.nv_pmem.specs.Runs.{run}
-use Rattle.nv_pmem.specs.Steps.{History, after_step}
+use Rattle.nv_pmem.specs.Steps.{Step, History, after_step, durable_store, Did, DidSome}
 use Rattle.nv_pmem.proofs.ImageLaws.{quiet_blank}
+use Rattle.nv_pmem.proofs.OneOfRow.{did_in_row, did_some_in_row}
 use Rattle.nv_pmem.proofs.ReadLaws.{faults_set_same, faults_set_rose}
-use Rattle.nv_pmem.proofs.RowLaws.{did_some_row_at, row_tells_did, row_tells_lone}
+use Rattle.nv_pmem.proofs.RowLaws.{did_row_at, did_some_row_at, on_part-append, steps_on-same, row_tells_did, row_tells_lone}
 use Rattle.nv_pmem.proofs.StepLaws.{grown-told, grown-untold}
 use Rattle.nv_entry.specs.Commits.{AreGroupParts, GroupsAreAtomic, GroupsStoreNothingElse, GroupsBecomeWhole, GroupsEndQuiet}
-use Rattle.nv_entry.specs.Group.{group_steps, IsUncommitted, IsUncommittedOrWhole, IsWhole, StoresOnly}
+use Rattle.nv_entry.specs.Group.{group_steps, pieces_steps, piece_steps, IsUncommitted, IsUncommittedOrWhole, IsWhole, StoresOnly}
 use Rattle.nv_engine.specs.Changing.{ChangesOne, Commits}
 use Rattle.nv_engine.specs.Holding.{written}
+use Rattle.nv_engine.specs.Written.{write_steps}
 
 -- ---- one element of a list, lent by itself
 
@@ -189,3 +191,30 @@ changes_one history parts slot new d R inside tells change =
       tells = subst Both (sym was) tells;
       change = subst To (sym was) change;
     }
+
+-- ---- the steps on the part of the slot
+
+pub group_is_write : (page number file at : ℕ) (bytes : List ℕ) → pages_touched at (length bytes) page ≡ 1 → group_steps page number file at bytes ≡ on_part 0 (write_steps page number file at bytes)
+unfolding group_steps pieces_steps
+group_is_write page number file at bytes one =
+    let entry = piece_steps page number file at bytes 0 in
+    let commit = on_part 0 (durable_store 0 0 (number + 1)) in
+    ap (λ n. pieces_steps page number file at bytes n ++ commit) one
+    ∙ ap (λ steps. steps ++ commit) (append-nil (on_part 0 entry))
+    ∙ sym (on_part-append 0 entry (durable_store 0 0 (number + 1)))
+
+module _ {X : Type 0} (history : X → History) (parts : List X) (slot : ℕ) (new d : X) (steps : List Step) (inside : slot < length parts) where
+  pub did_some_at : DidSomeRow (on_part 0 steps) (history (get_or parts slot d) ∷ []) (history new ∷ []) → DidSomeRow (on_part slot steps) (map history parts) (map history (set parts slot new))
+  did_some_at did =
+      let At : List Step → Type 0 = λ these. DidSome these (history (get_or parts slot d)) (history new) in
+      did_some_in_row history parts slot (get_or parts slot d) new d inside refl (subst At (steps_on-same 0 steps) (did_some_row_at 0 did))
+
+  pub did_at : DidRow (on_part 0 steps) (history (get_or parts slot d) ∷ []) (history new ∷ []) → DidRow (on_part slot steps) (map history parts) (map history (set parts slot new))
+  did_at did =
+      let At : List Step → Type 0 = λ these. Did these (history (get_or parts slot d)) (history new) in
+      did_in_row history parts slot (get_or parts slot d) new d inside refl (subst At (steps_on-same 0 steps) (did_row_at 0 did))
+
+-- none of some steps was made
+pub did_none : (steps : List RowStep) (row : List History) → DidSomeRow steps row row
+unfolding run
+did_none steps row = record { count = 0; no_more = omega arith; states = refl }

@@ -4,7 +4,8 @@ use Rattle.nv_plain.specs.Layouts.{Layout}
 use Rattle.nv_plain.specs.Pieces.{pages_touched}
 use Rattle.nv_pmem.specs.Part.{Part}
 use Rattle.nv_pmem.specs.Rows.{InEachRowImage}
-use Rattle.nv_entry.specs.Group.{IsUncommittedOrWhole, IsWhole, StoresOnly}
+use Rattle.nv_pmem.specs.Steps.{Step, durable_store}
+use Rattle.nv_entry.specs.Group.{piece_steps, IsUncommittedOrWhole, IsWhole, StoresOnly}
 use Rattle.nv_engine.specs.Laid.{Piece}
 use Rattle.nv_engine.specs.Logged.{HasLog, HasLogOrOneMore}
 
@@ -40,3 +41,7 @@ WritesAddOne =
     → IsBeingWritten page (tail + length pieces) piece (slice_index_or parts (next_slot entries tail pieces) []) now
     → InEachRowImage (IsWhole page (tail + length pieces) piece.file piece.at piece.bytes) (now ∷ [])
     → InEachRowImage (HasLog layout page entries names tail (pieces ++ piece ∷ [])) (slice_set parts (next_slot entries tail pieces) now)
+
+-- The stores, flushes and fences of a write, on the part of its slot: the entry, and then its commit word by itself.
+abbrev pub write_steps : (page number file at : ℕ) → List ℕ → List Step
+write_steps page number file at bytes = piece_steps page number file at bytes 0 ++ durable_store 0 0 (number + 1)

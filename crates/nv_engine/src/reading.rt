@@ -50,6 +50,7 @@ impl<L: Lines + Drop, B: Backing + Drop> Log<L, B> {
         requires range { at + len ≤ 2 ^ 63 }
         ensures log { IsLog L.history L.room B.history self.new }
         ensures refused { IsRefusedRead (read_refusal self.old at len) result }
+        ensures unchanged { IfErr result (λ why. ¬ IsReadFault why → self.new ≡ self.old) }
         ensures stopped { self.new.stopped ≡ stopped_by_read self.old.stopped result }
 
         ensures bytes { IfOk result (λ bytes. (pieces : List Piece) (files : Files) → Holds L.history B.history self.old pieces files

@@ -1,10 +1,12 @@
-ghost use Rattle.std.specs.Prelude.{◌≡◌, ◌≢◌, ℕ, ◌+◌, ◌%◌, ◌^◌, ◌<◌, ◌≤◌, ◌++◌, [], ◌∷◌, List, length, map, slice_index_or, sum_by, Err, IfOk, IfErr, OnOk};
+ghost use Rattle.std.specs.Prelude.{◌≡◌, ◌≢◌, ℕ, ◌+◌, ◌%◌, ◌^◌, ◌<◌, ◌≤◌, ◌++◌, [], ◌∷◌, List, length, map, max, slice_index, slice_set, sum_by, Err, IfOk, IfErr, OnOk, OnErr};
 ghost use Rattle.nv_plain.specs.Faults.{HasCause};
 ghost use Rattle.nv_plain.specs.Files.{Files};
 ghost use Rattle.nv_plain.specs.Layouts.{version_1};
 ghost use Rattle.nv_plain.specs.Pieces.{pages_touched};
+ghost use Rattle.nv_pmem.specs.Rows.{on_part, DidRow, DidSomeRow};
 ghost use Rattle.nv_header.specs.Regions.{HasParts};
 ghost use Rattle.nv_engine.specs.Laid.{Piece};
+ghost use Rattle.nv_engine.specs.Written.{write_steps};
 ghost use Rattle.nv_engine.specs.Holding.{Holds, HoldsOrOneMore, written};
 ghost use Rattle.nv_engine.specs.Keeping.{IsLog, WritesParts};
 ghost use Rattle.nv_engine.specs.Refusals.{write_refusal, write_pages, IsRefusedWrite, WriteHasCause, stopped_by_write};
@@ -37,11 +39,23 @@ impl<L: Lines + Drop, B: Backing + Drop> Log<L, B> {
 
         ensures count { IfOk result (λ count. count ≡ length bytes.now) }
         ensures head { OnOk result (self.new.head ≡ self.old.head + 1) }
+        ensures lengths { OnOk result (self.new.lengths.items ≡ slice_set self.old.lengths.items file
+            (max (slice_index self.old.lengths.items file) (at + length bytes.now))) }
+        ensures same_head { OnErr result (self.new.head ≡ self.old.head) }
+        ensures same_lengths { OnErr result (self.new.lengths ≡ self.old.lengths) }
         ensures holds { OnOk result ((pieces : List Piece) (files : Files) → Holds L.history B.history self.old pieces files
             → Holds L.history B.history self.new (pieces ++ written file at bytes.now ∷ []) files) }
         ensures faulted { result ≡ Err error.RegionFault → (pieces : List Piece) (files : Files)
             → Holds L.history B.history self.old pieces files
             → HoldsOrOneMore L.history B.history self.new pieces (written file at bytes.now) files }
+
+        // The stores, flushes and fences are the first so many of these, on the part of the next slot, and all of them at `Ok`.
+        ensures begun { DidSomeRow (on_part (1 + self.old.head % self.old.geometry.entries)
+            (write_steps self.old.geometry.page self.old.head file at bytes.now))
+            (map L.history self.old.parts.items) (map L.history self.new.parts.items) }
+        ensures done { OnOk result (DidRow (on_part (1 + self.old.head % self.old.geometry.entries)
+            (write_steps self.old.geometry.page self.old.head file at bytes.now))
+            (map L.history self.old.parts.items) (map L.history self.new.parts.items)) }
 
         ensures parts { WritesParts L.device self.old self.new }
         ensures cause { WriteHasCause (sum_by L.fault_count self.old.parts.items) (sum_by L.fault_count self.new.parts.items) result }
@@ -97,6 +111,10 @@ fn commit<L: Lines>(
     requires one_page { pages_touched at (length bytes.now) geometry.page ≡ 1 }
     requires range { at + length bytes.now ≤ 2 ^ 60 }
     requires number { number + 1 ≤ 2 ^ 60 }
+    ensures begun { DidSomeRow (on_part (1 + number % geometry.entries) (write_steps geometry.page number file at bytes.now))
+        (map L.history parts.old) (map L.history parts.new) }
+    ensures done { OnOk result (DidRow (on_part (1 + number % geometry.entries) (write_steps geometry.page number file at bytes.now))
+        (map L.history parts.old) (map L.history parts.new)) }
     ensures changes { ChangesOne (1 + number % geometry.entries) (Commits result geometry.page number (written file at bytes.now))
         (map L.history parts.old) (map L.history parts.new) }
     ensures parts { OnOk result (HasParts version_1 geometry.page geometry.entries (map L.room parts.new)) }

@@ -6,14 +6,15 @@ use Rattle.std.proofs.lemmas.Result.{on_ok_weaker}
 use Rattle.nv_plain.specs.Faults.{HasCause}
 use Rattle.nv_plain.specs.Layouts.{version_1}
 use Rattle.nv_pmem.specs.Limits.{entry_lines}
-use Rattle.nv_pmem.specs.Rows.{DidRow, DidSomeRow}
+use Rattle.nv_pmem.specs.Rows.{RowStep, on_part, DidRow, DidSomeRow}
 use Rattle.nv_pmem.proofs.OneOfRow.{same_in_row}
 use Rattle.nv_pmem.proofs.StepLaws.{tells_told}
 use Rattle.nv_header.specs.Regions.{HasParts}
 use Rattle.nv_entry.specs.Group.{IsReady, group_steps}
 use Rattle.nv_engine.specs.Changing.{ChangesOne, Commits}
 use Rattle.nv_engine.specs.Holding.{written}
-use Rattle.nv_engine.proofs.Commits.{OneGroup, lent_one, lent_back, cause_of_one, cause_of_lone, told_both, commits, changes_one}
+use Rattle.nv_engine.proofs.Commits.{OneGroup, lent_one, lent_back, cause_of_one, cause_of_lone, told_both, commits, changes_one, group_is_write, did_some_at, did_at}
+use Rattle.nv_engine.specs.Written.{write_steps}
 use Rattle.nv_engine.proofs.Slots.{parts_count, slot_ready, parts_ready}
 use Rattle.nv_engine.proofs.writing.commit.Goals as goal
 
@@ -69,7 +70,17 @@ returns g c =
     let Slice : List g.row.L.Denot → Type 0 = λ these. HasCause (sum_by g.L.Lines.fault_count these) (sum_by g.L.Lines.fault_count c.write_group.new.parts) result in
     let NewSlice : List g.row.L.Denot → Type 0 = λ these. HasCause (sum_by g.L.Lines.fault_count (was ∷ [])) (sum_by g.L.Lines.fault_count these) result in
     let cause = subst NewSlice lent.back_is (subst Slice lent.lent c.write_group.ensures.cause) in
+    let written_is = group_is_write page number c.args.file c.args.at bytes c.requires.one_page in
+    let Some : List RowStep → Type 0 = λ these. DidSomeRow these (g.L.Lines.history was ∷ []) (g.L.Lines.history lent.new ∷ []) in
+    let All_of : List RowStep → Type 0 = λ these. OnOk result (DidRow these (g.L.Lines.history was ∷ []) (g.L.Lines.history lent.new ∷ [])) in
+    let own = write_steps page number c.args.file c.args.at bytes in
+    let Begun : List g.row.L.Denot → Type 0 = λ these. DidSomeRow (on_part slot own) (map g.L.Lines.history parts) (map g.L.Lines.history these) in
+    let Finished : List g.row.L.Denot → Type 0 = λ these. OnOk result (DidRow (on_part slot own) (map g.L.Lines.history parts) (map g.L.Lines.history these)) in
     record {
+      begun = subst Begun (sym lent.whole) (did_some_at g.L.Lines.history parts slot lent.new lent.new own inside (subst Some written_is some));
+      done =
+          subst Finished (sym lent.whole)
+          (on_ok_weaker result (did_at g.L.Lines.history parts slot lent.new lent.new own inside) (subst All_of written_is all));
       changes =
           subst Changes (sym lent.whole)
           (changes_one g.L.Lines.history parts slot lent.new lent.new (Commits result page number (written c.args.file c.args.at bytes)) inside

@@ -8,6 +8,7 @@ use Rattle.nv_pmem.specs.RowStates.{AreNow, row_tells_from}
 use Rattle.nv_header.specs.Regions.{HasParts}
 use Rattle.nv_engine.specs.Changing.{ChangesOne, Commits}
 use Rattle.nv_engine.specs.Holding.{HasSomePieces, written}
+use Rattle.nv_engine.proofs.Commits.{did_none}
 use Rattle.nv_engine.proofs.Held.{on_ok_here}
 use Rattle.nv_engine.proofs.Lengths.{lengths_more, files_count}
 use Rattle.nv_engine.proofs.Slots.{parts_count}
@@ -124,3 +125,6 @@ returns-then-is_err-clause-faulted g c = λ _ pieces files holds.
       synced = holds.synced;
       files_are = holds.files_are;
     }
+
+pub returns-in-Some-clause-begun : goal.returns-in-Some-clause-begun
+returns-in-Some-clause-begun g c = did_none _ (map g.L.Lines.history c.args.self.now.parts.items)
