@@ -40,6 +40,7 @@ pub record HoldsOrOneMore {L B : Type 0} (history : L → lines.History) (held :
   pub parts : List Part
   pub parts_are : AreNow (map history log.parts.items) parts
   pub logs : InEachRowImage (HasLogOrOneMore version_1 log.geometry.page log.geometry.entries log.names log.tail pieces more) parts
+  pub fitting_before : AreFitting version_1 log.geometry.page log.geometry.entries (length log.names) log.tail pieces
   pub fitting : AreFitting version_1 log.geometry.page log.geometry.entries (length log.names) log.tail (pieces ++ more ∷ [])
   pub stores : List Store
   pub stores_are : AreNow (map held log.stores.items) stores

@@ -119,6 +119,7 @@ returns-then-is_err-clause-faulted g c = λ _ pieces files holds.
       parts = then.now;
       parts_are = subst Now (sym items) then.are;
       logs = or_more g.L.Lines.history log c.commit.result piece new made pieces holds.parts then.now holds.has holds.parts_are then.changed;
+      fitting_before = holds.has.fitting;
       fitting = fitting g.L.Lines.history log c.commit.result piece new made pieces holds.parts then.now holds.has holds.parts_are then.changed;
       stores = holds.stores;
       stores_are = holds.stores_are;
