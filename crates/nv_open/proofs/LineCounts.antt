@@ -1,0 +1,102 @@
+-- The lines of parts, which are all that the rules on lines look at.
+use Rattle.std.proofs.Common.{◌≡◌, ℕ, ◌+◌, ◌≤◌, min, List, [], ◌∷◌, length, map, take, drop, zero, suc, refl, sym, ap, ◌∙◌, subst, arith}
+use Rattle.std.specs.Prelude.{All, sum_by}
+use Rattle.std.proofs.lemmas.List.{length-map, take-map, drop-map, get_or-map}
+use Rattle.std.proofs.lemmas.List.Elements.{All-map}
+use Rattle.std.proofs.lemmas.List.Sums.{sum_by-cons}
+use Rattle.std.specs.List.{AllZip}
+use Rattle.nv_plain.specs.Layouts.{Layout}
+use Rattle.nv_pmem.specs.Limits.{entry_lines}
+use Rattle.nv_pmem.specs.Part.{Part}
+use Rattle.nv_pmem.specs.Room.{Room, Keeps}
+use Rattle.nv_pmem.specs.RowStates.{AreNow}
+use Rattle.nv_pmem.specs.Steps.{History}
+use Rattle.nv_header.specs.Laws.{HasSpare}
+use Rattle.nv_header.specs.Needs.{HasLines, header_lines_in, lines_found}
+use Rattle.nv_open.specs.Refusals.{rooms_of}
+
+-- how many lines each has
+abbrev pub counts_of : List Room → List ℕ
+counts_of rooms = map (λ (room : Room). room.lines) rooms
+
+header_counted : (rooms others : List Room) → counts_of rooms ≡ counts_of others → header_lines_in rooms ≡ header_lines_in others
+header_counted [] [] same = refl
+header_counted [] (other ∷ others) same = cc
+header_counted (room ∷ rooms) [] same = cc
+header_counted (room ∷ rooms) (other ∷ others) same = cc
+
+sum_counted : (most : ℕ) (rooms : List Room) → sum_by (λ (room : Room). min most room.lines) rooms ≡ sum_by (λ (count : ℕ). min most count) (counts_of rooms)
+sum_counted most [] = refl
+sum_counted most (room ∷ rooms) =
+    sum_by-cons (λ (one : Room). min most one.lines) room rooms
+    ∙ ap (λ (n : ℕ). min most room.lines + n) (sum_counted most rooms)
+    ∙ sym (sum_by-cons (λ (count : ℕ). min most count) room.lines (counts_of rooms))
+
+found_counted : (layout : Layout) (page entries : ℕ) (rooms : List Room) (first : ℕ) (rest : List ℕ) → counts_of rooms ≡ first ∷ rest
+    → lines_found layout page entries rooms ≡ min layout.header_lines first + sum_by (λ (count : ℕ). min (entry_lines page) count) (take entries rest)
+found_counted layout page entries [] first rest same = cc
+found_counted layout page entries (room ∷ rooms) first rest same =
+    let head : room.lines ≡ first = cc in
+    let tail : counts_of rooms ≡ rest = cc in
+    ap (λ (n : ℕ). min layout.header_lines room.lines + n)
+    (sum_counted (entry_lines page) (take entries rooms) ∙ ap (λ (counts : List ℕ). sum_by (λ (count : ℕ). min (entry_lines page) count) counts) (sym (take-map (λ (one : Room). one.lines) entries rooms) ∙ ap (take entries) tail))
+    ∙ ap (λ (n : ℕ). min layout.header_lines n + sum_by (λ (count : ℕ). min (entry_lines page) count) (take entries rest)) head
+
+-- rooms with as many lines lack the same
+pub found_same : (layout : Layout) (page entries : ℕ) (rooms others : List Room) → counts_of rooms ≡ counts_of others → lines_found layout page entries rooms ≡ lines_found layout page entries others
+found_same layout page entries [] [] same = refl
+found_same layout page entries [] (other ∷ others) same = cc
+found_same layout page entries (room ∷ rooms) [] same = cc
+found_same layout page entries (room ∷ rooms) (other ∷ others) same =
+    found_counted layout page entries (room ∷ rooms) other.lines (counts_of others) same ∙ sym (found_counted layout page entries (other ∷ others) other.lines (counts_of others) refl)
+
+all_counted : (least : ℕ) (rooms : List Room) → All (λ (room : Room). least ≤ room.lines) rooms → All (λ (count : ℕ). least ≤ count) (counts_of rooms)
+all_counted least rooms each = All-map (λ (count : ℕ). least ≤ count) (λ (room : Room). room.lines) rooms each
+
+all_rooms : (least : ℕ) (rooms : List Room) → All (λ (count : ℕ). least ≤ count) (counts_of rooms) → All (λ (room : Room). least ≤ room.lines) rooms
+all_rooms least rooms each k d inside =
+    subst (λ (n : ℕ). least ≤ n) (get_or-map (λ (room : Room). room.lines) rooms k d d.lines inside) (each k d.lines (omega (arith, length-map rooms (λ (room : Room). room.lines))))
+
+slots_counted : (entries : ℕ) (rooms : List Room) → counts_of (take entries (drop 1 rooms)) ≡ take entries (drop 1 (counts_of rooms))
+slots_counted entries rooms = sym (take-map (λ (room : Room). room.lines) entries (drop 1 rooms)) ∙ ap (take entries) (sym (drop-map (λ (room : Room). room.lines) 1 rooms))
+
+-- and have them all where the others do
+pub has_lines_same : (layout : Layout) (page entries : ℕ) (rooms others : List Room) → counts_of rooms ≡ counts_of others → HasLines layout page entries rooms → HasLines layout page entries others
+has_lines_same layout page entries rooms others same has = record {
+  header = omega (arith, has.header, header_counted rooms others same);
+  count = omega (arith, has.count, length-map rooms (λ (room : Room). room.lines), length-map others (λ (room : Room). room.lines), ap length same);
+  each =
+      all_rooms (entry_lines page) (take entries (drop 1 others))
+      (subst (λ (counts : List ℕ). All (λ (count : ℕ). entry_lines page ≤ count) counts)
+      (slots_counted entries rooms ∙ ap (λ (counts : List ℕ). take entries (drop 1 counts)) same ∙ sym (slots_counted entries others))
+      (all_counted (entry_lines page) (take entries (drop 1 rooms)) has.each));
+}
+
+-- ---- the rooms of parts
+
+-- parts that were only read have as many lines
+pub kept_counts : {X : Type 0} (room : X → Room) (old new : List X) → AllZip (λ before now. Keeps (room before) (room now)) old new → counts_of (map room new) ≡ counts_of (map room old)
+kept_counts room [] [] keeps = refl
+kept_counts room [] (y ∷ new) keeps = absurd keeps
+kept_counts room (x ∷ old) [] keeps = absurd keeps
+kept_counts room (x ∷ old) (y ∷ new) keeps =
+    ap (λ (count : ℕ). count ∷ counts_of (map room new)) keeps.0.lines ∙ ap (λ (others : List ℕ). (room x).lines ∷ others) (kept_counts room old new keeps.1)
+
+-- and take no less
+pub kept_spare : {X : Type 0} (room : X → Room) (old new : List X) → AllZip (λ before now. Keeps (room before) (room now)) old new → All HasSpare (map room old) → All HasSpare (map room new)
+kept_spare room [] [] keeps spare k d inside = absurd (omega arith)
+kept_spare room [] (y ∷ new) keeps spare k d inside = absurd keeps
+kept_spare room (x ∷ old) [] keeps spare k d inside = absurd keeps
+kept_spare room (x ∷ old) (y ∷ new) keeps spare zero d inside = λ line below. omega (arith, keeps.0.spare line, keeps.0.lines, spare 0 d (omega arith) line (omega (arith, keeps.0.lines)))
+kept_spare room (x ∷ old) (y ∷ new) keeps spare (suc k) d inside =
+    kept_spare room old new keeps.1 (λ i none within. spare (suc i) none (omega arith)) k d (omega arith)
+
+-- Parts have the lines that they tell of.
+pub told_counts : {X : Type 0} (history : X → History) (room : X → Room) → ((p : X) (now : Part) (past : History) → history p ≡ now ∷ past → length now ≡ (room p).lines)
+    → (parts : List X) (told : List Part) → AreNow (map history parts) told → counts_of (map room parts) ≡ counts_of (rooms_of told)
+told_counts history room lines [] [] are = refl
+told_counts history room lines [] (now ∷ told) are = absurd are
+told_counts history room lines (part ∷ parts) [] are = absurd are
+told_counts history room lines (part ∷ parts) (now ∷ told) are =
+    ap (λ (count : ℕ). count ∷ counts_of (map room parts)) (sym (lines part now are.0.past are.0.is))
+    ∙ ap (λ (others : List ℕ). length now ∷ others) (told_counts history room lines parts told are.1)

@@ -1,0 +1,103 @@
+use Rattle.std.proofs.Common.{◌≡◌, ◌++◌, List, [], Err, length, map, take, drop, refl, sym, ap, ◌∙◌, subst, arith}
+use Rattle.std.specs.Prelude.{All, IfSome}
+use Rattle.std.specs.List.{AllZip}
+use Rattle.nv_pmem.specs.Room.{Keeps}
+use Rattle.nv_pmem.specs.RowStates.{AreNow, row_tells_from}
+use Rattle.nv_pmem.specs.Rows.{RowTells}
+use Rattle.nv_pmem.specs.Steps as lines
+use Rattle.nv_header.specs.Laws.{HasSpare}
+use Rattle.nv_recover.specs.Answers.{parts_after}
+use Rattle.nv_recover.specs.Standing.{AreQuietStores}
+use Rattle.nv_open.specs.Held.{header_names}
+use Rattle.nv_open.specs.Lending.{stores_named}
+use Rattle.nv_open.specs.Refusals.{IsRefusedFor, IsBadHeader, IsBadLog}
+use Rattle.nv_open.proofs.HeadLaws.{error_is}
+use Rattle.nv_open.proofs.LineCounts.{kept_spare}
+use Rattle.nv_open.proofs.Openings.{opened_none, some_nil}
+use Rattle.nv_open.proofs.Returns.{written_back, lent_quiet, opened_alone, files_passed, opened_by_header, opened_by_log, refused_alone, unwritten_by}
+use Rattle.nv_open.proofs.recovering.recover_parts.Goals as goal
+
+pub returns-in-Err-clause-refused : goal.returns-in-Err-clause-refused
+returns-in-Err-clause-refused g c why is =
+    let row : List lines.History = map g.T.Part.Lines.history c.args.parts.items in
+    refused_alone row why IsBadHeader
+    (subst (λ these. RowTells (map g.T.Part.Lines.history these) (λ told. IsRefusedFor told why × IsBadHeader why)) c.deref_mut.ensures.value
+    (c.in-Err.ensures.refused why (ap Err (error_is (Err c.in-Err.error) _ _ refl is))))
+
+pub returns-in-Err-clause-unwritten : goal.returns-in-Err-clause-unwritten
+returns-in-Err-clause-unwritten g c why is =
+    let history = g.T.Part.Lines.history in
+    let new = c.read_header.new.parts in
+    let state = g.T.Bench.state c.args.bench.now in
+    let row : List lines.History = map history c.args.parts.items in
+    let none = opened_none g.T.Store.Backing.history g.T.Store.Backing.fault_count state c.args.stores.now.items c.args.stores.now.items refl in
+    unwritten_by history g.T.Store.Backing.history why [] state state c.args.parts.items
+    (take c.args.parts.len (new ++ drop (length new) c.args.parts.items)) [] c.args.stores.now.items
+    (opened_by_header row why
+    (subst (λ these. RowTells (map history these) (λ told. IsRefusedFor told why × IsBadHeader why)) c.deref_mut.ensures.value
+    (c.in-Err.ensures.refused why (ap Err (error_is (Err c.in-Err.error) _ _ refl is)))))
+    (ap (map history) (written_back c.args.parts.len new c.args.parts.items (omega (arith, c.read_header.auto.parts, c.deref_mut.ensures.len)))
+    ∙ c.in-Err.ensures.read.histories ∙ ap (map history) c.deref_mut.ensures.value)
+    none.lent (some_nil state.told)
+    (row_tells_from row (λ told. map g.T.Store.Backing.history c.args.stores.now.items ≡ []) (λ told are. ap (map g.T.Store.Backing.history) c.requires.none))
+
+pub recover_log-requires-clause-spare : goal.recover_log-requires-clause-spare
+recover_log-requires-clause-spare g c =
+    let room = g.T.Part.Lines.room in
+    let len = c.args.parts.len in
+    let new = c.read_header.new.parts in
+    subst (λ these. All HasSpare (map room these)) (sym (written_back len new c.args.parts.items (omega (arith, c.read_header.auto.parts, c.deref_mut.ensures.len))))
+    (kept_spare room c.args.parts.items new (subst (λ these. AllZip (λ before now. Keeps (room before) (room now)) these new) c.deref_mut.ensures.value c.in-Ok.ensures.read.rooms) c.requires.spare)
+
+pub recover_log-requires-clause-synced : goal.recover_log-requires-clause-synced
+recover_log-requires-clause-synced g c =
+    let history = g.T.Store.Backing.history in
+    let opened = c.in_default.ensures.opened in
+    subst (λ these. RowTells (map history these) AreQuietStores) (opened_alone c.args.stores.now.items c.open_stores.new.stores.items opened.stores c.requires.none opened.behind)
+    (lent_quiet history (g.T.Bench.state c.args.bench.now).told c.in-Ok.head.names opened.stores c.requires.synced opened.told opened.untold)
+
+pub returns-clause-files : goal.returns-clause-files
+returns-clause-files g c =
+    let history = g.T.Part.Lines.history in
+    let store_history = g.T.Store.Backing.history in
+    let new = c.read_header.new.parts in
+    let told = (g.T.Bench.state c.args.bench.now).told in
+    let names = c.in-Ok.head.names in
+    let opened = c.in_default.ensures.opened in
+    let same = ap (map history) (written_back c.args.parts.len new c.args.parts.items (omega (arith, c.read_header.auto.parts, c.deref_mut.ensures.len)))
+    ∙ c.in-Ok.ensures.read.histories ∙ ap (map history) c.deref_mut.ensures.value in
+    files_passed (λ done. done.0.names) c.recover_log.result told (map history c.args.parts.items) (map history (take c.args.parts.len (new ++ drop (length new) c.args.parts.items)))
+    (map store_history c.open_stores.new.stores.items) (map store_history c.recover_log.new.stores.items) names same c.recover_log.ensures.names
+    (subst (λ these. IfSome told (λ holding. AreNow (map store_history these) (stores_named names holding.stores)))
+    (opened_alone c.args.stores.now.items c.open_stores.new.stores.items opened.stores c.requires.none opened.behind) opened.told)
+    c.requires.tell c.recover_log.ensures.files
+
+pub returns-clause-refused : goal.returns-clause-refused
+returns-clause-refused g c why is =
+    let history = g.T.Part.Lines.history in
+    let new = c.read_header.new.parts in
+    let same = ap (map history) (written_back c.args.parts.len new c.args.parts.items (omega (arith, c.read_header.auto.parts, c.deref_mut.ensures.len)))
+    ∙ c.in-Ok.ensures.read.histories ∙ ap (map history) c.deref_mut.ensures.value in
+    refused_alone (map history c.args.parts.items) why IsBadLog (subst (λ row. RowTells row (λ told. IsRefusedFor told why × IsBadLog why)) same (c.recover_log.ensures.refused why is))
+
+pub returns-clause-unwritten : goal.returns-clause-unwritten
+returns-clause-unwritten g c why is =
+    let history = g.T.Part.Lines.history in
+    let store_history = g.T.Store.Backing.history in
+    let new = c.read_header.new.parts in
+    let head = c.in-Ok.head in
+    let opened = c.in_default.ensures.opened in
+    let told = (g.T.Bench.state c.args.bench.now).told in
+    let row : List lines.History = map history c.args.parts.items in
+    let value = c.deref_mut.ensures.value in
+    let same = ap (map history) (written_back c.args.parts.len new c.args.parts.items (omega (arith, c.read_header.auto.parts, c.deref_mut.ensures.len)))
+    ∙ c.in-Ok.ensures.read.histories ∙ ap (map history) value in
+    unwritten_by history store_history why head.names (g.T.Bench.state c.args.bench.now) (g.T.Bench.state c.open_stores.new.bench) c.args.parts.items (parts_after c.recover_log.result)
+    c.open_stores.new.stores.items c.recover_log.new.stores.items
+    (opened_by_log row why head.names (subst (λ these. RowTells (map history these) (λ parts. header_names parts ≡ head.names)) value c.in-Ok.ensures.names)
+    (subst (λ these. RowTells these (λ parts. IsRefusedFor parts why × IsBadLog why)) same (c.recover_log.ensures.refused why is)))
+    (c.recover_log.ensures.unwritten why is ∙ same)
+    opened.lent
+    (subst (λ these. IfSome told (λ holding. AreNow (map store_history these) (stores_named head.names holding.stores)))
+    (opened_alone c.args.stores.now.items c.open_stores.new.stores.items opened.stores c.requires.none opened.behind) opened.told)
+    (subst (λ these. RowTells these (λ parts. map store_history c.recover_log.new.stores.items ≡ map store_history c.open_stores.new.stores.items)) same (c.recover_log.ensures.stores_kept why is))

@@ -1,0 +1,53 @@
+use Rattle.std.proofs.Common.{Err, length, map, refl, ap}
+use Rattle.nv_bench.specs.Holding.{Holding}
+use Rattle.nv_open.specs.Held.{HoldFiles, IsRecovered, files_named}
+use Rattle.nv_open.specs.Refusals.{IsRefusedFor}
+use Rattle.nv_open.proofs.HeadLaws.{error_is}
+use Rattle.nv_open.proofs.Regions.{given_quiet, given_spare, given_tell, lent_told, quiet_parts, some_told, some_stores, still_untold, returned_told}
+use Rattle.nv_open.proofs.recovering.recover_region.Goals as goal
+
+pub recover_parts-requires-clause-spare : goal.recover_parts-requires-clause-spare
+recover_parts-requires-clause-spare g c κs lives =
+    let told = (g.T.Bench.state c.args.bench.now).told in
+    given_spare g.T.Part.Lines.history g.T.Part.Lines.room c.in_ok-parts.parts.items told (λ (holding : Holding). holding.parts) c.in_ok-parts.ensures.untold c.in_ok-parts.ensures.told
+    (quiet_parts told c.requires.quiet) c.in_ok-parts.ensures.fresh
+
+pub recover_parts-requires-clause-quiet : goal.recover_parts-requires-clause-quiet
+recover_parts-requires-clause-quiet g c κs lives =
+    let told = (g.T.Bench.state c.args.bench.now).told in
+    given_quiet c.images_follow_calls.ensures.blank g.T.Part.Lines.history c.in_ok-parts.parts.items told (λ (holding : Holding). holding.parts) c.in_ok-parts.ensures.untold c.in_ok-parts.ensures.told
+    (quiet_parts told c.requires.quiet)
+
+pub recover_parts-requires-clause-tell : goal.recover_parts-requires-clause-tell
+recover_parts-requires-clause-tell g c κs lives =
+    let old = g.T.Bench.state c.args.bench.now in
+    let mid = g.T.Bench.state c.open_region.new.self in
+    given_tell old.told mid.told (λ (holding : Holding). holding.parts) _ (lent_told old mid c.in_ok-parts.ensures.lent) c.in_ok-parts.ensures.told
+
+pub returns-in-Ok-clause-recovered : goal.returns-in-Ok-clause-recovered
+returns-in-Ok-clause-recovered g c =
+    let region = c.in-Ok.region in
+    some_told (g.T.Bench.state c.args.bench.now).told (λ (holding : Holding). holding.parts) (map g.T.Part.Lines.history c.in_ok-parts.parts.items)
+    (λ told. IsRecovered told region.geometry.page region.geometry.entries region.names region.next c.in-Ok.found) c.in_ok-parts.ensures.told c.in-Ok.ensures.recovered
+
+pub returns-in-Ok-clause-files : goal.returns-in-Ok-clause-files
+returns-in-Ok-clause-files g c =
+    let old = g.T.Bench.state c.args.bench.now in
+    let mid = g.T.Bench.state c.open_region.new.self in
+    some_stores old.told mid.told (λ (holding : Holding). holding.parts) (map g.T.Part.Lines.history c.in_ok-parts.parts.items)
+    (λ told held. HoldFiles (map g.T.Store.Backing.history c.recover_parts.new.stores.items) (files_named told c.in-Ok.region.names held)) (lent_told old mid c.in_ok-parts.ensures.lent)
+    c.in_ok-parts.ensures.told c.in-Ok.ensures.files
+
+pub returns-in-Err-clause-refused : goal.returns-in-Err-clause-refused
+returns-in-Err-clause-refused g c why is =
+    some_told (g.T.Bench.state c.args.bench.now).told (λ (holding : Holding). holding.parts) (map g.T.Part.Lines.history c.in_ok-parts.parts.items) (λ told. IsRefusedFor told why)
+    c.in_ok-parts.ensures.told (c.in-Err.ensures.refused why (ap Err (error_is (Err c.in-Err.error) _ _ refl is)))
+
+pub returns-in-Err-clause-unwritten : goal.returns-in-Err-clause-unwritten
+returns-in-Err-clause-unwritten g c why is =
+    let old = g.T.Bench.state c.args.bench.now in
+    let mid = g.T.Bench.state c.open_region.new.self in
+    returned_told g.T.Part.Lines.history g.T.Store.Backing.history why old mid (g.T.Bench.state c.recover_parts.new.bench) (g.T.Bench.state c.give_back.new.self).told old.told
+    c.in_ok-parts.parts.items c.in-Err.parts.items c.recover_parts.new.stores.items c.in_ok-parts.ensures.lent c.requires.home refl c.in_ok-parts.ensures.told
+    (c.in-Err.ensures.unwritten why (ap Err (error_is (Err c.in-Err.error) _ _ refl is))) c.give_back.ensures.told
+    (λ none. c.give_back.ensures.untold (still_untold (length c.recover_parts.new.stores.items) old mid (g.T.Bench.state c.recover_parts.new.bench) c.in_ok-parts.ensures.lent c.in-Err.ensures.lent none))

@@ -1,0 +1,4 @@
+pub mod Lending
+pub mod Refusals
+pub mod Causes
+pub mod Held

@@ -1,0 +1,14 @@
+//! Opening the region of a bench: a blank one is formatted, and any other one is recovered; then the stores of its files are
+//! open, in the order of its names.
+#![tactic(auto)]
+
+mod error;
+mod header;
+mod log;
+mod opened;
+mod recovering;
+mod stores;
+
+pub use error::{OpenError, Refusal};
+pub use opened::Opened;
+pub use recovering::recover_region;

@@ -1,0 +1,114 @@
+ghost use Rattle.std.specs.Prelude.{◌≡◌, ◌+◌, ◌++◌, [], false, true, length, map, sum_by, All, None, Err, IfOk, IfErr, IfSome};
+ghost use Rattle.nv_plain.specs.Faults.{saturated};
+ghost use Rattle.nv_pmem.specs.Rows.{RowTells, AreQuiet};
+ghost use Rattle.nv_bench.specs.Benches.{with_faults};
+ghost use Rattle.nv_bench.specs.Holding.{IsQuietHolding};
+ghost use Rattle.nv_store.specs.Store.{IsQuiet};
+ghost use Rattle.nv_header.specs.Laws.{HasSpare};
+ghost use Rattle.nv_recover.specs.Answers.{answer_of, parts_after};
+ghost use Rattle.nv_recover.specs.Telling.{AllTell};
+ghost use Rattle.nv_open.specs.Causes.{ErrorHasCause, OpenHasCause};
+ghost use Rattle.nv_open.specs.Held.{HoldFiles, IsRecovered, files_named, AreUnwritten, told_after};
+ghost use Rattle.nv_open.specs.Lending.{HasLent, all_lent, stores_lent};
+ghost use Rattle.nv_open.specs.Refusals.{IsRefusedFor};
+ghost use Rattle.nv_open.specs.declared.error.OpenError.TheVariants as error;
+
+use crate::header::read_header;
+use crate::log::recover_log;
+use crate::stores::open_stores;
+use crate::{OpenError, Opened};
+use nv_bench::Bench;
+use nv_header::Region;
+use nv_pmem::images_follow_calls;
+use nv_recover::Recovered;
+use std::alloc::Global;
+
+/// Opens the region of a bench as it stands, with the stores of its files, and recovers it. A region with no part, or a
+/// blank one, is refused.
+pub fn recover_region<T: Bench>(
+    alloc: Global,
+    bench: &mut T,
+) -> Result<(Opened<T::Part, T::Store>, Recovered), OpenError>
+    requires closed { (T.state bench.old).is_open ≡ false }
+    requires home { (T.state bench.old).lent ≡ [] }
+    requires quiet { IfSome (T.state bench.old).told IsQuietHolding }
+
+    // At `Ok`.
+    ensures lent { IfOk result (λ done. T.state bench.new
+        ≡ with_faults (T.state bench.new).faults (all_lent done.0.region.names (T.state bench.old))) }
+    ensures one_each { IfOk result (λ done. length done.0.stores.items ≡ length done.0.region.names) }
+    ensures recovered { IfOk result (λ done. IfSome (T.state bench.old).told (λ holding. IsRecovered holding.parts
+        done.0.region.geometry.page done.0.region.geometry.entries done.0.region.names done.0.region.next done.1)) }
+    ensures files { IfOk result (λ done. IfSome (T.state bench.old).told (λ holding. HoldFiles (map T.Store.history done.0.stores.items)
+        (files_named holding.parts done.0.region.names holding.stores))) }
+    ensures counts { IfOk result (λ done. (T.state bench.old).faults ≡ saturated ((T.state bench.new).faults
+        + sum_by T.Part.fault_count done.0.region.parts.items + sum_by T.Store.fault_count done.0.stores.items)) }
+
+    // At an error all is given back.
+    ensures back { IfErr result (λ why. T.state bench.new ≡ record (T.state bench.old) { told = (T.state bench.new).told; faults = (T.state bench.new).faults }) }
+    ensures refused { (why : _) → result ≡ Err (error.Refused why)
+        → IfSome (T.state bench.old).told (λ holding. IsRefusedFor holding.parts why) }
+    ensures unwritten { (why : _) → result ≡ Err (error.Refused why)
+        → (T.state bench.new).told ≡ told_after why (T.state bench.old).told }
+    ensures untold { (T.state bench.old).told ≡ None → (T.state bench.new).told ≡ None }
+    ensures cause { IfErr result (ErrorHasCause (T.state bench.old).faults (T.state bench.new).faults) }
+{
+    images_follow_calls();
+    let parts = bench.open_region(None)?;
+    let mut stores = Vec::new(alloc);
+    match recover_parts(alloc, bench, parts, &mut stores) {
+        Ok((region, found)) => Ok((Opened { region, stores }, found)),
+        Err((parts, error)) => {
+            bench.give_back(parts, stores);
+            Err(error)
+        }
+    }
+}
+
+/// Recovers a region that is lent, with the stores of its files, which are opened first. Whichever answer came, these are
+/// those that stand there then.
+pub(crate) fn recover_parts<T: Bench>(
+    alloc: Global,
+    bench: &mut T,
+    parts: Vec<T::Part>,
+    stores: &mut Vec<T::Store>,
+) -> Result<(Region<T::Part>, Recovered), (Vec<T::Part>, OpenError)>
+    requires open { (T.state bench.old).is_open ≡ true }
+    requires home { (T.state bench.old).lent ≡ [] }
+    requires none { stores.old.items ≡ [] }
+    requires spare { All HasSpare (map T.Part.room parts.items) }
+    requires quiet { RowTells (map T.Part.history parts.items) AreQuiet }
+    requires synced { IfSome (T.state bench.old).told (λ holding. All (λ named. IsQuiet named.store) holding.stores) }
+    requires tell { IfSome (T.state bench.old).told (λ holding. AllTell (map T.Part.history parts.items)) }
+
+    // Whichever answer came.
+    ensures lent { HasLent (length stores.new.items) (T.state bench.old) (T.state bench.new) }
+    ensures cause { OpenHasCause (saturated ((T.state bench.old).faults + sum_by T.Part.fault_count parts.items))
+        (saturated ((T.state bench.new).faults + (sum_by T.Part.fault_count (parts_after result) + sum_by T.Store.fault_count stores.new.items)))
+        (answer_of result) }
+
+    // At `Ok`.
+    ensures names { IfOk result (λ done. T.state bench.new
+        ≡ with_faults (T.state bench.new).faults (stores_lent done.0.names (T.state bench.old))) }
+    ensures one_each { IfOk result (λ done. length stores.new.items ≡ length done.0.names) }
+    ensures recovered { IfOk result (λ done. RowTells (map T.Part.history parts.items) (λ told. IsRecovered told
+        done.0.geometry.page done.0.geometry.entries done.0.names done.0.next done.1)) }
+    ensures files { IfOk result (λ done. IfSome (T.state bench.old).told (λ holding. RowTells (map T.Part.history parts.items) (λ told.
+        HoldFiles (map T.Store.history stores.new.items) (files_named told done.0.names holding.stores)))) }
+
+    // Where the region is refused.
+    ensures refused { (why : _) → answer_of result ≡ Err (error.Refused why)
+        → RowTells (map T.Part.history parts.items) (λ told. IsRefusedFor told why) }
+    ensures unwritten { (why : _) → answer_of result ≡ Err (error.Refused why)
+        → AreUnwritten T.Part.history T.Store.history why (T.state bench.old) (T.state bench.new) parts.items (parts_after result) stores.new.items }
+{
+    let mut parts = parts;
+    let head = match read_header(alloc, &mut parts) {
+        Ok(head) => head,
+        Err(error) => return Err((parts, error)),
+    };
+    if let Err(error) = open_stores(bench, &head.names, stores) {
+        return Err((parts, error.into()));
+    }
+    recover_log(alloc, head, parts, stores)
+}
