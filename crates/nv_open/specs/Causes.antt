@@ -14,3 +14,8 @@ ErrorHasCause before now NoMemory = now ≡ before
 abbrev pub OpenHasCause : {T : Type 0} → (before now : ℕ) → Result T OpenError → Type 0
 OpenHasCause before now (Ok _) = now ≡ before
 OpenHasCause before now (Err error) = ErrorHasCause before now error
+
+-- and one of a region, or of its parts with an error
+abbrev pub RegionHasCause : {T P : Type 0} → (before now : ℕ) → Result T (P × OpenError) → Type 0
+RegionHasCause before now (Ok _) = now ≡ before
+RegionHasCause before now (Err failed) = ErrorHasCause before now failed.1

@@ -53,7 +53,14 @@ pub record AreBegun {Y : Type 0} (history : Y → History) (fault_count : Y → 
   pub opened : AreOpened history fault_count (take number names) faults old new before now
   pub cause : OpeningHasCause faults new.faults error
 
--- The stores of some names are lent, so many, and nothing else of the bench is changed but its count.
+-- The stores of some names are lent, and nothing else of the bench is changed but its count. There were so many stores before, and so
+-- many now.
+pub record HasLentMore (before now : ℕ) (old new : BenchState) : Type 0 where
+  pub names : List (List ℕ)
+  pub lent : new ≡ with_faults new.faults (stores_lent names old)
+  pub one_each : now ≡ before + length names
+
+-- The same, where there were none.
 pub record HasLent (count : ℕ) (old new : BenchState) : Type 0 where
   pub names : List (List ℕ)
   pub lent : new ≡ with_faults new.faults (stores_lent names old)

@@ -2,3 +2,5 @@ pub mod Lending
 pub mod Refusals
 pub mod Causes
 pub mod Held
+pub mod Adding
+pub mod Begun

@@ -1,5 +1,5 @@
 use nv_bench::BenchError;
-use nv_header::{HeadError, HeadField, Truncated};
+use nv_header::{AddError, HeadError, HeadField, Truncated};
 use nv_pmem::RegionFault;
 use nv_recover::RecoverError;
 use std::alloc::AllocError;
@@ -109,6 +109,22 @@ impl From<RecoverError> for OpenError {
             RecoverError::BadEntry { number } => OpenError::Refused(Refusal::BadEntry { number }),
             RecoverError::RegionFault | RecoverError::StoreFault => OpenError::Fault,
             RecoverError::NoMemory => OpenError::NoMemory,
+        }
+    }
+}
+
+impl From<AddError> for OpenError {
+    ghost use Rattle.std.specs.Prelude.{◌≡◌};
+    ghost use Rattle.nv_open.specs.Adding.{of_adding};
+
+    ghost from_gives = { λ error e. e ≡ of_adding error };
+
+    fn from(error: AddError) -> Self {
+        match error {
+            AddError::TooManyFiles => OpenError::Refused(Refusal::TooManyFiles),
+            AddError::BadName { index } => OpenError::Refused(Refusal::BadName { index }),
+            AddError::NoMemory => OpenError::NoMemory,
+            AddError::RegionFault => OpenError::Fault,
         }
     }
 }

@@ -1,0 +1,11 @@
+use Rattle.std.proofs.Common.{◌≡◌, ◌++◌, take, sum_by}
+use Rattle.nv_open.proofs.adding.add_names.Given as goal
+
+-- the names before this one are added
+abbrev pub invariant-loop-name : goal.invariant-loop-name
+invariant-loop-name g l = record {
+  names : l.region.names ≡ l.fn.region.names ++ take l.name-index l.fn.names;
+  geometry : l.region.geometry ≡ l.fn.region.geometry;
+  next : l.region.next ≡ l.fn.region.next;
+  faults : sum_by g.L.Lines.fault_count l.region.parts.items ≡ sum_by g.L.Lines.fault_count l.fn.region.parts.items;
+}

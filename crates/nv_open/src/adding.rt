@@ -1,0 +1,54 @@
+ghost use Rattle.std.specs.Prelude.{◌≡◌, ◌+◌, ◌++◌, length, map, sum_by, Err, IfOk, IfErr};
+ghost use Rattle.nv_plain.specs.Layouts.{version_1};
+ghost use Rattle.nv_header.specs.FileNames.{AreFileNames};
+ghost use Rattle.nv_header.specs.Changes.{parts_after_format};
+ghost use Rattle.nv_open.specs.Adding.{new_names};
+ghost use Rattle.nv_open.specs.Causes.{RegionHasCause};
+ghost use Rattle.nv_open.specs.declared.error.OpenError.TheVariants as error;
+
+use crate::OpenError;
+use nv_header::{Names, Region, add_file};
+use nv_plain::{Bytes, NoMemory};
+use nv_pmem::Lines;
+use std::alloc::Global;
+
+/// Of the names that are wanted those that aren't known, in their order.
+pub(crate) fn missing_names(
+    alloc: Global,
+    known: &Names,
+    wanted: &Names,
+) -> Result<Names, NoMemory>
+    ensures { IfOk result (λ names. names ≡ new_names known.now wanted.now) }
+{
+    let mut missing = Names::new(alloc);
+    for name in wanted.as_slice() {
+        if !known.contains(name.as_slice()) {
+            let bytes = Vec::from_slice(alloc, name.as_slice())?;
+            missing.push(Bytes::from_vec(bytes))?;
+        }
+    }
+    Ok(missing)
+}
+
+/// Adds names behind those of the region. Those that are there by then stay after an error.
+pub(crate) fn add_names<L: Lines + Drop>(
+    alloc: Global,
+    region: Region<L>,
+    names: &Names,
+) -> Result<Region<L>, (Vec<L>, OpenError)>
+    requires { AreFileNames version_1 (region.names ++ names.now) }
+    ensures names { IfOk result (λ added. added.names ≡ region.names ++ names.now) }
+    ensures geometry { IfOk result (λ added. added.geometry ≡ region.geometry) }
+    ensures next { IfOk result (λ added. added.next ≡ region.next) }
+    ensures never { (why : _) → IfErr result (λ failed. ¬ (failed.1 ≡ error.Refused why)) }
+    ensures cause { RegionHasCause (sum_by L.fault_count region.parts.items) (sum_by L.fault_count (parts_after_format result)) result }
+{
+    let mut region = region;
+    for name in names.as_slice() {
+        match add_file(alloc, region, name.as_slice()) {
+            Ok((added, _index)) => region = added,
+            Err((parts, error)) => return Err((parts, error.into())),
+        }
+    }
+    Ok(region)
+}

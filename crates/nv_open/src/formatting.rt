@@ -1,0 +1,44 @@
+ghost use Rattle.std.specs.Prelude.{◌≡◌, All, true, map, sum_by, IfOk, IfErr};
+ghost use Rattle.nv_plain.specs.Layouts.{version_1};
+ghost use Rattle.nv_pmem.specs.Rows.{RowTells};
+ghost use Rattle.nv_header.specs.Changes.{parts_after_format};
+ghost use Rattle.nv_header.specs.Laws.{HasSpare};
+ghost use Rattle.nv_header.specs.Needs.{HasLines};
+ghost use Rattle.nv_header.specs.Regions.{IsBlankRow};
+ghost use Rattle.nv_open.specs.Begun.{IsFormatted};
+ghost use Rattle.nv_open.specs.Causes.{RegionHasCause};
+ghost use Rattle.nv_open.specs.Refusals.{rooms_of};
+ghost use Rattle.nv_open.specs.declared.error.OpenError.TheVariants as error;
+
+use crate::OpenError;
+use nv_header::{Head, Names, Region, check_lines, format, needed_lines_make_parts};
+use nv_pmem::{Geometry, Lines};
+use std::alloc::Global;
+
+/// Formats a blank region. A bench that tells nothing may have given parts that lack lines; they are refused.
+pub(crate) fn format_parts<L: Lines + Drop>(
+    alloc: Global,
+    geometry: Geometry,
+    parts: Vec<L>,
+) -> Result<Region<L>, (Vec<L>, OpenError)>
+    requires blank { RowTells (map L.history parts.items) IsBlankRow }
+    requires spare { All HasSpare (map L.room parts.items) }
+    ensures formatted { IfOk result (λ region. IsFormatted geometry region.geometry.page region.geometry.entries region.names region.next) }
+    ensures short { (why : _) → IfErr result (λ failed. failed.1 ≡ error.Refused why
+        → RowTells (map L.history parts.items) (λ told. ¬ HasLines version_1 geometry.page geometry.entries (rooms_of told))) }
+    ensures cause { RegionHasCause (sum_by L.fault_count parts.items) (sum_by L.fault_count (parts_after_format result)) result }
+{
+    let head = Head {
+        geometry,
+        names: Names::new(alloc),
+        tail: 0,
+    };
+    if let Err(lack) = check_lines(&parts, &head) {
+        return Err((parts, lack.into()));
+    }
+    needed_lines_make_parts();
+    match format(parts, geometry) {
+        Ok(region) => Ok(region),
+        Err((parts, fault)) => Err((parts, fault.into())),
+    }
+}

@@ -1,0 +1,201 @@
+ghost use Rattle.std.specs.Prelude.{◌≡◌, ◌+◌, ◌<◌, ◌++◌, [], false, true, length, map, sum_by, All, None, Err, IfOk, IfErr, IfSome};
+ghost use Rattle.nv_plain.specs.Faults.{saturated};
+ghost use Rattle.nv_plain.specs.Layouts.{version_1};
+ghost use Rattle.nv_pmem.specs.Rows.{RowTells, AreQuiet};
+ghost use Rattle.nv_bench.specs.Benches.{with_faults};
+ghost use Rattle.nv_bench.specs.Holding.{IsQuietHolding};
+ghost use Rattle.nv_bench.specs.Opening.{is_blank};
+ghost use Rattle.nv_store.specs.Store.{IsQuiet};
+ghost use Rattle.nv_header.specs.Changes.{parts_after_format};
+ghost use Rattle.nv_header.specs.Laws.{HasSpare};
+ghost use Rattle.nv_header.specs.Needs.{HasLines};
+ghost use Rattle.nv_recover.specs.Telling.{AllTell};
+ghost use Rattle.nv_open.specs.Adding.{AreWanted, new_names, all_names};
+ghost use Rattle.nv_open.specs.Begun.{IsBegun, IsOpened, IsNotOpened, files_behind};
+ghost use Rattle.nv_open.specs.Causes.{ErrorHasCause, RegionHasCause};
+ghost use Rattle.nv_open.specs.Held.{HoldFiles, files_named, AreUnwritten, told_after};
+ghost use Rattle.nv_open.specs.Lending.{HasLent, HasLentMore, all_lent, stores_lent};
+ghost use Rattle.nv_open.specs.Refusals.{IsRefusedFor, rooms_of};
+ghost use Rattle.nv_open.specs.declared.error.OpenError.TheVariants as error;
+ghost use Rattle.nv_open.specs.declared.error.Refusal.TheVariants as refusal;
+
+use crate::adding::{add_names, missing_names};
+use crate::formatting::format_parts;
+use crate::recovering::recover_parts;
+use crate::stores::open_stores;
+use crate::{OpenError, Opened, Refusal};
+use nv_bench::Bench;
+use nv_header::{Names, Region, is_blank};
+use nv_pmem::{Geometry, images_follow_calls, loads_follow_calls};
+use std::alloc::Global;
+
+/// The most files of a region.
+const FILE_LIMIT: usize = 16;
+
+/// Opens the region of a bench, with the stores of its files. A blank one is formatted with this geometry, and any other one is
+/// recovered, and keeps its own. Then each name that is wanted and isn't there is added.
+pub fn open<T: Bench>(
+    alloc: Global,
+    bench: &mut T,
+    geometry: Geometry,
+    wanted: &Names,
+) -> Result<Opened<T::Part, T::Store>, OpenError>
+    requires closed { (T.state bench.old).is_open ≡ false }
+    requires home { (T.state bench.old).lent ≡ [] }
+    requires quiet { IfSome (T.state bench.old).told IsQuietHolding }
+    requires wanted { AreWanted version_1 wanted.now }
+
+    // At `Ok`.
+    ensures lent { IfOk result (λ opened. T.state bench.new
+        ≡ with_faults (T.state bench.new).faults (all_lent opened.region.names (T.state bench.old))) }
+    ensures one_each { IfOk result (λ opened. length opened.stores.items ≡ length opened.region.names) }
+    ensures opened { IfOk result (λ opened. IfSome (T.state bench.old).told (λ holding. IsOpened holding geometry wanted.now
+        opened.region.geometry.page opened.region.geometry.entries opened.region.names opened.region.next (map T.Store.history opened.stores.items))) }
+    ensures counts { IfOk result (λ opened. (T.state bench.old).faults ≡ saturated ((T.state bench.new).faults
+        + sum_by T.Part.fault_count opened.region.parts.items + sum_by T.Store.fault_count opened.stores.items)) }
+
+    // At an error all is given back.
+    ensures back { IfErr result (λ why. T.state bench.new ≡ record (T.state bench.old) { told = (T.state bench.new).told; faults = (T.state bench.new).faults }) }
+    ensures refused { (why : _) → result ≡ Err (error.Refused why)
+        → IfSome (T.state bench.old).told (λ holding. IsNotOpened holding.parts geometry wanted.now why) }
+    ensures unwritten { (why : _) → result ≡ Err (error.Refused why) → ¬ (why ≡ refusal.TooManyFiles)
+        → (T.state bench.new).told ≡ told_after why (T.state bench.old).told }
+    ensures untold { (T.state bench.old).told ≡ None → (T.state bench.new).told ≡ None }
+    ensures cause { IfErr result (ErrorHasCause (T.state bench.old).faults (T.state bench.new).faults) }
+{
+    images_follow_calls();
+    loads_follow_calls();
+    let parts = bench.open_region(Some(geometry))?;
+    let mut stores = Vec::new(alloc);
+    match open_parts(alloc, bench, geometry, wanted, parts, &mut stores) {
+        Ok(region) => Ok(Opened { region, stores }),
+        Err((parts, error)) => {
+            bench.give_back(parts, stores);
+            Err(error)
+        }
+    }
+}
+
+// Opens a region that is lent, with the stores of its files and of those that are wanted.
+fn open_parts<T: Bench>(
+    alloc: Global,
+    bench: &mut T,
+    geometry: Geometry,
+    wanted: &Names,
+    parts: Vec<T::Part>,
+    stores: &mut Vec<T::Store>,
+) -> Result<Region<T::Part>, (Vec<T::Part>, OpenError)>
+    requires open { (T.state bench.old).is_open ≡ true }
+    requires home { (T.state bench.old).lent ≡ [] }
+    requires none { stores.old.items ≡ [] }
+    requires spare { All HasSpare (map T.Part.room parts.items) }
+    requires quiet { RowTells (map T.Part.history parts.items) AreQuiet }
+    requires synced { IfSome (T.state bench.old).told (λ holding. All (λ named. IsQuiet named.store) holding.stores) }
+    requires tell { IfSome (T.state bench.old).told (λ holding. AllTell (map T.Part.history parts.items)) }
+    requires long { RowTells (map T.Part.history parts.items) (λ told. is_blank told ≡ true → HasLines version_1 geometry.page geometry.entries (rooms_of told)) }
+    requires wanted { AreWanted version_1 wanted.now }
+    ensures lent { HasLent (length stores.new.items) (T.state bench.old) (T.state bench.new) }
+    ensures cause { RegionHasCause (saturated ((T.state bench.old).faults + sum_by T.Part.fault_count parts.items))
+        (saturated ((T.state bench.new).faults + (sum_by T.Part.fault_count (parts_after_format result) + sum_by T.Store.fault_count stores.new.items)))
+        result }
+    ensures names { IfOk result (λ region. T.state bench.new
+        ≡ with_faults (T.state bench.new).faults (stores_lent region.names (T.state bench.old))) }
+    ensures one_each { IfOk result (λ region. length stores.new.items ≡ length region.names) }
+    ensures opened { IfOk result (λ region. IfSome (T.state bench.old).told (λ holding. RowTells (map T.Part.history parts.items) (λ told.
+        IsOpened (record { parts = told; stores = holding.stores }) geometry wanted.now region.geometry.page region.geometry.entries region.names region.next (map T.Store.history stores.new.items)))) }
+    ensures refused { (why : _) → IfErr result (λ failed. failed.1 ≡ error.Refused why
+        → RowTells (map T.Part.history parts.items) (λ told. IsNotOpened told geometry wanted.now why)) }
+    ensures unwritten { (why : _) → IfErr result (λ failed. failed.1 ≡ error.Refused why → ¬ (why ≡ refusal.TooManyFiles)
+        → AreUnwritten T.Part.history T.Store.history why (T.state bench.old) (T.state bench.new) parts.items failed.0.items stores.new.items) }
+{
+    match begin(alloc, bench, geometry, parts, stores) {
+        Ok(region) => add_wanted(alloc, bench, wanted, region, stores),
+        Err(failed) => Err(failed),
+    }
+}
+
+// Formats a region that is lent where it is blank, and recovers it where it isn't, with the stores of its files.
+fn begin<T: Bench>(
+    alloc: Global,
+    bench: &mut T,
+    geometry: Geometry,
+    parts: Vec<T::Part>,
+    stores: &mut Vec<T::Store>,
+) -> Result<Region<T::Part>, (Vec<T::Part>, OpenError)>
+    requires open { (T.state bench.old).is_open ≡ true }
+    requires home { (T.state bench.old).lent ≡ [] }
+    requires none { stores.old.items ≡ [] }
+    requires spare { All HasSpare (map T.Part.room parts.items) }
+    requires quiet { RowTells (map T.Part.history parts.items) AreQuiet }
+    requires synced { IfSome (T.state bench.old).told (λ holding. All (λ named. IsQuiet named.store) holding.stores) }
+    requires tell { IfSome (T.state bench.old).told (λ holding. AllTell (map T.Part.history parts.items)) }
+    requires long { RowTells (map T.Part.history parts.items) (λ told. is_blank told ≡ true → HasLines version_1 geometry.page geometry.entries (rooms_of told)) }
+    ensures lent { HasLent (length stores.new.items) (T.state bench.old) (T.state bench.new) }
+    ensures cause { RegionHasCause (saturated ((T.state bench.old).faults + sum_by T.Part.fault_count parts.items))
+        (saturated ((T.state bench.new).faults + (sum_by T.Part.fault_count (parts_after_format result) + sum_by T.Store.fault_count stores.new.items)))
+        result }
+    ensures names { IfOk result (λ region. T.state bench.new
+        ≡ with_faults (T.state bench.new).faults (stores_lent region.names (T.state bench.old))) }
+    ensures one_each { IfOk result (λ region. length stores.new.items ≡ length region.names) }
+    ensures begun { IfOk result (λ region. RowTells (map T.Part.history parts.items) (λ told.
+        IsBegun told geometry region.geometry.page region.geometry.entries region.names region.next)) }
+    ensures files { IfOk result (λ region. IfSome (T.state bench.old).told (λ holding. RowTells (map T.Part.history parts.items) (λ told.
+        HoldFiles (map T.Store.history stores.new.items) (files_named told region.names holding.stores)))) }
+    ensures refused { (why : _) → IfErr result (λ failed. failed.1 ≡ error.Refused why
+        → RowTells (map T.Part.history parts.items) (λ told. (is_blank told ≡ false) × IsRefusedFor told why)) }
+    ensures unwritten { (why : _) → IfErr result (λ failed. failed.1 ≡ error.Refused why
+        → AreUnwritten T.Part.history T.Store.history why (T.state bench.old) (T.state bench.new) parts.items failed.0.items stores.new.items) }
+{
+    let mut parts = parts;
+    match is_blank(&mut parts) {
+        Ok(true) => format_parts(alloc, geometry, parts),
+        Ok(false) => match recover_parts(alloc, bench, parts, stores) {
+            Ok((region, _found)) => Ok(region),
+            Err(failed) => Err(failed),
+        },
+        Err(fault) => Err((parts, fault.into())),
+    }
+}
+
+// Adds the wanted names that a region lacks, and opens their stores.
+fn add_wanted<T: Bench>(
+    alloc: Global,
+    bench: &mut T,
+    wanted: &Names,
+    region: Region<T::Part>,
+    stores: &mut Vec<T::Store>,
+) -> Result<Region<T::Part>, (Vec<T::Part>, OpenError)>
+    requires open { (T.state bench.old).is_open ≡ true }
+    requires names { (T.state bench.old).lent ≡ region.names }
+    requires one_each { length stores.old.items ≡ length region.names }
+    requires wanted { AreWanted version_1 wanted.now }
+    requires synced { IfSome (T.state bench.old).told (λ holding. All (λ named. IsQuiet named.store) holding.stores) }
+    ensures lent { HasLentMore (length stores.old.items) (length stores.new.items) (T.state bench.old) (T.state bench.new) }
+    ensures cause { RegionHasCause (saturated ((T.state bench.old).faults + (sum_by T.Part.fault_count region.parts.items + sum_by T.Store.fault_count stores.old.items)))
+        (saturated ((T.state bench.new).faults + (sum_by T.Part.fault_count (parts_after_format result) + sum_by T.Store.fault_count stores.new.items)))
+        result }
+    ensures names { IfOk result (λ added. added.names ≡ all_names region.names wanted.now) }
+    ensures more { IfOk result (λ added. T.state bench.new
+        ≡ with_faults (T.state bench.new).faults (stores_lent (new_names region.names wanted.now) (T.state bench.old))) }
+    ensures files { (files : _) → HoldFiles (map T.Store.history stores.old.items) files
+        → IfOk result (λ added. IfSome (T.state bench.old).told (λ holding. HoldFiles (map T.Store.history stores.new.items)
+        (files_behind files (new_names region.names wanted.now) holding.stores))) }
+    ensures geometry { IfOk result (λ added. added.geometry ≡ region.geometry) }
+    ensures next { IfOk result (λ added. added.next ≡ region.next) }
+    ensures refused { (why : _) → IfErr result (λ failed. failed.1 ≡ error.Refused why
+        → (why ≡ refusal.TooManyFiles) × (version_1.file_limit < length (all_names region.names wanted.now))) }
+{
+    let Ok(missing) = missing_names(alloc, region.names(), wanted) else {
+        return Err((region.into_parts(), OpenError::NoMemory));
+    };
+    if region.names().len() + missing.len() > FILE_LIMIT {
+        return Err((
+            region.into_parts(),
+            OpenError::Refused(Refusal::TooManyFiles),
+        ));
+    }
+    if let Err(error) = open_stores(bench, &missing, stores) {
+        return Err((region.into_parts(), error.into()));
+    }
+    add_names(alloc, region, &missing)
+}
