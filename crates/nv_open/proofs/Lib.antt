@@ -5,3 +5,10 @@ pub mod HeadLaws
 pub mod LogLaws
 pub mod Returns
 pub mod Regions
+pub mod NewNames
+pub mod Additions
+pub mod BlankLaws
+pub mod Beginnings
+pub mod Openeds
+pub mod Sized
+pub mod Opens

@@ -45,7 +45,7 @@ same_states (history ∷ row) (x ∷ one) (y ∷ other) a b =
     ap (λ (s : Part). s ∷ one) (cons_same x y a.0.past b.0.past (sym a.0.is ∙ b.0.is)) ∙ ap (λ (rest : List Part). y ∷ rest) (same_states row one other a.1 b.1)
 
 -- a row with these present states tells what they have
-row_has : (row : List History) (now : List Part) (P : List Part → Type 0) → AreNow row now → P now → RowTells row P
+pub row_has : (row : List History) (now : List Part) (P : List Part → Type 0) → AreNow row now → P now → RowTells row P
 row_has row now P are has = row_tells_from row P (λ states those. subst P (same_states row now states are those) has)
 
 pub given_quiet : BlankIsQuiet → {X : Type 0} (history : X → History) (parts : List X) (told : Option Holding) (now : Holding → List Part)

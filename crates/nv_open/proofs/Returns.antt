@@ -96,7 +96,7 @@ files_passed names_of (Ok done) (Some holding) row_old row store_row new_row nam
 
 -- ---- a refusal, passed on
 
-names_of_header : (why : Refusal) (told : List Part) → IsBadHeader why → names_opened why told ≡ []
+pub names_of_header : (why : Refusal) (told : List Part) → IsBadHeader why → names_opened why told ≡ []
 names_of_header (Truncated found wanted) told is = refl
 names_of_header BadMagic told is = refl
 names_of_header (BadVersion found) told is = refl
@@ -117,6 +117,10 @@ names_of_log TooManyFiles told is = absurd is
 -- which stores were opened before a refusal
 pub HasOpened : (why : Refusal) (names : List (List ℕ)) → List lines.History → Type 0
 HasOpened why names row = RowTells row (λ told. names_opened why told ≡ names)
+
+pub has_opened : (why : Refusal) (names : List (List ℕ)) (row : List lines.History) → RowTells row (λ told. names_opened why told ≡ names) → HasOpened why names row
+unfolding HasOpened
+has_opened why names row has = has
 
 pub opened_by_header : (row : List lines.History) (why : Refusal) → RowTells row (λ told. IsRefusedFor told why × IsBadHeader why) → HasOpened why [] row
 unfolding HasOpened

@@ -13,11 +13,7 @@ use nv_pmem::Lines;
 use std::alloc::Global;
 
 /// Of the names that are wanted those that aren't known, in their order.
-pub(crate) fn missing_names(
-    alloc: Global,
-    known: &Names,
-    wanted: &Names,
-) -> Result<Names, NoMemory>
+pub(crate) fn missing_names(alloc: Global, known: &Names, wanted: &Names) -> Result<Names, NoMemory>
     ensures { IfOk result (λ names. names ≡ new_names known.now wanted.now) }
 {
     let mut missing = Names::new(alloc);

@@ -1,18 +1,20 @@
 ghost use Rattle.std.specs.Prelude.{◌≡◌, All, true, map, sum_by, IfOk, IfErr};
 ghost use Rattle.nv_plain.specs.Layouts.{version_1};
-ghost use Rattle.nv_pmem.specs.Rows.{RowTells};
+ghost use Rattle.nv_plain.specs.Faults.{HasCause};
+ghost use Rattle.nv_pmem.specs.Rows.{RowTells, AreOnlyRead};
+ghost use Rattle.nv_bench.specs.Opening.{is_blank};
 ghost use Rattle.nv_header.specs.Changes.{parts_after_format};
 ghost use Rattle.nv_header.specs.Laws.{HasSpare};
 ghost use Rattle.nv_header.specs.Needs.{HasLines};
 ghost use Rattle.nv_header.specs.Regions.{IsBlankRow};
 ghost use Rattle.nv_open.specs.Begun.{IsFormatted};
 ghost use Rattle.nv_open.specs.Causes.{RegionHasCause};
-ghost use Rattle.nv_open.specs.Refusals.{rooms_of};
+ghost use Rattle.nv_open.specs.Refusals.{rooms_of, IsBadHeader};
 ghost use Rattle.nv_open.specs.declared.error.OpenError.TheVariants as error;
 
 use crate::OpenError;
 use nv_header::{Head, Names, Region, check_lines, format, needed_lines_make_parts};
-use nv_pmem::{Geometry, Lines};
+use nv_pmem::{Geometry, Lines, RegionFault, loads_follow_calls};
 use std::alloc::Global;
 
 /// Formats a blank region. A bench that tells nothing may have given parts that lack lines; they are refused.
@@ -26,6 +28,8 @@ pub(crate) fn format_parts<L: Lines + Drop>(
     ensures formatted { IfOk result (λ region. IsFormatted geometry region.geometry.page region.geometry.entries region.names region.next) }
     ensures short { (why : _) → IfErr result (λ failed. failed.1 ≡ error.Refused why
         → RowTells (map L.history parts.items) (λ told. ¬ HasLines version_1 geometry.page geometry.entries (rooms_of told))) }
+    ensures header { (why : _) → IfErr result (λ failed. failed.1 ≡ error.Refused why → IsBadHeader why) }
+    ensures kept { (why : _) → IfErr result (λ failed. failed.1 ≡ error.Refused why → map L.history failed.0.items ≡ map L.history parts.items) }
     ensures cause { RegionHasCause (sum_by L.fault_count parts.items) (sum_by L.fault_count (parts_after_format result)) result }
 {
     let head = Head {
@@ -41,4 +45,14 @@ pub(crate) fn format_parts<L: Lines + Drop>(
         Ok(region) => Ok(region),
         Err((parts, fault)) => Err((parts, fault.into())),
     }
+}
+
+/// Whether the parts are blank.
+pub(crate) fn are_blank<L: Lines>(parts: &mut [L]) -> Result<bool, RegionFault>
+    ensures told { IfOk result (λ blank. RowTells (map L.history parts.old) (λ told. blank ≡ is_blank told)) }
+    ensures read { AreOnlyRead L.history L.room L.device parts.old parts.new }
+    ensures cause { HasCause (sum_by L.fault_count parts.old) (sum_by L.fault_count parts.new) result }
+{
+    loads_follow_calls();
+    nv_header::is_blank(parts)
 }

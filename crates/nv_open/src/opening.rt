@@ -20,13 +20,13 @@ ghost use Rattle.nv_open.specs.declared.error.OpenError.TheVariants as error;
 ghost use Rattle.nv_open.specs.declared.error.Refusal.TheVariants as refusal;
 
 use crate::adding::{add_names, missing_names};
-use crate::formatting::format_parts;
+use crate::formatting::{are_blank, format_parts};
 use crate::recovering::recover_parts;
 use crate::stores::open_stores;
 use crate::{OpenError, Opened, Refusal};
 use nv_bench::Bench;
-use nv_header::{Names, Region, is_blank};
-use nv_pmem::{Geometry, images_follow_calls, loads_follow_calls};
+use nv_header::{Names, Region};
+use nv_pmem::{Geometry, images_follow_calls};
 use std::alloc::Global;
 
 /// The most files of a region.
@@ -64,7 +64,6 @@ pub fn open<T: Bench>(
     ensures cause { IfErr result (ErrorHasCause (T.state bench.old).faults (T.state bench.new).faults) }
 {
     images_follow_calls();
-    loads_follow_calls();
     let parts = bench.open_region(Some(geometry))?;
     let mut stores = Vec::new(alloc);
     match open_parts(alloc, bench, geometry, wanted, parts, &mut stores) {
@@ -92,7 +91,8 @@ fn open_parts<T: Bench>(
     requires quiet { RowTells (map T.Part.history parts.items) AreQuiet }
     requires synced { IfSome (T.state bench.old).told (λ holding. All (λ named. IsQuiet named.store) holding.stores) }
     requires tell { IfSome (T.state bench.old).told (λ holding. AllTell (map T.Part.history parts.items)) }
-    requires long { RowTells (map T.Part.history parts.items) (λ told. is_blank told ≡ true → HasLines version_1 geometry.page geometry.entries (rooms_of told)) }
+    requires long { IfSome (T.state bench.old).told (λ holding. RowTells (map T.Part.history parts.items) (λ told.
+        is_blank told ≡ true → HasLines version_1 geometry.page geometry.entries (rooms_of told))) }
     requires wanted { AreWanted version_1 wanted.now }
     ensures lent { HasLent (length stores.new.items) (T.state bench.old) (T.state bench.new) }
     ensures cause { RegionHasCause (saturated ((T.state bench.old).faults + sum_by T.Part.fault_count parts.items))
@@ -104,7 +104,7 @@ fn open_parts<T: Bench>(
     ensures opened { IfOk result (λ region. IfSome (T.state bench.old).told (λ holding. RowTells (map T.Part.history parts.items) (λ told.
         IsOpened (record { parts = told; stores = holding.stores }) geometry wanted.now region.geometry.page region.geometry.entries region.names region.next (map T.Store.history stores.new.items)))) }
     ensures refused { (why : _) → IfErr result (λ failed. failed.1 ≡ error.Refused why
-        → RowTells (map T.Part.history parts.items) (λ told. IsNotOpened told geometry wanted.now why)) }
+        → IfSome (T.state bench.old).told (λ holding. RowTells (map T.Part.history parts.items) (λ told. IsNotOpened told geometry wanted.now why))) }
     ensures unwritten { (why : _) → IfErr result (λ failed. failed.1 ≡ error.Refused why → ¬ (why ≡ refusal.TooManyFiles)
         → AreUnwritten T.Part.history T.Store.history why (T.state bench.old) (T.state bench.new) parts.items failed.0.items stores.new.items) }
 {
@@ -129,7 +129,8 @@ fn begin<T: Bench>(
     requires quiet { RowTells (map T.Part.history parts.items) AreQuiet }
     requires synced { IfSome (T.state bench.old).told (λ holding. All (λ named. IsQuiet named.store) holding.stores) }
     requires tell { IfSome (T.state bench.old).told (λ holding. AllTell (map T.Part.history parts.items)) }
-    requires long { RowTells (map T.Part.history parts.items) (λ told. is_blank told ≡ true → HasLines version_1 geometry.page geometry.entries (rooms_of told)) }
+    requires long { IfSome (T.state bench.old).told (λ holding. RowTells (map T.Part.history parts.items) (λ told.
+        is_blank told ≡ true → HasLines version_1 geometry.page geometry.entries (rooms_of told))) }
     ensures lent { HasLent (length stores.new.items) (T.state bench.old) (T.state bench.new) }
     ensures cause { RegionHasCause (saturated ((T.state bench.old).faults + sum_by T.Part.fault_count parts.items))
         (saturated ((T.state bench.new).faults + (sum_by T.Part.fault_count (parts_after_format result) + sum_by T.Store.fault_count stores.new.items)))
@@ -142,12 +143,13 @@ fn begin<T: Bench>(
     ensures files { IfOk result (λ region. IfSome (T.state bench.old).told (λ holding. RowTells (map T.Part.history parts.items) (λ told.
         HoldFiles (map T.Store.history stores.new.items) (files_named told region.names holding.stores)))) }
     ensures refused { (why : _) → IfErr result (λ failed. failed.1 ≡ error.Refused why
-        → RowTells (map T.Part.history parts.items) (λ told. (is_blank told ≡ false) × IsRefusedFor told why)) }
+        → IfSome (T.state bench.old).told (λ holding. RowTells (map T.Part.history parts.items) (λ told. (is_blank told ≡ false) × IsRefusedFor told why))) }
     ensures unwritten { (why : _) → IfErr result (λ failed. failed.1 ≡ error.Refused why
         → AreUnwritten T.Part.history T.Store.history why (T.state bench.old) (T.state bench.new) parts.items failed.0.items stores.new.items) }
 {
     let mut parts = parts;
-    match is_blank(&mut parts) {
+    images_follow_calls();
+    match are_blank(&mut parts) {
         Ok(true) => format_parts(alloc, geometry, parts),
         Ok(false) => match recover_parts(alloc, bench, parts, stores) {
             Ok((region, _found)) => Ok(region),

@@ -1,0 +1,81 @@
+-- What is opened of the parts that a bench makes those of a geometry, said of what it held.
+use Rattle.std.proofs.Common.{◌≡◌, ℕ, Bool, true, false, cond, List, [], refl, sym, ap, ◌∙◌, subst}
+use Rattle.std.specs.Prelude.{Option, Some, None, IfSome, option_map}
+use Rattle.nv_plain.specs.Files.{Files}
+use Rattle.nv_plain.specs.Layouts.{version_1}
+use Rattle.nv_plain.specs.Recovered.{recovered}
+use Rattle.nv_pmem.specs.Part.{Part}
+use Rattle.nv_pmem.specs.RowStates.{AreNow}
+use Rattle.nv_pmem.specs.Rows.{RowTells, row_words}
+use Rattle.nv_pmem.specs.Steps as lines
+use Rattle.nv_pmem.specs.declared.geometry.Geometry.{Geometry}
+use Rattle.nv_store.specs.Steps.{History}
+use Rattle.nv_bench.specs.Holding.{Holding, NamedStore}
+use Rattle.nv_bench.specs.Opening.{is_blank, opened}
+use Rattle.nv_header.specs.Needs.{HasLines}
+use Rattle.nv_recover.specs.Standing.{files_of}
+use Rattle.nv_open.specs.Begun.{IsKept, IsBegun, IsOpened, IsNotOpened, files_behind}
+use Rattle.nv_open.specs.Adding.{new_names}
+use Rattle.nv_open.specs.Held.{HoldFiles, files_named}
+use Rattle.nv_open.specs.Lending.{stores_named}
+use Rattle.nv_open.specs.Refusals.{rooms_of, IsRefusedFor}
+use Rattle.nv_open.specs.declared.error.Refusal.{Refusal}
+use Rattle.nv_open.specs.declared.error.Refusal.TheVariants.{TooManyFiles}
+use Rattle.nv_open.proofs.Regions.{row_has}
+use Rattle.nv_open.proofs.Sized.{opened_kept, blank_stays, long_opened}
+
+pub given_long : (geometry : Geometry) (told mid : Option Holding) (row : List lines.History) → mid ≡ option_map (λ (holding : Holding). record { parts = []; stores = holding.stores }) told
+    → IfSome told (λ holding. AreNow row (opened (Some geometry) holding.parts))
+    → IfSome mid (λ holding. RowTells row (λ parts. is_blank parts ≡ true → HasLines version_1 geometry.page geometry.entries (rooms_of parts)))
+given_long geometry None mid row is are =
+    subst (λ (one : Option Holding). IfSome one (λ holding. RowTells row (λ parts. is_blank parts ≡ true → HasLines version_1 geometry.page geometry.entries (rooms_of parts)))) (sym is) tt
+given_long geometry (Some holding) mid row is are =
+    subst (λ (one : Option Holding). IfSome one (λ held. RowTells row (λ parts. is_blank parts ≡ true → HasLines version_1 geometry.page geometry.entries (rooms_of parts)))) (sym is)
+    (row_has row (opened (Some geometry) holding.parts) (λ parts. is_blank parts ≡ true → HasLines version_1 geometry.page geometry.entries (rooms_of parts)) are (long_opened geometry holding.parts))
+
+pub some_map : (told : Option Holding) (P Q : Holding → Type 0) → ((holding : Holding) → P holding → Q holding) → IfSome told P → IfSome told Q
+some_map None P Q step has = tt
+some_map (Some holding) P Q step has = step holding has
+
+begun_before : (geometry asked : Geometry) (parts : List Part) (page entries : ℕ) (names : List (List ℕ)) (next : ℕ) → IsBegun (opened (Some geometry) parts) asked page entries names next → IsBegun parts asked page entries names next
+begun_before geometry asked parts page entries names next begun = record {
+  formatted = λ is. begun.formatted (blank_stays geometry parts ∙ is);
+  kept = λ is. subst (λ (these : List Part). IsKept these page entries names next) (opened_kept geometry parts is) (begun.kept (blank_stays geometry parts ∙ is));
+}
+
+-- a blank region stands for what the stores hold
+blank_files : (parts : List Part) (names : List (List ℕ)) (stores : List NamedStore) → is_blank parts ≡ true → files_named parts names stores ≡ files_of (stores_named names stores)
+blank_files parts names stores is = ap (λ (test : Bool). cond test (files_of (stores_named names stores)) (recovered (row_words parts) (files_of (stores_named names stores))).files) is
+
+files_cases : (geometry : Geometry) (parts : List Part) (names : List (List ℕ)) (stores : List NamedStore) (blank : Bool) → blank ≡ is_blank parts → files_named (opened (Some geometry) parts) names stores ≡ files_named parts names stores
+files_cases geometry parts names stores true is =
+    blank_files (opened (Some geometry) parts) names stores (blank_stays geometry parts ∙ sym is) ∙ sym (blank_files parts names stores (sym is))
+files_cases geometry parts names stores false is = ap (λ (these : List Part). files_named these names stores) (opened_kept geometry parts (sym is))
+
+pub opened_before : (geometry : Geometry) (holding : Holding) (wanted : List (List ℕ)) (page entries : ℕ) (names : List (List ℕ)) (next : ℕ) (row : List History)
+    → IsOpened (record { parts = opened (Some geometry) holding.parts; stores = holding.stores }) geometry wanted page entries names next row → IsOpened holding geometry wanted page entries names next row
+opened_before geometry holding wanted page entries names next row is = record {
+  known = is.known;
+  begun = begun_before geometry geometry holding.parts page entries is.known next is.begun;
+  names_are = is.names_are;
+  files =
+      subst (λ (files : Files). HoldFiles row (files_behind files (new_names is.known wanted) holding.stores)) (files_cases geometry holding.parts is.known holding.stores (is_blank holding.parts) refl) is.files;
+}
+
+pub not_opened_before : (geometry : Geometry) (parts : List Part) (wanted : List (List ℕ)) (why : Refusal) → IsNotOpened (opened (Some geometry) parts) geometry wanted why → IsNotOpened parts geometry wanted why
+not_opened_before geometry parts wanted why is = record {
+  not_blank = λ other.
+      let (blank, refused) = is.not_blank other in
+      let kept : is_blank parts ≡ false = sym (blank_stays geometry parts) ∙ blank in
+      (kept, subst (λ (these : List Part). IsRefusedFor these why) (opened_kept geometry parts kept) refused);
+  many = λ same.
+      let too = is.many same in
+      record { page = too.page; entries = too.entries; known = too.known; next = too.next; begun = begun_before geometry geometry parts too.page too.entries too.known too.next too.begun; many = too.many };
+}
+
+-- the parts of a region that is refused are those that the bench held
+pub given_kept : (geometry : Geometry) (told : Option Holding) (row : List lines.History) (wanted : List (List ℕ)) (why : Refusal) → ¬ (why ≡ TooManyFiles)
+    → IfSome told (λ holding. AreNow row (opened (Some geometry) holding.parts)) → IfSome told (λ holding. IsNotOpened holding.parts geometry wanted why) → IfSome told (λ holding. AreNow row holding.parts)
+given_kept geometry None row wanted why other are is = tt
+given_kept geometry (Some holding) row wanted why other are is =
+    subst (λ (these : List Part). AreNow row these) (opened_kept geometry holding.parts (is.not_blank other).0) are

@@ -1,0 +1,12 @@
+use Rattle.std.proofs.Common.{length, sym, ap, ◌∙◌, arith}
+use Rattle.nv_open.proofs.NewNames.{not_refused}
+use Rattle.nv_open.proofs.Openings.{item_at}
+use Rattle.nv_open.proofs.adding.add_names.Goals as goal
+
+pub returns-in-Err-clause-never : goal.returns-in-Err-clause-never
+returns-in-Err-clause-never g c why is =
+    let names = c.args.names.now in
+    let i = c.loop-name.name-index in
+    not_refused c.args.region.names names c.loop-name.region.names c.as_slice.result.now i c.in-Err.error why c.requires (omega (arith, ap length c.as_slice-name-items.ensures))
+    (c.as_slice.ensures ∙ item_at c.as_slice-name-items.result.now names i c.name-item.result c.as_slice-name-items.ensures c.loop-name-test.true c.name-item.is)
+    c.loop-name.invariant.names c.in-Err.ensures.refused (sym c.into.ensures ∙ is)

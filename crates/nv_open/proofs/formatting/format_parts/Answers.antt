@@ -1,0 +1,22 @@
+use Rattle.std.proofs.Common.{◌≡◌, true, false, map, refl, sym, subst}
+use Rattle.nv_plain.specs.Layouts.{version_1}
+use Rattle.nv_pmem.specs.RowStates.{row_tells_from}
+use Rattle.nv_header.specs.Needs.{HasLines}
+use Rattle.nv_open.specs.Refusals.{rooms_of}
+use Rattle.nv_open.proofs.LineCounts.{told_counts, has_lines_same}
+use Rattle.nv_open.proofs.formatting.format_parts.Goals as goal
+
+pub returns-in-Err-clause-short : goal.returns-in-Err-clause-short
+returns-in-Err-clause-short g c why is =
+    let page = c.args.geometry.page in
+    let entries = c.args.geometry.entries in
+    let parts = c.args.parts.items in
+    row_tells_from (map g.L.Lines.history parts) (λ told. ¬ (HasLines version_1 page entries (rooms_of told))) (λ told are has.
+    let long = has_lines_same version_1 page entries (rooms_of told) (map g.L.Lines.room parts) (sym (told_counts g.L.Lines.history g.L.Lines.room g.met.L.Lines.told_lines parts told are)) has in
+    let never : false ≡ true = c.in-Err.ensures.exact.1 (subst (λ these. HasLines version_1 page entries (map g.L.Lines.room these)) (sym c.deref.ensures.value) long) in
+    cc)
+
+pub format-requires-clause-parts : goal.format-requires-clause-parts
+format-requires-clause-parts g c =
+    c.needed_lines_make_parts.ensures version_1 c.args.geometry.page c.args.geometry.entries (map g.L.Lines.room c.args.parts.items)
+    (subst (λ these. HasLines version_1 c.args.geometry.page c.args.geometry.entries (map g.L.Lines.room these)) c.deref.ensures.value (c.in_default.ensures.exact.0 refl)) c.requires.spare
