@@ -14,4 +14,5 @@ pub mod Picked
 pub mod Made
 pub mod Told
 pub mod MemPart
+pub mod FilePart
 pub mod RowStates

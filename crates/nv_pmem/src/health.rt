@@ -1,16 +1,16 @@
-ghost use Rattle.std.specs.Prelude.{◌≡◌};
+ghost use Rattle.std.specs.Prelude.{◌≡◌, Ok, IfOk, OnErr, IsErr};
 ghost use Rattle.nv_plain.specs.Faults.{HasCause};
 
 use crate::Fuse;
 use std::marker::Model;
 use thiserror::Error;
 
-/// The fuse refused a call of a device in memory.
+/// The fuse refused a call of a device in memory, or the host one of a device over a file.
 #[derive(Clone, Copy, Debug, PartialEq, Eq, Error)]
 #[error("the call was refused")]
 pub struct Refused;
 
-/// Whether the calls of a device in memory go well, and how often they didn't, up to 2^64 - 1. Contracts see the count alone:
+/// Whether the calls of a device go well, and how often they didn't, up to 2^64 - 1. Contracts see the count alone:
 /// which calls a fuse refuses is shown by tests.
 #[derive(Drop)]
 pub struct Health {
@@ -39,11 +39,23 @@ impl Health {
     pub fn begin(&mut self) -> Result<(), Refused>
         ensures { HasCause self.old self.new result }
     {
-        if self.fuse.as_ref().is_some_and(Fuse::blows) {
-            self.faults = self.faults.saturating_add(1);
-            return Err(Refused);
+        let goes_well = !self.fuse.as_ref().is_some_and(Fuse::blows);
+        self.noted(goes_well.then_some(()).ok_or(Refused))
+    }
+
+    /// Notes how a call of the host ended: one that failed raises the count. Takes no memory.
+    pub fn noted<T, E: Drop>(&mut self, outcome: Result<T, E>) -> Result<T, Refused>
+        ensures value { IfOk result (λ value. outcome ≡ Ok value) }
+        ensures failed { OnErr result (IsErr outcome) }
+        ensures cause { HasCause self.old self.new result }
+    {
+        match outcome {
+            Ok(value) => Ok(value),
+            Err(_) => {
+                self.faults = self.faults.saturating_add(1);
+                Err(Refused)
+            }
         }
-        Ok(())
     }
 
     /// How often a call was refused, up to 2^64 - 1.

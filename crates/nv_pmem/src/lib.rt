@@ -1,7 +1,9 @@
-//! Persistent memory as a row of lines: the trait that a region's parts keep, and one in memory.
+//! Persistent memory as a row of lines: the trait that a region's parts keep, one in memory and one over a file.
 #![tactic(auto)]
 
 mod durable;
+mod durable_file;
+mod file_part;
 mod fuse;
 mod geometry;
 mod health;
@@ -14,6 +16,8 @@ mod picker;
 mod told;
 
 pub use durable::store_durably;
+pub use durable_file::{open_durable, sync_folder_of};
+pub use file_part::{FilePart, PartError};
 pub use fuse::Fuse;
 pub use geometry::{BadGeometry, Geometry, GeometryField};
 pub use health::{Health, Refused};
@@ -23,5 +27,7 @@ pub use mem_part::MemPart;
 pub use past::Past;
 pub use picker::{Pick, Picker};
 
+#[cfg(test)]
+mod file_tests;
 #[cfg(test)]
 mod tests;

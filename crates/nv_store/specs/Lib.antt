@@ -9,3 +9,4 @@ pub mod Disk
 pub mod Told
 pub mod Laws
 pub mod MemStore
+pub mod FileStore

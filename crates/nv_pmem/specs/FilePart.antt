@@ -1,0 +1,26 @@
+-- What contracts see of a part over a file: how many lines it has, and how often it has failed. It tells nothing.
+use Rattle.std.specs.Prelude.{◌≡◌, ℕ, [], ◌∷◌, length, vec_len}
+use Rattle.nv_pmem.specs.declared.file_part.FilePart.{FilePart}
+use Rattle.nv_pmem.specs.Part.{Part}
+use Rattle.nv_pmem.specs.Room.{Room}
+use Rattle.nv_pmem.specs.Steps.{History}
+
+module _ {R : Type 0} where
+  -- A part over a file is told from others by nothing.
+  abbrev pub part_device : FilePart R → ℕ
+  part_device part = 0
+
+  -- it has no states that it tells
+  abbrev pub part_history : FilePart R → History
+  part_history part = []
+
+  -- Its lines. Any of them can always take 15 contents: it keeps the newest alone, and no list of them.
+  abbrev pub part_room : FilePart R → Room
+  part_room part = record { lines = vec_len part.lines; spare = λ line. 15; after_fence = λ line. 15 }
+
+  -- how often it has failed, up to 2^64 - 1
+  abbrev pub part_faults : FilePart R → ℕ
+  part_faults part = part.health
+
+  pub part_told_lines : (part : FilePart R) (now : Part) (past : History) → part_history part ≡ now ∷ past → length now ≡ (part_room part).lines
+  part_told_lines part now past told = cc

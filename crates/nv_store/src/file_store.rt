@@ -1,0 +1,101 @@
+ghost use Rattle.std.specs.Prelude.{◌≡◌, ℕ, IfOk};
+ghost use Rattle.nv_plain.specs.Faults.{HasCause};
+ghost use Rattle.nv_store.specs.FileStore.{store_device, store_history, store_faults, store_told_whole};
+
+use crate::{Backing, StoreError, StoreFault};
+use nv_pmem::{Health, open_durable};
+use std::fs::OpenFile;
+use std::io::{self, ErrorKind, Read, Seek, SeekFrom, Write};
+use std::rt::Files;
+
+/// A store over a file, which is open as long as the store lives. It tells nothing. It is trusted that the host gives to reads
+/// what was written, and keeps what a sync that went well was given.
+#[derive(Drop)]
+pub struct FileStore<F> {
+    file: F,
+    // A host may forget what it could not write, and then say of a later sync that it went well.
+    is_lost: bool,
+    health: Health,
+}
+
+impl<F: Read + Write + Seek + OpenFile> FileStore<F> {
+    /// The store over the file of this path, an empty one where there is none. What it holds is durable.
+    pub fn open<R: Files<File = F>>(rt: &R, path: &str) -> Result<Self, StoreFault>
+        ensures { IfOk result (λ store. store_faults store ≡ 0) }
+    {
+        match open_durable(rt, path) {
+            Ok(file) => Ok(FileStore {
+                file,
+                is_lost: false,
+                health: Health::new(None),
+            }),
+            Err(_) => Err(StoreFault),
+        }
+    }
+
+    fn read_from(&mut self, at: u64, buf: &mut [u8]) -> io::Result<()> {
+        if buf.is_empty() {
+            return Ok(());
+        }
+        self.file.seek(SeekFrom::Start(at))?;
+        self.file.read_exact(buf)
+    }
+
+    fn write_from(&mut self, at: u64, bytes: &[u8]) -> io::Result<()> {
+        if bytes.is_empty() {
+            return Ok(());
+        }
+        self.file.seek(SeekFrom::Start(at))?;
+        self.file.write_all(bytes)
+    }
+
+    // Once a sync has failed, each later one does.
+    fn try_sync(&mut self) -> io::Result<()> {
+        if self.is_lost {
+            return Err(ErrorKind::Other.into());
+        }
+        let synced = self.file.sync_data();
+        self.is_lost = synced.is_err();
+        synced
+    }
+}
+
+impl<F: Read + Write + Seek + OpenFile> Backing for FileStore<F> {
+    ghost device = { store_device };
+
+    ghost history = { store_history };
+
+    ghost fault_count = { store_faults };
+
+    fn len(&mut self) -> Result<u64, StoreFault> {
+        let metadata = self.file.metadata();
+        Ok(self.health.noted(metadata)?.len())
+    }
+
+    fn pread(&mut self, at: u64, buf: &mut [u8]) -> Result<u64, StoreFault> {
+        let count = self.len()?.saturating_sub(at).min(buf.len() as u64);
+        let read = self.read_from(at, &mut buf[..count as usize]);
+        self.health.noted(read)?;
+        Ok(count)
+    }
+
+    fn pwrite(&mut self, at: u64, bytes: &[u8]) -> Result<(), StoreError> {
+        let written = self.write_from(at, bytes);
+        match self.health.noted(written) {
+            Ok(()) => Ok(()),
+            Err(_) => Err(StoreError::Fault),
+        }
+    }
+
+    fn sync(&mut self) -> Result<(), StoreFault> {
+        let synced = self.try_sync();
+        self.health.noted(synced)?;
+        Ok(())
+    }
+
+    fn faults(&self) -> u64 {
+        self.health.faults()
+    }
+
+    ghost told_whole = { store_told_whole };
+}
