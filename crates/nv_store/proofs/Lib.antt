@@ -5,3 +5,4 @@ pub mod ImageLaws
 pub mod WriteLaws
 pub mod MomentLaws
 pub mod Overwrites
+mod Untold

@@ -24,39 +24,19 @@ impl<F: Read + Write + Seek + OpenFile> FileStore<F> {
         ensures { IfOk result (λ store. store_faults store ≡ 0) }
     {
         match open_durable(rt, path) {
-            Ok(file) => Ok(FileStore {
-                file,
-                is_lost: false,
-                health: Health::new(None),
-            }),
+            Ok(file) => Ok(Self::over(file)),
             Err(_) => Err(StoreFault),
         }
     }
 
-    fn read_from(&mut self, at: u64, buf: &mut [u8]) -> io::Result<()> {
-        if buf.is_empty() {
-            return Ok(());
+    pub(crate) fn over(file: F) -> Self
+        ensures { store_faults result ≡ 0 }
+    {
+        FileStore {
+            file,
+            is_lost: false,
+            health: Health::new(None),
         }
-        self.file.seek(SeekFrom::Start(at))?;
-        self.file.read_exact(buf)
-    }
-
-    fn write_from(&mut self, at: u64, bytes: &[u8]) -> io::Result<()> {
-        if bytes.is_empty() {
-            return Ok(());
-        }
-        self.file.seek(SeekFrom::Start(at))?;
-        self.file.write_all(bytes)
-    }
-
-    // Once a sync has failed, each later one does.
-    fn try_sync(&mut self) -> io::Result<()> {
-        if self.is_lost {
-            return Err(ErrorKind::Other.into());
-        }
-        let synced = self.file.sync_data();
-        self.is_lost = synced.is_err();
-        synced
     }
 }
 
@@ -74,13 +54,13 @@ impl<F: Read + Write + Seek + OpenFile> Backing for FileStore<F> {
 
     fn pread(&mut self, at: u64, buf: &mut [u8]) -> Result<u64, StoreFault> {
         let count = self.len()?.saturating_sub(at).min(buf.len() as u64);
-        let read = self.read_from(at, &mut buf[..count as usize]);
+        let read = read_from(&mut self.file, at, &mut buf[..count as usize]);
         self.health.noted(read)?;
         Ok(count)
     }
 
     fn pwrite(&mut self, at: u64, bytes: &[u8]) -> Result<(), StoreError> {
-        let written = self.write_from(at, bytes);
+        let written = write_from(&mut self.file, at, bytes);
         match self.health.noted(written) {
             Ok(()) => Ok(()),
             Err(_) => Err(StoreError::Fault),
@@ -88,7 +68,7 @@ impl<F: Read + Write + Seek + OpenFile> Backing for FileStore<F> {
     }
 
     fn sync(&mut self) -> Result<(), StoreFault> {
-        let synced = self.try_sync();
+        let synced = sync_unless_lost(&self.file, &mut self.is_lost);
         self.health.noted(synced)?;
         Ok(())
     }
@@ -98,4 +78,30 @@ impl<F: Read + Write + Seek + OpenFile> Backing for FileStore<F> {
     }
 
     ghost told_whole = { store_told_whole };
+}
+
+fn read_from<F: Read + Seek>(file: &mut F, at: u64, buf: &mut [u8]) -> io::Result<()> {
+    if buf.is_empty() {
+        return Ok(());
+    }
+    file.seek(SeekFrom::Start(at))?;
+    file.read_exact(buf)
+}
+
+fn write_from<F: Write + Seek>(file: &mut F, at: u64, bytes: &[u8]) -> io::Result<()> {
+    if bytes.is_empty() {
+        return Ok(());
+    }
+    file.seek(SeekFrom::Start(at))?;
+    file.write_all(bytes)
+}
+
+// Once a sync has failed, each later one does.
+fn sync_unless_lost<F: OpenFile>(file: &F, is_lost: &mut bool) -> io::Result<()> {
+    if *is_lost {
+        return Err(ErrorKind::Other.into());
+    }
+    let synced = file.sync_data();
+    *is_lost = synced.is_err();
+    synced
 }

@@ -14,4 +14,6 @@ pub use laws::{store_images, store_writes};
 pub use mem_store::MemStore;
 
 #[cfg(test)]
+mod file_tests;
+#[cfg(test)]
 mod tests;
