@@ -6,3 +6,4 @@ pub mod Laws
 pub mod Places
 pub mod Shelf
 pub mod MemBench
+pub mod FolderBench

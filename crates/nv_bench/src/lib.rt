@@ -2,12 +2,15 @@
 #![tactic(auto)]
 
 mod bench;
+mod folder_bench;
+mod folder_parts;
 mod laws;
 mod mem_bench;
 mod parts;
 mod shelf;
 
 pub use bench::{Bench, BenchError};
+pub use folder_bench::FolderBench;
 pub use laws::power_leaves_an_image;
 pub use mem_bench::MemBench;
 
