@@ -26,6 +26,7 @@ use Rattle.nv_core.proofs.KeepsWritten.{written_step, written_begin, written_wor
 use Rattle.nv_core.proofs.KeepsHeader.{header_step, header_work}
 use Rattle.nv_core.proofs.KeepsPieces.{pieces_step, pieces_begin, pieces_work}
 use Rattle.nv_core.proofs.KeepsInFlight.{flight_step, flight_begin, flight_work}
+use Rattle.nv_core.proofs.KeepsUnready.{unready_step, unready_begin, unready_work}
 use Rattle.nv_core.proofs.KeepsLive.{live_step, live_begin, live_work}
 
 module _ (blank : BlankIsQuiet) (lines : StepsKeepLines) (plain : PlainLaws) (sizes : Sizes) (page_is : IsPageSize sizes.page) (first : Values) (opened : Files) (tail : ℕ) (log : Log) (placed : ℕ → Bool) (by : ℕ) (core : Core) where
@@ -37,6 +38,7 @@ module _ (blank : BlankIsQuiet) (lines : StepsKeepLines) (plain : PlainLaws) (si
     header = header_step sizes first tail (core.passes by) deed core.values content.header;
     pieces = pieces_step sizes first log by core deed found sound content.groups content.pieces may;
     flight = flight_step sizes first log placed by core deed found sound content.groups content.flight may;
+    unready = unready_step sizes first log placed by core deed found sound content.groups content.flight content.unready may;
     live = live_step sizes first log placed opened by core deed found plain (let least = page_is.least in omega (arith, least)) sound content.groups content.pieces content.flight content.live may;
   }
 
@@ -47,6 +49,7 @@ module _ (blank : BlankIsQuiet) (lines : StepsKeepLines) (plain : PlainLaws) (si
     header = content.header;
     pieces = pieces_begin sizes log by core call content.pieces;
     flight = flight_begin sizes log placed by core call content.flight may;
+    unready = unready_begin sizes log placed by core call content.unready;
     live = live_begin sizes first log placed opened by core call sound content.live;
   }
 
@@ -58,6 +61,7 @@ module _ (blank : BlankIsQuiet) (lines : StepsKeepLines) (plain : PlainLaws) (si
     header = header_work lines sizes first tail (core.passes by) work core.values content.header may;
     pieces = pieces_work sizes log by core work content.pieces may;
     flight = flight_work sizes log placed by core work content.flight may;
+    unready = unready_work sizes log placed by core work content.unready may;
     live = live_work sizes first log placed opened by core work sound content.live;
   }
 

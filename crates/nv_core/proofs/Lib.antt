@@ -49,6 +49,7 @@ pub mod ImageLaws
 pub mod KeepsHeader
 pub mod KeepsPieces
 pub mod KeepsInFlight
+pub mod KeepsUnready
 pub mod LiveLaws
 pub mod KeepsLive
 pub mod OpeningLogContent

@@ -23,7 +23,9 @@ use Rattle.nv_core.specs.Pieces.{IsReadied, Pieces}
 use Rattle.nv_core.specs.InFlight.{IsFlying, InFlight}
 use Rattle.nv_core.specs.Apart.{after_calls}
 use Rattle.nv_core.specs.LivePieces.{rising, call_if, piece_call, is_live, is_to_place, calls_of, told_bytes, store_bytes, store_files, LivePieces}
+use Rattle.nv_core.specs.Unready.{Unready}
 use Rattle.nv_core.proofs.ImageLaws.{part_one}
+use Rattle.nv_core.proofs.ClearLaws.{IsClear}
 
 module _ (sizes : Sizes) (log : Log) (placed : ℕ → Bool) (core : Core) (empty : core.words HEAD ≡ core.words TAIL) (idle : (n : ℕ) → (core.passes n).stage ≡ Idle) where
   none_within : (n : ℕ) → InWindow core n → ⊥
@@ -61,6 +63,14 @@ module _ (sizes : Sizes) (log : Log) (placed : ℕ → Bool) (core : Core) (empt
     waiting = λ n is. absurd (none_within n is);
   }
 
+  pub unready_opening : Unready sizes log placed core
+  unready_opening = record {
+    breaking = λ by n e. absurd (subst IsClear (sym (idle by) ∙ e) tt);
+    broken = λ n is. absurd (none_within n is);
+    unplaced = λ n is. absurd (none_within n is.within);
+    apart = λ n other is. absurd (none_within n is.within);
+  }
+
   -- the files at opening are what the stores read as
   pub live_opening : core.history ≡ [] → LivePieces sizes log placed (store_files sizes core.values) core
   live_opening none = record {
@@ -72,7 +82,7 @@ module _ (sizes : Sizes) (log : Log) (placed : ℕ → Bool) (core : Core) (empt
 
 -- ---- a mount's files and header
 
-told_seen : (first : Values) (file : ℕ) (store : Store) → store_of (first (STORE file)) ≡ Some store → store_bytes (first (STORE file)) ≡ store.seen
+pub told_seen : (first : Values) (file : ℕ) (store : Store) → store_of (first (STORE file)) ≡ Some store → store_bytes (first (STORE file)) ≡ store.seen
 told_seen first file store told = go (first (STORE file)) told
   where
     go : (value : Value) → store_of value ≡ Some store → store_bytes value ≡ store.seen
@@ -107,5 +117,6 @@ opening_has_the_log one_image mount files tail log placed opens has = record {
   header = header_opening one_image mount.values tail opens.header;
   pieces = pieces_opening mount.sizes log placed (opening mount) refl (λ n. refl);
   flight = flight_opening mount.sizes log placed (opening mount) refl (λ n. refl);
+  unready = unready_opening mount.sizes log placed (opening mount) refl (λ n. refl);
   live = subst (λ f. LivePieces mount.sizes log placed f (opening mount)) (files_are mount.sizes mount.values files has) (live_opening mount.sizes log placed (opening mount) refl (λ n. refl) refl);
 }

@@ -43,6 +43,7 @@ pub mod StaleWords
 pub mod HeaderStays
 pub mod Pieces
 pub mod InFlight
+pub mod Unready
 pub mod LivePieces
 pub mod LogContent
 pub mod WalkOpens

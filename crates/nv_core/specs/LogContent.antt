@@ -19,6 +19,7 @@ use Rattle.nv_core.specs.StaleWords.{StaleWords}
 use Rattle.nv_core.specs.HeaderStays.{HeaderStays}
 use Rattle.nv_core.specs.Pieces.{Pieces}
 use Rattle.nv_core.specs.InFlight.{placed_after, InFlight}
+use Rattle.nv_core.specs.Unready.{Unready}
 use Rattle.nv_core.specs.LivePieces.{LivePieces}
 
 -- These parts, over the cells' values and the files at opening, the tail that the header has, the log, and which writes are placed.
@@ -29,6 +30,7 @@ pub record LogContent (sizes : Sizes) (first : Values) (opened : Files) (tail : 
   pub header : HeaderStays first tail core.values
   pub pieces : Pieces sizes log core
   pub flight : InFlight sizes log placed core
+  pub unready : Unready sizes log placed core
   pub live : LivePieces sizes log placed opened core
 
 -- ---- events

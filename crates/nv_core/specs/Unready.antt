@@ -1,0 +1,36 @@
+-- Unready writes: those whose leader isn't ready, be it drawn, being filled or broken.
+use Rattle.std.specs.Prelude.{◌≡◌, ◌≢◌, ℕ, ◌+◌, ◌≤◌, Bool, false}
+use Rattle.nv_core.specs.Words.{Sizes, kind_of, ready, broken}
+use Rattle.nv_core.specs.Passes.{Breaking, Fault, IsOneOf}
+use Rattle.nv_core.specs.Stepped.{fault_of}
+use Rattle.nv_core.specs.Standing.{IsPage}
+use Rattle.nv_core.specs.Core.{Core}
+use Rattle.nv_core.specs.LogWindow.{InWindow, entry_at}
+use Rattle.nv_core.specs.Groups.{Group, Log}
+use Rattle.nv_core.specs.Pieces.{page_of_number}
+
+-- the group that a call had drawn which a fault ended
+abbrev pub group_of_fault : Fault → Group
+group_of_fault fault = record { call = fault.call; first = fault.first; entries = fault.entries }
+
+-- a group is that of a call which a fault ended
+pub record IsOfFault (core : Core) (group : Group) : Type 0 where
+  pub by : ℕ
+  pub fault : Fault
+  pub ended : IsOneOf (core.passes by).faulted fault
+  pub is : group ≡ group_of_fault fault
+
+-- a number is the leader's of a group of the window, and isn't ready
+pub record IsUnready (sizes : Sizes) (log : Log) (core : Core) (number : ℕ) : Type 0 where
+  pub within : InWindow core number
+  pub leads : (log.group number).first ≡ number
+  pub unready : kind_of (entry_at sizes core number) ≢ ready
+
+-- A broken entry is one of a call that a fault ended. A write whose leader isn't ready has no place, and no number above its own is of one
+-- of its pages, be it broken too.
+pub record Unready (sizes : Sizes) (log : Log) (placed : ℕ → Bool) (core : Core) : Type 0 where
+  pub breaking : (by number : ℕ) → (core.passes by).stage ≡ Breaking number → IsOneOf (core.passes by).faulted (fault_of (core.passes by))
+  pub broken : (number : ℕ) → InWindow core number → entry_at sizes core number ≡ broken → IsOfFault core (log.group number)
+  pub unplaced : (number : ℕ) → IsUnready sizes log core number → placed number ≡ false
+  pub apart : (number other : ℕ) → IsUnready sizes log core number → InWindow core other → number + (log.group number).entries ≤ other
+      → IsPage sizes (log.group number).call (page_of_number sizes (log.group other) other) → ⊥
