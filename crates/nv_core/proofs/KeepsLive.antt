@@ -43,7 +43,7 @@ use Rattle.nv_core.proofs.LiveLaws.{rising_same, rising_none, rising_split, risi
 
 -- ---- the stores
 
-map_same : {A B : Type 0} (f g : A → B) (xs : List A) → ((x : A) → f x ≡ g x) → map f xs ≡ map g xs
+pub map_same : {A B : Type 0} (f g : A → B) (xs : List A) → ((x : A) → f x ≡ g x) → map f xs ≡ map g xs
 map_same f g [] same = refl
 map_same f g (x ∷ xs) same = ap₂ (λ a b. a ∷ b) (same x) (map_same f g xs same)
 
@@ -143,12 +143,12 @@ thirds calls from end at count low high =
     ∙ ap (λ f. rising calls from (at - from) ++ rising calls f (count + (end - (at + count)))) start
     ∙ ap (λ r. rising calls from (at - from) ++ r) (rising_split calls at count (end - (at + count)))
 
-files_length : (call : FileCall) (files : Files) → length (files_after call files).contents ≡ length files.contents
+pub files_length : (call : FileCall) (files : Files) → length (files_after call files).contents ≡ length files.contents
 files_length (Read file at len) files = refl
 files_length (Write file at bytes) files = length-set files.contents file _
 files_length (Sync file) files = refl
 
-after_length : (calls : List FileCall) (files : Files) → length (after_calls calls files).contents ≡ length files.contents
+pub after_length : (calls : List FileCall) (files : Files) → length (after_calls calls files).contents ≡ length files.contents
 after_length [] files = refl
 after_length (call ∷ calls) files = after_length calls (files_after call files) ∙ files_length call files
 
@@ -156,7 +156,7 @@ many_files : (file : ℕ → List ℕ) (from count : ℕ) → length (map file (
 many_files file from zero = refl
 many_files file from (suc count) = ap suc (many_files file (from + 1) count)
 
-stores_length : (sizes : Sizes) (values : Values) → length (store_files sizes values).contents ≡ sizes.files
+pub stores_length : (sizes : Sizes) (values : Values) → length (store_files sizes values).contents ≡ sizes.files
 stores_length sizes values = many_files (λ file. store_bytes (values (STORE file))) 0 sizes.files
 
 -- a call between two lists, for whom it is apart from those behind it
@@ -171,13 +171,13 @@ call_last plain history before behind call files apart =
     one_apart : (call : FileCall) (others : List FileCall) → IsApartFrom call others → AllApart (call ∷ []) others
     one_apart call others is = (is, tt)
 
-if_apart : (call : FileCall) (test : Bool) (other : FileCall) → (test ≡ true → AreApart call other) → IsApartFrom call (call_if test other)
+pub if_apart : (call : FileCall) (test : Bool) (other : FileCall) → (test ≡ true → AreApart call other) → IsApartFrom call (call_if test other)
 if_apart call true other is = (is refl, tt)
 if_apart call false other is = tt
 
 -- ---- an entry is made ready
 
-and_false : (b : Bool) → (b && false) ≡ false
+pub and_false : (b : Bool) → (b && false) ≡ false
 and_false true = refl
 and_false false = refl
 

@@ -57,3 +57,8 @@ pub mod KeepsLogContent
 pub mod KeepsEntryWords
 pub mod ReachLengths
 pub mod WalkOpened
+pub mod CrashPieces
+pub mod CrashGroups
+pub mod CrashOrder
+pub mod CrashLaws
+pub mod CrashRuns

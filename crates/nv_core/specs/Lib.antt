@@ -47,3 +47,4 @@ pub mod Unready
 pub mod LivePieces
 pub mod LogContent
 pub mod WalkOpens
+pub mod Crash

@@ -4,10 +4,12 @@
 #![tactic(auto)]
 
 mod content;
+mod crash;
 mod laws;
 mod log;
 
 pub use content::runs_keep_content;
+pub use crash::crashes_leave_whole_writes;
 pub use laws::{
     lengths_follow_the_history, no_sound_state_allows, runs_are_sound, walks_are_runs,
     words_have_places_of_their_own,

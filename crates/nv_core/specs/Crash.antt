@@ -1,0 +1,113 @@
+-- Crashes: what a power failure at any moment leaves of the region and of the stores, and which files that stands for.
+use Rattle.std.specs.Prelude.{◌≡◌, ◌↔◌, ℕ, ◌+◌, ◌-◌, ◌<◌, ◌≤◌, ◌==◌, ◌&&◌, ◌||◌, not, Bool, true, List, ◌++◌, length, Some}
+use Rattle.nv_plain.specs.Files.{Files, contents_of}
+use Rattle.nv_plain.specs.Images.{Image, entry_of}
+use Rattle.nv_plain.specs.Layouts.{version_1}
+use Rattle.nv_plain.specs.Recovered.{Fits, recovered}
+use Rattle.nv_plain.specs.declared.call.FileCall.{FileCall}
+use Rattle.nv_pmem.specs.Part.{Part}
+use Rattle.nv_header.specs.Heads.{header_image}
+use Rattle.nv_header.specs.Regions.{ReadsAs}
+use Rattle.nv_store.specs.Store.{Store, IsQuiet}
+use Rattle.nv_store.specs.Images.{IsImage}
+use Rattle.nv_core.specs.Words.{Sizes, HEAD, TAIL, HEADER, STORE}
+use Rattle.nv_core.specs.Passes.{IsOneOf}
+use Rattle.nv_core.specs.Deeds.{slot_of}
+use Rattle.nv_core.specs.Order.{Values}
+use Rattle.nv_core.specs.Core.{Core}
+use Rattle.nv_core.specs.Events.{Event, after, IsRun}
+use Rattle.nv_core.specs.Opening.{Mount, IsMount, opening}
+use Rattle.nv_core.specs.Sound.{Sound}
+use Rattle.nv_core.specs.StorePages.{store_of, StoresTell}
+use Rattle.nv_core.specs.LogWindow.{InWindow}
+use Rattle.nv_core.specs.Groups.{Log}
+use Rattle.nv_core.specs.Written.{IsPart}
+use Rattle.nv_core.specs.EntryImages.{IsRegionImage, InEachImageOf}
+use Rattle.nv_core.specs.LivePieces.{rising, call_if, calls_of, is_ready}
+use Rattle.nv_core.specs.Apart.{after_calls}
+use Rattle.nv_core.specs.Content.{HasFiles}
+use Rattle.nv_core.specs.LogContent.{LogContent, OpensLog, log_after_run, placed_after_run}
+
+-- ---- what a power failure may leave of the stores
+
+-- An image of the stores: one of each, freely.
+pub record AreStoreImages (sizes : Sizes) (values : Values) (bytes : Files) : Type 0 where
+  pub count : length bytes.contents ≡ sizes.files
+  pub each : (file : ℕ) (store : Store) → file < sizes.files → store_of (values (STORE file)) ≡ Some store → IsImage store (contents_of bytes file)
+
+-- ---- which writes in flight an image adds
+
+-- a number is the leader's of a write in flight: it is drawn, and has no place yet
+abbrev pub is_in_flight : Log → (ℕ → Bool) → (number : ℕ) → Bool
+is_in_flight log placed number = (log.group number).first == number && not (placed number)
+
+-- its commit word in an image is its own
+abbrev pub is_committed : Sizes → Image → (number : ℕ) → Bool
+is_committed sizes image number = (entry_of (image (1 + slot_of sizes number))).commit == number + 1
+
+-- A write in flight is added where its leader was made ready, and where it reads as committed in this image.
+abbrev pub is_added : Sizes → Log → (ℕ → Bool) → Core → Image → (number : ℕ) → Bool
+is_added sizes log placed core image number = is_in_flight log placed number && (is_ready sizes core number || is_committed sizes image number)
+
+-- those writes, each whole, in rising number
+abbrev pub added : Sizes → Log → (ℕ → Bool) → Core → Image → List FileCall
+added sizes log placed core image =
+    rising (λ number. call_if (is_added sizes log placed core image number) (log.group number).call) (core.words TAIL) (core.words HEAD - core.words TAIL)
+
+-- ---- what such an image stands for
+
+-- It fits. It recovers to the files after the history and then those writes. A write in flight is kept where it is one of these, and nowhere
+-- else. Recovery goes on with no number that was never drawn.
+pub record Survives (sizes : Sizes) (opened : Files) (log : Log) (placed : ℕ → Bool) (core : Core) (image : Image) (bytes : Files) : Type 0 where
+  pub fits : Fits version_1 image
+  pub files : (recovered image bytes).files ≡ after_calls (calls_of core.history ++ added sizes log placed core image) opened
+  pub fates : (number : ℕ) → InWindow core number → is_in_flight log placed number ≡ true
+      → (IsOneOf (recovered image bytes).groups number ↔ (is_added sizes log placed core image number ≡ true))
+  pub low : core.words TAIL ≤ (recovered image bytes).first
+  pub high : (recovered image bytes).next ≤ core.words HEAD
+
+-- whatever a power failure leaves does
+abbrev pub CrashesSurvive : Sizes → Files → Log → (ℕ → Bool) → Core → Type 0
+CrashesSurvive sizes opened log placed core =
+    (image : Image) (bytes : Files) → IsRegionImage sizes core.values image → AreStoreImages sizes core.values bytes
+    → Survives sizes opened log placed core image bytes
+
+-- ---- where that is so
+
+-- each store that tells is durable
+pub record StoresQuiet (values : Values) : Type 0 where
+  pub each : (file : ℕ) (store : Store) → store_of (values (STORE file)) ≡ Some store → IsQuiet store
+
+-- The region reads as one of this mount: in each image its header says the mount's pages and entries, as many names as it has files, and a
+-- tail that is no lower than TAIL. A file has no more pages than a region allows. The stores tell, and are durable.
+pub record HasRegion (sizes : Sizes) (names : List (List ℕ)) (tail : ℕ) (core : Core) : Type 0 where
+  pub header : InEachImageOf sizes core.values (ReadsAs version_1 sizes.page sizes.entries names tail)
+  pub files : length names ≡ sizes.files
+  pub pages : sizes.pages ≤ version_1.page_limit
+  pub low : core.words TAIL ≤ tail
+  pub tell : StoresTell sizes core.values
+  pub quiet : StoresQuiet core.values
+
+-- In every sound state in which the content of the log is right, each image does.
+abbrev pub StatesSurviveCrashes : Type 0
+StatesSurviveCrashes =
+    (sizes : Sizes) (first : Values) (opened : Files) (names : List (List ℕ)) (tail : ℕ) (log : Log) (placed : ℕ → Bool) (core : Core)
+    → Sound sizes first core → LogContent sizes first opened tail log placed core → HasRegion sizes names tail core
+    → CrashesSurvive sizes opened log placed core
+
+-- ---- runs
+
+-- A mount opens a region with these names: its header reads so, its tail is the next number, and the stores are durable.
+pub record OpensRegion (mount : Mount) (names : List (List ℕ)) : Type 0 where
+  pub header : (part : Part) → IsPart (mount.values HEADER) part → ReadsAs version_1 mount.sizes.page mount.sizes.entries names mount.next (header_image part)
+  pub files : length names ≡ mount.sizes.files
+  pub pages : mount.sizes.pages ≤ version_1.page_limit
+  pub quiet : StoresQuiet mount.values
+
+-- So after every run from such an opening.
+abbrev pub RunsSurviveCrashes : Type 0
+RunsSurviveCrashes =
+    (mount : Mount) (files : Files) (names : List (List ℕ)) (log : Log) (placed : ℕ → Bool) (events : List Event)
+    → IsMount mount → OpensLog mount mount.next → HasFiles mount.sizes mount.values files → OpensRegion mount names → IsRun mount.sizes (opening mount) events
+    → CrashesSurvive mount.sizes files (log_after_run mount.sizes (opening mount) events log) (placed_after_run mount.sizes (opening mount) events placed)
+    (after mount.sizes (opening mount) events)
