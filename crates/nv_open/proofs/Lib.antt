@@ -12,3 +12,4 @@ pub mod Beginnings
 pub mod Openeds
 pub mod Sized
 pub mod Opens
+pub mod TestBenches

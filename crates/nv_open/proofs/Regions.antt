@@ -24,7 +24,7 @@ use Rattle.nv_open.proofs.Returns.{states_tell}
 
 -- ---- the parts that a bench gives
 
-no_part_quiet : BlankIsQuiet → AreQuiet []
+pub no_part_quiet : BlankIsQuiet → AreQuiet []
 no_part_quiet blank = record { each = λ i. record { lines = λ line. blank } }
 
 untold_quiet : BlankIsQuiet → {X : Type 0} (history : X → History) (parts : List X) → All (λ part. history part ≡ []) parts → RowTells (map history parts) AreQuiet
