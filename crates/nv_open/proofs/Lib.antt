@@ -9,7 +9,7 @@ pub mod NewNames
 pub mod Additions
 pub mod BlankLaws
 pub mod Beginnings
-pub mod Openeds
+pub mod WithWanted
 pub mod Sized
-pub mod Opens
+pub mod AsHeld
 pub mod TestBenches

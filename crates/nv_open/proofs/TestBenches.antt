@@ -1,6 +1,6 @@
 -- Benches in memory that are quiet.
-use Rattle.std.proofs.Common.{◌≡◌, refl, sym, ap, ◌∙◌, subst, List, []}
-use Rattle.std.specs.Prelude.{Option, Some, IfSome, Result, Ok, Err, OnOk, IfOk, option_map}
+use Rattle.std.proofs.Common.{◌≡◌, refl, sym, ap, subst, []}
+use Rattle.std.specs.Prelude.{Option, IfSome, Result, Ok, Err, OnOk, IfOk, option_map}
 use Rattle.std.proofs.lemmas.List.Elements.{All-nil}
 use Rattle.nv_pmem.specs.Laws.{BlankIsQuiet}
 use Rattle.nv_pmem.specs.declared.picker.Pick.{Pick}

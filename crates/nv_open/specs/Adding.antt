@@ -1,5 +1,5 @@
 -- Adding: the names that a region gets beside its own.
-use Rattle.std.specs.Prelude.{◌≢◌, ℕ, ◌<◌, not, nat_eq, Bool, IsTrue, List, [], ◌++◌, length, filter, slice_index_or}
+use Rattle.std.specs.Prelude.{◌≡◌, ◌≢◌, ℕ, ◌<◌, not, nat_eq, Bool, IsTrue, List, [], ◌++◌, length, filter, slice_index_or}
 use Rattle.std.specs.List.{list_any}
 use lib.Pointwise.{pointwise}
 use Rattle.nv_plain.specs.Layouts.{Layout}
@@ -26,6 +26,11 @@ new_names known wanted = filter (λ name. not (is_known known name)) wanted
 -- the known names, and then the new ones
 abbrev pub all_names : (known wanted : List (List ℕ)) → List (List ℕ)
 all_names known wanted = known ++ new_names known wanted
+
+-- Names hold those that are wanted: they are some names, and behind them the new ones.
+pub record HaveWanted (wanted names : List (List ℕ)) : Type 0 where
+  pub known : List (List ℕ)
+  pub names_are : names ≡ all_names known wanted
 
 -- the error of an addition
 abbrev pub of_adding : AddError → OpenError

@@ -10,7 +10,7 @@ ghost use Rattle.nv_header.specs.Changes.{parts_after_format};
 ghost use Rattle.nv_header.specs.Laws.{HasSpare};
 ghost use Rattle.nv_header.specs.Needs.{HasLines};
 ghost use Rattle.nv_recover.specs.Telling.{AllTell};
-ghost use Rattle.nv_open.specs.Adding.{AreWanted, new_names, all_names};
+ghost use Rattle.nv_open.specs.Adding.{AreWanted, HaveWanted, new_names, all_names};
 ghost use Rattle.nv_open.specs.Begun.{IsBegun, IsOpened, IsNotOpened, files_behind};
 ghost use Rattle.nv_open.specs.Causes.{ErrorHasCause, RegionHasCause};
 ghost use Rattle.nv_open.specs.Held.{HoldFiles, files_named, AreUnwritten, told_after};
@@ -51,6 +51,7 @@ pub fn open<T: Bench>(
     ensures one_each { IfOk result (λ opened. length opened.stores.items ≡ length opened.region.names) }
     ensures opened { IfOk result (λ opened. IfSome (T.state bench.old).told (λ holding. IsOpened holding geometry wanted.now
         opened.region.geometry.page opened.region.geometry.entries opened.region.names opened.region.next (map T.Store.history opened.stores.items))) }
+    ensures have_wanted { IfOk result (λ opened. HaveWanted wanted.now opened.region.names) }
     ensures counts { IfOk result (λ opened. (T.state bench.old).faults ≡ saturated ((T.state bench.new).faults
         + sum_by T.Part.fault_count opened.region.parts.items + sum_by T.Store.fault_count opened.stores.items)) }
 
@@ -101,6 +102,7 @@ fn open_parts<T: Bench>(
     ensures names { IfOk result (λ region. T.state bench.new
         ≡ with_faults (T.state bench.new).faults (stores_lent region.names (T.state bench.old))) }
     ensures one_each { IfOk result (λ region. length stores.new.items ≡ length region.names) }
+    ensures have_wanted { IfOk result (λ region. HaveWanted wanted.now region.names) }
     ensures opened { IfOk result (λ region. IfSome (T.state bench.old).told (λ holding. RowTells (map T.Part.history parts.items) (λ told.
         IsOpened (record { parts = told; stores = holding.stores }) geometry wanted.now region.geometry.page region.geometry.entries region.names region.next (map T.Store.history stores.new.items)))) }
     ensures refused { (why : _) → IfErr result (λ failed. failed.1 ≡ error.Refused why

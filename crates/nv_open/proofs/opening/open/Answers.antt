@@ -3,7 +3,7 @@ use Rattle.nv_bench.specs.Holding.{Holding}
 use Rattle.nv_bench.specs.Opening.{opened}
 use Rattle.nv_open.specs.Begun.{IsOpened, IsNotOpened}
 use Rattle.nv_open.proofs.HeadLaws.{error_is}
-use Rattle.nv_open.proofs.Opens.{given_long, given_kept, some_map, opened_before, not_opened_before}
+use Rattle.nv_open.proofs.AsHeld.{given_long, given_kept, some_map, opened_before, not_opened_before}
 use Rattle.nv_open.proofs.Regions.{given_quiet, given_spare, given_tell, lent_told, quiet_parts, some_stores, still_untold, returned_told}
 use Rattle.nv_open.proofs.Sized.{quiet_opened}
 use Rattle.nv_open.proofs.opening.open.Goals as goal

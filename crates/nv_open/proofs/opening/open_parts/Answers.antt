@@ -3,13 +3,13 @@ use Rattle.std.specs.Prelude.{IfSome}
 use Rattle.nv_pmem.specs.Rows.{RowTells}
 use Rattle.nv_pmem.specs.Steps as lines
 use Rattle.nv_bench.specs.Benches.{BenchState}
-use Rattle.nv_open.specs.Adding.{all_names}
+use Rattle.nv_open.specs.Adding.{HaveWanted, all_names}
 use Rattle.nv_open.specs.Begun.{IsNotOpened}
 use Rattle.nv_open.specs.Held.{AreUnwritten}
 use Rattle.nv_open.specs.declared.error.OpenError.TheVariants as error
 use Rattle.nv_open.specs.declared.error.Refusal.TheVariants.{TooManyFiles}
 use Rattle.nv_open.proofs.Beginnings.{if_ok_map, if_err_map, if_some_map, if_some_any}
-use Rattle.nv_open.proofs.Openeds.{still_quiet, lent_more, opened_passed, too_many, not_opened}
+use Rattle.nv_open.proofs.WithWanted.{still_quiet, lent_more, opened_passed, too_many, not_opened}
 use Rattle.nv_open.proofs.opening.open_parts.Goals as goal
 
 pub add_wanted-requires-clause-synced : goal.add_wanted-requires-clause-synced
@@ -53,3 +53,8 @@ returns-in-Err-clause-refused g c why is =
 
 pub returns-in-Err-clause-unwritten : goal.returns-in-Err-clause-unwritten
 returns-in-Err-clause-unwritten g c why is other = c.in-Err.ensures.unwritten why is
+
+pub returns-in-Ok-clause-have_wanted : goal.returns-in-Ok-clause-have_wanted
+returns-in-Ok-clause-have_wanted g c =
+    if_ok_map (λ added. added.names ≡ all_names c.in-Ok.region.names c.args.wanted.now) (λ added. HaveWanted c.args.wanted.now added.names) c.add_wanted.result
+    (λ added is. record { known = c.in-Ok.region.names; names_are = is }) c.add_wanted.ensures.names
