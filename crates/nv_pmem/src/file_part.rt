@@ -42,7 +42,7 @@ struct FileLine {
 
 impl<R: Files + Copy> FilePart<R> {
     /// The part over the file of this path, with at least so many lines: where there is no file or a shorter one, it is made or
-    /// made longer, with zeros. What the lines hold is durable. It takes about 72 bytes a line.
+    /// made longer, with lines of zeros. What the lines hold is durable. It takes about 72 bytes a line.
     pub fn open(rt: R, alloc: Global, path: &str, least: u64) -> Result<Self, PartError>
         ensures lines { IfOk result (λ part. least ≤ (part_room part).lines) }
         ensures faults { IfOk result (λ part. part_faults part ≡ 0) }
@@ -64,7 +64,8 @@ impl<R: Files + Copy> FilePart<R> {
         Self::over(rt, alloc, path, &mut file, lines)
     }
 
-    // The part of so many lines over this file, which is made longer where it is shorter.
+    // The part of so many lines over this file, which is made longer where it has less. What stands behind its last whole line is
+    // cut first, so that all new lines are zeros.
     fn over(
         rt: R,
         alloc: Global,
@@ -76,9 +77,10 @@ impl<R: Files + Copy> FilePart<R> {
         ensures faults { IfOk result (λ part. part_faults part ≡ 0) }
     {
         let path = String::from_str(alloc, path)?;
-        let size = lines.saturating_mul(64);
-        if file.metadata()?.len() < size {
-            file.set_len(size)?;
+        let whole = file.metadata()?.len() / 64;
+        if whole < lines {
+            file.set_len(whole * 64)?;
+            file.set_len(lines.saturating_mul(64))?;
         }
         file.sync_all()?;
         Ok(FilePart {

@@ -76,10 +76,7 @@ fn whole_lines_of_a_file_are_read(rt: HostRuntime) -> Result<(), Fail> {
     assert_eq!(rt; fs::metadata(&rt, path)?.len(), 100);
     let mut part = FilePart::open(rt, rt.alloc(), path, 3)?;
     assert_eq!(rt; part.lines(), 3);
-    assert_eq!(rt;
-        words(&mut part, 1),
-        Some((0x0707070707070707, 0x0707070707070707))
-    );
+    assert_eq!(rt; words(&mut part, 1), Some((0, 0)));
     assert_eq!(rt; words(&mut part, 2), Some((0, 0)));
     assert_eq!(rt; fs::metadata(&rt, path)?.len(), 192);
     fs::remove_dir_all(&rt, "nv_pmem_odd")?;
