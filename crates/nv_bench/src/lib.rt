@@ -15,4 +15,6 @@ pub use laws::power_leaves_an_image;
 pub use mem_bench::MemBench;
 
 #[cfg(test)]
+mod folder_tests;
+#[cfg(test)]
 mod tests;
