@@ -53,10 +53,10 @@ worked_tells pass work values is =
 
 -- ---- what stays of an opening, whatever its content
 
-record Stays (first : Values) (tail : ℕ) (core : Core) : Type 0 where
-  tells : Tells (core.values HEADER)
-  tail_is : core.words TAIL ≡ tail
-  stores : StoresKept first core.values
+pub record Stays (first : Values) (tail : ℕ) (core : Core) : Type 0 where
+  pub tells : Tells (core.values HEADER)
+  pub tail_is : core.words TAIL ≡ tail
+  pub stores : StoresKept first core.values
 
 stays_step : (sizes : Sizes) (first : Values) (tail by : ℕ) (core : Core) (deed : Deed) (found : ℕ) → Stays first tail core → MayFind sizes by core deed found → Stays first tail (after_step sizes by deed found core)
 stays_step sizes first tail by core deed found stays may = record {
@@ -90,7 +90,7 @@ stays_act sizes first tail by core (Calls work) stays may = record {
   stores = stores_work first (core.passes by) work core.values stays.stores;
 }
 
-stays_run : (sizes : Sizes) (first : Values) (tail : ℕ) (events : List Event) (core : Core) → Stays first tail core → IsRun sizes core events → Stays first tail (after sizes core events)
+pub stays_run : (sizes : Sizes) (first : Values) (tail : ℕ) (events : List Event) (core : Core) → Stays first tail core → IsRun sizes core events → Stays first tail (after sizes core events)
 stays_run sizes first tail [] core stays run = stays
 stays_run sizes first tail (event ∷ later) core stays run = stays_run sizes first tail later (after_event sizes event core) (stays_act sizes first tail event.by core event.act stays run.0.act) run.1
 

@@ -62,3 +62,4 @@ pub mod CrashGroups
 pub mod CrashOrder
 pub mod CrashLaws
 pub mod CrashRuns
+pub mod CrashWalked

@@ -1,16 +1,20 @@
 -- The walks' mount opens a file and an empty log.
-use Rattle.std.proofs.Common.{◌≡◌, ℕ, zero, suc, ◌+◌, ◌<◌, nat_lt, false, List, [], length, replicate, Option, Some, None, refl, sym, ap, subst, ◌∙◌, arith}
+use Rattle.std.proofs.Common.{◌≡◌, ℕ, zero, suc, ◌+◌, ◌<◌, nat_lt, false, List, [], ◌∷◌, length, replicate, slice_index_or, Option, Some, None, refl, sym, ap, subst, ◌∙◌, arith}
 use Rattle.nv_plain.specs.Files.{contents_of}
-use Rattle.nv_store.specs.Store.{Store, quiet_store}
-use Rattle.nv_pmem.specs.Part.{blank_line, line_of}
+use Rattle.nv_plain.specs.Layouts.{version_1}
+use Rattle.nv_header.specs.Heads.{IsGoodName, first_names, header_image}
+use Rattle.nv_header.specs.Regions.{ReadsAs}
+use Rattle.nv_store.specs.Store.{Store, quiet_store, is_unsynced}
+use Rattle.nv_store.specs.Store as stores
+use Rattle.nv_pmem.specs.Part.{Part, blank_line, line_of, newest, word_at}
 use Rattle.nv_pmem.specs.Images.{IsQuiet, IsQuietLine, InEachImage}
 use Rattle.nv_pmem.specs.Laws.{BlankIsZeros, BlankIsQuiet, QuietHasOneImage}
 use Rattle.nv_core.specs.Words.{PAGE, STORE}
 use Rattle.nv_core.specs.Values.{ABuffer, is_valid}
 use Rattle.nv_core.specs.Written.{CommitsNone}
 use Rattle.nv_core.specs.StorePages.{store_of}
-use Rattle.nv_core.specs.Walks.{walk_sizes, walk_values}
-use Rattle.nv_core.specs.WalkOpens.{walk_files, WalkOpensFiles, WalkOpensLog}
+use Rattle.nv_core.specs.Walks.{walk_sizes, walk_header, walk_values}
+use Rattle.nv_core.specs.WalkOpens.{walk_files, WalkOpensFiles, WalkOpensLog, WalkOpensRegion}
 use Rattle.nv_core.proofs.Choices.{if_both}
 
 -- ---- the file
@@ -55,6 +59,16 @@ module _ (blank : BlankIsQuiet) where
   quiet : (count : ℕ) → IsQuiet (replicate count blank_line)
   quiet count = record { lines = quiet_line count }
 
+  header_quiet : IsQuiet walk_header
+  unfolding IsQuietLine
+  header_quiet = record { lines = lines }
+    where
+      lines : (line : ℕ) → IsQuietLine (line_of walk_header line)
+      lines zero = refl
+      lines (suc zero) = refl
+      lines (suc (suc zero)) = refl
+      lines (suc (suc (suc line))) = quiet_line 15 line
+
   commits_none : BlankIsZeros → QuietHasOneImage → (slot : ℕ) → InEachImage (CommitsNone walk_sizes 0 slot) (replicate 2 blank_line)
   commits_none zeros one_image slot image left number at low e =
       let z : 0 ≡ number + 1 = sym (one_image (replicate 2 blank_line) image 0 0 (quiet_line 2 0) left ∙ zeros (replicate 2 blank_line) 0 0 (blank_each 2 0)) ∙ e in
@@ -64,6 +78,61 @@ module _ (blank : BlankIsQuiet) where
   walk_opens_log zeros one_image = record {
     page = record { least = omega arith; most = omega arith; whole_lines = refl };
     low = omega arith;
-    header = record { part = replicate 18 blank_line; is = refl; quiet = quiet 18; tail_is = zeros (replicate 18 blank_line) 1 0 (blank_each 18 1) };
+    header = record { part = walk_header; is = refl; quiet = header_quiet; tail_is = zeros walk_header 1 0 refl };
     blank = λ slot low. record { part = replicate 2 blank_line; is = refl; lines = omega arith; quiet = quiet 2; stale = commits_none zeros one_image slot };
   }
+
+-- ---- the region
+
+one_name : (i : ℕ) → i < 1 → IsGoodName version_1 (header_image walk_header) i
+unfolding newest word_at
+one_name zero less = record { whole = refl; new = λ j below. absurd (omega (arith, below)) }
+one_name (suc i) less = absurd (omega (arith, less))
+
+told_header : (part : Part) → Some walk_header ≡ Some part → walk_header ≡ part
+told_header part e = cc
+
+header_reads : ReadsAs version_1 64 16 ((97 ∷ []) ∷ []) 0 (header_image walk_header)
+unfolding newest word_at first_names
+header_reads = record {
+  readable = record {
+    long_enough = omega arith;
+    fields = record {
+      magic = refl;
+      version_is = refl;
+      page = record { least = omega arith; most = omega arith; whole_lines = refl };
+      entries = record { least = omega arith; most = omega arith };
+      files = omega arith;
+      tail = omega arith;
+    };
+    names = one_name;
+  };
+  page_is = refl;
+  entries_is = refl;
+  names_are = refl;
+  tail_is = refl;
+}
+
+-- a list of equal flags has none that is set
+none_at : (count i : ℕ) → slice_index_or (replicate count false) i false ≡ false
+none_at zero i = refl
+none_at (suc count) zero = refl
+none_at (suc count) (suc i) = none_at count i
+
+quiet_stores : (file : ℕ) (store : Store) → store_of (walk_values (STORE file)) ≡ Some store → stores.IsQuiet store
+quiet_stores zero store told = subst stores.IsQuiet (same store told) record { none = none; durable = refl }
+  where
+    same : (store : Store) → Some (quiet_store (replicate 128 97)) ≡ Some store → quiet_store (replicate 128 97) ≡ store
+    same store e = cc
+
+    none : (i : ℕ) → is_unsynced (quiet_store (replicate 128 97)) i ≡ false
+    none i = none_at 128 i
+quiet_stores (suc file) store told = absurd (cc)
+
+pub walk_opens_region : WalkOpensRegion
+walk_opens_region = record {
+  header = λ part is. subst (λ p. ReadsAs version_1 64 16 ((97 ∷ []) ∷ []) 0 (header_image p)) (told_header part is) header_reads;
+  files = refl;
+  pages = omega arith;
+  quiet = record { each = quiet_stores };
+}

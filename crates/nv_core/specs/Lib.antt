@@ -46,5 +46,6 @@ pub mod InFlight
 pub mod Unready
 pub mod LivePieces
 pub mod LogContent
-pub mod WalkOpens
 pub mod Crash
+pub mod WalkOpens
+pub mod CrashWalks

@@ -1,8 +1,9 @@
--- The walks' mount opens a file and an empty log: what the laws on content ask of a mount can be met.
+-- The walks' mount opens a file, an empty log and a region: what the laws on content and on crashes ask of a mount can be met.
 use Rattle.std.specs.Prelude.{[], ◌∷◌, replicate}
 use Rattle.nv_plain.specs.Files.{Files}
 use Rattle.nv_core.specs.Content.{Opens}
 use Rattle.nv_core.specs.LogContent.{OpensLog}
+use Rattle.nv_core.specs.Crash.{OpensRegion}
 use Rattle.nv_core.specs.Walks.{walk_mount}
 
 -- one file of 128 bytes
@@ -14,3 +15,7 @@ WalkOpensFiles = Opens walk_mount walk_files
 
 abbrev pub WalkOpensLog : Type 0
 WalkOpensLog = OpensLog walk_mount 0
+
+-- its one file is named "a"
+abbrev pub WalkOpensRegion : Type 0
+WalkOpensRegion = OpensRegion walk_mount ((97 ∷ []) ∷ [])

@@ -2,7 +2,8 @@
 use Rattle.std.specs.Prelude.{◌≡◌, ℕ, zero, ◌+◌, false, List, [], ◌∷◌, ◌++◌, Some, None, map, replicate, nat_lt, if◌then◌else◌, slice_index_or}
 use Rattle.nv_plain.specs.declared.call.FileCall.TheVariants.{Read, Write}
 use Rattle.nv_plain.specs.declared.call.Reply.TheVariants.{Bytes, Count}
-use Rattle.nv_pmem.specs.Part.{blank_line}
+use Rattle.nv_plain.specs.Images.{header_magic}
+use Rattle.nv_pmem.specs.Part.{Line, Part, blank_line}
 use Rattle.nv_pmem.specs.Room.{Room}
 use Rattle.nv_pmem.specs.Rows.{RowStep}
 use Rattle.nv_pmem.specs.Steps.{Fence}
@@ -25,10 +26,20 @@ walk_sizes = record { page = 64; files = 1; pages = 64; entries = 16; buffers = 
 abbrev pub walk_room : (lines : ℕ) → Room
 walk_room lines = record { lines = lines; spare = λ line. 15; after_fence = λ line. 15 }
 
--- what the cells keep: a header's part of 18 blank lines and entry parts of two, a store of 128 bytes, and buffers in the first four pages
+-- a durable line with these words
+abbrev pub durable_line : List ℕ → Line
+durable_line words = record { oldest = words; later = []; flushed = None }
+
+-- the header's part of 18 lines: version 1, pages of 64 bytes, 16 entries and one file; tail 0; the file's name, which is "a"
+abbrev pub walk_header : Part
+walk_header =
+    durable_line (header_magic ∷ 1 ∷ 64 ∷ 16 ∷ 1 ∷ 0 ∷ 0 ∷ 0 ∷ []) ∷ blank_line ∷ durable_line (1 ∷ 97 ∷ 0 ∷ 0 ∷ 0 ∷ 0 ∷ 0 ∷ 0 ∷ [])
+    ∷ replicate 15 blank_line
+
+-- what the cells keep: that header's part and entry parts of two blank lines, a store of 128 bytes, and buffers in the first four pages
 abbrev pub walk_values : Values
 walk_values (ENTRY slot) = APart record { told = Some (replicate 2 blank_line); faults = 0; identity = slot + 1 } (walk_room 2)
-walk_values HEADER = APart record { told = Some (replicate 18 blank_line); faults = 0; identity = 0 } (walk_room 18)
+walk_values HEADER = APart record { told = Some walk_header; faults = 0; identity = 0 } (walk_room 18)
 walk_values (STORE zero) = AStore record { told = Some (quiet_store (replicate 128 97)); faults = 0; identity = 17 }
 walk_values (PAGE page) = ABuffer (if nat_lt page 4 then Some record { bytes = []; valid = false } else None)
 walk_values word = Bare

@@ -1,4 +1,5 @@
 ghost use Rattle.nv_core.specs.Crash.{StatesSurviveCrashes, RunsSurviveCrashes};
+ghost use Rattle.nv_core.specs.CrashWalks.{OpenWriteHasTwoFates, PlacedWriteStays, ReadyWriteStays};
 
 use nv_entry::groups_follow_steps;
 use nv_plain::{history_goes_on, write_is_its_pieces, write_leaves_its_bytes};
@@ -20,4 +21,18 @@ pub fn crashes_leave_whole_writes()
     write_is_its_pieces();
     history_goes_on();
     groups_follow_steps();
+}
+
+/// Three power failures by hand, on the walks' mount: once its first write is placed, each image has the write; so it has once
+/// the write's leader is ready; and between the store of its commit word and the flush, one image has the write whole, and
+/// another one has nothing of it.
+pub fn walks_survive_crashes()
+    ensures placed { PlacedWriteStays }
+    ensures readied { ReadyWriteStays }
+    ensures halfway { OpenWriteHasTwoFates }
+{
+    crashes_leave_whole_writes();
+    loads_follow_calls();
+    images_follow_calls();
+    store_images();
 }

@@ -1,5 +1,5 @@
 ghost use Rattle.nv_core.specs.LogContent.{EventsKeepTheLog, OpeningHasTheLog, RunsKeepTheLog, GroupsAreInImages, NoOldWordCounts};
-ghost use Rattle.nv_core.specs.WalkOpens.{WalkOpensFiles, WalkOpensLog};
+ghost use Rattle.nv_core.specs.WalkOpens.{WalkOpensFiles, WalkOpensLog, WalkOpensRegion};
 
 use nv_entry::groups_follow_steps;
 use nv_plain::{history_goes_on, write_is_its_pieces, write_leaves_its_bytes};
@@ -25,10 +25,12 @@ pub fn runs_keep_the_log()
     groups_follow_steps();
 }
 
-/// What these laws ask of a mount can be met: that of the walks opens a file and an empty log.
+/// What these laws ask of a mount can be met: that of the walks opens a file, an empty log, and a region whose header can be
+/// read.
 pub fn a_mount_opens_a_file_and_a_log()
     ensures files { WalkOpensFiles }
     ensures log { WalkOpensLog }
+    ensures region { WalkOpensRegion }
 {
     loads_follow_calls();
     images_follow_calls();
