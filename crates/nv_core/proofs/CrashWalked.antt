@@ -1,5 +1,5 @@
 -- Crashes of the walks: what the crash law says of them, by computing the writes in flight.
-use Rattle.std.proofs.Common.{◌≡◌, ℕ, zero, suc, ◌+◌, ◌<◌, Bool, false, List, [], ◌∷◌, ◌++◌, take, drop, replicate, Option, Some, None, refl, sym, ap, subst, ◌∙◌, arith, take-append-drop}
+use Rattle.std.proofs.Common.{◌≡◌, ℕ, zero, suc, ◌<◌, Bool, false, List, [], ◌∷◌, ◌++◌, take, drop, replicate, Some, refl, sym, subst, ◌∙◌, arith, take-append-drop}
 use Rattle.nv_plain.specs.Files.{contents_of}
 use Rattle.nv_plain.specs.Images.{Image, PartImage}
 use Rattle.nv_plain.specs.declared.call.FileCall.TheVariants.{Read, Sync}
@@ -11,16 +11,13 @@ use Rattle.nv_store.specs.Laws as stores
 use Rattle.nv_store.specs.Images.{IsImage as IsStoreImage}
 use Rattle.nv_store.specs.Store.{Store}
 use Rattle.nv_entry.specs.Group.{group_steps, pieces_steps, piece_steps, data_steps, field_steps}
-use Rattle.nv_core.specs.Words.{Sizes, HEADER, ENTRY, STORE}
-use Rattle.nv_core.specs.Values.{Value, Bare, APart, AStore, ABuffer}
-use Rattle.nv_core.specs.Order.{Values}
+use Rattle.nv_core.specs.Words.{Sizes, STORE}
 use Rattle.nv_core.specs.Core.{Core}
 use Rattle.nv_core.specs.Events.{Event, after_event, after, IsRun}
 use Rattle.nv_core.specs.Opening.{opening}
-use Rattle.nv_core.specs.StorePages.{store_of}
+use Rattle.nv_core.specs.StorePages.{store_of, StoresKept}
 use Rattle.nv_core.specs.Groups.{Log}
-use Rattle.nv_core.specs.Written.{IsPart}
-use Rattle.nv_core.specs.EntryImages.{IsLeft, IsRegionImage}
+use Rattle.nv_core.specs.EntryImages.{IsRegionImage}
 use Rattle.nv_core.specs.LivePieces.{calls_of}
 use Rattle.nv_core.specs.Apart.{after_calls}
 use Rattle.nv_core.specs.LogContent.{log_after_run, placed_after_run}
@@ -30,7 +27,8 @@ use Rattle.nv_core.specs.WalkOpens.{walk_files, WalkOpensLog}
 use Rattle.nv_core.specs.CrashWalks.{written_files, walk_placed, walk_open, walk_ready, placed_core, open_core, ready_core, PlacedWriteStays, ReadyWriteStays, OpenWriteHasTwoFates}
 use Rattle.nv_core.proofs.Walked.{walk_begins, read_is_walked, write_is_walked}
 use Rattle.nv_core.proofs.WalkOpened.{walk_opens_files, walk_opens_region}
-use Rattle.nv_core.proofs.CrashRuns.{Stays, stays_run}
+use Rattle.nv_core.proofs.CrashRegions.{region_of, region_is}
+use Rattle.nv_core.proofs.CrashRuns.{stores_run}
 
 -- ---- runs, one behind another
 
@@ -57,40 +55,13 @@ open_run = part_run 26
 ready_run : IsRun walk_sizes (opening walk_mount) walk_ready
 ready_run = part_run 30
 
--- ---- two images of any state
-
-abbrev told_or : Option Part → Part
-told_or (Some part) = part
-told_or None = []
-
-abbrev told_part : Value → Part
-told_part (APart device room) = told_or device.told
-told_part value = []
-
-told_is : (value : Value) (part : Part) → IsPart value part → told_part value ≡ part
-told_is (APart device room) part is = ap told_or is
-told_is Bare part is = absurd is
-told_is (AStore device) part is = absurd is
-told_is (ABuffer buffer) part is = absurd is
-
--- what loads give, and what was last made durable
+-- what was last made durable
 abbrev oldest_of : Part → PartImage
 oldest_of part line word = word_at (line_of part line).oldest word
 
 oldest_is : (part : Part) → IsImage part (oldest_of part)
 unfolding MayLeave word_at
 oldest_is part = record { lines = λ line. (0, omega arith, λ word. refl) }
-
--- an image of the region, part by part
-abbrev region_of : (Part → PartImage) → Values → Image
-region_of leave values zero = leave (told_part (values HEADER))
-region_of leave values (suc slot) = leave (told_part (values (ENTRY slot)))
-
-left_is : (leave : Part → PartImage) → ((part : Part) → IsImage part (leave part)) → (value : Value) → IsLeft value (leave (told_part value))
-left_is leave each value part is = subst (λ p. IsImage part (leave p)) (sym (told_is value part is)) (each part)
-
-region_is : (sizes : Sizes) (leave : Part → PartImage) → ((part : Part) → IsImage part (leave part)) → (values : Values) → IsRegionImage sizes values (region_of leave values)
-region_is sizes leave each values = record { header = left_is leave each (values HEADER); entries = λ slot less. let next : suc slot ≡ 1 + slot = omega arith in subst (λ i. IsLeft (values (ENTRY slot)) (region_of leave values i)) next (left_is leave each (values (ENTRY slot))) }
 
 -- ---- the law at the walks
 
@@ -105,11 +76,11 @@ module _ (one_image : stores.QuietHasOneImage) (survive : RunsSurviveCrashes) (o
   stores_left : (events : List Event) → IsRun walk_sizes (opening walk_mount) events → AreStoreImages walk_sizes (after walk_sizes (opening walk_mount) events).values walk_files
   stores_left events run = record { count = refl; each = each }
     where
-      stays : Stays walk_mount.values 0 (after walk_sizes (opening walk_mount) events)
-      stays = stays_run walk_sizes walk_mount.values 0 events (opening walk_mount) record { tells = (opens.header.part, opens.header.is); tail_is = refl; stores = record { each = λ file. refl } } run
+      kept : StoresKept walk_mount.values (after walk_sizes (opening walk_mount) events).values
+      kept = stores_run walk_sizes walk_mount.values events (opening walk_mount) record { each = λ file. refl }
 
       each : (file : ℕ) (store : Store) → file < 1 → store_of ((after walk_sizes (opening walk_mount) events).values (STORE file)) ≡ Some store → IsStoreImage store (contents_of walk_files file)
-      each zero store low told = (one_image store (replicate 128 97) (walk_opens_region.quiet.each 0 store (sym (stays.stores.each 0) ∙ told))).1 (sym (walk_opens_files.stores.seen.seen 0 store (sym (stays.stores.each 0) ∙ told)))
+      each zero store low told = (one_image store (replicate 128 97) (walk_opens_region.quiet.each 0 store (sym (kept.each 0) ∙ told))).1 (sym (walk_opens_files.stores.seen.seen 0 store (sym (kept.each 0) ∙ told)))
       each (suc file) store low told = absurd (omega (arith, low))
 
   survives : (events : List Event) → IsRun walk_sizes (opening walk_mount) events → (image : Image) → IsRegionImage walk_sizes (after walk_sizes (opening walk_mount) events).values image

@@ -61,5 +61,6 @@ pub mod CrashPieces
 pub mod CrashGroups
 pub mod CrashOrder
 pub mod CrashLaws
+pub mod CrashRegions
 pub mod CrashRuns
 pub mod CrashWalked

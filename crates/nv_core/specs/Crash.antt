@@ -15,7 +15,7 @@ use Rattle.nv_core.specs.Passes.{IsOneOf}
 use Rattle.nv_core.specs.Deeds.{slot_of}
 use Rattle.nv_core.specs.Order.{Values}
 use Rattle.nv_core.specs.Core.{Core}
-use Rattle.nv_core.specs.Events.{Event, after, IsRun}
+use Rattle.nv_core.specs.Events.{Event, MayCome, after_event, after, IsRun}
 use Rattle.nv_core.specs.Opening.{Mount, IsMount, opening}
 use Rattle.nv_core.specs.Sound.{Sound}
 use Rattle.nv_core.specs.StorePages.{store_of, StoresTell}
@@ -95,6 +95,12 @@ StatesSurviveCrashes =
     → Sound sizes first core → LogContent sizes first opened tail log placed core → HasRegion sizes names tail core
     → CrashesSurvive sizes opened log placed core
 
+-- Every event keeps the region.
+abbrev pub EventsKeepRegion : Type 0
+EventsKeepRegion =
+    (sizes : Sizes) (names : List (List ℕ)) (tail : ℕ) (core : Core) (event : Event)
+    → HasRegion sizes names tail core → MayCome sizes event core → HasRegion sizes names tail (after_event sizes event core)
+
 -- ---- runs
 
 -- A mount opens a region with these names: its header reads so, its tail is the next number, and the stores are durable.
@@ -104,7 +110,13 @@ pub record OpensRegion (mount : Mount) (names : List (List ℕ)) : Type 0 where
   pub pages : mount.sizes.pages ≤ version_1.page_limit
   pub quiet : StoresQuiet mount.values
 
--- So after every run from such an opening.
+-- The region is there at opening.
+abbrev pub OpeningHasRegion : Type 0
+OpeningHasRegion =
+    (mount : Mount) (files : Files) (names : List (List ℕ))
+    → OpensLog mount mount.next → HasFiles mount.sizes mount.values files → OpensRegion mount names → HasRegion mount.sizes names mount.next (opening mount)
+
+-- So each image does after every run from such an opening.
 abbrev pub RunsSurviveCrashes : Type 0
 RunsSurviveCrashes =
     (mount : Mount) (files : Files) (names : List (List ℕ)) (log : Log) (placed : ℕ → Bool) (events : List Event)

@@ -1,4 +1,4 @@
-ghost use Rattle.nv_core.specs.Crash.{StatesSurviveCrashes, RunsSurviveCrashes};
+ghost use Rattle.nv_core.specs.Crash.{EventsKeepRegion, OpeningHasRegion, RunsSurviveCrashes, StatesSurviveCrashes};
 ghost use Rattle.nv_core.specs.CrashWalks.{OpenWriteHasTwoFates, PlacedWriteStays, ReadyWriteStays};
 
 use nv_entry::groups_follow_steps;
@@ -8,9 +8,11 @@ use nv_store::store_images;
 
 /// A power failure at any moment leaves whole writes: each image of the region and of the stores fits, and recovers to the files
 /// after the history and then some of the writes in flight, each whole: all those whose leader was made ready, and of the others
-/// those that read as committed in that image. So it is in every sound state in which the content of the log is right, and after
-/// every run from the opening of a region.
+/// those that read as committed in that image. So it is in every sound state in which the content of the log is right and the
+/// region reads as the mount's, which each event keeps, and so after every run from the opening of a region.
 pub fn crashes_leave_whole_writes()
+    ensures opening { OpeningHasRegion }
+    ensures events { EventsKeepRegion }
     ensures states { StatesSurviveCrashes }
     ensures runs { RunsSurviveCrashes }
 {
