@@ -24,6 +24,7 @@ use std::rt::Files;
 pub struct FolderBench<R> {
     rt: R,
     alloc: Global,
+    folder: String,
     region: String,
     files: String,
     is_open: bool,
@@ -42,6 +43,7 @@ impl<R: Files<File = File> + Copy> FolderBench<R> {
         Ok(FolderBench {
             rt,
             alloc,
+            folder: String::from_str(alloc, folder)?,
             region: format!(in alloc; "{folder}/region")?,
             files: format!(in alloc; "{folder}/files")?,
             is_open: false,
@@ -51,10 +53,12 @@ impl<R: Files<File = File> + Copy> FolderBench<R> {
         })
     }
 
-    // Makes the two folders where they are missing, and locks that of the region.
+    // Makes the two folders where they are missing, durable with their entries, and locks that of the region.
     fn lock(&self) -> io::Result<File> {
+        let folder = File::open(&self.rt, self.folder.as_str())?;
         make_folder(&self.rt, self.region.as_str())?;
         make_folder(&self.rt, self.files.as_str())?;
+        folder.sync_all()?;
         lock_folder(&self.rt, self.region.as_str())
     }
 

@@ -14,11 +14,11 @@ use std::rt::Files;
 /// Lines of the header's part.
 const HEADER_LINES: u64 = 18;
 
-/// Makes a folder where there is none, and its entry durable.
+/// Makes a folder where there is none.
 pub(crate) fn make_folder<R: Files>(rt: &R, path: &str) -> io::Result<()> {
     match fs::create_dir(rt, path) {
         Err(error) if error.kind() != ErrorKind::AlreadyExists => Err(error),
-        _ => sync_folder_of(rt, path),
+        _ => Ok(()),
     }
 }
 

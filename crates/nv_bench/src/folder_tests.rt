@@ -2,7 +2,7 @@ ghost use Rattle.std.specs.Prelude.{◌≡◌, [], true, false, length, IfOk, On
 ghost use Rattle.nv_bench.specs.FolderBench.{folder_state};
 
 use crate::{Bench, BenchError, FolderBench};
-use nv_pmem::{FilePart, Geometry, Lines};
+use nv_pmem::{FilePart, Geometry, Lines, store_durably};
 use nv_store::{Backing, FileStore};
 use std::alloc::Global;
 use std::fs::{self, File};
@@ -72,13 +72,73 @@ fn sizes<R: Files<File = File> + Copy + Drop + Send>(
     Ok((count, sizes))
 }
 
-// Stores a word in word 0 of the first line of a part, durably.
-fn store_word<R: Files + Copy>(parts: &mut [FilePart<R>], part: usize, value: u64) -> Option<()> {
-    let part = parts.get_mut(part)?;
-    if part.lines() > 0 {
-        nv_pmem::store_durably(part, 0, 0, value).ok()?;
+// Stores a word in word 0 of the first line of part 0, and a byte at 1 of the store `a`, both durably.
+fn fill<R: Files<File = File> + Copy + Drop + Send>(
+    alloc: Global,
+    bench: &mut FolderBench<R>,
+    want: Geometry,
+) -> Result<(), Fail>
+    requires closed { (folder_state bench.old).is_open ≡ false }
+    requires home { (folder_state bench.old).lent ≡ [] }
+{
+    let mut parts = open(bench, Some(want))?;
+    if let Some(header) = parts.first_mut() {
+        if header.lines() > 0 {
+            store_durably(header, 0, 0, 9)?;
+        }
     }
-    Some(())
+    let mut stores = Vec::new(alloc);
+    stores.push(bench.open_store("a")?)?;
+    if let Some(store) = stores.first_mut() {
+        store.pwrite(1, &[7])?;
+        store.sync()?;
+    }
+    close(bench, parts, stores);
+    Ok(())
+}
+
+// Word 0 of the first line of part 0, and what the store `a` has below 3.
+fn found<R: Files<File = File> + Copy + Drop + Send>(
+    alloc: Global,
+    bench: &mut FolderBench<R>,
+) -> Result<(u64, u64, [u8; 3]), Fail>
+    requires closed { (folder_state bench.old).is_open ≡ false }
+    requires home { (folder_state bench.old).lent ≡ [] }
+{
+    let parts = open(bench, None)?;
+    let word = match parts.first() {
+        Some(header) if header.lines() > 0 => header.peek(0, 0),
+        _ => 0,
+    };
+    let mut stores = Vec::new(alloc);
+    stores.push(bench.open_store("a")?)?;
+    let mut buf = [5; 3];
+    let mut count = 0;
+    if let Some(store) = stores.first_mut() {
+        count = store.pread(0, &mut buf)?;
+    }
+    close(bench, parts, stores);
+    Ok((word, count, buf))
+}
+
+#[test]
+fn a_blank_region_gets_files_of_the_geometry(rt: HostRuntime) -> Result<(), Fail> {
+    let (Ok(small), Ok(large)) = (Geometry::new(64, 2), Geometry::new(128, 3)) else {
+        return Ok(());
+    };
+    fresh_folder(&rt, "nv_bench_blank")?;
+    for (want, sizes_are) in [
+        (None, (0, [0; 4])),
+        (Some(large), (4, [18, 3, 3, 3])),
+        (None, (4, [18, 3, 3, 3])),
+        (Some(small), (3, [18, 2, 2, 0])),
+        (None, (3, [18, 2, 2, 0])),
+    ] {
+        let mut bench = FolderBench::new(rt, rt.alloc(), "nv_bench_blank")?;
+        assert_eq!(rt; sizes(rt.alloc(), &mut bench, want)?, sizes_are);
+    }
+    fs::remove_dir_all(&rt, "nv_bench_blank")?;
+    Ok(())
 }
 
 #[test]
@@ -89,44 +149,14 @@ fn what_was_given_back_is_there_again(rt: HostRuntime) -> Result<(), Fail> {
     fresh_folder(&rt, "nv_bench_kept")?;
     let mut bench = FolderBench::new(rt, rt.alloc(), "nv_bench_kept")?;
     assert!(rt; may_cross_threads(&bench));
-    assert_eq!(rt; sizes(rt.alloc(), &mut bench, None)?, (0, [0; 4]));
-    assert_eq!(rt;
-        sizes(rt.alloc(), &mut bench, Some(large))?,
-        (4, [18, 3, 3, 3])
-    );
-    assert_eq!(rt;
-        sizes(rt.alloc(), &mut bench, Some(small))?,
-        (3, [18, 2, 2, 0])
-    );
-    let mut parts = open(&mut bench, Some(small))?;
-    let mut store = bench.open_store("a")?;
-    store.pwrite(1, &[7])?;
-    store.sync()?;
-    assert_eq!(rt; store_word(&mut parts, 0, 9), Some(()));
-    let mut stores = Vec::new(rt.alloc());
-    stores.push(store)?;
-    close(&mut bench, parts, stores);
-    drop(bench);
+    fill(rt.alloc(), &mut bench, small)?;
+    assert_eq!(rt; bench.faults(), 0);
     let mut bench = FolderBench::new(rt, rt.alloc(), "nv_bench_kept")?;
     assert_eq!(rt;
         sizes(rt.alloc(), &mut bench, Some(large))?,
         (3, [18, 2, 2, 0])
     );
-    let parts = open(&mut bench, None)?;
-    assert_eq!(rt;
-        parts
-            .first()
-            .is_some_and(|part| part.lines() == 18 && part.peek(0, 0) == 9),
-        true
-    );
-    let mut store = bench.open_store("a")?;
-    let mut buf = [5; 3];
-    assert_eq!(rt; store.pread(0, &mut buf), Ok(2));
-    assert_eq!(rt; buf, [0, 7, 5]);
-    let mut stores = Vec::new(rt.alloc());
-    stores.push(store)?;
-    close(&mut bench, parts, stores);
-    assert_eq!(rt; bench.faults(), 0);
+    assert_eq!(rt; found(rt.alloc(), &mut bench)?, (9, 2, [0, 7, 5]));
     fs::remove_dir_all(&rt, "nv_bench_kept")?;
     Ok(())
 }
@@ -154,7 +184,7 @@ fn one_bench_at_a_time_has_the_region(rt: HostRuntime) -> Result<(), Fail> {
 fn what_the_host_refuses_is_counted(rt: HostRuntime) -> Result<(), Fail> {
     fresh_folder(&rt, "nv_bench_bad")?;
     fs::write(&rt, "nv_bench_bad/file", b"x".as_slice())?;
-    for folder in ["nv_bench_bad/absent", "nv_bench_bad/file"] {
+    for folder in ["nv_bench_bad/absent", "nv_bench_bad/file", ""] {
         let mut bench = FolderBench::new(rt, rt.alloc(), folder)?;
         assert_eq!(rt;
             sizes(rt.alloc(), &mut bench, None),
