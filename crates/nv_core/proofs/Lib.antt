@@ -62,5 +62,6 @@ pub mod CrashGroups
 pub mod CrashOrder
 pub mod CrashLaws
 pub mod CrashRegions
+pub mod AtRestLaws
 pub mod CrashRuns
 pub mod CrashWalked

@@ -47,5 +47,6 @@ pub mod Unready
 pub mod LivePieces
 pub mod LogContent
 pub mod Crash
+pub mod AtRest
 pub mod WalkOpens
 pub mod CrashWalks

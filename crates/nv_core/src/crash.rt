@@ -1,3 +1,4 @@
+ghost use Rattle.nv_core.specs.AtRest.{RegionsAtRestOpen};
 ghost use Rattle.nv_core.specs.Crash.{EventsKeepRegion, OpeningHasRegion, RunsSurviveCrashes, StatesSurviveCrashes};
 ghost use Rattle.nv_core.specs.CrashWalks.{OpenWriteHasTwoFates, PlacedWriteStays, ReadyWriteStays};
 
@@ -23,6 +24,13 @@ pub fn crashes_leave_whole_writes()
     write_is_its_pieces();
     history_goes_on();
     groups_follow_steps();
+}
+
+/// What the crash law asks of a mount's region is met by every region at rest, as recovery and formatting leave it.
+pub fn regions_at_rest_open()
+    ensures { RegionsAtRestOpen }
+{
+    images_follow_calls();
 }
 
 /// Three power failures by hand, on the walks' mount: once its first write is placed, each image has the write; so it has once
