@@ -57,7 +57,7 @@ added sizes log placed core image =
 -- ---- what such an image stands for
 
 -- It fits. It recovers to the files after the history and then those writes. A write in flight is kept where it is one of these, and nowhere
--- else. Recovery goes on with no number that was never drawn.
+-- else. The first number is no lower than TAIL, and the next one no higher than HEAD.
 pub record Survives (sizes : Sizes) (opened : Files) (log : Log) (placed : ℕ → Bool) (core : Core) (image : Image) (bytes : Files) : Type 0 where
   pub fits : Fits version_1 image
   pub files : (recovered image bytes).files ≡ after_calls (calls_of core.history ++ added sizes log placed core image) opened
