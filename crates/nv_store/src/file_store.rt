@@ -1,5 +1,4 @@
-ghost use Rattle.std.specs.Prelude.{◌≡◌, ℕ, IfOk};
-ghost use Rattle.nv_plain.specs.Faults.{HasCause};
+ghost use Rattle.std.specs.Prelude.{◌≡◌, IfOk};
 ghost use Rattle.nv_store.specs.FileStore.{store_device, store_history, store_faults, store_told_whole};
 
 use crate::{Backing, StoreError, StoreFault};
