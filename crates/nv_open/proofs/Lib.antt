@@ -13,3 +13,5 @@ pub mod WithWanted
 pub mod Sized
 pub mod AsHeld
 pub mod TestBenches
+pub mod Opens
+pub mod Tells

@@ -2,6 +2,7 @@ ghost use Rattle.std.specs.Prelude.{◌≡◌, ◌+◌, ◌++◌, length, map, s
 ghost use Rattle.nv_plain.specs.Layouts.{version_1};
 ghost use Rattle.nv_header.specs.FileNames.{AreFileNames};
 ghost use Rattle.nv_header.specs.Changes.{parts_after_format};
+ghost use Rattle.nv_recover.specs.Telling.{AllTell};
 ghost use Rattle.nv_open.specs.Adding.{new_names};
 ghost use Rattle.nv_open.specs.Causes.{RegionHasCause};
 ghost use Rattle.nv_open.specs.declared.error.OpenError.TheVariants as error;
@@ -36,6 +37,7 @@ pub(crate) fn add_names<L: Lines + Drop>(
     ensures names { IfOk result (λ added. added.names ≡ region.names ++ names.now) }
     ensures geometry { IfOk result (λ added. added.geometry ≡ region.geometry) }
     ensures next { IfOk result (λ added. added.next ≡ region.next) }
+    ensures tell { AllTell (map L.history region.parts.items) → IfOk result (λ added. AllTell (map L.history added.parts.items)) }
     ensures never { (why : _) → IfErr result (λ failed. ¬ (failed.1 ≡ error.Refused why)) }
     ensures cause { RegionHasCause (sum_by L.fault_count region.parts.items) (sum_by L.fault_count (parts_after_format result)) result }
 {

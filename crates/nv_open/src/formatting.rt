@@ -7,6 +7,7 @@ ghost use Rattle.nv_header.specs.Changes.{parts_after_format};
 ghost use Rattle.nv_header.specs.Laws.{HasSpare};
 ghost use Rattle.nv_header.specs.Needs.{HasLines};
 ghost use Rattle.nv_header.specs.Regions.{IsBlankRow};
+ghost use Rattle.nv_recover.specs.Telling.{AllTell};
 ghost use Rattle.nv_open.specs.Begun.{IsFormatted};
 ghost use Rattle.nv_open.specs.Causes.{RegionHasCause};
 ghost use Rattle.nv_open.specs.Refusals.{rooms_of, IsBadHeader};
@@ -26,6 +27,7 @@ pub(crate) fn format_parts<L: Lines + Drop>(
     requires blank { RowTells (map L.history parts.items) IsBlankRow }
     requires spare { All HasSpare (map L.room parts.items) }
     ensures formatted { IfOk result (λ region. IsFormatted geometry region.geometry.page region.geometry.entries region.names region.next) }
+    ensures tell { AllTell (map L.history parts.items) → IfOk result (λ region. AllTell (map L.history region.parts.items)) }
     ensures short { (why : _) → IfErr result (λ failed. failed.1 ≡ error.Refused why
         → RowTells (map L.history parts.items) (λ told. ¬ HasLines version_1 geometry.page geometry.entries (rooms_of told))) }
     ensures header { (why : _) → IfErr result (λ failed. failed.1 ≡ error.Refused why → IsBadHeader why) }

@@ -48,6 +48,8 @@ pub(crate) fn recover_log<L: Lines + Drop, B: Backing>(
     ensures files { (was : List Store) → AreNow (map B.history stores.old.items) was → AllTell (map L.history parts.items)
         → IfOk result (λ done. RowTells (map L.history parts.items) (λ told.
         HoldFiles (map B.history stores.new.items) (region_files (row_words told) (files_of was)))) }
+    ensures tell { AllTell (map L.history parts.items) → AllTell (map B.history stores.old.items)
+        → IfOk result (λ done. AllTell (map L.history done.0.parts.items)) }
     ensures refused { (why : _) → answer_of result ≡ Err (error.Refused why)
         → RowTells (map L.history parts.items) (λ told. IsRefusedFor told why × IsBadLog why) }
     ensures unwritten { (why : _) → answer_of result ≡ Err (error.Refused why)

@@ -41,6 +41,7 @@ pub fn recover_region<T: Bench>(
         done.0.region.geometry.page done.0.region.geometry.entries done.0.region.names done.0.region.next done.1)) }
     ensures files { IfOk result (λ done. IfSome (T.state bench.old).told (λ holding. HoldFiles (map T.Store.history done.0.stores.items)
         (files_named holding.parts done.0.region.names holding.stores))) }
+    ensures tell { IfOk result (λ done. IfSome (T.state bench.old).told (λ holding. AllTell (map T.Part.history done.0.region.parts.items))) }
     ensures counts { IfOk result (λ done. (T.state bench.old).faults ≡ saturated ((T.state bench.new).faults
         + sum_by T.Part.fault_count done.0.region.parts.items + sum_by T.Store.fault_count done.0.stores.items)) }
 
@@ -95,6 +96,7 @@ pub(crate) fn recover_parts<T: Bench>(
         done.0.geometry.page done.0.geometry.entries done.0.names done.0.next done.1)) }
     ensures files { IfOk result (λ done. IfSome (T.state bench.old).told (λ holding. RowTells (map T.Part.history parts.items) (λ told.
         HoldFiles (map T.Store.history stores.new.items) (files_named told done.0.names holding.stores)))) }
+    ensures told { IfOk result (λ done. IfSome (T.state bench.old).told (λ holding. AllTell (map T.Part.history done.0.parts.items))) }
 
     // Where the region is refused.
     ensures refused { (why : _) → answer_of result ≡ Err (error.Refused why)

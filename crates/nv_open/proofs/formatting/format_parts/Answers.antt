@@ -4,6 +4,7 @@ use Rattle.nv_pmem.specs.RowStates.{row_tells_from}
 use Rattle.nv_header.specs.Needs.{HasLines}
 use Rattle.nv_open.specs.Refusals.{rooms_of}
 use Rattle.nv_open.proofs.LineCounts.{told_counts, has_lines_same}
+use Rattle.nv_open.proofs.Tells.{did_tells}
 use Rattle.nv_open.proofs.formatting.format_parts.Goals as goal
 
 pub returns-in-Err-clause-short : goal.returns-in-Err-clause-short
@@ -20,3 +21,6 @@ pub format-requires-clause-parts : goal.format-requires-clause-parts
 format-requires-clause-parts g c =
     c.needed_lines_make_parts.ensures version_1 c.args.geometry.page c.args.geometry.entries (map g.L.Lines.room c.args.parts.items)
     (subst (λ these. HasLines version_1 c.args.geometry.page c.args.geometry.entries (map g.L.Lines.room these)) c.deref.ensures.value (c.in_default.ensures.exact.0 refl)) c.requires.spare
+
+pub returns-in-Ok-clause-tell : goal.returns-in-Ok-clause-tell
+returns-in-Ok-clause-tell g c tell = did_tells _ (map g.L.Lines.history c.args.parts.items) (map g.L.Lines.history c.in-Ok.region.parts.items) c.in-Ok.ensures.done tell

@@ -15,6 +15,9 @@ use Rattle.nv_open.proofs.HeadLaws.{error_is}
 use Rattle.nv_open.proofs.LineCounts.{kept_spare}
 use Rattle.nv_open.proofs.Openings.{opened_none, some_nil}
 use Rattle.nv_open.proofs.Returns.{written_back, lent_quiet, opened_alone, files_passed, opened_by_header, opened_by_log, refused_alone, unwritten_by}
+use Rattle.nv_bench.specs.Holding.{Holding}
+use Rattle.nv_recover.specs.Telling.{AllTell}
+use Rattle.nv_open.proofs.Tells.{telling_with}
 use Rattle.nv_open.proofs.recovering.recover_parts.Goals as goal
 
 pub returns-in-Err-clause-refused : goal.returns-in-Err-clause-refused
@@ -101,3 +104,19 @@ returns-clause-unwritten g c why is =
     (subst (λ these. IfSome told (λ holding. AreNow (map store_history these) (stores_named head.names holding.stores)))
     (opened_alone c.args.stores.now.items c.open_stores.new.stores.items opened.stores c.requires.none opened.behind) opened.told)
     (subst (λ these. RowTells these (λ parts. map store_history c.recover_log.new.stores.items ≡ map store_history c.open_stores.new.stores.items)) same (c.recover_log.ensures.stores_kept why is))
+
+pub returns-clause-told : goal.returns-clause-told
+returns-clause-told g c =
+    let history = g.T.Part.Lines.history in
+    let store_history = g.T.Store.Backing.history in
+    let new = c.read_header.new.parts in
+    let told = (g.T.Bench.state c.args.bench.now).told in
+    let names = c.in-Ok.head.names in
+    let opened = c.in_default.ensures.opened in
+    let same = ap (map history) (written_back c.args.parts.len new c.args.parts.items (omega (arith, c.read_header.auto.parts, c.deref_mut.ensures.len)))
+    ∙ c.in-Ok.ensures.read.histories ∙ ap (map history) c.deref_mut.ensures.value in
+    telling_with (λ done. map history done.0.parts.items) c.recover_log.result told (map history c.args.parts.items) (map store_history c.open_stores.new.stores.items)
+    (λ (holding : Holding). stores_named names holding.stores) c.requires.tell
+    (subst (λ these. IfSome told (λ holding. AreNow (map store_history these) (stores_named names holding.stores)))
+    (opened_alone c.args.stores.now.items c.open_stores.new.stores.items opened.stores c.requires.none opened.behind) opened.told)
+    (λ parts_tell stores_tell. c.recover_log.ensures.tell (subst AllTell (sym same) parts_tell) stores_tell)
