@@ -13,5 +13,4 @@ pub mod WithWanted
 pub mod Sized
 pub mod AsHeld
 pub mod TestBenches
-pub mod Opens
 pub mod Tells

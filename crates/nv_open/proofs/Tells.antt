@@ -1,19 +1,21 @@
 -- Parts that tell go on telling.
-use Rattle.std.proofs.Common.{◌<◌, List, [], ◌∷◌, length, slice_index_or, sym, subst, inl, inr, arith}
+use Rattle.std.proofs.Common.{◌≡◌, All, ℕ, ◌<◌, List, [], ◌∷◌, length, map, slice_index_or, refl, sym, subst, inl, inr, arith}
 use Rattle.std.specs.Prelude.{Option, Some, None, IfSome, Result, Ok, Err, IfOk}
 use Rattle.std.proofs.lemmas.Bool.{cases_lt}
 use Rattle.std.proofs.lemmas.List.{set_past}
-use Rattle.std.proofs.lemmas.List.Elements.{All-set}
-use Rattle.nv_pmem.specs.RowStates.{AreNow}
+use Rattle.std.proofs.lemmas.List.Elements.{All-cons, All-head, All-nil, All-set, All-tail, All-weaker}
+use Rattle.nv_pmem.specs.Moments.{Tells}
+use Rattle.nv_pmem.specs.RowStates.{AreNow, tells_from}
 use Rattle.nv_pmem.specs.Rows.{DidRow, RowStep, row_grown}
 use Rattle.nv_pmem.specs.Runs.{grown, run}
 use Rattle.nv_pmem.specs.Steps.{after_step}
 use Rattle.nv_pmem.specs.Steps as lines
 use Rattle.nv_store.specs.Steps.{History}
-use Rattle.nv_store.specs.Store.{Store}
-use Rattle.nv_bench.specs.Holding.{Holding}
+use Rattle.nv_store.specs.Store.{IsQuiet, Store}
+use Rattle.nv_bench.specs.Holding.{Holding, NamedStore}
+use Rattle.nv_open.specs.Lending.{stores_named}
 use Rattle.nv_recover.specs.Telling.{AllTell}
-use Rattle.nv_open.proofs.Returns.{states_tell}
+use Rattle.nv_open.proofs.Returns.{named_quiet, states_tell}
 
 -- ---- by the steps of a row
 
@@ -46,3 +48,21 @@ pub telling_with : {T E : Type 0} (row : T → List lines.History) (result : Res
 telling_with row (Ok done) None parts stores held tell are step = tt
 telling_with row (Ok done) (Some holding) parts stores held tell are step = step tell (states_tell stores (held holding) are)
 telling_with row (Err error) told parts stores held tell are step = tt
+
+-- ---- stores that are opened are quiet, where they tell
+
+now_quiet : {Y : Type 0} (history : Y → History) (stores : List Y) (states : List Store) → AreNow (map history stores) states → All IsQuiet states → All (λ store. Tells (history store) IsQuiet) stores
+now_quiet history [] states are quiet = All-nil (λ store. Tells (history store) IsQuiet)
+now_quiet history (store ∷ stores) [] are quiet = absurd are
+now_quiet history (store ∷ stores) (now ∷ states) are quiet =
+    All-cons (λ store. Tells (history store) IsQuiet) store stores (tells_from (history store) IsQuiet now are.0 (All-head IsQuiet now states quiet))
+    (now_quiet history stores states are.1 (All-tail IsQuiet now states quiet))
+
+pub opened_quiet : {Y : Type 0} (history : Y → History) (told : Option Holding) (names : List (List ℕ)) (stores : List Y) → IfSome told (λ holding. All (λ (named : NamedStore). IsQuiet named.store) holding.stores)
+    → IfSome told (λ holding. AreNow (map history stores) (stores_named names holding.stores)) → (told ≡ None → All (λ store. history store ≡ []) stores)
+    → All (λ store. Tells (history store) IsQuiet) stores
+opened_quiet history None names stores quiet are untold =
+    All-weaker (λ store. history store ≡ []) (λ store. Tells (history store) IsQuiet)
+    (λ store none. subst (λ (states : History). Tells states IsQuiet) (sym none) tt) stores (untold refl)
+opened_quiet history (Some holding) names stores quiet are untold =
+    now_quiet history stores (stores_named names holding.stores) are (named_quiet names holding.stores quiet)

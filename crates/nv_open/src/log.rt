@@ -4,7 +4,7 @@ ghost use Rattle.nv_plain.specs.Recovered.{region_files};
 ghost use Rattle.nv_pmem.specs.Moments.{Tells};
 ghost use Rattle.nv_pmem.specs.RowStates.{AreNow};
 ghost use Rattle.nv_pmem.specs.Rows.{RowTells, AreQuiet, row_words};
-ghost use Rattle.nv_store.specs.Store.{Store};
+ghost use Rattle.nv_store.specs.Store.{IsQuiet, Store};
 ghost use Rattle.nv_header.specs.Heads.{IsHeadOf, IsWithinLimits, header_image};
 ghost use Rattle.nv_header.specs.Laws.{HasSpare};
 ghost use Rattle.nv_header.specs.Needs.{header_history, header_lines_in, HasLines};
@@ -48,6 +48,7 @@ pub(crate) fn recover_log<L: Lines + Drop, B: Backing>(
     ensures files { (was : List Store) → AreNow (map B.history stores.old.items) was → AllTell (map L.history parts.items)
         → IfOk result (λ done. RowTells (map L.history parts.items) (λ told.
         HoldFiles (map B.history stores.new.items) (region_files (row_words told) (files_of was)))) }
+    ensures quiet { IfOk result (λ done. All (λ store. Tells (B.history store) IsQuiet) stores.new.items) }
     ensures tell { AllTell (map L.history parts.items) → AllTell (map B.history stores.old.items)
         → IfOk result (λ done. AllTell (map L.history done.0.parts.items)) }
     ensures refused { (why : _) → answer_of result ≡ Err (error.Refused why)

@@ -1,6 +1,7 @@
 ghost use Rattle.std.specs.Prelude.{◌≡◌, ◌+◌, ◌<◌, ◌++◌, [], false, true, length, map, sum_by, All, None, Err, IfOk, IfErr, IfSome};
 ghost use Rattle.nv_plain.specs.Faults.{saturated};
 ghost use Rattle.nv_plain.specs.Layouts.{version_1};
+ghost use Rattle.nv_pmem.specs.Moments.{Tells};
 ghost use Rattle.nv_pmem.specs.Rows.{RowTells, AreQuiet};
 ghost use Rattle.nv_bench.specs.Benches.{with_faults};
 ghost use Rattle.nv_bench.specs.Holding.{IsQuietHolding};
@@ -52,6 +53,7 @@ pub fn open<T: Bench>(
     ensures opened { IfOk result (λ opened. IfSome (T.state bench.old).told (λ holding. IsOpened holding geometry wanted.now
         opened.region.geometry.page opened.region.geometry.entries opened.region.names opened.region.next (map T.Store.history opened.stores.items))) }
     ensures have_wanted { IfOk result (λ opened. HaveWanted wanted.now opened.region.names) }
+    ensures quiet { IfOk result (λ opened. All (λ store. Tells (T.Store.history store) IsQuiet) opened.stores.items) }
     ensures tell { IfOk result (λ opened. IfSome (T.state bench.old).told (λ holding. AllTell (map T.Part.history opened.region.parts.items))) }
     ensures counts { IfOk result (λ opened. (T.state bench.old).faults ≡ saturated ((T.state bench.new).faults
         + sum_by T.Part.fault_count opened.region.parts.items + sum_by T.Store.fault_count opened.stores.items)) }
@@ -106,6 +108,7 @@ fn open_parts<T: Bench>(
     ensures have_wanted { IfOk result (λ region. HaveWanted wanted.now region.names) }
     ensures opened { IfOk result (λ region. IfSome (T.state bench.old).told (λ holding. RowTells (map T.Part.history parts.items) (λ told.
         IsOpened (record { parts = told; stores = holding.stores }) geometry wanted.now region.geometry.page region.geometry.entries region.names region.next (map T.Store.history stores.new.items)))) }
+    ensures quiet { IfOk result (λ region. All (λ store. Tells (T.Store.history store) IsQuiet) stores.new.items) }
     ensures told { IfOk result (λ region. IfSome (T.state bench.old).told (λ holding. AllTell (map T.Part.history region.parts.items))) }
     ensures refused { (why : _) → IfErr result (λ failed. failed.1 ≡ error.Refused why
         → IfSome (T.state bench.old).told (λ holding. RowTells (map T.Part.history parts.items) (λ told. IsNotOpened told geometry wanted.now why))) }
@@ -146,6 +149,7 @@ fn begin<T: Bench>(
         IsBegun told geometry region.geometry.page region.geometry.entries region.names region.next)) }
     ensures files { IfOk result (λ region. IfSome (T.state bench.old).told (λ holding. RowTells (map T.Part.history parts.items) (λ told.
         HoldFiles (map T.Store.history stores.new.items) (files_named told region.names holding.stores)))) }
+    ensures quiet { IfOk result (λ region. All (λ store. Tells (T.Store.history store) IsQuiet) stores.new.items) }
     ensures told { IfOk result (λ region. IfSome (T.state bench.old).told (λ holding. AllTell (map T.Part.history region.parts.items))) }
     ensures refused { (why : _) → IfErr result (λ failed. failed.1 ≡ error.Refused why
         → IfSome (T.state bench.old).told (λ holding. RowTells (map T.Part.history parts.items) (λ told. (is_blank told ≡ false) × IsRefusedFor told why))) }
@@ -189,6 +193,8 @@ fn add_wanted<T: Bench>(
         (files_behind files (new_names region.names wanted.now) holding.stores))) }
     ensures geometry { IfOk result (λ added. added.geometry ≡ region.geometry) }
     ensures next { IfOk result (λ added. added.next ≡ region.next) }
+    ensures quiet { All (λ store. Tells (T.Store.history store) IsQuiet) stores.old.items
+        → IfOk result (λ added. All (λ store. Tells (T.Store.history store) IsQuiet) stores.new.items) }
     ensures tell { AllTell (map T.Part.history region.parts.items) → IfOk result (λ added. AllTell (map T.Part.history added.parts.items)) }
     ensures refused { (why : _) → IfErr result (λ failed. failed.1 ≡ error.Refused why
         → (why ≡ refusal.TooManyFiles) × (version_1.file_limit < length (all_names region.names wanted.now))) }

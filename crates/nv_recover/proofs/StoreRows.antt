@@ -1,6 +1,8 @@
 -- Rows of stores: what a call on one of them is of the row.
 use Rattle.std.proofs.Common.{◌≡◌, ◌⊎◌, inl, inr, ℕ, ◌+◌, ◌<◌, ◌≤◌, List, [], ◌∷◌, ◌++◌, All, length, take, drop, get_or, map, set, slice_set, slice_index_or, Result, Ok, Err, OnOk, OnErr, zero, suc, refl, sym, ap, ◌∙◌, subst, arith}
-use Rattle.std.proofs.lemmas.List.{length-map, get_or-map, map-set, set-get_or}
+use Rattle.std.proofs.lemmas.Bool.{cases_lt}
+use Rattle.std.proofs.lemmas.List.{length-map, get_or-map, get_or-set_other, get_or-set_same, map-set, set-get_or}
+use Rattle.nv_pmem.specs.Moments.{Tells}
 use Rattle.std.proofs.lemmas.List.Elements.{All-set}
 use Rattle.nv_pmem.specs.Rows.{RowTells, row_words}
 use Rattle.nv_pmem.specs.Runs.{run, grown}
@@ -10,7 +12,7 @@ use Rattle.nv_plain.specs.Images.{Image}
 use Rattle.nv_pmem.proofs.RowLaws.{row_tells_more}
 use Rattle.nv_store.specs.Images.{IsImage}
 use Rattle.nv_store.specs.Steps.{History, Step, Write, Sync, Did, after_step}
-use Rattle.nv_store.specs.Store.{Store, IsWhole}
+use Rattle.nv_store.specs.Store.{Store, IsQuiet, IsWhole}
 use Rattle.nv_store.specs.Torn.{IsTorn, LeftOrTore}
 use Rattle.nv_store.proofs.ImageLaws.{image_of_quiet, seen_is_image}
 use Rattle.nv_store.proofs.StoreLaws.{write_is_torn, quiet_is_quiet}
@@ -310,3 +312,22 @@ row_synced_more history old stores i d new inside long tells did synced =
     ∙ ap (set mid.states i) (step ∙ ap (after_step Sync) (sym (one.old_is one.old)))
     ∙ ap (λ these. set these i (after_step Sync (get_or these i one.old))) so_far
     ∙ synced_more i was one.old (omega (arith, presents_long old was are)))))
+
+-- a sync leaves a store quiet, where it tells
+pub synced_is_quiet : (old new : History) → Did (Sync ∷ []) old new → Tells new IsQuiet
+unfolding run
+synced_is_quiet [] new did = subst (λ (history : History). Tells history IsQuiet) (sym did.states) tt
+synced_is_quiet (now ∷ past) new did = subst (λ (history : History). Tells history IsQuiet) (sym did.states) (quiet_is_quiet now.seen)
+
+-- and so one more of a row
+pub quiet_on : {X : Type 0} (history : X → History) (stores : List X) (i k : ℕ) (new d : X) → i < length stores → k < i + 1
+    → ((k : ℕ) (d : X) → k < i → Tells (history (get_or stores k d)) IsQuiet) → Tells (history new) IsQuiet → Tells (history (get_or (slice_set stores i new) k d)) IsQuiet
+quiet_on {X} history stores i k new d inside below before here =
+    let Quiet : X → Type 0 = λ store. Tells (history store) IsQuiet in
+    elim (cases_lt k i) [
+      | inl earlier ↦ subst Quiet (sym (get_or-set_other stores i k new d (omega arith))) (before k d earlier)
+      | inr last ↦
+          let same : k ≡ i = omega (arith, below, last) in
+          let Of : ℕ → Type 0 = λ k. Quiet (get_or (slice_set stores i new) k d) in
+          subst Of (sym same) (subst Quiet (sym (get_or-set_same stores i new d inside)) here)
+    ]

@@ -10,6 +10,7 @@ ghost use Rattle.nv_pmem.specs.Rows.{RowTells, AreOnlyRead, row_words};
 ghost use Rattle.nv_pmem.specs.Part.{word_of};
 ghost use Rattle.nv_store.specs.Causes.{HasWriteCause};
 ghost use Rattle.nv_store.specs.Steps.{Sync, after_step};
+ghost use Rattle.nv_store.specs.Store.{IsQuiet};
 ghost use Rattle.nv_entry.specs.Checks.{SaysBounds};
 ghost use Rattle.nv_entry.specs.Reading.{head_of, IsFilled};
 ghost use Rattle.nv_recover.specs.Applying.{AcrossTells, AcrossThroughout, ChangesAtMostOne, IsGroupOf, IsNumberOf, HasPiece, StaysAlike, OneWritten, LeftOrOneTorn};
@@ -203,6 +204,7 @@ pub(crate) fn sync_all<B: Backing>(stores: &mut [B]) -> Result<(), StoreFault>
     ensures moments { RowTells (map B.history stores.old) (λ was. ThroughoutRow (LeaveNoMore was) (map B.history stores.old) (map B.history stores.new)) }
     ensures synced { OnOk result (RowTells (map B.history stores.old) (λ was. RowTells (map B.history stores.new) (λ now.
         now ≡ map (after_step Sync) was))) }
+    ensures quiet { OnOk result (All (λ store. Tells (B.history store) IsQuiet) stores.new) }
     ensures seen { RowTells (map B.history stores.old) (λ was. RowTells (map B.history stores.new) (λ now. files_of now ≡ files_of was)) }
     ensures tells { AllTell (map B.history stores.old) → AllTell (map B.history stores.new) }
     ensures cause { HasCause (sum_by B.fault_count stores.old) (sum_by B.fault_count stores.new) result }

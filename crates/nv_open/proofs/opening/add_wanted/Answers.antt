@@ -1,4 +1,4 @@
-use Rattle.std.proofs.Common.{◌≡◌, ◌<◌, ◌++◌, ◌≤◌, ℕ, List, length, map, sym, ap, ◌∙◌, subst, arith, length-append}
+use Rattle.std.proofs.Common.{◌≡◌, All, ◌<◌, ◌++◌, ◌≤◌, ℕ, List, length, map, sym, ap, ◌∙◌, subst, arith, length-append}
 use Rattle.std.specs.Prelude.{IfSome}
 use Rattle.nv_plain.specs.Layouts.{version_1}
 use Rattle.nv_bench.specs.Benches.{with_faults}
@@ -11,6 +11,10 @@ use Rattle.nv_open.specs.declared.error.OpenError.TheVariants as error
 use Rattle.nv_open.specs.declared.error.Refusal.TheVariants.{TooManyFiles}
 use Rattle.nv_open.proofs.Additions.{if_ok_any, if_err_never, held_more}
 use Rattle.nv_open.proofs.NewNames.{all_are_names}
+use Rattle.std.proofs.lemmas.List.Elements.{All-append}
+use Rattle.nv_pmem.specs.Moments.{Tells}
+use Rattle.nv_store.specs.Store.{IsQuiet}
+use Rattle.nv_open.proofs.Tells.{opened_quiet}
 use Rattle.nv_open.proofs.opening.add_wanted.Goals as goal
 
 pub open_stores-requires-clause-names : goal.open_stores-requires-clause-names
@@ -55,3 +59,13 @@ pub returns-clause-refused : goal.returns-clause-refused
 returns-clause-refused g c why =
     if_err_never (λ failed. failed.1 ≡ error.Refused why) (λ failed. (why ≡ TooManyFiles) × (16 < length (all_names c.args.region.names c.args.wanted.now))) c.add_names.result
     (c.add_names.ensures.never why)
+
+pub returns-clause-quiet : goal.returns-clause-quiet
+returns-clause-quiet g c = λ quiet.
+    let history = g.T.Store.Backing.history in
+    let opened = c.in_default-open_stores.ensures.opened in
+    let Quiet : List _ → Type 0 = λ stores. All (λ store. Tells (history store) IsQuiet) stores in
+    if_ok_any c.add_names.result
+    (λ added. subst Quiet (sym opened.behind)
+    (All-append (λ store. Tells (history store) IsQuiet) c.args.stores.now.items opened.stores quiet
+    (opened_quiet history (g.T.Bench.state c.args.bench.now).told c.in-Ok.missing opened.stores c.requires.synced opened.told opened.untold)))

@@ -8,7 +8,7 @@ use Rattle.nv_recover.specs.Changes.{ThroughoutRow}
 use Rattle.nv_recover.specs.Standing.{LeaveNoMore}
 use Rattle.nv_recover.specs.Telling.{AllTell}
 use Rattle.nv_recover.proofs.RowMoments.{rows_still, rows_one_more}
-use Rattle.nv_recover.proofs.StoreRows.{RowSynced, row_unsynced, row_synced_more, row_synced_images, row_synced_seen, row_synced_all, row_goes_on, row_did_one, did_tells}
+use Rattle.nv_recover.proofs.StoreRows.{RowSynced, row_unsynced, row_synced_more, row_synced_images, row_synced_seen, row_synced_all, row_goes_on, row_did_one, did_tells, quiet_on, synced_is_quiet}
 use Rattle.nv_recover.proofs.apply.sync_all.Goals as goal
 
 pub loop-store-init : goal.loop-store-init
@@ -17,6 +17,7 @@ loop-store-init g c =
     record {
       moments = rows_still row LeaveNoMore (row_synced_images g.B.Backing.history g.met.B.Backing.told_whole c.args.stores.now row 0 (row_unsynced row));
       synced = row_unsynced row;
+      quiet = λ k d below. absurd (omega arith);
       tells = λ tell. tell;
       faults = refl;
       devices = refl;
@@ -65,6 +66,7 @@ loop-store-preserved g c =
           (row_did_one g.B.Backing.history stores i c.store-item.result c.sync.new.self inside Sync c.in_ok-sync.ensures.done)
           (row_synced_images g.B.Backing.history g.met.B.Backing.told_whole c.args.stores.now new (i + 1) synced);
       synced = synced;
+      quiet = λ k d below. quiet_on g.B.Backing.history stores i k c.sync.new.self d inside below c.loop-store.invariant.quiet (synced_is_quiet (g.B.Backing.history (get_or stores i c.store-item.result)) (g.B.Backing.history c.sync.new.self) c.in_ok-sync.ensures.done);
       tells = λ tell.
           row_goes_on g.B.Backing.history stores i c.store-item.result c.sync.new.self inside
           (did_tells Sync (g.B.Backing.history (get_or stores i c.store-item.result)) (g.B.Backing.history c.sync.new.self) c.in_ok-sync.ensures.done)
