@@ -27,11 +27,6 @@ new_names known wanted = filter (λ name. not (is_known known name)) wanted
 abbrev pub all_names : (known wanted : List (List ℕ)) → List (List ℕ)
 all_names known wanted = known ++ new_names known wanted
 
--- Names hold those that are wanted: they are some names, and behind them the new ones.
-pub record HaveWanted (wanted names : List (List ℕ)) : Type 0 where
-  pub known : List (List ℕ)
-  pub names_are : names ≡ all_names known wanted
-
 -- the error of an addition
 abbrev pub of_adding : AddError → OpenError
 of_adding adding.TooManyFiles = error.Refused TooManyFiles

@@ -1,4 +1,4 @@
-ghost use Rattle.std.specs.Prelude.{◌≡◌, ◌+◌, ◌<◌, ◌++◌, [], false, true, length, map, sum_by, All, None, Err, IfOk, IfErr, IfSome};
+ghost use Rattle.std.specs.Prelude.{◌≡◌, ℕ, List, ◌+◌, ◌<◌, ◌++◌, [], false, true, length, map, sum_by, All, None, Err, IfOk, IfErr, IfSome};
 ghost use Rattle.nv_plain.specs.Faults.{saturated};
 ghost use Rattle.nv_plain.specs.Layouts.{version_1};
 ghost use Rattle.nv_pmem.specs.Moments.{Tells};
@@ -11,7 +11,7 @@ ghost use Rattle.nv_header.specs.Changes.{parts_after_format};
 ghost use Rattle.nv_header.specs.Laws.{HasSpare};
 ghost use Rattle.nv_header.specs.Needs.{HasLines};
 ghost use Rattle.nv_recover.specs.Telling.{AllTell};
-ghost use Rattle.nv_open.specs.Adding.{AreWanted, HaveWanted, new_names, all_names};
+ghost use Rattle.nv_open.specs.Adding.{AreWanted, new_names, all_names};
 ghost use Rattle.nv_open.specs.Begun.{IsBegun, IsOpened, IsNotOpened, files_behind};
 ghost use Rattle.nv_open.specs.Causes.{ErrorHasCause, RegionHasCause};
 ghost use Rattle.nv_open.specs.Held.{HoldFiles, files_named, AreUnwritten, told_after};
@@ -50,9 +50,9 @@ pub fn open<T: Bench>(
     ensures lent { IfOk result (λ opened. T.state bench.new
         ≡ with_faults (T.state bench.new).faults (all_lent opened.region.names (T.state bench.old))) }
     ensures one_each { IfOk result (λ opened. length opened.stores.items ≡ length opened.region.names) }
+    ensures known { IfOk result (λ opened. (known : List (List ℕ)) × (opened.region.names ≡ all_names known wanted.now)) }
     ensures opened { IfOk result (λ opened. IfSome (T.state bench.old).told (λ holding. IsOpened holding geometry wanted.now
         opened.region.geometry.page opened.region.geometry.entries opened.region.names opened.region.next (map T.Store.history opened.stores.items))) }
-    ensures have_wanted { IfOk result (λ opened. HaveWanted wanted.now opened.region.names) }
     ensures quiet { IfOk result (λ opened. All (λ store. Tells (T.Store.history store) IsQuiet) opened.stores.items) }
     ensures tell { IfOk result (λ opened. IfSome (T.state bench.old).told (λ holding. AllTell (map T.Part.history opened.region.parts.items))) }
     ensures counts { IfOk result (λ opened. (T.state bench.old).faults ≡ saturated ((T.state bench.new).faults
@@ -105,7 +105,7 @@ fn open_parts<T: Bench>(
     ensures names { IfOk result (λ region. T.state bench.new
         ≡ with_faults (T.state bench.new).faults (stores_lent region.names (T.state bench.old))) }
     ensures one_each { IfOk result (λ region. length stores.new.items ≡ length region.names) }
-    ensures have_wanted { IfOk result (λ region. HaveWanted wanted.now region.names) }
+    ensures known { IfOk result (λ region. (known : List (List ℕ)) × (region.names ≡ all_names known wanted.now)) }
     ensures opened { IfOk result (λ region. IfSome (T.state bench.old).told (λ holding. RowTells (map T.Part.history parts.items) (λ told.
         IsOpened (record { parts = told; stores = holding.stores }) geometry wanted.now region.geometry.page region.geometry.entries region.names region.next (map T.Store.history stores.new.items)))) }
     ensures quiet { IfOk result (λ region. All (λ store. Tells (T.Store.history store) IsQuiet) stores.new.items) }

@@ -1,9 +1,9 @@
-use Rattle.std.proofs.Common.{◌≡◌, ◌<◌, List, length, map, ap}
+use Rattle.std.proofs.Common.{◌≡◌, ◌<◌, ℕ, List, length, map, ap}
 use Rattle.std.specs.Prelude.{IfSome}
 use Rattle.nv_pmem.specs.Rows.{RowTells}
 use Rattle.nv_pmem.specs.Steps as lines
 use Rattle.nv_bench.specs.Benches.{BenchState}
-use Rattle.nv_open.specs.Adding.{HaveWanted, all_names}
+use Rattle.nv_open.specs.Adding.{all_names}
 use Rattle.nv_open.specs.Begun.{IsNotOpened}
 use Rattle.nv_open.specs.Held.{AreUnwritten}
 use Rattle.nv_open.specs.declared.error.OpenError.TheVariants as error
@@ -54,7 +54,9 @@ returns-in-Err-clause-refused g c why is =
 pub returns-in-Err-clause-unwritten : goal.returns-in-Err-clause-unwritten
 returns-in-Err-clause-unwritten g c why is other = c.in-Err.ensures.unwritten why is
 
-pub returns-in-Ok-clause-have_wanted : goal.returns-in-Ok-clause-have_wanted
-returns-in-Ok-clause-have_wanted g c =
-    if_ok_map (λ added. added.names ≡ all_names c.in-Ok.region.names c.args.wanted.now) (λ added. HaveWanted c.args.wanted.now added.names) c.add_wanted.result
-    (λ added is. record { known = c.in-Ok.region.names; names_are = is }) c.add_wanted.ensures.names
+pub returns-in-Ok-clause-known : goal.returns-in-Ok-clause-known
+returns-in-Ok-clause-known g c =
+    let known = c.in-Ok.region.names in
+    let wanted = c.args.wanted.now in
+    if_ok_map (λ added. added.names ≡ all_names known wanted) (λ added. (known : List (List ℕ)) × (added.names ≡ all_names known wanted)) c.add_wanted.result
+    (λ added are. (known, are)) c.add_wanted.ensures.names
