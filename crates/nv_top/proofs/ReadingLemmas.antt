@@ -12,9 +12,9 @@ use Rattle.nv_plain.specs.declared.call.Reply.TheVariants.{Bytes, Count, Done}
 use Rattle.nv_trace.specs.declared.trace.TraceCall.{TraceCall}
 use Rattle.nv_trace.specs.declared.trace.TraceCall.TheVariants.{Pread, Pwrite, Fsync}
 use Rattle.nv_trace.specs.declared.report.Refusal.{Refusal}
-use Rattle.nv_trace.specs.declared.report.Refusal.TheVariants.{TooFar, TooLong, Again}
+use Rattle.nv_trace.specs.declared.report.Refusal.TheVariants.{TooFar, TooLong, Stopped, Spent, Again, RegionFault, StoreFault}
 use Rattle.nv_trace.specs.Lines.{onto_first, parts_between, but_last, fields_of, ended_lines}
-use Rattle.nv_trace.specs.Report.{spaced, line_text, hex_text, call_fields, reply_text, history_text, refused_text, file_text, end_text}
+use Rattle.nv_trace.specs.Report.{spaced, line_text, hex_text, call_fields, reply_text, refusal_text, history_text, refused_text, file_text, end_text}
 use Rattle.nv_top.specs.Reports.{PlacedCall, RefusedCall, NamedFile, Report, history_lines, refused_lines, file_lines, report_text}
 use Rattle.nv_top.specs.Readings.{behind_last, refusal_fields, placed_fields, history_listing, refused_fields, file_fields, end_fields, listing, IsPlainByte, HasPlainNames}
 
@@ -124,17 +124,46 @@ placed_line place thread (Pread fd at len) reply = simp append_assoc
 placed_line place thread (Pwrite fd at bytes) reply = simp append_assoc
 placed_line place thread (Fsync fd) reply = simp append_assoc
 
+-- the words of a refusal, behind another field
+refusal_line : (field : List ℕ) (refusal : Refusal) → spaced (field ∷ refusal_fields refusal) ≡ field ++ 32 ∷ refusal_text refusal
+refusal_line field TooFar = refl
+refusal_line field TooLong = refl
+refusal_line field Stopped = refl
+refusal_line field (Spent found) = refl
+refusal_line field (Again head tail) = refl
+refusal_line field RegionFault = refl
+refusal_line field StoreFault = refl
+
+-- fields with the same text, behind others
+spaced_same : (front : List (List ℕ)) (field : List ℕ) (some other : List (List ℕ)) → spaced (field ∷ some) ≡ spaced (field ∷ other) → spaced (front ++ field ∷ some) ≡ spaced (front ++ field ∷ other)
+spaced_same [] field some other same = same
+spaced_same (first ∷ []) field some other same = ap (λ text. first ++ 32 ∷ text) same
+spaced_same (first ∷ second ∷ rest) field some other same = ap (λ text. first ++ 32 ∷ text) (spaced_same (second ∷ rest) field some other same)
+
+-- a call, and a text behind a colon
+call_line : (word : List ℕ) (thread : ℕ) (call : TraceCall) (text : List ℕ)
+    → line_text (word ∷ decimal thread ∷ (spaced (call_fields call) ++ codes ":") ∷ text ∷ []) ≡ line_text (word ∷ decimal thread ∷ (behind_last (call_fields call) (codes ":") ++ text ∷ []))
+call_line word thread (Pread fd at len) text = simp append_assoc
+call_line word thread (Pwrite fd at bytes) text = simp append_assoc
+call_line word thread (Fsync fd) text = simp append_assoc
+
 refused_line : (thread : ℕ) (call : TraceCall) (refusal : Refusal) → refused_text thread call refusal ≡ line_text (codes "refused" ∷ decimal thread ∷ (behind_last (call_fields call) (codes ":") ++ refusal_fields refusal))
 unfolding refused_text
-refused_line thread (Pread fd at len) TooFar = simp append_assoc
-refused_line thread (Pread fd at len) TooLong = simp append_assoc
-refused_line thread (Pread fd at len) (Again head tail) = simp append_assoc
-refused_line thread (Pwrite fd at bytes) TooFar = simp append_assoc
-refused_line thread (Pwrite fd at bytes) TooLong = simp append_assoc
-refused_line thread (Pwrite fd at bytes) (Again head tail) = simp append_assoc
-refused_line thread (Fsync fd) TooFar = simp append_assoc
-refused_line thread (Fsync fd) TooLong = simp append_assoc
-refused_line thread (Fsync fd) (Again head tail) = simp append_assoc
+refused_line thread call refusal =
+    call_line (codes "refused") thread call (refusal_text refusal) ∙ ap (λ text. text ++ 10 ∷ []) (words call)
+  where
+    words : (call : TraceCall)
+        → spaced (codes "refused" ∷ decimal thread ∷ (behind_last (call_fields call) (codes ":") ++ refusal_text refusal ∷ []))
+        ≡ spaced (codes "refused" ∷ decimal thread ∷ (behind_last (call_fields call) (codes ":") ++ refusal_fields refusal))
+    words (Pread fd at len) =
+        spaced_same (codes "refused" ∷ decimal thread ∷ codes "pread" ∷ decimal fd ∷ decimal at ∷ []) (decimal len ++ codes ":")
+        (refusal_text refusal ∷ []) (refusal_fields refusal) (sym (refusal_line (decimal len ++ codes ":") refusal))
+    words (Pwrite fd at bytes) =
+        spaced_same (codes "refused" ∷ decimal thread ∷ codes "pwrite" ∷ decimal fd ∷ decimal at ∷ []) (decimal (length bytes) ++ codes ":")
+        (refusal_text refusal ∷ []) (refusal_fields refusal) (sym (refusal_line (decimal (length bytes) ++ codes ":") refusal))
+    words (Fsync fd) =
+        spaced_same (codes "refused" ∷ decimal thread ∷ codes "fsync" ∷ []) (decimal fd ++ codes ":")
+        (refusal_text refusal ∷ []) (refusal_fields refusal) (sym (refusal_line (decimal fd ++ codes ":") refusal))
 
 history_text_is : (place : ℕ) (history : List PlacedCall) → history_lines place history ≡ lines_text (history_listing place history)
 history_text_is place [] = refl
@@ -245,7 +274,11 @@ behind_plain (first ∷ second ∷ rest) text p q = (p.0, behind_plain (second �
 refusal_plain : (refusal : Refusal) → Each IsPlain (refusal_fields refusal)
 refusal_plain TooFar = (word (codes "too") refl, (word (codes "far") refl, tt))
 refusal_plain TooLong = (word (codes "too") refl, (word (codes "long") refl, tt))
+refusal_plain Stopped = (word (codes "stopped") refl, tt)
+refusal_plain (Spent found) = (word (codes "spent") refl, (decimal_plain found, tt))
 refusal_plain (Again head tail) = (word (codes "again") refl, (decimal_plain head, (decimal_plain tail, tt)))
+refusal_plain RegionFault = (word (codes "region") refl, (word (codes "fault") refl, tt))
+refusal_plain StoreFault = (word (codes "store") refl, (word (codes "fault") refl, tt))
 
 placed_plain : (place : ℕ) (placed : PlacedCall) → IsLine (placed_fields place placed)
 placed_plain place placed = (

@@ -22,7 +22,7 @@ use Rattle.nv_trace.specs.declared.statement.Statement.{Statement}
 use Rattle.nv_trace.specs.declared.statement.Statement.TheVariants.{File, Descriptor, Call}
 use Rattle.nv_trace.specs.declared.trace.TracedCall.{TracedCall}
 use Rattle.nv_trace.specs.declared.report.Refusal.{Refusal}
-use Rattle.nv_trace.specs.declared.report.Refusal.TheVariants.{TooFar, TooLong, Again}
+use Rattle.nv_trace.specs.declared.report.Refusal.TheVariants.{TooFar, TooLong, Stopped, Spent, Again, RegionFault, StoreFault}
 use Rattle.nv_top.specs.Calls.{IsRefusedBy}
 use Rattle.nv_top.specs.Reports.{PlacedCall, RefusedCall, Sizes, file_call, history_of, barred, entries_taken, first_refusal, refusal_at, entries_of_history, not_later, WasFull, IsAllowed, lines_of}
 use Rattle.nv_top.specs.Log.{present, overlaid, slots_of, file_of, StaysOver}
@@ -93,8 +93,12 @@ entries_grow sizes history more call =
 was_full_on : (sizes : Sizes) (history : List PlacedCall) (more : PlacedCall) (call : TracedCall) (refusal : Refusal) → WasFull sizes history call refusal → WasFull sizes (history ++ more ∷ []) call refusal
 was_full_on sizes history more call TooFar full = full
 was_full_on sizes history more call TooLong full = full
+was_full_on sizes history more call Stopped full = full
+was_full_on sizes history more call (Spent found) full = full
 was_full_on sizes history more call (Again head tail) full =
     record { takes = full.takes; retired = full.retired; full = full.full; drawn = omega (arith, full.drawn, entries_grow sizes history more call) }
+was_full_on sizes history more call RegionFault full = full
+was_full_on sizes history more call StoreFault full = full
 
 -- one more placed call takes no refusal's cause away
 allowed_on : (sizes : Sizes) (history : List PlacedCall) (more : PlacedCall) (call : TracedCall) (refusal : Refusal) → IsAllowed sizes history call refusal → IsAllowed sizes (history ++ more ∷ []) call refusal

@@ -2,7 +2,7 @@
 use Rattle.std.specs.Prelude.{◌≡◌, ◌≢◌, ℕ, ◌+◌, ◌^◌, ◌<◌, List, [], ◌∷◌, ◌++◌, length, map, All, codes}
 use Rattle.std.specs.Fmt.{decimal}
 use Rattle.nv_trace.specs.declared.report.Refusal.{Refusal}
-use Rattle.nv_trace.specs.declared.report.Refusal.TheVariants.{TooFar, TooLong, Again}
+use Rattle.nv_trace.specs.declared.report.Refusal.TheVariants.{TooFar, TooLong, Stopped, Spent, Again, RegionFault, StoreFault}
 use Rattle.nv_trace.specs.Report.{call_fields, reply_text, hex_text}
 use Rattle.nv_top.specs.Reports.{PlacedCall, RefusedCall, NamedFile, Report, report_text}
 
@@ -16,7 +16,11 @@ behind_last (first ∷ second ∷ rest) text = first ∷ behind_last (second ∷
 abbrev pub refusal_fields : Refusal → List (List ℕ)
 refusal_fields TooFar = codes "too" ∷ codes "far" ∷ []
 refusal_fields TooLong = codes "too" ∷ codes "long" ∷ []
+refusal_fields Stopped = codes "stopped" ∷ []
+refusal_fields (Spent found) = codes "spent" ∷ decimal found ∷ []
 refusal_fields (Again head tail) = codes "again" ∷ decimal head ∷ decimal tail ∷ []
+refusal_fields RegionFault = codes "region" ∷ codes "fault" ∷ []
+refusal_fields StoreFault = codes "store" ∷ codes "fault" ∷ []
 
 -- the fields of a placed call's line
 abbrev pub placed_fields : ℕ → PlacedCall → List (List ℕ)

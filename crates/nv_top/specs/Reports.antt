@@ -13,7 +13,7 @@ use Rattle.nv_trace.specs.declared.trace.TraceCall.{TraceCall}
 use Rattle.nv_trace.specs.declared.trace.TraceCall.TheVariants.{Pread, Pwrite, Fsync}
 use Rattle.nv_trace.specs.declared.trace.TracedCall.{TracedCall}
 use Rattle.nv_trace.specs.declared.report.Refusal.{Refusal}
-use Rattle.nv_trace.specs.declared.report.Refusal.TheVariants.{TooFar, TooLong, Again}
+use Rattle.nv_trace.specs.declared.report.Refusal.TheVariants.{TooFar, TooLong, Stopped, Spent, Again, RegionFault, StoreFault}
 use Rattle.nv_trace.specs.Report.{history_text, refused_text, file_text, end_text}
 use Rattle.nv_trace.specs.Traced.{Traced}
 
@@ -122,11 +122,15 @@ pub record HadNoRoom (sizes : Sizes) (history : List PlacedCall) (call : TracedC
   pub full : tail + sizes.entries < head + entries_taken sizes call.call
   pub drawn : head ≤ entries_of_history sizes (not_later call history)
 
--- the refusal by a full log
+-- the refusal by a full log; no other comes yet
 abbrev pub WasFull : Sizes → List PlacedCall → TracedCall → Refusal → Type 0
 WasFull sizes history call TooFar = ⊥
 WasFull sizes history call TooLong = ⊥
+WasFull sizes history call Stopped = ⊥
+WasFull sizes history call (Spent found) = ⊥
 WasFull sizes history call (Again head tail) = HadNoRoom sizes history call head tail
+WasFull sizes history call RegionFault = ⊥
+WasFull sizes history call StoreFault = ⊥
 
 -- A refusal that may be shown: the one that bars the call, or, where none does, that the log was full.
 abbrev pub IsAllowed : Sizes → List PlacedCall → TracedCall → Refusal → Type 0

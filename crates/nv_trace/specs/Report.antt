@@ -7,7 +7,9 @@ use Rattle.nv_plain.specs.declared.call.Reply.TheVariants.{Bytes, Count, Done}
 use Rattle.nv_trace.specs.declared.trace.TraceCall.{TraceCall}
 use Rattle.nv_trace.specs.declared.trace.TraceCall.TheVariants.{Pread, Pwrite, Fsync}
 use Rattle.nv_trace.specs.declared.report.Refusal.{Refusal}
-use Rattle.nv_trace.specs.declared.report.Refusal.TheVariants.{TooFar, TooLong, Again}
+use Rattle.nv_trace.specs.declared.report.Refusal.TheVariants.{TooFar, TooLong, Stopped, Spent, Again, RegionFault, StoreFault}
+use Rattle.nv_trace.specs.declared.report.Fate.{Fate}
+use Rattle.nv_trace.specs.declared.report.Fate.TheVariants.{Kept, Lost}
 
 -- some fields, a space between each two
 abbrev pub spaced : List (List ℕ) → List ℕ
@@ -43,12 +45,30 @@ history_text place thread call reply =
 abbrev pub refusal_text : Refusal → List ℕ
 refusal_text TooFar = codes "too far"
 refusal_text TooLong = codes "too long"
+refusal_text Stopped = codes "stopped"
+refusal_text (Spent found) = spaced (codes "spent" ∷ decimal found ∷ [])
 refusal_text (Again head tail) = spaced (codes "again" ∷ decimal head ∷ decimal tail ∷ [])
+refusal_text RegionFault = codes "region fault"
+refusal_text StoreFault = codes "store fault"
 
 -- `refused T CALL: TEXT`
 unfoldable pub refused_text : (thread : ℕ) → TraceCall → Refusal → List ℕ
 refused_text thread call refusal =
     line_text (codes "refused" ∷ decimal thread ∷ (spaced (call_fields call) ++ codes ":") ∷ refusal_text refusal ∷ [])
+
+abbrev pub fate_text : Fate → List ℕ
+fate_text Kept = codes "kept"
+fate_text Lost = codes "lost"
+
+-- `open T CALL: FATE`
+unfoldable pub open_text : (thread : ℕ) → TraceCall → Fate → List ℕ
+open_text thread call fate =
+    line_text (codes "open" ∷ decimal thread ∷ (spaced (call_fields call) ++ codes ":") ∷ fate_text fate ∷ [])
+
+-- `recovered FIRST NEXT GROUPS`
+unfoldable pub recovered_text : (first next groups : ℕ) → List ℕ
+recovered_text first next groups =
+    line_text (codes "recovered" ∷ decimal first ∷ decimal next ∷ decimal groups ∷ [])
 
 -- `file NAME LEN HEX`
 unfoldable pub file_text : (name bytes : List ℕ) → List ℕ

@@ -14,6 +14,8 @@ mod trace;
 pub use mem_streams::{MemSink, MemSource};
 pub use reader::{BadLine, LineError, ReadError, Why, read_line, read_trace};
 pub use real_streams::{ReaderSource, WriterSink};
-pub use report::{Refusal, end_line, file_line, history_line, refused_line};
+pub use report::{
+    Fate, Refusal, end_line, file_line, history_line, open_line, recovered_line, refused_line,
+};
 pub use streams::{Failed, Sink, Source, write_all};
 pub use trace::{Trace, TraceCall, TracedCall};

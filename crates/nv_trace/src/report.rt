@@ -1,5 +1,5 @@
 ghost use Rattle.std.specs.Prelude.{◌≡◌, IfOk, string_bytes};
-ghost use Rattle.nv_trace.specs.Report.{history_text, refused_text, file_text, end_text, call_fields, spaced, reply_text, refusal_text, hex_text};
+ghost use Rattle.nv_trace.specs.Report.{history_text, refused_text, open_text, recovered_text, file_text, end_text, call_fields, spaced, reply_text, refusal_text, fate_text, hex_text};
 
 use crate::TraceCall;
 use nv_plain::{Bytes, NoMemory, Reply};
@@ -12,8 +12,25 @@ pub enum Refusal {
     TooFar,
     /// It touches more pages than one call may.
     TooLong,
+    /// A device failed in an earlier call.
+    Stopped,
+    /// The numbers are used up: the one that was found is past the last.
+    Spent { found: u64 },
     /// The log has no room now: the next number, and the least whose entry isn't free.
     Again { head: u64, tail: u64 },
+    /// A part of the region failed in this call.
+    RegionFault,
+    /// A store failed in this call.
+    StoreFault,
+}
+
+/// What became of a write that was left open: whether the recovery after it found it.
+#[derive(Clone, Copy, Debug, PartialEq, Eq)]
+pub enum Fate {
+    /// It is in the files, whole.
+    Kept,
+    /// Nothing of it is.
+    Lost,
 }
 
 /// The line of a call that was answered: `PLACE T CALL = REPLY`.
@@ -44,6 +61,29 @@ pub fn refused_line(
     let call = call_text(alloc, call)?;
     let refusal = refusal_text(alloc, refusal)?;
     let line = format!(in alloc; "refused {thread} {call}: {refusal}\n")?;
+    Ok(Bytes::from_vec(line.into_bytes()))
+}
+
+/// The line of a call that was left open: `open T CALL: kept` or `open T CALL: lost`.
+pub fn open_line(
+    alloc: Global,
+    thread: u64,
+    call: &TraceCall,
+    fate: Fate,
+) -> Result<Bytes, NoMemory>
+    ensures { IfOk result (λ line. line ≡ open_text thread call.now fate) }
+{
+    let call = call_text(alloc, call)?;
+    let fate = fate_text(fate);
+    let line = format!(in alloc; "open {thread} {call}: {fate}\n")?;
+    Ok(Bytes::from_vec(line.into_bytes()))
+}
+
+/// The line of a recovery: its first number, the one that the region goes on with, and how many groups it found.
+pub fn recovered_line(alloc: Global, first: u64, next: u64, groups: u64) -> Result<Bytes, NoMemory>
+    ensures { IfOk result (λ line. line ≡ recovered_text first next groups) }
+{
+    let line = format!(in alloc; "recovered {first} {next} {groups}\n")?;
     Ok(Bytes::from_vec(line.into_bytes()))
 }
 
@@ -102,7 +142,20 @@ fn refusal_text(alloc: Global, refusal: &Refusal) -> Result<String, AllocError>
     match refusal {
         Refusal::TooFar => String::from_str(alloc, "too far"),
         Refusal::TooLong => String::from_str(alloc, "too long"),
+        Refusal::Stopped => String::from_str(alloc, "stopped"),
+        Refusal::Spent { found } => format!(in alloc; "spent {found}"),
         Refusal::Again { head, tail } => format!(in alloc; "again {head} {tail}"),
+        Refusal::RegionFault => String::from_str(alloc, "region fault"),
+        Refusal::StoreFault => String::from_str(alloc, "store fault"),
+    }
+}
+
+fn fate_text(fate: Fate) -> &'static str
+    ensures { result.now ≡ fate_text fate }
+{
+    match fate {
+        Fate::Kept => "kept",
+        Fate::Lost => "lost",
     }
 }
 

@@ -1,6 +1,6 @@
 use crate::{
-    Failed, MemSink, MemSource, ReaderSource, Refusal, Sink, Source, TraceCall, WriterSink,
-    end_line, file_line, history_line, refused_line, write_all,
+    Failed, Fate, MemSink, MemSource, ReaderSource, Refusal, Sink, Source, TraceCall, WriterSink,
+    end_line, file_line, history_line, open_line, recovered_line, refused_line, write_all,
 };
 use nv_plain::{Bytes, NoMemory, Reply};
 use std::alloc::Global;
@@ -61,13 +61,45 @@ fn lines_of_refused_calls(rt: HostRuntime) -> Result<(), Fail> {
             Refusal::TooLong,
             "refused 0 pwrite 0 128 1: too long\n",
         ),
+        (0, Refusal::Stopped, "refused 0 pwrite 0 0 1: stopped\n"),
+        (
+            0,
+            Refusal::Spent {
+                found: 1_152_921_504_606_846_976,
+            },
+            "refused 0 pwrite 0 0 1: spent 1152921504606846976\n",
+        ),
         (
             2,
             Refusal::Again { head: 2, tail: 0 },
             "refused 0 pwrite 0 2 1: again 2 0\n",
         ),
+        (
+            0,
+            Refusal::RegionFault,
+            "refused 0 pwrite 0 0 1: region fault\n",
+        ),
+        (
+            0,
+            Refusal::StoreFault,
+            "refused 0 pwrite 0 0 1: store fault\n",
+        ),
     ] {
         let line = refused_line(alloc, 0, &pwrite(alloc, at, b"x")?, &refusal)?;
+        assert_eq!(rt; line.as_slice(), want.as_bytes(), "{want}");
+    }
+    Ok(())
+}
+
+#[test]
+fn lines_of_open_calls(rt: HostRuntime) -> Result<(), Fail> {
+    let alloc = rt.alloc();
+    let hello = pwrite(alloc, 0, b"hello")?;
+    for (fate, want) in [
+        (Fate::Kept, "open 0 pwrite 0 0 5: kept\n"),
+        (Fate::Lost, "open 0 pwrite 0 0 5: lost\n"),
+    ] {
+        let line = open_line(alloc, 0, &hello, fate)?;
         assert_eq!(rt; line.as_slice(), want.as_bytes(), "{want}");
     }
     Ok(())
@@ -80,6 +112,7 @@ fn last_lines(rt: HostRuntime) -> Result<(), Fail> {
         (file_line(alloc, b"a", b"hello")?, "file a 5 68656c6c6f\n"),
         (file_line(alloc, b"a", b"")?, "file a 0 -\n"),
         (end_line(alloc, 2, 0, 0)?, "end 2 0 0\n"),
+        (recovered_line(alloc, 1, 1, 0)?, "recovered 1 1 0\n"),
     ] {
         assert_eq!(rt; line.as_slice(), want.as_bytes(), "{want}");
     }
