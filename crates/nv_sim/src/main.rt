@@ -2,8 +2,9 @@
 //! is none, goes to standard output, and the exit status is that of `nv_main`.
 #![tactic(auto)]
 
+use nv_bench::MemBench;
 use nv_plain::NoMemory;
-use nv_top::{MemBench, NO_MEMORY, OpenGate, WRITE_FAULT, nv_main};
+use nv_top::{NO_MEMORY, OpenGate, WRITE_FAULT, nv_main};
 use nv_trace::{Failed, ReaderSource, Sink, WriterSink, write_all};
 use std::io::ErrorKind;
 use std::process::ExitCode;

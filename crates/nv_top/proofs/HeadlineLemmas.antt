@@ -1,32 +1,152 @@
--- What the report of a source that tells is.
-use Rattle.std.proofs.Common.{◌≡◌, ℕ, ◌≤◌, List, length, get_or, arith}
-use Rattle.std.specs.Prelude.{Option, Some, None, IfSome, All}
+-- What a command shows and why it is refused, from what its run does.
+use Rattle.std.proofs.Common.{◌≡◌, ℕ, ◌≤◌, Bool, true, false, List, [], ◌∷◌, map, fold, cond, if◌then◌else◌, Option, Some, None, refl, sym, ap, subst, ◌∙◌}
+use Rattle.std.specs.Prelude.{All, IfSome, option_map}
+use Rattle.std.specs.List.Sorted.{IsStrictlyIncreasing}
+use Rattle.std.specs.Option.{option_and_then}
+use Rattle.std.specs.Cmp.Lexicographic.{same_text}
+use Rattle.std.proofs.lemmas.List.Elements.{All-nil, All-cons, All-head, All-tail}
+use Rattle.nv_bench.specs.Benches.{BenchState}
+use Rattle.nv_bench.specs.Holding.{Holding, IsQuietHolding, NamedStore, is_named, without_store}
+use Rattle.nv_open.specs.Lending.{without_named, without_stores}
+use Rattle.nv_open.specs.Held.{told_after}
+use Rattle.nv_open.specs.Refusals.{IsRefusedFor}
+use Rattle.nv_open.specs.declared.error.Refusal.{Refusal}
+use Rattle.nv_open.specs.declared.error.Refusal.TheVariants as refusals
+use Rattle.nv_pmem.specs.Laws.{BlankIsQuiet}
+use Rattle.nv_pmem.specs.declared.picker.Pick.{Pick}
+use Rattle.nv_store.specs.Store.{IsQuiet}
 use Rattle.nv_trace.specs.Reading.{ending_of, Whole}
-use Rattle.nv_trace.specs.Shape.{IsCallWithin, IsWellFormed}
 use Rattle.nv_trace.specs.Traced.{Traced}
-use Rattle.nv_trace.specs.declared.trace.TraceCall.{TraceCall}
-use Rattle.nv_trace.specs.declared.trace.TraceCall.TheVariants.{Pread, Pwrite, Fsync}
-use Rattle.nv_top.specs.Readings.{HasPlainNames}
-use Rattle.nv_top.specs.Reports.{Sizes, Report, report_text, IsFaithful}
+use Rattle.nv_top.specs.Commands.{IsNotRun}
+use Rattle.nv_top.specs.Headline.{AreNamedOnce, IsRefused, IsShown, IsShownOf, IsUnwritten, command_over, possible}
+use Rattle.nv_top.specs.LogRuns.{lines_in}
+use Rattle.nv_top.specs.Stopping.{IsAway}
+use Rattle.nv_top.specs.Words.{command_of}
+use Rattle.nv_top.specs.declared.words.Command.{Command}
+use Rattle.nv_top.specs.declared.words.Command.TheVariants.{Run, Recover}
+use Rattle.nv_top.proofs.CommandLemmas.{if_told, told_at}
+use Rattle.nv_top.proofs.RunLemmas.{lines_rise}
+use Rattle.nv_top.proofs.WordLemmas.{stop_from_one}
 
--- a call on one of so many descriptors is a call on one of more
-within_more : (few more : ℕ) (call : TraceCall) → few ≤ more → IsCallWithin few call → IsCallWithin more call
-within_more few more (Pread fd at len) h within = (omega (arith, within.0), within.1, within.2, within.3)
-within_more few more (Pwrite fd at bytes) h within = (omega (arith, within.0), within.1, within.2, within.3)
-within_more few more (Fsync fd) h within = omega (arith, within)
+-- ---- words
 
--- the calls of a well-formed trace are on one descriptor
-pub calls_within : (trace : Traced) → IsWellFormed trace → All (λ traced. IsCallWithin 1 traced.call) trace.calls
-calls_within trace well_formed k d inside =
-    within_more (length trace.descriptors) 1 (get_or trace.calls k d).call
-    (omega (arith, well_formed.names, well_formed.descriptors)) (well_formed.calls k d inside)
+stop_in : (images : Bool) (words : List (List ℕ)) (command : Option Command) (stop : Option ℕ) (pick : Pick) → command_of words ≡ command
+    → option_and_then (possible images) command ≡ Some (Run stop pick) → IfSome stop (λ k. 1 ≤ k × images ≡ true)
+stop_in images words None stop pick is run = cc
+stop_in images words (Some (Run None image)) None pick is run = tt
+stop_in images words (Some (Run None image)) (Some k) pick is run = cc
+stop_in true words (Some (Run (Some n) image)) None pick is run = cc
+stop_in true words (Some (Run (Some n) image)) (Some k) pick is run =
+    let same : n ≡ k = cc in
+    (subst (λ k. 1 ≤ k) same (stop_from_one words n image is), refl)
+stop_in false words (Some (Run (Some n) image)) stop pick is run = cc
+stop_in images words (Some Recover) stop pick is run = cc
 
--- where the input is told, the report is faithful to its trace
-pub headline : (sizes : Sizes) (left : Option (List ℕ)) (trace : Traced) (report : Report) (text : List ℕ)
+-- a run that a bench can stop is stopped at a device call from the first one on, over devices that lose power
+pub stop_possible : (images : Bool) (words : List (List ℕ)) (stop : Option ℕ) (pick : Pick) → command_over images words ≡ Some (Run stop pick) → IfSome stop (λ k. 1 ≤ k × images ≡ true)
+stop_possible images words stop pick run = stop_in images words (command_of words) stop pick refl run
+
+-- ---- what is shown, and refused
+
+pub shown_from : (stop : Option ℕ) (pick : Pick) (left : Option (List ℕ)) (old new : BenchState) (trace : Traced) (text : List ℕ)
     → IfSome left (λ input. ending_of input ≡ Whole trace)
-    → ((input : List ℕ) → ending_of input ≡ Whole trace → IsFaithful sizes trace report)
-    → HasPlainNames report
-    → text ≡ report_text report
-    → IfSome left (λ input. (t : Traced) × (r : Report) × (ending_of input ≡ Whole t) × IsFaithful sizes t r × HasPlainNames r × (text ≡ report_text r))
-headline sizes None trace report text whole faithful plain said = tt
-headline sizes (Some input) trace report text whole faithful plain said = (trace, report, whole, faithful input whole, plain, said)
+    → (IsStrictlyIncreasing (lines_in trace) → IfSome old.told (λ holding. IsShownOf stop old new holding trace text))
+    → IfSome old.told (λ holding. IsShown (Run stop pick) left old new holding text)
+shown_from stop pick None old new trace text whole ran = if_told old.told (λ holding. IsShown (Run stop pick) None old new holding text) (λ holding told. tt)
+shown_from stop pick (Some input) old new trace text whole ran =
+    if_told old.told (λ holding. IsShown (Run stop pick) (Some input) old new holding text) (λ holding told.
+    (trace, whole, told_at old.told (λ holding. IsShownOf stop old new holding trace text) holding told (ran (lines_rise input trace whole))))
+
+pub refused_from : (stop : Option ℕ) (pick : Pick) (left : Option (List ℕ)) (old new : BenchState) (trace : Traced) (why : Refusal)
+    → IfSome left (λ input. ending_of input ≡ Whole trace)
+    → (IsStrictlyIncreasing (lines_in trace) → IfSome old.told (λ holding. IsNotRun holding trace.names why × IsUnwritten old new why))
+    → IfSome old.told (λ holding. IsRefused (Run stop pick) left old new holding why)
+refused_from stop pick None old new trace why whole refused = if_told old.told (λ holding. IsRefused (Run stop pick) None old new holding why) (λ holding told. tt)
+refused_from stop pick (Some input) old new trace why whole refused =
+    if_told old.told (λ holding. IsRefused (Run stop pick) (Some input) old new holding why) (λ holding told.
+    let both = told_at old.told (λ holding. IsNotRun holding trace.names why × IsUnwritten old new why) holding told (refused (lines_rise input trace whole)) in
+    (trace, whole, both.0, both.1))
+
+pub both_told : (old new : BenchState) (names : List (List ℕ)) (why : Refusal) → IfSome old.told (λ holding. IsNotRun holding names why)
+    → (¬ (why ≡ refusals.TooManyFiles) → IfSome old.told (λ holding. new.told ≡ told_after why old.told))
+    → IfSome old.told (λ holding. IsNotRun holding names why × IsUnwritten old new why)
+both_told old new names why refused unwritten =
+    if_told old.told (λ holding. IsNotRun holding names why × IsUnwritten old new why) (λ holding told.
+    (told_at old.told (λ holding. IsNotRun holding names why) holding told refused,
+    λ other. told_at old.told (λ holding. new.told ≡ told_after why old.told) holding told (unwritten other)))
+
+-- ---- stores that are away
+
+abbrev NotNamed : List ℕ → NamedStore → Type 0
+NotNamed name named = is_named name named ≡ false
+
+kept_by : (P : NamedStore → Type 0) (is : Bool) (first : NamedStore) (rest others : List NamedStore) → P first → All P rest → All P others → All P (if is then rest else first ∷ others)
+kept_by P true first rest others one all_rest all_others = all_rest
+kept_by P false first rest others one all_rest all_others = All-cons P first others one all_others
+
+kept_in : (P : NamedStore → Type 0) (name : List ℕ) (stores : List NamedStore) → All P stores → All P (without_store name stores)
+kept_in P name [] all = all
+kept_in P name (first ∷ rest) all =
+    kept_by P (is_named name first) first rest (without_store name rest) (All-head P first rest all) (All-tail P first rest all) (kept_in P name rest (All-tail P first rest all))
+
+kept_in_all : (P : NamedStore → Type 0) (names : List (List ℕ)) (stores : List NamedStore) → All P stores → All P (without_stores names stores)
+kept_in_all P [] stores all = all
+kept_in_all P (name ∷ names) stores all = kept_in_all P names (without_store name stores) (kept_in P name stores all)
+
+once_by : (is : Bool) (first : NamedStore) (rest others : List NamedStore) → AreNamedOnce rest → All (NotNamed first.name) others → AreNamedOnce others
+    → AreNamedOnce (if is then rest else first ∷ others)
+once_by true first rest others all_rest away all_others = all_rest
+once_by false first rest others all_rest away all_others = (away, all_others)
+
+once_in : (name : List ℕ) (stores : List NamedStore) → AreNamedOnce stores → AreNamedOnce (without_store name stores)
+once_in name [] once = once
+once_in name (first ∷ rest) once =
+    once_by (is_named name first) first rest (without_store name rest) once.1 (kept_in (NotNamed first.name) name rest once.0) (once_in name rest once.1)
+
+away_by : (name : List ℕ) (is : Bool) (first : NamedStore) (rest others : List NamedStore) → is_named name first ≡ is → All (NotNamed first.name) rest → All (NotNamed name) others
+    → All (NotNamed name) (if is then rest else first ∷ others)
+away_by name true first rest others is away all_others =
+    let same : first.name ≡ name = same_text first.name name (sym is) in
+    subst (λ name. All (NotNamed name) rest) same away
+away_by name false first rest others is away all_others = All-cons (NotNamed name) first others is all_others
+
+away_in : (name : List ℕ) (stores : List NamedStore) → AreNamedOnce stores → All (NotNamed name) (without_store name stores)
+away_in name [] once = All-nil (NotNamed name)
+away_in name (first ∷ rest) once = away_by name (is_named name first) first rest (without_store name rest) refl once.0 (away_in name rest once.1)
+
+-- of stores that each have a name of their own none has a name any more whose store is away
+pub all_away : (names : List (List ℕ)) (stores : List NamedStore) → AreNamedOnce stores → All (λ name. All (NotNamed name) (without_stores names stores)) names
+all_away [] stores once = All-nil (λ (name : List ℕ). All (NotNamed name) (without_stores [] stores))
+all_away (name ∷ names) stores once =
+    All-cons (λ other. All (NotNamed other) (without_stores names (without_store name stores))) name names
+    (kept_in_all (NotNamed name) names (without_store name stores) (away_in name stores once)) (all_away names (without_store name stores) (once_in name stores once))
+
+-- what is left of a holding of which stores are lent is quiet as it was
+pub quiet_left : (blank : BlankIsQuiet) (names : List (List ℕ)) (told : Option Holding) → IfSome told IsQuietHolding
+    → IfSome (option_map (without_named names) (option_map (λ (holding : Holding). record { parts = []; stores = holding.stores }) told)) IsQuietHolding
+quiet_left blank names None quiet = tt
+quiet_left blank names (Some holding) quiet = record {
+  parts = record { each = λ i. record { lines = λ line. blank } };
+  stores = kept_in_all (λ (named : NamedStore). IsQuiet named.store) names holding.stores quiet.stores;
+}
+
+-- ---- the report of a command
+
+-- a text that is shown, and written
+pub written_so : (command : Command) (left : Option (List ℕ)) (old new : BenchState) (text said : List ℕ) (W : List ℕ → Type 0) → said ≡ text
+    → IfSome old.told (λ holding. IsShown command left old new holding text) → W said
+    → IfSome old.told (λ holding. (text : List ℕ) × IsShown command left old new holding text × W text)
+written_so command left old new text said W same shown written =
+    if_told old.told (λ holding. (text : List ℕ) × IsShown command left old new holding text × W text) (λ holding told.
+    (text, told_at old.told (λ holding. IsShown command left old new holding text) holding told shown, subst W same written))
+
+pub same_some : {one other : Command} → Some one ≡ Some other → one ≡ other
+same_some {one} {other} is = cc
+
+-- why a recovery is refused
+pub recovery_refused : (left : Option (List ℕ)) (old new : BenchState) (why : Refusal)
+    → IfSome old.told (λ holding. IsRefusedFor holding.parts why) → new.told ≡ told_after why old.told
+    → IfSome old.told (λ holding. IsRefused Recover left old new holding why)
+recovery_refused left old new why refused unwritten =
+    if_told old.told (λ holding. IsRefused Recover left old new holding why) (λ holding told.
+    (told_at old.told (λ holding. IsRefusedFor holding.parts why) holding told refused, λ not_many. unwritten))

@@ -1,17 +1,19 @@
--- The names of a trace have neither a space nor a line feed.
-use Rattle.std.proofs.Common.{◌≡◌, ◌==◌, ◌&&◌, ℕ, Bool, true, false, List, not, nat_le, length, get_or, slice_index, subst}
+-- The names of files have neither a space nor a line feed.
+use Rattle.std.proofs.Common.{◌≡◌, ◌⊎◌, ◌+◌, ◌<◌, ◌==◌, ◌&&◌, ◌||◌, ℕ, zero, suc, Bool, true, false, cond, List, [], ◌∷◌, not, nat_eq, nat_le, length, map, filter, get_or, slice_index, slice_index_or, refl, sym, ap, subst, ◌∙◌, arith, eq-eqb, true≢false}
+use Rattle.std.proofs.lemmas.List.{length-map, get_or-map}
 use Rattle.std.specs.Prelude.{All}
-use Rattle.std.specs.List.{list_all}
-use Rattle.std.proofs.lemmas.List.Elements.{All-map}
+use Rattle.std.specs.List.{list_all, list_any, position_or_len}
+use lib.Pointwise.{pointwise}
+use Rattle.std.proofs.lemmas.Bool.{cases_Bool, cond-true}
+use Rattle.std.proofs.lemmas.List.Folds.{list_any-append}
+use Rattle.std.proofs.lemmas.List.Elements.{All-cons, All-head, All-tail}
 use Rattle.std.proofs.lemmas.List.Sums.{AllPass-from_list_all}
-use Rattle.nv_plain.specs.Layouts.{version_1}
 use Rattle.nv_plain.specs.Names.{is_name, is_name_byte}
+use Rattle.nv_open.specs.Adding.{all_names, is_known}
 use Rattle.nv_trace.specs.Shape.{IsWellFormed}
 use Rattle.nv_trace.specs.Traced.{Traced}
-use Rattle.nv_top.specs.Readings.{IsPlainByte, HasPlainNames}
-use Rattle.nv_top.specs.Reports.{NamedFile}
-use Rattle.nv_top.specs.Runs.{report_of, with_bytes}
-use Rattle.nv_top.specs.declared.run.Outcome.{Outcome}
+use Rattle.nv_top.specs.Faithful.{descriptor_files, named, place_of}
+use Rattle.nv_top.specs.Readings.{IsPlainByte, HavePlainNames}
 
 second : (a b : Bool) → (a && b) ≡ true → b ≡ true
 second true b e = e
@@ -28,8 +30,69 @@ plain_name most name named k d inside =
     plain_byte (get_or name k d) (AllPass-from_list_all is_name_byte name
     (second (nat_le 1 (length name) && nat_le (length name) most && not (slice_index name 0 == 46)) (list_all is_name_byte name) named) k d inside)
 
--- the report of a well-formed trace has plain names
-pub names_plain : (trace : Traced) (outcome : Outcome) (bytes : List ℕ) → IsWellFormed trace → HasPlainNames (report_of trace.names outcome bytes)
-names_plain trace outcome bytes well_formed =
-    All-map (λ (file : NamedFile). All IsPlainByte file.name) (with_bytes bytes) trace.names
-    (λ k d inside. plain_name version_1.name_limit (get_or trace.names k d) (well_formed.named k d inside))
+-- files of names that are allowed have plain names
+pub names_plain : (most : ℕ) (names contents : List (List ℕ)) → All (λ name. is_name most name ≡ true) names → HavePlainNames (named names (record { contents = contents }))
+names_plain most [] contents allowed = λ k d inside. absurd (omega arith)
+names_plain most (name ∷ names) [] allowed = λ k d inside. absurd (omega arith)
+names_plain most (name ∷ names) (bytes ∷ contents) allowed =
+    All-cons (λ file. All IsPlainByte file.name) (record { name = name; bytes = bytes }) (named names (record { contents = contents }))
+    (plain_name most name (All-head (λ name. is_name most name ≡ true) name names allowed))
+    (names_plain most names contents (All-tail (λ name. is_name most name ≡ true) name names allowed))
+
+-- each descriptor's file is one of a region that has the names of the trace
+pub descriptors_known : (names : List (List ℕ)) (trace : Traced) → IsWellFormed trace → All (λ name. place_of name names < length names) trace.names
+    → All (λ file. file < length names) (descriptor_files names trace)
+descriptors_known names trace well_formed known k d inside =
+    let file_of : ℕ → ℕ = λ file. place_of (slice_index_or trace.names file []) names in
+    let there : k < length trace.descriptors = omega (arith, inside, length-map trace.descriptors file_of) in
+    let first : get_or trace.descriptors k 0 ≡ 0 = well_formed.files k 0 there in
+    let at : get_or (map file_of trace.descriptors) k d ≡ file_of 0 = get_or-map file_of trace.descriptors k 0 d there ∙ ap file_of first in
+    omega (arith, at, known 0 [] (omega (arith, there, well_formed.descriptors)))
+
+-- ---- the names that a trace wants are there
+
+found_at : {X : Type 0} (test : X → Bool) (xs : List X) (here : Bool) → (list_any test xs ≡ true → position_or_len test xs < length xs) → (here || list_any test xs) ≡ true
+    → cond (not here) (1 + position_or_len test xs) 0 < 1 + length xs
+found_at test xs true later any = omega arith
+found_at test xs false later any = omega (arith, later any)
+
+found : {X : Type 0} (test : X → Bool) (xs : List X) → list_any test xs ≡ true → position_or_len test xs < length xs
+found test [] any = absurd (true≢false (sym any))
+found test (x ∷ xs) any = omega (arith, found_at test xs (test x) (found test xs) any)
+
+same_name : (name : List ℕ) → pointwise nat_eq name name ≡ true
+same_name [] = refl
+same_name (byte ∷ name) = both_true (nat_eq byte byte) (pointwise nat_eq name name) (eq-eqb byte byte refl) (same_name name)
+  where
+    both_true : (a b : Bool) → a ≡ true → b ≡ true → (a && b) ≡ true
+    both_true true b e f = f
+    both_true false b e f = cc
+
+either_true : (a b : Bool) → b ≡ true → (a || b) ≡ true
+either_true true b e = refl
+either_true false b e = e
+
+any_kept : {X : Type 0} (keep test : X → Bool) (xs : List X) (k : ℕ) (d : X) → k < length xs → keep (get_or xs k d) ≡ true → test (get_or xs k d) ≡ true → list_any test (filter keep xs) ≡ true
+any_kept keep test [] k d inside kept passes = absurd (omega arith)
+any_kept {X} keep test (x ∷ xs) zero d inside kept passes =
+    ap (λ (these : List X). list_any test these) (cond-true (keep x) (x ∷ filter keep xs) (filter keep xs) kept) ∙ ap (λ here. here || list_any test (filter keep xs)) passes
+any_kept keep test (x ∷ xs) (suc k) d inside kept passes = either_kept (keep x) (any_kept keep test xs k d (omega arith) kept passes)
+  where
+    either_kept : (kept : Bool) → list_any test (filter keep xs) ≡ true → list_any test (cond kept (x ∷ filter keep xs) (filter keep xs)) ≡ true
+    either_kept true any = either_true (test x) (list_any test (filter keep xs)) any
+    either_kept false any = any
+
+either_side : (a b : Bool) → (a ≡ true) ⊎ (a ≡ false) → (a ≡ false → b ≡ true) → (a || b) ≡ true
+either_side true b which other = refl
+either_side false b which other = other refl
+
+-- each name that is wanted is one of all
+pub wanted_known : (known wanted : List (List ℕ)) → All (λ name. place_of name (all_names known wanted) < length (all_names known wanted)) wanted
+wanted_known known wanted k d inside =
+    let name = get_or wanted k d in
+    let test : List ℕ → Bool = λ one. pointwise nat_eq one name in
+    let keep : List ℕ → Bool = λ name. not (is_known known name) in
+    found test (all_names known wanted)
+    (list_any-append test known (filter keep wanted)
+    ∙ either_side (list_any test known) (list_any test (filter keep wanted)) (cases_Bool (list_any test known))
+    (λ none. any_kept keep test wanted k d inside (ap not none) (same_name name)))

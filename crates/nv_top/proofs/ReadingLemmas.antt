@@ -11,12 +11,14 @@ use Rattle.nv_plain.specs.declared.call.Reply.{Reply}
 use Rattle.nv_plain.specs.declared.call.Reply.TheVariants.{Bytes, Count, Done}
 use Rattle.nv_trace.specs.declared.trace.TraceCall.{TraceCall}
 use Rattle.nv_trace.specs.declared.trace.TraceCall.TheVariants.{Pread, Pwrite, Fsync}
+use Rattle.nv_trace.specs.declared.report.Fate.{Fate}
+use Rattle.nv_trace.specs.declared.report.Fate.TheVariants.{Kept, Lost}
 use Rattle.nv_trace.specs.declared.report.Refusal.{Refusal}
 use Rattle.nv_trace.specs.declared.report.Refusal.TheVariants.{TooFar, TooLong, Stopped, Spent, Again, RegionFault, StoreFault}
 use Rattle.nv_trace.specs.Lines.{onto_first, parts_between, but_last, fields_of, ended_lines}
-use Rattle.nv_trace.specs.Report.{spaced, line_text, hex_text, call_fields, reply_text, refusal_text, history_text, refused_text, file_text, end_text}
-use Rattle.nv_top.specs.Reports.{PlacedCall, RefusedCall, NamedFile, Report, history_lines, refused_lines, file_lines, report_text}
-use Rattle.nv_top.specs.Readings.{behind_last, refusal_fields, placed_fields, history_listing, refused_fields, file_fields, end_fields, listing, IsPlainByte, HasPlainNames}
+use Rattle.nv_trace.specs.Report.{spaced, line_text, hex_text, call_fields, reply_text, refusal_text, fate_text, history_text, refused_text, open_text, recovered_text, file_text, end_text}
+use Rattle.nv_top.specs.Reports.{PlacedCall, RefusedCall, OpenCall, NamedFile, Report, RecoveryReport, history_lines, refused_lines, open_lines, file_lines, report_text, recovery_text}
+use Rattle.nv_top.specs.Readings.{behind_last, refusal_fields, placed_fields, history_listing, refused_fields, open_fields, recovered_fields, file_fields, end_fields, listing, recovery_listing, IsPlainByte, HavePlainNames}
 
 abbrev IsPlain : List ℕ → Type 0
 IsPlain text = Each IsPlainByte text
@@ -165,6 +167,10 @@ refused_line thread call refusal =
         spaced_same (codes "refused" ∷ decimal thread ∷ codes "fsync" ∷ []) (decimal fd ++ codes ":")
         (refusal_text refusal ∷ []) (refusal_fields refusal) (sym (refusal_line (decimal fd ++ codes ":") refusal))
 
+left_line : (thread : ℕ) (call : TraceCall) (fate : Fate) → open_text thread call fate ≡ line_text (codes "open" ∷ decimal thread ∷ (behind_last (call_fields call) (codes ":") ++ fate_text fate ∷ []))
+unfolding open_text
+left_line thread call fate = call_line (codes "open") thread call (fate_text fate)
+
 history_text_is : (place : ℕ) (history : List PlacedCall) → history_lines place history ≡ lines_text (history_listing place history)
 history_text_is place [] = refl
 history_text_is place (placed ∷ later) =
@@ -177,29 +183,42 @@ refused_text_is (first ∷ rest) =
     ap (λ text. text ++ refused_lines rest) (refused_line first.call.thread first.call.call first.refusal)
     ∙ ap (λ text. line_text (refused_fields first) ++ text) (refused_text_is rest)
 
+open_text_is : (open_calls : List OpenCall) → open_lines open_calls ≡ lines_text (map open_fields open_calls)
+open_text_is [] = refl
+open_text_is (first ∷ rest) =
+    ap (λ text. text ++ open_lines rest) (left_line first.call.thread first.call.call first.fate)
+    ∙ ap (λ text. line_text (open_fields first) ++ text) (open_text_is rest)
+
 file_text_is : (files : List NamedFile) → file_lines files ≡ lines_text (map file_fields files)
 unfolding file_text
 file_text_is [] = refl
 file_text_is (file ∷ files) = ap (λ text. line_text (file_fields file) ++ text) (file_text_is files)
 
-lines_text-four : (xs ys zs : List (List (List ℕ))) (last : List (List ℕ)) → lines_text (xs ++ ys ++ zs ++ last ∷ []) ≡ lines_text xs ++ lines_text ys ++ lines_text zs ++ line_text last
-lines_text-four xs ys zs last =
-    flat_map-append line_text (xs ++ ys ++ zs) (last ∷ [])
-    ∙ ap (λ text. lines_text (xs ++ ys ++ zs) ++ text) (append-nil (line_text last))
-    ∙ ap (λ text. text ++ line_text last) (flat_map-append line_text (xs ++ ys) zs)
-    ∙ ap (λ text. text ++ lines_text zs ++ line_text last) (flat_map-append line_text xs ys)
+lines_text-five : (ws xs ys zs : List (List (List ℕ))) (last : List (List ℕ)) → lines_text (ws ++ xs ++ ys ++ zs ++ last ∷ []) ≡ lines_text ws ++ lines_text xs ++ lines_text ys ++ lines_text zs ++ line_text last
+lines_text-five ws xs ys zs last =
+    flat_map-append line_text (ws ++ xs ++ ys ++ zs) (last ∷ [])
+    ∙ ap (λ text. lines_text (ws ++ xs ++ ys ++ zs) ++ text) (append-nil (line_text last))
+    ∙ ap (λ text. text ++ line_text last) (flat_map-append line_text (ws ++ xs ++ ys) zs)
+    ∙ ap (λ text. text ++ lines_text zs ++ line_text last) (flat_map-append line_text (ws ++ xs) ys)
+    ∙ ap (λ text. text ++ lines_text ys ++ lines_text zs ++ line_text last) (flat_map-append line_text ws xs)
 
 report_text_is : (report : Report) → report_text report ≡ lines_text (listing report)
 unfolding report_text end_text
 report_text_is report =
     let placed = history_listing 0 report.history in
     let refused = map refused_fields report.refused in
+    let left = map open_fields report.open_calls in
     let files = map file_fields report.files in
     let last = end_fields report in
-    ap (λ text. text ++ refused_lines report.refused ++ file_lines report.files ++ line_text last) (history_text_is 0 report.history)
-    ∙ ap (λ text. lines_text placed ++ text ++ file_lines report.files ++ line_text last) (refused_text_is report.refused)
-    ∙ ap (λ text. lines_text placed ++ lines_text refused ++ text ++ line_text last) (file_text_is report.files)
-    ∙ sym (lines_text-four placed refused files last)
+    ap (λ text. text ++ refused_lines report.refused ++ open_lines report.open_calls ++ file_lines report.files ++ line_text last) (history_text_is 0 report.history)
+    ∙ ap (λ text. lines_text placed ++ text ++ open_lines report.open_calls ++ file_lines report.files ++ line_text last) (refused_text_is report.refused)
+    ∙ ap (λ text. lines_text placed ++ lines_text refused ++ text ++ file_lines report.files ++ line_text last) (open_text_is report.open_calls)
+    ∙ ap (λ text. lines_text placed ++ lines_text refused ++ lines_text left ++ text ++ line_text last) (file_text_is report.files)
+    ∙ sym (lines_text-five placed refused left files last)
+
+recovery_text_is : (report : RecoveryReport) → recovery_text report ≡ lines_text (recovery_listing report)
+unfolding recovery_text recovered_text
+recovery_text_is report = ap (λ text. line_text (recovered_fields report) ++ text) (file_text_is report.files)
 
 -- ---- the fields of a report are plain
 
@@ -280,6 +299,10 @@ refusal_plain (Again head tail) = (word (codes "again") refl, (decimal_plain hea
 refusal_plain RegionFault = (word (codes "region") refl, (word (codes "fault") refl, tt))
 refusal_plain StoreFault = (word (codes "store") refl, (word (codes "fault") refl, tt))
 
+fate_plain : (fate : Fate) → IsPlain (fate_text fate)
+fate_plain Kept = word (codes "kept") refl
+fate_plain Lost = word (codes "lost") refl
+
 placed_plain : (place : ℕ) (placed : PlacedCall) → IsLine (placed_fields place placed)
 placed_plain place placed = (
   decimal_plain place,
@@ -301,12 +324,27 @@ refused_plain refused = (
   ),
 )
 
+open_plain : (o : OpenCall) → IsLine (open_fields o)
+open_plain o = (
+  word (codes "open") refl,
+  (
+    decimal_plain o.call.thread,
+    each-append IsPlain (behind_last (call_fields o.call.call) (codes ":")) (fate_text o.fate ∷ [])
+        (behind_plain (call_fields o.call.call) (codes ":") (call_plain o.call.call) (word (codes ":") refl))
+        (fate_plain o.fate, tt),
+  ),
+)
+
+recovered_plain : (report : RecoveryReport) → IsLine (recovered_fields report)
+recovered_plain report =
+    (word (codes "recovered") refl, (decimal_plain report.first, (decimal_plain report.next, (decimal_plain report.groups, tt))))
+
 file_plain : (file : NamedFile) → IsPlain file.name → IsLine (file_fields file)
 file_plain file plain = (word (codes "file") refl, (plain, (decimal_plain (length file.bytes), (hex_plain file.bytes, tt))))
 
 end_plain : (report : Report) → IsLine (end_fields report)
 end_plain report =
-    (word (codes "end") refl, (decimal_plain (length report.history), (decimal_plain (length report.refused), (decimal_plain 0, tt))))
+    (word (codes "end") refl, (decimal_plain (length report.history), (decimal_plain (length report.refused), (decimal_plain (length report.open_calls), tt))))
 
 history_plain : (place : ℕ) (history : List PlacedCall) → Each IsLine (history_listing place history)
 history_plain place [] = tt
@@ -316,26 +354,46 @@ all_refused_plain : (refused : List RefusedCall) → Each IsLine (map refused_fi
 all_refused_plain [] = tt
 all_refused_plain (first ∷ rest) = (refused_plain first, all_refused_plain rest)
 
+all_open_plain : (open_calls : List OpenCall) → Each IsLine (map open_fields open_calls)
+all_open_plain [] = tt
+all_open_plain (first ∷ rest) = (open_plain first, all_open_plain rest)
+
 all_files_plain : (files : List NamedFile) → Each (λ (file : NamedFile). All IsPlainByte file.name) files → Each IsLine (map file_fields files)
 all_files_plain [] plain = tt
 all_files_plain (file ∷ files) plain = (file_plain file (recursion_from_All IsPlainByte file.name plain.0), all_files_plain files plain.1)
 
-listing_plain : (report : Report) → HasPlainNames report → Each IsLine (listing report)
+files_plain : (files : List NamedFile) → HavePlainNames files → Each IsLine (map file_fields files)
+files_plain files plain =
+    all_files_plain files (recursion_from_All (λ (file : NamedFile). All IsPlainByte file.name) files plain)
+
+listing_plain : (report : Report) → HavePlainNames report.files → Each IsLine (listing report)
 listing_plain report plain =
     let placed = history_listing 0 report.history in
     let refused = map refused_fields report.refused in
+    let left = map open_fields report.open_calls in
     let files = map file_fields report.files in
-    let named = all_files_plain report.files (recursion_from_All (λ (file : NamedFile). All IsPlainByte file.name) report.files plain) in
-    each-append IsLine (placed ++ refused ++ files) (end_fields report ∷ [])
-    (each-append IsLine (placed ++ refused) files (each-append IsLine placed refused (history_plain 0 report.history) (all_refused_plain report.refused)) named)
+    each-append IsLine (placed ++ refused ++ left ++ files) (end_fields report ∷ [])
+    (each-append IsLine (placed ++ refused ++ left) files
+    (each-append IsLine (placed ++ refused) left
+    (each-append IsLine placed refused (history_plain 0 report.history) (all_refused_plain report.refused)) (all_open_plain report.open_calls))
+    (files_plain report.files plain))
     (end_plain report, tt)
 
 -- ---- the text of a report is read back
 
-report_read : (report : Report) → HasPlainNames report → map fields_of (ended_lines (report_text report)) ≡ listing report
+report_read : (report : Report) → HavePlainNames report.files → map fields_of (ended_lines (report_text report)) ≡ listing report
 report_read report plain =
     ap (λ text. map fields_of (ended_lines text)) (report_text_is report) ∙ text_read (listing report) (listing_plain report plain)
 
-pub one_reading : (report other : Report) → HasPlainNames report → HasPlainNames other → report_text report ≡ report_text other → listing report ≡ listing other
+pub one_reading : (report other : Report) → HavePlainNames report.files → HavePlainNames other.files → report_text report ≡ report_text other → listing report ≡ listing other
 one_reading report other p q same =
     sym (report_read report p) ∙ (ap (λ text. map fields_of (ended_lines text)) same ∙ report_read other q)
+
+recovery_read : (report : RecoveryReport) → HavePlainNames report.files → map fields_of (ended_lines (recovery_text report)) ≡ recovery_listing report
+recovery_read report plain =
+    ap (λ text. map fields_of (ended_lines text)) (recovery_text_is report)
+    ∙ text_read (recovery_listing report) (recovered_plain report, files_plain report.files plain)
+
+pub one_recovery_reading : (report other : RecoveryReport) → HavePlainNames report.files → HavePlainNames other.files → recovery_text report ≡ recovery_text other → recovery_listing report ≡ recovery_listing other
+one_recovery_reading report other p q same =
+    sym (recovery_read report p) ∙ (ap (λ text. map fields_of (ended_lines text)) same ∙ recovery_read other q)

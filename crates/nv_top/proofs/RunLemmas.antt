@@ -1,19 +1,17 @@
 -- A run goes on by one call, and the lines of a trace's calls rise.
-use Rattle.std.proofs.Common.{◌≡◌, ℕ, ◌+◌, ◌<◌, ◌≤◌, ◌==◌, ◌&&◌, not, nat_lt, nat_le, Bool, true, false, cond, if◌then◌else◌, List, [], ◌∷◌, ◌++◌, length, map, filter, sum_by, take, get_or, All, Option, Some, None, MatchOption, Result, Ok, Err, option_and_then, IsPermutation, Bor, refl, sym, ap, subst, ◌∙◌, inl, inr, arith, append_assoc, append-nil, length-append}
+use Rattle.std.proofs.Common.{◌≡◌, ℕ, ◌+◌, ◌^◌, ◌<◌, ◌≤◌, ◌==◌, ◌&&◌, not, nat_lt, nat_le, Bool, true, false, cond, if◌then◌else◌, List, [], ◌∷◌, ◌++◌, length, map, filter, sum_by, take, get_or, All, Option, Some, None, MatchOption, option_and_then, IsPermutation, refl, sym, ap, subst, ◌∙◌, inl, inr, arith, append_assoc, append-nil, length-append}
 use Rattle.std.specs.List.Sorted.{IsStrictlyIncreasing}
 use Rattle.std.specs.Option.{option_map_or}
-use Rattle.std.proofs.lemmas.Bool.{cases_lt, cases_Bool, and_right, not_from_false, le-ltb, ltb-true, ltb-false, cond-true}
+use Rattle.std.proofs.lemmas.Bool.{cases_lt, cases_Bool, and_right, not_from_false, le-ltb, cond-true}
 use Rattle.std.proofs.lemmas.List.{length-map, length_push, get_or_append_left, get_or-append-add, get_or_push, get_or-map, get_or-take, length-take, map_push}
-use Rattle.std.proofs.lemmas.List.Elements.{All-head, All-tail, All-push, All-map, All-filter, All-weaker, filter-append}
+use Rattle.std.proofs.lemmas.List.Elements.{All-append, All-head, All-tail, All-push, All-map, All-filter, All-weaker, filter-append}
 use Rattle.std.proofs.lemmas.List.Kept.{AllPairs-from_increasing}
 use Rattle.std.proofs.lemmas.List.Sorted.{IsPermutation-refl, IsPermutation-sym, IsPermutation-trans, IsPermutation-cons, IsPermutation-middle, IsPermutation-to_front, IsPermutation-append_left, All-permutation}
 use Rattle.std.proofs.lemmas.List.Sums.{sum_by-append}
 use Rattle.nv_plain.specs.Calls.{reply_of, files_after}
-use Rattle.nv_plain.specs.Faults.{Rose}
-use Rattle.nv_plain.specs.Files.{empty_files}
+use Rattle.nv_plain.specs.Files.{Files}
 use Rattle.nv_plain.specs.Histories.{Answered, IsLegal, after}
 use Rattle.nv_plain.specs.declared.call.Reply.{Reply}
-use Rattle.nv_plain.proofs.HistoryLemmas.{after-append, IsLegal-push}
 use Rattle.nv_trace.specs.Grammar.{statement_of}
 use Rattle.nv_trace.specs.Lines.{ended_lines, open_line}
 use Rattle.nv_trace.specs.Reading.{accepted, is_skipped, longest_line, largest_input, after_line, Ending, Whole, Bad, Long, after_lines, long_unless_bad, ending_of}
@@ -23,20 +21,9 @@ use Rattle.nv_trace.specs.declared.statement.Statement.TheVariants.{File, Descri
 use Rattle.nv_trace.specs.declared.trace.TracedCall.{TracedCall}
 use Rattle.nv_trace.specs.declared.report.Refusal.{Refusal}
 use Rattle.nv_trace.specs.declared.report.Refusal.TheVariants.{TooFar, TooLong, Stopped, Spent, Again, RegionFault, StoreFault}
-use Rattle.nv_top.specs.Calls.{IsRefusedBy}
-use Rattle.nv_top.specs.Reports.{PlacedCall, RefusedCall, Sizes, file_call, history_of, barred, entries_taken, first_refusal, refusal_at, entries_of_history, not_later, WasFull, IsAllowed, lines_of}
-use Rattle.nv_top.specs.Log.{present, overlaid, slots_of, file_of, StaysOver}
-use Rattle.nv_top.specs.Runs.{one_file, placed_call, refused_call, AreMade, IsAfterAll}
-use Rattle.nv_pmem.specs.Steps.{History}
-use Rattle.nv_top.specs.declared.log.Log.{Log}
-use Rattle.nv_top.specs.declared.run.Placed.{Placed}
-use Rattle.nv_top.specs.declared.run.Refused as Run
-use Rattle.nv_top.specs.declared.log.CallError.{CallError}
-use Rattle.nv_top.specs.declared.log.CallError.TheVariants.{Refused}
-
--- a sum rose where one part of it did
-pub Rose-plus : (other before now : ℕ) → Rose before now → Rose (other + before) (other + now)
-Rose-plus other before now rose = record { never_falls = omega (arith, rose.never_falls); more = omega (arith, rose.more) }
+use Rattle.nv_top.specs.Faithful.{Basis, Sizes, IsAllowed, IsDrawn, IsLeftOpen, IsRead, WasRefused, barred, entries_of, entries_taken, file_call, history_of, lines_of, not_later}
+use Rattle.nv_top.specs.Reports.{PlacedCall, RefusedCall}
+use Rattle.nv_top.specs.Runs.{AreMade, IsAfterAll, drawing, listed}
 
 -- what holds of a list's elements holds of those of its parts
 pub All-front : {X : Type 0} (P : X → Type 0) (xs ys : List X) → All P (xs ++ ys) → All P xs
@@ -81,91 +68,70 @@ lines_rise_on thread calls call rises after_all =
           subst IsStrictlyIncreasing (sym (joined ∙ ap (λ xs. map line (filter mine calls ++ xs)) last ∙ ap (map line) (append-nil (filter mine calls)))) rises
     ]
 
--- how many entries the calls of a history took that are not the later ones of a call's thread, where the history grows
-entries_grow : (sizes : Sizes) (history : List PlacedCall) (more : PlacedCall) (call : TracedCall) → entries_of_history sizes (not_later call history) ≤ entries_of_history sizes (not_later call (history ++ more ∷ []))
-entries_grow sizes history more call =
-    let test : PlacedCall → Bool = λ placed. not (placed.call.thread == call.thread && nat_lt call.line placed.call.line) in
-    let taken : PlacedCall → ℕ = λ placed. entries_taken sizes placed.call.call in
-    let parts : entries_of_history sizes (not_later call (history ++ more ∷ [])) ≡ entries_of_history sizes (not_later call history) + sum_by taken (filter test (more ∷ [])) =
-    ap (sum_by taken) (filter-append test history (more ∷ [])) ∙ sum_by-append taken (filter test history) (filter test (more ∷ [])) in
-    omega (arith, parts)
+-- ---- how many entries some calls drew, beside the later ones of a call's own thread
 
-was_full_on : (sizes : Sizes) (history : List PlacedCall) (more : PlacedCall) (call : TracedCall) (refusal : Refusal) → WasFull sizes history call refusal → WasFull sizes (history ++ more ∷ []) call refusal
-was_full_on sizes history more call TooFar full = full
-was_full_on sizes history more call TooLong full = full
-was_full_on sizes history more call Stopped full = full
-was_full_on sizes history more call (Spent found) full = full
-was_full_on sizes history more call (Again head tail) full =
-    record { takes = full.takes; retired = full.retired; full = full.full; drawn = omega (arith, full.drawn, entries_grow sizes history more call) }
-was_full_on sizes history more call RegionFault full = full
-was_full_on sizes history more call StoreFault full = full
+drawn_by : Sizes → TracedCall → List TracedCall → ℕ
+drawn_by sizes call calls = entries_of sizes (not_later call calls)
 
--- one more placed call takes no refusal's cause away
-allowed_on : (sizes : Sizes) (history : List PlacedCall) (more : PlacedCall) (call : TracedCall) (refusal : Refusal) → IsAllowed sizes history call refusal → IsAllowed sizes (history ++ more ∷ []) call refusal
-allowed_on sizes history more call refusal allowed =
-    allowed_at (barred sizes call.call) allowed
-  where
-    allowed_at : (cause : Option Refusal) → MatchOption cause (WasFull sizes history call refusal) (λ cause. refusal ≡ cause) → MatchOption cause (WasFull sizes (history ++ more ∷ []) call refusal) (λ cause. refusal ≡ cause)
-    allowed_at None full = was_full_on sizes history more call refusal full
-    allowed_at (Some cause) is = is
+drawn-append : (sizes : Sizes) (call : TracedCall) (some more : List TracedCall) → drawn_by sizes call (some ++ more) ≡ drawn_by sizes call some + drawn_by sizes call more
+unfolding drawn_by
+drawn-append sizes call some more =
+    let test : TracedCall → Bool = λ other. not (other.thread == call.thread && nat_lt call.line other.line) in
+    let taken : TracedCall → ℕ = λ traced. entries_taken sizes traced.call in
+    ap (sum_by taken) (filter-append test some more) ∙ sum_by-append taken (filter test some) (filter test more)
 
--- where no placed call has a later line, none is left out
-none_later : (history : List PlacedCall) (call : TracedCall) → All (λ placed. placed.call.line < call.line) history → not_later call history ≡ history
-none_later history call after_all =
-    let test : PlacedCall → Bool = λ placed. not (placed.call.thread == call.thread && nat_lt call.line placed.call.line) in
-    filter_all test history
-    (All-weaker (λ placed. placed.call.line < call.line) (λ placed. test placed ≡ true)
-    (λ placed below. not_from_false (placed.call.thread == call.thread && nat_lt call.line placed.call.line)
-    (and_right (placed.call.thread == call.thread) (nat_lt call.line placed.call.line)
-    (le-ltb call.line placed.call.line (omega arith)))) history after_all)
+-- they are no fewer where more calls drew
+drawn_grows : (basis : Basis) (drew more : List TracedCall) (call : TracedCall) (head : ℕ) → drawn_by basis.sizes call drew ≤ drawn_by basis.sizes call more
+    → IsDrawn basis drew call head → IsDrawn basis more call head
+unfolding drawn_by
+drawn_grows basis drew more call head grows drawn = omega (arith, grows, drawn)
 
--- the refusal of a call where so many entries were drawn is one that may be shown
-refusal_allowed : (sizes : Sizes) (history : List PlacedCall) (head : ℕ) (call : TracedCall) (refusal : Refusal) → head ≤ sizes.entries → head ≡ entries_of_history sizes (not_later call history) → refusal_at sizes head call.call ≡ Some refusal → IsAllowed sizes history call refusal
-refusal_allowed sizes history head call refusal room drawn refused =
-    allowed_at (barred sizes call.call) refused
-  where
-    full : Bool
-    full = nat_lt sizes.entries (head + entries_taken sizes call.call)
+refused_on : (failed : Type 0) (basis : Basis) (drew more : List TracedCall) (call : TracedCall) (refusal : Refusal) → drawn_by basis.sizes call drew ≤ drawn_by basis.sizes call more
+    → WasRefused failed basis drew call refusal → WasRefused failed basis more call refusal
+refused_on failed basis drew more call TooFar grows was = was
+refused_on failed basis drew more call TooLong grows was = was
+refused_on failed basis drew more call Stopped grows was = was
+refused_on failed basis drew more call (Spent found) grows was =
+    record { takes = was.takes; spent = was.spent; drawn = drawn_grows basis drew more call found grows was.drawn }
+refused_on failed basis drew more call (Again head tail) grows was =
+    record { takes = was.takes; retired = was.retired; full = was.full; drawn = drawn_grows basis drew more call head grows was.drawn }
+refused_on failed basis drew more call RegionFault grows was = was
+refused_on failed basis drew more call StoreFault grows was = was
 
-    full_at : (is_full : Bool) → (is_full ≡ true → sizes.entries < head + entries_taken sizes call.call) → (if is_full then Some (Again head 0) else None) ≡ Some refusal → WasFull sizes history call refusal
-    full_at true above is =
-        let again : Again head 0 ≡ refusal = cc in
-        subst (WasFull sizes history call) again
-        (record { takes = omega (arith, above refl); retired = refl; full = omega (arith, above refl); drawn = omega arith })
-    full_at false above is = absurd cc
+-- a fact of a call that nothing bars, beside what bars another
+where_not_barred : (P Q : Type 0) (cause : Option Refusal) (refusal : Refusal) → (P → Q) → MatchOption cause P (λ cause. refusal ≡ cause) → MatchOption cause Q (λ cause. refusal ≡ cause)
+where_not_barred P Q None refusal on p = on p
+where_not_barred P Q (Some cause) refusal on is = is
 
-    allowed_at : (cause : Option Refusal) → first_refusal cause (if nat_lt sizes.entries (head + entries_taken sizes call.call) then Some (Again head 0) else None) ≡ Some refusal → MatchOption cause (WasFull sizes history call refusal) (λ cause. refusal ≡ cause)
-    allowed_at None is = full_at (nat_lt sizes.entries (head + entries_taken sizes call.call)) (ltb-true sizes.entries (head + entries_taken sizes call.call)) is
-    allowed_at (Some cause) is = cc
+-- more calls that drew take no refusal's cause away
+allowed_on : (failed : Type 0) (basis : Basis) (drew more : List TracedCall) (call : TracedCall) (refusal : Refusal) → drawn_by basis.sizes call drew ≤ drawn_by basis.sizes call more
+    → IsAllowed failed basis drew call refusal → IsAllowed failed basis more call refusal
+allowed_on failed basis drew more call refusal grows =
+    where_not_barred (WasRefused failed basis drew call refusal) (WasRefused failed basis more call refusal) (barred basis.sizes call.call) refusal
+    (refused_on failed basis drew more call refusal grows)
 
--- a call that is not refused is not barred
-not_refused : (sizes : Sizes) (head : ℕ) (call : TracedCall) → refusal_at sizes head call.call ≡ None → barred sizes call.call ≡ None
-not_refused sizes head call is = not_refused_at (barred sizes call.call) is
-  where
-    not_refused_at : (cause : Option Refusal) → first_refusal cause (if nat_lt sizes.entries (head + entries_taken sizes call.call) then Some (Again head 0) else None) ≡ None → cause ≡ None
-    not_refused_at None is = refl
-    not_refused_at (Some cause) is = cc
+-- nor does a weaker word of what failed
+refused_while : (failed more : Type 0) (basis : Basis) (drew : List TracedCall) (call : TracedCall) (refusal : Refusal) → (failed → more)
+    → WasRefused failed basis drew call refusal → WasRefused more basis drew call refusal
+refused_while failed more basis drew call TooFar on was = was
+refused_while failed more basis drew call TooLong on was = was
+refused_while failed more basis drew call Stopped on was = on was
+refused_while failed more basis drew call (Spent found) on was = was
+refused_while failed more basis drew call (Again head tail) on was = was
+refused_while failed more basis drew call RegionFault on was = (was.0, on was.1)
+refused_while failed more basis drew call StoreFault on was = (was.0, on was.1)
 
--- and there is room for what it takes
-room_left : (sizes : Sizes) (head : ℕ) (call : TracedCall) → refusal_at sizes head call.call ≡ None → head + entries_taken sizes call.call ≤ sizes.entries
-room_left sizes head call is = room_at (barred sizes call.call) (nat_lt sizes.entries (head + entries_taken sizes call.call)) (ltb-false sizes.entries (head + entries_taken sizes call.call)) is
-  where
-    room_at : (cause : Option Refusal) (is_full : Bool) → (is_full ≡ false → head + entries_taken sizes call.call ≤ sizes.entries)
-        → first_refusal cause (if is_full then Some (Again head 0) else None) ≡ None → head + entries_taken sizes call.call ≤ sizes.entries
-    room_at None true left is = absurd cc
-    room_at None false left is = left refl
-    room_at (Some cause) is_full left is = absurd cc
+-- where no call has a later line, none is left out
+none_later : (calls : List TracedCall) (call : TracedCall) → IsAfterAll calls call → not_later call calls ≡ calls
+none_later calls call after_all =
+    let test : TracedCall → Bool = λ other. not (other.thread == call.thread && nat_lt call.line other.line) in
+    filter_all test calls
+    (All-weaker (λ earlier. earlier.line < call.line) (λ earlier. test earlier ≡ true)
+    (λ earlier below. not_from_false (earlier.thread == call.thread && nat_lt call.line earlier.line)
+    (and_right (earlier.thread == call.thread) (nat_lt call.line earlier.line)
+    (le-ltb call.line earlier.line (omega arith)))) calls after_all)
 
--- what a call's answer says of its refusal
-pub none_from_ok : {T : Type 0} (cause : Option Refusal) (value : T) → IsRefusedBy cause (Ok value) → cause ≡ None
-none_from_ok None value by_cause = refl
-none_from_ok (Some refusal) value by_cause = cc
-
-pub some_from_refused : {T : Type 0} (cause : Option Refusal) (result : Result T CallError) (refusal : Refusal) → result ≡ Err (Refused refusal) → IsRefusedBy cause result → cause ≡ Some refusal
-some_from_refused None result refusal is by_cause = absurd (subst (IsRefusedBy None) is by_cause)
-some_from_refused (Some cause) result refusal is by_cause = cc
-
--- one more element, at the end of either of two lists, and at the end of what they are together
+-- one more element, at the end of a list, and at the end of what it is together with another
 joins_first : {X : Type 0} (xs ys zs : List X) (x : X) → IsPermutation (xs ++ ys) zs → IsPermutation ((xs ++ x ∷ []) ++ ys) (zs ++ x ∷ [])
 joins_first xs ys zs x same =
     let in_front = IsPermutation-trans (xs ++ x ∷ ys) (x ∷ (xs ++ ys)) (x ∷ zs) (IsPermutation-middle xs x ys) (IsPermutation-cons x (xs ++ ys) zs same) in
@@ -173,142 +139,258 @@ joins_first xs ys zs x same =
     subst (λ ws. IsPermutation ws (zs ++ x ∷ [])) (sym (append_assoc xs (x ∷ []) ys))
     (IsPermutation-trans (xs ++ x ∷ ys) (x ∷ zs) (zs ++ x ∷ []) in_front behind)
 
-joins_second : {X : Type 0} (xs ys zs : List X) (x : X) → IsPermutation (xs ++ ys) zs → IsPermutation (xs ++ (ys ++ x ∷ [])) (zs ++ x ∷ [])
-joins_second xs ys zs x same =
-    subst (λ ws. IsPermutation ws (zs ++ x ∷ [])) (append_assoc xs ys (x ∷ []))
-    (IsPermutation-append_left (x ∷ []) (xs ++ ys) zs same)
-
 all_from_map : {X Y : Type 0} (P : X → Type 0) (f : Y → X) (ys : List Y) → All P (map f ys) → All (λ y. P (f y)) ys
 all_from_map P f ys all k d below =
     subst P (get_or-map f ys k d (f d) below) (all k (f d) (omega (arith, length-map ys f)))
 
-none_made : (sizes : Sizes) → AreMade sizes [] 0 [] [] []
-none_made sizes = record {
+-- ---- a history goes on
+
+after_push : (earlier : List Answered) (answered : Answered) (files : Files) → after (earlier ++ answered ∷ []) files ≡ files_after answered.call (after earlier files)
+after_push [] answered files = refl
+after_push (first ∷ later) answered files = after_push later answered (files_after first.call files)
+
+legal_push : (earlier : List Answered) (answered : Answered) (files : Files) → IsLegal earlier files → answered.reply ≡ reply_of answered.call (after earlier files)
+    → IsLegal (earlier ++ answered ∷ []) files
+legal_push [] answered files legal replied = (replied, tt)
+legal_push (first ∷ later) answered files legal replied = (legal.0, legal_push later answered (files_after first.call files) legal.1 replied)
+
+-- ---- a run goes on
+
+-- nothing was made yet
+pub made_nothing : (failed : Type 0) (basis : Basis) (descriptors : List ℕ) → AreMade failed basis descriptors [] basis.next basis.files [] [] []
+made_nothing failed basis descriptors = record {
   legal = tt;
-  bytes_are = refl;
+  files = refl;
   each_once = IsPermutation-refl [];
   in_order = λ thread k below. absurd (omega arith);
   refused_in_order = λ k below. absurd (omega arith);
+  open_in_order = λ k below. absurd (omega arith);
   allowed = λ k d below. absurd (omega arith);
   not_barred = λ k d below. absurd (omega arith);
-  drawn = refl;
+  left_open = λ k d below. absurd (omega arith);
+  drawn = omega arith;
   room = omega arith;
 }
 
--- nothing was made yet
-pub made_nothing : (sizes : Sizes) (head : ℕ) (bytes : List ℕ) (placed : List PlacedCall) (refused : List RefusedCall) → head ≡ 0 → bytes ≡ [] → placed ≡ [] → refused ≡ []
-    → AreMade sizes [] head bytes placed refused
-made_nothing sizes head bytes placed refused none no_bytes none_placed none_refused =
-    let drawn = subst (λ n. AreMade sizes [] n [] [] []) (sym none) (none_made sizes) in
-    let written = subst (λ file. AreMade sizes [] head file [] []) (sym no_bytes) drawn in
-    let taken = subst (λ calls. AreMade sizes [] head bytes calls []) (sym none_placed) written in
-    subst (AreMade sizes [] head bytes placed) (sym none_refused) taken
-
--- a log that has no entry yet
-pub no_bytes : {P : Type 0} (history : P → History) (log : Log P) → log.head ≡ 0 → file_of history log ≡ []
-unfolding overlaid
-no_bytes history log none = ap (λ head. overlaid [] (map present (take head (slots_of history log)))) none
-
-pub StaysOver-refl : {P : Type 0} (history : P → History) (device : P → ℕ) (log : Log P) → StaysOver history device log log
-StaysOver-refl history device log = record { geometry = refl; devices = refl; tells = λ tell. tell; room = λ room. room }
-
-pub StaysOver-trans : {P : Type 0} {history : P → History} {device : P → ℕ} {old between new : Log P}
-    → StaysOver history device old between → StaysOver history device between new → StaysOver history device old new
-StaysOver-trans first second = record {
-  geometry = second.geometry ∙ first.geometry;
-  devices = second.devices ∙ first.devices;
-  tells = λ tell. second.tells (first.tells tell);
-  room = λ room. second.room (first.room room);
+-- What was made stays so where more is known of what failed.
+pub made_while : (failed more : Type 0) (basis : Basis) (descriptors : List ℕ) (calls : List TracedCall) (head : ℕ) (now : Files) (placed : List PlacedCall) (refused : List RefusedCall) (left : List TracedCall)
+    → (failed → more) → AreMade failed basis descriptors calls head now placed refused left → AreMade more basis descriptors calls head now placed refused left
+made_while failed more basis descriptors calls head now placed refused left on made = record {
+  legal = made.legal;
+  files = made.files;
+  each_once = made.each_once;
+  in_order = made.in_order;
+  refused_in_order = made.refused_in_order;
+  open_in_order = made.open_in_order;
+  allowed =
+      All-weaker (λ r. IsAllowed failed basis (drawing placed left) r.call r.refusal) (λ r. IsAllowed more basis (drawing placed left) r.call r.refusal)
+      (λ r. where_not_barred (WasRefused failed basis (drawing placed left) r.call r.refusal) (WasRefused more basis (drawing placed left) r.call r.refusal)
+      (barred basis.sizes r.call.call) r.refusal (refused_while failed more basis (drawing placed left) r.call r.refusal on)) refused made.allowed;
+  not_barred = made.not_barred;
+  left_open =
+      All-weaker (IsLeftOpen failed basis) (IsLeftOpen more basis)
+      (λ call is. record { is_write = is.is_write; failed_so = on is.failed_so; not_barred = is.not_barred }) left made.left_open;
+  drawn = made.drawn;
+  room = made.room;
 }
 
 -- A run goes on by a call that is after all others.
-module _ (sizes : Sizes) (calls : List TracedCall) (head : ℕ) (bytes : List ℕ) (placed : List PlacedCall) (refused : List RefusedCall) (call : TracedCall)
-    (made : AreMade sizes calls head bytes placed refused) (after_all : IsAfterAll calls call) where
-  all_earlier : All (λ earlier. earlier.line < call.line) (map (λ p. p.call) placed ++ map (λ r. r.call) refused)
+module _ (failed : Type 0) (basis : Basis) (descriptors : List ℕ) (calls : List TracedCall) (head : ℕ) (now : Files) (placed : List PlacedCall) (refused : List RefusedCall)
+    (left : List TracedCall) (call : TracedCall)
+    (made : AreMade failed basis descriptors calls head now placed refused left) (after_all : IsAfterAll calls call) where
+  placed_ones : List TracedCall
+  placed_ones = map (λ p. p.call) placed
+
+  refused_ones : List TracedCall
+  refused_ones = map (λ r. r.call) refused
+
+  all_earlier : IsAfterAll (listed placed refused left) call
   all_earlier =
-      All-permutation (λ earlier. earlier.line < call.line) calls (map (λ p. p.call) placed ++ map (λ r. r.call) refused)
-      (IsPermutation-sym (map (λ p. p.call) placed ++ map (λ r. r.call) refused) calls made.each_once) after_all
+      All-permutation (λ earlier. earlier.line < call.line) calls (listed placed refused left)
+      (IsPermutation-sym (listed placed refused left) calls made.each_once) after_all
+
+  answered_earlier : IsAfterAll (map (λ p. p.call) placed ++ map (λ r. r.call) refused) call
+  answered_earlier = All-front (λ earlier. earlier.line < call.line) (map (λ p. p.call) placed ++ map (λ r. r.call) refused) left all_earlier
 
   placed_earlier : IsAfterAll (map (λ p. p.call) placed) call
-  placed_earlier = All-front (λ earlier. earlier.line < call.line) (map (λ p. p.call) placed) (map (λ r. r.call) refused) all_earlier
+  placed_earlier = All-front (λ earlier. earlier.line < call.line) (map (λ p. p.call) placed) (map (λ r. r.call) refused) answered_earlier
 
   refused_earlier : IsAfterAll (map (λ r. r.call) refused) call
-  refused_earlier = All-back (λ earlier. earlier.line < call.line) (map (λ p. p.call) placed) (map (λ r. r.call) refused) all_earlier
+  refused_earlier = All-back (λ earlier. earlier.line < call.line) (map (λ p. p.call) placed) (map (λ r. r.call) refused) answered_earlier
 
-  pub made_placed : (reply : Reply) (new_head : ℕ) (new_bytes : List ℕ)
-      → refusal_at sizes head call.call ≡ None
-      → reply ≡ reply_of (file_call (0 ∷ []) call.call) (one_file bytes)
-      → one_file new_bytes ≡ files_after (file_call (0 ∷ []) call.call) (one_file bytes)
-      → new_head ≡ head + entries_taken sizes call.call
-      → AreMade sizes (calls ++ call ∷ []) new_head new_bytes (placed ++ record { call = call; reply = reply } ∷ []) refused
-  made_placed reply new_head new_bytes taken replied written drawn =
+  left_earlier : IsAfterAll left call
+  left_earlier = All-back (λ earlier. earlier.line < call.line) (map (λ p. p.call) placed ++ map (λ r. r.call) refused) left all_earlier
+
+  drawing_earlier : IsAfterAll (drawing placed left) call
+  drawing_earlier = All-append (λ earlier. earlier.line < call.line) (map (λ p. p.call) placed) left placed_earlier left_earlier
+
+  -- the number that the log goes on with is one that the call may find
+  head_drawn : IsDrawn basis (drawing placed left) call head
+  head_drawn = omega (arith, made.drawn, ap (entries_of basis.sizes) (none_later (drawing placed left) call drawing_earlier))
+
+  -- the call was answered
+  pub made_placed : (reply : Reply) (new_head : ℕ) (new_now : Files)
+      → barred basis.sizes call.call ≡ None
+      → reply ≡ reply_of (file_call descriptors call.call) now
+      → new_now ≡ files_after (file_call descriptors call.call) now
+      → new_head ≡ head + entries_taken basis.sizes call.call
+      → new_head ≤ basis.next + basis.sizes.entries
+      → AreMade failed basis descriptors (calls ++ call ∷ []) new_head new_now (placed ++ record { call = call; reply = reply } ∷ []) refused left
+  made_placed reply new_head new_now may replied written drew fits =
       let last : PlacedCall = record { call = call; reply = reply } in
-      let answered_of : PlacedCall → Answered = λ p. record { caller = p.call.thread; call = file_call (0 ∷ []) p.call.call; reply = p.reply } in
-      let history : history_of (0 ∷ []) (placed ++ last ∷ []) ≡ history_of (0 ∷ []) placed ++ answered_of last ∷ [] = map_push answered_of placed last in
+      let answered_of : PlacedCall → Answered = λ p. record { caller = p.call.thread; call = file_call descriptors p.call.call; reply = p.reply } in
+      let history : history_of descriptors (placed ++ last ∷ []) ≡ history_of descriptors placed ++ answered_of last ∷ [] = map_push answered_of placed last in
       let one_of : PlacedCall → TracedCall = λ p. p.call in
       let ones : map one_of (placed ++ last ∷ []) ≡ map one_of placed ++ call ∷ [] = map_push one_of placed last in
-      let entries_of : PlacedCall → ℕ = λ p. entries_taken sizes p.call.call in
+      let taken : TracedCall → ℕ = λ traced. entries_taken basis.sizes traced.call in
+      let others = map (λ r. r.call) refused in
       record {
         legal =
-            subst (λ h. IsLegal h (empty_files 1)) (sym history)
-            (IsLegal-push (history_of (0 ∷ []) placed) (answered_of last) (empty_files 1) made.legal
-            (replied ∙ ap (reply_of (file_call (0 ∷ []) call.call)) made.bytes_are));
-        bytes_are =
-            written ∙ ap (files_after (file_call (0 ∷ []) call.call)) made.bytes_are
-            ∙ sym (after-append (history_of (0 ∷ []) placed) (answered_of last ∷ []) (empty_files 1))
-            ∙ ap (λ h. after h (empty_files 1)) (sym history);
+            subst (λ h. IsLegal h basis.files) (sym history)
+            (legal_push (history_of descriptors placed) (answered_of last) basis.files made.legal
+            (replied ∙ ap (reply_of (file_call descriptors call.call)) made.files));
+        files =
+            written ∙ ap (files_after (file_call descriptors call.call)) made.files
+            ∙ sym (after_push (history_of descriptors placed) (answered_of last) basis.files)
+            ∙ ap (λ h. after h basis.files) (sym history);
         each_once =
-            subst (λ xs. IsPermutation (xs ++ map (λ r. r.call) refused) (calls ++ call ∷ [])) (sym ones)
-            (joins_first (map one_of placed) (map (λ r. r.call) refused) calls call made.each_once);
+            subst (λ xs. IsPermutation (xs ++ others ++ left) (calls ++ call ∷ [])) (sym ones)
+            (subst (λ xs. IsPermutation xs (calls ++ call ∷ [])) (sym (append_assoc (map one_of placed ++ call ∷ []) others left))
+            (joins_first (map one_of placed) (others ++ left) calls call
+            (subst (λ xs. IsPermutation xs calls) (append_assoc (map one_of placed) others left) made.each_once)));
         in_order = λ thread.
             subst (λ xs. IsStrictlyIncreasing (lines_of thread xs)) (sym ones)
             (lines_rise_on thread (map one_of placed) call (made.in_order thread) placed_earlier);
         refused_in_order = made.refused_in_order;
+        open_in_order = made.open_in_order;
         allowed =
-            All-weaker (λ r. IsAllowed sizes placed r.call r.refusal) (λ r. IsAllowed sizes (placed ++ last ∷ []) r.call r.refusal)
-            (λ r. allowed_on sizes placed last r.call r.refusal) refused made.allowed;
-        not_barred = All-push (λ p. barred sizes p.call.call ≡ None) placed last made.not_barred (not_refused sizes head call taken);
-        drawn = omega (arith, drawn, made.drawn, sum_by-append entries_of placed (last ∷ []));
-        room = omega (arith, drawn, room_left sizes head call taken);
+            All-weaker (λ r. IsAllowed failed basis (drawing placed left) r.call r.refusal) (λ r. IsAllowed failed basis (drawing (placed ++ last ∷ []) left) r.call r.refusal)
+            (λ r. allowed_on failed basis (drawing placed left) (drawing (placed ++ last ∷ []) left) r.call r.refusal
+            (omega (
+              arith,
+              drawn-append basis.sizes r.call (map one_of placed) left,
+              ap (drawn_by basis.sizes r.call) (ap (λ xs. xs ++ left) ones),
+              drawn-append basis.sizes r.call (map one_of placed ++ call ∷ []) left,
+              drawn-append basis.sizes r.call (map one_of placed) (call ∷ []),
+            ))) refused made.allowed;
+        not_barred =
+            subst (All (λ call. barred basis.sizes call.call ≡ None)) (sym ones)
+            (All-push (λ call. barred basis.sizes call.call ≡ None) (map one_of placed) call made.not_barred may);
+        left_open = made.left_open;
+        drawn = omega (
+          arith,
+          drew,
+          made.drawn,
+          sum_by-append taken (map one_of placed) left,
+          ap (λ xs. sum_by taken (xs ++ left)) ones,
+          sum_by-append taken (map one_of placed ++ call ∷ []) left,
+          sum_by-append taken (map one_of placed) (call ∷ []),
+        );
+        room = fits;
       }
 
-  pub made_refused : (refusal : Refusal) (new_head : ℕ) (new_bytes : List ℕ)
-      → refusal_at sizes head call.call ≡ Some refusal
-      → new_bytes ≡ bytes
-      → new_head ≡ head
-      → AreMade sizes (calls ++ call ∷ []) new_head new_bytes placed (refused ++ record { call = call; refusal = refusal } ∷ [])
-  made_refused refusal new_head new_bytes is unwritten undrawn =
+  -- the call was refused, as it may be
+  made_refused : (refusal : Refusal) → IsAllowed failed basis (drawing placed left) call refusal
+      → AreMade failed basis descriptors (calls ++ call ∷ []) head now placed (refused ++ record { call = call; refusal = refusal } ∷ []) left
+  made_refused refusal may =
       let last : RefusedCall = record { call = call; refusal = refusal } in
       let one_of : RefusedCall → TracedCall = λ r. r.call in
       let line_of : RefusedCall → ℕ = λ r. r.call.line in
+      let ones : map one_of (refused ++ last ∷ []) ≡ map one_of refused ++ call ∷ [] = map_push one_of refused last in
       let earlier = all_from_map (λ earlier. earlier.line < call.line) one_of refused refused_earlier in
-      let all_count : not_later call placed ≡ placed = none_later placed call (all_from_map (λ earlier. earlier.line < call.line) (λ (p : PlacedCall). p.call) placed placed_earlier) in
+      let before = map (λ p. p.call) placed in
       record {
         legal = made.legal;
-        bytes_are = ap one_file unwritten ∙ made.bytes_are;
+        files = made.files;
         each_once =
-            subst (λ xs. IsPermutation (map (λ p. p.call) placed ++ xs) (calls ++ call ∷ [])) (sym (map_push one_of refused last))
-            (joins_second (map (λ p. p.call) placed) (map one_of refused) calls call made.each_once);
+            subst (λ xs. IsPermutation (before ++ xs ++ left) (calls ++ call ∷ [])) (sym ones)
+            (subst (λ xs. IsPermutation (xs ++ left) (calls ++ call ∷ [])) (append_assoc before (map one_of refused) (call ∷ []))
+            (joins_first (before ++ map one_of refused) left calls call made.each_once));
         in_order = made.in_order;
         refused_in_order =
             subst IsStrictlyIncreasing (sym (map_push line_of refused last))
             (IsStrictlyIncreasing-push (map line_of refused) call.line made.refused_in_order (All-map (λ n. n < call.line) line_of refused earlier));
-        allowed =
-            All-push (λ r. IsAllowed sizes placed r.call r.refusal) refused last made.allowed
-            (refusal_allowed sizes placed head call refusal made.room (made.drawn ∙ ap (entries_of_history sizes) (sym all_count)) is);
+        open_in_order = made.open_in_order;
+        allowed = All-push (λ r. IsAllowed failed basis (drawing placed left) r.call r.refusal) refused last made.allowed may;
         not_barred = made.not_barred;
-        drawn = undrawn ∙ made.drawn;
-        room = omega (arith, undrawn, made.room);
+        left_open = made.left_open;
+        drawn = made.drawn;
+        room = made.room;
       }
 
--- the calls of an outcome, one more of them placed or refused
-pub placed_push : (old new : List Placed) (call : Bor TracedCall) (reply : Reply) → new ≡ old ++ record { call = call; reply = reply } ∷ []
-    → map placed_call new ≡ map placed_call old ++ record { call = call.now; reply = reply } ∷ []
-placed_push old new call reply pushed = ap (map placed_call) pushed ∙ map_push placed_call old (record { call = call; reply = reply })
+  -- its arguments bar it
+  pub made_barred : (refusal : Refusal) → barred basis.sizes call.call ≡ Some refusal
+      → AreMade failed basis descriptors (calls ++ call ∷ []) head now placed (refused ++ record { call = call; refusal = refusal } ∷ []) left
+  made_barred refusal is = made_refused refusal (barred_at (barred basis.sizes call.call) is)
+    where
+      barred_at : (cause : Option Refusal) → cause ≡ Some refusal → MatchOption cause (WasRefused failed basis (drawing placed left) call refusal) (λ cause. refusal ≡ cause)
+      barred_at None is = absurd cc
+      barred_at (Some cause) is = cc
 
-pub refused_push : (old new : List Run.Refused) (call : Bor TracedCall) (refusal : Refusal) → new ≡ old ++ record { call = call; refusal = refusal } ∷ []
-    → map refused_call new ≡ map refused_call old ++ record { call = call.now; refusal = refusal } ∷ []
-refused_push old new call refusal pushed = ap (map refused_call) pushed ∙ map_push refused_call old (record { call = call; refusal = refusal })
+  -- nothing bars it, and there is another cause
+  made_otherwise : (refusal : Refusal) → barred basis.sizes call.call ≡ None → WasRefused failed basis (drawing placed left) call refusal
+      → AreMade failed basis descriptors (calls ++ call ∷ []) head now placed (refused ++ record { call = call; refusal = refusal } ∷ []) left
+  made_otherwise refusal may was = made_refused refusal (otherwise_at (barred basis.sizes call.call) may)
+    where
+      otherwise_at : (cause : Option Refusal) → cause ≡ None → MatchOption cause (WasRefused failed basis (drawing placed left) call refusal) (λ cause. refusal ≡ cause)
+      otherwise_at None is = was
+      otherwise_at (Some cause) is = absurd cc
+
+  -- the log has no entry left for it
+  pub made_again : barred basis.sizes call.call ≡ None → 0 < entries_taken basis.sizes call.call → basis.next + basis.sizes.entries < head + entries_taken basis.sizes call.call
+      → AreMade failed basis descriptors (calls ++ call ∷ []) head now placed (refused ++ record { call = call; refusal = Again head basis.next } ∷ []) left
+  made_again may takes full =
+      made_otherwise (Again head basis.next) may (record { takes = takes; retired = refl; full = full; drawn = head_drawn })
+
+  -- no number is left for it
+  pub made_spent : barred basis.sizes call.call ≡ None → 0 < entries_taken basis.sizes call.call → 2 ^ 60 < head + entries_taken basis.sizes call.call
+      → AreMade failed basis descriptors (calls ++ call ∷ []) head now placed (refused ++ record { call = call; refusal = Spent head } ∷ []) left
+  made_spent may takes spent = made_otherwise (Spent head) may (record { takes = takes; spent = spent; drawn = head_drawn })
+
+  -- a device failed before
+  pub made_stopped : barred basis.sizes call.call ≡ None → failed
+      → AreMade failed basis descriptors (calls ++ call ∷ []) head now placed (refused ++ record { call = call; refusal = Stopped } ∷ []) left
+  made_stopped may because = made_otherwise Stopped may because
+
+  -- a part failed while it read
+  pub made_region_fault : barred basis.sizes call.call ≡ None → IsRead call.call → failed
+      → AreMade failed basis descriptors (calls ++ call ∷ []) head now placed (refused ++ record { call = call; refusal = RegionFault } ∷ []) left
+  made_region_fault may reads because = made_otherwise RegionFault may (reads, because)
+
+  -- a store failed while it read
+  pub made_store_fault : barred basis.sizes call.call ≡ None → IsRead call.call → failed
+      → AreMade failed basis descriptors (calls ++ call ∷ []) head now placed (refused ++ record { call = call; refusal = StoreFault } ∷ []) left
+  made_store_fault may reads because = made_otherwise StoreFault may (reads, because)
+
+  -- it is a write that was left open
+  pub made_open : (new_head : ℕ) → IsLeftOpen failed basis call
+      → new_head ≡ head + entries_taken basis.sizes call.call
+      → new_head ≤ basis.next + basis.sizes.entries
+      → AreMade failed basis descriptors (calls ++ call ∷ []) new_head now placed refused (left ++ call ∷ [])
+  made_open new_head may drew fits =
+      let taken : TracedCall → ℕ = λ traced. entries_taken basis.sizes traced.call in
+      let line_of : TracedCall → ℕ = λ traced. traced.line in
+      let before = map (λ p. p.call) placed in
+      record {
+        legal = made.legal;
+        files = made.files;
+        each_once =
+            subst (λ xs. IsPermutation xs (calls ++ call ∷ [])) (append_assoc (before ++ map (λ r. r.call) refused) left (call ∷ []))
+            (IsPermutation-append_left (call ∷ []) (listed placed refused left) calls made.each_once);
+        in_order = made.in_order;
+        refused_in_order = made.refused_in_order;
+        open_in_order =
+            subst IsStrictlyIncreasing (sym (map_push line_of left call))
+            (IsStrictlyIncreasing-push (map line_of left) call.line made.open_in_order (All-map (λ n. n < call.line) line_of left left_earlier));
+        allowed =
+            All-weaker (λ r. IsAllowed failed basis (drawing placed left) r.call r.refusal) (λ r. IsAllowed failed basis (drawing placed (left ++ call ∷ [])) r.call r.refusal)
+            (λ r. allowed_on failed basis (drawing placed left) (drawing placed (left ++ call ∷ [])) r.call r.refusal
+            (omega (arith, drawn-append basis.sizes r.call before left, drawn-append basis.sizes r.call before (left ++ call ∷ []), drawn-append basis.sizes r.call left (call ∷ [])))) refused made.allowed;
+        not_barred = made.not_barred;
+        left_open = All-push (IsLeftOpen failed basis) left call made.left_open may;
+        drawn = omega (arith, drew, made.drawn, sum_by-append taken before left, sum_by-append taken before (left ++ call ∷ []), sum_by-append taken left (call ∷ []));
+        room = fits;
+      }
 
 -- where lines rise, each call is after all those before it
 pub after_all_before : (calls : List TracedCall) (i : ℕ) (d : TracedCall) → IsStrictlyIncreasing (map (λ c. c.line) calls) → i < length calls → IsAfterAll (take i calls) (get_or calls i d)

@@ -1,6 +1,8 @@
 -- How a program ends: the line that says why.
 use Rattle.std.specs.Prelude.{◌≡◌, ℕ, List, [], ◌∷◌, ◌++◌, codes, take, Contains, Option}
 use Rattle.std.specs.Fmt.{decimal}
+use Rattle.nv_open.specs.declared.error.Refusal.{Refusal}
+use Rattle.nv_top.specs.RegionTexts.{region_text}
 use Rattle.nv_trace.specs.Streams.{Appends}
 use Rattle.nv_trace.specs.Traced.{Traced}
 use Rattle.nv_trace.specs.Reading.{Ending, Whole, Bad, Long, ending_of}
@@ -27,6 +29,10 @@ bad_line number = codes "error line " ++ (decimal number ++ as_line (codes " for
 abbrev pub long_line : List ℕ
 long_line = as_line (codes "error input long")
 
+-- `error region TEXT`
+unfoldable pub region_line : Refusal → List ℕ
+region_line refusal = codes "error region " ++ as_line (region_text refusal)
+
 -- what is said of an input that is no trace
 abbrev pub input_line : Ending → List ℕ
 input_line (Whole trace) = []
@@ -40,7 +46,8 @@ IsTrace input = (trace : Traced) × (ending_of input ≡ Whole trace)
 -- a line that says why there is no report
 abbrev pub IsErrorLine : List ℕ → Type 0
 IsErrorLine text =
-    (number : ℕ) × Contains (usage_line ∷ bad_line number ∷ long_line ∷ read_line ∷ device_line ∷ memory_line ∷ []) text
+    (number : ℕ) × (refusal : Refusal)
+    × Contains (usage_line ∷ bad_line number ∷ long_line ∷ read_line ∷ device_line ∷ memory_line ∷ region_line refusal ∷ []) text
 
 -- what was written, where it is told, has a front of these bytes more
 abbrev pub AppendsFront : Option (List ℕ) → Option (List ℕ) → List ℕ → Type 0

@@ -3,8 +3,8 @@ use Rattle.std.specs.Prelude.{◌≡◌, ◌≢◌, ℕ, ◌+◌, ◌^◌, ◌<�
 use Rattle.std.specs.Fmt.{decimal}
 use Rattle.nv_trace.specs.declared.report.Refusal.{Refusal}
 use Rattle.nv_trace.specs.declared.report.Refusal.TheVariants.{TooFar, TooLong, Stopped, Spent, Again, RegionFault, StoreFault}
-use Rattle.nv_trace.specs.Report.{call_fields, reply_text, hex_text}
-use Rattle.nv_top.specs.Reports.{PlacedCall, RefusedCall, NamedFile, Report, report_text}
+use Rattle.nv_trace.specs.Report.{call_fields, reply_text, fate_text, hex_text}
+use Rattle.nv_top.specs.Reports.{PlacedCall, RefusedCall, OpenCall, NamedFile, Report, RecoveryReport, report_text, recovery_text}
 
 -- a text behind the last of some fields
 abbrev pub behind_last : List (List ℕ) → List ℕ → List (List ℕ)
@@ -38,31 +38,53 @@ refused_fields refused =
     codes "refused" ∷ decimal refused.call.thread
     ∷ (behind_last (call_fields refused.call.call) (codes ":") ++ refusal_fields refused.refusal)
 
+-- the fields of an open call's line
+abbrev pub open_fields : OpenCall → List (List ℕ)
+open_fields o =
+    codes "open" ∷ decimal o.call.thread ∷ (behind_last (call_fields o.call.call) (codes ":") ++ fate_text o.fate ∷ [])
+
+-- the fields of a recovery's first line
+abbrev pub recovered_fields : RecoveryReport → List (List ℕ)
+recovered_fields report = codes "recovered" ∷ decimal report.first ∷ decimal report.next ∷ decimal report.groups ∷ []
+
 -- the fields of a file's line
 abbrev pub file_fields : NamedFile → List (List ℕ)
 file_fields file = codes "file" ∷ file.name ∷ decimal (length file.bytes) ∷ hex_text file.bytes ∷ []
 
 -- the fields of the last line
 abbrev pub end_fields : Report → List (List ℕ)
-end_fields report = codes "end" ∷ decimal (length report.history) ∷ decimal (length report.refused) ∷ decimal 0 ∷ []
+end_fields report =
+    codes "end" ∷ decimal (length report.history) ∷ decimal (length report.refused) ∷ decimal (length report.open_calls) ∷ []
 
 -- the lines of a report, each as its fields
 abbrev pub listing : Report → List (List (List ℕ))
 listing report =
-    history_listing 0 report.history ++ map refused_fields report.refused ++ map file_fields report.files ++ end_fields report ∷ []
+    history_listing 0 report.history ++ map refused_fields report.refused ++ map open_fields report.open_calls
+    ++ map file_fields report.files ++ end_fields report ∷ []
+
+-- those of a recovery's report
+abbrev pub recovery_listing : RecoveryReport → List (List (List ℕ))
+recovery_listing report = recovered_fields report ∷ map file_fields report.files
 
 -- neither a space nor a line feed
 abbrev pub IsPlainByte : ℕ → Type 0
 IsPlainByte byte = (byte ≢ 32) × (byte ≢ 10)
 
--- no name of a file has a space or a line feed
-abbrev pub HasPlainNames : Report → Type 0
-HasPlainNames report = All (λ file. All IsPlainByte file.name) report.files
+-- no name of these files has a space or a line feed
+abbrev pub HavePlainNames : List NamedFile → Type 0
+HavePlainNames files = All (λ file. All IsPlainByte file.name) files
 
 -- A text has one reading: reports of one text list the same lines, field by field.
 abbrev pub OneReading : Type 0
 OneReading =
-    (report other : Report) → HasPlainNames report → HasPlainNames other → report_text report ≡ report_text other → listing report ≡ listing other
+    (report other : Report) → HavePlainNames report.files → HavePlainNames other.files
+    → report_text report ≡ report_text other → listing report ≡ listing other
+
+-- So it is with the reports of recoveries.
+abbrev pub OneRecoveryReading : Type 0
+OneRecoveryReading =
+    (report other : RecoveryReport) → HavePlainNames report.files → HavePlainNames other.files
+    → recovery_text report ≡ recovery_text other → recovery_listing report ≡ recovery_listing other
 
 -- A number's field has one reading.
 abbrev pub OneNumber : Type 0

@@ -1,14 +1,20 @@
 -- Stops: the status and the line of each.
-use Rattle.std.specs.Prelude.{◌≡◌, ◌⊎◌, ℕ, List}
+use Rattle.std.specs.Prelude.{◌≡◌, ◌⊎◌, ℕ, List, Result, Ok, Err}
+use Rattle.nv_plain.specs.Faults.{Rose}
+use Rattle.nv_engine.specs.declared.error.OpenError.{OpenError as LogError}
+use Rattle.nv_engine.specs.declared.error.OpenError.TheVariants as log_errors
+use Rattle.nv_open.specs.declared.error.OpenError.{OpenError}
+use Rattle.nv_open.specs.declared.error.Refusal.TheVariants as refusals
+use Rattle.nv_recover.specs.declared.error.RecoverError.{RecoverError}
+use Rattle.nv_recover.specs.declared.error.RecoverError.TheVariants as recover_errors
+use Rattle.nv_open.specs.declared.error.OpenError.TheVariants as open_errors
 use Rattle.nv_trace.specs.Reading.{ending_of, Bad, Long}
 use Rattle.nv_trace.specs.declared.reader.ReadError.{ReadError}
 use Rattle.nv_trace.specs.declared.reader.ReadError.TheVariants as read_errors
 use Rattle.nv_top.specs.declared.ending.Stop.{Stop}
-use Rattle.nv_top.specs.declared.ending.Stop.TheVariants.{Usage, BadLine, InputLong, Read, Device, NoMemory}
-use Rattle.nv_top.specs.declared.ending.TheConstants.{USAGE, BAD_INPUT, READ_FAULT, WRITE_FAULT, DEVICE_FAULT, NO_MEMORY}
-use Rattle.nv_top.specs.declared.run.RunError.{RunError}
-use Rattle.nv_top.specs.declared.run.RunError.TheVariants as run_errors
-use Rattle.nv_top.specs.Endings.{usage_line, bad_line, long_line, read_line, device_line, memory_line}
+use Rattle.nv_top.specs.declared.ending.Stop.TheVariants.{Usage, BadLine, InputLong, Read, Device, Region, NoMemory}
+use Rattle.nv_top.specs.declared.ending.TheConstants.{USAGE, BAD_INPUT, READ_FAULT, WRITE_FAULT, DEVICE_FAULT, NO_MEMORY, BAD_REGION}
+use Rattle.nv_top.specs.Endings.{usage_line, bad_line, long_line, read_line, device_line, memory_line, region_line}
 
 abbrev pub stop_status : Stop → ℕ
 stop_status Usage = USAGE
@@ -16,6 +22,7 @@ stop_status (BadLine bad) = BAD_INPUT
 stop_status InputLong = BAD_INPUT
 stop_status Read = READ_FAULT
 stop_status Device = DEVICE_FAULT
+stop_status (Region refusal) = BAD_REGION
 stop_status NoMemory = NO_MEMORY
 
 abbrev pub stop_line : Stop → List ℕ
@@ -24,6 +31,7 @@ stop_line (BadLine bad) = bad_line bad.number
 stop_line InputLong = long_line
 stop_line Read = read_line
 stop_line Device = device_line
+stop_line (Region refusal) = region_line refusal
 stop_line NoMemory = memory_line
 
 -- why an input that gave no trace stops the program
@@ -33,10 +41,38 @@ stop_of_read read_errors.InputLong = InputLong
 stop_of_read read_errors.Failed = Read
 stop_of_read read_errors.NoMemory = NoMemory
 
--- why a run without an outcome stops it
-abbrev pub stop_of_run : RunError → Stop
-stop_of_run run_errors.Fault = Device
-stop_of_run run_errors.NoMemory = NoMemory
+-- why a region that wasn't opened stops it
+abbrev pub stop_of_opening : OpenError → Stop
+stop_of_opening (open_errors.Refused refusal) = Region refusal
+stop_of_opening open_errors.Fault = Device
+stop_of_opening open_errors.NoMemory = NoMemory
+
+-- why a log that wasn't opened stops it
+abbrev pub stop_of_log : LogError → Stop
+stop_of_log log_errors.StoreFault = Device
+stop_of_log log_errors.NoMemory = NoMemory
+
+-- why a recovery that wasn't finished stops it
+abbrev pub stop_of_recovery : RecoverError → Stop
+stop_of_recovery (recover_errors.BadEntry number) = Region (refusals.BadEntry number)
+stop_of_recovery recover_errors.RegionFault = Device
+stop_of_recovery recover_errors.StoreFault = Device
+stop_of_recovery recover_errors.NoMemory = NoMemory
+
+-- What a bench may stop it for: a device's fault, only where the count of faults rose; and a region or want of memory, which leave
+-- that.
+abbrev pub StopHasCause : (before now : ℕ) → Stop → Type 0
+StopHasCause before now Usage = ⊥
+StopHasCause before now (BadLine bad) = ⊥
+StopHasCause before now InputLong = ⊥
+StopHasCause before now Read = ⊥
+StopHasCause before now Device = Rose before now
+StopHasCause before now (Region refusal) = now ≡ before
+StopHasCause before now NoMemory = now ≡ before
+
+abbrev pub CountHasCause : {T : Type 0} → (before now : ℕ) → Result T Stop → Type 0
+CountHasCause before now (Ok _) = now ≡ before
+CountHasCause before now (Err stop) = StopHasCause before now stop
 
 -- what a stop says of the input: it ends at a bad line, or is too long
 abbrev pub IsCauseOf : Stop → List ℕ → Type 0
@@ -45,16 +81,18 @@ IsCauseOf InputLong input = ending_of input ≡ Long
 IsCauseOf Usage input = Unit {0}
 IsCauseOf Read input = Unit {0}
 IsCauseOf Device input = Unit {0}
+IsCauseOf (Region refusal) input = Unit {0}
 IsCauseOf NoMemory input = Unit {0}
 
--- the line of the stop has a number in it
-abbrev pub HasNumber : Stop → Type 0
-HasNumber (BadLine bad) = Unit {0}
-HasNumber Usage = ⊥
-HasNumber InputLong = ⊥
-HasNumber Read = ⊥
-HasNumber Device = ⊥
-HasNumber NoMemory = ⊥
+-- the line of the stop takes memory
+abbrev pub TakesMemory : Stop → Type 0
+TakesMemory (BadLine bad) = Unit {0}
+TakesMemory Usage = ⊥
+TakesMemory InputLong = ⊥
+TakesMemory Read = ⊥
+TakesMemory Device = ⊥
+TakesMemory (Region refusal) = Unit {0}
+TakesMemory NoMemory = ⊥
 
 -- a status in the end: the wanted one, or the sink failed, or its line took memory that was wanting
 abbrev pub SaidAs : ℕ → ℕ → Type 0 → Type 0

@@ -1,29 +1,41 @@
-ghost use Rattle.std.specs.Prelude.{◌≡◌, ◌≢◌, ◌≤◌, ◌⊎◌, ℕ, List, [], map, string_bytes, false, Some, IfSome, IfOk, IfErr, OnOk, IsTrue, ◌↔◌, Ok, Err};
+ghost use Rattle.std.specs.Prelude.{◌≡◌, ◌≢◌, ◌≤◌, ◌<◌, ◌⊎◌, ◌+◌, ◌-◌, ◌^◌, ℕ, List, [], map, string_bytes, false, true, None, Some, IfSome, IfOk, IfErr, OnOk, ◌↔◌, Err};
+ghost use Rattle.std.specs.List.Sorted.{IsStrictlyIncreasing};
 ghost use Rattle.nv_plain.specs.Faults.{Rose};
-ghost use Rattle.nv_trace.specs.Reading.{ending_of, Whole};
+ghost use Rattle.nv_bench.specs.Holding.{IsQuietHolding};
+ghost use Rattle.nv_open.specs.Held.{told_after};
+ghost use Rattle.nv_open.specs.declared.error.Refusal.{Refusal};
+ghost use Rattle.nv_open.specs.declared.error.Refusal.TheVariants as refusals;
+ghost use Rattle.nv_trace.specs.Reading.{ending_of};
+ghost use Rattle.nv_trace.specs.Shape.{IsWellFormed};
 ghost use Rattle.nv_trace.specs.Streams.{Appends};
-ghost use Rattle.nv_trace.specs.Traced.{Traced};
-ghost use Rattle.nv_top.specs.Endings.{IsErrorLine, AppendsFront, usage_line, read_line, device_line, memory_line, input_line, IsTrace};
-ghost use Rattle.nv_top.specs.Readings.{HasPlainNames};
-ghost use Rattle.nv_top.specs.Reports.{Report, report_text, IsFaithful};
-ghost use Rattle.nv_top.specs.Runs.{run_sizes};
+ghost use Rattle.nv_top.specs.Commands.{IsGivenBack, IsNotRun};
+ghost use Rattle.nv_top.specs.Endings.{IsErrorLine, AppendsFront, usage_line, read_line, device_line, memory_line, input_line, region_line, IsTrace};
+ghost use Rattle.nv_top.specs.Headline.{AreNamedOnce, HasStopped, IsLeftBy, IsRefused, IsShown, IsShownOf, command_over, expected_faults};
+ghost use Rattle.nv_top.specs.LogRuns.{lines_in};
+ghost use Rattle.nv_top.specs.Stopping.{IsPoweredBack, Settles};
 ghost use Rattle.nv_top.specs.Stops.{IsCauseOf};
-ghost use Rattle.nv_top.specs.Words.{IsRun};
 ghost use Rattle.nv_top.specs.declared.ending.Stop.TheVariants as stops;
-ghost use Rattle.nv_top.specs.declared.ending.TheConstants.{DONE, USAGE, BAD_INPUT, READ_FAULT, WRITE_FAULT, DEVICE_FAULT, NO_MEMORY};
+ghost use Rattle.nv_top.specs.declared.ending.TheConstants.{DONE, USAGE, BAD_INPUT, READ_FAULT, WRITE_FAULT, DEVICE_FAULT, NO_MEMORY, BAD_REGION};
+ghost use Rattle.nv_top.specs.declared.words.Command.{Command};
+ghost use Rattle.nv_top.specs.declared.words.Command.TheVariants as commands;
 
-use crate::bench::Bench;
 use crate::ending::{DONE, Stop, say, say_stop};
 use crate::gate::Gate;
-use crate::run::run;
-use crate::text::text_of;
-use nv_trace::{Sink, Source, read_trace};
+use crate::names::copy_names;
+use crate::recovery::recover;
+use crate::run::{ENTRIES, PAGE, run};
+use crate::stopping::run_to_stop;
+use crate::words::{Command, parse_command};
+use nv_bench::Bench;
+use nv_open::open;
+use nv_pmem::{Geometry, Pick, images_follow_calls};
+use nv_trace::{Sink, Source, Trace, read_trace};
 use std::alloc::Global;
 use std::sync::Wait;
 use std::thread::Threads;
 
-/// Runs a command over a bench: reads a trace, makes its calls, and writes the report. `words` are the words
-/// behind the program's name; `run --noworker` is the one command. The result is the program's status.
+/// Follows a command over a bench: `run` reads a trace, makes its calls and writes the report, and `recover` recovers the region and
+/// writes what it found. `words` are the words behind the program's name. The result is the program's status.
 pub fn nv_main<R: Threads + Wait + Sync, I: Source, O: Sink, B: Bench, G: Gate + Sync>(
     rt: &R,
     alloc: Global,
@@ -33,28 +45,40 @@ pub fn nv_main<R: Threads + Wait + Sync, I: Source, O: Sink, B: Bench, G: Gate +
     bench: &mut B,
     gate: &G,
 ) -> u8
-    requires closed { B.is_open bench.old ≡ false }
-    requires blank { B.is_blank bench.old }
-    ensures statuses { result ≤ NO_MEMORY }
-    ensures closed { B.is_open bench.new ≡ false }
+    requires closed { (B.state bench.old).is_open ≡ false }
+    requires home { (B.state bench.old).lent ≡ [] }
+    requires quiet { IfSome (B.state bench.old).told IsQuietHolding }
+    requires arms { (B.state bench.old).arms < 2 ^ 63 }
+    requires settled { (B.state bench.old).settled ≤ (B.state bench.old).faults }
+    ensures statuses { result ≤ BAD_REGION }
 
-    // The words decide before anything is read.
-    ensures usage { result ≡ USAGE → ¬ (IsRun (map string_bytes words.now)) }
-    ensures command { ¬ (IsRun (map string_bytes words.now)) → (result ≡ USAGE) ⊎ (result ≡ WRITE_FAULT) }
+    // All that was lent is back.
+    ensures back { (command : Command) → command_over B.can_lose_power (map string_bytes words.now) ≡ Some command
+        → IsLeftBy command (B.state bench.old) (B.state bench.new) }
 
-    // The input is a trace, or not.
+    // The words decide before anything is read or opened.
+    ensures usage { result ≡ USAGE → command_over B.can_lose_power (map string_bytes words.now) ≡ None }
+    ensures command { command_over B.can_lose_power (map string_bytes words.now) ≡ None
+        → ((result ≡ USAGE) ⊎ (result ≡ WRITE_FAULT)) × (I.left src.new ≡ I.left src.old) × (B.state bench.new ≡ B.state bench.old) }
+
+    // The input of a run is a trace, or not; a recovery has none.
     ensures bad_input { result ≡ BAD_INPUT → IfSome (I.left src.old) (λ input. ¬ (IsTrace input)) }
-    ensures good_input { result ≡ DONE → IfSome (I.left src.old) (λ input. IsTrace input × (I.left src.new ≡ Some [])) }
+    ensures good_input { (stop : _) (pick : _) → command_over B.can_lose_power (map string_bytes words.now) ≡ Some (commands.Run stop pick)
+        → result ≡ DONE → IfSome (I.left src.old) (λ input. IsTrace input × (I.left src.new ≡ Some [])) }
+    ensures unread { command_over B.can_lose_power (map string_bytes words.now) ≡ Some commands.Recover → I.left src.new ≡ I.left src.old }
 
-    // A fault of the outside is answered exactly where its count rose; that of the sink comes before all others.
+    // A fault of the outside is answered exactly where its count rose; that of the sink comes before all others. A stop's own faults,
+    // until power goes off, are none.
     ensures read_fault { result ≡ READ_FAULT → Rose (I.fault_count src.old) (I.fault_count src.new) }
     ensures read_sound { result ≢ READ_FAULT → result ≢ WRITE_FAULT → I.fault_count src.new ≡ I.fault_count src.old }
     ensures write_fault { result ≡ WRITE_FAULT → Rose (O.fault_count out.old) (O.fault_count out.new) }
     ensures write_sound { result ≢ WRITE_FAULT → O.fault_count out.new ≡ O.fault_count out.old }
-    ensures device_fault { result ≡ DEVICE_FAULT → Rose (B.fault_count bench.old) (B.fault_count bench.new) }
-    ensures device_sound { result ≢ DEVICE_FAULT → result ≢ WRITE_FAULT → B.fault_count bench.new ≡ B.fault_count bench.old }
+    ensures device_fault { result ≡ DEVICE_FAULT
+        → Rose (expected_faults (B.state bench.old) (B.state bench.new)) (B.state bench.new).faults }
+    ensures device_sound { result ≢ DEVICE_FAULT → result ≢ WRITE_FAULT
+        → (B.state bench.new).faults ≤ expected_faults (B.state bench.old) (B.state bench.new) }
 
-    // With status 1, 2, 3, 5 or 6 one line is written, and nothing else.
+    // With status 1, 2, 3, 5, 6 or 7 one line is written, and nothing else.
     ensures usage_said { result ≡ USAGE → Appends (O.written out.old) (O.written out.new) usage_line }
     ensures input_said { result ≡ BAD_INPUT → IfSome (I.left src.old) (λ input.
         Appends (O.written out.old) (O.written out.new) (input_line (ending_of input))) }
@@ -62,16 +86,23 @@ pub fn nv_main<R: Threads + Wait + Sync, I: Source, O: Sink, B: Bench, G: Gate +
     ensures device_said { result ≡ DEVICE_FAULT → Appends (O.written out.old) (O.written out.new) device_line }
     ensures memory_said { result ≡ NO_MEMORY → Appends (O.written out.old) (O.written out.new) memory_line }
 
+    // With status 7 the line says why the region is refused. Of one that was refused before a stop that is so.
+    ensures region { result ≡ BAD_REGION → (why : Refusal) × Appends (O.written out.old) (O.written out.new) (region_line why)
+        × ((command : Command) → command_over B.can_lose_power (map string_bytes words.now) ≡ Some command
+        → (B.state bench.new).arms ≡ (B.state bench.old).arms → IfSome (B.state bench.old).told (λ holding.
+        IsRefused command (I.left src.old) (B.state bench.old) (B.state bench.new) holding why)) }
+
     // With status 4 a front of such a line, or of the report, is written.
     ensures write_said { result ≡ WRITE_FAULT → ((text : List ℕ) × IsErrorLine text × AppendsFront (O.written out.old) (O.written out.new) text)
-        ⊎ (B.tells bench.old → IfSome (I.left src.old) (λ input.
-        (trace : Traced) × (report : Report) × (ending_of input ≡ Whole trace) × IsFaithful run_sizes trace report × HasPlainNames report
-        × AppendsFront (O.written out.old) (O.written out.new) (report_text report))) }
+        ⊎ ((command : Command) → command_over B.can_lose_power (map string_bytes words.now) ≡ Some command → IfSome (B.state bench.old).told (λ holding.
+        (text : List ℕ) × IsShown command (I.left src.old) (B.state bench.old) (B.state bench.new) holding text
+        × AppendsFront (O.written out.old) (O.written out.new) text)) }
 
-    // With status 0 the report is one legal history of plain files.
-    ensures report { result ≡ DONE → B.tells bench.old → IfSome (I.left src.old) (λ input.
-        (trace : Traced) × (report : Report) × (ending_of input ≡ Whole trace) × IsFaithful run_sizes trace report × HasPlainNames report
-        × Appends (O.written out.old) (O.written out.new) (report_text report)) }
+    // With status 0 the report is written, and the bench holds what it shows.
+    ensures report { result ≡ DONE → (command : Command) → command_over B.can_lose_power (map string_bytes words.now) ≡ Some command
+        → IfSome (B.state bench.old).told (λ holding.
+        (text : List ℕ) × IsShown command (I.left src.old) (B.state bench.old) (B.state bench.new) holding text
+        × Appends (O.written out.old) (O.written out.new) text) }
 {
     // They serve the threads of a run; there is one thread yet, and it is this one.
     let _ = rt;
@@ -89,41 +120,147 @@ fn report<I: Source, B: Bench>(
     src: &mut I,
     bench: &mut B,
 ) -> Result<Vec<u8>, Stop>
-    requires closed { B.is_open bench.old ≡ false }
-    requires blank { B.is_blank bench.old }
-    ensures closed { B.is_open bench.new ≡ false }
-    ensures usage { (result ≡ Err stops.Usage) ↔ ¬ (IsRun (map string_bytes words.now)) }
+    requires closed { (B.state bench.old).is_open ≡ false }
+    requires home { (B.state bench.old).lent ≡ [] }
+    requires quiet { IfSome (B.state bench.old).told IsQuietHolding }
+    requires arms { (B.state bench.old).arms < 2 ^ 63 }
+    requires settled { (B.state bench.old).settled ≤ (B.state bench.old).faults }
+    ensures back { (command : Command) → command_over B.can_lose_power (map string_bytes words.now) ≡ Some command
+        → IsLeftBy command (B.state bench.old) (B.state bench.new) }
+    ensures usage { (result ≡ Err stops.Usage) ↔ (command_over B.can_lose_power (map string_bytes words.now) ≡ None) }
+    ensures unmoved { result ≡ Err stops.Usage → (I.left src.new ≡ I.left src.old) × (B.state bench.new ≡ B.state bench.old) }
     ensures bad_line { IfErr result (λ stop. IfSome (I.left src.old) (IsCauseOf stop)) }
     ensures read_fault { result ≡ Err stops.Read → Rose (I.fault_count src.old) (I.fault_count src.new) }
     ensures read_sound { result ≢ Err stops.Read → I.fault_count src.new ≡ I.fault_count src.old }
-    ensures device_fault { result ≡ Err stops.Device → Rose (B.fault_count bench.old) (B.fault_count bench.new) }
-    ensures device_sound { result ≢ Err stops.Device → B.fault_count bench.new ≡ B.fault_count bench.old }
-    ensures at_end { OnOk result (IfSome (I.left src.old) (λ _. I.left src.new ≡ Some [])) }
-    ensures trace { OnOk result (IfSome (I.left src.old) IsTrace) }
-    ensures report { IfOk result (λ text. B.tells bench.old → IfSome (I.left src.old) (λ input.
-        (trace : Traced) × (report : Report) × (ending_of input ≡ Whole trace) × IsFaithful run_sizes trace report × HasPlainNames report
-        × (text.items ≡ report_text report))) }
+    ensures device_fault { result ≡ Err stops.Device
+        → Rose (expected_faults (B.state bench.old) (B.state bench.new)) (B.state bench.new).faults }
+    ensures device_sound { result ≢ Err stops.Device
+        → (B.state bench.new).faults ≤ expected_faults (B.state bench.old) (B.state bench.new) }
+    ensures good_input { (stop : _) (pick : _) → command_over B.can_lose_power (map string_bytes words.now) ≡ Some (commands.Run stop pick)
+        → OnOk result (IfSome (I.left src.old) (λ input. IsTrace input × (I.left src.new ≡ Some []))) }
+    ensures unread { command_over B.can_lose_power (map string_bytes words.now) ≡ Some commands.Recover → I.left src.new ≡ I.left src.old }
+    ensures region { (why : _) → result ≡ Err (stops.Region why)
+        → (command : Command) → command_over B.can_lose_power (map string_bytes words.now) ≡ Some command
+        → (B.state bench.new).arms ≡ (B.state bench.old).arms → IfSome (B.state bench.old).told (λ holding.
+        IsRefused command (I.left src.old) (B.state bench.old) (B.state bench.new) holding why) }
+    ensures report { IfOk result (λ text. (command : Command) → command_over B.can_lose_power (map string_bytes words.now) ≡ Some command
+        → IfSome (B.state bench.old).told (λ holding.
+        IsShown command (I.left src.old) (B.state bench.old) (B.state bench.new) holding text.items)) }
 {
-    if !is_run(words) {
-        return Err(Stop::Usage);
+    match command_over::<B>(words) {
+        Some(Command::Run { stop, image }) => run_input(alloc, src, bench, stop, image),
+        Some(Command::Recover) => recover(alloc, bench),
+        None => Err(Stop::Usage),
     }
+}
+
+// The command that these words are over such a bench.
+fn command_over<B: Bench>(words: &[String]) -> Option<Command>
+    ensures { result ≡ command_over B.can_lose_power (map string_bytes words.now) }
+{
+    let command = parse_command(words)?;
+    match command {
+        Command::Run { stop: Some(_), .. } if !B::images() => None,
+        _ => Some(command),
+    }
+}
+
+// The report of a run of the trace that the source gives.
+fn run_input<I: Source, B: Bench>(
+    alloc: Global,
+    src: &mut I,
+    bench: &mut B,
+    stop: Option<u64>,
+    image: Pick,
+) -> Result<Vec<u8>, Stop>
+    requires closed { (B.state bench.old).is_open ≡ false }
+    requires home { (B.state bench.old).lent ≡ [] }
+    requires quiet { IfSome (B.state bench.old).told IsQuietHolding }
+    requires arms { (B.state bench.old).arms < 2 ^ 63 }
+    requires settled { (B.state bench.old).settled ≤ (B.state bench.old).faults }
+    requires stop { IfSome stop (λ k. (1 ≤ k) × (B.can_lose_power ≡ true)) }
+    ensures back { IsLeftBy (commands.Run stop image) (B.state bench.old) (B.state bench.new) }
+    ensures words { result ≢ Err stops.Usage }
+    ensures bad_line { IfErr result (λ stop. IfSome (I.left src.old) (IsCauseOf stop)) }
+    ensures read_fault { result ≡ Err stops.Read → Rose (I.fault_count src.old) (I.fault_count src.new) }
+    ensures read_sound { result ≢ Err stops.Read → I.fault_count src.new ≡ I.fault_count src.old }
+    ensures device_fault { result ≡ Err stops.Device
+        → Rose (expected_faults (B.state bench.old) (B.state bench.new)) (B.state bench.new).faults }
+    ensures device_sound { result ≢ Err stops.Device
+        → (B.state bench.new).faults ≤ expected_faults (B.state bench.old) (B.state bench.new) }
+    ensures good_input { OnOk result (IfSome (I.left src.old) (λ input. IsTrace input × (I.left src.new ≡ Some []))) }
+    ensures region { (why : _) → result ≡ Err (stops.Region why) → (B.state bench.new).arms ≡ (B.state bench.old).arms
+        → IfSome (B.state bench.old).told (λ holding.
+        IsRefused (commands.Run stop image) (I.left src.old) (B.state bench.old) (B.state bench.new) holding why) }
+    ensures report { IfOk result (λ text. IfSome (B.state bench.old).told (λ holding.
+        IsShown (commands.Run stop image) (I.left src.old) (B.state bench.old) (B.state bench.new) holding text.items)) }
+{
     let trace = read_trace(alloc, src)?;
-    let ran = run(alloc, bench, trace.calls())?;
-    let text = text_of(alloc, trace.names(), &ran.outcome, &ran.file)?;
-    Ok(text)
+    run_trace(alloc, bench, &trace, stop, image)
 }
 
-fn is_run(words: &[String]) -> bool
-    ensures { IsTrue result ↔ IsRun (map string_bytes words.now) }
+// The report of a run of a trace, which may be stopped.
+fn run_trace<T: Bench>(
+    alloc: Global,
+    bench: &mut T,
+    trace: &Trace,
+    stop: Option<u64>,
+    image: Pick,
+) -> Result<Vec<u8>, Stop>
+    requires closed { (T.state bench.old).is_open ≡ false }
+    requires home { (T.state bench.old).lent ≡ [] }
+    requires quiet { IfSome (T.state bench.old).told IsQuietHolding }
+    requires arms { (T.state bench.old).arms < 2 ^ 63 }
+    requires settled { (T.state bench.old).settled ≤ (T.state bench.old).faults }
+    requires stop { IfSome stop (λ k. (1 ≤ k) × (T.can_lose_power ≡ true)) }
+    requires well_formed { IsWellFormed trace.now }
+    ensures back { IsLeftBy (commands.Run stop image) (T.state bench.old) (T.state bench.new) }
+    ensures cause { Settles (expected_faults (T.state bench.old) (T.state bench.new)) (T.state bench.new).faults result }
+    ensures ran { IfOk result (λ text. IsStrictlyIncreasing (lines_in trace.now) → IfSome (T.state bench.old).told (λ holding.
+        IsShownOf stop (T.state bench.old) (T.state bench.new) holding trace.now text.items)) }
+    ensures refused { (why : _) → result ≡ Err (stops.Region why) → (T.state bench.new).arms ≡ (T.state bench.old).arms
+        → IsStrictlyIncreasing (lines_in trace.now) → IfSome (T.state bench.old).told (λ holding. IsNotRun holding trace.now.names why) }
+    ensures unwritten { (why : _) → result ≡ Err (stops.Region why) → (T.state bench.new).arms ≡ (T.state bench.old).arms
+        → ¬ (why ≡ refusals.TooManyFiles) → IsStrictlyIncreasing (lines_in trace.now)
+        → IfSome (T.state bench.old).told (λ holding. (T.state bench.new).told ≡ told_after why (T.state bench.old).told) }
 {
-    match words {
-        [command, option] => is_text(command, "run") && is_text(option, "--noworker"),
-        _ => false,
+    match stop {
+        None => run(alloc, bench, trace),
+        Some(k) => stop_run(alloc, bench, trace, k, image),
     }
 }
 
-fn is_text(word: &String, text: &str) -> bool
-    ensures { IsTrue result ↔ (string_bytes word.now ≡ text.now) }
+// The report of a run of a trace that is stopped at a device call.
+fn stop_run<T: Bench>(
+    alloc: Global,
+    bench: &mut T,
+    trace: &Trace,
+    k: u64,
+    image: Pick,
+) -> Result<Vec<u8>, Stop>
+    requires closed { (T.state bench.old).is_open ≡ false }
+    requires home { (T.state bench.old).lent ≡ [] }
+    requires quiet { IfSome (T.state bench.old).told IsQuietHolding }
+    requires arms { (T.state bench.old).arms < 2 ^ 63 }
+    requires settled { (T.state bench.old).settled ≤ (T.state bench.old).faults }
+    requires images { T.can_lose_power ≡ true }
+    requires k { 1 ≤ k }
+    requires well_formed { IsWellFormed trace.now }
+    ensures back { IsPoweredBack k (T.state bench.old) (T.state bench.new) ⊎ IsGivenBack (T.state bench.old) (T.state bench.new) }
+    ensures cause { Settles (expected_faults (T.state bench.old) (T.state bench.new)) (T.state bench.new).faults result }
+    ensures ran { IfOk result (λ text. IsStrictlyIncreasing (lines_in trace.now) → IfSome (T.state bench.old).told (λ holding.
+        AreNamedOnce holding.stores → HasStopped (Rose (T.state bench.old).faults (T.state bench.new).faults) holding (T.state bench.new).told trace.now text.items)) }
+    ensures refused { (why : _) → result ≡ Err (stops.Region why) → (T.state bench.new).arms ≡ (T.state bench.old).arms
+        → IfSome (T.state bench.old).told (λ holding. IsNotRun holding trace.now.names why) }
+    ensures unwritten { (why : _) → result ≡ Err (stops.Region why) → (T.state bench.new).arms ≡ (T.state bench.old).arms
+        → ¬ (why ≡ refusals.TooManyFiles) → (T.state bench.new).told ≡ told_after why (T.state bench.old).told }
 {
-    word.as_str() == text
+    images_follow_calls();
+    let geometry = Geometry {
+        page: PAGE,
+        entries: ENTRIES,
+    };
+    let wanted = copy_names(alloc, trace.names())?;
+    let opened = open(alloc, bench, geometry, &wanted)?;
+    run_to_stop(alloc, bench, opened, trace, k, image)
 }

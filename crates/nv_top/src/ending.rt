@@ -1,14 +1,18 @@
 ghost use Rattle.std.specs.Prelude.{◌≡◌, ◌≢◌, ℕ, List, Err};
 ghost use Rattle.nv_plain.specs.Faults.{Rose};
 ghost use Rattle.nv_trace.specs.Streams.{Appends};
-ghost use Rattle.nv_top.specs.declared.run.RunError.TheVariants as run_errors;
-ghost use Rattle.nv_top.specs.Endings.{memory_line, bad_line, IsErrorLine, AppendsFront};
-ghost use Rattle.nv_top.specs.Stops.{SaidAs, HasNumber, stop_status, stop_line, stop_of_read, stop_of_run};
+ghost use Rattle.nv_top.specs.declared.ending.Stop.TheVariants as stops;
+ghost use Rattle.nv_top.specs.Endings.{memory_line, bad_line, region_line, IsErrorLine, AppendsFront};
+ghost use Rattle.nv_top.specs.Stops.{SaidAs, TakesMemory, stop_status, stop_line, stop_of_log, stop_of_opening, stop_of_read, stop_of_recovery};
 
-use crate::run::RunError;
+use crate::region_text::region_line_of;
+use nv_engine::OpenError as LogError;
+use nv_open::{OpenError, Refusal};
 use nv_plain::NoMemory;
+use nv_recover::RecoverError;
+use nv_store::StoreFault;
 use nv_trace::{BadLine, ReadError, Sink, write_all};
-use std::alloc::Global;
+use std::alloc::{AllocError, AllocFailed, Global};
 
 /// The statuses of a program: the report is written.
 pub const DONE: u8 = 0;
@@ -31,6 +35,9 @@ pub const DEVICE_FAULT: u8 = 5;
 /// There was not enough memory.
 pub const NO_MEMORY: u8 = 6;
 
+/// The region is refused.
+pub const BAD_REGION: u8 = 7;
+
 /// Why a program wrote no report.
 #[derive(Clone, Copy, Debug, PartialEq, Eq)]
 pub(crate) enum Stop {
@@ -39,6 +46,7 @@ pub(crate) enum Stop {
     InputLong,
     Read,
     Device,
+    Region(Refusal),
     NoMemory,
 }
 
@@ -55,21 +63,69 @@ impl From<ReadError> for Stop {
     }
 }
 
-impl From<RunError> for Stop {
-    ghost from_gives = { λ error stop. stop ≡ stop_of_run error };
+impl From<OpenError> for Stop {
+    ghost from_gives = { λ error stop. stop ≡ stop_of_opening error };
 
-    fn from(error: RunError) -> Self {
+    fn from(error: OpenError) -> Self {
         match error {
-            RunError::Fault => Stop::Device,
-            RunError::NoMemory => Stop::NoMemory,
+            OpenError::Refused(refusal) => Stop::Region(refusal),
+            OpenError::Fault => Stop::Device,
+            OpenError::NoMemory => Stop::NoMemory,
         }
     }
 }
 
+impl From<LogError> for Stop {
+    ghost from_gives = { λ error stop. stop ≡ stop_of_log error };
+
+    fn from(error: LogError) -> Self {
+        match error {
+            LogError::StoreFault => Stop::Device,
+            LogError::NoMemory => Stop::NoMemory,
+        }
+    }
+}
+
+impl From<RecoverError> for Stop {
+    ghost from_gives = { λ error stop. stop ≡ stop_of_recovery error };
+
+    fn from(error: RecoverError) -> Self {
+        match error {
+            RecoverError::BadEntry { number } => Stop::Region(Refusal::BadEntry { number }),
+            RecoverError::RegionFault | RecoverError::StoreFault => Stop::Device,
+            RecoverError::NoMemory => Stop::NoMemory,
+        }
+    }
+}
+
+impl From<StoreFault> for Stop {
+    ghost from_gives = { λ _ stop. stop ≡ stops.Device };
+
+    fn from(_: StoreFault) -> Self {
+        Stop::Device
+    }
+}
+
 impl From<NoMemory> for Stop {
-    ghost from_gives = { λ _ stop. stop ≡ stop_of_run run_errors.NoMemory };
+    ghost from_gives = { λ _ stop. stop ≡ stops.NoMemory };
 
     fn from(_: NoMemory) -> Self {
+        Stop::NoMemory
+    }
+}
+
+impl From<AllocError> for Stop {
+    ghost from_gives = { λ _ stop. stop ≡ stops.NoMemory };
+
+    fn from(_: AllocError) -> Self {
+        Stop::NoMemory
+    }
+}
+
+impl<T: Drop> From<AllocFailed<T>> for Stop {
+    ghost from_gives = { λ _ stop. stop ≡ stops.NoMemory };
+
+    fn from(_: AllocFailed<T>) -> Self {
         Stop::NoMemory
     }
 }
@@ -88,9 +144,9 @@ pub(crate) fn say<O: Sink>(out: &mut O, status: u8, text: &[u8]) -> u8
     }
 }
 
-// Writes the line that says why there is no report. Only a line with a number in it takes memory.
+// Writes the line that says why there is no report. Only a line with a number in it, and that of a region, take memory.
 pub(crate) fn say_stop<O: Sink>(alloc: Global, out: &mut O, stop: &Stop) -> u8
-    ensures status { SaidAs result (stop_status stop.now) (HasNumber stop.now) }
+    ensures status { SaidAs result (stop_status stop.now) (TakesMemory stop.now) }
     ensures front { result ≡ WRITE_FAULT → (text : List ℕ) × IsErrorLine text × AppendsFront (O.written out.old) (O.written out.new) text }
     ensures said { result ≢ WRITE_FAULT → result ≢ NO_MEMORY → Appends (O.written out.old) (O.written out.new) (stop_line stop.now) }
     ensures memory { result ≡ NO_MEMORY → Appends (O.written out.old) (O.written out.new) memory_line }
@@ -103,6 +159,7 @@ pub(crate) fn say_stop<O: Sink>(alloc: Global, out: &mut O, stop: &Stop) -> u8
         Stop::InputLong => say(out, BAD_INPUT, b"error input long\n"),
         Stop::Read => say(out, READ_FAULT, b"error read\n"),
         Stop::Device => say(out, DEVICE_FAULT, b"error device\n"),
+        Stop::Region(refusal) => say_refusal(alloc, out, refusal),
         Stop::NoMemory => say(out, NO_MEMORY, b"error no memory\n"),
     }
 }
@@ -118,6 +175,20 @@ fn say_bad_line<O: Sink>(alloc: Global, out: &mut O, bad: BadLine) -> u8
     let number = bad.number;
     match format!(in alloc; "error line {number} form\n") {
         Ok(line) => say(out, BAD_INPUT, line.as_bytes()),
+        Err(_) => say(out, NO_MEMORY, b"error no memory\n"),
+    }
+}
+
+fn say_refusal<O: Sink>(alloc: Global, out: &mut O, refusal: &Refusal) -> u8
+    ensures status { SaidAs result BAD_REGION (Unit {0}) }
+    ensures front { result ≡ WRITE_FAULT → (text : List ℕ) × IsErrorLine text × AppendsFront (O.written out.old) (O.written out.new) text }
+    ensures said { result ≢ WRITE_FAULT → result ≢ NO_MEMORY → Appends (O.written out.old) (O.written out.new) (region_line refusal.now) }
+    ensures memory { result ≡ NO_MEMORY → Appends (O.written out.old) (O.written out.new) memory_line }
+    ensures fault { result ≡ WRITE_FAULT → Rose (O.fault_count out.old) (O.fault_count out.new) }
+    ensures sound { result ≢ WRITE_FAULT → O.fault_count out.new ≡ O.fault_count out.old }
+{
+    match region_line_of(alloc, refusal) {
+        Ok(line) => say(out, BAD_REGION, line.as_bytes()),
         Err(_) => say(out, NO_MEMORY, b"error no memory\n"),
     }
 }

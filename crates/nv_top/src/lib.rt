@@ -1,22 +1,28 @@
 //! The top call of NVCache: words and a trace in, a report and a status out.
 #![tactic(auto)]
 
-mod bench;
+mod attempts;
+mod calls;
 mod command;
 mod ending;
+mod fates;
+mod files;
 mod gate;
 mod laws;
-mod log;
-mod mem_bench;
-mod region;
+mod names;
+mod outcome;
+mod recovery;
+mod region_text;
 mod run;
+mod stopping;
 #[cfg(test)]
 mod tests;
 mod text;
+mod words;
 
-pub use bench::{Bench, BenchError};
 pub use command::nv_main;
-pub use ending::{BAD_INPUT, DEVICE_FAULT, DONE, NO_MEMORY, READ_FAULT, USAGE, WRITE_FAULT};
+pub use ending::{
+    BAD_INPUT, BAD_REGION, DEVICE_FAULT, DONE, NO_MEMORY, READ_FAULT, USAGE, WRITE_FAULT,
+};
 pub use gate::{Gate, OpenGate, Point};
 pub use laws::report_has_one_reading;
-pub use mem_bench::MemBench;

@@ -1,134 +1,135 @@
-ghost use Rattle.std.specs.Prelude.{◌≡◌, ◌≢◌, ℕ, ◌+◌, ◌∷◌, [], ◌++◌, List, All, false, Ok, Err, IfOk, OnOk, map};
+ghost use Rattle.std.specs.Prelude.{◌≡◌, ◌+◌, ◌<◌, ◌∷◌, [], ◌++◌, List, false, length, map, sum_by, All, Err, IfOk, IfSome, OnOk};
 ghost use Rattle.std.specs.List.Sorted.{IsStrictlyIncreasing};
-ghost use Rattle.nv_plain.specs.Calls.{reply_of, files_after};
-ghost use Rattle.nv_plain.specs.Faults.{Rose};
-ghost use Rattle.nv_trace.specs.Shape.{IsCallWithin};
-ghost use Rattle.nv_trace.specs.declared.report.Refusal.{Refusal};
-ghost use Rattle.nv_top.specs.Calls.{IsRefusedBy};
-ghost use Rattle.nv_top.specs.Log.{AllTell, slots_of, file_of, faults_of, IsLog, StaysOver};
-ghost use Rattle.nv_top.specs.Reports.{file_call, entries_taken, refusal_at};
-ghost use Rattle.nv_top.specs.Runs.{one_file, HasMade, IsAfterAll, sizes_of, run_sizes, run_error_of};
-ghost use Rattle.nv_top.specs.declared.log.CallError.TheVariants as call_errors;
-ghost use Rattle.nv_top.specs.declared.run.RunError.TheVariants.{Fault, NoMemory};
+ghost use Rattle.nv_plain.specs.Files.{Files};
+ghost use Rattle.nv_pmem.specs.Part.{Part};
+ghost use Rattle.nv_pmem.specs.RowStates.{AreNow};
+ghost use Rattle.nv_pmem.specs.Rows.{RowTells};
+ghost use Rattle.nv_store.specs.Store.{Store};
+ghost use Rattle.nv_bench.specs.Holding.{IsQuietHolding};
+ghost use Rattle.nv_recover.specs.Standing.{AreQuietStores, files_of};
+ghost use Rattle.nv_engine.specs.Holding.{Holds};
+ghost use Rattle.nv_engine.specs.Keeping.{IsLog, IsSameRegion};
+ghost use Rattle.nv_engine.specs.Laid.{Piece, laid};
+ghost use Rattle.nv_trace.specs.Shape.{IsCallWithin, IsWellFormed};
 ghost use Rattle.nv_trace.specs.declared.trace.TracedCall.{TracedCall};
+ghost use Rattle.nv_top.specs.Answers.{log_faults};
+ghost use Rattle.nv_open.specs.Held.{told_after};
+ghost use Rattle.nv_open.specs.declared.error.Refusal.TheVariants as refusals;
+ghost use Rattle.nv_top.specs.Commands.{HasRunOn, IsGivenBack, IsNotRun};
+ghost use Rattle.nv_top.specs.Faithful.{Basis, descriptor_files, place_of};
+ghost use Rattle.nv_top.specs.Leaving.{AreLeft};
+ghost use Rattle.nv_top.specs.LogRuns.{HasRun, HasRunOver, IsFirst, basis_over, lines_in};
+ghost use Rattle.nv_top.specs.Outcomes.{report_of};
+ghost use Rattle.nv_top.specs.Reports.{report_text};
+ghost use Rattle.nv_top.specs.Runs.{IsAfterAll};
+ghost use Rattle.nv_top.specs.Stops.{CountHasCause};
+ghost use Rattle.nv_top.specs.declared.ending.Stop.TheVariants as stops;
 
-use crate::bench::{Bench, BenchError};
-use crate::log::{CallError, Log};
-use crate::region::{into_parts, make_spares, over};
-use nv_plain::{Bytes, Reply};
+use crate::calls::{CallError, answer};
+use crate::ending::Stop;
+use crate::files::read_files;
+use crate::names::{copy_names, files_of_descriptors};
+use crate::outcome::{Outcome, Placed, Refused};
+use crate::text::text_of;
+use nv_bench::Bench;
+use nv_engine::Log;
+use nv_header::{Names, Region};
+use nv_open::{Opened, open};
 use nv_pmem::{Geometry, Lines};
-use nv_trace::{Refusal, TraceCall, TracedCall};
-use std::alloc::{AllocError, AllocFailed, Global};
+use nv_recover::recoveries_give_the_same_files;
+use nv_store::Backing;
+use nv_trace::{Trace, TracedCall};
+use std::alloc::Global;
 
-/// Bytes of a page.
-const PAGE: u64 = 64;
+/// Bytes of a page of a region that is formatted.
+pub(crate) const PAGE: u64 = 64;
 
-/// Entries of the log.
-const ENTRIES: u64 = 16;
+/// Entries of the log of a region that is formatted.
+pub(crate) const ENTRIES: u64 = 16;
 
-/// A call of the trace in its place, with its reply.
-#[derive(Drop)]
-pub(crate) struct Placed<'a> {
-    pub(crate) call: &'a TracedCall,
-    pub(crate) reply: Reply,
-}
+/// Pages of a file.
+const FILE_PAGES: u64 = 64;
 
-/// A call of the trace that was refused, and why.
-#[derive(Drop)]
-pub(crate) struct Refused<'a> {
-    pub(crate) call: &'a TracedCall,
-    pub(crate) refusal: Refusal,
-}
-
-/// What became of the calls of a run.
-#[derive(Drop)]
-pub(crate) struct Outcome<'a> {
-    pub(crate) placed: Vec<Placed<'a>>,
-    pub(crate) refused: Vec<Refused<'a>>,
-}
-
-/// Why a run has no outcome.
-#[derive(Clone, Copy, Debug, PartialEq, Eq)]
-pub(crate) enum RunError {
-    Fault,
-    NoMemory,
-}
-
-impl From<AllocError> for RunError {
-    ghost from_gives = { λ _ e. e ≡ NoMemory };
-
-    fn from(_: AllocError) -> Self {
-        RunError::NoMemory
-    }
-}
-
-impl From<BenchError> for RunError {
-    ghost from_gives = { λ error e. e ≡ run_error_of error };
-
-    fn from(error: BenchError) -> Self {
-        match error {
-            BenchError::Failed => RunError::Fault,
-            BenchError::NoMemory => RunError::NoMemory,
-        }
-    }
-}
-
-impl<T: Drop> From<AllocFailed<T>> for RunError {
-    ghost from_gives = { λ _ e. e ≡ NoMemory };
-
-    fn from(_: AllocFailed<T>) -> Self {
-        RunError::NoMemory
-    }
-}
-
-// Makes a call on the log.
-fn answer<L: Lines>(alloc: Global, log: &mut Log<L>, call: &TraceCall) -> Result<Reply, CallError>
-    requires log { IsLog L.history L.room log.old }
-    requires within { IsCallWithin 1 call.now }
-    ensures log { result ≢ Err call_errors.Fault → IsLog L.history L.room log.new }
-    ensures stays { StaysOver L.history L.device log.old log.new }
-    ensures refused { IsRefusedBy (refusal_at (sizes_of log.old.geometry) log.old.head call.now) result }
-    ensures unchanged { (refusal : Refusal) → result ≡ Err (call_errors.Refused refusal) →
-        (file_of L.history log.new ≡ file_of L.history log.old) × (log.new.head ≡ log.old.head) }
-    ensures reply { IfOk result (λ reply. AllTell (slots_of L.history log.old) →
-        reply ≡ reply_of (file_call (0 ∷ []) call.now) (one_file (file_of L.history log.old))) }
-    ensures file { OnOk result (AllTell (slots_of L.history log.old) → one_file (file_of L.history log.new)
-        ≡ files_after (file_call (0 ∷ []) call.now) (one_file (file_of L.history log.old))) }
-    ensures head { OnOk result (log.new.head ≡ log.old.head + entries_taken (sizes_of log.old.geometry) call.now) }
-    ensures faulted { result ≡ Err call_errors.Fault → Rose (faults_of L.fault_count log.old) (faults_of L.fault_count log.new) }
-    ensures sound { result ≢ Err call_errors.Fault → faults_of L.fault_count log.new ≡ faults_of L.fault_count log.old }
+/// Runs a trace over a bench: opens its region with the files of the trace, makes the calls, brings the stores to the files, and
+/// gives all back. The text of the report.
+pub(crate) fn run<T: Bench>(alloc: Global, bench: &mut T, trace: &Trace) -> Result<Vec<u8>, Stop>
+    requires closed { (T.state bench.old).is_open ≡ false }
+    requires home { (T.state bench.old).lent ≡ [] }
+    requires quiet { IfSome (T.state bench.old).told IsQuietHolding }
+    requires well_formed { IsWellFormed trace.now }
+    ensures back { IsGivenBack (T.state bench.old) (T.state bench.new) }
+    ensures ran { IfOk result (λ text. IsStrictlyIncreasing (lines_in trace.now) → IfSome (T.state bench.old).told (λ holding.
+        HasRunOn holding (T.state bench.new).told trace.now text.items)) }
+    ensures refused { (why : _) → result ≡ Err (stops.Region why) → IsStrictlyIncreasing (lines_in trace.now)
+        → IfSome (T.state bench.old).told (λ holding. IsNotRun holding trace.now.names why) }
+    ensures unwritten { (why : _) → result ≡ Err (stops.Region why) → ¬ (why ≡ refusals.TooManyFiles) → IsStrictlyIncreasing (lines_in trace.now)
+        → IfSome (T.state bench.old).told (λ holding. (T.state bench.new).told ≡ told_after why (T.state bench.old).told) }
+    ensures cause { CountHasCause (T.state bench.old).faults (T.state bench.new).faults result }
 {
-    match call {
-        TraceCall::Pread { at, len, .. } => {
-            let bytes = log.read(alloc, *at, *len)?;
-            Ok(Reply::Bytes(Bytes::from_vec(bytes)))
-        }
-        TraceCall::Pwrite { at, bytes, .. } => {
-            let count = log.write(*at, bytes.as_slice())?;
-            Ok(Reply::Count(count))
-        }
-        TraceCall::Fsync { .. } => Ok(Reply::Done),
+    let geometry = Geometry {
+        page: PAGE,
+        entries: ENTRIES,
+    };
+    let wanted = copy_names(alloc, trace.names())?;
+    let Opened { region, stores } = open(alloc, bench, geometry, &wanted)?;
+    let ended = run_over(alloc, region, stores, trace);
+    bench.give_back(ended.parts, ended.stores);
+    ended.report
+}
+
+/// Makes the calls of a trace on a log that has no piece yet, one after another. Each descriptor is of the file with this number.
+pub(crate) fn make_calls<'a, L: Lines + Drop, B: Backing + Drop>(
+    alloc: Global,
+    log: &mut Log<L, B>,
+    files: &[u64],
+    calls: &'a [TracedCall],
+) -> Result<Outcome<'a>, Stop>
+    requires log { IsLog L.history L.room B.history log.old }
+    requires running { log.old.stopped ≡ false }
+    requires files { All (λ file. file < length log.old.names) files.now }
+    requires within { All (λ traced. IsCallWithin (length files.now) traced.call) calls.now }
+    ensures log { IsLog L.history L.room B.history log.new }
+    ensures region { IsSameRegion log.old log.new }
+    ensures running { OnOk result (log.new.stopped ≡ false) }
+    ensures made { IfOk result (λ outcome. (basis : Basis) → IsFirst L.history B.history basis log.old
+        → IsStrictlyIncreasing (map (λ traced. traced.line) calls.now)
+        → HasRun L.history B.history ⊥ basis files.now calls.now log.new outcome) }
+    ensures never { (why : _) → ¬ (result ≡ Err (stops.Region why)) }
+    ensures cause { CountHasCause (log_faults L.fault_count B.fault_count log.old) (log_faults L.fault_count B.fault_count log.new) result }
+{
+    let mut outcome = Outcome {
+        placed: Vec::new(alloc),
+        refused: Vec::new(alloc),
+        left: Vec::new(alloc),
+    };
+    for call in calls {
+        make(alloc, log, files, &mut outcome, call)?;
     }
+    Ok(outcome)
 }
 
 // Makes the next call of a trace.
-fn make<'a, L: Lines>(
+fn make<'a, L: Lines + Drop, B: Backing + Drop>(
     alloc: Global,
-    log: &mut Log<L>,
+    log: &mut Log<L, B>,
+    files: &[u64],
     outcome: &mut Outcome<'a>,
     call: &'a TracedCall,
-) -> Result<(), RunError>
-    requires log { IsLog L.history L.room log.old }
-    requires within { IsCallWithin 1 call.now.call }
-    ensures log { result ≢ Err Fault → IsLog L.history L.room log.new }
-    ensures stays { StaysOver L.history L.device log.old log.new }
-    ensures made { OnOk result ((calls : List TracedCall) → AllTell (slots_of L.history log.old) → IsAfterAll calls call.now →
-        HasMade (sizes_of log.old.geometry) calls log.old.head (file_of L.history log.old) outcome.old →
-        HasMade (sizes_of log.old.geometry) (calls ++ call.now ∷ []) log.new.head (file_of L.history log.new) outcome.new) }
-    ensures faulted { result ≡ Err Fault → Rose (faults_of L.fault_count log.old) (faults_of L.fault_count log.new) }
-    ensures sound { result ≢ Err Fault → faults_of L.fault_count log.new ≡ faults_of L.fault_count log.old }
+) -> Result<(), Stop>
+    requires log { IsLog L.history L.room B.history log.old }
+    requires running { log.old.stopped ≡ false }
+    requires files { All (λ file. file < length log.old.names) files.now }
+    requires within { IsCallWithin (length files.now) call.now.call }
+    ensures log { IsLog L.history L.room B.history log.new }
+    ensures region { IsSameRegion log.old log.new }
+    ensures running { OnOk result (log.new.stopped ≡ false) }
+    ensures made { OnOk result ((basis : Basis) (calls : List TracedCall) → IsAfterAll calls call.now
+        → HasRun L.history B.history ⊥ basis files.now calls log.old outcome.old
+        → HasRun L.history B.history ⊥ basis files.now (calls ++ call.now ∷ []) log.new outcome.new) }
+    ensures never { (why : _) → ¬ (result ≡ Err (stops.Region why)) }
+    ensures cause { CountHasCause (log_faults L.fault_count B.fault_count log.old) (log_faults L.fault_count B.fault_count log.new) result }
 {
-    match answer(alloc, log, &call.call) {
+    match answer(alloc, log, files, &call.call) {
         Ok(reply) => {
             outcome.placed.push(Placed { call, reply })?;
             Ok(())
@@ -137,92 +138,139 @@ fn make<'a, L: Lines>(
             outcome.refused.push(Refused { call, refusal })?;
             Ok(())
         }
-        Err(CallError::Fault) => Err(RunError::Fault),
-        Err(CallError::NoMemory) => Err(RunError::NoMemory),
+        Err(CallError::Stop(stop)) => Err(stop),
     }
 }
 
-/// Makes the calls of a trace, one after another, on a log that has no entry yet.
-pub(crate) fn make_calls<'a, L: Lines>(
-    alloc: Global,
-    log: &mut Log<L>,
-    calls: &'a [TracedCall],
-) -> Result<Outcome<'a>, RunError>
-    requires log { IsLog L.history L.room log.old }
-    requires fresh { log.old.head ≡ 0 }
-    requires within { All (λ traced. IsCallWithin 1 traced.call) calls.now }
-    ensures log { result ≢ Err Fault → IsLog L.history L.room log.new }
-    ensures stays { StaysOver L.history L.device log.old log.new }
-    ensures made { IfOk result (λ outcome. AllTell (slots_of L.history log.old) → IsStrictlyIncreasing (map (λ traced. traced.line) calls.now) →
-        HasMade (sizes_of log.old.geometry) calls.now log.new.head (file_of L.history log.new) outcome) }
-    ensures faulted { result ≡ Err Fault → Rose (faults_of L.fault_count log.old) (faults_of L.fault_count log.new) }
-    ensures sound { result ≢ Err Fault → faults_of L.fault_count log.new ≡ faults_of L.fault_count log.old }
-{
-    let mut outcome = Outcome {
-        placed: Vec::new(alloc),
-        refused: Vec::new(alloc),
-    };
-    for call in calls {
-        make(alloc, log, &mut outcome, call)?;
-    }
-    Ok(outcome)
-}
-
-/// The outcome of a run, and the bytes of its file.
+/// What is left of a run: its devices, and its report, or why there is none.
 #[derive(Drop)]
-pub(crate) struct Ran<'a> {
-    pub(crate) outcome: Outcome<'a>,
-    pub(crate) file: Vec<u8>,
+pub(crate) struct Ended<L, B> {
+    pub(crate) parts: Vec<L>,
+    pub(crate) stores: Vec<B>,
+    pub(crate) report: Result<Vec<u8>, Stop>,
 }
 
-// Makes the calls of a trace on a log, and reads the file.
-fn make_all<'a, L: Lines>(
+/// Runs a trace over a region whose log is empty, with a store for each of its names.
+pub(crate) fn run_over<L: Lines + Drop, B: Backing + Drop>(
     alloc: Global,
-    log: &mut Log<L>,
-    calls: &'a [TracedCall],
-) -> Result<Ran<'a>, RunError>
-    requires log { IsLog L.history L.room log.old }
-    requires fresh { log.old.head ≡ 0 }
-    requires within { All (λ traced. IsCallWithin 1 traced.call) calls.now }
-    ensures log { result ≢ Err Fault → IsLog L.history L.room log.new }
-    ensures stays { StaysOver L.history L.device log.old log.new }
-    ensures made { IfOk result (λ ran. AllTell (slots_of L.history log.old) → IsStrictlyIncreasing (map (λ traced. traced.line) calls.now) →
-        (head : ℕ) × HasMade (sizes_of log.old.geometry) calls.now head ran.file.items ran.outcome) }
-    ensures faulted { result ≡ Err Fault → Rose (faults_of L.fault_count log.old) (faults_of L.fault_count log.new) }
-    ensures sound { result ≢ Err Fault → faults_of L.fault_count log.new ≡ faults_of L.fault_count log.old }
+    region: Region<L>,
+    stores: Vec<B>,
+    trace: &Trace,
+) -> Ended<L, B>
+    requires stores { length stores.items ≡ length region.names }
+    requires quiet { RowTells (map B.history stores.items) AreQuietStores }
+    requires well_formed { IsWellFormed trace.now }
+    requires known { All (λ name. place_of name region.names < length region.names) trace.now.names }
+    ensures count { length result.stores.items ≡ length stores.items }
+    ensures ran { IfOk result.report (λ text. (parts : List Part) (now : List Store)
+        → AreNow (map L.history region.parts.items) parts → AreNow (map B.history stores.items) now → IsStrictlyIncreasing (lines_in trace.now)
+        → HasRunOver L.history B.history (basis_over region (files_of now)) trace.now text.items result.parts.items result.stores.items) }
+    ensures whole { (why : _) → result.report ≡ Err (stops.Region why) → IsStrictlyIncreasing (lines_in trace.now)
+        → (parts : List Part) (now : List Store) → AreNow (map L.history region.parts.items) parts → ¬ AreNow (map B.history stores.items) now }
+    ensures cause { CountHasCause (sum_by L.fault_count region.parts.items + sum_by B.fault_count stores.items)
+        (sum_by L.fault_count result.parts.items + sum_by B.fault_count result.stores.items) result.report }
 {
-    let outcome = make_calls(alloc, log, calls)?;
-    let file = match log.file(alloc) {
-        Ok(file) => file,
-        Err(CallError::Fault) => return Err(RunError::Fault),
-        Err(_) => return Err(RunError::NoMemory),
+    let Ok(files) = files_of_descriptors(alloc, region.names().as_slice(), trace) else {
+        return Ended {
+            parts: region.into_parts(),
+            stores,
+            report: Err(Stop::NoMemory),
+        };
     };
-    Ok(Ran { outcome, file })
+    match Log::new(alloc, region, stores, FILE_PAGES) {
+        Ok(log) => run_log(alloc, log, &files, trace),
+        Err((parts, stores, error)) => Ended {
+            parts,
+            stores,
+            report: Err(error.into()),
+        },
+    }
 }
 
-/// Opens a region of the run's sizes, makes the calls of a trace on it, and gives its parts back.
-pub(crate) fn run<'a, B: Bench>(
+// Runs a trace over a log that has no piece yet.
+fn run_log<L: Lines + Drop, B: Backing + Drop>(
     alloc: Global,
-    bench: &mut B,
-    calls: &'a [TracedCall],
-) -> Result<Ran<'a>, RunError>
-    requires closed { B.is_open bench.old ≡ false }
-    requires blank { B.is_blank bench.old }
-    requires within { All (λ traced. IsCallWithin 1 traced.call) calls.now }
-    ensures closed { B.is_open bench.new ≡ false }
-    ensures made { IfOk result (λ ran. B.tells bench.old → IsStrictlyIncreasing (map (λ traced. traced.line) calls.now) →
-        (head : ℕ) × HasMade run_sizes calls.now head ran.file.items ran.outcome) }
-    ensures faulted { result ≡ Err Fault → Rose (B.fault_count bench.old) (B.fault_count bench.new) }
-    ensures sound { result ≢ Err Fault → B.fault_count bench.new ≡ B.fault_count bench.old }
+    log: Log<L, B>,
+    files: &[u64],
+    trace: &Trace,
+) -> Ended<L, B>
+    requires log { IsLog L.history L.room B.history log }
+    requires running { log.stopped ≡ false }
+    requires well_formed { IsWellFormed trace.now }
+    requires descriptors { files.now ≡ descriptor_files log.names trace.now }
+    requires files { All (λ file. file < length log.names) files.now }
+    ensures count { length result.stores.items ≡ length log.stores.items }
+    ensures ran { IfOk result.report (λ text. (basis : Basis) → IsFirst L.history B.history basis log → basis.names ≡ log.names → IsStrictlyIncreasing (lines_in trace.now)
+        → HasRunOver L.history B.history basis trace.now text.items result.parts.items result.stores.items) }
+    ensures whole { (why : _) → result.report ≡ Err (stops.Region why) → IsStrictlyIncreasing (lines_in trace.now)
+        → (basis : Basis) → ¬ IsFirst L.history B.history basis log }
+    ensures cause { CountHasCause (log_faults L.fault_count B.fault_count log)
+        (sum_by L.fault_count result.parts.items + sum_by B.fault_count result.stores.items) result.report }
 {
-    let geometry = Geometry {
-        page: PAGE,
-        entries: ENTRIES,
-    };
-    let spares = make_spares(alloc, geometry)?;
-    let parts = bench.open_region(Some(geometry))?;
-    let mut log = over(parts, spares, geometry);
-    let ran = make_all(alloc, &mut log, calls);
-    bench.give_back(into_parts(log));
-    ran
+    let mut log = log;
+    match make_calls(alloc, &mut log, files, trace.calls()) {
+        Ok(outcome) => finish(alloc, log, &outcome),
+        Err(stop) => {
+            let (parts, stores) = log.into_devices();
+            Ended {
+                parts,
+                stores,
+                report: Err(stop),
+            }
+        }
+    }
+}
+
+// Brings the stores to the files of a log, and shows them.
+fn finish<L: Lines + Drop, B: Backing + Drop>(
+    alloc: Global,
+    log: Log<L, B>,
+    outcome: &Outcome<'_>,
+) -> Ended<L, B>
+    requires log { IsLog L.history L.room B.history log }
+    requires running { log.stopped ≡ false }
+    ensures count { length result.stores.items ≡ length log.stores.items }
+    ensures shown { IfOk result.report (λ text. (pieces : List Piece) (files : Files) → Holds L.history B.history log pieces files
+        → (text.items ≡ report_text (report_of outcome.now [] log.names (laid files pieces).contents))
+        × AreLeft L.history B.history log.names (laid files pieces) result.parts.items result.stores.items) }
+    ensures whole { (why : _) → result.report ≡ Err (stops.Region why) → (pieces : List Piece) (files : Files) → ¬ Holds L.history B.history log pieces files }
+    ensures cause { CountHasCause (log_faults L.fault_count B.fault_count log)
+        (sum_by L.fault_count result.parts.items + sum_by B.fault_count result.stores.items) result.report }
+{
+    recoveries_give_the_same_files();
+    match log.finish(alloc) {
+        Ok((region, stores)) => {
+            let mut stores = stores;
+            let report = show(alloc, outcome, region.names(), &mut stores);
+            Ended {
+                parts: region.into_parts(),
+                stores,
+                report,
+            }
+        }
+        Err((parts, stores, error)) => Ended {
+            parts,
+            stores,
+            report: Err(error.into()),
+        },
+    }
+}
+
+// The report of a run whose files the stores hold.
+fn show<B: Backing>(
+    alloc: Global,
+    outcome: &Outcome<'_>,
+    names: &Names,
+    stores: &mut Vec<B>,
+) -> Result<Vec<u8>, Stop>
+    requires { length stores.old.items ≡ length names.now }
+    ensures text { IfOk result (λ text. (now : List Store) → AreNow (map B.history stores.old.items) now
+        → text.items ≡ report_text (report_of outcome.now [] names.now (files_of now).contents)) }
+    ensures histories { map B.history stores.new.items ≡ map B.history stores.old.items }
+    ensures never { (why : _) → ¬ (result ≡ Err (stops.Region why)) }
+    ensures cause { CountHasCause (sum_by B.fault_count stores.old.items) (sum_by B.fault_count stores.new.items) result }
+{
+    let files = read_files(alloc, stores)?;
+    let text = text_of(alloc, outcome, &[], names.as_slice(), &files)?;
+    Ok(text)
 }

@@ -1,27 +1,61 @@
-ghost use Rattle.std.specs.Prelude.{◌≡◌, ◌++◌, ◌+◌, map, IfOk, OnOk};
-ghost use Rattle.nv_top.specs.Reports.{history_lines, refused_lines, file_lines, report_text};
-ghost use Rattle.nv_top.specs.Runs.{placed_call, refused_call, report_of, with_bytes};
+ghost use Rattle.std.specs.Prelude.{◌≡◌, ◌++◌, ◌+◌, length, map, IfOk, OnOk};
+ghost use Rattle.nv_top.specs.Faithful.{named};
+ghost use Rattle.nv_top.specs.Outcomes.{placed_call, refused_call, open_call, report_of};
+ghost use Rattle.nv_top.specs.Reports.{history_lines, refused_lines, open_lines, file_lines, report_text, recovery_text};
 
-use crate::run::{Outcome, Placed, Refused};
+use crate::outcome::{Open, Outcome, Placed, Refused};
 use nv_plain::{Bytes, NoMemory};
-use nv_trace::{end_line, file_line, history_line, refused_line};
+use nv_recover::Recovered;
+use nv_trace::{end_line, file_line, history_line, open_line, recovered_line, refused_line};
 use std::alloc::Global;
 
-/// The text of a run's report.
+/// The text of a run's report: its calls, those that were left open with what became of them, and the files by their names.
 pub(crate) fn text_of(
     alloc: Global,
-    names: &[Bytes],
     outcome: &Outcome<'_>,
-    file: &[u8],
+    unanswered: &[Open<'_>],
+    names: &[Bytes],
+    files: &[Bytes],
 ) -> Result<Vec<u8>, NoMemory>
-    ensures { IfOk result (λ text. text.items ≡ report_text (report_of names.now outcome.now file.now)) }
+    requires files { length files.now ≡ length names.now }
+    ensures { IfOk result (λ text. text.items ≡ report_text (report_of outcome.now unanswered.now names.now files.now)) }
 {
     let mut text = Vec::new(alloc);
     push_history(alloc, &mut text, &outcome.placed)?;
     push_refused(alloc, &mut text, &outcome.refused)?;
-    push_files(alloc, &mut text, names, file)?;
-    let (placed, refused) = (outcome.placed.len() as u64, outcome.refused.len() as u64);
-    push(&mut text, &end_line(alloc, placed, refused, 0)?)?;
+    push_open(alloc, &mut text, unanswered)?;
+    push_files(alloc, &mut text, names, files)?;
+    let placed = outcome.placed.len() as u64;
+    let refused = outcome.refused.len() as u64;
+    push(
+        &mut text,
+        &end_line(alloc, placed, refused, unanswered.len() as u64)?,
+    )?;
+    Ok(text)
+}
+
+/// The text of a recovery's report.
+pub(crate) fn recovery_text_of(
+    alloc: Global,
+    found: &Recovered,
+    names: &[Bytes],
+    files: &[Bytes],
+) -> Result<Vec<u8>, NoMemory>
+    requires files { length files.now ≡ length names.now }
+    ensures { IfOk result (λ text. text.items ≡ recovery_text (record {
+      first = found.now.first;
+      next = found.now.next;
+      groups = length found.now.groups;
+      files = named names.now (record { contents = files.now });
+    })) }
+{
+    let mut text = Vec::new(alloc);
+    let groups = found.groups.as_slice().len() as u64;
+    push(
+        &mut text,
+        &recovered_line(alloc, found.first, found.next, groups)?,
+    )?;
+    push_files(alloc, &mut text, names, files)?;
     Ok(text)
 }
 
@@ -49,16 +83,33 @@ fn push_refused(alloc: Global, text: &mut Vec<u8>, refused: &[Refused<'_>]) -> R
     Ok(())
 }
 
+fn push_open(alloc: Global, text: &mut Vec<u8>, unanswered: &[Open<'_>]) -> Result<(), NoMemory>
+    ensures { OnOk result (text.new.items ≡ text.old.items ++ open_lines (map open_call unanswered.now)) }
+{
+    for o in unanswered {
+        push(
+            text,
+            &open_line(alloc, o.call.thread, &o.call.call, o.fate)?,
+        )?;
+    }
+    Ok(())
+}
+
 fn push_files(
     alloc: Global,
     text: &mut Vec<u8>,
     names: &[Bytes],
-    file: &[u8],
+    files: &[Bytes],
 ) -> Result<(), NoMemory>
-    ensures { OnOk result (text.new.items ≡ text.old.items ++ file_lines (map (with_bytes file.now) names.now)) }
+    requires files { length files.now ≡ length names.now }
+    ensures { OnOk result (text.new.items ≡ text.old.items
+        ++ file_lines (named names.now (record { contents = files.now }))) }
 {
-    for name in names {
-        push(text, &file_line(alloc, name.as_slice(), file)?)?;
+    for (place, name) in names.iter().enumerate() {
+        push(
+            text,
+            &file_line(alloc, name.as_slice(), files[place].as_slice())?,
+        )?;
     }
     Ok(())
 }

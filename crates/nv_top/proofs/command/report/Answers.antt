@@ -1,29 +1,28 @@
-use Rattle.std.proofs.Common.{◌≡◌, ℕ, List, map, ap, sym, subst, ◌∙◌}
-use Rattle.std.specs.List.Sorted.{IsStrictlyIncreasing}
-use Rattle.nv_trace.specs.declared.trace.TracedCall.{TracedCall}
-use Rattle.nv_top.specs.Reports.{report_text}
-use Rattle.nv_top.specs.Runs.{run_sizes, HasMade, report_of}
-use Rattle.nv_top.proofs.FaithfulLemmas.{HasMade-faithful}
-use Rattle.nv_top.proofs.HeadlineLemmas.{headline}
-use Rattle.nv_top.proofs.NameLemmas.{names_plain}
-use Rattle.nv_top.proofs.RunLemmas.{lines_rise}
+use Rattle.std.proofs.Common.{◌≡◌, ◌∙◌, Some, List, ℕ, sym, map, subst, ap}
+use Rattle.std.specs.Prelude.{IfSome}
+use Rattle.nv_top.specs.Headline.{IsRefused}
+use Rattle.nv_top.specs.declared.words.Command.{Command}
+use Rattle.nv_top.specs.declared.words.Command.TheVariants.{Run, Recover}
+use Rattle.nv_top.proofs.HeadlineLemmas.{recovery_refused, same_some, stop_possible}
 use Rattle.nv_top.proofs.command.report.Goals as goal
 
-pub returns-clause-report : goal.returns-clause-report
-returns-clause-report g c tells =
-    let trace = c.in_ok-trace.trace in
-    let outcome = c.in_ok-ran.ran.outcome in
-    let file = c.in_ok-ran.ran.file.items in
-    let text : c.in_ok-text.text.items ≡ report_text (report_of trace.names outcome file) =
-    c.in_ok-text.ensures
-    ∙ (ap (λ (names : List (List ℕ)). report_text (report_of names outcome c.deref.result.now)) c.names.ensures
-    ∙ ap (λ (bytes : List ℕ). report_text (report_of trace.names outcome bytes)) c.deref.ensures.value) in
-    headline run_sizes (g.I.Source.left c.args.src.now) trace (report_of trace.names outcome file) c.in_ok-text.text.items
-    c.in_ok-trace.ensures.whole
-    (λ input is.
-    let rise = subst (λ (calls : List TracedCall). IsStrictlyIncreasing (map (λ traced. traced.line) calls)) (sym c.calls.ensures.calls) (lines_rise input trace is) in
-    let made = c.in_ok-ran.ensures.made tells rise in
-    HasMade-faithful run_sizes trace made.0 file outcome
-    (subst (λ (calls : List TracedCall). HasMade run_sizes calls made.0 file outcome) c.calls.ensures.calls made.1) c.calls.ensures.well_formed)
-    (names_plain trace outcome file c.calls.ensures.well_formed)
-    text
+pub run_input-requires-clause-stop : goal.run_input-requires-clause-stop
+run_input-requires-clause-stop g c κs within =
+    stop_possible g.B.Bench.can_lose_power _ c.in-Some-Run.stop c.in-Some-Run.image (sym c.command_over.ensures ∙ c.in-Some-Run.is ∙ ap Some c.in-Some-Run.field-0-is)
+
+pub returns-in-Some-Run-clause-region : goal.returns-in-Some-Run-clause-region
+returns-in-Some-Run-clause-region g c why is command over arms =
+    let old = g.B.Bench.state c.args.bench.now in
+    let new = g.B.Bench.state c.run_input.new.bench in
+    let left = g.I.Source.left c.args.src.now in
+    let With : Command → Type 0 = λ command. IfSome old.told (λ holding. IsRefused command left old new holding why) in
+    subst With (same_some (sym (c.in-Some-Run.is ∙ ap Some c.in-Some-Run.field-0-is) ∙ c.command_over.ensures ∙ over)) (c.run_input.ensures.region why is arms)
+
+pub returns-in-Some-Recover-clause-region : goal.returns-in-Some-Recover-clause-region
+returns-in-Some-Recover-clause-region g c why is command over arms =
+    let old = g.B.Bench.state c.args.bench.now in
+    let new = g.B.Bench.state c.recover.new.bench in
+    let left = g.I.Source.left c.args.src.now in
+    let With : Command → Type 0 = λ command. IfSome old.told (λ holding. IsRefused command left old new holding why) in
+    subst With (same_some (sym (c.in-Some-Recover.is ∙ ap Some c.in-Some-Recover.field-0-is) ∙ c.command_over.ensures ∙ over))
+    (recovery_refused left old new why (c.recover.ensures.refused why is) (c.recover.ensures.unwritten why is))

@@ -1,6 +1,9 @@
-use Rattle.nv_top.specs.Endings.{long_line, read_line, device_line, memory_line}
-use Rattle.nv_top.proofs.EndingLemmas.{long_is_error, read_is_error, device_is_error, memory_is_error}
+use Rattle.nv_top.specs.Endings.{usage_line, long_line, read_line, device_line, memory_line}
+use Rattle.nv_top.proofs.EndingLemmas.{usage_is_error, long_is_error, read_is_error, device_is_error, memory_is_error}
 use Rattle.nv_top.proofs.ending.say_stop.Goals as goal
+
+pub returns-in-Usage-clause-front : goal.returns-in-Usage-clause-front
+returns-in-Usage-clause-front g c failed = (usage_line, usage_is_error, c.say.ensures.front failed)
 
 pub returns-in-InputLong-clause-front : goal.returns-in-InputLong-clause-front
 returns-in-InputLong-clause-front g c failed = (long_line, long_is_error, c.say-in-InputLong.ensures.front failed)

@@ -1,6 +1,6 @@
 use Rattle.std.proofs.Common.{◌≡◌, ◌++◌, map, drop}
 use Rattle.nv_top.specs.Reports.{refused_lines}
-use Rattle.nv_top.specs.Runs.{refused_call}
+use Rattle.nv_top.specs.Outcomes.{refused_call}
 use Rattle.nv_top.proofs.text.push_refused.Given as goal
 
 -- what is there and what is to come are all

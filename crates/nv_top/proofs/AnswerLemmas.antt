@@ -1,0 +1,61 @@
+-- A write over a log is answered as plain files and the sizes of the log say.
+use Rattle.std.proofs.Common.{◌≡◌, ℕ, ◌+◌, ◌-◌, ◌*◌, ◌/◌, ◌^◌, ◌<◌, ◌≤◌, nat_lt, Bool, true, false, cond, if◌then◌else◌, List, [], ◌∷◌, ◌++◌, length, slice_index, Option, Some, None, Result, Ok, refl, ap, ◌∙◌, arith, ne_eqb}
+use Rattle.std.proofs.lemmas.Bool.{ltb-false}
+use Rattle.std.proofs.lemmas.List.Sums.{fold_push}
+use Rattle.nv_plain.specs.Files.{Files}
+use Rattle.nv_plain.specs.Pieces.{pages_touched}
+use Rattle.nv_plain.specs.declared.call.Reply.TheVariants.{Count}
+use Rattle.nv_pmem.specs.Steps as lines
+use Rattle.nv_store.specs.Steps as stores
+use Rattle.nv_engine.specs.Holding.{Holds, written}
+use Rattle.nv_engine.specs.Laid.{Piece, with_piece}
+use Rattle.nv_engine.specs.Refusals.{write_refusal, write_pages, IsRefusedWrite}
+use Rattle.nv_engine.specs.declared.log.Log.{Log}
+use Rattle.nv_engine.specs.declared.error.WriteError.{WriteError}
+use Rattle.nv_trace.specs.declared.trace.TraceCall.TheVariants.{Pwrite}
+use Rattle.nv_trace.specs.declared.report.Refusal.TheVariants.{TooFar, TooLong}
+use Rattle.nv_top.specs.Answers.{IsAnswer}
+
+-- a byte at least lies in a page at least
+pages_some : (at len page : ℕ) → 1 ≤ len → 1 ≤ pages_touched at len page
+pages_some at len page some =
+    omega (arith, ap (λ test. cond test 0 ((at + len - 1) / page - at / page + 1)) (ne_eqb len 0 (λ none. omega (arith, some))))
+
+-- the first two tests of a write pass where it isn't refused
+passed : {E : Type 0} (far long : Bool) (too_far too_long : E) (rest : Option E) → (if far then Some too_far else if long then Some too_long else rest) ≡ None → (far ≡ false) × (long ≡ false)
+passed true long too_far too_long rest is = cc
+passed false true too_far too_long rest is = cc
+passed false false too_far too_long rest is = (refl, refl)
+
+not_barred : {E : Type 0} (far long : Bool) (too_far too_long : E) → far ≡ false → long ≡ false → (if far then Some too_far else if long then Some too_long else None) ≡ None
+not_barred true long too_far too_long e f = cc
+not_barred false true too_far too_long e f = cc
+not_barred false false too_far too_long e f = refl
+
+none_where_ok : {T : Type 0} (chain : Option WriteError) (value : T) → IsRefusedWrite chain (Ok value) → chain ≡ None
+none_where_ok (Some refusal) value refused = cc
+none_where_ok None value refused = refl
+
+-- a write that was made
+pub write_answered : {L B : Type 0} (history : L → lines.History) (held : B → stores.History) (descriptors : List ℕ) (old new : Log L B) (fd at : ℕ) (bytes : List ℕ) (count : ℕ)
+    → old.stopped ≡ false → 1 ≤ length bytes
+    → IsRefusedWrite (write_refusal write_pages old at (length bytes)) (Ok count) → new.stopped ≡ old.stopped → count ≡ length bytes → new.head ≡ old.head + 1
+    → ((pieces : List Piece) (files : Files) → Holds history held old pieces files → Holds history held new (pieces ++ written (slice_index descriptors fd) at bytes ∷ []) files)
+    → IsAnswer history held descriptors (Pwrite fd at bytes) old new (Count count)
+write_answered history held descriptors old new fd at bytes count running some refused still counted drew holds =
+    let page = old.geometry.page in
+    let len = length bytes in
+    let far = nat_lt (page * old.pages) (at + len) in
+    let long = nat_lt 1 (pages_touched at len page) in
+    let passes = passed far long _ _ _ (none_where_ok (write_refusal write_pages old at len) count refused) in
+    record {
+      running = still ∙ running;
+      may = not_barred far long TooFar TooLong passes.0 passes.1;
+      head = omega (arith, drew, ltb-false 1 (pages_touched at len page) passes.1, pages_some at len page some);
+      answered = λ pieces files here. record {
+        more = pieces ++ written (slice_index descriptors fd) at bytes ∷ [];
+        holds = holds pieces files here;
+        reply_is = ap Count counted;
+        files_are = fold_push with_piece files pieces (written (slice_index descriptors fd) at bytes);
+      };
+    }

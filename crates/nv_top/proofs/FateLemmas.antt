@@ -1,0 +1,146 @@
+-- What a recovery makes of the write that was left open, and so of the files.
+use Rattle.std.proofs.Common.{◌≡◌, ℕ, ◌+◌, ◌≤◌, ◌==◌, ◌||◌, ◌++◌, [], ◌∷◌, zero, suc, Bool, true, false, if◌then◌else◌, All, List, map, length, refl, sym, ap, subst, ◌∙◌, inl, inr, arith, eq-eqb, ne_eqb, length-append}
+use Rattle.std.specs.List.{list_any, range_with_len}
+use Rattle.std.proofs.lemmas.Bool.{le-ltb}
+use Rattle.std.proofs.lemmas.List.Sums.{fold_push}
+use Rattle.nv_plain.specs.Calls.{files_after}
+use Rattle.nv_plain.specs.Files.{Files}
+use Rattle.nv_plain.specs.Images.{Image}
+use Rattle.nv_plain.specs.Layouts.{Layout, version_1}
+use Rattle.nv_pmem.specs.Part.{Part}
+use Rattle.nv_pmem.specs.RowStates.{AreNow, IsNow}
+use Rattle.nv_pmem.specs.Rows.{IsRowImage}
+use Rattle.nv_pmem.specs.Steps as lines
+use Rattle.nv_store.specs.Steps as stores
+use Rattle.nv_recover.specs.Recovering.{HasFoundAll}
+use Rattle.nv_recover.specs.declared.recovering.Recovered as recover
+use Rattle.nv_engine.specs.Laid.{IsFitting, Piece, laid, with_piece}
+use Rattle.nv_engine.specs.Logged.{AreFitting, HasLog, LoggedImagesRecover, RecoversTo}
+use Rattle.nv_engine.specs.declared.log.Log.{Log}
+use Rattle.nv_trace.specs.declared.trace.TraceCall.{TraceCall}
+use Rattle.nv_trace.specs.declared.trace.TraceCall.TheVariants.{Pread, Pwrite, Fsync}
+use Rattle.nv_trace.specs.declared.report.Fate.{Fate}
+use Rattle.nv_trace.specs.declared.report.Fate.TheVariants.{Kept, Lost}
+use Rattle.nv_top.specs.Attempts.{IsHeld, piece_of}
+use Rattle.nv_top.specs.Faithful.{IsWrite, after_fate, file_call}
+use Rattle.nv_top.specs.Fates.{fate_of, RecoversAsFated}
+use Rattle.nv_top.specs.Outcomes.{left_call}
+use Rattle.nv_top.specs.declared.outcome.Left as outcome
+use Rattle.nv_top.proofs.RunLemmas.{All-front}
+
+-- ---- numbers in a row
+
+none_from : (tail n number : ℕ) → tail + n ≤ number → list_any (λ leader. leader == number) (range_with_len tail n) ≡ false
+none_from tail zero number beyond = refl
+none_from tail (suc n) number beyond =
+    ap (λ is. is || list_any (λ leader. leader == number) (range_with_len (tail + 1) n)) (ne_eqb tail number (λ same. omega (arith, same, beyond)))
+    ∙ none_from (tail + 1) n number (omega (arith, beyond))
+
+or_true : (is : Bool) → (is || true) ≡ true
+or_true true = refl
+or_true false = refl
+
+last_is : (tail n number : ℕ) → number ≡ tail + n → list_any (λ leader. leader == number) (range_with_len tail (suc n)) ≡ true
+last_is tail zero number last = ap (λ is. is || false) (eq-eqb tail number (omega (arith, last)))
+last_is tail (suc n) number last =
+    ap (λ is. (tail == number) || is) (last_is (tail + 1) n number (omega (arith, last))) ∙ or_true (tail == number)
+
+fate_from : (first number : ℕ) (groups : List ℕ) (is : Bool) → first ≤ number → list_any (λ leader. leader == number) groups ≡ is → fate_of first groups number ≡ (if is then Kept else Lost)
+fate_from first number groups is from any =
+    ap (λ below. if below || list_any (λ leader. leader == number) groups then Kept else Lost) (le-ltb number first from)
+    ∙ ap (λ is. if is then Kept else Lost) any
+
+-- the first number past the groups of some pieces is lost, and the last number of them is kept
+past_is_lost : (tail n number : ℕ) → number ≡ tail + n → fate_of tail (range_with_len tail n) number ≡ Lost
+past_is_lost tail n number is = fate_from tail number (range_with_len tail n) false (omega (arith, is)) (none_from tail n number (omega (arith, is)))
+
+last_is_kept : (tail n number : ℕ) → number ≡ tail + n → fate_of tail (range_with_len tail (suc n)) number ≡ Kept
+last_is_kept tail n number is = fate_from tail number (range_with_len tail (suc n)) true (omega (arith, is)) (last_is tail n number is)
+
+-- ---- rows have one state
+
+same_now : {S : Type 0} (history : List S) (one other : S) → IsNow history one → IsNow history other → one ≡ other
+same_now history one other a b =
+    let same : one ∷ a.past ≡ other ∷ b.past = sym a.is ∙ b.is in
+    heads one other a.past b.past same
+  where
+    heads : {S : Type 0} (x y : S) (xs ys : List S) → x ∷ xs ≡ y ∷ ys → x ≡ y
+    heads x y xs ys is = cc
+
+pub one_state : {S : Type 0} (row : List (List S)) (one other : List S) → AreNow row one → AreNow row other → one ≡ other
+one_state [] [] [] a b = refl
+one_state [] [] (y ∷ other) a b = absurd b
+one_state [] (x ∷ one) other a b = absurd a
+one_state (history ∷ row) [] other a b = absurd a
+one_state (history ∷ row) (x ∷ one) [] a b = absurd b
+one_state (history ∷ row) (x ∷ one) (y ∷ other) a b =
+    ap (λ x. x ∷ one) (same_now history x y a.0 b.0) ∙ ap (λ others. y ∷ others) (one_state row one other a.1 b.1)
+
+-- ---- the files after it
+
+fitting_front : (layout : Layout) (page entries files tail : ℕ) (pieces : List Piece) (more : Piece) → AreFitting layout page entries files tail (pieces ++ more ∷ []) → AreFitting layout page entries files tail pieces
+fitting_front layout page entries files tail pieces more fitting = record {
+  groups = fitting.groups;
+  few = omega (arith, fitting.few, length-append pieces (more ∷ []));
+  small = omega (arith, fitting.small, length-append pieces (more ∷ []));
+  each = All-front (IsFitting layout page files) pieces (more ∷ []) fitting.each;
+}
+
+-- the piece of a write makes of files what the write makes of them
+as_written : (descriptors : List ℕ) (call : TraceCall) (files : Files) → IsWrite call → with_piece files (piece_of descriptors call) ≡ files_after (file_call descriptors call) files
+as_written descriptors (Pread fd at len) files is = absurd is
+as_written descriptors (Pwrite fd at bytes) files is = refl
+as_written descriptors (Fsync fd) files is = absurd is
+
+module _ {L B : Type 0} (recover_so : LoggedImagesRecover) (history : L → lines.History) (held : B → stores.History) (descriptors : List ℕ) (log : Log L B) (files : Files)
+    (parts : List Part) (now : AreNow (map history log.parts.items) parts) (image : Image) (left_so : IsRowImage parts image) (found : recover.Recovered) (all : HasFoundAll image found) where
+  recovered_to : (pieces : List Piece) → HasLog version_1 log.geometry.page log.geometry.entries log.names log.tail pieces image
+      → AreFitting version_1 log.geometry.page log.geometry.entries (length log.names) log.tail pieces → RecoversTo log.tail pieces files image
+  recovered_to pieces logged fitting =
+      recover_so version_1 log.geometry.page log.geometry.entries log.names log.tail pieces image files logged fitting
+
+  -- the fate, by what was found
+  fate_at : (pieces : List Piece) (number : ℕ) (fate : Fate) → RecoversTo log.tail pieces files image → fate_of log.tail (range_with_len log.tail (length pieces)) number ≡ fate
+      → fate_of found.first found.groups number ≡ fate
+  fate_at pieces number fate recovers is =
+      ap (λ first. fate_of first found.groups number) (all.first files ∙ recovers.first)
+      ∙ ap (λ groups. fate_of log.tail groups number) (all.groups files ∙ recovers.groups)
+      ∙ is
+
+  -- the log is as it was: the write is lost
+  as_lost : (pieces : List Piece) (one : outcome.Left) → one.number ≡ log.tail + length pieces → RecoversTo log.tail pieces files image
+      → RecoversAsFated descriptors image files found (one ∷ []) (laid files pieces)
+  as_lost pieces one number_is recovers =
+      let fate = fate_at pieces one.number Lost recovers (past_is_lost log.tail (length pieces) one.number number_is) in
+      recovers.files ∙ ap (after_fate (file_call descriptors one.call.now.call) (laid files pieces)) (sym fate)
+
+  -- it has the piece more: the write is kept
+  as_kept : (pieces : List Piece) (one : outcome.Left) → IsWrite one.call.now.call → one.number ≡ log.tail + length pieces
+      → RecoversTo log.tail (pieces ++ piece_of descriptors one.call.now.call ∷ []) files image
+      → RecoversAsFated descriptors image files found (one ∷ []) (laid files pieces)
+  as_kept pieces one is_write number_is recovers =
+      let piece = piece_of descriptors one.call.now.call in
+      let long : length (pieces ++ piece ∷ []) ≡ suc (length pieces) = omega (arith, length-append pieces (piece ∷ [])) in
+      let fate =
+      fate_at (pieces ++ piece ∷ []) one.number Kept recovers
+      (ap (λ count. fate_of log.tail (range_with_len log.tail count) one.number) long ∙ last_is_kept log.tail (length pieces) one.number number_is) in
+      recovers.files ∙ fold_push with_piece files pieces piece ∙ as_written descriptors one.call.now.call (laid files pieces) is_write
+      ∙ ap (after_fate (file_call descriptors one.call.now.call) (laid files pieces)) (sym fate)
+
+  pub recovers_as_fated : (pieces : List Piece) (next : ℕ) (left : List outcome.Left) → All (λ call. IsWrite call.call) (map left_call left)
+      → IsHeld history held descriptors log pieces next files left → RecoversAsFated descriptors image files found left (laid files pieces)
+  recovers_as_fated pieces next [] writes here =
+      let same = one_state (map history log.parts.items) parts here.0.parts now here.0.parts_are in
+      let image_of : IsRowImage here.0.parts image = subst (λ parts. IsRowImage parts image) same left_so in
+      (recovered_to pieces (here.0.has.logs image image_of) here.0.has.fitting).files
+  recovers_as_fated pieces next (one ∷ []) writes here =
+      let same = one_state (map history log.parts.items) parts here.0.parts now here.0.parts_are in
+      let image_of : IsRowImage here.0.parts image = subst (λ parts. IsRowImage parts image) same left_so in
+      let piece = piece_of descriptors one.call.now.call in
+      elim (here.0.logs image image_of) [
+        | inl logged ↦
+            as_lost pieces one here.2
+            (recovered_to pieces logged (fitting_front version_1 log.geometry.page log.geometry.entries (length log.names) log.tail pieces piece here.0.fitting))
+        | inr logged ↦ as_kept pieces one (writes 0 one.call.now (omega arith)) here.2 (recovered_to (pieces ++ piece ∷ []) logged here.0.fitting)
+      ]
+  recovers_as_fated pieces next (one ∷ two ∷ more) writes here = absurd here

@@ -1,0 +1,72 @@
+-- Rows of devices: one of them was called, and the present states of all.
+use Rattle.std.proofs.Common.{◌≡◌, ℕ, ◌<◌, List, [], ◌∷◌, ◌++◌, All, length, take, drop, map, sum_by, get_or, slice_index_or, slice_set, zero, suc, refl, sym, ap, ◌∙◌, subst, arith}
+use Rattle.std.proofs.Math.Seq.{map-set_same}
+use Rattle.std.proofs.lemmas.List.{take_at}
+use Rattle.std.proofs.lemmas.List.Elements.{All-cons, All-head, All-tail}
+use Rattle.std.proofs.lemmas.List.Sums.{sum_by-set}
+use Rattle.nv_pmem.specs.Moments.{Tells}
+use Rattle.nv_pmem.specs.RowStates.{IsNow, AreNow, row_tells_from, tells_at}
+use Rattle.nv_pmem.specs.Rows.{RowTells}
+use Rattle.nv_store.specs.Steps.{History}
+use Rattle.nv_store.specs.Store.{IsQuiet, Store}
+use Rattle.nv_recover.specs.Standing.{AreQuietStores}
+
+-- what is the same of one device is the same of the row
+pub same_in_row : {X Y : Type 0} (f : X → Y) (row : List X) (i : ℕ) (was new d : X) → was ≡ get_or row i d → f new ≡ f was → map f (slice_set row i new) ≡ map f row
+same_in_row f row i was new d is same = map-set_same f row i new d (same ∙ ap f is)
+
+-- and so is the sum over it
+pub same_sum_in_row : {X : Type 0} (f : X → ℕ) (row : List X) (i : ℕ) (was new d : X) → i < length row → was ≡ get_or row i d → f new ≡ f was → sum_by f (slice_set row i new) ≡ sum_by f row
+same_sum_in_row f row i was new d inside is same = omega (arith, sum_by-set f row i new d inside, same, ap f is)
+
+-- each device of a row that tells has a present state
+pub now_at : {S : Type 0} (row : List (List S)) (states : List S) (i : ℕ) (none : S) → AreNow row states → i < length row → IsNow (slice_index_or row i []) (slice_index_or states i none)
+now_at [] states i none are inside = absurd (omega arith)
+now_at (history ∷ row) [] i none are inside = absurd are
+now_at (history ∷ row) (now ∷ states) zero none are inside = are.0
+now_at (history ∷ row) (now ∷ states) (suc i) none are inside = now_at row states i none are.1 (omega arith)
+
+pub length_now : {S : Type 0} (row : List (List S)) (states : List S) → AreNow row states → length states ≡ length row
+length_now [] [] are = refl
+length_now [] (now ∷ states) are = absurd are
+length_now (history ∷ row) [] are = absurd are
+length_now (history ∷ row) (now ∷ states) are = ap suc (length_now row states are.1)
+
+-- ---- rows that tell
+
+-- the present states of a row
+pub record Present {S : Type 0} (row : List (List S)) : Type 0 where
+  pub states : List S
+  pub are : AreNow row states
+
+pub all_tell : {S : Type 0} (row : List (List S)) (states : List S) → AreNow row states → All (λ history. 0 < length history) row
+all_tell [] [] are = λ k d inside. absurd (omega arith)
+all_tell [] (now ∷ states) are = absurd are
+all_tell (history ∷ row) [] are = absurd are
+all_tell (history ∷ row) (now ∷ states) are =
+    All-cons (λ history. 0 < length history) history row (omega (arith, ap (λ (these : List _). length these) are.0.is)) (all_tell row states are.1)
+
+pub present : {S : Type 0} (row : List (List S)) → All (λ history. 0 < length history) row → Present row
+present [] told = record { states = []; are = tt }
+present ([] ∷ row) told = let some = All-head (λ (history : List _). 0 < length history) [] row told in absurd (omega (arith, some))
+present ((now ∷ past) ∷ row) told =
+    let rest = present row (All-tail (λ (history : List _). 0 < length history) (now ∷ past) row told) in
+    record { states = now ∷ rest.states; are = (record { past = past; is = refl }, rest.are) }
+
+-- ---- what a call did to a slice, it did to the vector that lent it
+
+pub lent_back : {X : Type 0} (items now new : List X) (len : ℕ) → now ≡ items → length items ≡ len → length new ≡ length now → take len (new ++ drop (length new) items) ≡ new
+lent_back items now new len same long still = take_at new (drop (length new) items) len (omega (arith, ap length same, long, still))
+
+-- ---- stores that are quiet where they tell
+
+all_quiet : {Y : Type 0} (history : Y → History) (stores : List Y) (states : List Store) → All (λ store. Tells (history store) IsQuiet) stores → AreNow (map history stores) states → AreQuietStores states
+all_quiet history [] [] quiet are = λ k d inside. absurd (omega arith)
+all_quiet history [] (now ∷ states) quiet are = absurd are
+all_quiet history (store ∷ stores) [] quiet are = absurd are
+all_quiet history (store ∷ stores) (now ∷ states) quiet are =
+    All-cons IsQuiet now states (tells_at (history store) IsQuiet now are.0 (All-head (λ store. Tells (history store) IsQuiet) store stores quiet))
+    (all_quiet history stores states (All-tail (λ store. Tells (history store) IsQuiet) store stores quiet) are.1)
+
+pub quiet_row : {Y : Type 0} (history : Y → History) (stores : List Y) → All (λ store. Tells (history store) IsQuiet) stores → RowTells (map history stores) AreQuietStores
+quiet_row history stores quiet = row_tells_from (map history stores) AreQuietStores (λ states are. all_quiet history stores states quiet are)

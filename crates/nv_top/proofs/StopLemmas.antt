@@ -1,0 +1,30 @@
+-- Stops: which error a refusal of the region came of.
+use Rattle.std.proofs.Common.{◌≡◌, ℕ, Result, Err, refl, subst}
+use Rattle.std.specs.Result.{IsErrAnd}
+use Rattle.nv_open.specs.declared.error.OpenError.{OpenError}
+use Rattle.nv_open.specs.declared.error.OpenError.TheVariants as open_errors
+use Rattle.nv_open.specs.declared.error.Refusal.{Refusal}
+use Rattle.nv_recover.specs.declared.error.RecoverError.{RecoverError}
+use Rattle.nv_recover.specs.declared.error.RecoverError.TheVariants as recover_errors
+use Rattle.nv_top.specs.Stops.{stop_of_opening, stop_of_recovery}
+use Rattle.nv_top.specs.declared.ending.Stop.{Stop}
+use Rattle.nv_top.specs.declared.ending.Stop.TheVariants.{Device, Region, NoMemory}
+
+pub opening_refused : (error : OpenError) (why : Refusal) → stop_of_opening error ≡ Region why → error ≡ open_errors.Refused why
+opening_refused (open_errors.Refused refusal) why is = cc
+opening_refused open_errors.Fault why is = cc
+opening_refused open_errors.NoMemory why is = cc
+
+pub entry_is_bad : (error : RecoverError) (why : Refusal) → stop_of_recovery error ≡ Region why → (number : ℕ) × (error ≡ recover_errors.BadEntry number)
+entry_is_bad (recover_errors.BadEntry number) why is = (number, refl)
+entry_is_bad recover_errors.RegionFault why is = absurd cc
+entry_is_bad recover_errors.StoreFault why is = absurd cc
+entry_is_bad recover_errors.NoMemory why is = absurd cc
+
+pub same_error : {T E : Type 0} (result : Result T E) (one other : E) → result ≡ Err one → result ≡ Err other → one ≡ other
+same_error result one other a b = cc
+
+pub err_has : {T E : Type 0} (result : Result T E) (P : E → Type 0) (error : E) → result ≡ Err error → IsErrAnd result P → P error
+err_has result P error is has =
+    let Of : Result _ _ → Type 0 = λ result. IsErrAnd result P in
+    subst Of is has

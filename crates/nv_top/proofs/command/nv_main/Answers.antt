@@ -1,0 +1,22 @@
+use Rattle.std.proofs.Common.{◌≡◌, ◌⊎◌, ℕ, List, inr}
+use Rattle.nv_trace.specs.Streams.{Appends}
+use Rattle.nv_top.specs.Endings.{AppendsFront}
+use Rattle.nv_top.specs.declared.ending.TheConstants.{DONE, WRITE_FAULT}
+use Rattle.nv_top.proofs.HeadlineLemmas.{written_so}
+use Rattle.nv_top.proofs.command.nv_main.Goals as goal
+
+pub returns-in-Ok-clause-write_said : goal.returns-in-Ok-clause-write_said
+returns-in-Ok-clause-write_said g c is =
+    let written : List ℕ → Type 0 = λ text. AppendsFront (g.O.Sink.written c.args.out.now) (g.O.Sink.written c.say.new.out) text in
+    inr (λ command over.
+    written_so command (g.I.Source.left c.args.src.now) (g.B.Bench.state c.args.bench.now) (g.B.Bench.state c.report.new.bench) c.in-Ok.text.items c.deref.result.now written
+    c.deref.ensures.value (c.in-Ok.ensures.report command over) (c.say.ensures.front is))
+
+pub returns-in-Ok-clause-report : goal.returns-in-Ok-clause-report
+returns-in-Ok-clause-report g c is command over =
+    let written : List ℕ → Type 0 = λ text. Appends (g.O.Sink.written c.args.out.now) (g.O.Sink.written c.say.new.out) text in
+    written_so command (g.I.Source.left c.args.src.now) (g.B.Bench.state c.args.bench.now) (g.B.Bench.state c.report.new.bench) c.in-Ok.text.items c.deref.result.now written
+    c.deref.ensures.value (c.in-Ok.ensures.report command over) (c.say.ensures.said (λ fault. absurd (differ is fault))).1
+  where
+    differ : {status : ℕ} → status ≡ DONE → status ≡ WRITE_FAULT → ⊥
+    differ {status} done fault = cc

@@ -1,0 +1,102 @@
+use Rattle.std.proofs.Common.{◌≡◌, ◌<◌, ◌+◌, ◌∙◌, [], ℕ, List, All, Err, length, map, refl, sym, ap, subst, sum_by, arith}
+use Rattle.std.specs.Prelude.{IfSome}
+use Rattle.std.specs.List.Sorted.{IsStrictlyIncreasing}
+use Rattle.std.proofs.lemmas.Result.{IfOk-weaker}
+use Rattle.nv_plain.specs.Faults.{Rose, saturated}
+use Rattle.nv_pmem.specs.Part.{Part}
+use Rattle.nv_pmem.specs.RowStates.{AreNow}
+use Rattle.nv_store.specs.Store.{Store}
+use Rattle.nv_bench.specs.Benches.{BenchState}
+use Rattle.nv_bench.specs.Holding.{Holding, IsQuietHolding}
+use Rattle.nv_open.specs.Adding.{all_names}
+use Rattle.nv_open.specs.Lending.{without_stores}
+use Rattle.nv_recover.specs.Standing.{files_of}
+use Rattle.nv_top.specs.Commands.{IsBasis, IsNotRun}
+use Rattle.nv_top.specs.Faithful.{place_of}
+use Rattle.nv_top.specs.Headline.{AreNamedOnce, HasStopped}
+use Rattle.nv_top.specs.LogRuns.{basis_over, lines_in}
+use Rattle.nv_top.specs.Stopping.{HasStoppedOn, IsAway}
+use Rattle.nv_top.specs.Stops.{stop_of_opening}
+use Rattle.nv_top.specs.declared.ending.Stop.TheVariants.{Region}
+use Rattle.nv_top.proofs.CommandLemmas.{if_told, mid_told, told_at}
+use Rattle.nv_top.proofs.HeadlineLemmas.{all_away, quiet_left}
+use Rattle.nv_top.proofs.NameLemmas.{wanted_known}
+use Rattle.nv_top.proofs.RowLemmas.{present, quiet_row}
+use Rattle.nv_top.proofs.StopLemmas.{err_has, opening_refused}
+use Rattle.nv_top.proofs.command.stop_run.Goals as goal
+
+pub returns-in_err-opened-clause-refused : goal.returns-in_err-opened-clause-refused
+returns-in_err-opened-clause-refused g c why is arms =
+    let old = g.T.Bench.state c.args.bench.now in
+    let error = c.in_err-opened.field-0.0 in
+    let trace = c.args.trace.now in
+    let stop : Region why ≡ stop_of_opening error = err_has c.from_residual-in_err-opened.result (λ stop. stop ≡ stop_of_opening error) (Region why) is c.from_residual-in_err-opened.ensures.1 in
+    if_told old.told (λ holding. IsNotRun holding trace.names why) (λ holding told.
+    let With : List (List ℕ) → Type 0 = λ wanted. IsNotRun holding wanted why in
+    subst With (c.in_ok-wanted.ensures ∙ c.names.ensures) (record {
+      geometry = _;
+      page_is = refl;
+      entries_are = refl;
+      not_opened = told_at old.told _ holding told (c.in_err-opened.ensures.refused why (ap Err (opening_refused error why (sym stop))));
+    }))
+
+pub run_to_stop-requires-clause-quiet : goal.run_to_stop-requires-clause-quiet
+run_to_stop-requires-clause-quiet g c κs within =
+    let old = g.T.Bench.state c.args.bench.now in
+    let With : BenchState → Type 0 = λ bench. IfSome bench.told IsQuietHolding in
+    subst With (sym c.in_ok-opened.ensures.lent) (quiet_left c.images_follow_calls.ensures.blank c.in_ok-opened.opened.region.names old.told c.requires.quiet)
+
+pub run_to_stop-requires-clause-synced : goal.run_to_stop-requires-clause-synced
+run_to_stop-requires-clause-synced g c κs within = quiet_row g.T.Store.Backing.history c.in_ok-opened.opened.stores.items c.in_ok-opened.ensures.quiet
+
+pub run_to_stop-requires-clause-known : goal.run_to_stop-requires-clause-known
+run_to_stop-requires-clause-known g c κs within =
+    let known = c.in_ok-opened.ensures.known in
+    let Known : List (List ℕ) → Type 0 = λ names. All (λ name. place_of name names < length names) c.args.trace.now.names in
+    let wanted = c.in_ok-wanted.ensures ∙ c.names.ensures in
+    subst Known (sym (known.1 ∙ ap (all_names known.0) wanted)) (wanted_known known.0 c.args.trace.now.names)
+
+pub returns-clause-ran : goal.returns-clause-ran
+returns-clause-ran g c =
+    let history = g.T.Part.Lines.history in
+    let held = g.T.Store.Backing.history in
+    let old = g.T.Bench.state c.args.bench.now in
+    let mid = g.T.Bench.state c.open.new.bench in
+    let new = g.T.Bench.state c.run_to_stop.new.bench in
+    let trace = c.args.trace.now in
+    let made = c.in_ok-opened.ensures in
+    let region = c.in_ok-opened.opened.region in
+    let backing = c.in_ok-opened.opened.stores.items in
+    let lent = saturated (mid.faults + (sum_by g.T.Part.Lines.fault_count region.parts.items + sum_by g.T.Store.Backing.fault_count backing)) in
+    IfOk-weaker c.run_to_stop.result
+    (λ text. (parts : List Part) (now : List Store) → AreNow (map history region.parts.items) parts → AreNow (map held backing) now → IsStrictlyIncreasing (lines_in trace)
+    → IfSome mid.told (λ left. IsAway region.names left → HasStoppedOn (Rose lent new.faults) (basis_over region (files_of now)) trace new.told text.items))
+    (λ text. IsStrictlyIncreasing (lines_in trace) → IfSome old.told (λ holding. AreNamedOnce holding.stores → HasStopped (Rose old.faults new.faults) holding new.told trace text.items))
+    (λ text ran rise.
+    if_told old.told (λ holding. AreNamedOnce holding.stores → HasStopped (Rose old.faults new.faults) holding new.told trace text.items) (λ holding told once.
+    let opened = told_at old.told _ holding told made.opened in
+    let parts = present (map history region.parts.items) (told_at old.told _ holding told made.tell) in
+    let basis = basis_over region (files_of opened.files.held) in
+    let left : Holding = record { parts = []; stores = without_stores region.names holding.stores } in
+    let Stopped : Holding → Type 0 = λ left. IsAway region.names left → HasStoppedOn (Rose lent new.faults) basis trace new.told text.items in
+    let Over : ℕ → Type 0 = λ count. HasStoppedOn (Rose count new.faults) basis trace new.told text.items in
+    let same : lent ≡ old.faults = omega (arith, made.counts) in
+    let With : List (List ℕ) → Type 0 = λ wanted. IsBasis holding wanted basis in
+    record {
+      basis = basis;
+      begun = subst With (c.in_ok-wanted.ensures ∙ c.names.ensures) (record {
+        geometry = _;
+        page_is = refl;
+        entries_are = refl;
+        known = opened.known;
+        begun = opened.begun;
+        pages_are = refl;
+        names_are = opened.names_are;
+        files_are = opened.files.files_are;
+      });
+      stopped = subst Over same
+      (told_at mid.told Stopped left (mid_told old mid region.names holding made.lent c.requires.home told)
+      (ran parts.states opened.files.held parts.are opened.files.are rise)
+      (all_away region.names holding.stores once));
+    }))
+    c.run_to_stop.ensures.ran

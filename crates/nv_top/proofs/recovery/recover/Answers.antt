@@ -1,0 +1,85 @@
+use Rattle.std.proofs.Common.{◌≡◌, ◌∙◌, ℕ, List, length, map, sym, ap, subst}
+use Rattle.std.specs.Prelude.{IfSome}
+use Rattle.std.proofs.lemmas.Result.{IfOk-weaker}
+use Rattle.nv_plain.specs.Files.{Files}
+use Rattle.nv_plain.specs.Layouts.{version_1}
+use Rattle.nv_plain.specs.Recovered.{recovered}
+use Rattle.nv_pmem.specs.Rows.{row_words}
+use Rattle.nv_pmem.specs.RowStates.{AreNow, row_tells_at}
+use Rattle.nv_pmem.specs.Steps as lines
+use Rattle.nv_store.specs.Steps as stores
+use Rattle.nv_store.specs.Store.{Store}
+use Rattle.nv_header.specs.Regions.{IsAtRest}
+use Rattle.nv_recover.specs.Standing.{files_of}
+use Rattle.nv_open.specs.Held.{files_named, header_names}
+use Rattle.nv_open.specs.Lending.{stores_named}
+use Rattle.nv_top.specs.Commands.{HasRecovered, recovery_of}
+use Rattle.nv_top.specs.Faithful.{named}
+use Rattle.nv_top.specs.Leaving.{AreLeft}
+use Rattle.nv_top.specs.Readings.{HavePlainNames}
+use Rattle.nv_top.specs.Reports.{recovery_text}
+use Rattle.nv_top.proofs.CommandLemmas.{if_told, leaves, leaves_by, told_at}
+use Rattle.nv_top.proofs.LogRunLemmas.{each_allowed}
+use Rattle.nv_top.proofs.NameLemmas.{names_plain}
+use Rattle.nv_top.proofs.RowLemmas.{present}
+use Rattle.nv_top.proofs.recovery.recover.Goals as goal
+
+pub returns-clause-recovered : goal.returns-clause-recovered
+returns-clause-recovered g c =
+    let history = g.T.Part.Lines.history in
+    let held = g.T.Store.Backing.history in
+    let old = g.T.Bench.state c.args.bench.now in
+    let mid = g.T.Bench.state c.recover_region.new.bench in
+    let made = c.in_ok-opened.ensures in
+    let region = c.in_ok-opened.opened.region in
+    let found = c.in_ok-opened.found in
+    let parts_back = c.into_parts.result.items in
+    let stores_back = c.show-report.new.stores.items in
+    let shown : (names : List (List ℕ)) (files : Files) → List ℕ = λ names files. recovery_text (record { first = found.first; next = found.next; groups = length found.groups; files = named names files }) in
+    IfOk-weaker c.show-report.result
+    (λ text. (now : List Store) → AreNow (map held c.in_ok-opened.opened.stores.items) now → text.items ≡ shown c.names.result.now (files_of now))
+    (λ text. IfSome old.told (λ holding. HasRecovered holding _ text.items))
+    (λ text told_text.
+    if_told old.told (λ holding. HasRecovered holding _ text.items) (λ holding told.
+    let recovery = told_at old.told _ holding told made.recovered in
+    let files = told_at old.told _ holding told made.files in
+    let now = present (map history region.parts.items) (told_at old.told _ holding told made.tell) in
+    let names = header_names holding.parts in
+    let same_parts : parts_back ≡ region.parts.items = ap (λ parts. parts.items) c.into_parts.ensures.parts in
+    let PartsAre : List _ → Type 0 = λ parts. AreNow (map history parts) now.states in
+    let StoresAre : List stores.History → Type 0 = λ row. AreNow row files.held in
+    let now_are = subst PartsAre (sym same_parts) now.are in
+    let left : AreLeft history held region.names (files_named holding.parts region.names holding.stores) parts_back stores_back = record {
+      page = region.geometry.page;
+      entries = region.geometry.entries;
+      next = region.next;
+      now = now.states;
+      now_are = now_are;
+      rest = row_tells_at (map history parts_back) (IsAtRest version_1 region.geometry.page region.geometry.entries region.names region.next) now.states now_are c.into_parts.ensures.region.tells;
+      disks = files.held;
+      disks_are = subst StoresAre (sym c.show-report.ensures.histories) files.are;
+      files_are = files.files_are;
+      synced = files.quiet;
+    } in
+    let Plain : List (List ℕ) → Type 0 = λ names. HavePlainNames (named names (files_named holding.parts names holding.stores)) in
+    let base = files_of (stores_named names holding.stores) in
+    let log = recovered (row_words holding.parts) base in
+    let shown_names = named names (files_named holding.parts names holding.stores) in
+    record {
+      readable = recovery.readable;
+      long = recovery.long;
+      fits = recovery.log.fits;
+      plain = subst Plain recovery.names_are
+      (names_plain version_1.name_limit region.names (files_named holding.parts region.names holding.stores).contents (each_allowed region.names c.into_parts.ensures.region.names_are));
+      text_is =
+          told_text files.held files.are
+          ∙ ap (shown c.names.result.now) files.files_are
+          ∙ ap (λ shown_as. shown shown_as (files_named holding.parts region.names holding.stores)) (c.names.ensures ∙ recovery.names_are)
+          ∙ ap (λ (by : List (List ℕ)). shown names (files_named holding.parts by holding.stores)) recovery.names_are
+          ∙ ap (λ first. recovery_text (record { first = first; next = found.next; groups = length found.groups; files = shown_names })) (recovery.log.first base)
+          ∙ ap (λ next. recovery_text (record { first = log.first; next = next; groups = length found.groups; files = shown_names })) (recovery.log.next base)
+          ∙ ap (λ (groups : List ℕ). recovery_text (record { first = log.first; next = log.next; groups = length groups; files = shown_names })) (recovery.log.groups base);
+      left = leaves_by holding.parts holding.stores recovery.names_are
+      (leaves old mid region.names holding made.lent c.requires.home told history held (files_named holding.parts region.names holding.stores) parts_back stores_back _ left c.give_back.ensures.told);
+    }))
+    c.show-report.ensures.text

@@ -1,0 +1,45 @@
+use Rattle.std.proofs.Common.{◌≡◌, List, IfSome, map, sym, ap, subst}
+use Rattle.std.proofs.lemmas.Result.{IfOk-weaker}
+use Rattle.nv_pmem.specs.RowStates.{AreNow}
+use Rattle.nv_store.specs.Steps as stores
+use Rattle.nv_store.specs.Store.{Store}
+use Rattle.nv_recover.specs.Standing.{files_of}
+use Rattle.nv_recover.specs.Telling.{AllTell}
+use Rattle.nv_open.specs.Held.{HoldFiles, IsRecovered, files_named}
+use Rattle.nv_top.specs.Fates.{fated_report}
+use Rattle.nv_top.specs.Reports.{report_text}
+use Rattle.nv_top.specs.Stopping.{ShowsRecovered}
+use Rattle.nv_top.proofs.StoppingLemmas.{at_some, if_some, shows}
+use Rattle.nv_top.proofs.stopping.show_recovered.Goals as goal
+
+pub returns-clause-shown : goal.returns-clause-shown
+returns-clause-shown g c =
+    let history = g.T.Part.Lines.history in
+    let held = g.T.Store.Backing.history in
+    let outcome = c.args.outcome.now in
+    let found = c.in_ok-opened.found in
+    let region = c.in_ok-opened.opened.region in
+    let backing = c.in_ok-opened.opened.stores.items in
+    let opened = c.in_ok-opened.ensures in
+    let old = g.T.Bench.state c.args.bench.now in
+    let lent = g.T.Bench.state c.recover_region.new.bench in
+    let new_told = (g.T.Bench.state c.give_back.new.self).told in
+    let parts_now = c.into_parts.result.items in
+    let same_parts : parts_now ≡ region.parts.items = ap (λ (parts : _). parts.items) c.into_parts.ensures.parts in
+    IfOk-weaker c.show_fates-report.result
+    (λ text. (now : List Store) → AreNow (map held backing) now → text.items ≡ report_text (fated_report outcome found c.names.result.now (files_of now)))
+    (λ text. IfSome old.told (λ holding. ShowsRecovered holding outcome new_told text.items))
+    (λ text text_of.
+    if_some old.told (λ holding. ShowsRecovered holding outcome new_told text.items)
+    (λ holding told_is.
+    let Told : List _ → Type 0 = λ parts. AllTell (map history parts) in
+    shows old lent new_told holding outcome text.items found region.geometry.page region.geometry.entries region.next region.names c.names.result.now (map history parts_now) (map held backing)
+    told_is c.requires.home opened.lent (sym c.names.ensures) text_of
+    (at_some old.told (λ holding. IsRecovered holding.parts region.geometry.page region.geometry.entries region.names region.next found) holding told_is opened.recovered)
+    (at_some old.told (λ holding. HoldFiles (map held backing) (files_named holding.parts region.names holding.stores)) holding told_is opened.files)
+    (subst Told (sym same_parts) (at_some old.told (λ holding. AllTell (map history region.parts.items)) holding told_is opened.tell))
+    c.into_parts.ensures.region.tells
+    (λ now disks now_are disks_are.
+    let At : List stores.History → Type 0 = λ row. AreNow row disks in
+    c.give_back.ensures.told now disks now_are (subst At (sym c.show_fates-report.ensures.histories) disks_are))))
+    c.show_fates-report.ensures.text

@@ -1,0 +1,81 @@
+-- Commands: what each makes of a bench.
+use Rattle.std.specs.Prelude.{◌≡◌, ℕ, List, length, Option}
+use Rattle.nv_plain.specs.Layouts.{version_1}
+use Rattle.nv_plain.specs.Recovered.{Fits, recovered}
+use Rattle.nv_pmem.specs.Rows.{row_words}
+use Rattle.nv_pmem.specs.declared.geometry.Geometry.{Geometry}
+use Rattle.nv_bench.specs.Benches.{BenchState}
+use Rattle.nv_bench.specs.Holding.{Holding}
+use Rattle.nv_open.specs.Adding.{all_names}
+use Rattle.nv_open.specs.Begun.{IsBegun, IsNotOpened, files_with}
+use Rattle.nv_open.specs.declared.error.Refusal.{Refusal}
+use Rattle.nv_open.specs.Held.{files_named, header_names}
+use Rattle.nv_open.specs.Lending.{stores_named}
+use Rattle.nv_open.specs.Refusals.{AreLong, CanBeRead}
+use Rattle.nv_recover.specs.Standing.{files_of}
+use Rattle.nv_trace.specs.Traced.{Traced}
+use Rattle.nv_top.specs.Faithful.{Basis, IsFaithful, files_shown, named}
+use Rattle.nv_top.specs.Leaving.{Leaves}
+use Rattle.nv_top.specs.Readings.{HavePlainNames}
+use Rattle.nv_top.specs.Reports.{RecoveryReport, Report, recovery_text, report_text}
+use Rattle.nv_top.specs.declared.run.TheConstants.{ENTRIES, FILE_PAGES, PAGE}
+
+-- the bench is as it was, but for what it holds and its count of faults
+abbrev pub IsGivenBack : (old new : BenchState) → Type 0
+IsGivenBack old new = new ≡ record old { told = new.told; faults = new.faults }
+
+-- ---- a run
+
+-- What a run begins with, on a bench that held this: the region as it stood there, or a blank one formatted, with its own names and
+-- behind them the new ones of the trace; the files that it stood for, and behind them what the stores of the new names held.
+pub record IsBasis (holding : Holding) (wanted : List (List ℕ)) (basis : Basis) : Type 0 where
+  pub geometry : Geometry
+  pub page_is : geometry.page ≡ PAGE
+  pub entries_are : geometry.entries ≡ ENTRIES
+  pub known : List (List ℕ)
+  pub begun : IsBegun holding.parts geometry basis.sizes.page basis.sizes.entries known basis.next
+  pub pages_are : basis.sizes.pages ≡ FILE_PAGES
+  pub names_are : basis.names ≡ all_names known wanted
+  pub files_are : basis.files ≡ files_with holding.parts known wanted holding.stores
+
+-- why a run is not made on a bench that held this: its region is refused, or would have too many files
+pub record IsNotRun (holding : Holding) (wanted : List (List ℕ)) (why : Refusal) : Type 0 where
+  pub geometry : Geometry
+  pub page_is : geometry.page ≡ PAGE
+  pub entries_are : geometry.entries ≡ ENTRIES
+  pub not_opened : IsNotOpened holding.parts geometry wanted why
+
+-- The text is that of a faithful report of a run of the trace, and the bench is left with the files that it shows.
+pub record HasRunOn (holding : Holding) (told : Option Holding) (trace : Traced) (text : List ℕ) : Type 0 where
+  pub basis : Basis
+  pub begun : IsBasis holding trace.names basis
+  pub report : Report
+  pub faithful : IsFaithful ⊥ basis trace report
+  pub plain : HavePlainNames report.files
+  pub text_is : text ≡ report_text report
+  pub left : Leaves basis.names (files_shown basis trace report) holding told
+
+-- ---- a recovery
+
+-- What a recovery shows of a bench that held this: the first number of its log, the one that it goes on with, how many groups it has;
+-- and the files that the bench stood for.
+abbrev pub recovery_of : Holding → RecoveryReport
+recovery_of holding =
+    let names = header_names holding.parts in
+    let found = recovered (row_words holding.parts) (files_of (stores_named names holding.stores)) in
+    record {
+      first = found.first;
+      next = found.next;
+      groups = length found.groups;
+      files = named names (files_named holding.parts names holding.stores);
+    }
+
+-- The region of a bench that held this could be recovered: the text is that of the report, and the bench is left with the files that
+-- it shows.
+pub record HasRecovered (holding : Holding) (told : Option Holding) (text : List ℕ) : Type 0 where
+  pub readable : CanBeRead holding.parts
+  pub long : AreLong holding.parts
+  pub fits : Fits version_1 (row_words holding.parts)
+  pub plain : HavePlainNames (recovery_of holding).files
+  pub text_is : text ≡ recovery_text (recovery_of holding)
+  pub left : Leaves (header_names holding.parts) (files_named holding.parts (header_names holding.parts) holding.stores) holding told

@@ -1,0 +1,194 @@
+-- Faithful reports: what a run begins with, and when a report of it is right.
+use Rattle.std.specs.Prelude.{◌≡◌, ℕ, ◌+◌, ◌*◌, ◌^◌, ◌<◌, ◌≤◌, ◌==◌, ◌&&◌, not, nat_eq, nat_lt, min, if◌then◌else◌, List, [], ◌++◌, length, map, filter, sum_by, fold, All, Option, Some, None, MatchOption, slice_index, slice_index_or, IsPermutation}
+use Rattle.std.specs.List.{position_or_len, zip}
+use Rattle.std.specs.List.Sorted.{IsStrictlyIncreasing}
+use lib.Pointwise.{pointwise}
+use Rattle.nv_plain.specs.declared.call.FileCall.{FileCall}
+use Rattle.nv_plain.specs.declared.call.FileCall.TheVariants.{Read, Write, Sync}
+use Rattle.nv_plain.specs.Calls.{files_after}
+use Rattle.nv_plain.specs.Files.{Files}
+use Rattle.nv_plain.specs.Histories.{Answered, IsLegal, after}
+use Rattle.nv_plain.specs.Layouts.{version_1}
+use Rattle.nv_plain.specs.Pieces.{pages_touched}
+use Rattle.nv_trace.specs.declared.trace.TraceCall.{TraceCall}
+use Rattle.nv_trace.specs.declared.trace.TraceCall.TheVariants.{Pread, Pwrite, Fsync}
+use Rattle.nv_trace.specs.declared.trace.TracedCall.{TracedCall}
+use Rattle.nv_trace.specs.declared.report.Fate.{Fate}
+use Rattle.nv_trace.specs.declared.report.Fate.TheVariants.{Kept, Lost}
+use Rattle.nv_trace.specs.declared.report.Refusal.{Refusal}
+use Rattle.nv_trace.specs.declared.report.Refusal.TheVariants.{TooFar, TooLong, Stopped, Spent, Again, RegionFault, StoreFault}
+use Rattle.nv_trace.specs.Traced.{Traced}
+use Rattle.nv_top.specs.Reports.{PlacedCall, OpenCall, NamedFile, Report}
+
+-- the sizes of a run: bytes of a page, entries of the log, pages of a file
+pub record Sizes : Type 0 where
+  pub page : ℕ
+  pub entries : ℕ
+  pub pages : ℕ
+
+-- What a run begins with: its sizes; all files of its region, by their names in the header's order and by their bytes; and the
+-- number that its log begins with.
+pub record Basis : Type 0 where
+  pub sizes : Sizes
+  pub names : List (List ℕ)
+  pub files : Files
+  pub next : ℕ
+
+-- ---- calls on files
+
+-- the place of a name among some names; how many there are, where it is none of them
+abbrev pub place_of : List ℕ → List (List ℕ) → ℕ
+place_of name names = position_or_len (λ known. pointwise nat_eq known name) names
+
+-- each descriptor's file, by the place of its name among all names
+abbrev pub descriptor_files : List (List ℕ) → Traced → List ℕ
+descriptor_files names trace = map (λ file. place_of (slice_index_or trace.names file []) names) trace.descriptors
+
+-- a descriptor's call, as a call on its file
+abbrev pub file_call : List ℕ → TraceCall → FileCall
+file_call descriptors (Pread fd at len) = Read (slice_index descriptors fd) at len
+file_call descriptors (Pwrite fd at bytes) = Write (slice_index descriptors fd) at bytes
+file_call descriptors (Fsync fd) = Sync (slice_index descriptors fd)
+
+-- the history of placed calls
+abbrev pub history_of : List ℕ → List PlacedCall → List Answered
+history_of descriptors placed =
+    map (λ p. record { caller = p.call.thread; call = file_call descriptors p.call.call; reply = p.reply }) placed
+
+-- the files after a call of this fate: a kept one is whole in them, and nothing of a lost one is
+abbrev pub after_fate : FileCall → Files → Fate → Files
+after_fate call files Kept = files_after call files
+after_fate call files Lost = files
+
+-- the files after some open calls, the first of them first
+abbrev pub after_open : List ℕ → List OpenCall → Files → Files
+after_open descriptors open_calls files =
+    fold (λ files o. after_fate (file_call descriptors o.call.call) files o.fate) files open_calls
+
+-- names with the files' bytes
+abbrev pub named : List (List ℕ) → Files → List NamedFile
+named names files = map (λ pair. record { name = pair.0; bytes = pair.1 }) (zip names files.contents)
+
+-- ---- refusals and their causes
+
+-- why a call that moves so many bytes can't be made, where it may touch so many pages
+abbrev pub barred_by : Sizes → (most at len : ℕ) → Option Refusal
+barred_by sizes most at len =
+    if nat_lt (sizes.page * sizes.pages) (at + len) then Some TooFar
+    else if nat_lt most (pages_touched at len sizes.page) then Some TooLong
+    else None
+
+-- why a call can't be made, whatever the log holds: a write has one piece, and a read touches no more pages than a group has entries
+abbrev pub barred : Sizes → TraceCall → Option Refusal
+barred sizes (Pread fd at len) = barred_by sizes (min version_1.group_limit sizes.entries) at len
+barred sizes (Pwrite fd at bytes) = barred_by sizes 1 at (length bytes)
+barred sizes (Fsync fd) = None
+
+-- how many entries a call takes
+abbrev pub entries_taken : Sizes → TraceCall → ℕ
+entries_taken sizes (Pread fd at len) = 0
+entries_taken sizes (Pwrite fd at bytes) = pages_touched at (length bytes) sizes.page
+entries_taken sizes (Fsync fd) = 0
+
+-- and some calls
+abbrev pub entries_of : Sizes → List TracedCall → ℕ
+entries_of sizes calls = sum_by (λ traced. entries_taken sizes traced.call) calls
+
+-- the calls but the later ones of a call's own thread
+abbrev pub not_later : TracedCall → List TracedCall → List TracedCall
+not_later call calls = filter (λ other. not (other.thread == call.thread && nat_lt call.line other.line)) calls
+
+-- a number that a call may find as the next: the first, and at most what the calls drew that are not later ones of its own thread
+abbrev pub IsDrawn : Basis → (drew : List TracedCall) → TracedCall → ℕ → Type 0
+IsDrawn basis drew call head = head ≤ basis.next + entries_of basis.sizes (not_later call drew)
+
+-- The log had no room for a call that takes entries: nothing was retired.
+pub record HadNoRoom (basis : Basis) (drew : List TracedCall) (call : TracedCall) (head tail : ℕ) : Type 0 where
+  pub takes : 0 < entries_taken basis.sizes call.call
+  pub retired : tail ≡ basis.next
+  pub full : tail + basis.sizes.entries < head + entries_taken basis.sizes call.call
+  pub drawn : IsDrawn basis drew call head
+
+-- The numbers were used up for a call that takes entries.
+pub record HadNoNumber (basis : Basis) (drew : List TracedCall) (call : TracedCall) (found : ℕ) : Type 0 where
+  pub takes : 0 < entries_taken basis.sizes call.call
+  pub spent : 2 ^ 60 < found + entries_taken basis.sizes call.call
+  pub drawn : IsDrawn basis drew call found
+
+abbrev pub IsRead : TraceCall → Type 0
+IsRead (Pread fd at len) = Unit {0}
+IsRead (Pwrite fd at bytes) = ⊥
+IsRead (Fsync fd) = ⊥
+
+abbrev pub IsWrite : TraceCall → Type 0
+IsWrite (Pread fd at len) = ⊥
+IsWrite (Pwrite fd at bytes) = Unit {0}
+IsWrite (Fsync fd) = ⊥
+
+-- Why a call was refused that its arguments don't bar: the log had no room or no number left, or, where devices failed, it was
+-- made after that, or was the read that met it.
+abbrev pub WasRefused : (failed : Type 0) → Basis → (drew : List TracedCall) → TracedCall → Refusal → Type 0
+WasRefused failed basis drew call TooFar = ⊥
+WasRefused failed basis drew call TooLong = ⊥
+WasRefused failed basis drew call Stopped = failed
+WasRefused failed basis drew call (Spent found) = HadNoNumber basis drew call found
+WasRefused failed basis drew call (Again head tail) = HadNoRoom basis drew call head tail
+WasRefused failed basis drew call RegionFault = IsRead call.call × failed
+WasRefused failed basis drew call StoreFault = IsRead call.call × failed
+
+-- A refusal that may be shown: the one that bars the call, or, where none does, one that has such a cause.
+abbrev pub IsAllowed : (failed : Type 0) → Basis → (drew : List TracedCall) → TracedCall → Refusal → Type 0
+IsAllowed failed basis drew call refusal =
+    MatchOption (barred basis.sizes call.call) (WasRefused failed basis drew call refusal) (λ cause. refusal ≡ cause)
+
+-- a call that may be left open: a write that nothing bars, where devices failed
+pub record IsLeftOpen (failed : Type 0) (basis : Basis) (call : TracedCall) : Type 0 where
+  pub is_write : IsWrite call.call
+  pub failed_so : failed
+  pub not_barred : barred basis.sizes call.call ≡ None
+
+-- ---- reports
+
+-- the lines of a thread's calls
+abbrev pub lines_of : ℕ → List TracedCall → List ℕ
+lines_of thread calls = map (λ call. call.line) (filter (λ call. call.thread == thread) calls)
+
+abbrev pub placed_calls : Report → List TracedCall
+placed_calls report = map (λ p. p.call) report.history
+
+abbrev pub open_calls_of : Report → List TracedCall
+open_calls_of report = map (λ o. o.call) report.open_calls
+
+-- the calls that drew entries
+abbrev pub drawing_calls : Report → List TracedCall
+drawing_calls report = placed_calls report ++ open_calls_of report
+
+-- all calls that a report lists
+abbrev pub listed_calls : Report → List TracedCall
+listed_calls report = placed_calls report ++ map (λ r. r.call) report.refused ++ open_calls_of report
+
+-- the files after the history of a report, and then the kept ones of its open calls, each whole
+abbrev pub files_shown : Basis → Traced → Report → Files
+files_shown basis trace report =
+    after_open (descriptor_files basis.names trace) report.open_calls
+    (after (history_of (descriptor_files basis.names trace) report.history) basis.files)
+
+-- A report is faithful to a trace that was run from this basis; devices of the run failed only where this says so.
+pub record IsFaithful (failed : Type 0) (basis : Basis) (trace : Traced) (report : Report) : Type 0 where
+  -- its history is one of plain files, from those of the basis
+  pub legal : IsLegal (history_of (descriptor_files basis.names trace) report.history) basis.files
+  -- each call of the trace stands in it once, in the history, among the refused or among the open ones, and no other call
+  pub each_once : IsPermutation (listed_calls report) trace.calls
+  -- each thread's calls stand in the history in the order of its lines, and the refused and the open ones in that of the trace
+  pub in_order : (thread : ℕ) → IsStrictlyIncreasing (lines_of thread (placed_calls report))
+  pub refused_in_order : IsStrictlyIncreasing (map (λ r. r.call.line) report.refused)
+  pub open_in_order : IsStrictlyIncreasing (map (λ call. call.line) (open_calls_of report))
+  -- a refusal has its cause, and what is barred is refused
+  pub allowed : All (λ r. IsAllowed failed basis (drawing_calls report) r.call r.refusal) report.refused
+  pub not_barred : All (λ call. barred basis.sizes call.call ≡ None) (placed_calls report)
+  -- only a write is left open, where a device failed
+  pub left_open : All (IsLeftOpen failed basis) (open_calls_of report)
+  -- a write for which the log has no entry left is refused
+  pub room : entries_of basis.sizes (drawing_calls report) ≤ basis.sizes.entries
+  -- the files are those after the history and then the kept writes, each whole
+  pub files : report.files ≡ named basis.names (files_shown basis trace report)

@@ -1,0 +1,70 @@
+-- The top call: what each command makes of a bench, and what it shows.
+use Rattle.std.specs.Prelude.{◌≡◌, ◌⊎◌, ℕ, Bool, List, [], ◌∷◌, All, false, if◌then◌else◌, Option, Some, None, IfSome, max}
+use Rattle.std.specs.Option.{option_and_then}
+use Rattle.nv_plain.specs.Faults.{Rose}
+use Rattle.nv_bench.specs.Benches.{BenchState}
+use Rattle.nv_bench.specs.Holding.{Holding, NamedStore, is_named}
+use Rattle.nv_open.specs.Held.{told_after}
+use Rattle.nv_open.specs.Refusals.{IsRefusedFor}
+use Rattle.nv_open.specs.declared.error.Refusal.{Refusal}
+use Rattle.nv_open.specs.declared.error.Refusal.TheVariants as refusals
+use Rattle.nv_trace.specs.Reading.{ending_of, Whole}
+use Rattle.nv_trace.specs.Traced.{Traced}
+use Rattle.nv_top.specs.Commands.{HasRecovered, HasRunOn, IsBasis, IsGivenBack, IsNotRun}
+use Rattle.nv_top.specs.Faithful.{Basis}
+use Rattle.nv_top.specs.Stopping.{HasStoppedOn, IsPoweredBack}
+use Rattle.nv_top.specs.Words.{command_of}
+use Rattle.nv_top.specs.declared.words.Command.{Command}
+use Rattle.nv_top.specs.declared.words.Command.TheVariants.{Run, Recover}
+
+-- A command, where a bench can follow it: one whose devices can't be armed and powered off doesn't stop a run.
+abbrev pub possible : (images : Bool) → Command → Option Command
+possible images (Run None pick) = Some (Run None pick)
+possible images (Run (Some k) pick) = if images then Some (Run (Some k) pick) else None
+possible images Recover = Some Recover
+
+-- the command that words are over such a bench
+abbrev pub command_over : (images : Bool) → List (List ℕ) → Option Command
+command_over images words = option_and_then (possible images) (command_of words)
+
+-- How a command leaves a bench: all that was lent is back; a stop armed it once more, unless the log wasn't opened.
+abbrev pub IsLeftBy : Command → (old new : BenchState) → Type 0
+IsLeftBy (Run None pick) old new = IsGivenBack old new
+IsLeftBy (Run (Some k) pick) old new = IsPoweredBack k old new ⊎ IsGivenBack old new
+IsLeftBy Recover old new = IsGivenBack old new
+
+-- the count of faults that a fault's status stands above: that at entry, and that when power went off
+abbrev pub expected_faults : (old new : BenchState) → ℕ
+expected_faults old new = max old.faults new.settled
+
+-- each store has a name of its own
+abbrev pub AreNamedOnce : List NamedStore → Type 0
+AreNamedOnce [] = Unit {0}
+AreNamedOnce (first ∷ rest) = All (λ named. is_named first.name named ≡ false) rest × AreNamedOnce rest
+
+-- The text is that of a faithful report of a run of the trace that was stopped, on a bench that held this and tells that now.
+pub record HasStopped (failed : Type 0) (holding : Holding) (told : Option Holding) (trace : Traced) (text : List ℕ) : Type 0 where
+  pub basis : Basis
+  pub begun : IsBasis holding trace.names basis
+  pub stopped : HasStoppedOn failed basis trace told text
+
+-- What the report of a run of a trace shows of a bench that held this; of one that was stopped, where each store had a name of its own.
+abbrev pub IsShownOf : (stop : Option ℕ) → (old new : BenchState) → Holding → Traced → (text : List ℕ) → Type 0
+IsShownOf None old new holding trace text = HasRunOn holding new.told trace text
+IsShownOf (Some k) old new holding trace text = AreNamedOnce holding.stores → HasStopped (Rose old.faults new.faults) holding new.told trace text
+
+-- what the report of a command shows of a bench that held this, and of the input that it had
+abbrev pub IsShown : Command → (input : Option (List ℕ)) → (old new : BenchState) → Holding → (text : List ℕ) → Type 0
+IsShown (Run stop pick) input old new holding text =
+    IfSome input (λ input. (trace : Traced) × (ending_of input ≡ Whole trace) × IsShownOf stop old new holding trace text)
+IsShown Recover input old new holding text = HasRecovered holding new.told text
+
+-- A region that was refused is as it was, unless it was refused for its files.
+abbrev pub IsUnwritten : (old new : BenchState) → Refusal → Type 0
+IsUnwritten old new why = ¬ (why ≡ refusals.TooManyFiles) → new.told ≡ told_after why old.told
+
+-- why a command is refused by the region of a bench that held this, and what it leaves of it
+abbrev pub IsRefused : Command → (input : Option (List ℕ)) → (old new : BenchState) → Holding → Refusal → Type 0
+IsRefused (Run stop pick) input old new holding why =
+    IfSome input (λ input. (trace : Traced) × (ending_of input ≡ Whole trace) × IsNotRun holding trace.names why × IsUnwritten old new why)
+IsRefused Recover input old new holding why = IsRefusedFor holding.parts why × IsUnwritten old new why

@@ -1,0 +1,85 @@
+-- Stopping: a run that is stopped at a device call, and what it leaves.
+use Rattle.std.specs.Prelude.{◌≡◌, ℕ, ◌+◌, ◌≤◌, false, List, [], ◌++◌, All, Option, Some, Result, Ok, Err}
+use Rattle.nv_plain.specs.Faults.{Rose}
+use Rattle.nv_plain.specs.Files.{Files}
+use Rattle.nv_plain.specs.Layouts.{version_1}
+use Rattle.nv_pmem.specs.Rows.{row_words}
+use Rattle.nv_store.specs.Store.{Store}
+use Rattle.nv_header.specs.Regions.{IsAtRest}
+use Rattle.nv_recover.specs.Standing.{AreQuietStores, files_of}
+use Rattle.nv_bench.specs.Benches.{BenchState}
+use Rattle.nv_bench.specs.Holding.{Holding, NamedStore, is_named, named_stores}
+use Rattle.nv_open.specs.Held.{files_named, header_names}
+use Rattle.nv_recover.specs.Recovering.{HasFoundAll}
+use Rattle.nv_recover.specs.declared.recovering.Recovered as recover
+use Rattle.nv_trace.specs.Traced.{Traced}
+use Rattle.nv_top.specs.Faithful.{Basis, IsFaithful, files_shown}
+use Rattle.nv_top.specs.Fates.{fated_report}
+use Rattle.nv_top.specs.Readings.{HavePlainNames}
+use Rattle.nv_top.specs.Reports.{Report, report_text}
+use Rattle.nv_top.specs.declared.ending.Stop.{Stop}
+use Rattle.nv_top.specs.declared.ending.Stop.TheVariants.{Usage, BadLine, InputLong, Read, Device, Region, NoMemory}
+use Rattle.nv_top.specs.declared.outcome.Outcome.{Outcome}
+
+-- the bench is as it was, but for what it tells and its count of faults
+abbrev pub IsBack : (old new : BenchState) → Type 0
+IsBack old new = new ≡ record old { told = new.told; faults = new.faults }
+
+-- All that was lent came back to a bench that was armed with this number once more; and it is as it was, but for what it tells, and
+-- its counts.
+abbrev pub IsPoweredBack : ℕ → (old new : BenchState) → Type 0
+IsPoweredBack k old new =
+    new ≡ record old { told = new.told; is_open = false; lent = []; faults = new.faults; arms = old.arms + 1; armed = k; settled = new.settled }
+
+-- All that was lent came back to a bench that wasn't armed: it is as it was, but for what it tells and its count of faults.
+abbrev pub IsBackUnarmed : (old new : BenchState) → Type 0
+IsBackUnarmed old new = new ≡ record old { told = new.told; is_open = false; lent = []; faults = new.faults }
+
+-- What a stop says of the count of faults and of what it was when power went off: only after that a device's fault stops the run.
+abbrev pub StopSettles : (settled now : ℕ) → Stop → Type 0
+StopSettles settled now Usage = ⊥
+StopSettles settled now (BadLine bad) = ⊥
+StopSettles settled now InputLong = ⊥
+StopSettles settled now Read = ⊥
+StopSettles settled now Device = Rose settled now
+StopSettles settled now (Region refusal) = now ≤ settled
+StopSettles settled now NoMemory = now ≤ settled
+
+abbrev pub Settles : {T : Type 0} → (settled now : ℕ) → Result T Stop → Type 0
+Settles settled now (Ok _) = now ≡ settled
+Settles settled now (Err stop) = StopSettles settled now stop
+
+-- No store of these names is at home.
+abbrev pub IsAway : List (List ℕ) → Holding → Type 0
+IsAway names holding = All (λ name. All (λ named. is_named name named ≡ false) holding.stores) names
+
+-- A bench tells that it holds a region with these names, at rest with an empty log, and behind its other stores those of these names,
+-- which hold these files, durable.
+pub record RestsWith (names : List (List ℕ)) (files : Files) (told : Option Holding) : Type 0 where
+  pub now : Holding
+  pub told_is : told ≡ Some now
+  pub page : ℕ
+  pub entries : ℕ
+  pub next : ℕ
+  pub rest : IsAtRest version_1 page entries names next now.parts
+  pub others : List NamedStore
+  pub disks : List Store
+  pub stores_are : now.stores ≡ others ++ named_stores names disks
+  pub files_are : files_of disks ≡ files
+  pub synced : AreQuietStores disks
+
+-- The text is that of a report of what a recovery made of a bench that held this, and the bench rests with the files shown.
+pub record ShowsRecovered (holding : Holding) (outcome : Outcome) (told : Option Holding) (text : List ℕ) : Type 0 where
+  pub found : recover.Recovered
+  pub log : HasFoundAll (row_words holding.parts) found
+  pub text_is : text ≡ report_text (fated_report outcome found (header_names holding.parts)
+      (files_named holding.parts (header_names holding.parts) holding.stores))
+  pub left : RestsWith (header_names holding.parts) (files_named holding.parts (header_names holding.parts) holding.stores) told
+
+-- The text is that of a faithful report of a run of the trace, and the bench rests with the files that it shows.
+pub record HasStoppedOn (failed : Type 0) (basis : Basis) (trace : Traced) (told : Option Holding) (text : List ℕ) : Type 0 where
+  pub report : Report
+  pub faithful : IsFaithful failed basis trace report
+  pub plain : HavePlainNames report.files
+  pub text_is : text ≡ report_text report
+  pub left : RestsWith basis.names (files_shown basis trace report) told

@@ -1,0 +1,66 @@
+ghost use Rattle.std.specs.Prelude.{◌≡◌, [], false, List, length, map, sum_by, Err, IfOk, IfSome};
+ghost use Rattle.nv_pmem.specs.RowStates.{AreNow};
+ghost use Rattle.nv_store.specs.Store.{Store};
+ghost use Rattle.nv_bench.specs.Holding.{IsQuietHolding};
+ghost use Rattle.nv_recover.specs.Standing.{files_of};
+ghost use Rattle.nv_open.specs.Held.{told_after};
+ghost use Rattle.nv_open.specs.Refusals.{IsRefusedFor};
+ghost use Rattle.nv_top.specs.Commands.{HasRecovered, IsGivenBack};
+ghost use Rattle.nv_top.specs.Faithful.{named};
+ghost use Rattle.nv_top.specs.Reports.{recovery_text};
+ghost use Rattle.nv_top.specs.Stops.{CountHasCause};
+ghost use Rattle.nv_top.specs.declared.ending.Stop.TheVariants as stops;
+
+use crate::ending::Stop;
+use crate::files::read_files;
+use crate::text::recovery_text_of;
+use nv_bench::Bench;
+use nv_header::Names;
+use nv_open::{Opened, recover_region};
+use nv_recover::Recovered;
+use nv_store::Backing;
+use std::alloc::Global;
+
+/// Recovers the region of a bench, and gives all back. The text of the report.
+pub(crate) fn recover<T: Bench>(alloc: Global, bench: &mut T) -> Result<Vec<u8>, Stop>
+    requires closed { (T.state bench.old).is_open ≡ false }
+    requires home { (T.state bench.old).lent ≡ [] }
+    requires quiet { IfSome (T.state bench.old).told IsQuietHolding }
+    ensures back { IsGivenBack (T.state bench.old) (T.state bench.new) }
+    ensures recovered { IfOk result (λ text. IfSome (T.state bench.old).told (λ holding.
+        HasRecovered holding (T.state bench.new).told text.items)) }
+    ensures refused { (why : _) → result ≡ Err (stops.Region why) → IfSome (T.state bench.old).told (λ holding. IsRefusedFor holding.parts why) }
+    ensures unwritten { (why : _) → result ≡ Err (stops.Region why) → (T.state bench.new).told ≡ told_after why (T.state bench.old).told }
+    ensures cause { CountHasCause (T.state bench.old).faults (T.state bench.new).faults result }
+{
+    let (opened, found) = recover_region(alloc, bench)?;
+    let Opened { region, stores } = opened;
+    let mut stores = stores;
+    let report = show(alloc, &found, region.names(), &mut stores);
+    bench.give_back(region.into_parts(), stores);
+    report
+}
+
+// The report of a recovery whose files the stores hold.
+fn show<B: Backing>(
+    alloc: Global,
+    found: &Recovered,
+    names: &Names,
+    stores: &mut Vec<B>,
+) -> Result<Vec<u8>, Stop>
+    requires { length stores.old.items ≡ length names.now }
+    ensures text { IfOk result (λ text. (now : List Store) → AreNow (map B.history stores.old.items) now
+        → text.items ≡ recovery_text (record {
+            first = found.now.first;
+            next = found.now.next;
+            groups = length found.now.groups;
+            files = named names.now (files_of now);
+        })) }
+    ensures histories { map B.history stores.new.items ≡ map B.history stores.old.items }
+    ensures never { (why : _) → ¬ (result ≡ Err (stops.Region why)) }
+    ensures cause { CountHasCause (sum_by B.fault_count stores.old.items) (sum_by B.fault_count stores.new.items) result }
+{
+    let files = read_files(alloc, stores)?;
+    let text = recovery_text_of(alloc, found, names.as_slice(), &files)?;
+    Ok(text)
+}
