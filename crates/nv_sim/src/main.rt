@@ -28,7 +28,7 @@ where
 {
     let alloc = rt.alloc();
     let words = words(rt)?;
-    let mut bench = MemBench::new(alloc, &[])?;
+    let mut bench = MemBench::of(alloc, &[], &[], &[])?;
     let mut source = ReaderSource::new(rt.reader());
     Ok(nv_main(rt, alloc, &words, &mut source, sink, &mut bench, &OpenGate))
 }

@@ -1,5 +1,5 @@
 -- Counts of faults, beside others: a cause in one of them is one in the sum.
-use Rattle.std.proofs.Common.{◌≡◌, ℕ, ◌+◌, ◌-◌, ◌^◌, ◌≤◌, min, Result, Ok, Err, arith}
+use Rattle.std.proofs.Common.{◌≡◌, ℕ, ◌+◌, Result, Ok, Err, arith}
 use Rattle.nv_plain.specs.Faults.{Rose, saturated}
 use Rattle.nv_top.specs.Stops.{CountHasCause, StopHasCause}
 use Rattle.nv_top.specs.declared.ending.Stop.{Stop}

@@ -1,15 +1,15 @@
 -- Commands over a bench: what it holds when all is given back.
-use Rattle.std.proofs.Common.{◌≡◌, ℕ, List, [], ◌++◌, map, Option, Some, None, refl, sym, ap, subst, ◌∙◌}
-use Rattle.std.specs.Prelude.{All, IfSome, option_map}
+use Rattle.std.proofs.Common.{◌≡◌, ℕ, List, [], ◌++◌, map, Option, Some, None, refl, ap, subst, ◌∙◌}
+use Rattle.std.specs.Prelude.{IfSome, option_map}
 use Rattle.nv_pmem.specs.Part.{Part}
 use Rattle.nv_pmem.specs.Steps as lines
 use Rattle.nv_store.specs.Steps as stores
 use Rattle.nv_store.specs.Store.{Store}
 use Rattle.nv_plain.specs.Files.{Files}
-use Rattle.nv_bench.specs.Benches.{BenchState, region_lent, told_back, with_faults}
+use Rattle.nv_bench.specs.Benches.{BenchState, told_back, with_faults}
 use Rattle.nv_bench.specs.Holding.{Holding, NamedStore, named_stores}
 use Rattle.nv_open.specs.Held.{files_named}
-use Rattle.nv_open.specs.Lending.{all_lent, stores_lent, without_named, without_stores}
+use Rattle.nv_open.specs.Lending.{all_lent, without_named, without_stores}
 use Rattle.nv_pmem.specs.RowStates.{AreNow}
 use Rattle.nv_top.specs.Leaving.{AreLeft, Leaves}
 

@@ -1,5 +1,5 @@
 -- A log that is finished leaves a region at rest and the files of the log, durable.
-use Rattle.std.proofs.Common.{◌≡◌, ℕ, List, length, map, sym, subst}
+use Rattle.std.proofs.Common.{◌≡◌, ℕ, List, map, sym, subst}
 use Rattle.nv_plain.specs.Files.{Files}
 use Rattle.nv_plain.specs.Layouts.{version_1}
 use Rattle.nv_pmem.specs.RowStates.{AreNow, row_tells_at}

@@ -1,5 +1,5 @@
 -- What a command shows and why it is refused, from what its run does.
-use Rattle.std.proofs.Common.{◌≡◌, ℕ, ◌≤◌, Bool, true, false, List, [], ◌∷◌, map, fold, cond, if◌then◌else◌, Option, Some, None, refl, sym, ap, subst, ◌∙◌}
+use Rattle.std.proofs.Common.{◌≡◌, ℕ, ◌≤◌, Bool, true, false, List, [], ◌∷◌, if◌then◌else◌, Option, Some, None, refl, sym, subst}
 use Rattle.std.specs.Prelude.{All, IfSome, option_map}
 use Rattle.std.specs.List.Sorted.{IsStrictlyIncreasing}
 use Rattle.std.specs.Option.{option_and_then}
@@ -20,7 +20,6 @@ use Rattle.nv_trace.specs.Traced.{Traced}
 use Rattle.nv_top.specs.Commands.{IsNotRun}
 use Rattle.nv_top.specs.Headline.{AreNamedOnce, IsRefused, IsShown, IsShownOf, IsUnwritten, command_over, possible}
 use Rattle.nv_top.specs.LogRuns.{lines_in}
-use Rattle.nv_top.specs.Stopping.{IsAway}
 use Rattle.nv_top.specs.Words.{command_of}
 use Rattle.nv_top.specs.declared.words.Command.{Command}
 use Rattle.nv_top.specs.declared.words.Command.TheVariants.{Run, Recover}
@@ -71,9 +70,10 @@ pub both_told : (old new : BenchState) (names : List (List ℕ)) (why : Refusal)
     → (¬ (why ≡ refusals.TooManyFiles) → IfSome old.told (λ holding. new.told ≡ told_after why old.told))
     → IfSome old.told (λ holding. IsNotRun holding names why × IsUnwritten old new why)
 both_told old new names why refused unwritten =
-    if_told old.told (λ holding. IsNotRun holding names why × IsUnwritten old new why) (λ holding told.
-    (told_at old.told (λ holding. IsNotRun holding names why) holding told refused,
-    λ other. told_at old.told (λ holding. new.told ≡ told_after why old.told) holding told (unwritten other)))
+    if_told old.told (λ holding. IsNotRun holding names why × IsUnwritten old new why) (λ holding told. (
+      told_at old.told (λ holding. IsNotRun holding names why) holding told refused,
+      λ other. told_at old.told (λ holding. new.told ≡ told_after why old.told) holding told (unwritten other),
+    ))
 
 -- ---- stores that are away
 

@@ -7,8 +7,7 @@ use Rattle.nv_open.specs.declared.error.Refusal.{Refusal}
 use Rattle.nv_recover.specs.declared.error.RecoverError.{RecoverError}
 use Rattle.nv_recover.specs.declared.error.RecoverError.TheVariants as recover_errors
 use Rattle.nv_top.specs.Stops.{stop_of_opening, stop_of_recovery}
-use Rattle.nv_top.specs.declared.ending.Stop.{Stop}
-use Rattle.nv_top.specs.declared.ending.Stop.TheVariants.{Device, Region, NoMemory}
+use Rattle.nv_top.specs.declared.ending.Stop.TheVariants.{Region}
 
 pub opening_refused : (error : OpenError) (why : Refusal) → stop_of_opening error ≡ Region why → error ≡ open_errors.Refused why
 opening_refused (open_errors.Refused refusal) why is = cc

@@ -1,5 +1,5 @@
 -- Words are read: numbers, what stands behind a front, and options one after another.
-use Rattle.std.proofs.Common.{◌≡◌, ℕ, ◌^◌, ◌<◌, ◌≤◌, ◌&&◌, nat_eq, nat_le, nat_lt, Bool, true, false, if◌then◌else◌, List, [], ◌∷◌, length, drop, fold, codes, is_some, ◌==◌, Option, Some, None, IfSome, MatchOption, option_map, Bor, refl, sym, ap, subst, ◌∙◌, arith, rules}
+use Rattle.std.proofs.Common.{◌≡◌, ℕ, ◌^◌, ◌<◌, ◌≤◌, ◌&&◌, nat_eq, nat_le, nat_lt, Bool, true, false, if◌then◌else◌, List, [], ◌∷◌, length, drop, codes, is_some, ◌==◌, Option, Some, None, IfSome, MatchOption, option_map, Bor, refl, sym, ap, subst, ◌∙◌, arith, rules}
 use Rattle.std.specs.List.{starts_with}
 use Rattle.std.specs.Str.{all_ascii_digits, IsCharBoundary}
 use Rattle.std.specs.Str.Parse.{IsNumeral, digits_value, without_leading_plus}

@@ -51,10 +51,10 @@ fn show<B: Backing>(
     requires { length stores.old.items ≡ length names.now }
     ensures text { IfOk result (λ text. (now : List Store) → AreNow (map B.history stores.old.items) now
         → text.items ≡ recovery_text (record {
-            first = found.now.first;
-            next = found.now.next;
-            groups = length found.now.groups;
-            files = named names.now (files_of now);
+          first = found.now.first;
+          next = found.now.next;
+          groups = length found.now.groups;
+          files = named names.now (files_of now);
         })) }
     ensures histories { map B.history stores.new.items ≡ map B.history stores.old.items }
     ensures never { (why : _) → ¬ (result ≡ Err (stops.Region why)) }

@@ -1,4 +1,4 @@
-use Rattle.std.proofs.Common.{◌≡◌, ◌⊎◌, ℕ, List, inr}
+use Rattle.std.proofs.Common.{◌≡◌, ℕ, List, inr}
 use Rattle.nv_trace.specs.Streams.{Appends}
 use Rattle.nv_top.specs.Endings.{AppendsFront}
 use Rattle.nv_top.specs.declared.ending.TheConstants.{DONE, WRITE_FAULT}

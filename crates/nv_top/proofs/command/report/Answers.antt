@@ -1,8 +1,7 @@
-use Rattle.std.proofs.Common.{◌≡◌, ◌∙◌, Some, List, ℕ, sym, map, subst, ap}
+use Rattle.std.proofs.Common.{◌∙◌, Some, sym, subst, ap}
 use Rattle.std.specs.Prelude.{IfSome}
 use Rattle.nv_top.specs.Headline.{IsRefused}
 use Rattle.nv_top.specs.declared.words.Command.{Command}
-use Rattle.nv_top.specs.declared.words.Command.TheVariants.{Run, Recover}
 use Rattle.nv_top.proofs.HeadlineLemmas.{recovery_refused, same_some, stop_possible}
 use Rattle.nv_top.proofs.command.report.Goals as goal
 

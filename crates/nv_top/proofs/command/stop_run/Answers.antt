@@ -95,8 +95,8 @@ returns-clause-ran g c =
         files_are = opened.files.files_are;
       });
       stopped = subst Over same
-      (told_at mid.told Stopped left (mid_told old mid region.names holding made.lent c.requires.home told)
-      (ran parts.states opened.files.held parts.are opened.files.are rise)
-      (all_away region.names holding.stores once));
+          (told_at mid.told Stopped left (mid_told old mid region.names holding made.lent c.requires.home told)
+          (ran parts.states opened.files.held parts.are opened.files.are rise)
+          (all_away region.names holding.stores once));
     }))
     c.run_to_stop.ensures.ran

@@ -6,14 +6,13 @@ use Rattle.nv_plain.specs.Layouts.{version_1}
 use Rattle.nv_plain.specs.Recovered.{recovered}
 use Rattle.nv_pmem.specs.Rows.{row_words}
 use Rattle.nv_pmem.specs.RowStates.{AreNow, row_tells_at}
-use Rattle.nv_pmem.specs.Steps as lines
 use Rattle.nv_store.specs.Steps as stores
 use Rattle.nv_store.specs.Store.{Store}
 use Rattle.nv_header.specs.Regions.{IsAtRest}
 use Rattle.nv_recover.specs.Standing.{files_of}
 use Rattle.nv_open.specs.Held.{files_named, header_names}
 use Rattle.nv_open.specs.Lending.{stores_named}
-use Rattle.nv_top.specs.Commands.{HasRecovered, recovery_of}
+use Rattle.nv_top.specs.Commands.{HasRecovered}
 use Rattle.nv_top.specs.Faithful.{named}
 use Rattle.nv_top.specs.Leaving.{AreLeft}
 use Rattle.nv_top.specs.Readings.{HavePlainNames}
@@ -70,7 +69,7 @@ returns-clause-recovered g c =
       long = recovery.long;
       fits = recovery.log.fits;
       plain = subst Plain recovery.names_are
-      (names_plain version_1.name_limit region.names (files_named holding.parts region.names holding.stores).contents (each_allowed region.names c.into_parts.ensures.region.names_are));
+          (names_plain version_1.name_limit region.names (files_named holding.parts region.names holding.stores).contents (each_allowed region.names c.into_parts.ensures.region.names_are));
       text_is =
           told_text files.held files.are
           ∙ ap (shown c.names.result.now) files.files_are
@@ -80,6 +79,6 @@ returns-clause-recovered g c =
           ∙ ap (λ next. recovery_text (record { first = log.first; next = next; groups = length found.groups; files = shown_names })) (recovery.log.next base)
           ∙ ap (λ (groups : List ℕ). recovery_text (record { first = log.first; next = log.next; groups = length groups; files = shown_names })) (recovery.log.groups base);
       left = leaves_by holding.parts holding.stores recovery.names_are
-      (leaves old mid region.names holding made.lent c.requires.home told history held (files_named holding.parts region.names holding.stores) parts_back stores_back _ left c.give_back.ensures.told);
+          (leaves old mid region.names holding made.lent c.requires.home told history held (files_named holding.parts region.names holding.stores) parts_back stores_back _ left c.give_back.ensures.told);
     }))
     c.show-report.ensures.text

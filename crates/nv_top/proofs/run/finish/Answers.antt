@@ -5,7 +5,6 @@ use Rattle.nv_plain.specs.Files.{Files}
 use Rattle.nv_plain.specs.Layouts.{version_1}
 use Rattle.nv_pmem.specs.RowStates.{AreNow}
 use Rattle.nv_pmem.specs.Rows.{RowTells}
-use Rattle.nv_pmem.specs.Steps as lines
 use Rattle.nv_store.specs.Steps as stores
 use Rattle.nv_store.specs.Store.{Store}
 use Rattle.nv_header.specs.Regions.{IsAtRest}
@@ -43,11 +42,10 @@ returns-in-Ok-clause-shown g c =
     c.recoveries_give_the_same_files.ensures.tell c.in-Ok.ensures.kept.moments holds
     (subst RestOf (sym same_parts) (subst Rest c.in-Ok.ensures.names c.into_parts.ensures.region.tells))
     (c.in-Ok.ensures.files pieces files holds) (c.in-Ok.ensures.synced pieces files holds) c.show-report.ensures.histories in
-    let At : List stores.History → Type 0 = λ row. AreNow row left.disks in
-    (
+    let At : List stores.History → Type 0 = λ row. AreNow row left.disks in (
       told left.disks (subst At c.show-report.ensures.histories left.disks_are)
-      ∙ ap (λ (names : List (List ℕ)). report_text (report_of outcome [] names (files_of left.disks).contents)) (c.names.ensures ∙ c.in-Ok.ensures.names)
-      ∙ ap (λ (files : Files). report_text (report_of outcome [] names files.contents)) left.files_are,
+          ∙ ap (λ (names : List (List ℕ)). report_text (report_of outcome [] names (files_of left.disks).contents)) (c.names.ensures ∙ c.in-Ok.ensures.names)
+          ∙ ap (λ (files : Files). report_text (report_of outcome [] names files.contents)) left.files_are,
       subst Parts same_parts left,
     ))
     c.show-report.ensures.text

@@ -1,4 +1,4 @@
-use Rattle.std.proofs.Common.{Err, refl, ap, subst}
+use Rattle.std.proofs.Common.{refl}
 use Rattle.nv_top.proofs.LogRunLemmas.{run_answered, run_refused}
 use Rattle.nv_top.proofs.run.make.Goals as goal
 

@@ -1,14 +1,12 @@
-use Rattle.std.proofs.Common.{◌≡◌, ◌<◌, ◌∙◌, [], ℕ, List, All, IfOk, length, map, refl, sym, ap, subst}
+use Rattle.std.proofs.Common.{◌≡◌, ◌<◌, ◌∙◌, ℕ, List, All, length, map, sym, ap, subst}
 use Rattle.std.specs.List.Sorted.{IsStrictlyIncreasing}
 use Rattle.std.proofs.lemmas.Result.{IfOk-weaker}
 use Rattle.nv_pmem.specs.Part.{Part}
 use Rattle.nv_pmem.specs.RowStates.{AreNow}
-use Rattle.nv_pmem.specs.declared.geometry.Geometry.{Geometry}
 use Rattle.nv_store.specs.Store.{Store}
 use Rattle.nv_recover.specs.Standing.{files_of}
-use Rattle.nv_top.specs.Faithful.{Basis, Sizes, descriptor_files}
+use Rattle.nv_top.specs.Faithful.{Basis, descriptor_files}
 use Rattle.nv_top.specs.LogRuns.{HasRunOver, IsFirst, basis_over, lines_in}
-use Rattle.nv_top.specs.declared.run.TheConstants.{FILE_PAGES}
 use Rattle.nv_top.proofs.LogRunLemmas.{begins}
 use Rattle.nv_top.proofs.NameLemmas.{descriptors_known}
 use Rattle.nv_top.proofs.run.run_over.Goals as goal
