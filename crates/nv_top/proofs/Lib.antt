@@ -15,5 +15,6 @@ pub mod RowLemmas
 pub mod RunLemmas
 pub mod StopLemmas
 pub mod StoppingLemmas
+pub mod TestBenches
 pub mod TextLemmas
 pub mod WordLemmas

@@ -9,6 +9,8 @@ mod fates;
 mod files;
 mod gate;
 mod laws;
+#[cfg(test)]
+mod main_tests;
 mod names;
 mod outcome;
 mod recovery;
