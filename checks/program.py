@@ -15,6 +15,7 @@ REPORT = b"0 0 pwrite 0 0 5 = 5\n1 0 pread 0 0 16 = 68656c6c6f\nfile a 5 68656c6
 USAGE = (b"error usage\n", 1)
 READ = (b"error read\n", 3)
 RUN = [b"run", b"--noworker"]
+STOPPED = b"refused 0 pread 0 0 16: stopped\nopen 0 pwrite 0 0 5: %s\nfile a %s\nend 0 1 1\n"
 
 
 def line(number):
@@ -26,6 +27,15 @@ TABLE = [
     ("hello", RUN, HELLO, (REPORT, 0)),
     ("no line feed at the end", RUN, HELLO[:-1], (REPORT, 0)),
     ("an empty input", RUN, b"", (b"end 0 0 0\n", 0)),
+    ("stopped, the write lost", RUN + [b"--stop", b"12"], HELLO, (STOPPED % (b"lost", b"0 -"), 0)),
+    ("stopped, the write kept", RUN + [b"--stop=12", b"--image", b"0"], HELLO, (STOPPED % (b"kept", b"5 68656c6c6f"), 0)),
+    ("a stop that never comes", RUN + [b"--image=torn", b"--stop", b"4294967295"], HELLO, (REPORT, 0)),
+    ("a recovery of nothing", [b"recover"], b"", (b"error region truncated 0 18\n", 7)),
+    ("a stop at no call", RUN + [b"--stop", b"0"], HELLO, USAGE),
+    ("two stops", RUN + [b"--stop", b"3", b"--stop=4"], HELLO, USAGE),
+    ("an image past the limit", RUN + [b"--image", b"4294967296"], HELLO, USAGE),
+    ("an image of no name", RUN + [b"--image", b"NEW"], HELLO, USAGE),
+    ("an option of a recovery", [b"recover", b"--noworker"], HELLO, USAGE),
     ("no words", [], HELLO, USAGE),
     ("the command alone", [b"run"], HELLO, USAGE),
     ("the option alone", [b"--noworker"], HELLO, USAGE),

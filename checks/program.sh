@@ -1,6 +1,10 @@
 #!/usr/bin/env bash
-# Tests nv_sim as its users run it (program.py). The gate leaves the program built; without it, this builds it.
+# Tests nv_sim and nv_run as their users run them (program.py, folder.py). The gate leaves the programs built; without it, this
+# builds them. Ends with the status of the first that fails.
 set -eu
-cd "$(dirname "$0")/../crates/nv_sim"
-[ -x out/nv_sim ] || rt run -- run --noworker < /dev/null > /dev/null
-exec python3 ../../checks/program.py "$PWD/out/nv_sim"
+cd "$(dirname "$0")/../crates"
+built() { [ -x "$1/out/$1" ] || (cd "$1" && rt run -- "${@:2}" < /dev/null > /dev/null); }
+built nv_sim run --noworker
+built nv_run || true
+python3 ../checks/program.py "$PWD/nv_sim/out/nv_sim"
+exec python3 ../checks/folder.py "$PWD/nv_run/out/nv_run"
