@@ -7,3 +7,4 @@ pub mod Images
 pub mod Recovered
 pub mod Faults
 pub mod Names
+pub mod Modes

@@ -5,6 +5,7 @@ mod bytes;
 mod call;
 mod laws;
 mod memory;
+mod mode;
 mod name;
 mod plain_files;
 #[cfg(test)]
@@ -16,5 +17,6 @@ pub use laws::{
     history_goes_on, saturated_counts_rise, write_is_its_pieces, write_leaves_its_bytes,
 };
 pub use memory::NoMemory;
+pub use mode::Mode;
 pub use name::is_file_name;
 pub use plain_files::PlainFiles;
