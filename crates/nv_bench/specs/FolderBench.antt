@@ -4,6 +4,7 @@ use Rattle.nv_plain.specs.Faults.{saturated}
 use Rattle.nv_bench.specs.Benches.{BenchState}
 use Rattle.nv_bench.specs.Holding.{Holding}
 use Rattle.nv_bench.specs.Laws.{AreWholeStores}
+use Rattle.nv_bench.specs.Naming.{HasDistinctStores}
 use Rattle.nv_bench.specs.declared.folder_bench.FolderBench.{FolderBench}
 
 -- a bench that tells nothing, of which nothing was ever lent, and that has never failed
@@ -25,3 +26,6 @@ module _ {R : Type 0} where
 
   pub folder_whole : (bench : FolderBench R) (holding : Holding) → (folder_state bench).told ≡ Some holding → AreWholeStores holding
   folder_whole bench holding told = cc
+
+  pub folder_named : (bench : FolderBench R) → HasDistinctStores (folder_state bench)
+  folder_named bench = tt

@@ -2,6 +2,7 @@ pub mod Holding
 pub mod Opening
 pub mod Powered
 pub mod Benches
+pub mod Naming
 pub mod Laws
 pub mod Places
 pub mod Shelf

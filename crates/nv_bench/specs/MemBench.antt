@@ -12,6 +12,7 @@ use Rattle.nv_store.specs.declared.mem_store.MemStore.{MemStore}
 use Rattle.nv_bench.specs.Benches.{BenchState}
 use Rattle.nv_bench.specs.Holding.{Holding, NamedStore, named_stores}
 use Rattle.nv_bench.specs.Laws.{AreWholeStores}
+use Rattle.nv_bench.specs.Naming.{HasDistinctStores}
 use Rattle.nv_bench.specs.Shelf.{shelved, shelf_faults}
 use Rattle.nv_bench.specs.declared.mem_bench.MemBench.{MemBench}
 
@@ -52,3 +53,7 @@ pub mem_whole : (bench : MemBench) (holding : Holding) → (mem_state bench).tol
 mem_whole bench holding told =
     subst AreWholeStores (ap (λ (one : Option Holding). unwrap_or one (held_by bench)) told)
     (stores_whole (map string_bytes bench.shelf.names.items) bench.shelf.stores.items)
+
+-- their names are kept apart
+pub mem_named : (bench : MemBench) → HasDistinctStores (mem_state bench)
+mem_named bench = bench.named

@@ -8,6 +8,7 @@ ghost use Rattle.nv_store.specs.Store.{Store as StoreState};
 ghost use Rattle.nv_bench.specs.Benches.{BenchState, with_faults, region_lent, store_lent, told_back, taken_back, armed_with, powered_off};
 ghost use Rattle.nv_bench.specs.Holding.{Holding, store_of};
 ghost use Rattle.nv_bench.specs.Laws.{AreWholeStores};
+ghost use Rattle.nv_bench.specs.Naming.{HasDistinctStores};
 ghost use Rattle.nv_bench.specs.Opening.{IsFreshWhereQuiet, opened};
 ghost use Rattle.nv_bench.specs.declared.bench.BenchError.TheVariants.{Failed, NoMemory as NoRoom};
 
@@ -109,4 +110,7 @@ pub trait Bench {
 
     /// Each store at home is whole.
     ghost whole: { (bench : Self) (holding : Holding) → (state bench).told ≡ Some holding → AreWholeStores holding };
+
+    /// No two of its stores, at home or lent, have the same name.
+    ghost named: { (bench : Self) → HasDistinctStores (state bench) };
 }

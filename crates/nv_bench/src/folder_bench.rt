@@ -2,7 +2,7 @@ ghost use Rattle.std.specs.Prelude.{◌≡◌, ◌+◌, List, length, map, sum_b
 ghost use Rattle.nv_plain.specs.Faults.{Rose};
 ghost use Rattle.nv_store.specs.FileStore.{store_faults};
 ghost use Rattle.nv_bench.specs.Benches.{with_faults, store_lent};
-ghost use Rattle.nv_bench.specs.FolderBench.{folder_state, folder_whole, new_folder};
+ghost use Rattle.nv_bench.specs.FolderBench.{folder_named, folder_state, folder_whole, new_folder};
 ghost use Rattle.nv_bench.specs.declared.bench.BenchError.TheVariants.{Failed, NoMemory as NoRoom};
 
 use crate::folder_parts::{
@@ -171,4 +171,6 @@ impl<R: Files<File = File> + Copy + Drop + Send> Bench for FolderBench<R> {
     }
 
     ghost whole = { folder_whole };
+
+    ghost named = { folder_named };
 }

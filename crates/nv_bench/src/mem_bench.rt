@@ -1,5 +1,6 @@
-ghost use Rattle.std.specs.Prelude.{◌≡◌, ◌+◌, ◌%◌, true, false, List, [], length, map, sum_by, vec_len, All, Some, None, IfOk, IfSome, OnOk, OnErr};
-ghost use Rattle.nv_bench.specs.Shelf.{HasPlaces};
+ghost use Rattle.std.specs.Prelude.{◌≡◌, ◌+◌, ◌%◌, ◌++◌, true, false, List, [], length, map, sum_by, string_bytes, vec_len, All, Contains, Some, None, IfOk, IfSome, OnOk, OnErr};
+ghost use Rattle.nv_bench.specs.Naming.{AreDistinct, AreDistinct-prop, names_of};
+ghost use Rattle.nv_bench.specs.Shelf.{HasPlaces, shelved};
 
 use crate::parts::{faults_of_parts, make_wanted, parts_of, power_parts};
 use crate::shelf::Shelf;
@@ -29,6 +30,7 @@ pub struct MemBench {
     ghost home: { is_open ≡ true → vec_len parts ≡ 0 },
     // So stores are taken back without memory.
     ghost places: { HasPlaces (vec_len lent) shelf },
+    ghost named: { AreDistinct (names_of (shelved shelf) ++ map string_bytes lent.items) } by { AreDistinct-prop (names_of (shelved shelf) ++ map string_bytes lent.items) },
 }
 
 impl MemBench {
@@ -41,7 +43,6 @@ impl MemBench {
     ghost use Rattle.nv_store.specs.Store.{quiet_store};
     ghost use Rattle.nv_bench.specs.Benches.{with_faults, store_lent};
     ghost use Rattle.nv_bench.specs.Holding.{Holding, IsQuietHolding, store_of};
-    ghost use Rattle.nv_bench.specs.Shelf.{shelved};
 
     /// A bench of no part and no store. The device calls of these numbers fail.
     pub fn new(alloc: Global, fails: &[u64]) -> Result<Self, NoMemory>
@@ -68,7 +69,8 @@ impl MemBench {
         stores: &[(&str, &[u8])],
         fails: &[u64],
     ) -> Result<Self, NoMemory>
-        requires { All (λ bytes. length bytes.now % 64 ≡ 0) parts.now }
+        requires lines { All (λ bytes. length bytes.now % 64 ≡ 0) parts.now }
+        requires names { AreDistinct (map (λ named. named.0.now) stores.now) }
         ensures made { IfOk result (λ bench. let holding : Holding = record {
           parts = map (λ bytes. part_in bytes.now) parts.now;
           stores = map (λ named. record { name = named.0.now; store = quiet_store named.1.now }) stores.now;
@@ -111,6 +113,7 @@ impl MemBench {
 
     // Lends the store of a name. All memory is asked for before anything changes.
     fn lend(&mut self, name: &str) -> Result<MemStore, NoMemory>
+        requires other { ¬ (Contains (mem_state self.old).lent name.now) }
         ensures lent { OnOk result (mem_state self.new ≡ with_faults (mem_state self.new).faults (store_lent name.now (mem_state self.old))) }
         ensures store { IfOk result (λ store. store_now store ≡ store_of name.now (shelved self.old.shelf)) }
         ensures counts { IfOk result (λ store. (mem_state self.old).faults ≡ saturated ((mem_state self.new).faults + store_faults store)) }
@@ -132,7 +135,7 @@ impl Bench for MemBench {
     ghost use Rattle.nv_store.specs.MemStore.{store_now, store_history, store_faults};
     ghost use Rattle.nv_store.specs.Store.{Store as StoreState};
     ghost use Rattle.nv_bench.specs.Benches.{told_back, taken_back};
-    ghost use Rattle.nv_bench.specs.MemBench.{mem_state, mem_whole};
+    ghost use Rattle.nv_bench.specs.MemBench.{mem_named, mem_state, mem_whole};
 
     type Part = MemPart;
 
@@ -203,4 +206,6 @@ impl Bench for MemBench {
     }
 
     ghost whole = { mem_whole };
+
+    ghost named = { mem_named };
 }

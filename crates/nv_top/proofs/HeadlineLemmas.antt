@@ -1,12 +1,14 @@
 -- What a command shows and why it is refused, from what its run does.
-use Rattle.std.proofs.Common.{◌≡◌, ℕ, ◌≤◌, Bool, true, false, List, [], ◌∷◌, if◌then◌else◌, Option, Some, None, refl, sym, subst}
+use Rattle.std.proofs.Common.{◌≡◌, ◌++◌, ℕ, ◌≤◌, Bool, true, false, List, [], ◌∷◌, if◌then◌else◌, Option, Some, None, refl, subst}
 use Rattle.std.specs.Prelude.{All, IfSome, option_map}
 use Rattle.std.specs.List.Sorted.{IsStrictlyIncreasing}
 use Rattle.std.specs.Option.{option_and_then}
-use Rattle.std.specs.Cmp.Lexicographic.{same_text}
+use Rattle.std.proofs.lemmas.List.{append-nil}
 use Rattle.std.proofs.lemmas.List.Elements.{All-nil, All-cons, All-head, All-tail}
 use Rattle.nv_bench.specs.Benches.{BenchState}
 use Rattle.nv_bench.specs.Holding.{Holding, IsQuietHolding, NamedStore, is_named, without_store}
+use Rattle.nv_bench.specs.Naming.{AreDistinct, HasDistinctStores, names_of}
+use Rattle.nv_bench.proofs.NameLaws.{distinct_without, none_left}
 use Rattle.nv_open.specs.Lending.{without_named, without_stores}
 use Rattle.nv_open.specs.Held.{told_after}
 use Rattle.nv_open.specs.Refusals.{IsRefusedFor}
@@ -18,7 +20,7 @@ use Rattle.nv_store.specs.Store.{IsQuiet}
 use Rattle.nv_trace.specs.Reading.{ending_of, Whole}
 use Rattle.nv_trace.specs.Traced.{Traced}
 use Rattle.nv_top.specs.Commands.{IsNotRun}
-use Rattle.nv_top.specs.Headline.{AreNamedOnce, IsRefused, IsShown, IsShownOf, IsUnwritten, command_over, possible}
+use Rattle.nv_top.specs.Headline.{IsRefused, IsShown, IsShownOf, IsUnwritten, command_over, possible}
 use Rattle.nv_top.specs.LogRuns.{lines_in}
 use Rattle.nv_top.specs.Words.{command_of}
 use Rattle.nv_top.specs.declared.words.Command.{Command}
@@ -93,33 +95,18 @@ kept_in_all : (P : NamedStore → Type 0) (names : List (List ℕ)) (stores : Li
 kept_in_all P [] stores all = all
 kept_in_all P (name ∷ names) stores all = kept_in_all P names (without_store name stores) (kept_in P name stores all)
 
-once_by : (is : Bool) (first : NamedStore) (rest others : List NamedStore) → AreNamedOnce rest → All (NotNamed first.name) others → AreNamedOnce others
-    → AreNamedOnce (if is then rest else first ∷ others)
-once_by true first rest others all_rest away all_others = all_rest
-once_by false first rest others all_rest away all_others = (away, all_others)
-
-once_in : (name : List ℕ) (stores : List NamedStore) → AreNamedOnce stores → AreNamedOnce (without_store name stores)
-once_in name [] once = once
-once_in name (first ∷ rest) once =
-    once_by (is_named name first) first rest (without_store name rest) once.1 (kept_in (NotNamed first.name) name rest once.0) (once_in name rest once.1)
-
-away_by : (name : List ℕ) (is : Bool) (first : NamedStore) (rest others : List NamedStore) → is_named name first ≡ is → All (NotNamed first.name) rest → All (NotNamed name) others
-    → All (NotNamed name) (if is then rest else first ∷ others)
-away_by name true first rest others is away all_others =
-    let same : first.name ≡ name = same_text first.name name (sym is) in
-    subst (λ name. All (NotNamed name) rest) same away
-away_by name false first rest others is away all_others = All-cons (NotNamed name) first others is all_others
-
-away_in : (name : List ℕ) (stores : List NamedStore) → AreNamedOnce stores → All (NotNamed name) (without_store name stores)
-away_in name [] once = All-nil (NotNamed name)
-away_in name (first ∷ rest) once = away_by name (is_named name first) first rest (without_store name rest) refl once.0 (away_in name rest once.1)
-
--- of stores that each have a name of their own none has a name any more whose store is away
-pub all_away : (names : List (List ℕ)) (stores : List NamedStore) → AreNamedOnce stores → All (λ name. All (NotNamed name) (without_stores names stores)) names
-all_away [] stores once = All-nil (λ (name : List ℕ). All (NotNamed name) (without_stores [] stores))
-all_away (name ∷ names) stores once =
+-- of stores whose names differ none has a name any more whose store is away
+pub all_away : (names : List (List ℕ)) (stores : List NamedStore) → AreDistinct (names_of stores) → All (λ name. All (NotNamed name) (without_stores names stores)) names
+all_away [] stores distinct = All-nil (λ (name : List ℕ). All (NotNamed name) (without_stores [] stores))
+all_away (name ∷ names) stores distinct =
     All-cons (λ other. All (NotNamed other) (without_stores names (without_store name stores))) name names
-    (kept_in_all (NotNamed name) names (without_store name stores) (away_in name stores once)) (all_away names (without_store name stores) (once_in name stores once))
+    (kept_in_all (NotNamed name) names (without_store name stores) (none_left name stores distinct)) (all_away names (without_store name stores) (distinct_without name stores distinct))
+
+-- the names of the stores of a bench differ, where none is lent
+pub home_distinct : (old : BenchState) (holding : Holding) → HasDistinctStores old → old.told ≡ Some holding → old.lent ≡ [] → AreDistinct (names_of holding.stores)
+home_distinct old holding named told home =
+    let Distinct : List (List ℕ) → Type 0 = λ lent. AreDistinct (names_of holding.stores ++ lent) in
+    subst AreDistinct (append-nil (names_of holding.stores)) (subst Distinct home (told_at old.told (λ holding. AreDistinct (names_of holding.stores ++ old.lent)) holding told named))
 
 -- what is left of a holding of which stores are lent is quiet as it was
 pub quiet_left : (blank : BlankIsQuiet) (names : List (List ℕ)) (told : Option Holding) → IfSome told IsQuietHolding

@@ -1,9 +1,9 @@
 -- The top call: what each command makes of a bench, and what it shows.
-use Rattle.std.specs.Prelude.{◌≡◌, ◌⊎◌, ℕ, Bool, List, [], ◌∷◌, All, false, if◌then◌else◌, Option, Some, None, IfSome, max}
+use Rattle.std.specs.Prelude.{◌≡◌, ◌⊎◌, ℕ, Bool, List, if◌then◌else◌, Option, Some, None, IfSome, max}
 use Rattle.std.specs.Option.{option_and_then}
 use Rattle.nv_plain.specs.Faults.{Rose}
 use Rattle.nv_bench.specs.Benches.{BenchState}
-use Rattle.nv_bench.specs.Holding.{Holding, NamedStore, is_named}
+use Rattle.nv_bench.specs.Holding.{Holding}
 use Rattle.nv_open.specs.Held.{told_after}
 use Rattle.nv_open.specs.Refusals.{IsRefusedFor}
 use Rattle.nv_open.specs.declared.error.Refusal.{Refusal}
@@ -37,21 +37,16 @@ IsLeftBy Recover old new = IsGivenBack old new
 abbrev pub expected_faults : (old new : BenchState) → ℕ
 expected_faults old new = max old.faults new.settled
 
--- each store has a name of its own
-abbrev pub AreNamedOnce : List NamedStore → Type 0
-AreNamedOnce [] = Unit {0}
-AreNamedOnce (first ∷ rest) = All (λ named. is_named first.name named ≡ false) rest × AreNamedOnce rest
-
 -- The text is that of a faithful report of a run of the trace that was stopped, on a bench that held this and tells that now.
 pub record HasStopped (failed : Type 0) (holding : Holding) (told : Option Holding) (trace : Traced) (text : List ℕ) : Type 0 where
   pub basis : Basis
   pub begun : IsBasis holding trace.names basis
   pub stopped : HasStoppedOn failed basis trace told text
 
--- What the report of a run of a trace shows of a bench that held this; of one that was stopped, where each store had a name of its own.
+-- what the report of a run of a trace, stopped or not, shows of a bench that held this
 abbrev pub IsShownOf : (stop : Option ℕ) → (old new : BenchState) → Holding → Traced → (text : List ℕ) → Type 0
 IsShownOf None old new holding trace text = HasRunOn holding new.told trace text
-IsShownOf (Some k) old new holding trace text = AreNamedOnce holding.stores → HasStopped (Rose old.faults new.faults) holding new.told trace text
+IsShownOf (Some k) old new holding trace text = HasStopped (Rose old.faults new.faults) holding new.told trace text
 
 -- what the report of a command shows of a bench that held this, and of the input that it had
 abbrev pub IsShown : Command → (input : Option (List ℕ)) → (old new : BenchState) → Holding → (text : List ℕ) → Type 0

@@ -10,7 +10,7 @@ ghost use Rattle.nv_trace.specs.Shape.{IsWellFormed};
 ghost use Rattle.nv_trace.specs.Streams.{Appends};
 ghost use Rattle.nv_top.specs.Commands.{IsGivenBack, IsNotRun};
 ghost use Rattle.nv_top.specs.Endings.{IsErrorLine, AppendsFront, usage_line, read_line, device_line, memory_line, input_line, region_line, IsTrace};
-ghost use Rattle.nv_top.specs.Headline.{AreNamedOnce, HasStopped, IsLeftBy, IsRefused, IsShown, IsShownOf, command_over, expected_faults};
+ghost use Rattle.nv_top.specs.Headline.{HasStopped, IsLeftBy, IsRefused, IsShown, IsShownOf, command_over, expected_faults};
 ghost use Rattle.nv_top.specs.LogRuns.{lines_in};
 ghost use Rattle.nv_top.specs.Stopping.{IsPoweredBack, Settles};
 ghost use Rattle.nv_top.specs.Stops.{IsCauseOf};
@@ -249,7 +249,7 @@ fn stop_run<T: Bench>(
     ensures back { IsPoweredBack k (T.state bench.old) (T.state bench.new) ⊎ IsGivenBack (T.state bench.old) (T.state bench.new) }
     ensures cause { Settles (expected_faults (T.state bench.old) (T.state bench.new)) (T.state bench.new).faults result }
     ensures ran { IfOk result (λ text. IsStrictlyIncreasing (lines_in trace.now) → IfSome (T.state bench.old).told (λ holding.
-        AreNamedOnce holding.stores → HasStopped (Rose (T.state bench.old).faults (T.state bench.new).faults) holding (T.state bench.new).told trace.now text.items)) }
+        HasStopped (Rose (T.state bench.old).faults (T.state bench.new).faults) holding (T.state bench.new).told trace.now text.items)) }
     ensures refused { (why : _) → result ≡ Err (stops.Region why) → (T.state bench.new).arms ≡ (T.state bench.old).arms
         → IfSome (T.state bench.old).told (λ holding. IsNotRun holding trace.now.names why) }
     ensures unwritten { (why : _) → result ≡ Err (stops.Region why) → (T.state bench.new).arms ≡ (T.state bench.old).arms

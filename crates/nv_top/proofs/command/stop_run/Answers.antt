@@ -13,13 +13,13 @@ use Rattle.nv_open.specs.Lending.{without_stores}
 use Rattle.nv_recover.specs.Standing.{files_of}
 use Rattle.nv_top.specs.Commands.{IsBasis, IsNotRun}
 use Rattle.nv_top.specs.Faithful.{place_of}
-use Rattle.nv_top.specs.Headline.{AreNamedOnce, HasStopped}
+use Rattle.nv_top.specs.Headline.{HasStopped}
 use Rattle.nv_top.specs.LogRuns.{basis_over, lines_in}
 use Rattle.nv_top.specs.Stopping.{HasStoppedOn, IsAway}
 use Rattle.nv_top.specs.Stops.{stop_of_opening}
 use Rattle.nv_top.specs.declared.ending.Stop.TheVariants.{Region}
 use Rattle.nv_top.proofs.CommandLemmas.{if_told, mid_told, told_at}
-use Rattle.nv_top.proofs.HeadlineLemmas.{all_away, quiet_left}
+use Rattle.nv_top.proofs.HeadlineLemmas.{all_away, home_distinct, quiet_left}
 use Rattle.nv_top.proofs.NameLemmas.{wanted_known}
 use Rattle.nv_top.proofs.RowLemmas.{present, quiet_row}
 use Rattle.nv_top.proofs.StopLemmas.{err_has, opening_refused}
@@ -71,9 +71,9 @@ returns-clause-ran g c =
     IfOk-weaker c.run_to_stop.result
     (λ text. (parts : List Part) (now : List Store) → AreNow (map history region.parts.items) parts → AreNow (map held backing) now → IsStrictlyIncreasing (lines_in trace)
     → IfSome mid.told (λ left. IsAway region.names left → HasStoppedOn (Rose lent new.faults) (basis_over region (files_of now)) trace new.told text.items))
-    (λ text. IsStrictlyIncreasing (lines_in trace) → IfSome old.told (λ holding. AreNamedOnce holding.stores → HasStopped (Rose old.faults new.faults) holding new.told trace text.items))
+    (λ text. IsStrictlyIncreasing (lines_in trace) → IfSome old.told (λ holding. HasStopped (Rose old.faults new.faults) holding new.told trace text.items))
     (λ text ran rise.
-    if_told old.told (λ holding. AreNamedOnce holding.stores → HasStopped (Rose old.faults new.faults) holding new.told trace text.items) (λ holding told once.
+    if_told old.told (λ holding. HasStopped (Rose old.faults new.faults) holding new.told trace text.items) (λ holding told.
     let opened = told_at old.told _ holding told made.opened in
     let parts = present (map history region.parts.items) (told_at old.told _ holding told made.tell) in
     let basis = basis_over region (files_of opened.files.held) in
@@ -97,6 +97,6 @@ returns-clause-ran g c =
       stopped = subst Over same
           (told_at mid.told Stopped left (mid_told old mid region.names holding made.lent c.requires.home told)
           (ran parts.states opened.files.held parts.are opened.files.are rise)
-          (all_away region.names holding.stores once));
+          (all_away region.names holding.stores (home_distinct old holding (g.met.T.Bench.named c.args.bench.now) told c.requires.home)));
     }))
     c.run_to_stop.ensures.ran

@@ -1,11 +1,15 @@
-use Rattle.std.proofs.Common.{◌≡◌, ◌++◌, List, map, ap, sym, ◌∙◌}
+use Rattle.std.proofs.Common.{◌≡◌, ◌++◌, ℕ, List, map, ap, subst, sym, ◌∙◌, arith}
+use Rattle.std.proofs.lemmas.List.{length-map}
 use Rattle.std.specs.Prelude.{Some, string_bytes}
 use Rattle.nv_pmem.specs.Part.{Part}
 use Rattle.nv_store.specs.Store.{Store}
 use Rattle.nv_bench.specs.Holding.{Holding, NamedStore, named_stores}
+use Rattle.nv_bench.specs.Naming.{AreDistinct, names_of}
 use Rattle.nv_bench.specs.Shelf.{shelved}
+use Rattle.nv_store.specs.MemStore.{store_now}
 use Rattle.nv_bench.proofs.PartLaws.{are_parts}
 use Rattle.nv_bench.proofs.StoreLaws.{are_stores}
+use Rattle.nv_bench.proofs.NameLaws.{distinct_back}
 use Rattle.nv_bench.proofs.mem_bench.MemBenchBench.give_back.Goals as goal
 
 held : List Part → List NamedStore → Holding
@@ -21,3 +25,12 @@ returns-clause-told c now stores parts_now stores_now =
     holdings _ now _ _ (are_parts c.args.parts.items now parts_now)
     (c.put.ensures.stores
     ∙ ap (λ (these : List Store). shelved c.args.self.now.shelf ++ named_stores lent these) (sym (are_stores c.args.stores.items stores stores_now)))
+
+pub invariant_of-self-clause-named : goal.invariant_of-self-clause-named
+invariant_of-self-clause-named c =
+    let lent = map string_bytes c.args.self.now.lent.items in
+    let stores = map store_now c.args.stores.items in
+    let Named : List (List ℕ) → Type 0 = λ names. AreDistinct (names_of (shelved c.put.new.self) ++ names) in
+    subst Named (sym (ap (map string_bytes) c.put.ensures.names))
+    (distinct_back (shelved c.put.new.self) (shelved c.args.self.now.shelf) lent stores c.put.ensures.stores
+    (omega (arith, c.requires.stores, length-map c.args.stores.items store_now)) c.args.self.now.named)

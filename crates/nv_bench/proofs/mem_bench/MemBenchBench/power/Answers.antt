@@ -1,4 +1,4 @@
-use Rattle.std.proofs.Common.{◌≡◌, ◌+◌, List, map, ap, sum_by, ◌∙◌, arith}
+use Rattle.std.proofs.Common.{◌≡◌, ◌+◌, ◌++◌, ℕ, List, map, ap, subst, sym, sum_by, ◌∙◌, arith}
 use Rattle.std.specs.Prelude.{Some, string_bytes}
 use Rattle.std.specs.Vec.{with_items}
 use Rattle.std.proofs.lemmas.List.{with_items_is}
@@ -11,7 +11,8 @@ use Rattle.nv_bench.specs.Shelf.{shelved, shelf_faults}
 use Rattle.nv_plain.specs.Faults.{saturated}
 use Rattle.nv_bench.specs.declared.shelf.Shelf.{Shelf}
 use Rattle.nv_bench.proofs.Lists.{sum_by-same}
-use Rattle.nv_bench.proofs.PowerLaws.{holding_left}
+use Rattle.nv_bench.specs.Naming.{AreDistinct, names_of}
+use Rattle.nv_bench.proofs.PowerLaws.{holding_left, names_kept}
 use Rattle.nv_bench.proofs.mem_bench.MemBenchBench.power.Goals as goal
 
 abbrev held_with : List MemPart → Shelf → Holding
@@ -44,3 +45,11 @@ returns-clause-off c =
       armed = old.armed;
       settled = settled i;
     }
+
+pub invariant_of-self-clause-named : goal.invariant_of-self-clause-named
+invariant_of-self-clause-named c =
+    let old = c.args.self.now in
+    let Named : List (List ℕ) → Type 0 = λ names. AreDistinct (names ++ map string_bytes old.lent.items) in
+    let kept : names_of (shelved c.lose_power.new.self) ≡ names_of (shelved old.shelf) =
+    ap names_of c.lose_power.ensures.stores ∙ names_kept c.power_parts.new.picker (shelved old.shelf) in
+    subst Named (sym kept) old.named
