@@ -1,8 +1,8 @@
 -- What a command shows and why it is refused, from what its run does.
-use Rattle.std.proofs.Common.{◌≡◌, ◌++◌, ℕ, ◌≤◌, Bool, true, false, List, [], ◌∷◌, if◌then◌else◌, Option, Some, None, refl, subst}
+use Rattle.std.proofs.Common.{◌≡◌, ◌++◌, ℕ, ◌≤◌, Bool, true, false, List, [], ◌∷◌, if◌then◌else◌, Option, Some, None, refl, sym, ap, subst, ◌∙◌}
 use Rattle.std.specs.Prelude.{All, IfSome, option_map}
 use Rattle.std.specs.List.Sorted.{IsStrictlyIncreasing}
-use Rattle.std.specs.Option.{option_and_then}
+use Rattle.std.specs.Cmp.Lexicographic.{same_text}
 use Rattle.std.proofs.lemmas.List.{append-nil}
 use Rattle.std.proofs.lemmas.List.Elements.{All-nil, All-cons, All-head, All-tail}
 use Rattle.nv_bench.specs.Benches.{BenchState}
@@ -15,65 +15,80 @@ use Rattle.nv_open.specs.Refusals.{IsRefusedFor}
 use Rattle.nv_open.specs.declared.error.Refusal.{Refusal}
 use Rattle.nv_open.specs.declared.error.Refusal.TheVariants as refusals
 use Rattle.nv_pmem.specs.Laws.{BlankIsQuiet}
-use Rattle.nv_pmem.specs.declared.picker.Pick.{Pick}
 use Rattle.nv_store.specs.Store.{IsQuiet}
 use Rattle.nv_trace.specs.Reading.{ending_of, Whole}
 use Rattle.nv_trace.specs.Traced.{Traced}
 use Rattle.nv_top.specs.Commands.{IsNotRun}
-use Rattle.nv_top.specs.Headline.{IsRefused, IsShown, IsShownOf, IsUnwritten, command_over, possible}
+use Rattle.nv_top.specs.Headline.{IsRefused, IsShown, IsShownOf, IsUnwritten, command_over, may_stop, possible}
 use Rattle.nv_top.specs.LogRuns.{lines_in}
-use Rattle.nv_top.specs.Words.{command_of}
+use Rattle.nv_top.specs.Words.{AreInLimits, command_of}
 use Rattle.nv_top.specs.declared.words.Command.{Command}
 use Rattle.nv_top.specs.declared.words.Command.TheVariants.{Run, Recover}
+use Rattle.nv_top.specs.declared.words.RunOptions.{RunOptions}
 use Rattle.nv_top.proofs.CommandLemmas.{if_told, told_at}
 use Rattle.nv_top.proofs.RunLemmas.{lines_rise}
-use Rattle.nv_top.proofs.WordLemmas.{stop_from_one}
+use Rattle.nv_top.proofs.WordLemmas.{and_then_some, run_in_limits, stop_from_one}
 
 -- ---- words
 
-stop_in : (images : Bool) (words : List (List ℕ)) (command : Option Command) (stop : Option ℕ) (pick : Pick) → command_of words ≡ command
-    → option_and_then (possible images) command ≡ Some (Run stop pick) → IfSome stop (λ k. 1 ≤ k × images ≡ true)
-stop_in images words None stop pick is run = cc
-stop_in images words (Some (Run None image)) None pick is run = tt
-stop_in images words (Some (Run None image)) (Some k) pick is run = cc
-stop_in true words (Some (Run (Some n) image)) None pick is run = cc
-stop_in true words (Some (Run (Some n) image)) (Some k) pick is run =
-    let same : n ≡ k = cc in
-    (subst (λ k. 1 ≤ k) same (stop_from_one words n image is), refl)
-stop_in false words (Some (Run (Some n) image)) stop pick is run = cc
-stop_in images words (Some Recover) stop pick is run = cc
+runs_on : (images : Bool) (command : Command) (options : RunOptions) → possible images command ≡ Some (Run options) → (command ≡ Run options) × (may_stop images options.stop ≡ true)
+runs_on images (Run one) options is = by_test (may_stop images one.stop) refl is where
+  by_test : (test : Bool) → may_stop images one.stop ≡ test → (if test then Some (Run one) else None) ≡ Some (Run options) → (Run one ≡ Run options) × (may_stop images options.stop ≡ true)
+  by_test true may is =
+      let same : one ≡ options = cc in
+      let May : RunOptions → Type 0 = λ options. may_stop images options.stop ≡ true in
+      (ap Run same, subst May same may)
+  by_test false may is = cc
+runs_on images Recover options is = cc
+
+run_over : (images : Bool) (words : List (List ℕ)) (options : RunOptions) → command_over images words ≡ Some (Run options)
+    → (command_of words ≡ Some (Run options)) × (may_stop images options.stop ≡ true)
+run_over images words options run =
+    let command = and_then_some (possible images) (command_of words) (Run options) run in
+    let both = runs_on images command.0 options command.2 in
+    (command.1 ∙ ap Some both.0, both.1)
+
+stop_by : (images : Bool) (stop : Option ℕ) → may_stop images stop ≡ true → IfSome stop (λ k. 1 ≤ k) → IfSome stop (λ k. 1 ≤ k × images ≡ true)
+stop_by images None may counts = tt
+stop_by images (Some k) may counts = (counts, may)
 
 -- a run that a bench can stop is stopped at a device call from the first one on, over devices that lose power
-pub stop_possible : (images : Bool) (words : List (List ℕ)) (stop : Option ℕ) (pick : Pick) → command_over images words ≡ Some (Run stop pick) → IfSome stop (λ k. 1 ≤ k × images ≡ true)
-stop_possible images words stop pick run = stop_in images words (command_of words) stop pick refl run
+pub stop_possible : (images : Bool) (words : List (List ℕ)) (options : RunOptions) → command_over images words ≡ Some (Run options) → IfSome options.stop (λ k. 1 ≤ k × images ≡ true)
+stop_possible images words options run =
+    let over = run_over images words options run in
+    stop_by images options.stop over.1 (stop_from_one words options over.0)
+
+-- a run that a bench can follow has sizes within their limits
+pub run_limits : (images : Bool) (words : List (List ℕ)) (options : RunOptions) → command_over images words ≡ Some (Run options) → AreInLimits options
+run_limits images words options run = run_in_limits words options (run_over images words options run).0
 
 -- ---- what is shown, and refused
 
-pub shown_from : (stop : Option ℕ) (pick : Pick) (left : Option (List ℕ)) (old new : BenchState) (trace : Traced) (text : List ℕ)
+pub shown_from : (options : RunOptions) (left : Option (List ℕ)) (old new : BenchState) (trace : Traced) (text : List ℕ)
     → IfSome left (λ input. ending_of input ≡ Whole trace)
-    → (IsStrictlyIncreasing (lines_in trace) → IfSome old.told (λ holding. IsShownOf stop old new holding trace text))
-    → IfSome old.told (λ holding. IsShown (Run stop pick) left old new holding text)
-shown_from stop pick None old new trace text whole ran = if_told old.told (λ holding. IsShown (Run stop pick) None old new holding text) (λ holding told. tt)
-shown_from stop pick (Some input) old new trace text whole ran =
-    if_told old.told (λ holding. IsShown (Run stop pick) (Some input) old new holding text) (λ holding told.
-    (trace, whole, told_at old.told (λ holding. IsShownOf stop old new holding trace text) holding told (ran (lines_rise input trace whole))))
+    → (IsStrictlyIncreasing (lines_in trace) → IfSome old.told (λ holding. IsShownOf options.stop options old new holding trace text))
+    → IfSome old.told (λ holding. IsShown (Run options) left old new holding text)
+shown_from options None old new trace text whole ran = if_told old.told (λ holding. IsShown (Run options) None old new holding text) (λ holding told. tt)
+shown_from options (Some input) old new trace text whole ran =
+    if_told old.told (λ holding. IsShown (Run options) (Some input) old new holding text) (λ holding told.
+    (trace, whole, told_at old.told (λ holding. IsShownOf options.stop options old new holding trace text) holding told (ran (lines_rise input trace whole))))
 
-pub refused_from : (stop : Option ℕ) (pick : Pick) (left : Option (List ℕ)) (old new : BenchState) (trace : Traced) (why : Refusal)
+pub refused_from : (options : RunOptions) (left : Option (List ℕ)) (old new : BenchState) (trace : Traced) (why : Refusal)
     → IfSome left (λ input. ending_of input ≡ Whole trace)
-    → (IsStrictlyIncreasing (lines_in trace) → IfSome old.told (λ holding. IsNotRun holding trace.names why × IsUnwritten old new why))
-    → IfSome old.told (λ holding. IsRefused (Run stop pick) left old new holding why)
-refused_from stop pick None old new trace why whole refused = if_told old.told (λ holding. IsRefused (Run stop pick) None old new holding why) (λ holding told. tt)
-refused_from stop pick (Some input) old new trace why whole refused =
-    if_told old.told (λ holding. IsRefused (Run stop pick) (Some input) old new holding why) (λ holding told.
-    let both = told_at old.told (λ holding. IsNotRun holding trace.names why × IsUnwritten old new why) holding told (refused (lines_rise input trace whole)) in
+    → (IsStrictlyIncreasing (lines_in trace) → IfSome old.told (λ holding. IsNotRun options holding trace.names why × IsUnwritten old new why))
+    → IfSome old.told (λ holding. IsRefused (Run options) left old new holding why)
+refused_from options None old new trace why whole refused = if_told old.told (λ holding. IsRefused (Run options) None old new holding why) (λ holding told. tt)
+refused_from options (Some input) old new trace why whole refused =
+    if_told old.told (λ holding. IsRefused (Run options) (Some input) old new holding why) (λ holding told.
+    let both = told_at old.told (λ holding. IsNotRun options holding trace.names why × IsUnwritten old new why) holding told (refused (lines_rise input trace whole)) in
     (trace, whole, both.0, both.1))
 
-pub both_told : (old new : BenchState) (names : List (List ℕ)) (why : Refusal) → IfSome old.told (λ holding. IsNotRun holding names why)
+pub both_told : (options : RunOptions) (old new : BenchState) (names : List (List ℕ)) (why : Refusal) → IfSome old.told (λ holding. IsNotRun options holding names why)
     → (¬ (why ≡ refusals.TooManyFiles) → IfSome old.told (λ holding. new.told ≡ told_after why old.told))
-    → IfSome old.told (λ holding. IsNotRun holding names why × IsUnwritten old new why)
-both_told old new names why refused unwritten =
-    if_told old.told (λ holding. IsNotRun holding names why × IsUnwritten old new why) (λ holding told. (
-      told_at old.told (λ holding. IsNotRun holding names why) holding told refused,
+    → IfSome old.told (λ holding. IsNotRun options holding names why × IsUnwritten old new why)
+both_told options old new names why refused unwritten =
+    if_told old.told (λ holding. IsNotRun options holding names why × IsUnwritten old new why) (λ holding told. (
+      told_at old.told (λ holding. IsNotRun options holding names why) holding told refused,
       λ other. told_at old.told (λ holding. new.told ≡ told_after why old.told) holding told (unwritten other),
     ))
 

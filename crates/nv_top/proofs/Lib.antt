@@ -10,6 +10,7 @@ pub mod HeadlineLemmas
 pub mod HomeLemmas
 pub mod LogRunLemmas
 pub mod NameLemmas
+pub mod NumberLemmas
 pub mod ReadingLemmas
 pub mod RowLemmas
 pub mod RunLemmas

@@ -24,7 +24,6 @@ use Rattle.nv_top.specs.Faithful.{Basis, IsLeftOpen, Sizes, barred, descriptor_f
 use Rattle.nv_top.specs.Leaving.{AreLeft}
 use Rattle.nv_header.specs.declared.region.Region.{Region}
 use Rattle.nv_top.specs.LogRuns.{HasRun, HasRunOver, IsFirst, basis_over}
-use Rattle.nv_top.specs.declared.run.TheConstants.{FILE_PAGES}
 use Rattle.nv_top.specs.Outcomes.{placed_call, placed_calls, refused_call, refused_calls, left_call, left_calls, report_of}
 use Rattle.nv_top.specs.Reports.{PlacedCall, RefusedCall, report_text}
 use Rattle.nv_top.specs.Runs.{AreMade, IsAfterAll}
@@ -162,10 +161,10 @@ module _ {L B : Type 0} (history : L → lines.History) (room : L → Room) (hel
         }
 
 -- a log over a region at rest is one that a run begins on
-pub begins : {L B : Type 0} {g : _} (history : L → lines.History) (held : B → stores.History) (region : Region L g) (log : Log L B) (files : Files)
-    → log.geometry ≡ region.geometry → log.pages ≡ FILE_PAGES → log.tail ≡ region.next → log.head ≡ region.next → Holds history held log [] files
-    → IsFirst history held (basis_over region files) log
-begins history held region log files geometry pages tail head holds =
+pub begins : {L B : Type 0} {g : _} (history : L → lines.History) (held : B → stores.History) (region : Region L g) (most : ℕ) (log : Log L B) (files : Files)
+    → log.geometry ≡ region.geometry → log.pages ≡ most → log.tail ≡ region.next → log.head ≡ region.next → Holds history held log [] files
+    → IsFirst history held (basis_over region most files) log
+begins history held region most log files geometry pages tail head holds =
     record {
       sizes_are = ap (λ (geometry : Geometry). sized geometry.page geometry.entries log.pages) geometry ∙ ap (sized region.geometry.page region.geometry.entries) pages;
       next_is = tail;

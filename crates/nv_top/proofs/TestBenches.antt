@@ -12,7 +12,7 @@ use Rattle.nv_bench.specs.MemBench.{held_by, mem_state, mem_whole, new_state}
 use Rattle.nv_bench.specs.Powered.{powered}
 use Rattle.nv_bench.specs.declared.mem_bench.MemBench.{MemBench}
 use Rattle.nv_top.specs.Commands.{IsGivenBack}
-use Rattle.nv_top.specs.Headline.{IsLeftBy}
+use Rattle.nv_top.specs.Headline.{IsLeftAfter, IsLeftBy}
 use Rattle.nv_top.specs.Stopping.{IsPoweredBack}
 use Rattle.nv_top.specs.declared.words.Command.{Command}
 use Rattle.nv_top.specs.declared.words.Command.TheVariants.{Run, Recover}
@@ -69,9 +69,12 @@ module _ (old new : BenchState) (closed : old.is_open ≡ false) (home : old.len
   either_back k (inl is) = powered_back k is
   either_back k (inr is) = given is
 
+  left_after : (stop : Option ℕ) → IsLeftAfter stop old new → IsFree old new
+  left_after None is = given is
+  left_after (Some k) is = either_back k is
+
   left : (command : Command) → IsLeftBy command old new → IsFree old new
-  left (Run None pick) is = given is
-  left (Run (Some k) pick) is = either_back k is
+  left (Run options) is = left_after options.stop is
   left Recover is = given is
 
   pub is_free : {A B : Type 0} (command : Option Command) → ((one : Command) → command ≡ Some one → IsLeftBy one old new)

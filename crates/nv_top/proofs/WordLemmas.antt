@@ -1,193 +1,141 @@
--- Words are read: numbers, what stands behind a front, and options one after another.
-use Rattle.std.proofs.Common.{◌≡◌, ℕ, ◌^◌, ◌<◌, ◌≤◌, ◌&&◌, nat_eq, nat_le, nat_lt, Bool, true, false, if◌then◌else◌, List, [], ◌∷◌, length, drop, codes, is_some, ◌==◌, Option, Some, None, IfSome, MatchOption, option_map, Bor, refl, sym, ap, subst, ◌∙◌, arith, rules}
-use Rattle.std.specs.List.{starts_with}
-use Rattle.std.specs.Str.{all_ascii_digits, IsCharBoundary}
-use Rattle.std.specs.Str.Parse.{IsNumeral, digits_value, without_leading_plus}
-use Rattle.std.specs.Str.Pattern.{FindsTextPrefix, StripsPrefix}
-use Rattle.std.proofs.lemmas.Bool.{le-leb, leb-true, ltb-true, lt-ltb}
-use Rattle.std.proofs.lemmas.Str.Parse.{IsNumeralModel, numerals_by_value}
-use Rattle.std.proofs.lemmas.Str.Pattern.{starts_text}
-use Rattle.std.specs.Option.{option_and_then, unwrap_or}
-use Rattle.nv_pmem.specs.declared.picker.Pick.{Pick}
-use Rattle.nv_pmem.specs.declared.picker.Pick.TheVariants.{Old}
-use Rattle.nv_trace.specs.Grammar.{says}
-use Rattle.nv_top.specs.Words.{is_number, number_of, largest_number, pick_of, with_stop, with_image, after_option, after_awaited, after_word, after_words, is_whole, run_of, command_of, no_options}
-use Rattle.nv_top.specs.declared.words.Awaited.{Awaited}
-use Rattle.nv_top.specs.declared.words.Awaited.TheVariants.{Nothing, Stop, Image}
+-- What command words are, and what its options say.
+use Rattle.std.proofs.Common.{◌≡◌, ◌≢◌, ◌≤◌, ◌%◌, ◌&&◌, ◌==◌, if◌then◌else◌, length, map, arith, ℕ, Bool, true, false, List, [], ◌∷◌, Option, Some, None, refl, sym, subst}
+use Rattle.std.proofs.lemmas.Bool.{and_parts, eqb-true}
+use Rattle.clap.specs.Faults.{is_free_app}
+use Rattle.std.specs.Prelude.{IfSome, String, codes, option_and_then, string_bytes, slice_index_or, option_map}
+use Rattle.std.specs.Str.{bytes_eq}
+use Rattle.std.specs.List.{list_any}
+use Rattle.clap.specs.Kinds.{Kinds}
+use Rattle.clap.specs.Words.{App, Row, built, fault_of, first_of, is_simple, is_simple_and_free, matches_of}
+use Rattle.nv_pmem.specs.Limits.{IsEntryCount, IsPageSize}
+use Rattle.nv_top.specs.Words.{AreInLimits, command_of, if_lines, image_in, is_dashes, largest_number, number_in, number_or, options_in, page_in, run_app, run_in, stop_in, unless_refused}
 use Rattle.nv_top.specs.declared.words.Command.{Command}
-use Rattle.nv_top.specs.declared.words.Command.TheVariants.{Run, Recover}
-use Rattle.nv_top.specs.declared.words.Options.{Options}
+use Rattle.nv_top.specs.declared.words.Command.TheVariants.{Recover, Run}
+use Rattle.nv_top.specs.declared.words.RunOptions.{RunOptions}
+use Rattle.nv_top.proofs.NumberLemmas.{number_between, option_between}
 
--- ---- numbers
+-- the options need nothing of `clap` but what its clauses speak of
+simple : is_simple_and_free run_app ≡ true
+unfolding run_app
+simple = refl
 
-own : IsNumeralModel (λ ds. all_ascii_digits ds ≡ true) (digits_value 10)
-own = numerals_by_value (λ ds. all_ascii_digits ds ≡ true) (search rules)
+pub run_is_free : (app : App) → app ≡ run_app → is_simple_and_free app ≡ true
+run_is_free app is =
+    let Free : App → Type 0 = λ app. is_simple_and_free app ≡ true in
+    subst Free (sym is) simple
 
-both : (a b : Bool) → a ≡ true → b ≡ true → (a && b) ≡ true
-both true b e f = f
-both false b e f = cc
+pub run_is_simple : (app : App) → app ≡ run_app → is_simple app ≡ true
+run_is_simple app is = (and_parts (is_simple app) (is_free_app (built app)) (run_is_free app is)).0
 
-value_of : List ℕ → ℕ
-value_of word = digits_value 10 (without_leading_plus word)
+-- none, where one of the words is `--`
+pub none_dashes : (words : List (List ℕ)) → list_any is_dashes words ≡ true → run_in words ≡ None
+none_dashes words dashes = rw dashes refl
 
--- what Rust reads as a number is one
-numeral_is_number : (word : List ℕ) → IsNumeral 10 (without_leading_plus word) → is_number word ≡ true
-numeral_is_number word numeral =
-    both (nat_lt 0 (length (without_leading_plus word))) (all_ascii_digits (without_leading_plus word)) (lt-ltb 0 (length (without_leading_plus word)) numeral.0)
-    (own.from (without_leading_plus word) numeral.1)
+-- none, where `clap` refuses them
+pub none_refused : (words : List (List ℕ)) → fault_of run_app words ≢ [] → run_in words ≡ None
+none_refused words refused = by_faults (fault_of run_app words) refl where
+  by_faults : (faults : _) → fault_of run_app words ≡ faults → run_in words ≡ None
+  by_faults [] is = absurd (refused is)
+  by_faults (first ∷ rest) is = by_dashes (list_any is_dashes words) refl where
+    by_dashes : (dashes : Bool) → list_any is_dashes words ≡ dashes → run_in words ≡ None
+    by_dashes true dashes = rw dashes refl
+    by_dashes false dashes = rw (dashes, is) refl
 
-no_number : (test low high : Bool) (number : ℕ) → (test ≡ true → low ≡ true → high ≡ true → ⊥) → None ≡ (if test && low && high then Some number else None)
-no_number true true true number never = absurd (never refl refl refl)
-no_number true true false number never = refl
-no_number true false high number never = refl
-no_number false low high number never = refl
+-- and else what their options say
+pub taken : (words : List (List ℕ)) (rows : List Row) → list_any is_dashes words ≡ false → fault_of run_app words ≡ [] → rows ≡ matches_of run_app words
+    → run_in words ≡ option_map Run (options_in rows)
+taken words rows dashes none same = rw (dashes, none, same) refl
 
-some_number : (test low high : Bool) (number : ℕ) → test ≡ true → low ≡ true → high ≡ true → Some number ≡ (if test && low && high then Some number else None)
-some_number true true true number e f g = refl
-some_number true true false number e f g = cc
-some_number true false high number e f g = cc
-some_number false low high number e f g = cc
+-- words of which the first is `run` are a run
+pub first_run : {Z : Type 0} (words : List (String Z)) (none : String Z) → 1 ≤ length words → bytes_eq (string_bytes (slice_index_or words 0 none)) (codes "run") ≡ true
+    → command_of (map string_bytes words) ≡ run_in (map string_bytes words)
+unfolding command_of
+first_run [] none some is = absurd (omega arith)
+first_run (first ∷ rest) none some is = rw is refl
 
--- the number that was read is in the range
-pub number_in_range : (least : ℕ) (word : List ℕ) (number : ℕ) → IsNumeral 10 (without_leading_plus word) → number ≡ digits_value 10 (without_leading_plus word) → least ≤ number → number ≤ largest_number
-    → Some number ≡ number_of least word
-unfolding number_of value_of
-number_in_range least word number numeral value low high =
-    subst (λ n. Some n ≡ (if is_number word && nat_le least (value_of word) && nat_le (value_of word) largest_number then Some (value_of word) else None)) (sym value)
-    (some_number (is_number word) (nat_le least (value_of word)) (nat_le (value_of word) largest_number) (value_of word) (numeral_is_number word numeral)
-    (le-leb least (value_of word) (omega (arith, value, low))) (le-leb (value_of word) largest_number (omega (arith, value, high))))
+-- ---- what a run's options are
 
--- or it isn't
-pub number_out_of_range : (least : ℕ) (word : List ℕ) (number : ℕ) → number ≡ digits_value 10 (without_leading_plus word) → (least ≤ number → number ≤ largest_number → ⊥)
-    → None ≡ number_of least word
-unfolding number_of value_of
-number_out_of_range least word number value never =
-    no_number (is_number word) (nat_le least (value_of word)) (nat_le (value_of word) largest_number) (value_of word)
-    (λ test low high. never (omega (arith, value, leb-true least (value_of word) low)) (omega (arith, value, leb-true (value_of word) largest_number high)))
+-- what stands in an option, where what is made of it is there
+pub and_then_some : {X Y : Type 0} (f : X → Option Y) (one : Option X) (y : Y) → option_and_then f one ≡ Some y → (x : X) × (one ≡ Some x) × (f x ≡ Some y)
+and_then_some f None y is = cc
+and_then_some f (Some x) y is = (x, refl, is)
 
--- what isn't read as a number is none in the range
-pub no_number_in_range : (least : ℕ) (word : List ℕ) → ¬ (IsNumeral 10 (without_leading_plus word) × (digits_value 10 (without_leading_plus word) < 2 ^ 64)) → None ≡ number_of least word
-unfolding number_of value_of
-no_number_in_range least word unread =
-    no_number (is_number word) (nat_le least (value_of word)) (nat_le (value_of word) largest_number) (value_of word)
-    (λ test low high.
-    let parts = test_parts (nat_lt 0 (length (without_leading_plus word))) (all_ascii_digits (without_leading_plus word)) test in
-    unread ((ltb-true 0 (length (without_leading_plus word)) parts.0, own.to (without_leading_plus word) parts.1), omega (arith, leb-true (value_of word) largest_number high)))
-  where
-    test_parts : (a b : Bool) → (a && b) ≡ true → (a ≡ true) × (b ≡ true)
-    test_parts true b e = (refl, e)
-    test_parts false b e = cc
+map_some : {X Y : Type 0} (f : X → Y) (one : Option X) (y : Y) → option_map f one ≡ Some y → (x : X) × (one ≡ Some x) × (f x ≡ y)
+map_some f None y is = cc
+map_some f (Some x) y is = (x, refl, cc)
 
--- ---- what stands behind a front
+lines_of : (found page : ℕ) → 64 ≤ found → found ≤ 4096 → if_lines found ≡ Some page → IsPageSize page
+lines_of found page low high is = by_test (found % 64 == 0) refl is where
+  by_test : (test : Bool) → (found % 64 == 0) ≡ test → (if test then Some found else None) ≡ Some page → IsPageSize page
+  by_test true whole is =
+      let same : found ≡ page = cc in
+      subst IsPageSize same (record { least = low; most = high; whole_lines = eqb-true (found % 64) 0 whole })
+  by_test false whole is = cc
 
-pub behind_front : (front word : List ℕ) (result : Option (Bor (List ℕ))) → MatchOption result (FindsTextPrefix front word None) (λ x. StripsPrefix (FindsTextPrefix front) word x.now)
-    → option_map (λ value. value.now) result ≡ (if starts_with nat_eq word front then Some (drop (length front) word) else None)
-behind_front front word None lacks =
-    ap (λ test. if test then Some (drop (length front) word) else None) (starts_text false front word lacks)
-behind_front front word (Some value) strips =
-    let found = strips.1 in
-    let starts = starts_text true front word (strips.0, found, subst (IsCharBoundary word) (sym found.0) found.2) in
-    ap Some (strips.2 ∙ ap (λ n. drop n word) found.0)
-    ∙ ap (λ test. if test then Some (drop (length front) word) else None) starts
+page_allowed : (rows : List Row) (page : ℕ) → page_in rows ≡ Some page → IsPageSize page
+page_allowed rows page is =
+    let found = and_then_some if_lines (number_or 64 64 4096 (first_of (codes "page") rows)) page is in
+    let between = option_between 64 64 4096 (first_of (codes "page") rows) found.0 (omega arith) (omega arith) found.1 in
+    lines_of found.0 page between.0 between.1 found.2
 
--- ---- options
+entries_allowed : (value : Option (List ℕ)) (entries : ℕ) → number_or 16 2 1024 value ≡ Some entries → IsEntryCount entries
+entries_allowed value entries is =
+    let between = option_between 16 2 1024 value entries (omega arith) (omega arith) is in
+    record { least = between.0; most = between.1 }
 
--- after a word that says nothing, nothing is said
-pub after_none : (words : List (List ℕ)) → after_words None words ≡ None
-unfolding after_words
-after_none [] = refl
-after_none (word ∷ words) = after_none words
+stop_counts : (value : Option (List ℕ)) (stop : Option ℕ) → stop_in value ≡ Some stop → IfSome stop (λ k. 1 ≤ k)
+stop_counts None None is = tt
+stop_counts None (Some k) is = cc
+stop_counts (Some text) stop is =
+    let found = map_some Some (number_in 1 largest_number text) stop is in
+    let Counts : Option ℕ → Type 0 = λ stop. IfSome stop (λ k. 1 ≤ k) in
+    subst Counts found.2 (number_between 1 largest_number text found.0 found.1).0
 
--- the first of some words
-pub after_next : (options : Options) (word : List ℕ) (words : List (List ℕ)) → after_words (Some options) (word ∷ words) ≡ after_words (after_word word options) words
-unfolding after_words
-after_next options word words = refl
+options_allowed : (rows : List Row) (options : RunOptions) → options_in rows ≡ Some options → AreInLimits options × IfSome options.stop (λ k. 1 ≤ k)
+options_allowed rows options is =
+    let page = and_then_some _ (page_in rows) options is in
+    let entries = and_then_some _ (number_or 16 2 1024 (first_of (codes "entries") rows)) options page.2 in
+    let cache = and_then_some _ (number_or 4 1 16384 (first_of (codes "cache") rows)) options entries.2 in
+    let batch = and_then_some _ (number_or 4 1 1024 (first_of (codes "batch") rows)) options cache.2 in
+    let pages = and_then_some _ (number_or 64 1 1024 (first_of (codes "pages") rows)) options batch.2 in
+    let stop = and_then_some _ (stop_in (first_of (codes "stop") rows)) options pages.2 in
+    let image = map_some _ (image_in (first_of (codes "image") rows)) options stop.2 in
+    let files = option_between 64 1 1024 (first_of (codes "pages") rows) pages.0 (omega arith) (omega arith) pages.1 in
+    let Allowed : RunOptions → Type 0 = λ options. AreInLimits options × IfSome options.stop (λ k. 1 ≤ k) in
+    subst Allowed image.2 (
+      record {
+        page = page_allowed rows page.0 page.1;
+        entries = entries_allowed (first_of (codes "entries") rows) entries.0 entries.1;
+        some_pages = files.0;
+        few_pages = files.1;
+      },
+      stop_counts (first_of (codes "stop") rows) stop.0 stop.1,
+    )
 
--- ---- numbers of device calls
+run_said : (dashes : Bool) (faults : Kinds) (found : Option RunOptions) (options : RunOptions) → (if dashes then None else unless_refused faults (option_map Run found)) ≡ Some (Run options)
+    → found ≡ Some options
+run_said true faults found options is = cc
+run_said false (first ∷ rest) found options is = cc
+run_said false [] None options is = cc
+run_said false [] (Some one) options is = cc
 
-abbrev pub Counted : Options → Type 0
-Counted options = IfSome options.stop (λ k. 1 ≤ k)
+is_run : (run recover : Bool) (said : Option Command) (options : RunOptions) → (if run then said else if recover then Some Recover else None) ≡ Some (Run options) → said ≡ Some (Run options)
+is_run true recover said options is = is
+is_run false true said options is = cc
+is_run false false said options is = cc
 
-low_of : (test low high : Bool) (number found : ℕ) → (if test && low && high then Some number else None) ≡ Some found → (low ≡ true) × (number ≡ found)
-low_of true true true number found is = (refl, cc)
-low_of true true false number found is = cc
-low_of true false high number found is = cc
-low_of false low high number found is = cc
+run_allowed : (words : List (List ℕ)) (options : RunOptions) → command_of words ≡ Some (Run options) → AreInLimits options × IfSome options.stop (λ k. 1 ≤ k)
+unfolding command_of
+run_allowed [] options is = cc
+run_allowed (word ∷ words) options is =
+    options_allowed (matches_of run_app (word ∷ words)) options
+    (run_said (list_any is_dashes (word ∷ words)) (fault_of run_app (word ∷ words)) (options_in (matches_of run_app (word ∷ words))) options
+    (is_run (bytes_eq word (codes "run")) (bytes_eq word (codes "recover") && length words == 0) (run_in (word ∷ words)) options is))
 
-number_least : (least : ℕ) (word : List ℕ) (found : ℕ) → number_of least word ≡ Some found → least ≤ found
-unfolding number_of value_of
-number_least least word found is =
-    let low = low_of (is_number word) (nat_le least (value_of word)) (nat_le (value_of word) largest_number) (value_of word) found is in
-    omega (arith, leb-true least (value_of word) low.0, low.1)
-
-either_counts : (test : Bool) (one other : Option Options) → IfSome one Counted → IfSome other Counted → IfSome (if test then one else other) Counted
-either_counts true one other a b = a
-either_counts false one other a b = b
-
-stop_counts : (found : Option ℕ) (options : Options) → ((k : ℕ) → found ≡ Some k → 1 ≤ k) → IfSome (option_map (λ k. record options { stop = Some k; awaited = Nothing }) found) Counted
-stop_counts None options low = tt
-stop_counts (Some k) options low = low k refl
-
-with_stop_counts : (value : List ℕ) (options : Options) → IfSome (with_stop value options) Counted
-unfolding with_stop
-with_stop_counts value options =
-    either_counts (is_some options.stop) None (option_map (λ k. record options { stop = Some k; awaited = Nothing }) (number_of 1 value)) tt
-    (stop_counts (number_of 1 value) options (number_least 1 value))
-
-image_counts : (found : Option Pick) (options : Options) → Counted options → IfSome (option_map (λ pick. record options { image = Some pick; awaited = Nothing }) found) Counted
-image_counts None options counted = tt
-image_counts (Some pick) options counted = counted
-
-with_image_counts : (value : List ℕ) (options : Options) → Counted options → IfSome (with_image value options) Counted
-unfolding with_image
-with_image_counts value options counted =
-    either_counts (is_some options.image) None (option_map (λ pick. record options { image = Some pick; awaited = Nothing }) (pick_of value)) tt
-    (image_counts (pick_of value) options counted)
-
-option_counts : (word : List ℕ) (options : Options) → Counted options → IfSome (after_option word options) Counted
-unfolding after_option
-option_counts word options counted =
-    either_counts (says word (codes "--noworker")) (if options.noworker then None else Some (record options { noworker = true })) _
-    (either_counts options.noworker None (Some (record options { noworker = true })) tt counted)
-    (either_counts (says word (codes "--stop")) (Some (record options { awaited = Stop })) _ counted
-    (either_counts (says word (codes "--image")) (Some (record options { awaited = Image })) _ counted
-    (either_counts (starts_with nat_eq word (codes "--stop=")) (with_stop (drop 7 word) options) _ (with_stop_counts (drop 7 word) options)
-    (either_counts (starts_with nat_eq word (codes "--image=")) (with_image (drop 8 word) options) None (with_image_counts (drop 8 word) options counted) tt))))
-
-awaited_counts : (awaited : Awaited) (word : List ℕ) (options : Options) → Counted options → IfSome (after_awaited awaited word options) Counted
-awaited_counts Nothing word options counted = option_counts word options counted
-awaited_counts Stop word options counted = with_stop_counts word options
-awaited_counts Image word options counted = with_image_counts word options counted
-
-word_counts : (word : List ℕ) (said : Option Options) → IfSome said Counted → IfSome (option_and_then (after_word word) said) Counted
-word_counts word None counted = tt
-word_counts word (Some options) counted = awaited_counts options.awaited word options counted
-
-words_count : (words : List (List ℕ)) (said : Option Options) → IfSome said Counted → IfSome (after_words said words) Counted
-unfolding after_words
-words_count [] said counted = counted
-words_count (word ∷ words) said counted = words_count words (option_and_then (after_word word) said) (word_counts word said counted)
-
-run_said : (test : Bool) (stop : Option ℕ) (image pick : Pick) (k : ℕ) → (if test then Some (Run stop image) else None) ≡ Some (Run (Some k) pick) → stop ≡ Some k
-run_said true stop image pick k is = cc
-run_said false stop image pick k is = cc
-
-run_counts : (said : Option Options) (k : ℕ) (pick : Pick) → IfSome said Counted → run_of said ≡ Some (Run (Some k) pick) → 1 ≤ k
-run_counts None k pick counted is = cc
-run_counts (Some options) k pick counted is =
-    let stop = run_said (options.noworker && is_whole options.awaited) options.stop (unwrap_or options.image Old) pick k is in
-    let From : Option ℕ → Type 0 = λ stop. IfSome stop (λ k. 1 ≤ k) in
-    subst From stop counted
-
-is_run : (run recover : Bool) (said : Option Command) (stop : Option ℕ) (pick : Pick) → (if run then said else if recover then Some Recover else None) ≡ Some (Run stop pick) → said ≡ Some (Run stop pick)
-is_run true recover said stop pick is = is
-is_run false true said stop pick is = cc
-is_run false false said stop pick is = cc
+-- the sizes of a run are within their limits
+pub run_in_limits : (words : List (List ℕ)) (options : RunOptions) → command_of words ≡ Some (Run options) → AreInLimits options
+run_in_limits words options is = (run_allowed words options is).0
 
 -- a run that words stop is stopped at a device call from the first one on
-pub stop_from_one : (words : List (List ℕ)) (k : ℕ) (pick : Pick) → command_of words ≡ Some (Run (Some k) pick) → 1 ≤ k
-unfolding command_of
-stop_from_one [] k pick is = cc
-stop_from_one (word ∷ words) k pick is =
-    run_counts (after_words (Some no_options) words) k pick (words_count words (Some no_options) tt)
-    (is_run (says word (codes "run")) (says word (codes "recover") && length words == 0) (run_of (after_words (Some no_options) words)) (Some k) pick is)
+pub stop_from_one : (words : List (List ℕ)) (options : RunOptions) → command_of words ≡ Some (Run options) → IfSome options.stop (λ k. 1 ≤ k)
+stop_from_one words options is = (run_allowed words options is).1

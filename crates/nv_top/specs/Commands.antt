@@ -18,7 +18,7 @@ use Rattle.nv_top.specs.Faithful.{Basis, IsFaithful, files_shown, named}
 use Rattle.nv_top.specs.Leaving.{Leaves}
 use Rattle.nv_top.specs.Readings.{HavePlainNames}
 use Rattle.nv_top.specs.Reports.{RecoveryReport, Report, recovery_text, report_text}
-use Rattle.nv_top.specs.declared.run.TheConstants.{ENTRIES, FILE_PAGES, PAGE}
+use Rattle.nv_top.specs.declared.words.RunOptions.{RunOptions}
 
 -- the bench is as it was, but for what it holds and its count of faults
 abbrev pub IsGivenBack : (old new : BenchState) → Type 0
@@ -26,29 +26,29 @@ IsGivenBack old new = new ≡ record old { told = new.told; faults = new.faults 
 
 -- ---- a run
 
--- What a run begins with, on a bench that held this: the region as it stood there, or a blank one formatted, with its own names and
--- behind them the new ones of the trace; the files that it stood for, and behind them what the stores of the new names held.
-pub record IsBasis (holding : Holding) (wanted : List (List ℕ)) (basis : Basis) : Type 0 where
+-- What a run begins with, on a bench that held this: the region as it stood there, or a blank one formatted with the sizes asked for, with its own
+-- names and behind them the new ones of the trace; the files that it stood for, and behind them what the stores of the new names held.
+pub record IsBasis (options : RunOptions) (holding : Holding) (wanted : List (List ℕ)) (basis : Basis) : Type 0 where
   pub geometry : Geometry
-  pub page_is : geometry.page ≡ PAGE
-  pub entries_are : geometry.entries ≡ ENTRIES
+  pub page_is : geometry.page ≡ options.page
+  pub entries_are : geometry.entries ≡ options.entries
   pub known : List (List ℕ)
   pub begun : IsBegun holding.parts geometry basis.sizes.page basis.sizes.entries known basis.next
-  pub pages_are : basis.sizes.pages ≡ FILE_PAGES
+  pub pages_are : basis.sizes.pages ≡ options.pages
   pub names_are : basis.names ≡ all_names known wanted
   pub files_are : basis.files ≡ files_with holding.parts known wanted holding.stores
 
 -- why a run is not made on a bench that held this: its region is refused, or would have too many files
-pub record IsNotRun (holding : Holding) (wanted : List (List ℕ)) (why : Refusal) : Type 0 where
+pub record IsNotRun (options : RunOptions) (holding : Holding) (wanted : List (List ℕ)) (why : Refusal) : Type 0 where
   pub geometry : Geometry
-  pub page_is : geometry.page ≡ PAGE
-  pub entries_are : geometry.entries ≡ ENTRIES
+  pub page_is : geometry.page ≡ options.page
+  pub entries_are : geometry.entries ≡ options.entries
   pub not_opened : IsNotOpened holding.parts geometry wanted why
 
 -- The text is that of a faithful report of a run of the trace, and the bench is left with the files that it shows.
-pub record HasRunOn (holding : Holding) (told : Option Holding) (trace : Traced) (text : List ℕ) : Type 0 where
+pub record HasRunOn (options : RunOptions) (holding : Holding) (told : Option Holding) (trace : Traced) (text : List ℕ) : Type 0 where
   pub basis : Basis
-  pub begun : IsBasis holding trace.names basis
+  pub begun : IsBasis options holding trace.names basis
   pub report : Report
   pub faithful : IsFaithful ⊥ basis trace report
   pub plain : HavePlainNames report.files

@@ -1,5 +1,5 @@
 -- The top call: what each command makes of a bench, and what it shows.
-use Rattle.std.specs.Prelude.{◌≡◌, ◌⊎◌, ℕ, Bool, List, if◌then◌else◌, Option, Some, None, IfSome, max}
+use Rattle.std.specs.Prelude.{◌≡◌, ◌⊎◌, ℕ, Bool, List, [], ◌∷◌, All, true, false, if◌then◌else◌, Option, Some, None, IfSome, max}
 use Rattle.std.specs.Option.{option_and_then}
 use Rattle.nv_plain.specs.Faults.{Rose}
 use Rattle.nv_bench.specs.Benches.{BenchState}
@@ -16,21 +16,30 @@ use Rattle.nv_top.specs.Stopping.{HasStoppedOn, IsPoweredBack}
 use Rattle.nv_top.specs.Words.{command_of}
 use Rattle.nv_top.specs.declared.words.Command.{Command}
 use Rattle.nv_top.specs.declared.words.Command.TheVariants.{Run, Recover}
+use Rattle.nv_top.specs.declared.words.RunOptions.{RunOptions}
 
--- A command, where a bench can follow it: one whose devices can't be armed and powered off doesn't stop a run.
+-- a bench may stop a run, if it is to be stopped: only one whose devices can be armed and powered off does
+abbrev pub may_stop : (images : Bool) → (stop : Option ℕ) → Bool
+may_stop images None = true
+may_stop images (Some k) = images
+
+-- a command, where a bench can follow it
 abbrev pub possible : (images : Bool) → Command → Option Command
-possible images (Run None pick) = Some (Run None pick)
-possible images (Run (Some k) pick) = if images then Some (Run (Some k) pick) else None
+possible images (Run options) = if may_stop images options.stop then Some (Run options) else None
 possible images Recover = Some Recover
 
 -- the command that words are over such a bench
 abbrev pub command_over : (images : Bool) → List (List ℕ) → Option Command
 command_over images words = option_and_then (possible images) (command_of words)
 
--- How a command leaves a bench: all that was lent is back; a stop armed it once more, unless the log wasn't opened.
+-- how a run leaves a bench: all that was lent is back; a stop armed it once more, unless the log wasn't opened
+abbrev pub IsLeftAfter : (stop : Option ℕ) → (old new : BenchState) → Type 0
+IsLeftAfter None old new = IsGivenBack old new
+IsLeftAfter (Some k) old new = IsPoweredBack k old new ⊎ IsGivenBack old new
+
+-- how a command leaves it
 abbrev pub IsLeftBy : Command → (old new : BenchState) → Type 0
-IsLeftBy (Run None pick) old new = IsGivenBack old new
-IsLeftBy (Run (Some k) pick) old new = IsPoweredBack k old new ⊎ IsGivenBack old new
+IsLeftBy (Run options) old new = IsLeftAfter options.stop old new
 IsLeftBy Recover old new = IsGivenBack old new
 
 -- the count of faults that a fault's status stands above: that at entry, and that when power went off
@@ -38,20 +47,21 @@ abbrev pub expected_faults : (old new : BenchState) → ℕ
 expected_faults old new = max old.faults new.settled
 
 -- The text is that of a faithful report of a run of the trace that was stopped, on a bench that held this and tells that now.
-pub record HasStopped (failed : Type 0) (holding : Holding) (told : Option Holding) (trace : Traced) (text : List ℕ) : Type 0 where
+pub record HasStopped (failed : Type 0) (options : RunOptions) (holding : Holding) (told : Option Holding) (trace : Traced) (text : List ℕ) : Type 0 where
   pub basis : Basis
-  pub begun : IsBasis holding trace.names basis
+  pub begun : IsBasis options holding trace.names basis
   pub stopped : HasStoppedOn failed basis trace told text
 
 -- what the report of a run of a trace, stopped or not, shows of a bench that held this
-abbrev pub IsShownOf : (stop : Option ℕ) → (old new : BenchState) → Holding → Traced → (text : List ℕ) → Type 0
-IsShownOf None old new holding trace text = HasRunOn holding new.told trace text
-IsShownOf (Some k) old new holding trace text = HasStopped (Rose old.faults new.faults) holding new.told trace text
+abbrev pub IsShownOf : (stop : Option ℕ) → RunOptions → (old new : BenchState) → Holding → Traced → (text : List ℕ) → Type 0
+IsShownOf None options old new holding trace text = HasRunOn options holding new.told trace text
+IsShownOf (Some k) options old new holding trace text = HasStopped (Rose old.faults new.faults) options holding new.told trace text
+
 
 -- what the report of a command shows of a bench that held this, and of the input that it had
 abbrev pub IsShown : Command → (input : Option (List ℕ)) → (old new : BenchState) → Holding → (text : List ℕ) → Type 0
-IsShown (Run stop pick) input old new holding text =
-    IfSome input (λ input. (trace : Traced) × (ending_of input ≡ Whole trace) × IsShownOf stop old new holding trace text)
+IsShown (Run options) input old new holding text =
+    IfSome input (λ input. (trace : Traced) × (ending_of input ≡ Whole trace) × IsShownOf options.stop options old new holding trace text)
 IsShown Recover input old new holding text = HasRecovered holding new.told text
 
 -- A region that was refused is as it was, unless it was refused for its files.
@@ -60,6 +70,6 @@ IsUnwritten old new why = ¬ (why ≡ refusals.TooManyFiles) → new.told ≡ to
 
 -- why a command is refused by the region of a bench that held this, and what it leaves of it
 abbrev pub IsRefused : Command → (input : Option (List ℕ)) → (old new : BenchState) → Holding → Refusal → Type 0
-IsRefused (Run stop pick) input old new holding why =
-    IfSome input (λ input. (trace : Traced) × (ending_of input ≡ Whole trace) × IsNotRun holding trace.names why × IsUnwritten old new why)
+IsRefused (Run options) input old new holding why =
+    IfSome input (λ input. (trace : Traced) × (ending_of input ≡ Whole trace) × IsNotRun options holding trace.names why × IsUnwritten old new why)
 IsRefused Recover input old new holding why = IsRefusedFor holding.parts why × IsUnwritten old new why

@@ -17,7 +17,6 @@ use Rattle.nv_top.specs.Reports.{Report, report_text}
 use Rattle.nv_top.specs.Outcomes.{placed_calls, refused_calls, left_calls}
 use Rattle.nv_top.specs.Runs.{AreMade}
 use Rattle.nv_top.specs.declared.outcome.Outcome.{Outcome}
-use Rattle.nv_top.specs.declared.run.TheConstants.{FILE_PAGES}
 
 -- A run from this basis begins on a log: it has these sizes, begins with this number, and has no piece over these files.
 pub record IsFirst {L B : Type 0} (history : L → lines.History) (held : B → stores.History) (basis : Basis) (log : Log L B) : Type 0 where
@@ -39,10 +38,10 @@ pub record HasRun {L B : Type 0} (history : L → lines.History) (held : B → s
 abbrev pub lines_in : Traced → List ℕ
 lines_in trace = map (λ traced. traced.line) trace.calls
 
--- the basis that a region is, with these files
-abbrev pub basis_over : {L : Type 0} {g : _} → Region L g → Files → Basis
-basis_over region files = record {
-  sizes = record { page = region.geometry.page; entries = region.geometry.entries; pages = FILE_PAGES };
+-- the basis that a region is, with files of so many pages, and with these
+abbrev pub basis_over : {L : Type 0} {g : _} → Region L g → (pages : ℕ) → Files → Basis
+basis_over region pages files = record {
+  sizes = record { page = region.geometry.page; entries = region.geometry.entries; pages = pages };
   names = region.names;
   files = files;
   next = region.next;

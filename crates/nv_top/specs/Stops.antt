@@ -11,6 +11,8 @@ use Rattle.nv_open.specs.declared.error.OpenError.TheVariants as open_errors
 use Rattle.nv_trace.specs.Reading.{ending_of, Bad, Long}
 use Rattle.nv_trace.specs.declared.reader.ReadError.{ReadError}
 use Rattle.nv_trace.specs.declared.reader.ReadError.TheVariants as read_errors
+use Rattle.nv_top.specs.declared.words.WordsError.{WordsError}
+use Rattle.nv_top.specs.declared.words.WordsError.TheVariants as words_errors
 use Rattle.nv_top.specs.declared.ending.Stop.{Stop}
 use Rattle.nv_top.specs.declared.ending.Stop.TheVariants.{Usage, BadLine, InputLong, Read, Device, Region, NoMemory}
 use Rattle.nv_top.specs.declared.ending.TheConstants.{USAGE, BAD_INPUT, READ_FAULT, WRITE_FAULT, DEVICE_FAULT, NO_MEMORY, BAD_REGION}
@@ -33,6 +35,11 @@ stop_line Read = read_line
 stop_line Device = device_line
 stop_line (Region refusal) = region_line refusal
 stop_line NoMemory = memory_line
+
+-- why words that are no command stop the program
+abbrev pub stop_of_words : WordsError → Stop
+stop_of_words words_errors.Usage = Usage
+stop_of_words words_errors.NoMemory = NoMemory
 
 -- why an input that gave no trace stops the program
 abbrev pub stop_of_read : ReadError → Stop

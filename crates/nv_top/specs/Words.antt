@@ -1,98 +1,119 @@
 -- Words: which words are which command.
-use Rattle.std.specs.Prelude.{ℕ, ◌-◌, ◌^◌, ◌==◌, ◌&&◌, nat_eq, nat_le, nat_lt, Bool, true, false, if◌then◌else◌, List, [], ◌∷◌, codes, length, drop, fold, is_some, option_map, Option, Some, None}
-use Rattle.std.specs.List.{starts_with}
-use Rattle.std.specs.Option.{option_and_then, unwrap_or}
-use Rattle.std.specs.Str.{all_ascii_digits}
+use Rattle.std.specs.Prelude.{ℕ, ◌≤◌, ◌-◌, ◌^◌, ◌%◌, Bool, ◌&&◌, ◌==◌, fold, length, if◌then◌else◌, List, [], ◌∷◌, Option, Some, None, option_map, option_and_then, codes, true}
+use Rattle.std.specs.List.{list_any}
+use Rattle.std.specs.Str.{bytes_eq}
 use Rattle.std.specs.Str.Parse.{digits_value, without_leading_plus}
+use Rattle.clap.specs.ValueTests.{is_unsigned_in}
+use Rattle.clap.specs.Kinds.{Kinds}
+use Rattle.clap.specs.Words.{App, Row, Rule, fault_of, first_of, matches_of, new_app, new_rule, with_rule}
+use Rattle.clap.specs.declared.builder.action.ArgAction.TheVariants.{SetTrue}
+use Rattle.nv_plain.specs.Layouts.{version_1}
+use Rattle.nv_pmem.specs.Limits.{IsEntryCount, IsPageSize}
 use Rattle.nv_pmem.specs.declared.picker.Pick.{Pick}
 use Rattle.nv_pmem.specs.declared.picker.Pick.TheVariants.{Old, New, Torn, Seed}
-use Rattle.nv_trace.specs.Grammar.{says}
-use Rattle.nv_top.specs.declared.words.Awaited.{Awaited}
-use Rattle.nv_top.specs.declared.words.Awaited.TheVariants.{Nothing, Stop, Image}
 use Rattle.nv_top.specs.declared.words.Command.{Command}
 use Rattle.nv_top.specs.declared.words.Command.TheVariants.{Run, Recover}
-use Rattle.nv_top.specs.declared.words.Options.{Options}
+use Rattle.nv_top.specs.declared.words.RunOptions.{RunOptions}
+
+-- ---- the options of a run, as `clap` reads them
+
+-- `--noworker`, which has no value, and is needed
+abbrev pub noworker_rule : Rule
+noworker_rule = record (new_rule (codes "noworker")) { long = Some (codes "noworker"); action = Some SetTrue; required = true }
+
+-- an option with a value, as `--stop 3` or `--stop=3`
+abbrev pub option_rule : List ℕ → Rule
+option_rule name = record (new_rule name) { long = Some name }
+
+-- the options with a value
+abbrev pub option_names : List (List ℕ)
+option_names = codes "page" ∷ codes "entries" ∷ codes "cache" ∷ codes "batch" ∷ codes "pages" ∷ codes "stop" ∷ codes "image" ∷ []
+
+-- `run` with these, each at most once, and no `--help`
+unfoldable pub run_app : App
+run_app =
+    let app = fold (λ app name. with_rule app (option_rule name)) (with_rule (new_app (codes "run")) noworker_rule) option_names in
+    record { top = record app.top { disable_help_flag = true }; subs = app.subs }
+
+-- ---- their values
 
 -- the greatest number behind `--stop` and `--image`
 abbrev pub largest_number : ℕ
 largest_number = 2 ^ 32 - 1
 
--- a word that Rust reads as an unsigned number: digits, maybe behind a plus
-abbrev pub is_number : List ℕ → Bool
-is_number word = nat_lt 0 (length (without_leading_plus word)) && all_ascii_digits (without_leading_plus word)
+-- a number from the least to the most, as Rust reads a u64: digits, and maybe a plus before them
+abbrev pub number_in : (least most : ℕ) → List ℕ → Option ℕ
+number_in least most text = if is_unsigned_in least most text then Some (digits_value 10 (without_leading_plus text)) else None
 
--- the number that a word is, where it is one from the least to the greatest
-unfoldable pub number_of : (least : ℕ) → List ℕ → Option ℕ
-number_of least word =
-    let number = digits_value 10 (without_leading_plus word) in
-    if is_number word && nat_le least number && nat_le number largest_number then Some number else None
+-- such a number, or the usual one where its option isn't there
+abbrev pub number_or : (usual least most : ℕ) → Option (List ℕ) → Option ℕ
+number_or usual least most None = Some usual
+number_or usual least most (Some text) = number_in least most text
 
--- the pick that a word stands for: `old`, `new`, `torn`, or a number
-unfoldable pub pick_of : List ℕ → Option Pick
-pick_of word =
-    if says word (codes "old") then Some Old
-    else if says word (codes "new") then Some New
-    else if says word (codes "torn") then Some Torn
-    else option_map Seed (number_of 0 word)
+-- whole lines of 64 bytes
+abbrev pub if_lines : ℕ → Option ℕ
+if_lines page = if page % 64 == 0 then Some page else None
 
--- what no word of a run has said
-abbrev pub no_options : Options
-no_options = record { noworker = false; stop = None; image = None; awaited = Nothing }
+-- bytes of a page
+abbrev pub page_in : List Row → Option ℕ
+page_in rows = option_and_then if_lines (number_or 64 64 4096 (first_of (codes "page") rows))
 
--- the options with the device call to stop at, where none was said yet
-unfoldable pub with_stop : List ℕ → Options → Option Options
-with_stop value options =
-    if is_some options.stop then None
-    else option_map (λ k. record options { stop = Some k; awaited = Nothing }) (number_of 1 value)
+-- which device call a run is stopped at, if at all
+abbrev pub stop_in : Option (List ℕ) → Option (Option ℕ)
+stop_in None = Some None
+stop_in (Some text) = option_map Some (number_in 1 largest_number text)
 
--- the options with a pick, where none was said yet
-unfoldable pub with_image : List ℕ → Options → Option Options
-with_image value options =
-    if is_some options.image then None
-    else option_map (λ pick. record options { image = Some pick; awaited = Nothing }) (pick_of value)
+-- the image that an option names: `old`, `new`, `torn`, or a number; the old one where the option isn't there
+abbrev pub image_in : Option (List ℕ) → Option Pick
+image_in None = Some Old
+image_in (Some text) =
+    if bytes_eq text (codes "old") then Some Old
+    else if bytes_eq text (codes "new") then Some New
+    else if bytes_eq text (codes "torn") then Some Torn
+    else option_map Seed (number_in 0 largest_number text)
 
--- the options after a word that is no value: `--noworker`, where it wasn't said yet, or `--stop` or `--image`, whose value is the
--- next word, or stands in the same one behind a `=`
-unfoldable pub after_option : List ℕ → Options → Option Options
-after_option word options =
-    if says word (codes "--noworker") then if options.noworker then None else Some (record options { noworker = true })
-    else if says word (codes "--stop") then Some (record options { awaited = Stop })
-    else if says word (codes "--image") then Some (record options { awaited = Image })
-    else if starts_with nat_eq word (codes "--stop=") then with_stop (drop 7 word) options
-    else if starts_with nat_eq word (codes "--image=") then with_image (drop 8 word) options
-    else None
+-- what all options say
+abbrev pub options_in : List Row → Option RunOptions
+options_in rows =
+    option_and_then (λ page. option_and_then (λ entries. option_and_then (λ cache. option_and_then (λ batch. option_and_then (λ pages.
+    option_and_then (λ stop. option_map (λ image.
+    record { page = page; entries = entries; cache = cache; batch = batch; pages = pages; stop = stop; image = image })
+    (image_in (first_of (codes "image") rows)))
+    (stop_in (first_of (codes "stop") rows)))
+    (number_or 64 1 1024 (first_of (codes "pages") rows)))
+    (number_or 4 1 1024 (first_of (codes "batch") rows)))
+    (number_or 4 1 16384 (first_of (codes "cache") rows)))
+    (number_or 16 2 1024 (first_of (codes "entries") rows)))
+    (page_in rows)
 
--- the options after a word, by what was awaited
-abbrev pub after_awaited : Awaited → List ℕ → Options → Option Options
-after_awaited Nothing word options = after_option word options
-after_awaited Stop word options = with_stop word options
-after_awaited Image word options = with_image word options
+-- The sizes of a run are within the limits of a region and of a file.
+pub record AreInLimits (options : RunOptions) : Type 0 where
+  pub page : IsPageSize options.page
+  pub entries : IsEntryCount options.entries
+  pub some_pages : 1 ≤ options.pages
+  pub few_pages : options.pages ≤ version_1.page_limit
 
-abbrev pub after_word : List ℕ → Options → Option Options
-after_word word options = after_awaited options.awaited word options
+-- ---- commands
 
--- the options after some words, the first of them first; none where one of them says nothing, or says something again
-unfoldable pub after_words : Option Options → List (List ℕ) → Option Options
-after_words options words = fold (λ said word. option_and_then (after_word word) said) options words
+-- the word `--`, behind which no option stands
+abbrev pub is_dashes : List ℕ → Bool
+is_dashes word = bytes_eq word (codes "--")
 
--- no value is awaited any more
-abbrev pub is_whole : Awaited → Bool
-is_whole Nothing = true
-is_whole Stop = false
-is_whole Image = false
+-- a command, where no fault was found in its words
+abbrev pub unless_refused : Kinds → Option Command → Option Command
+unless_refused [] command = command
+unless_refused (first ∷ rest) command = None
 
--- the run that some options ask for: `--noworker` is needed, and no value may be wanting; the pick is `old` where none was said
-abbrev pub run_with : Options → Option Command
-run_with options =
-    if options.noworker && is_whole options.awaited then Some (Run options.stop (unwrap_or options.image Old)) else None
+-- the run that words ask for, where `clap` takes them and none is the word `--`
+abbrev pub run_in : List (List ℕ) → Option Command
+run_in words =
+    if list_any is_dashes words then None
+    else unless_refused (fault_of run_app words) (option_map Run (options_in (matches_of run_app words)))
 
-abbrev pub run_of : Option Options → Option Command
-run_of said = option_and_then run_with said
-
--- the command that some words are: `run` with its options, or `recover`
+-- the command that words are: `run` with its options, or `recover` alone
 unfoldable pub command_of : List (List ℕ) → Option Command
 command_of [] = None
-command_of (word ∷ words) =
-    if says word (codes "run") then run_of (after_words (Some no_options) words)
-    else if says word (codes "recover") && length words == 0 then Some Recover
+command_of (first ∷ rest) =
+    if bytes_eq first (codes "run") then run_in (first ∷ rest)
+    else if bytes_eq first (codes "recover") && length rest == 0 then Some Recover
     else None

@@ -1,4 +1,4 @@
-ghost use Rattle.std.specs.Prelude.{◌≡◌, ◌≢◌, ◌≤◌, ◌<◌, ◌⊎◌, ◌+◌, ◌-◌, ◌^◌, ℕ, List, [], map, string_bytes, false, true, None, Some, IfSome, IfOk, IfErr, OnOk, ◌↔◌, Err};
+ghost use Rattle.std.specs.Prelude.{◌≡◌, ◌≢◌, ◌≤◌, ◌<◌, ◌⊎◌, ◌+◌, ◌-◌, ◌^◌, ℕ, List, [], map, string_bytes, false, true, None, Some, IfSome, IfOk, IfErr, OnOk, Err};
 ghost use Rattle.std.specs.List.Sorted.{IsStrictlyIncreasing};
 ghost use Rattle.nv_plain.specs.Faults.{Rose};
 ghost use Rattle.nv_bench.specs.Holding.{IsQuietHolding};
@@ -10,25 +10,27 @@ ghost use Rattle.nv_trace.specs.Shape.{IsWellFormed};
 ghost use Rattle.nv_trace.specs.Streams.{Appends};
 ghost use Rattle.nv_top.specs.Commands.{IsGivenBack, IsNotRun};
 ghost use Rattle.nv_top.specs.Endings.{IsErrorLine, AppendsFront, usage_line, read_line, device_line, memory_line, input_line, region_line, IsTrace};
-ghost use Rattle.nv_top.specs.Headline.{HasStopped, IsLeftBy, IsRefused, IsShown, IsShownOf, command_over, expected_faults};
+ghost use Rattle.nv_top.specs.Headline.{HasStopped, IsLeftBy, IsRefused, IsShown, IsShownOf, command_over, expected_faults, possible};
 ghost use Rattle.nv_top.specs.LogRuns.{lines_in};
 ghost use Rattle.nv_top.specs.Stopping.{IsPoweredBack, Settles};
 ghost use Rattle.nv_top.specs.Stops.{IsCauseOf};
+ghost use Rattle.nv_top.specs.Words.{AreInLimits};
 ghost use Rattle.nv_top.specs.declared.ending.Stop.TheVariants as stops;
 ghost use Rattle.nv_top.specs.declared.ending.TheConstants.{DONE, USAGE, BAD_INPUT, READ_FAULT, WRITE_FAULT, DEVICE_FAULT, NO_MEMORY, BAD_REGION};
 ghost use Rattle.nv_top.specs.declared.words.Command.{Command};
 ghost use Rattle.nv_top.specs.declared.words.Command.TheVariants as commands;
+ghost use Rattle.nv_top.specs.declared.words.WordsError.TheVariants as words_errors;
 
 use crate::ending::{DONE, Stop, say, say_stop};
 use crate::gate::Gate;
 use crate::names::copy_names;
 use crate::recovery::recover;
-use crate::run::{ENTRIES, PAGE, run};
+use crate::run::run;
 use crate::stopping::run_to_stop;
-use crate::words::{Command, parse_command};
+use crate::words::{Command, RunOptions, WordsError, parse_command};
 use nv_bench::Bench;
 use nv_open::open;
-use nv_pmem::{Geometry, Pick, images_follow_calls};
+use nv_pmem::{Geometry, images_follow_calls};
 use nv_trace::{Sink, Source, Trace, read_trace};
 use std::alloc::Global;
 use std::sync::Wait;
@@ -56,14 +58,14 @@ pub fn nv_main<R: Threads + Wait + Sync, I: Source, O: Sink, B: Bench, G: Gate +
     ensures back { (command : Command) → command_over B.can_lose_power (map string_bytes words.now) ≡ Some command
         → IsLeftBy command (B.state bench.old) (B.state bench.new) }
 
-    // The words decide before anything is read or opened.
+    // The words decide before anything is read or opened, and take memory to read.
     ensures usage { result ≡ USAGE → command_over B.can_lose_power (map string_bytes words.now) ≡ None }
     ensures command { command_over B.can_lose_power (map string_bytes words.now) ≡ None
-        → ((result ≡ USAGE) ⊎ (result ≡ WRITE_FAULT)) × (I.left src.new ≡ I.left src.old) × (B.state bench.new ≡ B.state bench.old) }
+        → ((result ≡ USAGE) ⊎ ((result ≡ NO_MEMORY) ⊎ (result ≡ WRITE_FAULT))) × (I.left src.new ≡ I.left src.old) × (B.state bench.new ≡ B.state bench.old) }
 
     // The input of a run is a trace, or not; a recovery has none.
     ensures bad_input { result ≡ BAD_INPUT → IfSome (I.left src.old) (λ input. ¬ (IsTrace input)) }
-    ensures good_input { (stop : _) (pick : _) → command_over B.can_lose_power (map string_bytes words.now) ≡ Some (commands.Run stop pick)
+    ensures good_input { (options : _) → command_over B.can_lose_power (map string_bytes words.now) ≡ Some (commands.Run options)
         → result ≡ DONE → IfSome (I.left src.old) (λ input. IsTrace input × (I.left src.new ≡ Some [])) }
     ensures unread { command_over B.can_lose_power (map string_bytes words.now) ≡ Some commands.Recover → I.left src.new ≡ I.left src.old }
 
@@ -127,8 +129,9 @@ fn report<I: Source, B: Bench>(
     requires settled { (B.state bench.old).settled ≤ (B.state bench.old).faults }
     ensures back { (command : Command) → command_over B.can_lose_power (map string_bytes words.now) ≡ Some command
         → IsLeftBy command (B.state bench.old) (B.state bench.new) }
-    ensures usage { (result ≡ Err stops.Usage) ↔ (command_over B.can_lose_power (map string_bytes words.now) ≡ None) }
-    ensures unmoved { result ≡ Err stops.Usage → (I.left src.new ≡ I.left src.old) × (B.state bench.new ≡ B.state bench.old) }
+    ensures usage { result ≡ Err stops.Usage → command_over B.can_lose_power (map string_bytes words.now) ≡ None }
+    ensures command { command_over B.can_lose_power (map string_bytes words.now) ≡ None
+        → ((result ≡ Err stops.Usage) ⊎ (result ≡ Err stops.NoMemory)) × (I.left src.new ≡ I.left src.old) × (B.state bench.new ≡ B.state bench.old) }
     ensures bad_line { IfErr result (λ stop. IfSome (I.left src.old) (IsCauseOf stop)) }
     ensures read_fault { result ≡ Err stops.Read → Rose (I.fault_count src.old) (I.fault_count src.new) }
     ensures read_sound { result ≢ Err stops.Read → I.fault_count src.new ≡ I.fault_count src.old }
@@ -136,7 +139,7 @@ fn report<I: Source, B: Bench>(
         → Rose (expected_faults (B.state bench.old) (B.state bench.new)) (B.state bench.new).faults }
     ensures device_sound { result ≢ Err stops.Device
         → (B.state bench.new).faults ≤ expected_faults (B.state bench.old) (B.state bench.new) }
-    ensures good_input { (stop : _) (pick : _) → command_over B.can_lose_power (map string_bytes words.now) ≡ Some (commands.Run stop pick)
+    ensures good_input { (options : _) → command_over B.can_lose_power (map string_bytes words.now) ≡ Some (commands.Run options)
         → OnOk result (IfSome (I.left src.old) (λ input. IsTrace input × (I.left src.new ≡ Some []))) }
     ensures unread { command_over B.can_lose_power (map string_bytes words.now) ≡ Some commands.Recover → I.left src.new ≡ I.left src.old }
     ensures region { (why : _) → result ≡ Err (stops.Region why)
@@ -147,20 +150,28 @@ fn report<I: Source, B: Bench>(
         → IfSome (B.state bench.old).told (λ holding.
         IsShown command (I.left src.old) (B.state bench.old) (B.state bench.new) holding text.items)) }
 {
-    match command_over::<B>(words) {
-        Some(Command::Run { stop, image }) => run_input(alloc, src, bench, stop, image),
-        Some(Command::Recover) => recover(alloc, bench),
-        None => Err(Stop::Usage),
+    let command = command_over::<B>(alloc, words)?;
+    match command {
+        Command::Run(options) => run_input(alloc, src, bench, options),
+        Command::Recover => recover(alloc, bench),
     }
 }
 
 // The command that these words are over such a bench.
-fn command_over<B: Bench>(words: &[String]) -> Option<Command>
-    ensures { result ≡ command_over B.can_lose_power (map string_bytes words.now) }
+fn command_over<B: Bench>(alloc: Global, words: &[String]) -> Result<Command, WordsError>
+    ensures command { IfOk result (λ command. command_over B.can_lose_power (map string_bytes words.now) ≡ Some command) }
+    ensures usage { result ≡ Err words_errors.Usage → command_over B.can_lose_power (map string_bytes words.now) ≡ None }
 {
-    let command = parse_command(words)?;
+    let command = parse_command(alloc, words)?;
+    command_on(command, B::images()).ok_or(WordsError::Usage)
+}
+
+// A command, where a bench can follow it.
+fn command_on(command: Command, images: bool) -> Option<Command>
+    ensures { result ≡ possible images command }
+{
     match command {
-        Command::Run { stop: Some(_), .. } if !B::images() => None,
+        Command::Run(options) if options.stop.is_some() && !images => None,
         _ => Some(command),
     }
 }
@@ -170,16 +181,16 @@ fn run_input<I: Source, B: Bench>(
     alloc: Global,
     src: &mut I,
     bench: &mut B,
-    stop: Option<u64>,
-    image: Pick,
+    options: RunOptions,
 ) -> Result<Vec<u8>, Stop>
     requires closed { (B.state bench.old).is_open ≡ false }
     requires home { (B.state bench.old).lent ≡ [] }
     requires quiet { IfSome (B.state bench.old).told IsQuietHolding }
     requires arms { (B.state bench.old).arms < 2 ^ 63 }
     requires settled { (B.state bench.old).settled ≤ (B.state bench.old).faults }
-    requires stop { IfSome stop (λ k. (1 ≤ k) × (B.can_lose_power ≡ true)) }
-    ensures back { IsLeftBy (commands.Run stop image) (B.state bench.old) (B.state bench.new) }
+    requires limits { AreInLimits options }
+    requires stop { IfSome options.stop (λ k. (1 ≤ k) × (B.can_lose_power ≡ true)) }
+    ensures back { IsLeftBy (commands.Run options) (B.state bench.old) (B.state bench.new) }
     ensures words { result ≢ Err stops.Usage }
     ensures bad_line { IfErr result (λ stop. IfSome (I.left src.old) (IsCauseOf stop)) }
     ensures read_fault { result ≡ Err stops.Read → Rose (I.fault_count src.old) (I.fault_count src.new) }
@@ -191,42 +202,42 @@ fn run_input<I: Source, B: Bench>(
     ensures good_input { OnOk result (IfSome (I.left src.old) (λ input. IsTrace input × (I.left src.new ≡ Some []))) }
     ensures region { (why : _) → result ≡ Err (stops.Region why) → (B.state bench.new).arms ≡ (B.state bench.old).arms
         → IfSome (B.state bench.old).told (λ holding.
-        IsRefused (commands.Run stop image) (I.left src.old) (B.state bench.old) (B.state bench.new) holding why) }
+        IsRefused (commands.Run options) (I.left src.old) (B.state bench.old) (B.state bench.new) holding why) }
     ensures report { IfOk result (λ text. IfSome (B.state bench.old).told (λ holding.
-        IsShown (commands.Run stop image) (I.left src.old) (B.state bench.old) (B.state bench.new) holding text.items)) }
+        IsShown (commands.Run options) (I.left src.old) (B.state bench.old) (B.state bench.new) holding text.items)) }
 {
     let trace = read_trace(alloc, src)?;
-    run_trace(alloc, bench, &trace, stop, image)
+    run_trace(alloc, bench, options, &trace)
 }
 
 // The report of a run of a trace, which may be stopped.
 fn run_trace<T: Bench>(
     alloc: Global,
     bench: &mut T,
+    options: RunOptions,
     trace: &Trace,
-    stop: Option<u64>,
-    image: Pick,
 ) -> Result<Vec<u8>, Stop>
     requires closed { (T.state bench.old).is_open ≡ false }
     requires home { (T.state bench.old).lent ≡ [] }
     requires quiet { IfSome (T.state bench.old).told IsQuietHolding }
     requires arms { (T.state bench.old).arms < 2 ^ 63 }
     requires settled { (T.state bench.old).settled ≤ (T.state bench.old).faults }
-    requires stop { IfSome stop (λ k. (1 ≤ k) × (T.can_lose_power ≡ true)) }
+    requires limits { AreInLimits options }
+    requires stop { IfSome options.stop (λ k. (1 ≤ k) × (T.can_lose_power ≡ true)) }
     requires well_formed { IsWellFormed trace.now }
-    ensures back { IsLeftBy (commands.Run stop image) (T.state bench.old) (T.state bench.new) }
+    ensures back { IsLeftBy (commands.Run options) (T.state bench.old) (T.state bench.new) }
     ensures cause { Settles (expected_faults (T.state bench.old) (T.state bench.new)) (T.state bench.new).faults result }
     ensures ran { IfOk result (λ text. IsStrictlyIncreasing (lines_in trace.now) → IfSome (T.state bench.old).told (λ holding.
-        IsShownOf stop (T.state bench.old) (T.state bench.new) holding trace.now text.items)) }
+        IsShownOf options.stop options (T.state bench.old) (T.state bench.new) holding trace.now text.items)) }
     ensures refused { (why : _) → result ≡ Err (stops.Region why) → (T.state bench.new).arms ≡ (T.state bench.old).arms
-        → IsStrictlyIncreasing (lines_in trace.now) → IfSome (T.state bench.old).told (λ holding. IsNotRun holding trace.now.names why) }
+        → IsStrictlyIncreasing (lines_in trace.now) → IfSome (T.state bench.old).told (λ holding. IsNotRun options holding trace.now.names why) }
     ensures unwritten { (why : _) → result ≡ Err (stops.Region why) → (T.state bench.new).arms ≡ (T.state bench.old).arms
         → ¬ (why ≡ refusals.TooManyFiles) → IsStrictlyIncreasing (lines_in trace.now)
         → IfSome (T.state bench.old).told (λ holding. (T.state bench.new).told ≡ told_after why (T.state bench.old).told) }
 {
-    match stop {
-        None => run(alloc, bench, trace),
-        Some(k) => stop_run(alloc, bench, trace, k, image),
+    match options.stop {
+        None => run(alloc, bench, options, trace),
+        Some(k) => stop_run(alloc, bench, options, trace, k),
     }
 }
 
@@ -234,9 +245,9 @@ fn run_trace<T: Bench>(
 fn stop_run<T: Bench>(
     alloc: Global,
     bench: &mut T,
+    options: RunOptions,
     trace: &Trace,
     k: u64,
-    image: Pick,
 ) -> Result<Vec<u8>, Stop>
     requires closed { (T.state bench.old).is_open ≡ false }
     requires home { (T.state bench.old).lent ≡ [] }
@@ -244,23 +255,24 @@ fn stop_run<T: Bench>(
     requires arms { (T.state bench.old).arms < 2 ^ 63 }
     requires settled { (T.state bench.old).settled ≤ (T.state bench.old).faults }
     requires images { T.can_lose_power ≡ true }
+    requires limits { AreInLimits options }
     requires k { 1 ≤ k }
     requires well_formed { IsWellFormed trace.now }
     ensures back { IsPoweredBack k (T.state bench.old) (T.state bench.new) ⊎ IsGivenBack (T.state bench.old) (T.state bench.new) }
     ensures cause { Settles (expected_faults (T.state bench.old) (T.state bench.new)) (T.state bench.new).faults result }
     ensures ran { IfOk result (λ text. IsStrictlyIncreasing (lines_in trace.now) → IfSome (T.state bench.old).told (λ holding.
-        HasStopped (Rose (T.state bench.old).faults (T.state bench.new).faults) holding (T.state bench.new).told trace.now text.items)) }
+        HasStopped (Rose (T.state bench.old).faults (T.state bench.new).faults) options holding (T.state bench.new).told trace.now text.items)) }
     ensures refused { (why : _) → result ≡ Err (stops.Region why) → (T.state bench.new).arms ≡ (T.state bench.old).arms
-        → IfSome (T.state bench.old).told (λ holding. IsNotRun holding trace.now.names why) }
+        → IfSome (T.state bench.old).told (λ holding. IsNotRun options holding trace.now.names why) }
     ensures unwritten { (why : _) → result ≡ Err (stops.Region why) → (T.state bench.new).arms ≡ (T.state bench.old).arms
         → ¬ (why ≡ refusals.TooManyFiles) → (T.state bench.new).told ≡ told_after why (T.state bench.old).told }
 {
     images_follow_calls();
     let geometry = Geometry {
-        page: PAGE,
-        entries: ENTRIES,
+        page: options.page,
+        entries: options.entries,
     };
     let wanted = copy_names(alloc, trace.names())?;
     let opened = open(alloc, bench, geometry, &wanted)?;
-    run_to_stop(alloc, bench, opened, trace, k, image)
+    run_to_stop(alloc, bench, opened, options, trace, k)
 }

@@ -3,9 +3,10 @@ ghost use Rattle.nv_plain.specs.Faults.{Rose};
 ghost use Rattle.nv_trace.specs.Streams.{Appends};
 ghost use Rattle.nv_top.specs.declared.ending.Stop.TheVariants as stops;
 ghost use Rattle.nv_top.specs.Endings.{memory_line, bad_line, region_line, IsErrorLine, AppendsFront};
-ghost use Rattle.nv_top.specs.Stops.{SaidAs, TakesMemory, stop_status, stop_line, stop_of_log, stop_of_opening, stop_of_read, stop_of_recovery};
+ghost use Rattle.nv_top.specs.Stops.{SaidAs, TakesMemory, stop_status, stop_line, stop_of_log, stop_of_opening, stop_of_read, stop_of_recovery, stop_of_words};
 
 use crate::region_text::region_line_of;
+use crate::words::WordsError;
 use nv_engine::OpenError as LogError;
 use nv_open::{OpenError, Refusal};
 use nv_plain::NoMemory;
@@ -48,6 +49,17 @@ pub(crate) enum Stop {
     Device,
     Region(Refusal),
     NoMemory,
+}
+
+impl From<WordsError> for Stop {
+    ghost from_gives = { λ error stop. stop ≡ stop_of_words error };
+
+    fn from(error: WordsError) -> Self {
+        match error {
+            WordsError::Usage => Stop::Usage,
+            WordsError::NoMemory => Stop::NoMemory,
+        }
+    }
 }
 
 impl From<ReadError> for Stop {

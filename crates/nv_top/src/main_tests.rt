@@ -155,6 +155,30 @@ fn gap_and_end_of_file(rt: HostRuntime) -> Result<(), Fail> {
     Ok(())
 }
 
+// A file has as many bytes as its pages. A region that is there keeps its own page.
+#[test]
+fn sizes_of_files(rt: HostRuntime) -> Result<(), Fail> {
+    let mut bench = new_bench(rt.alloc(), &[])?;
+    let words = &["run", "--noworker", "--page=128", "--pages", "1"];
+    let trace = "file a\nfd 0 a rw\n0 pwrite 0 63 0909\n0 pwrite 0 128 09\n";
+    let (status, text) = call(&rt, &mut bench, words, trace, &[], &[])?;
+    assert_eq!(rt; status, DONE);
+    assert!(rt;
+        text.starts_with(b"0 0 pwrite 0 63 2 = 2\nrefused 0 pwrite 0 128 1: too far\nfile a 65 00")
+    );
+    assert!(rt; text.ends_with(b"000909\nend 1 1 0\n"));
+    let trace = "file a\nfd 0 a rw\n0 pwrite 0 63 0808\n0 pread 0 8191 1\n0 pread 0 8192 1\n";
+    let (status, text) = call(&rt, &mut bench, RUN, trace, &[], &[])?;
+    assert_eq!(rt; status, DONE);
+    assert!(rt;
+        text.starts_with(
+            b"0 0 pwrite 0 63 2 = 2\n1 0 pread 0 8191 1 = -\nrefused 0 pread 0 8192 1: too far\n"
+        )
+    );
+    assert!(rt; text.ends_with(b"000808\nend 2 1 0\n"));
+    Ok(())
+}
+
 #[test]
 fn usage_and_bad_lines(rt: HostRuntime) -> Result<(), Fail> {
     for words in [

@@ -1,6 +1,7 @@
-ghost use Rattle.std.specs.Prelude.{◌≡◌, ◌+◌, ◌<◌, ◌∷◌, [], ◌++◌, List, false, length, map, sum_by, All, Err, IfOk, IfSome, OnOk};
+ghost use Rattle.std.specs.Prelude.{◌≡◌, ◌+◌, ◌<◌, ◌≤◌, ◌∷◌, [], ◌++◌, List, false, length, map, sum_by, All, Err, IfOk, IfSome, OnOk};
 ghost use Rattle.std.specs.List.Sorted.{IsStrictlyIncreasing};
 ghost use Rattle.nv_plain.specs.Files.{Files};
+ghost use Rattle.nv_plain.specs.Layouts.{version_1};
 ghost use Rattle.nv_pmem.specs.Part.{Part};
 ghost use Rattle.nv_pmem.specs.RowStates.{AreNow};
 ghost use Rattle.nv_pmem.specs.Rows.{RowTells};
@@ -23,6 +24,7 @@ ghost use Rattle.nv_top.specs.Outcomes.{report_of};
 ghost use Rattle.nv_top.specs.Reports.{report_text};
 ghost use Rattle.nv_top.specs.Runs.{IsAfterAll};
 ghost use Rattle.nv_top.specs.Stops.{CountHasCause};
+ghost use Rattle.nv_top.specs.Words.{AreInLimits};
 ghost use Rattle.nv_top.specs.declared.ending.Stop.TheVariants as stops;
 
 use crate::calls::{CallError, answer};
@@ -31,6 +33,7 @@ use crate::files::read_files;
 use crate::names::{copy_names, files_of_descriptors};
 use crate::outcome::{Outcome, Placed, Refused};
 use crate::text::text_of;
+use crate::words::RunOptions;
 use nv_bench::Bench;
 use nv_engine::Log;
 use nv_header::{Names, Region};
@@ -41,38 +44,35 @@ use nv_store::Backing;
 use nv_trace::{Trace, TracedCall};
 use std::alloc::Global;
 
-/// Bytes of a page of a region that is formatted.
-pub(crate) const PAGE: u64 = 64;
-
-/// Entries of the log of a region that is formatted.
-pub(crate) const ENTRIES: u64 = 16;
-
-/// Pages of a file.
-const FILE_PAGES: u64 = 64;
-
-/// Runs a trace over a bench: opens its region with the files of the trace, makes the calls, brings the stores to the files, and
+/// Runs a trace over a bench: opens its region, of these sizes where it is blank, with the files of the trace, makes the calls, brings the stores to the files, and
 /// gives all back. The text of the report.
-pub(crate) fn run<T: Bench>(alloc: Global, bench: &mut T, trace: &Trace) -> Result<Vec<u8>, Stop>
+pub(crate) fn run<T: Bench>(
+    alloc: Global,
+    bench: &mut T,
+    options: RunOptions,
+    trace: &Trace,
+) -> Result<Vec<u8>, Stop>
     requires closed { (T.state bench.old).is_open ≡ false }
     requires home { (T.state bench.old).lent ≡ [] }
     requires quiet { IfSome (T.state bench.old).told IsQuietHolding }
+    requires limits { AreInLimits options }
     requires well_formed { IsWellFormed trace.now }
     ensures back { IsGivenBack (T.state bench.old) (T.state bench.new) }
     ensures ran { IfOk result (λ text. IsStrictlyIncreasing (lines_in trace.now) → IfSome (T.state bench.old).told (λ holding.
-        HasRunOn holding (T.state bench.new).told trace.now text.items)) }
+        HasRunOn options holding (T.state bench.new).told trace.now text.items)) }
     ensures refused { (why : _) → result ≡ Err (stops.Region why) → IsStrictlyIncreasing (lines_in trace.now)
-        → IfSome (T.state bench.old).told (λ holding. IsNotRun holding trace.now.names why) }
+        → IfSome (T.state bench.old).told (λ holding. IsNotRun options holding trace.now.names why) }
     ensures unwritten { (why : _) → result ≡ Err (stops.Region why) → ¬ (why ≡ refusals.TooManyFiles) → IsStrictlyIncreasing (lines_in trace.now)
         → IfSome (T.state bench.old).told (λ holding. (T.state bench.new).told ≡ told_after why (T.state bench.old).told) }
     ensures cause { CountHasCause (T.state bench.old).faults (T.state bench.new).faults result }
 {
     let geometry = Geometry {
-        page: PAGE,
-        entries: ENTRIES,
+        page: options.page,
+        entries: options.entries,
     };
     let wanted = copy_names(alloc, trace.names())?;
     let Opened { region, stores } = open(alloc, bench, geometry, &wanted)?;
-    let ended = run_over(alloc, region, stores, trace);
+    let ended = run_over(alloc, region, stores, options.pages, trace);
     bench.give_back(ended.parts, ended.stores);
     ended.report
 }
@@ -150,13 +150,16 @@ pub(crate) struct Ended<L, B> {
     pub(crate) report: Result<Vec<u8>, Stop>,
 }
 
-/// Runs a trace over a region whose log is empty, with a store for each of its names.
+/// Runs a trace over a region whose log is empty, with a store for each of its names, and files of so many pages.
 pub(crate) fn run_over<L: Lines + Drop, B: Backing + Drop>(
     alloc: Global,
     region: Region<L>,
     stores: Vec<B>,
+    pages: u64,
     trace: &Trace,
 ) -> Ended<L, B>
+    requires some_pages { 1 ≤ pages }
+    requires few_pages { pages ≤ version_1.page_limit }
     requires stores { length stores.items ≡ length region.names }
     requires quiet { RowTells (map B.history stores.items) AreQuietStores }
     requires well_formed { IsWellFormed trace.now }
@@ -164,7 +167,7 @@ pub(crate) fn run_over<L: Lines + Drop, B: Backing + Drop>(
     ensures count { length result.stores.items ≡ length stores.items }
     ensures ran { IfOk result.report (λ text. (parts : List Part) (now : List Store)
         → AreNow (map L.history region.parts.items) parts → AreNow (map B.history stores.items) now → IsStrictlyIncreasing (lines_in trace.now)
-        → HasRunOver L.history B.history (basis_over region (files_of now)) trace.now text.items result.parts.items result.stores.items) }
+        → HasRunOver L.history B.history (basis_over region pages (files_of now)) trace.now text.items result.parts.items result.stores.items) }
     ensures whole { (why : _) → result.report ≡ Err (stops.Region why) → IsStrictlyIncreasing (lines_in trace.now)
         → (parts : List Part) (now : List Store) → AreNow (map L.history region.parts.items) parts → ¬ AreNow (map B.history stores.items) now }
     ensures cause { CountHasCause (sum_by L.fault_count region.parts.items + sum_by B.fault_count stores.items)
@@ -177,7 +180,7 @@ pub(crate) fn run_over<L: Lines + Drop, B: Backing + Drop>(
             report: Err(Stop::NoMemory),
         };
     };
-    match Log::new(alloc, region, stores, FILE_PAGES) {
+    match Log::new(alloc, region, stores, pages) {
         Ok(log) => run_log(alloc, log, &files, trace),
         Err((parts, stores, error)) => Ended {
             parts,

@@ -16,6 +16,7 @@ ghost use Rattle.nv_top.specs.LogRuns.{IsFirst, basis_over, lines_in};
 ghost use Rattle.nv_top.specs.Reports.{report_text};
 ghost use Rattle.nv_top.specs.Stopping.{HasStoppedOn, IsAway, IsBack, IsBackUnarmed, IsPoweredBack, Settles, ShowsRecovered};
 ghost use Rattle.nv_top.specs.Stops.{CountHasCause};
+ghost use Rattle.nv_top.specs.Words.{AreInLimits};
 ghost use Rattle.nv_top.specs.declared.ending.Stop.TheVariants as stops;
 
 use crate::attempts::make_calls_on;
@@ -25,6 +26,7 @@ use crate::files::read_files;
 use crate::names::files_of_descriptors;
 use crate::outcome::Outcome;
 use crate::text::text_of;
+use crate::words::RunOptions;
 use nv_bench::{Bench, power_leaves_an_image};
 use nv_engine::{Log, logs_have_one_meaning};
 use nv_header::Names;
@@ -35,20 +37,18 @@ use nv_store::Backing;
 use nv_trace::Trace;
 use std::alloc::Global;
 
-// Pages of a file.
-const FILE_PAGES: u64 = 64;
-
 /// Runs a trace over a region whose log is empty, with a store for each of its names, that are lent by a bench: it is armed once the
 /// log is open, makes the calls, gives all back, powers off, recovers, and shows what became of each call, and the files.
 pub(crate) fn run_to_stop<T: Bench>(
     alloc: Global,
     bench: &mut T,
     opened: Opened<T::Part, T::Store>,
+    options: RunOptions,
     trace: &Trace,
     k: u64,
-    pick: Pick,
 ) -> Result<Vec<u8>, Stop>
     requires images { T.can_lose_power ≡ true }
+    requires limits { AreInLimits options }
     requires k { 1 ≤ k }
     requires arms { (T.state bench.old).arms < 2 ^ 64 - 1 }
     requires open { (T.state bench.old).is_open ≡ true }
@@ -72,15 +72,15 @@ pub(crate) fn run_to_stop<T: Bench>(
         → IsStrictlyIncreasing (lines_in trace.now) → IfSome (T.state bench.old).told (λ left. IsAway opened.region.names left
         → HasStoppedOn (Rose (saturated ((T.state bench.old).faults
         + (sum_by T.Part.fault_count opened.region.parts.items + sum_by T.Store.fault_count opened.stores.items))) (T.state bench.new).faults)
-        (basis_over opened.region (files_of now)) trace.now (T.state bench.new).told text.items)) }
+        (basis_over opened.region options.pages (files_of now)) trace.now (T.state bench.new).told text.items)) }
 {
     let Opened { region, stores } = opened;
     let Ok(files) = files_of_descriptors(alloc, region.names().as_slice(), trace) else {
         bench.give_back(region.into_parts(), stores);
         return Err(Stop::NoMemory);
     };
-    match Log::new(alloc, region, stores, FILE_PAGES) {
-        Ok(log) => stop_log(alloc, bench, log, &files, trace, k, pick),
+    match Log::new(alloc, region, stores, options.pages) {
+        Ok(log) => stop_log(alloc, bench, log, &files, trace, k, options.image),
         Err((parts, stores, error)) => {
             bench.give_back(parts, stores);
             Err(error.into())

@@ -1,203 +1,233 @@
-ghost use Rattle.std.specs.Prelude.{◌≡◌, if◌then◌else◌, length, drop, map, nat_eq, option_map, string_bytes, Some, None};
-ghost use Rattle.std.specs.List.{starts_with};
-ghost use Rattle.nv_trace.specs.Grammar.{says};
-ghost use Rattle.nv_top.specs.Words.{after_option, after_word, after_words, command_of, no_options, number_of, pick_of, run_of, run_with, with_image, with_stop};
+ghost use Rattle.std.specs.Prelude.{◌≡◌, ◌≢◌, ◌&&◌, false, nat_le, [], Some, None, Err, IfOk, codes, map, string_bytes, option_map, if◌then◌else◌};
+ghost use Rattle.std.specs.List.{list_any};
+ghost use Rattle.clap.specs.Words.{app_of, fault_of, first_of, found_of, rows_of, matches_of as rows_in, rule_of, with_rule};
+ghost use Rattle.nv_top.specs.Words.{command_of, image_in, is_dashes, noworker_rule, number_in, number_or, option_rule, options_in, page_in, run_app, run_in, stop_in};
+ghost use Rattle.nv_top.specs.declared.words.WordsError.TheVariants.{Usage, NoMemory as NoRoom};
 
+use clap::error::ErrorKind;
+use clap::{Arg, ArgAction, ArgMatches, Command as Parser};
 use nv_pmem::Pick;
+use std::alloc::{AllocError, Global};
 
-/// The greatest number behind `--stop` and `--image`.
+/// The greatest number of a device call to stop at, and the greatest seed of an image.
 const LARGEST: u64 = 4_294_967_295;
 
 /// What the words behind a program's name ask for.
-#[derive(Clone, Copy)]
+#[derive(Clone, Copy, Debug, PartialEq, Eq)]
 pub(crate) enum Command {
-    /// A run of a trace. Where it is stopped at a device call, power goes off with this pick.
-    Run { stop: Option<u64>, image: Pick },
+    /// A run of a trace.
+    Run(RunOptions),
     /// A recovery.
     Recover,
 }
 
-/// The option whose value the next word is.
-#[derive(Clone, Copy)]
-pub(crate) enum Awaited {
-    Nothing,
-    Stop,
-    Image,
-}
-
-/// What the words behind `run` have said so far.
-#[derive(Clone, Copy)]
-pub(crate) struct Options {
-    pub(crate) noworker: bool,
+/// How a trace is run.
+#[derive(Clone, Copy, Debug, PartialEq, Eq)]
+pub(crate) struct RunOptions {
+    /// Bytes of a page of a region that is formatted.
+    pub(crate) page: u64,
+    /// Entries of the log of a region that is formatted.
+    pub(crate) entries: u64,
+    /// Pages of the cache.
+    pub(crate) cache: u64,
+    /// Entries of a batch.
+    pub(crate) batch: u64,
+    /// Pages of a file.
+    pub(crate) pages: u64,
+    /// The device call to stop at.
     pub(crate) stop: Option<u64>,
-    pub(crate) image: Option<Pick>,
-    pub(crate) awaited: Awaited,
+    /// The image that power leaves where the run is stopped.
+    pub(crate) image: Pick,
 }
 
-/// The command that these words are: `recover`, or `run` with `--noworker` and maybe `--stop K` and `--image PICK`, in any order,
-/// each at most once; a value stands behind its option as the next word, or in the same one behind a `=`.
+/// Why words are no command.
+#[derive(Clone, Copy, Debug, PartialEq, Eq)]
+pub(crate) enum WordsError {
+    Usage,
+    NoMemory,
+}
+
+impl From<AllocError> for WordsError {
+    ghost from_gives = { λ _ error. error ≡ NoRoom };
+
+    fn from(_: AllocError) -> Self {
+        WordsError::NoMemory
+    }
+}
+
+/// The command that words are: `recover` alone, or `run` with its options.
 #[tactic(auto, unfolding(crate::specs::Words::command_of))]
-pub(crate) fn parse_command(words: &[String]) -> Option<Command>
-    ensures { result ≡ command_of (map string_bytes words.now) }
+pub(crate) fn parse_command(alloc: Global, words: &[String]) -> Result<Command, WordsError>
+    ensures command { IfOk result (λ command. command_of (map string_bytes words.now) ≡ Some command) }
+    ensures usage { result ≡ Err Usage → command_of (map string_bytes words.now) ≡ None }
 {
     match words {
-        [word, options @ ..] if is_text(word.as_str(), "run") => parse_run(options),
-        [word] if is_text(word.as_str(), "recover") => Some(Command::Recover),
-        _ => None,
+        [first, ..] if first.as_str() == "run" => parse_run(alloc, words),
+        [only] if only.as_str() == "recover" => Ok(Command::Recover),
+        _ => Err(WordsError::Usage),
     }
 }
 
-// The run that these words behind `run` ask for.
-fn parse_run(words: &[String]) -> Option<Command>
-    ensures { result ≡ run_of (after_words (Some no_options) (map string_bytes words.now)) }
+// The run that these words ask for, of which the first is `run`. `clap` takes what stands behind `--` for no option, so that word is
+// refused before.
+fn parse_run(alloc: Global, words: &[String]) -> Result<Command, WordsError>
+    ensures command { IfOk result (λ command. run_in (map string_bytes words.now) ≡ Some command) }
+    ensures usage { result ≡ Err Usage → run_in (map string_bytes words.now) ≡ None }
 {
-    let options = parse_options(words)?;
-    run_with(options)
-}
-
-// What these words say.
-fn parse_options(words: &[String]) -> Option<Options>
-    ensures { result ≡ after_words (Some no_options) (map string_bytes words.now) }
-{
-    let mut options = Options {
-        noworker: false,
-        stop: None,
-        image: None,
-        awaited: Awaited::Nothing,
-    };
-    for word in words {
-        options = read_word(options, word.as_str())?;
+    if has_dashes(words) {
+        return Err(WordsError::Usage);
     }
-    Some(options)
-}
-
-fn run_with(options: Options) -> Option<Command>
-    ensures { result ≡ run_with options }
-{
-    match options.awaited {
-        Awaited::Nothing if options.noworker => Some(Command::Run {
-            stop: options.stop,
-            image: options.image.unwrap_or(Pick::Old),
-        }),
-        _ => None,
+    let matches = parse_words(alloc, words)?;
+    match options_of(&matches) {
+        Some(options) => Ok(Command::Run(options)),
+        None => Err(WordsError::Usage),
     }
 }
 
-fn read_word(options: Options, word: &str) -> Option<Options>
-    ensures { result ≡ after_word word.now options }
+// One of the words is `--`.
+fn has_dashes(words: &[String]) -> bool
+    ensures { result ≡ list_any (λ word. is_dashes (string_bytes word)) words.now }
 {
-    match options.awaited {
-        Awaited::Nothing => read_option(options, word),
-        Awaited::Stop => add_stop(options, word),
-        Awaited::Image => add_image(options, word),
+    words.iter().any(|word| word.as_str() == "--")
+}
+
+// What `clap` makes of the words of a run.
+#[tactic(auto, using(crate::proofs::WordLemmas::run_is_simple, crate::proofs::WordLemmas::run_is_free))]
+fn parse_words<'a>(alloc: Global, words: &'a [String]) -> Result<ArgMatches<'a>, WordsError>
+    ensures taken { IfOk result (λ matches. (rows_of (found_of matches) ≡ rows_in run_app (map string_bytes words.now))
+        × (fault_of run_app (map string_bytes words.now) ≡ [])) }
+    ensures refused { result ≡ Err Usage → fault_of run_app (map string_bytes words.now) ≢ [] }
+{
+    let parser = run_parser(alloc)?;
+    match parser.try_get_matches_from(words) {
+        Ok(matches) => Ok(matches),
+        Err(error) if error.kind() == ErrorKind::OutOfMemory => Err(WordsError::NoMemory),
+        Err(_) => Err(WordsError::Usage),
     }
 }
 
-#[tactic(auto, unfolding(crate::specs::Words::after_option))]
-fn read_option(options: Options, word: &str) -> Option<Options>
-    ensures { result ≡ after_option word.now options }
+// The options of a run. A word that asks for help is one that it doesn't know.
+fn run_parser<'a>(alloc: Global) -> Result<Parser<'a>, AllocError>
+    ensures { IfOk result (λ parser. app_of parser ≡ run_app) }
 {
-    if is_text(word, "--noworker") {
-        if options.noworker {
-            None
-        } else {
-            Some(Options {
-                noworker: true,
-                ..options
-            })
-        }
-    } else if is_text(word, "--stop") {
-        Some(Options {
-            awaited: Awaited::Stop,
-            ..options
-        })
-    } else if is_text(word, "--image") {
-        Some(Options {
-            awaited: Awaited::Image,
-            ..options
-        })
-    } else if let Some(value) = value_behind(word, "--stop=") {
-        add_stop(options, value)
-    } else if let Some(value) = value_behind(word, "--image=") {
-        add_image(options, value)
-    } else {
-        None
-    }
+    let parser = Parser::new(alloc, "run").arg(noworker_arg(alloc))?;
+    let parser = with_option(alloc, parser, "page")?;
+    let parser = with_option(alloc, parser, "entries")?;
+    let parser = with_option(alloc, parser, "cache")?;
+    let parser = with_option(alloc, parser, "batch")?;
+    let parser = with_option(alloc, parser, "pages")?;
+    let parser = with_option(alloc, parser, "stop")?;
+    let parser = with_option(alloc, parser, "image")?;
+    Ok(parser.disable_help_flag(true))
 }
 
-// The options with the device call to stop at, where none was said yet.
-#[tactic(auto, unfolding(crate::specs::Words::with_stop))]
-fn add_stop(options: Options, value: &str) -> Option<Options>
-    ensures { result ≡ with_stop value.now options }
+// The option without a value, which is needed.
+fn noworker_arg<'a>(alloc: Global) -> Arg<'a>
+    ensures rule { rule_of result ≡ noworker_rule }
+    ensures local { result.global ≡ false }
 {
-    if options.stop.is_some() {
-        return None;
-    }
-    let number = parse_number(value, 1)?;
-    Some(Options {
-        stop: Some(number),
-        awaited: Awaited::Nothing,
-        ..options
+    Arg::new(alloc, "noworker")
+        .long("noworker")
+        .required(true)
+        .action(ArgAction::SetTrue)
+}
+
+// The options with one more, which has a value.
+fn with_option<'a>(
+    alloc: Global,
+    parser: Parser<'a>,
+    name: &'a str,
+) -> Result<Parser<'a>, AllocError>
+    ensures { IfOk result (λ more. app_of more ≡ with_rule (app_of parser.entry) (option_rule name.now)) }
+{
+    parser.arg(Arg::new(alloc, name).long(name))
+}
+
+// What the options say, where each says what it may.
+fn options_of(matches: &ArgMatches<'_>) -> Option<RunOptions>
+    ensures { result ≡ options_in (rows_of (found_of matches.now)) }
+{
+    let page = page_of(matches)?;
+    let entries = number_of(matches, "entries", 16, 2, 1024)?;
+    let cache = number_of(matches, "cache", 4, 1, 16384)?;
+    let batch = number_of(matches, "batch", 4, 1, 1024)?;
+    let pages = number_of(matches, "pages", 64, 1, 1024)?;
+    let stop = stop_of(matches)?;
+    let image = image_of(matches)?;
+    Some(RunOptions {
+        page,
+        entries,
+        cache,
+        batch,
+        pages,
+        stop,
+        image,
     })
 }
 
-// The options with a pick, where none was said yet.
-#[tactic(auto, unfolding(crate::specs::Words::with_image))]
-fn add_image(options: Options, value: &str) -> Option<Options>
-    ensures { result ≡ with_image value.now options }
+// The bytes of a page, which are whole lines.
+fn page_of(matches: &ArgMatches<'_>) -> Option<u64>
+    ensures { result ≡ page_in (rows_of (found_of matches.now)) }
 {
-    if options.image.is_some() {
-        return None;
-    }
-    let pick = parse_pick(value)?;
-    Some(Options {
-        image: Some(pick),
-        awaited: Awaited::Nothing,
-        ..options
-    })
+    let page = number_of(matches, "page", 64, 64, 4096)?;
+    if page % 64 == 0 { Some(page) } else { None }
 }
 
-// The pick that a word stands for.
-#[tactic(auto, unfolding(crate::specs::Words::pick_of))]
-fn parse_pick(word: &str) -> Option<Pick>
-    ensures { result ≡ pick_of word.now }
+// The device call to stop at, where the option is there; none where its value isn't one.
+fn stop_of(matches: &ArgMatches<'_>) -> Option<Option<u64>>
+    ensures { result ≡ stop_in (first_of (codes "stop") (rows_of (found_of matches.now))) }
 {
-    if is_text(word, "old") {
-        Some(Pick::Old)
-    } else if is_text(word, "new") {
-        Some(Pick::New)
-    } else if is_text(word, "torn") {
-        Some(Pick::Torn)
-    } else {
-        let number = parse_number(word, 0)?;
-        Some(Pick::Seed(number))
+    match value_of(matches, "stop") {
+        None => Some(None),
+        Some(text) => parse_number(text, 1, LARGEST).map(Some),
     }
 }
 
-// The number that a word is, where it is one from `least` to the greatest.
-fn parse_number(word: &str, least: u64) -> Option<u64>
-    ensures { result ≡ number_of least word.now }
+// The image to leave; none where the option's value is no image.
+fn image_of(matches: &ArgMatches<'_>) -> Option<Pick>
+    ensures { result ≡ image_in (first_of (codes "image") (rows_of (found_of matches.now))) }
 {
-    let Ok(number) = word.parse::<u64>() else {
-        return None;
-    };
-    if least <= number && number <= LARGEST {
+    match value_of(matches, "image") {
+        None | Some("old") => Some(Pick::Old),
+        Some("new") => Some(Pick::New),
+        Some("torn") => Some(Pick::Torn),
+        Some(text) => parse_number(text, 0, LARGEST).map(Pick::Seed),
+    }
+}
+
+// The number that an option says, from the least to the most; the usual one where the option isn't there.
+fn number_of(matches: &ArgMatches<'_>, name: &str, usual: u64, least: u64, most: u64) -> Option<u64>
+    ensures { result ≡ number_or usual least most (first_of name.now (rows_of (found_of matches.now))) }
+{
+    match value_of(matches, name) {
+        None => Some(usual),
+        Some(text) => parse_number(text, least, most),
+    }
+}
+
+// The value of an option, where the option is there.
+fn value_of<'a>(matches: &ArgMatches<'a>, name: &str) -> Option<&'a str>
+    ensures { option_map (λ value. value.now) result ≡ first_of name.now (rows_of (found_of matches.now)) }
+{
+    matches.get_str(name)
+}
+
+// The number that a text is, where it is one from the least to the most.
+fn parse_number(text: &str, least: u64, most: u64) -> Option<u64>
+    ensures { result ≡ number_in least most text.now }
+{
+    match text.parse::<u64>() {
+        Ok(number) => within(number, least, most),
+        Err(_) => None,
+    }
+}
+
+fn within(number: u64, least: u64, most: u64) -> Option<u64>
+    ensures { result ≡ (if nat_le least number && nat_le number most then Some number else None) }
+{
+    if least <= number && number <= most {
         Some(number)
     } else {
         None
     }
-}
-
-// What stands in a word behind this front.
-fn value_behind<'a>(word: &'a str, front: &str) -> Option<&'a str>
-    ensures { option_map (λ value. value.now) result
-        ≡ (if starts_with nat_eq word.now front.now then Some (drop (length front.now) word.now) else None) }
-{
-    word.strip_prefix(front)
-}
-
-fn is_text(word: &str, text: &str) -> bool
-    ensures { result ≡ says word.now text.now }
-{
-    word.as_bytes() == text.as_bytes()
 }

@@ -12,8 +12,8 @@ returns-clause-region g c why is arms =
     let old = g.B.Bench.state c.args.bench.now in
     let new = g.B.Bench.state c.run_trace.new.bench in
     let trace = c.in_ok-trace.trace in
-    refused_from c.args.stop c.args.image (g.I.Source.left c.args.src.now) old new trace why c.in_ok-trace.ensures.whole
-    (λ rise. both_told old new trace.names why (c.run_trace.ensures.refused why is arms rise) (λ other. c.run_trace.ensures.unwritten why is arms other rise))
+    refused_from c.args.options (g.I.Source.left c.args.src.now) old new trace why c.in_ok-trace.ensures.whole
+    (λ rise. both_told c.args.options old new trace.names why (c.run_trace.ensures.refused why is arms rise) (λ other. c.run_trace.ensures.unwritten why is arms other rise))
 
 pub returns-clause-report : goal.returns-clause-report
 returns-clause-report g c =
@@ -22,7 +22,7 @@ returns-clause-report g c =
     let left = g.I.Source.left c.args.src.now in
     let trace = c.in_ok-trace.trace in
     IfOk-weaker c.run_trace.result
-    (λ text. IsStrictlyIncreasing (lines_in trace) → IfSome old.told (λ holding. IsShownOf c.args.stop old new holding trace text.items))
-    (λ text. IfSome old.told (λ holding. IsShown (Run c.args.stop c.args.image) left old new holding text.items))
-    (λ text ran. shown_from c.args.stop c.args.image left old new trace text.items c.in_ok-trace.ensures.whole ran)
+    (λ text. IsStrictlyIncreasing (lines_in trace) → IfSome old.told (λ holding. IsShownOf c.args.options.stop c.args.options old new holding trace text.items))
+    (λ text. IfSome old.told (λ holding. IsShown (Run c.args.options) left old new holding text.items))
+    (λ text ran. shown_from c.args.options left old new trace text.items c.in_ok-trace.ensures.whole ran)
     c.run_trace.ensures.ran

@@ -31,8 +31,8 @@ returns-in_err-opened-clause-refused g c why is arms =
     let error = c.in_err-opened.field-0.0 in
     let trace = c.args.trace.now in
     let stop : Region why ≡ stop_of_opening error = err_has c.from_residual-in_err-opened.result (λ stop. stop ≡ stop_of_opening error) (Region why) is c.from_residual-in_err-opened.ensures.1 in
-    if_told old.told (λ holding. IsNotRun holding trace.names why) (λ holding told.
-    let With : List (List ℕ) → Type 0 = λ wanted. IsNotRun holding wanted why in
+    if_told old.told (λ holding. IsNotRun c.args.options holding trace.names why) (λ holding told.
+    let With : List (List ℕ) → Type 0 = λ wanted. IsNotRun c.args.options holding wanted why in
     subst With (c.in_ok-wanted.ensures ∙ c.names.ensures) (record {
       geometry = _;
       page_is = refl;
@@ -70,18 +70,18 @@ returns-clause-ran g c =
     let lent = saturated (mid.faults + (sum_by g.T.Part.Lines.fault_count region.parts.items + sum_by g.T.Store.Backing.fault_count backing)) in
     IfOk-weaker c.run_to_stop.result
     (λ text. (parts : List Part) (now : List Store) → AreNow (map history region.parts.items) parts → AreNow (map held backing) now → IsStrictlyIncreasing (lines_in trace)
-    → IfSome mid.told (λ left. IsAway region.names left → HasStoppedOn (Rose lent new.faults) (basis_over region (files_of now)) trace new.told text.items))
-    (λ text. IsStrictlyIncreasing (lines_in trace) → IfSome old.told (λ holding. HasStopped (Rose old.faults new.faults) holding new.told trace text.items))
+    → IfSome mid.told (λ left. IsAway region.names left → HasStoppedOn (Rose lent new.faults) (basis_over region c.args.options.pages (files_of now)) trace new.told text.items))
+    (λ text. IsStrictlyIncreasing (lines_in trace) → IfSome old.told (λ holding. HasStopped (Rose old.faults new.faults) c.args.options holding new.told trace text.items))
     (λ text ran rise.
-    if_told old.told (λ holding. HasStopped (Rose old.faults new.faults) holding new.told trace text.items) (λ holding told.
+    if_told old.told (λ holding. HasStopped (Rose old.faults new.faults) c.args.options holding new.told trace text.items) (λ holding told.
     let opened = told_at old.told _ holding told made.opened in
     let parts = present (map history region.parts.items) (told_at old.told _ holding told made.tell) in
-    let basis = basis_over region (files_of opened.files.held) in
+    let basis = basis_over region c.args.options.pages (files_of opened.files.held) in
     let left : Holding = record { parts = []; stores = without_stores region.names holding.stores } in
     let Stopped : Holding → Type 0 = λ left. IsAway region.names left → HasStoppedOn (Rose lent new.faults) basis trace new.told text.items in
     let Over : ℕ → Type 0 = λ count. HasStoppedOn (Rose count new.faults) basis trace new.told text.items in
     let same : lent ≡ old.faults = omega (arith, made.counts) in
-    let With : List (List ℕ) → Type 0 = λ wanted. IsBasis holding wanted basis in
+    let With : List (List ℕ) → Type 0 = λ wanted. IsBasis c.args.options holding wanted basis in
     record {
       basis = basis;
       begun = subst With (c.in_ok-wanted.ensures ∙ c.names.ensures) (record {

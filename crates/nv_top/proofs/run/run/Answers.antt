@@ -47,16 +47,16 @@ returns-clause-ran g c =
     let wanted = c.in_ok-wanted.wanted in
     IfOk-weaker ended.report
     (λ text. (parts : List Part) (now : List Store) → AreNow (map history region.parts.items) parts → AreNow (map held stores) now → IsStrictlyIncreasing (lines_in trace)
-    → HasRunOver history held (basis_over region (files_of now)) trace text.items ended.parts.items ended.stores.items)
-    (λ text. IsStrictlyIncreasing (lines_in trace) → IfSome old.told (λ holding. HasRunOn holding after_it.told trace text.items))
+    → HasRunOver history held (basis_over region c.args.options.pages (files_of now)) trace text.items ended.parts.items ended.stores.items)
+    (λ text. IsStrictlyIncreasing (lines_in trace) → IfSome old.told (λ holding. HasRunOn c.args.options holding after_it.told trace text.items))
     (λ text ran rise.
-    if_told old.told (λ holding. HasRunOn holding after_it.told trace text.items) (λ holding told.
+    if_told old.told (λ holding. HasRunOn c.args.options holding after_it.told trace text.items) (λ holding told.
     let opened = told_at old.told _ holding told made.opened in
     let parts = present (map history region.parts.items) (told_at old.told _ holding told made.tell) in
     let over = ran parts.states opened.files.held parts.are opened.files.are rise in
-    let With : List (List ℕ) → Type 0 = λ wanted. IsBasis holding wanted (basis_over region (files_of opened.files.held)) in
+    let With : List (List ℕ) → Type 0 = λ wanted. IsBasis c.args.options holding wanted (basis_over region c.args.options.pages (files_of opened.files.held)) in
     record {
-      basis = basis_over region (files_of opened.files.held);
+      basis = basis_over region c.args.options.pages (files_of opened.files.held);
       begun = subst With (c.in_ok-wanted.ensures ∙ c.names.ensures) (record {
         geometry = _;
         page_is = refl;
@@ -81,8 +81,8 @@ returns-in_err-region-clause-refused g c why is rise =
     let error = c.in_err-region.field-0.0 in
     let trace = c.args.trace.now in
     let stop : Region why ≡ stop_of_opening error = err_has c.from_residual-in_err-region.result (λ stop. stop ≡ stop_of_opening error) (Region why) is c.from_residual-in_err-region.ensures.1 in
-    if_told old.told (λ holding. IsNotRun holding trace.names why) (λ holding told.
-    let With : List (List ℕ) → Type 0 = λ wanted. IsNotRun holding wanted why in
+    if_told old.told (λ holding. IsNotRun c.args.options holding trace.names why) (λ holding told.
+    let With : List (List ℕ) → Type 0 = λ wanted. IsNotRun c.args.options holding wanted why in
     subst With (c.in_ok-wanted.ensures ∙ c.names.ensures) (record {
       geometry = _;
       page_is = refl;
@@ -95,7 +95,7 @@ pub returns-clause-refused : goal.returns-clause-refused
 returns-clause-refused g c why is rise =
     let old = g.T.Bench.state c.args.bench.now in
     let made = c.in_ok-region.ensures in
-    if_told old.told (λ holding. IsNotRun holding c.args.trace.now.names why) (λ holding told.
+    if_told old.told (λ holding. IsNotRun c.args.options holding c.args.trace.now.names why) (λ holding told.
     let opened = told_at old.told _ holding told made.opened in
     let parts = present (map g.T.Part.Lines.history c.in_ok-region.field-0.region.parts.items) (told_at old.told _ holding told made.tell) in
     absurd (c.run_over-ended.ensures.whole why is rise parts.states opened.files.held parts.are opened.files.are))

@@ -34,14 +34,14 @@ returns-in-Ok-new-clause-ran g c =
     (λ text. (basis : Basis) → IsFirst history held basis log → basis.names ≡ log.names → IsStrictlyIncreasing (lines_in trace)
     → HasRunOver history held basis trace text.items c.run_log.result.parts.items c.run_log.result.stores.items)
     (λ text. (parts : List Part) (now : List Store) → AreNow (map history region.parts.items) parts → AreNow (map held c.args.stores.items) now → IsStrictlyIncreasing (lines_in trace)
-    → HasRunOver history held (basis_over region (files_of now)) trace text.items c.run_log.result.parts.items c.run_log.result.stores.items)
+    → HasRunOver history held (basis_over region c.args.pages (files_of now)) trace text.items c.run_log.result.parts.items c.run_log.result.stores.items)
     (λ text ran parts now parts_are now_are rise.
-    ran (basis_over region (files_of now))
-    (begins history held region log (files_of now) made.geometry made.pages made.tail made.head (made.holds parts now parts_are now_are)) (sym made.names) rise)
+    ran (basis_over region c.args.pages (files_of now))
+    (begins history held region c.args.pages log (files_of now) made.geometry made.pages made.tail made.head (made.holds parts now parts_are now_are)) (sym made.names) rise)
     c.run_log.ensures.ran
 
 pub returns-in-Ok-new-clause-whole : goal.returns-in-Ok-new-clause-whole
 returns-in-Ok-new-clause-whole g c why is rise parts now parts_are now_are =
     let made = c.in-Ok-new.ensures in
-    c.run_log.ensures.whole why is rise (basis_over c.args.region (files_of now))
-    (begins g.L.Lines.history g.B.Backing.history c.args.region c.in-Ok-new.log (files_of now) made.geometry made.pages made.tail made.head (made.holds parts now parts_are now_are))
+    c.run_log.ensures.whole why is rise (basis_over c.args.region c.args.pages (files_of now))
+    (begins g.L.Lines.history g.B.Backing.history c.args.region c.args.pages c.in-Ok-new.log (files_of now) made.geometry made.pages made.tail made.head (made.holds parts now parts_are now_are))

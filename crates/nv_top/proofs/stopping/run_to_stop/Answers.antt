@@ -47,9 +47,9 @@ returns-in-Ok-new-clause-ran g c =
     (λ text. (basis : Basis) → IsFirst history held basis log → basis.names ≡ log.names → IsStrictlyIncreasing (lines_in trace)
     → IfSome start.told (λ left. IsAway log.names left → HasStoppedOn (Rose (saturated (start.faults + log_faults pf sf log)) last) basis trace told text.items))
     (λ text. (parts : List Part) (now : List Store) → AreNow (map history region.parts.items) parts → AreNow (map held c.args.opened.stores.items) now → IsStrictlyIncreasing (lines_in trace)
-    → IfSome start.told (λ left. IsAway region.names left → HasStoppedOn (Rose (saturated (start.faults + before)) last) (basis_over region (files_of now)) trace told text.items))
+    → IfSome start.told (λ left. IsAway region.names left → HasStoppedOn (Rose (saturated (start.faults + before)) last) (basis_over region c.args.options.pages (files_of now)) trace told text.items))
     (λ text ran parts now parts_are now_are rise.
-    let basis = basis_over region (files_of now) in
+    let basis = basis_over region c.args.options.pages (files_of now) in
     let first : IsFirst history held basis log = record {
       sizes_are = ap (λ geometry. sized geometry log.pages) made.geometry ∙ ap (sized region.geometry) made.pages;
       next_is = made.tail;

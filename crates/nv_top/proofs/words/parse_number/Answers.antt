@@ -1,15 +1,10 @@
-use Rattle.std.proofs.Common.{inl, inr, arith}
-use Rattle.nv_top.proofs.WordLemmas.{number_in_range, number_out_of_range, no_number_in_range}
+use Rattle.std.proofs.Common.{◌∙◌, sym}
+use Rattle.nv_top.proofs.NumberLemmas.{read_number, read_none}
 use Rattle.nv_top.proofs.words.parse_number.Goals as goal
 
-pub returns-in_default : goal.returns-in_default
-returns-in_default c = no_number_in_range c.args.least c.args.word.now c.in_default.ensures.value.0
+pub returns-in-Ok : goal.returns-in-Ok
+returns-in-Ok c =
+    c.within.ensures ∙ sym (read_number c.args.least c.args.most c.args.text.now c.parse.result c.parse.ensures.value.0 c.in-Ok.number c.in-Ok.is)
 
-pub returns-then-number-le-LARGEST : goal.returns-then-number-le-LARGEST
-returns-then-number-le-LARGEST c =
-    number_in_range c.args.least c.args.word.now c.in-Ok.number c.in-Ok.ensures.value.0.0.0 c.in-Ok.ensures.value.0.1 c.if-least-number.true c.if-number-le-LARGEST.true
-
-pub returns-else-least-number : goal.returns-else-least-number
-returns-else-least-number c =
-    number_out_of_range c.args.least c.args.word.now c.in-Ok.number c.in-Ok.ensures.value.0.1
-    (λ low high. elim c.else-least-number.either [ inl large ↦ omega (arith, large) | inr small ↦ omega (arith, small) ])
+pub returns-in-Err : goal.returns-in-Err
+returns-in-Err c = sym (read_none c.args.least c.args.most c.args.text.now c.parse.result c.parse.ensures.value.0 c.in-Err.field-0 c.in-Err.is)
