@@ -18,8 +18,8 @@ RUN = [b"run", b"--noworker"]
 STOPPED = b"refused 0 pread 0 0 16: stopped\nopen 0 pwrite 0 0 5: %s\nfile a %s\nend 0 1 1\n"
 
 
-def line(number):
-    return (b"error line %d form\n" % number, 2)
+def line(number, why):
+    return (b"error line %d %s\n" % (number, why), 2)
 
 
 # What the words and the input make of the program. No byte of the input is read where the words are no command.
@@ -30,6 +30,8 @@ TABLE = [
     ("stopped, the write lost", RUN + [b"--stop", b"12"], HELLO, (STOPPED % (b"lost", b"0 -"), 0)),
     ("stopped, the write kept", RUN + [b"--stop=12", b"--image", b"0"], HELLO, (STOPPED % (b"kept", b"5 68656c6c6f"), 0)),
     ("a stop that never comes", RUN + [b"--image=torn", b"--stop", b"4294967295"], HELLO, (REPORT, 0)),
+    ("all sizes", RUN + [b"--page=128", b"--entries", b"2", b"--pages=1", b"--cache", b"+4", b"--batch=004"], HELLO, (REPORT, 0)),
+    ("a page that is no whole lines", RUN + [b"--page", b"65"], HELLO, USAGE),
     ("a recovery of nothing", [b"recover"], b"", (b"error region truncated 0 18\n", 7)),
     ("a stop at no call", RUN + [b"--stop", b"0"], HELLO, USAGE),
     ("two stops", RUN + [b"--stop", b"3", b"--stop=4"], HELLO, USAGE),
@@ -50,13 +52,13 @@ TABLE = [
     ("the first word not UTF-8", [b"\xff", b"--noworker"], HELLO, USAGE),
     ("the second word not UTF-8", [b"run", b"\xc3\x28"], HELLO, USAGE),
     ("a third word not UTF-8", RUN + [b"\xed\xa0\x80"], HELLO, USAGE),
-    ("a bad first line", RUN, b"x\n" + HELLO, line(1)),
-    ("a bad second line", RUN, b"file a\nx\n", line(2)),
-    ("a bad last line that no line feed ends", RUN, HELLO + b"0 pread 0 0", line(5)),
-    ("a byte that no line has", RUN, HELLO + b"\xff\n", line(5)),
+    ("a bad first line", RUN, b"x\n" + HELLO, line(1, b"form")),
+    ("a bad second line", RUN, b"file a\nx\n", line(2, b"form")),
+    ("a bad last line that no line feed ends", RUN, HELLO + b"0 pread 0 0", line(5, b"form")),
+    ("a byte that no line has", RUN, HELLO + b"\xff\n", line(5, b"bytes")),
     ("an input of the limit", RUN, b"#" * 67_108_864, (b"end 0 0 0\n", 0)),
     ("an input past the limit", RUN, b"#" * 67_108_865, (b"error input long\n", 2)),
-    ("a bad line before the limit is passed", RUN, b"x\n" + b"#" * 67_108_864, line(1)),
+    ("a bad line before the limit is passed", RUN, b"x\n" + b"#" * 67_108_864, line(1, b"form")),
 ]
 
 

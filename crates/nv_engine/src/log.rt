@@ -1,5 +1,6 @@
 ghost use Rattle.std.specs.Prelude.{◌≡◌, ◌<◌, ◌*◌, length, slice_index};
 ghost use Rattle.nv_engine.specs.Keeping.{IsLog};
+ghost use Rattle.nv_engine.specs.Refusals.{file_limit};
 
 use nv_header::Names;
 use nv_pmem::{Geometry, Lines};
@@ -52,6 +53,14 @@ impl<L: Lines + Drop, B: Backing + Drop> Log<L, B> {
         ensures { result ≡ self.now.head }
     {
         self.head
+    }
+
+    /// The largest length of a file, in bytes.
+    pub fn file_limit(&self) -> u64
+        requires log { IsLog L.history L.room B.history self.now }
+        ensures { result ≡ file_limit self.now }
+    {
+        self.geometry.page * self.pages
     }
 
     /// Whether a device has failed.

@@ -12,9 +12,11 @@ use Rattle.nv_engine.specs.Laid.{Piece, with_piece}
 use Rattle.nv_engine.specs.Refusals.{write_refusal, write_pages, IsRefusedWrite}
 use Rattle.nv_engine.specs.declared.log.Log.{Log}
 use Rattle.nv_engine.specs.declared.error.WriteError.{WriteError}
+use Rattle.nv_trace.specs.declared.trace.Descriptor.{Descriptor}
 use Rattle.nv_trace.specs.declared.trace.TraceCall.TheVariants.{Pwrite}
-use Rattle.nv_trace.specs.declared.report.Refusal.TheVariants.{TooFar, TooLong}
-use Rattle.nv_top.specs.Answers.{IsAnswer}
+use Rattle.nv_trace.specs.declared.report.Refusal.TheVariants.{BadDescriptor, TooFar, TooLong}
+use Rattle.nv_top.specs.Answers.{IsAnswer, sizes_of}
+use Rattle.nv_top.specs.Faithful.{barred_there, descriptor_at, is_allowed}
 
 -- a byte at least lies in a page at least
 pages_some : (at len page : ℕ) → 1 ≤ len → 1 ≤ pages_touched at len page
@@ -37,12 +39,12 @@ none_where_ok (Some refusal) value refused = cc
 none_where_ok None value refused = refl
 
 -- a write that was made
-pub write_answered : {L B : Type 0} (history : L → lines.History) (held : B → stores.History) (descriptors : List ℕ) (old new : Log L B) (fd at : ℕ) (bytes : List ℕ) (count : ℕ)
-    → old.stopped ≡ false → 1 ≤ length bytes
+pub write_answered : {L B : Type 0} (history : L → lines.History) (held : B → stores.History) (descriptors : List Descriptor) (old new : Log L B) (fd at : ℕ) (bytes : List ℕ) (count : ℕ)
+    → old.stopped ≡ false → is_allowed descriptors (Pwrite fd at bytes) ≡ true → 1 ≤ length bytes
     → IsRefusedWrite (write_refusal write_pages old at (length bytes)) (Ok count) → new.stopped ≡ old.stopped → count ≡ length bytes → new.head ≡ old.head + 1
-    → ((pieces : List Piece) (files : Files) → Holds history held old pieces files → Holds history held new (pieces ++ written (slice_index descriptors fd) at bytes ∷ []) files)
+    → ((pieces : List Piece) (files : Files) → Holds history held old pieces files → Holds history held new (pieces ++ written (descriptor_at descriptors fd).file at bytes ∷ []) files)
     → IsAnswer history held descriptors (Pwrite fd at bytes) old new (Count count)
-write_answered history held descriptors old new fd at bytes count running some refused still counted drew holds =
+write_answered history held descriptors old new fd at bytes count running allowed some refused still counted drew holds =
     let page = old.geometry.page in
     let len = length bytes in
     let far = nat_lt (page * old.pages) (at + len) in
@@ -50,12 +52,12 @@ write_answered history held descriptors old new fd at bytes count running some r
     let passes = passed far long _ _ _ (none_where_ok (write_refusal write_pages old at len) count refused) in
     record {
       running = still ∙ running;
-      may = not_barred far long TooFar TooLong passes.0 passes.1;
+      may = ap (λ allowed. if allowed then barred_there (sizes_of old) (Pwrite fd at bytes) else Some BadDescriptor) allowed ∙ not_barred far long TooFar TooLong passes.0 passes.1;
       head = omega (arith, drew, ltb-false 1 (pages_touched at len page) passes.1, pages_some at len page some);
       answered = λ pieces files here. record {
-        more = pieces ++ written (slice_index descriptors fd) at bytes ∷ [];
+        more = pieces ++ written (descriptor_at descriptors fd).file at bytes ∷ [];
         holds = holds pieces files here;
         reply_is = ap Count counted;
-        files_are = fold_push with_piece files pieces (written (slice_index descriptors fd) at bytes);
+        files_are = fold_push with_piece files pieces (written (descriptor_at descriptors fd).file at bytes);
       };
     }

@@ -16,9 +16,10 @@ use Rattle.nv_engine.specs.Refusals.{write_refusal, write_pages, IsRefusedWrite}
 use Rattle.nv_engine.specs.declared.error.WriteError.{WriteError}
 use Rattle.nv_engine.specs.declared.error.WriteError.TheVariants as write_error
 use Rattle.nv_engine.specs.declared.log.Log.{Log}
+use Rattle.nv_trace.specs.declared.trace.Descriptor.{Descriptor}
 use Rattle.nv_trace.specs.declared.trace.TracedCall.{TracedCall}
 use Rattle.nv_trace.specs.declared.report.Refusal.{Refusal}
-use Rattle.nv_trace.specs.declared.report.Refusal.TheVariants.{TooFar, TooLong, Stopped, Spent, Again, RegionFault, StoreFault}
+use Rattle.nv_trace.specs.declared.report.Refusal.TheVariants.{BadDescriptor, TooFar, TooLong, Stopped, Spent, Again, RegionFault, StoreFault}
 use Rattle.nv_top.specs.Answers.{IsAnswer, IsRefusedAt, sizes_of}
 use Rattle.nv_top.specs.Attempts.{HasRunTo, IsHeld, IsLeftAt, IsTurn, IsTurnedDown}
 use Rattle.nv_top.specs.Faithful.{Basis, Sizes, barred, entries_taken}
@@ -66,7 +67,7 @@ record HasNoneLeft {L B : Type 0} (history : L → lines.History) (held : B → 
   holds : Holds history held log pieces files
   next_is : next ≡ log.head
 
-module _ {L B : Type 0} (history : L → lines.History) (held : B → stores.History) (descriptors : List ℕ) where
+module _ {L B : Type 0} (history : L → lines.History) (held : B → stores.History) (descriptors : List Descriptor) where
   none_left : (log : Log L B) (pieces : List Piece) (next : ℕ) (files : Files) (left : List outcome.Left) → log.stopped ≡ false
       → IsHeld history held descriptors log pieces next files left → HasNoneLeft history held log pieces next files left
   none_left log pieces next files [] running here = record { none = refl; holds = here.0; next_is = here.1 }
@@ -103,7 +104,7 @@ module _ {L B : Type 0} (history : L → lines.History) (held : B → stores.His
             (subst Placed_so (sym (ap (map placed_call) none_placed)) (made_nothing failed basis descriptors)));
       }
 
-module _ {L B : Type 0} (history : L → lines.History) (room : L → Room) (held : B → stores.History) (failed more : Type 0) (basis : Basis) (descriptors : List ℕ)
+module _ {L B : Type 0} (history : L → lines.History) (room : L → Room) (held : B → stores.History) (failed more : Type 0) (basis : Basis) (descriptors : List Descriptor)
     (calls : List TracedCall) (old new : Log L B) (before after_it : Outcome) (call : Bor TracedCall) (on : failed → more) (same : IsSameRegion old new) (log : IsLog history room held new)
     (after_all : IsAfterAll calls call.now) (still : old.stopped ≡ true → new.stopped ≡ true) (stops : new.stopped ≡ true → (old.stopped ≡ true) ⊎ more)
     (run : HasRunTo history held failed basis descriptors calls old before) where
@@ -145,7 +146,7 @@ module _ {L B : Type 0} (history : L → lines.History) (room : L → Room) (hel
   on_answer reply running answer pushed others lefts =
       let none = running_so running in
       let here = answer.answered run.pieces basis.files none.holds in
-      let MayBe : Sizes → Type 0 = λ sizes. barred sizes call.now.call ≡ None in
+      let MayBe : Sizes → Type 0 = λ sizes. barred sizes descriptors call.now.call ≡ None in
       record {
         sizes_are = sizes_stay;
         next_is = same.tail ∙ run.next_is;
@@ -166,26 +167,29 @@ module _ {L B : Type 0} (history : L → lines.History) (room : L → Room) (hel
   refused_with refusal =
       AreMade more basis descriptors (calls ++ call.now ∷ []) run.next now (placed_calls before) (refused_calls before ++ record { call = call.now; refusal = refusal } ∷ []) (left_calls before)
 
-  may_be : barred (sizes_of old) call.now.call ≡ None → barred basis.sizes call.now.call ≡ None
+  may_be : barred (sizes_of old) descriptors call.now.call ≡ None → barred basis.sizes descriptors call.now.call ≡ None
   may_be may =
-      let MayBe : Sizes → Type 0 = λ sizes. barred sizes call.now.call ≡ None in
+      let MayBe : Sizes → Type 0 = λ sizes. barred sizes descriptors call.now.call ≡ None in
       subst MayBe run.sizes_are may
 
   -- a refusal of a log that runs
-  at_run : (refusal : Refusal) → old.stopped ≡ false → IsRefusedAt (sizes_of old) old.head old.tail call.now.call refusal → IsRefusedAt basis.sizes run.next basis.next call.now.call refusal
+  at_run : (refusal : Refusal) → old.stopped ≡ false → IsRefusedAt (sizes_of old) descriptors old.head old.tail call.now.call refusal → IsRefusedAt basis.sizes descriptors run.next basis.next call.now.call refusal
   at_run refusal running at =
       let none = running_so running in
-      let Of : Sizes → Type 0 = λ sizes. IsRefusedAt sizes old.head old.tail call.now.call refusal in
-      let From : ℕ → Type 0 = λ tail. IsRefusedAt basis.sizes old.head tail call.now.call refusal in
-      let To : ℕ → Type 0 = λ head. IsRefusedAt basis.sizes head basis.next call.now.call refusal in
+      let Of : Sizes → Type 0 = λ sizes. IsRefusedAt sizes descriptors old.head old.tail call.now.call refusal in
+      let From : ℕ → Type 0 = λ tail. IsRefusedAt basis.sizes descriptors old.head tail call.now.call refusal in
+      let To : ℕ → Type 0 = λ head. IsRefusedAt basis.sizes descriptors head basis.next call.now.call refusal in
       subst To (sym none.next_is) (subst From run.next_is (subst Of run.sizes_are at))
 
-  turned : (refusal : Refusal) → IsTurnedDown old new call.now.call refusal → refused_with refusal
+  turned : (refusal : Refusal) → IsTurnedDown descriptors old new call.now.call refusal → refused_with refusal
+  turned BadDescriptor cause =
+      let Is : Sizes → Type 0 = λ sizes. barred sizes descriptors call.now.call ≡ Some BadDescriptor in
+      made_barred more basis descriptors calls run.next now (placed_calls before) (refused_calls before) (left_calls before) call.now made_so_far after_all BadDescriptor (subst Is run.sizes_are cause)
   turned TooFar cause =
-      let Is : Sizes → Type 0 = λ sizes. barred sizes call.now.call ≡ Some TooFar in
+      let Is : Sizes → Type 0 = λ sizes. barred sizes descriptors call.now.call ≡ Some TooFar in
       made_barred more basis descriptors calls run.next now (placed_calls before) (refused_calls before) (left_calls before) call.now made_so_far after_all TooFar (subst Is run.sizes_are cause)
   turned TooLong cause =
-      let Is : Sizes → Type 0 = λ sizes. barred sizes call.now.call ≡ Some TooLong in
+      let Is : Sizes → Type 0 = λ sizes. barred sizes descriptors call.now.call ≡ Some TooLong in
       made_barred more basis descriptors calls run.next now (placed_calls before) (refused_calls before) (left_calls before) call.now made_so_far after_all TooLong (subst Is run.sizes_are cause)
   turned Stopped cause =
       made_stopped more basis descriptors calls run.next now (placed_calls before) (refused_calls before) (left_calls before) call.now made_so_far after_all (may_be cause.0) (on (run.stopped_so cause.1))
@@ -206,7 +210,7 @@ module _ {L B : Type 0} (history : L → lines.History) (room : L → Room) (hel
       made_store_fault more basis descriptors calls run.next now (placed_calls before) (refused_calls before) (left_calls before) call.now made_so_far after_all (may_be cause.0) cause.1 (stops_so cause.2)
 
   -- by a call that was refused
-  pub on_refusal : (refusal : Refusal) → IsTurn history held call.now.call old new refusal
+  pub on_refusal : (refusal : Refusal) → IsTurn history held descriptors call.now.call old new refusal
       → after_it.refused.items ≡ before.refused.items ++ record { call = call; refusal = refusal } ∷ [] → after_it.placed.items ≡ before.placed.items → after_it.left.items ≡ before.left.items
       → HasRunTo history held more basis descriptors (calls ++ call.now ∷ []) new after_it
   on_refusal refusal turn pushed others lefts = record {

@@ -2,14 +2,14 @@
 use Rattle.std.proofs.Common.{◌≡◌, ℕ, List, map, ap, ◌∙◌, arith}
 use Rattle.nv_plain.specs.Files.{Files}
 use Rattle.nv_trace.specs.Traced.{Traced}
-use Rattle.nv_top.specs.Faithful.{Basis, IsFaithful, after_open, descriptor_files, named}
+use Rattle.nv_top.specs.Faithful.{Basis, IsFaithful, after_open, descriptors_in, named}
 use Rattle.nv_top.specs.Reports.{PlacedCall, RefusedCall, OpenCall, NamedFile}
 use Rattle.nv_top.specs.Runs.{AreMade}
 
 -- A run made all calls of a trace, and the files that are shown are its own after the kept ones of those left open.
 pub made_faithful : (failed : Type 0) (basis : Basis) (trace : Traced) (head : ℕ) (now : Files) (placed : List PlacedCall) (refused : List RefusedCall) (open_calls : List OpenCall) (files : List NamedFile)
-    → AreMade failed basis (descriptor_files basis.names trace) trace.calls head now placed refused (map (λ o. o.call) open_calls)
-    → files ≡ named basis.names (after_open (descriptor_files basis.names trace) open_calls now)
+    → AreMade failed basis (descriptors_in basis.names trace) trace.calls head now placed refused (map (λ o. o.call) open_calls)
+    → files ≡ named basis.names (after_open (descriptors_in basis.names trace) open_calls now)
     → IsFaithful failed basis trace (record { history = placed; refused = refused; open_calls = open_calls; files = files })
 made_faithful failed basis trace head now placed refused open_calls files made shown = record {
   legal = made.legal;
@@ -21,5 +21,5 @@ made_faithful failed basis trace head now placed refused open_calls files made s
   not_barred = made.not_barred;
   left_open = made.left_open;
   room = omega (arith, made.drawn, made.room);
-  files = shown ∙ ap (λ files. named basis.names (after_open (descriptor_files basis.names trace) open_calls files)) made.files;
+  files = shown ∙ ap (λ files. named basis.names (after_open (descriptors_in basis.names trace) open_calls files)) made.files;
 }

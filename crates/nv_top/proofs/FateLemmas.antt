@@ -17,6 +17,7 @@ use Rattle.nv_recover.specs.declared.recovering.Recovered as recover
 use Rattle.nv_engine.specs.Laid.{IsFitting, Piece, laid, with_piece}
 use Rattle.nv_engine.specs.Logged.{AreFitting, HasLog, LoggedImagesRecover, RecoversTo}
 use Rattle.nv_engine.specs.declared.log.Log.{Log}
+use Rattle.nv_trace.specs.declared.trace.Descriptor.{Descriptor}
 use Rattle.nv_trace.specs.declared.trace.TraceCall.{TraceCall}
 use Rattle.nv_trace.specs.declared.trace.TraceCall.TheVariants.{Pread, Pwrite, Fsync}
 use Rattle.nv_trace.specs.declared.report.Fate.{Fate}
@@ -87,12 +88,12 @@ fitting_front layout page entries files tail pieces more fitting = record {
 }
 
 -- the piece of a write makes of files what the write makes of them
-as_written : (descriptors : List ℕ) (call : TraceCall) (files : Files) → IsWrite call → with_piece files (piece_of descriptors call) ≡ files_after (file_call descriptors call) files
+as_written : (descriptors : List Descriptor) (call : TraceCall) (files : Files) → IsWrite call → with_piece files (piece_of descriptors call) ≡ files_after (file_call descriptors call) files
 as_written descriptors (Pread fd at len) files is = absurd is
 as_written descriptors (Pwrite fd at bytes) files is = refl
 as_written descriptors (Fsync fd) files is = absurd is
 
-module _ {L B : Type 0} (recover_so : LoggedImagesRecover) (history : L → lines.History) (held : B → stores.History) (descriptors : List ℕ) (log : Log L B) (files : Files)
+module _ {L B : Type 0} (recover_so : LoggedImagesRecover) (history : L → lines.History) (held : B → stores.History) (descriptors : List Descriptor) (log : Log L B) (files : Files)
     (parts : List Part) (now : AreNow (map history log.parts.items) parts) (image : Image) (left_so : IsRowImage parts image) (found : recover.Recovered) (all : HasFoundAll image found) where
   recovered_to : (pieces : List Piece) → HasLog version_1 log.geometry.page log.geometry.entries log.names log.tail pieces image
       → AreFitting version_1 log.geometry.page log.geometry.entries (length log.names) log.tail pieces → RecoversTo log.tail pieces files image

@@ -17,6 +17,7 @@ use Rattle.nv_open.specs.declared.error.Refusal.TheVariants as refusals
 use Rattle.nv_pmem.specs.Laws.{BlankIsQuiet}
 use Rattle.nv_store.specs.Store.{IsQuiet}
 use Rattle.nv_trace.specs.Reading.{ending_of, Whole}
+use Rattle.nv_trace.specs.declared.trace.Form.TheVariants as forms
 use Rattle.nv_trace.specs.Traced.{Traced}
 use Rattle.nv_top.specs.Commands.{IsNotRun}
 use Rattle.nv_top.specs.Headline.{IsRefused, IsShown, IsShownOf, IsUnwritten, command_over, may_stop, possible}
@@ -65,22 +66,22 @@ run_limits images words options run = run_in_limits words options (run_over imag
 -- ---- what is shown, and refused
 
 pub shown_from : (options : RunOptions) (left : Option (List ℕ)) (old new : BenchState) (trace : Traced) (text : List ℕ)
-    → IfSome left (λ input. ending_of input ≡ Whole trace)
+    → IfSome left (λ input. ending_of forms.Run input ≡ Whole trace)
     → (IsStrictlyIncreasing (lines_in trace) → IfSome old.told (λ holding. IsShownOf options.stop options old new holding trace text))
     → IfSome old.told (λ holding. IsShown (Run options) left old new holding text)
 shown_from options None old new trace text whole ran = if_told old.told (λ holding. IsShown (Run options) None old new holding text) (λ holding told. tt)
 shown_from options (Some input) old new trace text whole ran =
     if_told old.told (λ holding. IsShown (Run options) (Some input) old new holding text) (λ holding told.
-    (trace, whole, told_at old.told (λ holding. IsShownOf options.stop options old new holding trace text) holding told (ran (lines_rise input trace whole))))
+    (trace, whole, told_at old.told (λ holding. IsShownOf options.stop options old new holding trace text) holding told (ran (lines_rise forms.Run input trace whole))))
 
 pub refused_from : (options : RunOptions) (left : Option (List ℕ)) (old new : BenchState) (trace : Traced) (why : Refusal)
-    → IfSome left (λ input. ending_of input ≡ Whole trace)
+    → IfSome left (λ input. ending_of forms.Run input ≡ Whole trace)
     → (IsStrictlyIncreasing (lines_in trace) → IfSome old.told (λ holding. IsNotRun options holding trace.names why × IsUnwritten old new why))
     → IfSome old.told (λ holding. IsRefused (Run options) left old new holding why)
 refused_from options None old new trace why whole refused = if_told old.told (λ holding. IsRefused (Run options) None old new holding why) (λ holding told. tt)
 refused_from options (Some input) old new trace why whole refused =
     if_told old.told (λ holding. IsRefused (Run options) (Some input) old new holding why) (λ holding told.
-    let both = told_at old.told (λ holding. IsNotRun options holding trace.names why × IsUnwritten old new why) holding told (refused (lines_rise input trace whole)) in
+    let both = told_at old.told (λ holding. IsNotRun options holding trace.names why × IsUnwritten old new why) holding told (refused (lines_rise forms.Run input trace whole)) in
     (trace, whole, both.0, both.1))
 
 pub both_told : (options : RunOptions) (old new : BenchState) (names : List (List ℕ)) (why : Refusal) → IfSome old.told (λ holding. IsNotRun options holding names why)

@@ -14,13 +14,14 @@ use Rattle.nv_engine.specs.Keeping.{IsLog, IsSameRegion}
 use Rattle.nv_engine.specs.Holding.{Holds}
 use Rattle.nv_engine.specs.Laid.{Piece, laid}
 use Rattle.nv_engine.specs.declared.log.Log.{Log}
+use Rattle.nv_trace.specs.declared.trace.Descriptor.{Descriptor}
 use Rattle.nv_trace.specs.declared.trace.TracedCall.{TracedCall}
 use Rattle.nv_trace.specs.declared.report.Refusal.{Refusal}
-use Rattle.nv_trace.specs.declared.report.Refusal.TheVariants.{TooFar, TooLong, Stopped, Spent, Again, RegionFault, StoreFault}
+use Rattle.nv_trace.specs.declared.report.Refusal.TheVariants.{BadDescriptor, TooFar, TooLong, Stopped, Spent, Again, RegionFault, StoreFault}
 use Rattle.nv_top.specs.Answers.{IsAnswer, IsRefusal, IsRefusedAt, sizes_of}
 use Rattle.nv_header.specs.FileNames.{AreFileNames}
 use Rattle.nv_trace.specs.Traced.{Traced}
-use Rattle.nv_top.specs.Faithful.{Basis, IsLeftOpen, Sizes, barred, descriptor_files, entries_taken, named}
+use Rattle.nv_top.specs.Faithful.{Basis, IsLeftOpen, Sizes, barred, descriptors_in, entries_taken, named}
 use Rattle.nv_top.specs.Leaving.{AreLeft}
 use Rattle.nv_header.specs.declared.region.Region.{Region}
 use Rattle.nv_top.specs.LogRuns.{HasRun, HasRunOver, IsFirst, basis_over}
@@ -58,10 +59,12 @@ refused_push : (old new : List outcome.Refused) (call : Bor TracedCall) (refusal
 refused_push old new call refusal pushed = ap (map refused_call) pushed ∙ map_push refused_call old (record { call = call; refusal = refusal })
 
 -- a refusal's cause leads on
-cause_made : (failed : Type 0) (basis : Basis) (descriptors : List ℕ) (calls : List TracedCall) (head : ℕ) (now : Files) (placed : List PlacedCall) (refused : List RefusedCall) (left : List TracedCall)
+cause_made : (failed : Type 0) (basis : Basis) (descriptors : List Descriptor) (calls : List TracedCall) (head : ℕ) (now : Files) (placed : List PlacedCall) (refused : List RefusedCall) (left : List TracedCall)
     (call : TracedCall) (refusal : Refusal)
-    → AreMade failed basis descriptors calls head now placed refused left → IsAfterAll calls call → IsRefusedAt basis.sizes head basis.next call.call refusal
+    → AreMade failed basis descriptors calls head now placed refused left → IsAfterAll calls call → IsRefusedAt basis.sizes descriptors head basis.next call.call refusal
     → AreMade failed basis descriptors (calls ++ call ∷ []) head now placed (refused ++ record { call = call; refusal = refusal } ∷ []) left
+cause_made failed basis descriptors calls head now placed refused left call BadDescriptor made after_all cause =
+    made_barred failed basis descriptors calls head now placed refused left call made after_all BadDescriptor cause
 cause_made failed basis descriptors calls head now placed refused left call TooFar made after_all cause =
     made_barred failed basis descriptors calls head now placed refused left call made after_all TooFar cause
 cause_made failed basis descriptors calls head now placed refused left call TooLong made after_all cause =
@@ -77,7 +80,7 @@ cause_made failed basis descriptors calls head now placed refused left call (Aga
 cause_made failed basis descriptors calls head now placed refused left call RegionFault made after_all cause = absurd cause
 cause_made failed basis descriptors calls head now placed refused left call StoreFault made after_all cause = absurd cause
 
-module _ {L B : Type 0} (history : L → lines.History) (room : L → Room) (held : B → stores.History) (failed : Type 0) (basis : Basis) (descriptors : List ℕ) where
+module _ {L B : Type 0} (history : L → lines.History) (room : L → Room) (held : B → stores.History) (failed : Type 0) (basis : Basis) (descriptors : List Descriptor) where
   -- a run begins
   pub run_begins : (log : Log L B) (outcome : Outcome) → IsFirst history held basis log → outcome.placed.items ≡ [] → outcome.refused.items ≡ [] → outcome.left.items ≡ []
       → HasRun history held failed basis descriptors [] log outcome
@@ -124,7 +127,7 @@ module _ {L B : Type 0} (history : L → lines.History) (room : L → Room) (hel
         → HasRun history held failed basis descriptors (calls ++ call.now ∷ []) new after_it
     run_answered reply answer pushed others lefts =
         let here = answer.answered run.pieces basis.files run.holds in
-        let MayBe : Sizes → Type 0 = λ sizes. barred sizes call.now.call ≡ None in
+        let MayBe : Sizes → Type 0 = λ sizes. barred sizes descriptors call.now.call ≡ None in
         record {
           sizes_are = sizes_stay;
           next_is = same.tail ∙ run.next_is;
@@ -139,12 +142,12 @@ module _ {L B : Type 0} (history : L → lines.History) (room : L → Room) (hel
         }
 
     -- by a call that was refused
-    pub run_refused : (refusal : Refusal) → IsRefusal history held call.now.call old new refusal
+    pub run_refused : (refusal : Refusal) → IsRefusal history held descriptors call.now.call old new refusal
         → after_it.refused.items ≡ before.refused.items ++ record { call = call; refusal = refusal } ∷ [] → after_it.placed.items ≡ before.placed.items → after_it.left.items ≡ before.left.items
         → HasRun history held failed basis descriptors (calls ++ call.now ∷ []) new after_it
     run_refused refusal was pushed others lefts =
-        let Cause : Sizes → Type 0 = λ sizes. IsRefusedAt sizes old.head old.tail call.now.call refusal in
-        let From : ℕ → Type 0 = λ tail. IsRefusedAt basis.sizes old.head tail call.now.call refusal in
+        let Cause : Sizes → Type 0 = λ sizes. IsRefusedAt sizes descriptors old.head old.tail call.now.call refusal in
+        let From : ℕ → Type 0 = λ tail. IsRefusedAt basis.sizes descriptors old.head tail call.now.call refusal in
         let At : ℕ → Type 0 = λ head. AreMade failed basis descriptors (calls ++ call.now ∷ []) head (laid basis.files run.pieces) (placed_calls before)
         (refused_calls before ++ record { call = call.now; refusal = refusal } ∷ []) (left_calls before) in
         record {
@@ -173,9 +176,9 @@ begins history held region most log files geometry pages tail head holds =
     }
 
 -- nothing is left open where no device failed
-none_open : (basis : Basis) (left : List TracedCall) → All (IsLeftOpen ⊥ basis) left → left ≡ []
-none_open basis [] open_so = refl
-none_open basis (call ∷ left) open_so = absurd (All-head (IsLeftOpen ⊥ basis) call left open_so).failed_so
+none_open : (basis : Basis) (descriptors : List Descriptor) (left : List TracedCall) → All (IsLeftOpen ⊥ basis descriptors) left → left ≡ []
+none_open basis descriptors [] open_so = refl
+none_open basis descriptors (call ∷ left) open_so = absurd (All-head (IsLeftOpen ⊥ basis descriptors) call left open_so).failed_so
 
 -- the names of a region's files are allowed
 pub each_allowed : (names : List (List ℕ)) → AreFileNames version_1 names → All (λ name. is_name version_1.name_limit name ≡ true) names
@@ -184,9 +187,9 @@ each_allowed names are k d inside =
     subst May (get_or_default names k [] d inside) (are.allowed k inside)
 
 -- A run that made all calls of a trace, and was finished, has a faithful report, and leaves its files.
-pub run_over : {L B : Type 0} (history : L → lines.History) (held : B → stores.History) (basis : Basis) (trace : Traced) (descriptors : List ℕ) (log : Log L B) (outcome : Outcome)
+pub run_over : {L B : Type 0} (history : L → lines.History) (held : B → stores.History) (basis : Basis) (trace : Traced) (descriptors : List Descriptor) (log : Log L B) (outcome : Outcome)
     (text : List ℕ) (parts : List L) (backing : List B)
-    → HasRun history held ⊥ basis descriptors trace.calls log outcome → descriptors ≡ descriptor_files basis.names trace → log.names ≡ basis.names
+    → HasRun history held ⊥ basis descriptors trace.calls log outcome → descriptors ≡ descriptors_in basis.names trace → log.names ≡ basis.names
     → AreFileNames version_1 log.names
     → ((pieces : List Piece) (files : Files) → Holds history held log pieces files
     → (text ≡ report_text (report_of outcome [] log.names (laid files pieces).contents)) × AreLeft history held log.names (laid files pieces) parts backing)
@@ -194,9 +197,9 @@ pub run_over : {L B : Type 0} (history : L → lines.History) (held : B → stor
 run_over history held basis trace descriptors log outcome text parts backing run same_descriptors same_names allowed shown =
     let here = shown run.pieces basis.files run.holds in
     let files = laid basis.files run.pieces in
-    let At : List ℕ → Type 0 = λ descriptors. AreMade ⊥ basis descriptors trace.calls log.head files (placed_calls outcome) (refused_calls outcome) (left_calls outcome) in
-    let Left : List TracedCall → Type 0 = λ left. AreMade ⊥ basis (descriptor_files basis.names trace) trace.calls log.head files (placed_calls outcome) (refused_calls outcome) left in
-    let made = subst Left (none_open basis (left_calls outcome) run.made.left_open) (subst At same_descriptors run.made) in
+    let At : List Descriptor → Type 0 = λ descriptors. AreMade ⊥ basis descriptors trace.calls log.head files (placed_calls outcome) (refused_calls outcome) (left_calls outcome) in
+    let Left : List TracedCall → Type 0 = λ left. AreMade ⊥ basis (descriptors_in basis.names trace) trace.calls log.head files (placed_calls outcome) (refused_calls outcome) left in
+    let made = subst Left (none_open basis descriptors (left_calls outcome) run.made.left_open) (subst At same_descriptors run.made) in
     let Named : List (List ℕ) → Type 0 = λ names. AreFileNames version_1 names in
     let shown_files = named basis.names files in
     let Of : List (List ℕ) → Type 0 = λ names. text ≡ report_text (report_of outcome [] names files.contents) in

@@ -6,13 +6,14 @@ use Rattle.std.specs.List.{list_all, list_any, position_or_len}
 use lib.Pointwise.{pointwise}
 use Rattle.std.proofs.lemmas.Bool.{cases_Bool, cond-true}
 use Rattle.std.proofs.lemmas.List.Folds.{list_any-append}
-use Rattle.std.proofs.lemmas.List.Elements.{All-cons, All-head, All-tail}
+use Rattle.std.proofs.lemmas.List.Elements.{All-cons, All-head, All-tail, All-map, All-weaker}
 use Rattle.std.proofs.lemmas.List.Sums.{AllPass-from_list_all}
 use Rattle.nv_plain.specs.Names.{is_name, is_name_byte}
 use Rattle.nv_open.specs.Adding.{all_names, is_known}
 use Rattle.nv_trace.specs.Shape.{IsWellFormed}
 use Rattle.nv_trace.specs.Traced.{Traced}
-use Rattle.nv_top.specs.Faithful.{descriptor_files, named, place_of}
+use Rattle.nv_top.specs.Faithful.{descriptors_in, named, placed_in}
+use Rattle.nv_trace.specs.Said.{place_of}
 use Rattle.nv_top.specs.Readings.{IsPlainByte, HavePlainNames}
 
 second : (a b : Bool) → (a && b) ≡ true → b ≡ true
@@ -41,13 +42,11 @@ names_plain most (name ∷ names) (bytes ∷ contents) allowed =
 
 -- each descriptor's file is one of a region that has the names of the trace
 pub descriptors_known : (names : List (List ℕ)) (trace : Traced) → IsWellFormed trace → All (λ name. place_of name names < length names) trace.names
-    → All (λ file. file < length names) (descriptor_files names trace)
-descriptors_known names trace well_formed known k d inside =
-    let file_of : ℕ → ℕ = λ file. place_of (slice_index_or trace.names file []) names in
-    let there : k < length trace.descriptors = omega (arith, inside, length-map trace.descriptors file_of) in
-    let first : get_or trace.descriptors k 0 ≡ 0 = well_formed.files k 0 there in
-    let at : get_or (map file_of trace.descriptors) k d ≡ file_of 0 = get_or-map file_of trace.descriptors k 0 d there ∙ ap file_of first in
-    omega (arith, at, known 0 [] (omega (arith, there, well_formed.descriptors)))
+    → All (λ descriptor. descriptor.file < length names) (descriptors_in names trace)
+descriptors_known names trace well_formed known =
+    All-map (λ descriptor. descriptor.file < length names) (placed_in names trace) trace.descriptors
+    (All-weaker (λ descriptor. descriptor.file < length trace.names) (λ descriptor. (placed_in names trace descriptor).file < length names)
+    (λ descriptor inside. known descriptor.file [] inside) trace.descriptors well_formed.files)
 
 -- ---- the names that a trace wants are there
 

@@ -14,7 +14,7 @@ use Rattle.nv_trace.specs.declared.trace.TraceCall.TheVariants.{Pread, Pwrite, F
 use Rattle.nv_trace.specs.declared.report.Fate.{Fate}
 use Rattle.nv_trace.specs.declared.report.Fate.TheVariants.{Kept, Lost}
 use Rattle.nv_trace.specs.declared.report.Refusal.{Refusal}
-use Rattle.nv_trace.specs.declared.report.Refusal.TheVariants.{TooFar, TooLong, Stopped, Spent, Again, RegionFault, StoreFault}
+use Rattle.nv_trace.specs.declared.report.Refusal.TheVariants.{BadDescriptor, TooFar, TooLong, Stopped, Spent, Again, RegionFault, StoreFault}
 use Rattle.nv_trace.specs.Lines.{onto_first, parts_between, but_last, fields_of, ended_lines}
 use Rattle.nv_trace.specs.Report.{spaced, line_text, hex_text, call_fields, reply_text, refusal_text, fate_text, history_text, refused_text, open_text, recovered_text, file_text, end_text}
 use Rattle.nv_top.specs.Reports.{PlacedCall, RefusedCall, OpenCall, NamedFile, Report, RecoveryReport, history_lines, refused_lines, open_lines, file_lines, report_text, recovery_text}
@@ -128,6 +128,7 @@ placed_line place thread (Fsync fd) reply = simp append_assoc
 
 -- the words of a refusal, behind another field
 refusal_line : (field : List ℕ) (refusal : Refusal) → spaced (field ∷ refusal_fields refusal) ≡ field ++ 32 ∷ refusal_text refusal
+refusal_line field BadDescriptor = refl
 refusal_line field TooFar = refl
 refusal_line field TooLong = refl
 refusal_line field Stopped = refl
@@ -291,6 +292,7 @@ behind_plain (last ∷ []) text p q = (each-append IsPlainByte last text p.0 q, 
 behind_plain (first ∷ second ∷ rest) text p q = (p.0, behind_plain (second ∷ rest) text p.1 q)
 
 refusal_plain : (refusal : Refusal) → Each IsPlain (refusal_fields refusal)
+refusal_plain BadDescriptor = (word (codes "bad") refl, (word (codes "descriptor") refl, tt))
 refusal_plain TooFar = (word (codes "too") refl, (word (codes "far") refl, tt))
 refusal_plain TooLong = (word (codes "too") refl, (word (codes "long") refl, tt))
 refusal_plain Stopped = (word (codes "stopped") refl, tt)

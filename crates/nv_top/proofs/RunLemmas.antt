@@ -1,7 +1,7 @@
 -- A run goes on by one call, and the lines of a trace's calls rise.
-use Rattle.std.proofs.Common.{◌≡◌, ℕ, ◌+◌, ◌^◌, ◌<◌, ◌≤◌, ◌==◌, ◌&&◌, not, nat_lt, nat_le, Bool, true, false, cond, if◌then◌else◌, List, [], ◌∷◌, ◌++◌, length, map, filter, sum_by, take, get_or, All, Option, Some, None, MatchOption, option_and_then, IsPermutation, refl, sym, ap, subst, ◌∙◌, inl, inr, arith, append_assoc, append-nil, length-append}
+use Rattle.std.proofs.Common.{◌≡◌, ℕ, ◌+◌, ◌^◌, ◌<◌, ◌≤◌, ◌==◌, ◌&&◌, not, nat_lt, nat_le, Bool, true, false, cond, if◌then◌else◌, List, [], ◌∷◌, ◌++◌, length, map, filter, sum_by, take, get_or, All, Option, Some, None, Result, Ok, Err, MatchOption, IsPermutation, refl, sym, ap, subst, ◌∙◌, inl, inr, arith, append_assoc, append-nil, length-append}
 use Rattle.std.specs.List.Sorted.{IsStrictlyIncreasing}
-use Rattle.std.specs.Option.{option_map_or}
+use Rattle.std.specs.List.{list_all}
 use Rattle.std.proofs.lemmas.Bool.{cases_lt, cases_Bool, and_right, not_from_false, le-ltb, cond-true}
 use Rattle.std.proofs.lemmas.List.{length-map, length_push, get_or_append_left, get_or-append-add, get_or_push, get_or-map, get_or-take, length-take, map_push}
 use Rattle.std.proofs.lemmas.List.Elements.{All-append, All-head, All-tail, All-push, All-map, All-filter, All-weaker, filter-append}
@@ -12,15 +12,20 @@ use Rattle.nv_plain.specs.Calls.{reply_of, files_after}
 use Rattle.nv_plain.specs.Files.{Files}
 use Rattle.nv_plain.specs.Histories.{Answered, IsLegal, after}
 use Rattle.nv_plain.specs.declared.call.Reply.{Reply}
-use Rattle.nv_trace.specs.Grammar.{statement_of}
-use Rattle.nv_trace.specs.Lines.{ended_lines, open_line}
-use Rattle.nv_trace.specs.Reading.{accepted, is_skipped, longest_line, largest_input, after_line, Ending, Whole, Bad, Long, after_lines, long_unless_bad, ending_of}
+use Rattle.nv_trace.specs.declared.trace.Descriptor.{Descriptor}
+use Rattle.nv_trace.specs.Grammar.{and_then, is_printable}
+use Rattle.nv_trace.specs.Said.{said}
+use Rattle.nv_trace.specs.Lines.{ended_lines, fields_of, open_line}
+use Rattle.nv_trace.specs.Reading.{unless_bad, with_statement, is_skipped, longest_line, largest_input, after_line, Ending, Whole, Bad, Long, after_lines, long_unless_bad, ending_of}
 use Rattle.nv_trace.specs.Traced.{Traced, empty_trace}
 use Rattle.nv_trace.specs.declared.statement.Statement.{Statement}
-use Rattle.nv_trace.specs.declared.statement.Statement.TheVariants.{File, Descriptor, Call}
+use Rattle.nv_trace.specs.declared.bad_line.Why.{Why}
+use Rattle.nv_trace.specs.declared.bad_line.Why.TheVariants.{Long as LongLine, Bytes as OddBytes}
+use Rattle.nv_trace.specs.declared.statement.Statement.TheVariants.{File, Opened, Call}
+use Rattle.nv_trace.specs.declared.trace.Form.{Form}
 use Rattle.nv_trace.specs.declared.trace.TracedCall.{TracedCall}
 use Rattle.nv_trace.specs.declared.report.Refusal.{Refusal}
-use Rattle.nv_trace.specs.declared.report.Refusal.TheVariants.{TooFar, TooLong, Stopped, Spent, Again, RegionFault, StoreFault}
+use Rattle.nv_trace.specs.declared.report.Refusal.TheVariants.{BadDescriptor, TooFar, TooLong, Stopped, Spent, Again, RegionFault, StoreFault}
 use Rattle.nv_top.specs.Faithful.{Basis, Sizes, IsAllowed, IsDrawn, IsLeftOpen, IsRead, WasRefused, barred, entries_of, entries_taken, file_call, history_of, lines_of, not_later}
 use Rattle.nv_top.specs.Reports.{PlacedCall, RefusedCall}
 use Rattle.nv_top.specs.Runs.{AreMade, IsAfterAll, drawing, listed}
@@ -88,6 +93,7 @@ drawn_grows basis drew more call head grows drawn = omega (arith, grows, drawn)
 
 refused_on : (failed : Type 0) (basis : Basis) (drew more : List TracedCall) (call : TracedCall) (refusal : Refusal) → drawn_by basis.sizes call drew ≤ drawn_by basis.sizes call more
     → WasRefused failed basis drew call refusal → WasRefused failed basis more call refusal
+refused_on failed basis drew more call BadDescriptor grows was = was
 refused_on failed basis drew more call TooFar grows was = was
 refused_on failed basis drew more call TooLong grows was = was
 refused_on failed basis drew more call Stopped grows was = was
@@ -104,15 +110,16 @@ where_not_barred P Q None refusal on p = on p
 where_not_barred P Q (Some cause) refusal on is = is
 
 -- more calls that drew take no refusal's cause away
-allowed_on : (failed : Type 0) (basis : Basis) (drew more : List TracedCall) (call : TracedCall) (refusal : Refusal) → drawn_by basis.sizes call drew ≤ drawn_by basis.sizes call more
-    → IsAllowed failed basis drew call refusal → IsAllowed failed basis more call refusal
-allowed_on failed basis drew more call refusal grows =
-    where_not_barred (WasRefused failed basis drew call refusal) (WasRefused failed basis more call refusal) (barred basis.sizes call.call) refusal
+allowed_on : (failed : Type 0) (basis : Basis) (descriptors : List Descriptor) (drew more : List TracedCall) (call : TracedCall) (refusal : Refusal) → drawn_by basis.sizes call drew ≤ drawn_by basis.sizes call more
+    → IsAllowed failed basis descriptors drew call refusal → IsAllowed failed basis descriptors more call refusal
+allowed_on failed basis descriptors drew more call refusal grows =
+    where_not_barred (WasRefused failed basis drew call refusal) (WasRefused failed basis more call refusal) (barred basis.sizes descriptors call.call) refusal
     (refused_on failed basis drew more call refusal grows)
 
 -- nor does a weaker word of what failed
 refused_while : (failed more : Type 0) (basis : Basis) (drew : List TracedCall) (call : TracedCall) (refusal : Refusal) → (failed → more)
     → WasRefused failed basis drew call refusal → WasRefused more basis drew call refusal
+refused_while failed more basis drew call BadDescriptor on was = was
 refused_while failed more basis drew call TooFar on was = was
 refused_while failed more basis drew call TooLong on was = was
 refused_while failed more basis drew call Stopped on was = on was
@@ -157,7 +164,7 @@ legal_push (first ∷ later) answered files legal replied = (legal.0, legal_push
 -- ---- a run goes on
 
 -- nothing was made yet
-pub made_nothing : (failed : Type 0) (basis : Basis) (descriptors : List ℕ) → AreMade failed basis descriptors [] basis.next basis.files [] [] []
+pub made_nothing : (failed : Type 0) (basis : Basis) (descriptors : List Descriptor) → AreMade failed basis descriptors [] basis.next basis.files [] [] []
 made_nothing failed basis descriptors = record {
   legal = tt;
   files = refl;
@@ -173,7 +180,7 @@ made_nothing failed basis descriptors = record {
 }
 
 -- What was made stays so where more is known of what failed.
-pub made_while : (failed more : Type 0) (basis : Basis) (descriptors : List ℕ) (calls : List TracedCall) (head : ℕ) (now : Files) (placed : List PlacedCall) (refused : List RefusedCall) (left : List TracedCall)
+pub made_while : (failed more : Type 0) (basis : Basis) (descriptors : List Descriptor) (calls : List TracedCall) (head : ℕ) (now : Files) (placed : List PlacedCall) (refused : List RefusedCall) (left : List TracedCall)
     → (failed → more) → AreMade failed basis descriptors calls head now placed refused left → AreMade more basis descriptors calls head now placed refused left
 made_while failed more basis descriptors calls head now placed refused left on made = record {
   legal = made.legal;
@@ -183,19 +190,19 @@ made_while failed more basis descriptors calls head now placed refused left on m
   refused_in_order = made.refused_in_order;
   open_in_order = made.open_in_order;
   allowed =
-      All-weaker (λ r. IsAllowed failed basis (drawing placed left) r.call r.refusal) (λ r. IsAllowed more basis (drawing placed left) r.call r.refusal)
+      All-weaker (λ r. IsAllowed failed basis descriptors (drawing placed left) r.call r.refusal) (λ r. IsAllowed more basis descriptors (drawing placed left) r.call r.refusal)
       (λ r. where_not_barred (WasRefused failed basis (drawing placed left) r.call r.refusal) (WasRefused more basis (drawing placed left) r.call r.refusal)
-      (barred basis.sizes r.call.call) r.refusal (refused_while failed more basis (drawing placed left) r.call r.refusal on)) refused made.allowed;
+      (barred basis.sizes descriptors r.call.call) r.refusal (refused_while failed more basis (drawing placed left) r.call r.refusal on)) refused made.allowed;
   not_barred = made.not_barred;
   left_open =
-      All-weaker (IsLeftOpen failed basis) (IsLeftOpen more basis)
+      All-weaker (IsLeftOpen failed basis descriptors) (IsLeftOpen more basis descriptors)
       (λ call is. record { is_write = is.is_write; failed_so = on is.failed_so; not_barred = is.not_barred }) left made.left_open;
   drawn = made.drawn;
   room = made.room;
 }
 
 -- A run goes on by a call that is after all others.
-module _ (failed : Type 0) (basis : Basis) (descriptors : List ℕ) (calls : List TracedCall) (head : ℕ) (now : Files) (placed : List PlacedCall) (refused : List RefusedCall)
+module _ (failed : Type 0) (basis : Basis) (descriptors : List Descriptor) (calls : List TracedCall) (head : ℕ) (now : Files) (placed : List PlacedCall) (refused : List RefusedCall)
     (left : List TracedCall) (call : TracedCall)
     (made : AreMade failed basis descriptors calls head now placed refused left) (after_all : IsAfterAll calls call) where
   placed_ones : List TracedCall
@@ -230,7 +237,7 @@ module _ (failed : Type 0) (basis : Basis) (descriptors : List ℕ) (calls : Lis
 
   -- the call was answered
   pub made_placed : (reply : Reply) (new_head : ℕ) (new_now : Files)
-      → barred basis.sizes call.call ≡ None
+      → barred basis.sizes descriptors call.call ≡ None
       → reply ≡ reply_of (file_call descriptors call.call) now
       → new_now ≡ files_after (file_call descriptors call.call) now
       → new_head ≡ head + entries_taken basis.sizes call.call
@@ -264,8 +271,8 @@ module _ (failed : Type 0) (basis : Basis) (descriptors : List ℕ) (calls : Lis
         refused_in_order = made.refused_in_order;
         open_in_order = made.open_in_order;
         allowed =
-            All-weaker (λ r. IsAllowed failed basis (drawing placed left) r.call r.refusal) (λ r. IsAllowed failed basis (drawing (placed ++ last ∷ []) left) r.call r.refusal)
-            (λ r. allowed_on failed basis (drawing placed left) (drawing (placed ++ last ∷ []) left) r.call r.refusal
+            All-weaker (λ r. IsAllowed failed basis descriptors (drawing placed left) r.call r.refusal) (λ r. IsAllowed failed basis descriptors (drawing (placed ++ last ∷ []) left) r.call r.refusal)
+            (λ r. allowed_on failed basis descriptors (drawing placed left) (drawing (placed ++ last ∷ []) left) r.call r.refusal
             (omega (
               arith,
               drawn-append basis.sizes r.call (map one_of placed) left,
@@ -274,8 +281,8 @@ module _ (failed : Type 0) (basis : Basis) (descriptors : List ℕ) (calls : Lis
               drawn-append basis.sizes r.call (map one_of placed) (call ∷ []),
             ))) refused made.allowed;
         not_barred =
-            subst (All (λ call. barred basis.sizes call.call ≡ None)) (sym ones)
-            (All-push (λ call. barred basis.sizes call.call ≡ None) (map one_of placed) call made.not_barred may);
+            subst (All (λ call. barred basis.sizes descriptors call.call ≡ None)) (sym ones)
+            (All-push (λ call. barred basis.sizes descriptors call.call ≡ None) (map one_of placed) call made.not_barred may);
         left_open = made.left_open;
         drawn = omega (
           arith,
@@ -290,7 +297,7 @@ module _ (failed : Type 0) (basis : Basis) (descriptors : List ℕ) (calls : Lis
       }
 
   -- the call was refused, as it may be
-  made_refused : (refusal : Refusal) → IsAllowed failed basis (drawing placed left) call refusal
+  made_refused : (refusal : Refusal) → IsAllowed failed basis descriptors (drawing placed left) call refusal
       → AreMade failed basis descriptors (calls ++ call ∷ []) head now placed (refused ++ record { call = call; refusal = refusal } ∷ []) left
   made_refused refusal may =
       let last : RefusedCall = record { call = call; refusal = refusal } in
@@ -311,7 +318,7 @@ module _ (failed : Type 0) (basis : Basis) (descriptors : List ℕ) (calls : Lis
             subst IsStrictlyIncreasing (sym (map_push line_of refused last))
             (IsStrictlyIncreasing-push (map line_of refused) call.line made.refused_in_order (All-map (λ n. n < call.line) line_of refused earlier));
         open_in_order = made.open_in_order;
-        allowed = All-push (λ r. IsAllowed failed basis (drawing placed left) r.call r.refusal) refused last made.allowed may;
+        allowed = All-push (λ r. IsAllowed failed basis descriptors (drawing placed left) r.call r.refusal) refused last made.allowed may;
         not_barred = made.not_barred;
         left_open = made.left_open;
         drawn = made.drawn;
@@ -319,51 +326,51 @@ module _ (failed : Type 0) (basis : Basis) (descriptors : List ℕ) (calls : Lis
       }
 
   -- its arguments bar it
-  pub made_barred : (refusal : Refusal) → barred basis.sizes call.call ≡ Some refusal
+  pub made_barred : (refusal : Refusal) → barred basis.sizes descriptors call.call ≡ Some refusal
       → AreMade failed basis descriptors (calls ++ call ∷ []) head now placed (refused ++ record { call = call; refusal = refusal } ∷ []) left
-  made_barred refusal is = made_refused refusal (barred_at (barred basis.sizes call.call) is)
+  made_barred refusal is = made_refused refusal (barred_at (barred basis.sizes descriptors call.call) is)
     where
       barred_at : (cause : Option Refusal) → cause ≡ Some refusal → MatchOption cause (WasRefused failed basis (drawing placed left) call refusal) (λ cause. refusal ≡ cause)
       barred_at None is = absurd cc
       barred_at (Some cause) is = cc
 
   -- nothing bars it, and there is another cause
-  made_otherwise : (refusal : Refusal) → barred basis.sizes call.call ≡ None → WasRefused failed basis (drawing placed left) call refusal
+  made_otherwise : (refusal : Refusal) → barred basis.sizes descriptors call.call ≡ None → WasRefused failed basis (drawing placed left) call refusal
       → AreMade failed basis descriptors (calls ++ call ∷ []) head now placed (refused ++ record { call = call; refusal = refusal } ∷ []) left
-  made_otherwise refusal may was = made_refused refusal (otherwise_at (barred basis.sizes call.call) may)
+  made_otherwise refusal may was = made_refused refusal (otherwise_at (barred basis.sizes descriptors call.call) may)
     where
       otherwise_at : (cause : Option Refusal) → cause ≡ None → MatchOption cause (WasRefused failed basis (drawing placed left) call refusal) (λ cause. refusal ≡ cause)
       otherwise_at None is = was
       otherwise_at (Some cause) is = absurd cc
 
   -- the log has no entry left for it
-  pub made_again : barred basis.sizes call.call ≡ None → 0 < entries_taken basis.sizes call.call → basis.next + basis.sizes.entries < head + entries_taken basis.sizes call.call
+  pub made_again : barred basis.sizes descriptors call.call ≡ None → 0 < entries_taken basis.sizes call.call → basis.next + basis.sizes.entries < head + entries_taken basis.sizes call.call
       → AreMade failed basis descriptors (calls ++ call ∷ []) head now placed (refused ++ record { call = call; refusal = Again head basis.next } ∷ []) left
   made_again may takes full =
       made_otherwise (Again head basis.next) may (record { takes = takes; retired = refl; full = full; drawn = head_drawn })
 
   -- no number is left for it
-  pub made_spent : barred basis.sizes call.call ≡ None → 0 < entries_taken basis.sizes call.call → 2 ^ 60 < head + entries_taken basis.sizes call.call
+  pub made_spent : barred basis.sizes descriptors call.call ≡ None → 0 < entries_taken basis.sizes call.call → 2 ^ 60 < head + entries_taken basis.sizes call.call
       → AreMade failed basis descriptors (calls ++ call ∷ []) head now placed (refused ++ record { call = call; refusal = Spent head } ∷ []) left
   made_spent may takes spent = made_otherwise (Spent head) may (record { takes = takes; spent = spent; drawn = head_drawn })
 
   -- a device failed before
-  pub made_stopped : barred basis.sizes call.call ≡ None → failed
+  pub made_stopped : barred basis.sizes descriptors call.call ≡ None → failed
       → AreMade failed basis descriptors (calls ++ call ∷ []) head now placed (refused ++ record { call = call; refusal = Stopped } ∷ []) left
   made_stopped may because = made_otherwise Stopped may because
 
   -- a part failed while it read
-  pub made_region_fault : barred basis.sizes call.call ≡ None → IsRead call.call → failed
+  pub made_region_fault : barred basis.sizes descriptors call.call ≡ None → IsRead call.call → failed
       → AreMade failed basis descriptors (calls ++ call ∷ []) head now placed (refused ++ record { call = call; refusal = RegionFault } ∷ []) left
   made_region_fault may reads because = made_otherwise RegionFault may (reads, because)
 
   -- a store failed while it read
-  pub made_store_fault : barred basis.sizes call.call ≡ None → IsRead call.call → failed
+  pub made_store_fault : barred basis.sizes descriptors call.call ≡ None → IsRead call.call → failed
       → AreMade failed basis descriptors (calls ++ call ∷ []) head now placed (refused ++ record { call = call; refusal = StoreFault } ∷ []) left
   made_store_fault may reads because = made_otherwise StoreFault may (reads, because)
 
   -- it is a write that was left open
-  pub made_open : (new_head : ℕ) → IsLeftOpen failed basis call
+  pub made_open : (new_head : ℕ) → IsLeftOpen failed basis descriptors call
       → new_head ≡ head + entries_taken basis.sizes call.call
       → new_head ≤ basis.next + basis.sizes.entries
       → AreMade failed basis descriptors (calls ++ call ∷ []) new_head now placed refused (left ++ call ∷ [])
@@ -383,11 +390,11 @@ module _ (failed : Type 0) (basis : Basis) (descriptors : List ℕ) (calls : Lis
             subst IsStrictlyIncreasing (sym (map_push line_of left call))
             (IsStrictlyIncreasing-push (map line_of left) call.line made.open_in_order (All-map (λ n. n < call.line) line_of left left_earlier));
         allowed =
-            All-weaker (λ r. IsAllowed failed basis (drawing placed left) r.call r.refusal) (λ r. IsAllowed failed basis (drawing placed (left ++ call ∷ [])) r.call r.refusal)
-            (λ r. allowed_on failed basis (drawing placed left) (drawing placed (left ++ call ∷ [])) r.call r.refusal
+            All-weaker (λ r. IsAllowed failed basis descriptors (drawing placed left) r.call r.refusal) (λ r. IsAllowed failed basis descriptors (drawing placed (left ++ call ∷ [])) r.call r.refusal)
+            (λ r. allowed_on failed basis descriptors (drawing placed left) (drawing placed (left ++ call ∷ [])) r.call r.refusal
             (omega (arith, drawn-append basis.sizes r.call before left, drawn-append basis.sizes r.call before (left ++ call ∷ []), drawn-append basis.sizes r.call left (call ∷ [])))) refused made.allowed;
         not_barred = made.not_barred;
-        left_open = All-push (IsLeftOpen failed basis) left call made.left_open may;
+        left_open = All-push (IsLeftOpen failed basis descriptors) left call made.left_open may;
         drawn = omega (arith, drew, made.drawn, sum_by-append taken before left, sum_by-append taken before (left ++ call ∷ []), sum_by-append taken left (call ∷ []));
         room = fits;
       }
@@ -411,49 +418,42 @@ numbered_on trace number numbered = record {
   below = All-weaker (λ c. c.line < number) (λ c. c.line < number + 1) (λ c below. omega arith) trace.calls numbered.below;
 }
 
-same_where_some : {X : Type 0} (taken : Bool) (x y : X) → (if taken then Some x else None) ≡ Some y → x ≡ y
-same_where_some true x y is = cc
-same_where_some false x y is = cc
-
-accepted_numbered : (trace next : Traced) (number : ℕ) (statement : Statement) → IsNumbered trace number → accepted trace number statement ≡ Some next → IsNumbered next (number + 1)
-accepted_numbered trace next number (File name) numbered is =
-    let on = numbered_on trace number numbered in
-    let with_name : Traced = record { names = name ∷ []; descriptors = trace.descriptors; calls = trace.calls } in
-    subst (λ t. IsNumbered t (number + 1)) (same_where_some _ with_name next is) (record { rise = on.rise; below = on.below })
-accepted_numbered trace next number (Descriptor name) numbered is =
-    let on = numbered_on trace number numbered in
-    let with_descriptor : Traced = record { names = trace.names; descriptors = 0 ∷ []; calls = trace.calls } in
-    subst (λ t. IsNumbered t (number + 1)) (same_where_some _ with_descriptor next is) (record { rise = on.rise; below = on.below })
-accepted_numbered trace next number (Call call) numbered is =
+followed_numbered : (trace : Traced) (number : ℕ) (statement : Statement) → IsNumbered trace number → IsNumbered (with_statement trace number statement) (number + 1)
+followed_numbered trace number (File name) numbered = let on = numbered_on trace number numbered in record { rise = on.rise; below = on.below }
+followed_numbered trace number (Opened descriptor) numbered = let on = numbered_on trace number numbered in record { rise = on.rise; below = on.below }
+followed_numbered trace number (Call call) numbered =
     let on = numbered_on trace number numbered in
     let last : TracedCall = record { line = number; thread = 0; call = call } in
     let line : TracedCall → ℕ = λ c. c.line in
-    let with_call : Traced = record { names = trace.names; descriptors = trace.descriptors; calls = trace.calls ++ last ∷ [] } in
-    subst (λ t. IsNumbered t (number + 1)) (same_where_some _ with_call next is) (record {
+    record {
       rise =
           subst IsStrictlyIncreasing (sym (map_push line trace.calls last))
           (IsStrictlyIncreasing-push (map line trace.calls) number numbered.rise (All-map (λ n. n < number) line trace.calls numbered.below));
       below = All-push (λ c. c.line < number + 1) trace.calls last on.below (omega arith);
-    })
+    }
 
-line_numbered : (skipped long : Bool) (statement : Option Statement) (trace next : Traced) (number : ℕ) → IsNumbered trace number
-    → (if skipped then Some trace else if long then None else option_and_then (accepted trace number) statement) ≡ Some next → IsNumbered next (number + 1)
-line_numbered true long statement trace next number numbered is =
+line_numbered : (skipped long odd : Bool) (said : Result Statement Why) (trace next : Traced) (number : ℕ) → IsNumbered trace number
+    → (if skipped then Ok trace else if long then Err LongLine else if odd then Err OddBytes else and_then (λ statement. Ok (with_statement trace number statement)) said) ≡ Ok next
+    → IsNumbered next (number + 1)
+line_numbered true long odd said trace next number numbered is =
     let same : trace ≡ next = cc in
     subst (λ t. IsNumbered t (number + 1)) same (numbered_on trace number numbered)
-line_numbered false true statement trace next number numbered is = absurd cc
-line_numbered false false None trace next number numbered is = absurd cc
-line_numbered false false (Some statement) trace next number numbered is = accepted_numbered trace next number statement numbered is
+line_numbered false true odd said trace next number numbered is = absurd cc
+line_numbered false false true said trace next number numbered is = absurd cc
+line_numbered false false false (Err why) trace next number numbered is = absurd cc
+line_numbered false false false (Ok statement) trace next number numbered is =
+    let same : with_statement trace number statement ≡ next = cc in
+    subst (λ t. IsNumbered t (number + 1)) same (followed_numbered trace number statement numbered)
 
-after_line_numbered : (trace next : Traced) (number : ℕ) (line : List ℕ) → IsNumbered trace number → after_line trace number line ≡ Some next → IsNumbered next (number + 1)
+after_line_numbered : (trace next : Traced) (number : ℕ) (line : List ℕ) → IsNumbered trace number → after_line trace number line ≡ Ok next → IsNumbered next (number + 1)
 unfolding after_line
 after_line_numbered trace next number line numbered is =
-    line_numbered (is_skipped line) (nat_lt longest_line (length line)) (statement_of line) trace next number numbered is
+    line_numbered (is_skipped line) (nat_lt longest_line (length line)) (not (list_all is_printable line)) (said trace (fields_of line)) trace next number numbered is
 
-next_of : (goes_on : Traced → Ending) (next : Option Traced) (number : ℕ) (whole : Traced) → option_map_or goes_on next (Bad number) ≡ Whole whole
-    → (trace : Traced) × (next ≡ Some trace) × (goes_on trace ≡ Whole whole)
-next_of goes_on None number whole is = absurd cc
-next_of goes_on (Some trace) number whole is = (trace, refl, is)
+next_of : (goes_on : Traced → Ending) (next : Result Traced Why) (number : ℕ) (whole : Traced) → unless_bad number goes_on next ≡ Whole whole
+    → (trace : Traced) × (next ≡ Ok trace) × (goes_on trace ≡ Whole whole)
+next_of goes_on (Err why) number whole is = absurd cc
+next_of goes_on (Ok trace) number whole is = (trace, refl, is)
 
 after_lines_rise : (lines : List (List ℕ)) (trace whole : Traced) (number : ℕ) → IsNumbered trace number → after_lines trace number lines ≡ Whole whole → IsStrictlyIncreasing (map (λ c. c.line) whole.calls)
 unfolding after_lines
@@ -467,13 +467,13 @@ after_lines_rise (line ∷ lines) trace whole number numbered is =
 whole_where_it_fits : (fits : Bool) (whole front : Ending) (trace : Traced) → (if fits then whole else long_unless_bad front) ≡ Whole trace → whole ≡ Whole trace
 whole_where_it_fits true whole front trace is = is
 whole_where_it_fits false whole (Whole other) trace is = absurd cc
-whole_where_it_fits false whole (Bad number) trace is = absurd cc
+whole_where_it_fits false whole (Bad bad) trace is = absurd cc
 whole_where_it_fits false whole Long trace is = absurd cc
 
 -- the lines of a trace's calls rise
-pub lines_rise : (input : List ℕ) (trace : Traced) → ending_of input ≡ Whole trace → IsStrictlyIncreasing (map (λ c. c.line) trace.calls)
+pub lines_rise : (form : Form) (input : List ℕ) (trace : Traced) → ending_of form input ≡ Whole trace → IsStrictlyIncreasing (map (λ c. c.line) trace.calls)
 unfolding ending_of
-lines_rise input trace is =
-    after_lines_rise (ended_lines input ++ open_line input) empty_trace trace 1
+lines_rise form input trace is =
+    after_lines_rise (ended_lines input ++ open_line input) (empty_trace form) trace 1
     (record { rise = λ k below. absurd (omega arith); below = λ k d below. absurd (omega arith) })
-    (whole_where_it_fits (nat_le (length input) largest_input) _ (after_lines empty_trace 1 (ended_lines (take largest_input input))) trace is)
+    (whole_where_it_fits (nat_le (length input) largest_input) _ (after_lines (empty_trace form) 1 (ended_lines (take largest_input input))) trace is)

@@ -31,10 +31,11 @@ use Rattle.nv_engine.specs.Keeping.{IsLog}
 use Rattle.nv_engine.specs.Laid.{Piece, laid}
 use Rattle.nv_engine.specs.Logged.{LoggedImagesRecover}
 use Rattle.nv_engine.specs.declared.log.Log.{Log}
+use Rattle.nv_trace.specs.declared.trace.Descriptor.{Descriptor}
 use Rattle.nv_trace.specs.Traced.{Traced}
 use Rattle.nv_trace.specs.declared.trace.TracedCall.{TracedCall}
 use Rattle.nv_top.specs.Attempts.{HasRunTo, IsHeld}
-use Rattle.nv_top.specs.Faithful.{Basis, IsLeftOpen, IsWrite, after_open, descriptor_files, named}
+use Rattle.nv_top.specs.Faithful.{Basis, IsLeftOpen, IsWrite, after_open, descriptors_in, named}
 use Rattle.nv_top.specs.Fates.{fated, fated_report, RecoversAsFated}
 use Rattle.nv_top.specs.Outcomes.{left_call, left_calls, placed_calls, refused_calls}
 use Rattle.nv_top.specs.Reports.{OpenCall, report_text}
@@ -126,7 +127,7 @@ pub record HasDevices {L B : Type 0} (history : L → lines.History) (held : B �
   pub synced : AreQuietStores stores
   pub files_are : files_of stores ≡ files
 
-pub devices_held : {L B : Type 0} (history : L → lines.History) (held : B → stores.History) (descriptors : List ℕ) (log : Log L B) (pieces : List Piece) (next : ℕ) (files : Files) (left : List outcome.Left)
+pub devices_held : {L B : Type 0} (history : L → lines.History) (held : B → stores.History) (descriptors : List Descriptor) (log : Log L B) (pieces : List Piece) (next : ℕ) (files : Files) (left : List outcome.Left)
     → IsHeld history held descriptors log pieces next files left → HasDevices history held log files
 devices_held history held descriptors log pieces next files [] here = record {
   parts = here.0.parts;
@@ -161,9 +162,9 @@ unfolding first_names
 names_read parts = refl
 
 pub faithful_after : {L B : Type 0} (recover_so : LoggedImagesRecover) (stand_so : ReadableStandsForRecovered) (history : L → lines.History) (held : B → stores.History) (failed : Type 0)
-    (basis : Basis) (trace : Traced) (descriptors : List ℕ) (log : Log L B) (outcome : Outcome) (told : Option Holding) (text : List ℕ) (after : Holding)
+    (basis : Basis) (trace : Traced) (descriptors : List Descriptor) (log : Log L B) (outcome : Outcome) (told : Option Holding) (text : List ℕ) (after : Holding)
     (run : HasRunTo history held failed basis descriptors trace.calls log outcome) (devices : HasDevices history held log basis.files)
-    → descriptors ≡ descriptor_files basis.names trace → log.names ≡ basis.names → AreFileNames version_1 log.names
+    → descriptors ≡ descriptors_in basis.names trace → log.names ≡ basis.names → AreFileNames version_1 log.names
     → IsRowImage devices.parts (row_words after.parts)
     → ReadsAs version_1 log.geometry.page log.geometry.entries log.names log.tail (row_words after.parts)
     → files_of (stores_named log.names after.stores) ≡ files_of devices.stores
@@ -177,24 +178,24 @@ faithful_after recover_so stand_so history held failed basis trace descriptors l
     let open_calls = map (fated found.first found.groups) left in
     let names_so : header_names after.parts ≡ log.names = names_read after.parts ∙ reads.names_are in
     let writes : All (λ (call : TracedCall). IsWrite call.call) (left_calls outcome) =
-    All-weaker (IsLeftOpen failed basis) (λ (call : TracedCall). IsWrite call.call) (λ call is. is.is_write) (left_calls outcome) run.made.left_open in
+    All-weaker (IsLeftOpen failed basis descriptors) (λ (call : TracedCall). IsWrite call.call) (λ call is. is.is_write) (left_calls outcome) run.made.left_open in
     let fated_so : RecoversAsFated descriptors image_now basis.files found left files =
     recovers_as_fated recover_so history held descriptors log basis.files devices.parts devices.parts_are image_now image found shown.log run.pieces run.next left writes run.here in
-    let files_so : files_named after.parts (header_names after.parts) after.stores ≡ after_open (descriptor_files basis.names trace) open_calls files =
+    let files_so : files_named after.parts (header_names after.parts) after.stores ≡ after_open (descriptors_in basis.names trace) open_calls files =
     ap (λ names. files_named after.parts names after.stores) names_so
     ∙ stand_so version_1 version_1.header_lines image_now (files_of (stores_named log.names after.stores)) reads.readable
     ∙ ap (λ bytes. (recovered image_now bytes).files) (stores_again ∙ devices.files_are)
     ∙ fated_so
     ∙ ap (λ descriptors. after_open descriptors open_calls files) same_descriptors in
-    let Of : List ℕ → Type 0 = λ descriptors. AreMade failed basis descriptors trace.calls run.next files (placed_calls outcome) (refused_calls outcome) (left_calls outcome) in
-    let Left : List TracedCall → Type 0 = λ left. AreMade failed basis (descriptor_files basis.names trace) trace.calls run.next files (placed_calls outcome) (refused_calls outcome) left in
+    let Of : List Descriptor → Type 0 = λ descriptors. AreMade failed basis descriptors trace.calls run.next files (placed_calls outcome) (refused_calls outcome) (left_calls outcome) in
+    let Left : List TracedCall → Type 0 = λ left. AreMade failed basis (descriptors_in basis.names trace) trace.calls run.next files (placed_calls outcome) (refused_calls outcome) left in
     let made = subst Left (calls_of_left found.first found.groups left) (subst Of same_descriptors run.made) in
     let shown_files = files_named after.parts (header_names after.parts) after.stores in
-    let named_so : named basis.names shown_files ≡ named basis.names (after_open (descriptor_files basis.names trace) open_calls files) = ap (named basis.names) files_so in
+    let named_so : named basis.names shown_files ≡ named basis.names (after_open (descriptors_in basis.names trace) open_calls files) = ap (named basis.names) files_so in
     let Named : List (List ℕ) → Type 0 = λ names. AreFileNames version_1 names in
     let NamesRest : List (List ℕ) → Type 0 = λ names. RestsWith names shown_files told in
     let FilesRest : Files → Type 0 = λ files. RestsWith basis.names files told in
-    let shown_so = files_so ∙ ap (after_open (descriptor_files basis.names trace) open_calls) made.files in
+    let shown_so = files_so ∙ ap (after_open (descriptors_in basis.names trace) open_calls) made.files in
     record {
       left = subst FilesRest shown_so (subst NamesRest (names_so ∙ same_names) shown.left);
       report = fated_report outcome found basis.names shown_files;
@@ -206,7 +207,7 @@ faithful_after recover_so stand_so history held failed basis trace descriptors l
 -- ---- the whole
 
 -- what is known of what failed may be weaker
-pub run_while : {L B : Type 0} (history : L → lines.History) (held : B → stores.History) (failed more : Type 0) (basis : Basis) (descriptors : List ℕ) (calls : List TracedCall) (log : Log L B) (outcome : Outcome)
+pub run_while : {L B : Type 0} (history : L → lines.History) (held : B → stores.History) (failed more : Type 0) (basis : Basis) (descriptors : List Descriptor) (calls : List TracedCall) (log : Log L B) (outcome : Outcome)
     → (failed → more) → HasRunTo history held failed basis descriptors calls log outcome → HasRunTo history held more basis descriptors calls log outcome
 run_while history held failed more basis descriptors calls log outcome on run = record {
   sizes_are = run.sizes_are;
@@ -218,7 +219,7 @@ run_while history held failed more basis descriptors calls log outcome on run = 
   made = made_while failed more basis descriptors calls run.next (laid basis.files run.pieces) (placed_calls outcome) (refused_calls outcome) (left_calls outcome) on run.made;
 }
 
-reads_at : {L B : Type 0} (history : L → lines.History) (held : B → stores.History) (descriptors : List ℕ) (log : Log L B) (pieces : List Piece) (next : ℕ) (files : Files) (left : List outcome.Left)
+reads_at : {L B : Type 0} (history : L → lines.History) (held : B → stores.History) (descriptors : List Descriptor) (log : Log L B) (pieces : List Piece) (next : ℕ) (files : Files) (left : List outcome.Left)
     (parts : List Part) (image : Image) → AreNow (map history log.parts.items) parts → IsRowImage parts image
     → IsHeld history held descriptors log pieces next files left → ReadsAs version_1 log.geometry.page log.geometry.entries log.names log.tail image
 reads_at history held descriptors log pieces next files [] parts image now is here =
@@ -243,9 +244,9 @@ abbrev pub home_with : Holding → List (List ℕ) → List Part → List Store 
 home_with left names parts stores = record { parts = parts; stores = left.stores ++ named_stores names stores }
 
 pub stopped_on : {L B : Type 0} (recover_so : LoggedImagesRecover) (stand_so : ReadableStandsForRecovered) (power_so : PowerLeavesAnImage) (history : L → lines.History) (room : L → Room) (held : B → stores.History)
-    (failed : Type 0) (basis : Basis) (trace : Traced) (descriptors : List ℕ) (log : Log L B) (outcome : Outcome) (told : Option Holding) (text : List ℕ) (pick : Pick) (left : Holding) (given off : Option Holding)
+    (failed : Type 0) (basis : Basis) (trace : Traced) (descriptors : List Descriptor) (log : Log L B) (outcome : Outcome) (told : Option Holding) (text : List ℕ) (pick : Pick) (left : Holding) (given off : Option Holding)
     → HasRunTo history held failed basis descriptors trace.calls log outcome
-    → descriptors ≡ descriptor_files basis.names trace → log.names ≡ basis.names → IsLog history room held log
+    → descriptors ≡ descriptors_in basis.names trace → log.names ≡ basis.names → IsLog history room held log
     → ((parts : List Part) (stores : List Store) → AreNow (map history log.parts.items) parts → AreNow (map held log.stores.items) stores → given ≡ Some (home_with left log.names parts stores))
     → off ≡ option_map (powered pick) given
     → ((holding : Holding) → given ≡ Some holding → AreWholeStores holding)

@@ -12,9 +12,10 @@ use Rattle.nv_engine.specs.declared.error.ReadError.{ReadError}
 use Rattle.nv_engine.specs.declared.error.ReadError.TheVariants as read_error
 use Rattle.nv_engine.specs.declared.error.WriteError.{WriteError}
 use Rattle.nv_engine.specs.declared.error.WriteError.TheVariants as write_error
+use Rattle.nv_trace.specs.declared.trace.Descriptor.{Descriptor}
 use Rattle.nv_trace.specs.declared.trace.TraceCall.{TraceCall}
 use Rattle.nv_trace.specs.declared.report.Refusal.{Refusal}
-use Rattle.nv_trace.specs.declared.report.Refusal.TheVariants.{TooFar, TooLong, Stopped, Spent, Again, RegionFault, StoreFault}
+use Rattle.nv_trace.specs.declared.report.Refusal.TheVariants.{BadDescriptor, TooFar, TooLong, Stopped, Spent, Again, RegionFault, StoreFault}
 use Rattle.nv_top.specs.declared.calls.CallError.{CallError}
 use Rattle.nv_top.specs.declared.calls.CallError.TheVariants.{Refused, Stop}
 use Rattle.nv_top.specs.declared.ending.Stop.TheVariants as stops
@@ -48,42 +49,43 @@ abbrev pub log_faults : {L B : Type 0} → (L → ℕ) → (B → ℕ) → Log L
 log_faults part_faults store_faults log = sum_by part_faults log.parts.items + sum_by store_faults log.stores.items
 
 -- A call was answered: the log has further pieces, and over the same stores they make of the files what the call makes of them.
-pub record HasAnswered {L B : Type 0} (history : L → lines.History) (held : B → stores.History) (descriptors : List ℕ) (call : TraceCall) (new : Log L B) (reply : Reply)
+pub record HasAnswered {L B : Type 0} (history : L → lines.History) (held : B → stores.History) (descriptors : List Descriptor) (call : TraceCall) (new : Log L B) (reply : Reply)
     (pieces : List Piece) (files : Files) : Type 0 where
   pub more : List Piece
   pub holds : Holds history held new more files
   pub reply_is : reply ≡ reply_of (file_call descriptors call) (laid files pieces)
   pub files_are : laid files more ≡ files_after (file_call descriptors call) (laid files pieces)
 
-pub record IsAnswer {L B : Type 0} (history : L → lines.History) (held : B → stores.History) (descriptors : List ℕ) (call : TraceCall) (old new : Log L B) (reply : Reply) : Type 0 where
+pub record IsAnswer {L B : Type 0} (history : L → lines.History) (held : B → stores.History) (descriptors : List Descriptor) (call : TraceCall) (old new : Log L B) (reply : Reply) : Type 0 where
   pub running : new.stopped ≡ false
-  pub may : barred (sizes_of old) call ≡ None
+  pub may : barred (sizes_of old) descriptors call ≡ None
   pub head : new.head ≡ old.head + entries_taken (sizes_of old) call
   pub answered : (pieces : List Piece) (files : Files) → Holds history held old pieces files → HasAnswered history held descriptors call new reply pieces files
 
 -- Why a call is refused: its arguments bar it, or no number or no entry is left for it.
-abbrev pub IsRefusedAt : Sizes → (head tail : ℕ) → TraceCall → Refusal → Type 0
-IsRefusedAt sizes head tail call TooFar = barred sizes call ≡ Some TooFar
-IsRefusedAt sizes head tail call TooLong = barred sizes call ≡ Some TooLong
-IsRefusedAt sizes head tail call Stopped = ⊥
-IsRefusedAt sizes head tail call (Spent found) =
-    (barred sizes call ≡ None) × (0 < entries_taken sizes call) × (2 ^ 60 < head + entries_taken sizes call) × (found ≡ head)
-IsRefusedAt sizes head tail call (Again seen least) =
-    (barred sizes call ≡ None) × (0 < entries_taken sizes call) × (tail + sizes.entries < head + entries_taken sizes call) × (seen ≡ head) × (least ≡ tail)
-IsRefusedAt sizes head tail call RegionFault = ⊥
-IsRefusedAt sizes head tail call StoreFault = ⊥
+abbrev pub IsRefusedAt : Sizes → List Descriptor → (head tail : ℕ) → TraceCall → Refusal → Type 0
+IsRefusedAt sizes descriptors head tail call BadDescriptor = barred sizes descriptors call ≡ Some BadDescriptor
+IsRefusedAt sizes descriptors head tail call TooFar = barred sizes descriptors call ≡ Some TooFar
+IsRefusedAt sizes descriptors head tail call TooLong = barred sizes descriptors call ≡ Some TooLong
+IsRefusedAt sizes descriptors head tail call Stopped = ⊥
+IsRefusedAt sizes descriptors head tail call (Spent found) =
+    (barred sizes descriptors call ≡ None) × (0 < entries_taken sizes call) × (2 ^ 60 < head + entries_taken sizes call) × (found ≡ head)
+IsRefusedAt sizes descriptors head tail call (Again seen least) =
+    (barred sizes descriptors call ≡ None) × (0 < entries_taken sizes call) × (tail + sizes.entries < head + entries_taken sizes call) × (seen ≡ head) × (least ≡ tail)
+IsRefusedAt sizes descriptors head tail call RegionFault = ⊥
+IsRefusedAt sizes descriptors head tail call StoreFault = ⊥
 
 -- A call was refused: the log is as it was.
-pub record IsRefusal {L B : Type 0} (history : L → lines.History) (held : B → stores.History) (call : TraceCall) (old new : Log L B) (refusal : Refusal) : Type 0 where
+pub record IsRefusal {L B : Type 0} (history : L → lines.History) (held : B → stores.History) (descriptors : List Descriptor) (call : TraceCall) (old new : Log L B) (refusal : Refusal) : Type 0 where
   pub running : new.stopped ≡ false
   pub head : new.head ≡ old.head
-  pub cause : IsRefusedAt (sizes_of old) old.head old.tail call refusal
+  pub cause : IsRefusedAt (sizes_of old) descriptors old.head old.tail call refusal
   pub holds : (pieces : List Piece) (files : Files) → Holds history held old pieces files → Holds history held new pieces files
 
 -- what an answer says
-abbrev pub AnswerSays : {L B : Type 0} → (history : L → lines.History) → (held : B → stores.History) → (descriptors : List ℕ) → TraceCall → (old new : Log L B) → Result Reply CallError → Type 0
+abbrev pub AnswerSays : {L B : Type 0} → (history : L → lines.History) → (held : B → stores.History) → (descriptors : List Descriptor) → TraceCall → (old new : Log L B) → Result Reply CallError → Type 0
 AnswerSays history held descriptors call old new (Ok reply) = IsAnswer history held descriptors call old new reply
-AnswerSays history held descriptors call old new (Err (Refused refusal)) = IsRefusal history held call old new refusal
+AnswerSays history held descriptors call old new (Err (Refused refusal)) = IsRefusal history held descriptors call old new refusal
 AnswerSays history held descriptors call old new (Err (Stop stop)) = Unit {0}
 
 -- and what it says of the count of faults

@@ -3,6 +3,10 @@ use Rattle.std.specs.Prelude.{◌≡◌, ℕ, List, [], ◌∷◌, ◌++◌, cod
 use Rattle.std.specs.Fmt.{decimal}
 use Rattle.nv_open.specs.declared.error.Refusal.{Refusal}
 use Rattle.nv_top.specs.RegionTexts.{region_text}
+use Rattle.nv_trace.specs.declared.bad_line.BadLine.{BadLine}
+use Rattle.nv_trace.specs.declared.bad_line.Why.{Why}
+use Rattle.nv_trace.specs.declared.bad_line.Why.TheVariants.{Long as LongLine, Bytes, Form, Late, Number, Name, Mode, Hex, Many, Repeat, Unknown}
+use Rattle.nv_trace.specs.declared.trace.Form.TheVariants.{Run}
 use Rattle.nv_trace.specs.Streams.{Appends}
 use Rattle.nv_trace.specs.Traced.{Traced}
 use Rattle.nv_trace.specs.Reading.{Ending, Whole, Bad, Long, ending_of}
@@ -23,8 +27,23 @@ device_line = as_line (codes "error device")
 abbrev pub memory_line : List ℕ
 memory_line = as_line (codes "error no memory")
 
-abbrev pub bad_line : ℕ → List ℕ
-bad_line number = codes "error line " ++ (decimal number ++ as_line (codes " form"))
+-- the word for why a line is bad
+abbrev pub why_text : Why → List ℕ
+why_text LongLine = codes "long"
+why_text Bytes = codes "bytes"
+why_text Form = codes "form"
+why_text Late = codes "late"
+why_text Number = codes "number"
+why_text Name = codes "name"
+why_text Mode = codes "mode"
+why_text Hex = codes "hex"
+why_text Many = codes "many"
+why_text Repeat = codes "repeat"
+why_text Unknown = codes "unknown"
+
+-- `error line NUMBER WHY`
+abbrev pub bad_line : BadLine → List ℕ
+bad_line bad = codes "error line " ++ (decimal bad.number ++ 32 ∷ as_line (why_text bad.why))
 
 abbrev pub long_line : List ℕ
 long_line = as_line (codes "error input long")
@@ -36,18 +55,18 @@ region_line refusal = codes "error region " ++ as_line (region_text refusal)
 -- what is said of an input that is no trace
 abbrev pub input_line : Ending → List ℕ
 input_line (Whole trace) = []
-input_line (Bad number) = bad_line number
+input_line (Bad bad) = bad_line bad
 input_line Long = long_line
 
 -- an input that is a trace
 abbrev pub IsTrace : List ℕ → Type 0
-IsTrace input = (trace : Traced) × (ending_of input ≡ Whole trace)
+IsTrace input = (trace : Traced) × (ending_of Run input ≡ Whole trace)
 
 -- a line that says why there is no report
 abbrev pub IsErrorLine : List ℕ → Type 0
 IsErrorLine text =
-    (number : ℕ) × (refusal : Refusal)
-    × Contains (usage_line ∷ bad_line number ∷ long_line ∷ read_line ∷ device_line ∷ memory_line ∷ region_line refusal ∷ []) text
+    (bad : BadLine) × (refusal : Refusal)
+    × Contains (usage_line ∷ bad_line bad ∷ long_line ∷ read_line ∷ device_line ∷ memory_line ∷ region_line refusal ∷ []) text
 
 -- what was written, where it is told, has a front of these bytes more
 abbrev pub AppendsFront : Option (List ℕ) → Option (List ℕ) → List ℕ → Type 0

@@ -1,5 +1,5 @@
 -- Faithful reports: what a run begins with, and when a report of it is right.
-use Rattle.std.specs.Prelude.{◌≡◌, ℕ, ◌+◌, ◌*◌, ◌^◌, ◌<◌, ◌≤◌, ◌==◌, ◌&&◌, not, nat_eq, nat_lt, min, if◌then◌else◌, List, [], ◌++◌, length, map, filter, sum_by, fold, All, Option, Some, None, MatchOption, slice_index, slice_index_or, IsPermutation}
+use Rattle.std.specs.Prelude.{◌≡◌, ℕ, ◌+◌, ◌*◌, ◌^◌, ◌<◌, ◌≤◌, ◌==◌, ◌&&◌, not, nat_eq, nat_lt, min, if◌then◌else◌, Bool, true, List, [], ◌++◌, length, map, filter, sum_by, fold, All, Option, Some, None, MatchOption, slice_index, slice_index_or, IsPermutation}
 use Rattle.std.specs.List.{position_or_len, zip}
 use Rattle.std.specs.List.Sorted.{IsStrictlyIncreasing}
 use lib.Pointwise.{pointwise}
@@ -8,6 +8,8 @@ use Rattle.nv_plain.specs.declared.call.FileCall.TheVariants.{Read, Write, Sync}
 use Rattle.nv_plain.specs.Calls.{files_after}
 use Rattle.nv_plain.specs.Files.{Files}
 use Rattle.nv_plain.specs.Histories.{Answered, IsLegal, after}
+use Rattle.nv_plain.specs.Modes.{can_read, can_write}
+use Rattle.nv_plain.specs.declared.mode.Mode.TheVariants.{R}
 use Rattle.nv_plain.specs.Layouts.{version_1}
 use Rattle.nv_plain.specs.Pieces.{pages_touched}
 use Rattle.nv_trace.specs.declared.trace.TraceCall.{TraceCall}
@@ -16,8 +18,10 @@ use Rattle.nv_trace.specs.declared.trace.TracedCall.{TracedCall}
 use Rattle.nv_trace.specs.declared.report.Fate.{Fate}
 use Rattle.nv_trace.specs.declared.report.Fate.TheVariants.{Kept, Lost}
 use Rattle.nv_trace.specs.declared.report.Refusal.{Refusal}
-use Rattle.nv_trace.specs.declared.report.Refusal.TheVariants.{TooFar, TooLong, Stopped, Spent, Again, RegionFault, StoreFault}
+use Rattle.nv_trace.specs.declared.report.Refusal.TheVariants.{BadDescriptor, TooFar, TooLong, Stopped, Spent, Again, RegionFault, StoreFault}
+use Rattle.nv_trace.specs.Said.{place_of}
 use Rattle.nv_trace.specs.Traced.{Traced}
+use Rattle.nv_trace.specs.declared.trace.Descriptor.{Descriptor}
 use Rattle.nv_top.specs.Reports.{PlacedCall, OpenCall, NamedFile, Report}
 
 -- the sizes of a run: bytes of a page, entries of the log, pages of a file
@@ -36,22 +40,26 @@ pub record Basis : Type 0 where
 
 -- ---- calls on files
 
--- the place of a name among some names; how many there are, where it is none of them
-abbrev pub place_of : List ℕ → List (List ℕ) → ℕ
-place_of name names = position_or_len (λ known. pointwise nat_eq known name) names
+-- a descriptor of a trace, its file by the place of its name among all names
+abbrev pub placed_in : List (List ℕ) → Traced → Descriptor → Descriptor
+placed_in names trace descriptor = record { file = place_of (slice_index_or trace.names descriptor.file []) names; mode = descriptor.mode }
 
--- each descriptor's file, by the place of its name among all names
-abbrev pub descriptor_files : List (List ℕ) → Traced → List ℕ
-descriptor_files names trace = map (λ file. place_of (slice_index_or trace.names file []) names) trace.descriptors
+-- the descriptors of a trace, each file by the place of its name among all names
+abbrev pub descriptors_in : List (List ℕ) → Traced → List Descriptor
+descriptors_in names trace = map (placed_in names trace) trace.descriptors
+
+-- a descriptor, by its number; each call of a trace has one that is there
+abbrev pub descriptor_at : List Descriptor → ℕ → Descriptor
+descriptor_at descriptors fd = slice_index_or descriptors fd (record { file = 0; mode = R })
 
 -- a descriptor's call, as a call on its file
-abbrev pub file_call : List ℕ → TraceCall → FileCall
-file_call descriptors (Pread fd at len) = Read (slice_index descriptors fd) at len
-file_call descriptors (Pwrite fd at bytes) = Write (slice_index descriptors fd) at bytes
-file_call descriptors (Fsync fd) = Sync (slice_index descriptors fd)
+abbrev pub file_call : List Descriptor → TraceCall → FileCall
+file_call descriptors (Pread fd at len) = Read (descriptor_at descriptors fd).file at len
+file_call descriptors (Pwrite fd at bytes) = Write (descriptor_at descriptors fd).file at bytes
+file_call descriptors (Fsync fd) = Sync (descriptor_at descriptors fd).file
 
 -- the history of placed calls
-abbrev pub history_of : List ℕ → List PlacedCall → List Answered
+abbrev pub history_of : List Descriptor → List PlacedCall → List Answered
 history_of descriptors placed =
     map (λ p. record { caller = p.call.thread; call = file_call descriptors p.call.call; reply = p.reply }) placed
 
@@ -61,7 +69,7 @@ after_fate call files Kept = files_after call files
 after_fate call files Lost = files
 
 -- the files after some open calls, the first of them first
-abbrev pub after_open : List ℕ → List OpenCall → Files → Files
+abbrev pub after_open : List Descriptor → List OpenCall → Files → Files
 after_open descriptors open_calls files =
     fold (λ files o. after_fate (file_call descriptors o.call.call) files o.fate) files open_calls
 
@@ -78,11 +86,21 @@ barred_by sizes most at len =
     else if nat_lt most (pages_touched at len sizes.page) then Some TooLong
     else None
 
--- why a call can't be made, whatever the log holds: a write has one piece, and a read touches no more pages than a group has entries
-abbrev pub barred : Sizes → TraceCall → Option Refusal
-barred sizes (Pread fd at len) = barred_by sizes (min version_1.group_limit sizes.entries) at len
-barred sizes (Pwrite fd at bytes) = barred_by sizes 1 at (length bytes)
-barred sizes (Fsync fd) = None
+-- why a call is barred by where it reads or writes: a write has one piece, and a read touches no more pages than a group has entries
+abbrev pub barred_there : Sizes → TraceCall → Option Refusal
+barred_there sizes (Pread fd at len) = barred_by sizes (min version_1.group_limit sizes.entries) at len
+barred_there sizes (Pwrite fd at bytes) = barred_by sizes 1 at (length bytes)
+barred_there sizes (Fsync fd) = None
+
+-- a call's descriptor was opened in a mode that allows the call
+abbrev pub is_allowed : List Descriptor → TraceCall → Bool
+is_allowed descriptors (Pread fd at len) = can_read (descriptor_at descriptors fd).mode
+is_allowed descriptors (Pwrite fd at bytes) = can_write (descriptor_at descriptors fd).mode
+is_allowed descriptors (Fsync fd) = true
+
+-- why a call can't be made, whatever the log holds
+abbrev pub barred : Sizes → List Descriptor → TraceCall → Option Refusal
+barred sizes descriptors call = if is_allowed descriptors call then barred_there sizes call else Some BadDescriptor
 
 -- how many entries a call takes
 abbrev pub entries_taken : Sizes → TraceCall → ℕ
@@ -128,6 +146,7 @@ IsWrite (Fsync fd) = ⊥
 -- Why a call was refused that its arguments don't bar: the log had no room or no number left, or, where devices failed, it was
 -- made after that, or was the read that met it.
 abbrev pub WasRefused : (failed : Type 0) → Basis → (drew : List TracedCall) → TracedCall → Refusal → Type 0
+WasRefused failed basis drew call BadDescriptor = ⊥
 WasRefused failed basis drew call TooFar = ⊥
 WasRefused failed basis drew call TooLong = ⊥
 WasRefused failed basis drew call Stopped = failed
@@ -137,15 +156,15 @@ WasRefused failed basis drew call RegionFault = IsRead call.call × failed
 WasRefused failed basis drew call StoreFault = IsRead call.call × failed
 
 -- A refusal that may be shown: the one that bars the call, or, where none does, one that has such a cause.
-abbrev pub IsAllowed : (failed : Type 0) → Basis → (drew : List TracedCall) → TracedCall → Refusal → Type 0
-IsAllowed failed basis drew call refusal =
-    MatchOption (barred basis.sizes call.call) (WasRefused failed basis drew call refusal) (λ cause. refusal ≡ cause)
+abbrev pub IsAllowed : (failed : Type 0) → Basis → List Descriptor → (drew : List TracedCall) → TracedCall → Refusal → Type 0
+IsAllowed failed basis descriptors drew call refusal =
+    MatchOption (barred basis.sizes descriptors call.call) (WasRefused failed basis drew call refusal) (λ cause. refusal ≡ cause)
 
 -- a call that may be left open: a write that nothing bars, where devices failed
-pub record IsLeftOpen (failed : Type 0) (basis : Basis) (call : TracedCall) : Type 0 where
+pub record IsLeftOpen (failed : Type 0) (basis : Basis) (descriptors : List Descriptor) (call : TracedCall) : Type 0 where
   pub is_write : IsWrite call.call
   pub failed_so : failed
-  pub not_barred : barred basis.sizes call.call ≡ None
+  pub not_barred : barred basis.sizes descriptors call.call ≡ None
 
 -- ---- reports
 
@@ -170,13 +189,13 @@ listed_calls report = placed_calls report ++ map (λ r. r.call) report.refused +
 -- the files after the history of a report, and then the kept ones of its open calls, each whole
 abbrev pub files_shown : Basis → Traced → Report → Files
 files_shown basis trace report =
-    after_open (descriptor_files basis.names trace) report.open_calls
-    (after (history_of (descriptor_files basis.names trace) report.history) basis.files)
+    after_open (descriptors_in basis.names trace) report.open_calls
+    (after (history_of (descriptors_in basis.names trace) report.history) basis.files)
 
 -- A report is faithful to a trace that was run from this basis; devices of the run failed only where this says so.
 pub record IsFaithful (failed : Type 0) (basis : Basis) (trace : Traced) (report : Report) : Type 0 where
   -- its history is one of plain files, from those of the basis
-  pub legal : IsLegal (history_of (descriptor_files basis.names trace) report.history) basis.files
+  pub legal : IsLegal (history_of (descriptors_in basis.names trace) report.history) basis.files
   -- each call of the trace stands in it once, in the history, among the refused or among the open ones, and no other call
   pub each_once : IsPermutation (listed_calls report) trace.calls
   -- each thread's calls stand in the history in the order of its lines, and the refused and the open ones in that of the trace
@@ -184,10 +203,10 @@ pub record IsFaithful (failed : Type 0) (basis : Basis) (trace : Traced) (report
   pub refused_in_order : IsStrictlyIncreasing (map (λ r. r.call.line) report.refused)
   pub open_in_order : IsStrictlyIncreasing (map (λ call. call.line) (open_calls_of report))
   -- a refusal has its cause, and what is barred is refused
-  pub allowed : All (λ r. IsAllowed failed basis (drawing_calls report) r.call r.refusal) report.refused
-  pub not_barred : All (λ call. barred basis.sizes call.call ≡ None) (placed_calls report)
+  pub allowed : All (λ r. IsAllowed failed basis (descriptors_in basis.names trace) (drawing_calls report) r.call r.refusal) report.refused
+  pub not_barred : All (λ call. barred basis.sizes (descriptors_in basis.names trace) call.call ≡ None) (placed_calls report)
   -- only a write is left open, where a device failed
-  pub left_open : All (IsLeftOpen failed basis) (open_calls_of report)
+  pub left_open : All (IsLeftOpen failed basis (descriptors_in basis.names trace)) (open_calls_of report)
   -- a write for which the log has no entry left is refused
   pub room : entries_of basis.sizes (drawing_calls report) ≤ basis.sizes.entries
   -- the files are those after the history and then the kept writes, each whole

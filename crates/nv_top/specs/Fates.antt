@@ -5,6 +5,7 @@ use Rattle.nv_plain.specs.Files.{Files}
 use Rattle.nv_plain.specs.Images.{Image}
 use Rattle.nv_plain.specs.Recovered.{recovered}
 use Rattle.nv_recover.specs.declared.recovering.Recovered as recover
+use Rattle.nv_trace.specs.declared.trace.Descriptor.{Descriptor}
 use Rattle.nv_trace.specs.declared.report.Fate.{Fate}
 use Rattle.nv_trace.specs.declared.report.Fate.TheVariants.{Kept, Lost}
 use Rattle.nv_top.specs.Faithful.{after_open, named}
@@ -23,7 +24,7 @@ fated first groups left = record { call = left.call.now; fate = fate_of first gr
 
 -- An image recovers, over what its stores hold, to files after which some writes were left open: those that were kept are whole in
 -- what it recovers to, and nothing of those that were lost is.
-abbrev pub RecoversAsFated : List ℕ → Image → (stores : Files) → recover.Recovered → List Left → (files : Files) → Type 0
+abbrev pub RecoversAsFated : List Descriptor → Image → (stores : Files) → recover.Recovered → List Left → (files : Files) → Type 0
 RecoversAsFated descriptors image stores found left files =
     (recovered image stores).files ≡ after_open descriptors (map (fated found.first found.groups) left) files
 

@@ -9,6 +9,7 @@ use Rattle.nv_open.specs.Refusals.{IsRefusedFor}
 use Rattle.nv_open.specs.declared.error.Refusal.{Refusal}
 use Rattle.nv_open.specs.declared.error.Refusal.TheVariants as refusals
 use Rattle.nv_trace.specs.Reading.{ending_of, Whole}
+use Rattle.nv_trace.specs.declared.trace.Form.TheVariants as forms
 use Rattle.nv_trace.specs.Traced.{Traced}
 use Rattle.nv_top.specs.Commands.{HasRecovered, HasRunOn, IsBasis, IsGivenBack, IsNotRun}
 use Rattle.nv_top.specs.Faithful.{Basis}
@@ -61,7 +62,7 @@ IsShownOf (Some k) options old new holding trace text = HasStopped (Rose old.fau
 -- what the report of a command shows of a bench that held this, and of the input that it had
 abbrev pub IsShown : Command → (input : Option (List ℕ)) → (old new : BenchState) → Holding → (text : List ℕ) → Type 0
 IsShown (Run options) input old new holding text =
-    IfSome input (λ input. (trace : Traced) × (ending_of input ≡ Whole trace) × IsShownOf options.stop options old new holding trace text)
+    IfSome input (λ input. (trace : Traced) × (ending_of forms.Run input ≡ Whole trace) × IsShownOf options.stop options old new holding trace text)
 IsShown Recover input old new holding text = HasRecovered holding new.told text
 
 -- A region that was refused is as it was, unless it was refused for its files.
@@ -71,5 +72,5 @@ IsUnwritten old new why = ¬ (why ≡ refusals.TooManyFiles) → new.told ≡ to
 -- why a command is refused by the region of a bench that held this, and what it leaves of it
 abbrev pub IsRefused : Command → (input : Option (List ℕ)) → (old new : BenchState) → Holding → Refusal → Type 0
 IsRefused (Run options) input old new holding why =
-    IfSome input (λ input. (trace : Traced) × (ending_of input ≡ Whole trace) × IsNotRun options holding trace.names why × IsUnwritten old new why)
+    IfSome input (λ input. (trace : Traced) × (ending_of forms.Run input ≡ Whole trace) × IsNotRun options holding trace.names why × IsUnwritten old new why)
 IsRefused Recover input old new holding why = IsRefusedFor holding.parts why × IsUnwritten old new why

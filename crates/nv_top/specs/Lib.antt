@@ -1,5 +1,6 @@
 pub mod Words
 pub mod RegionTexts
+pub mod Early
 pub mod Endings
 pub mod Reports
 pub mod Readings

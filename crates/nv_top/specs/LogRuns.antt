@@ -7,6 +7,7 @@ use Rattle.nv_engine.specs.Laid.{Piece, laid}
 use Rattle.nv_engine.specs.declared.log.Log.{Log}
 use Rattle.nv_header.specs.declared.region.Region.{Region}
 use Rattle.nv_plain.specs.Files.{Files}
+use Rattle.nv_trace.specs.declared.trace.Descriptor.{Descriptor}
 use Rattle.nv_trace.specs.Traced.{Traced}
 use Rattle.nv_trace.specs.declared.trace.TracedCall.{TracedCall}
 use Rattle.nv_top.specs.Answers.{sizes_of}
@@ -26,7 +27,7 @@ pub record IsFirst {L B : Type 0} (history : L → lines.History) (held : B → 
   pub holds : Holds history held log [] basis.files
 
 -- These calls were made: the log has some pieces over the files of the basis, and what they make of them are the files of the run.
-pub record HasRun {L B : Type 0} (history : L → lines.History) (held : B → stores.History) (failed : Type 0) (basis : Basis) (descriptors : List ℕ) (calls : List TracedCall)
+pub record HasRun {L B : Type 0} (history : L → lines.History) (held : B → stores.History) (failed : Type 0) (basis : Basis) (descriptors : List Descriptor) (calls : List TracedCall)
     (log : Log L B) (outcome : Outcome) : Type 0 where
   pub sizes_are : sizes_of log ≡ basis.sizes
   pub next_is : log.tail ≡ basis.next

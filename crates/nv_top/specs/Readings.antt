@@ -2,7 +2,7 @@
 use Rattle.std.specs.Prelude.{◌≡◌, ◌≢◌, ℕ, ◌+◌, ◌^◌, ◌<◌, List, [], ◌∷◌, ◌++◌, length, map, All, codes}
 use Rattle.std.specs.Fmt.{decimal}
 use Rattle.nv_trace.specs.declared.report.Refusal.{Refusal}
-use Rattle.nv_trace.specs.declared.report.Refusal.TheVariants.{TooFar, TooLong, Stopped, Spent, Again, RegionFault, StoreFault}
+use Rattle.nv_trace.specs.declared.report.Refusal.TheVariants.{BadDescriptor, TooFar, TooLong, Stopped, Spent, Again, RegionFault, StoreFault}
 use Rattle.nv_trace.specs.Report.{call_fields, reply_text, fate_text, hex_text}
 use Rattle.nv_top.specs.Reports.{PlacedCall, RefusedCall, OpenCall, NamedFile, Report, RecoveryReport, report_text, recovery_text}
 
@@ -14,6 +14,7 @@ behind_last (first ∷ second ∷ rest) text = first ∷ behind_last (second ∷
 
 -- the words of a refusal
 abbrev pub refusal_fields : Refusal → List (List ℕ)
+refusal_fields BadDescriptor = codes "bad" ∷ codes "descriptor" ∷ []
 refusal_fields TooFar = codes "too" ∷ codes "far" ∷ []
 refusal_fields TooLong = codes "too" ∷ codes "long" ∷ []
 refusal_fields Stopped = codes "stopped" ∷ []

@@ -5,17 +5,19 @@ ghost use Rattle.nv_engine.specs.Keeping.{IsLog, IsSameRegion};
 ghost use Rattle.nv_trace.specs.Shape.{IsCallWithin};
 ghost use Rattle.nv_trace.specs.declared.trace.TracedCall.{TracedCall};
 ghost use Rattle.nv_top.specs.Answers.{log_faults};
-ghost use Rattle.nv_top.specs.Faithful.{Basis};
+ghost use Rattle.nv_top.specs.Early.{IsBusy};
+ghost use Rattle.nv_top.specs.Faithful.{Basis, is_allowed};
 ghost use Rattle.nv_top.specs.LogRuns.{IsFirst};
 ghost use Rattle.nv_top.specs.Runs.{IsAfterAll};
 ghost use Rattle.nv_top.specs.Attempts.{AttemptSays, AttemptHasCause, HasRunTo, of_read_error, of_write_error};
 
+use crate::early::early;
 use crate::outcome::{Left, Outcome, Placed, Refused};
 use nv_engine::{Log, ReadError, WriteError};
 use nv_plain::{Bytes, NoMemory, Reply};
 use nv_pmem::Lines;
 use nv_store::Backing;
-use nv_trace::{Refusal, TraceCall, TracedCall};
+use nv_trace::{Descriptor, Refusal, TraceCall, TracedCall};
 use std::alloc::Global;
 
 /// Why a call has no reply: it is refused, or a write is left open that drew this number, or memory was wanting.
@@ -54,24 +56,24 @@ fn of_read_error(error: ReadError) -> Unanswered
     }
 }
 
-/// Makes all calls of a trace on a log that has no piece yet, one after another, also after a device's fault. Each descriptor is of
-/// the file with this number.
+/// Makes all calls of a trace on a log that has no piece yet, one after another, also after a device's fault. The descriptors are of
+/// files of the log.
 pub(crate) fn make_calls_on<'a, L: Lines + Drop, B: Backing + Drop>(
     alloc: Global,
     log: &mut Log<L, B>,
-    files: &[u64],
+    descriptors: &[Descriptor],
     calls: &'a [TracedCall],
 ) -> Result<Outcome<'a>, NoMemory>
     requires log { IsLog L.history L.room B.history log.old }
     requires running { log.old.stopped ≡ false }
-    requires files { All (λ file. file < length log.old.names) files.now }
-    requires within { All (λ traced. IsCallWithin (length files.now) traced.call) calls.now }
+    requires files { All (λ descriptor. descriptor.file < length log.old.names) descriptors.now }
+    requires within { All (λ traced. IsCallWithin (length descriptors.now) traced.call) calls.now }
     ensures log { IsLog L.history L.room B.history log.new }
     ensures region { IsSameRegion log.old log.new }
     ensures made { IfOk result (λ outcome. (basis : Basis) → IsFirst L.history B.history basis log.old
         → IsStrictlyIncreasing (map (λ traced. traced.line) calls.now)
         → HasRunTo L.history B.history (Rose (log_faults L.fault_count B.fault_count log.old) (log_faults L.fault_count B.fault_count log.new))
-        basis files.now calls.now log.new outcome) }
+        basis descriptors.now calls.now log.new outcome) }
     ensures faults { log_faults L.fault_count B.fault_count log.old ≤ log_faults L.fault_count B.fault_count log.new }
 {
     let mut outcome = Outcome {
@@ -80,7 +82,7 @@ pub(crate) fn make_calls_on<'a, L: Lines + Drop, B: Backing + Drop>(
         left: Vec::new(alloc),
     };
     for call in calls {
-        make_on(alloc, log, files, &mut outcome, call)?;
+        make_on(alloc, log, descriptors, &mut outcome, call)?;
     }
     Ok(outcome)
 }
@@ -89,22 +91,22 @@ pub(crate) fn make_calls_on<'a, L: Lines + Drop, B: Backing + Drop>(
 fn make_on<'a, L: Lines + Drop, B: Backing + Drop>(
     alloc: Global,
     log: &mut Log<L, B>,
-    files: &[u64],
+    descriptors: &[Descriptor],
     outcome: &mut Outcome<'a>,
     call: &'a TracedCall,
 ) -> Result<(), NoMemory>
     requires log { IsLog L.history L.room B.history log.old }
-    requires files { All (λ file. file < length log.old.names) files.now }
-    requires within { IsCallWithin (length files.now) call.now.call }
+    requires files { All (λ descriptor. descriptor.file < length log.old.names) descriptors.now }
+    requires within { IsCallWithin (length descriptors.now) call.now.call }
     ensures log { IsLog L.history L.room B.history log.new }
     ensures region { IsSameRegion log.old log.new }
     ensures made { OnOk result ((first : ℕ) (basis : Basis) (calls : List TracedCall) → IsAfterAll calls call.now
         → first ≤ log_faults L.fault_count B.fault_count log.old
-        → HasRunTo L.history B.history (Rose first (log_faults L.fault_count B.fault_count log.old)) basis files.now calls log.old outcome.old
-        → HasRunTo L.history B.history (Rose first (log_faults L.fault_count B.fault_count log.new)) basis files.now (calls ++ call.now ∷ []) log.new outcome.new) }
+        → HasRunTo L.history B.history (Rose first (log_faults L.fault_count B.fault_count log.old)) basis descriptors.now calls log.old outcome.old
+        → HasRunTo L.history B.history (Rose first (log_faults L.fault_count B.fault_count log.new)) basis descriptors.now (calls ++ call.now ∷ []) log.new outcome.new) }
     ensures faults { log_faults L.fault_count B.fault_count log.old ≤ log_faults L.fault_count B.fault_count log.new }
 {
-    match attempt(alloc, log, files, &call.call) {
+    match attempt(alloc, log, descriptors, &call.call) {
         Ok(reply) => {
             outcome.placed.push(Placed { call, reply })?;
             Ok(())
@@ -125,15 +127,43 @@ fn make_on<'a, L: Lines + Drop, B: Backing + Drop>(
 fn attempt<L: Lines + Drop, B: Backing + Drop>(
     alloc: Global,
     log: &mut Log<L, B>,
-    files: &[u64],
+    descriptors: &[Descriptor],
     call: &TraceCall,
 ) -> Result<Reply, Unanswered>
     requires log { IsLog L.history L.room B.history log.old }
-    requires files { All (λ file. file < length log.old.names) files.now }
-    requires within { IsCallWithin (length files.now) call.now }
+    requires files { All (λ descriptor. descriptor.file < length log.old.names) descriptors.now }
+    requires within { IsCallWithin (length descriptors.now) call.now }
     ensures log { IsLog L.history L.room B.history log.new }
     ensures region { IsSameRegion log.old log.new }
-    ensures says { AttemptSays L.history B.history files.now call.now log.old log.new result }
+    ensures says { AttemptSays L.history B.history descriptors.now call.now log.old log.new result }
+    ensures still { log.old.stopped ≡ true → log.new.stopped ≡ true }
+    ensures stops { log.new.stopped ≡ true → (log.old.stopped ≡ true)
+        ⊎ Rose (log_faults L.fault_count B.fault_count log.old) (log_faults L.fault_count B.fault_count log.new) }
+    ensures faults { log_faults L.fault_count B.fault_count log.old ≤ log_faults L.fault_count B.fault_count log.new }
+    ensures cause { AttemptHasCause (log_faults L.fault_count B.fault_count log.old) (log_faults L.fault_count B.fault_count log.new) result }
+{
+    match early(alloc, log, descriptors, call) {
+        Some(Ok(reply)) => Ok(reply),
+        Some(Err(refusal)) => Err(Unanswered::Refused(refusal)),
+        None => attempt_by_log(alloc, log, descriptors, call),
+    }
+}
+
+// The same, where the log must be asked.
+fn attempt_by_log<L: Lines + Drop, B: Backing + Drop>(
+    alloc: Global,
+    log: &mut Log<L, B>,
+    descriptors: &[Descriptor],
+    call: &TraceCall,
+) -> Result<Reply, Unanswered>
+    requires log { IsLog L.history L.room B.history log.old }
+    requires files { All (λ descriptor. descriptor.file < length log.old.names) descriptors.now }
+    requires allowed { is_allowed descriptors.now call.now ≡ true }
+    requires busy { IsBusy call.now }
+    requires within { IsCallWithin (length descriptors.now) call.now }
+    ensures log { IsLog L.history L.room B.history log.new }
+    ensures region { IsSameRegion log.old log.new }
+    ensures says { AttemptSays L.history B.history descriptors.now call.now log.old log.new result }
     ensures still { log.old.stopped ≡ true → log.new.stopped ≡ true }
     ensures stops { log.new.stopped ≡ true → (log.old.stopped ≡ true)
         ⊎ Rose (log_faults L.fault_count B.fault_count log.old) (log_faults L.fault_count B.fault_count log.new) }
@@ -141,13 +171,17 @@ fn attempt<L: Lines + Drop, B: Backing + Drop>(
     ensures cause { AttemptHasCause (log_faults L.fault_count B.fault_count log.old) (log_faults L.fault_count B.fault_count log.new) result }
 {
     match call {
-        TraceCall::Pread { fd, at, len } => match log.read(alloc, files[*fd as usize], *at, *len) {
-            Ok(bytes) => Ok(Reply::Bytes(Bytes::from_vec(bytes))),
-            Err(error) => Err(of_read_error(error)),
-        },
+        TraceCall::Pread { fd, at, len } => {
+            let file = descriptors[*fd as usize].file;
+            match log.read(alloc, file, *at, *len) {
+                Ok(bytes) => Ok(Reply::Bytes(Bytes::from_vec(bytes))),
+                Err(error) => Err(of_read_error(error)),
+            }
+        }
         TraceCall::Pwrite { fd, at, bytes } => {
+            let file = descriptors[*fd as usize].file;
             let number = log.head();
-            match log.write(files[*fd as usize], *at, bytes.as_slice()) {
+            match log.write(file, *at, bytes.as_slice()) {
                 Ok(count) => Ok(Reply::Count(count)),
                 Err(error) => Err(of_write_error(number, error)),
             }

@@ -6,6 +6,7 @@ ghost use Rattle.nv_open.specs.Held.{told_after};
 ghost use Rattle.nv_open.specs.declared.error.Refusal.{Refusal};
 ghost use Rattle.nv_open.specs.declared.error.Refusal.TheVariants as refusals;
 ghost use Rattle.nv_trace.specs.Reading.{ending_of};
+ghost use Rattle.nv_trace.specs.declared.trace.Form.TheVariants as forms;
 ghost use Rattle.nv_trace.specs.Shape.{IsWellFormed};
 ghost use Rattle.nv_trace.specs.Streams.{Appends};
 ghost use Rattle.nv_top.specs.Commands.{IsGivenBack, IsNotRun};
@@ -31,7 +32,7 @@ use crate::words::{Command, RunOptions, WordsError, parse_command};
 use nv_bench::Bench;
 use nv_open::open;
 use nv_pmem::{Geometry, images_follow_calls};
-use nv_trace::{Sink, Source, Trace, read_trace};
+use nv_trace::{Form, Sink, Source, Trace, read_trace};
 use std::alloc::Global;
 use std::sync::Wait;
 use std::thread::Threads;
@@ -83,7 +84,7 @@ pub fn nv_main<R: Threads + Wait + Sync, I: Source, O: Sink, B: Bench, G: Gate +
     // With status 1, 2, 3, 5, 6 or 7 one line is written, and nothing else.
     ensures usage_said { result ≡ USAGE → Appends (O.written out.old) (O.written out.new) usage_line }
     ensures input_said { result ≡ BAD_INPUT → IfSome (I.left src.old) (λ input.
-        Appends (O.written out.old) (O.written out.new) (input_line (ending_of input))) }
+        Appends (O.written out.old) (O.written out.new) (input_line (ending_of forms.Run input))) }
     ensures read_said { result ≡ READ_FAULT → Appends (O.written out.old) (O.written out.new) read_line }
     ensures device_said { result ≡ DEVICE_FAULT → Appends (O.written out.old) (O.written out.new) device_line }
     ensures memory_said { result ≡ NO_MEMORY → Appends (O.written out.old) (O.written out.new) memory_line }
@@ -206,7 +207,7 @@ fn run_input<I: Source, B: Bench>(
     ensures report { IfOk result (λ text. IfSome (B.state bench.old).told (λ holding.
         IsShown (commands.Run options) (I.left src.old) (B.state bench.old) (B.state bench.new) holding text.items)) }
 {
-    let trace = read_trace(alloc, src)?;
+    let trace = read_trace(alloc, Form::Run, src)?;
     run_trace(alloc, bench, options, &trace)
 }
 

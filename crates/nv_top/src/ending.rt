@@ -2,7 +2,7 @@ ghost use Rattle.std.specs.Prelude.{◌≡◌, ◌≢◌, ℕ, List, Err};
 ghost use Rattle.nv_plain.specs.Faults.{Rose};
 ghost use Rattle.nv_trace.specs.Streams.{Appends};
 ghost use Rattle.nv_top.specs.declared.ending.Stop.TheVariants as stops;
-ghost use Rattle.nv_top.specs.Endings.{memory_line, bad_line, region_line, IsErrorLine, AppendsFront};
+ghost use Rattle.nv_top.specs.Endings.{memory_line, bad_line, region_line, why_text, IsErrorLine, AppendsFront};
 ghost use Rattle.nv_top.specs.Stops.{SaidAs, TakesMemory, stop_status, stop_line, stop_of_log, stop_of_opening, stop_of_read, stop_of_recovery, stop_of_words};
 
 use crate::region_text::region_line_of;
@@ -12,7 +12,7 @@ use nv_open::{OpenError, Refusal};
 use nv_plain::NoMemory;
 use nv_recover::RecoverError;
 use nv_store::StoreFault;
-use nv_trace::{BadLine, ReadError, Sink, write_all};
+use nv_trace::{BadLine, ReadError, Sink, Why, write_all};
 use std::alloc::{AllocError, AllocFailed, Global};
 
 /// The statuses of a program: the report is written.
@@ -179,15 +179,35 @@ pub(crate) fn say_stop<O: Sink>(alloc: Global, out: &mut O, stop: &Stop) -> u8
 fn say_bad_line<O: Sink>(alloc: Global, out: &mut O, bad: BadLine) -> u8
     ensures status { SaidAs result BAD_INPUT (Unit {0}) }
     ensures front { result ≡ WRITE_FAULT → (text : List ℕ) × IsErrorLine text × AppendsFront (O.written out.old) (O.written out.new) text }
-    ensures said { result ≢ WRITE_FAULT → result ≢ NO_MEMORY → Appends (O.written out.old) (O.written out.new) (bad_line bad.number) }
+    ensures said { result ≢ WRITE_FAULT → result ≢ NO_MEMORY → Appends (O.written out.old) (O.written out.new) (bad_line bad) }
     ensures memory { result ≡ NO_MEMORY → Appends (O.written out.old) (O.written out.new) memory_line }
     ensures fault { result ≡ WRITE_FAULT → Rose (O.fault_count out.old) (O.fault_count out.new) }
     ensures sound { result ≢ WRITE_FAULT → O.fault_count out.new ≡ O.fault_count out.old }
 {
-    let number = bad.number;
-    match format!(in alloc; "error line {number} form\n") {
+    let BadLine { number, why } = bad;
+    let why = why_text(why);
+    match format!(in alloc; "error line {number} {why}\n") {
         Ok(line) => say(out, BAD_INPUT, line.as_bytes()),
         Err(_) => say(out, NO_MEMORY, b"error no memory\n"),
+    }
+}
+
+// The word for why a line is bad.
+fn why_text(why: Why) -> &'static str
+    ensures { result.now ≡ why_text why }
+{
+    match why {
+        Why::Long => "long",
+        Why::Bytes => "bytes",
+        Why::Form => "form",
+        Why::Late => "late",
+        Why::Number => "number",
+        Why::Name => "name",
+        Why::Mode => "mode",
+        Why::Hex => "hex",
+        Why::Many => "many",
+        Why::Repeat => "repeat",
+        Why::Unknown => "unknown",
     }
 }
 

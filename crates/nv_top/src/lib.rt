@@ -4,6 +4,7 @@
 mod attempts;
 mod calls;
 mod command;
+mod early;
 mod ending;
 mod fates;
 mod files;

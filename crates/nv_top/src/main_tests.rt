@@ -13,9 +13,9 @@ use std::sync::Wait;
 use std::test::Fail;
 use std::thread::Threads;
 
-const RUN: &[&str] = &["run", "--noworker"];
+pub(super) const RUN: &[&str] = &["run", "--noworker"];
 
-const RECOVER: &[&str] = &["recover"];
+pub(super) const RECOVER: &[&str] = &["recover"];
 
 const HELLO: &str = "file a\nfd 0 a rw\n0 pwrite 0 0 68656c6c6f\n0 pread 0 0 16\n";
 
@@ -51,7 +51,7 @@ fn strings(alloc: Global, words: &[&str]) -> Result<Vec<String>, Fail> {
 
 // The status and the output of a command over a bench, the trace read in pieces of 16 bytes, its reads and writes of these
 // numbers failing.
-fn call<R>(
+pub(super) fn call<R>(
     rt: &R,
     bench: &mut MemBench,
     words: &[&str],
@@ -79,7 +79,7 @@ where
 }
 
 // A bench of no part and no store.
-fn new_bench(alloc: Global, fails: &[u64]) -> Result<MemBench, NoMemory>
+pub(super) fn new_bench(alloc: Global, fails: &[u64]) -> Result<MemBench, NoMemory>
     ensures closed { IfOk result (λ bench. (mem_state bench).is_open ≡ false) }
     ensures home { IfOk result (λ bench. (mem_state bench).lent ≡ []) }
     ensures quiet { IfOk result (λ bench. IfSome (mem_state bench).told IsQuietHolding) }
@@ -91,7 +91,7 @@ fn new_bench(alloc: Global, fails: &[u64]) -> Result<MemBench, NoMemory>
 }
 
 // Power goes off, and comes back.
-fn lose_power(bench: &mut MemBench, pick: Pick) -> Result<(), NoMemory>
+pub(super) fn lose_power(bench: &mut MemBench, pick: Pick) -> Result<(), NoMemory>
     requires closed { (mem_state bench.old).is_open ≡ false }
     requires home { (mem_state bench.old).lent ≡ [] }
     requires arms { (mem_state bench.old).arms ≤ 10 }
@@ -189,8 +189,42 @@ fn usage_and_bad_lines(rt: HostRuntime) -> Result<(), Fail> {
     ] {
         expect(&rt, words, HELLO, USAGE, b"error usage\n")?;
     }
-    let line = "file a\nfd 0 a rw\n0 pwrite 0 0 6\n";
-    expect(&rt, RUN, line, BAD_INPUT, b"error line 3 form\n")
+    for (line, output) in [
+        ("0 pwrite 0 0 6", &b"error line 3 hex\n"[..]),
+        ("0 pread 1 0 4", b"error line 3 unknown\n"),
+        ("0 pread 0 00 4", b"error line 3 number\n"),
+        ("x", b"error line 3 form\n"),
+    ] {
+        let trace = format!(in rt.alloc(); "file a\nfd 0 a rw\n{line}\n")?;
+        expect(&rt, RUN, trace.as_str(), BAD_INPUT, output)?;
+    }
+    Ok(())
+}
+
+// Calls of no bytes, a descriptor for each mode, and two files with three descriptors.
+#[test]
+fn modes_and_files(rt: HostRuntime) -> Result<(), Fail> {
+    for (trace, report) in [
+        (
+            "file a\nfd 0 a rw\n0 pwrite 0 0 0102\n0 pread 0 9 0\n0 pwrite 0 9 -\n0 fsync 0\n",
+            &b"0 0 pwrite 0 0 2 = 2\n1 0 pread 0 9 0 = -\n2 0 pwrite 0 9 0 = 0\n3 0 fsync 0 = 0\nfile a 2 0102\nend 4 0 0\n"[..],
+        ),
+        (
+            "file a\nfd 0 a r\n0 pwrite 0 0 01\n",
+            b"refused 0 pwrite 0 0 1: bad descriptor\nfile a 0 -\nend 0 1 0\n",
+        ),
+        (
+            "file a\nfd 0 a w\n0 pwrite 0 0 01\n0 pread 0 9999 0\n0 fsync 0\n",
+            b"0 0 pwrite 0 0 1 = 1\n1 0 fsync 0 = 0\nrefused 0 pread 0 9999 0: bad descriptor\nfile a 1 01\nend 2 1 0\n",
+        ),
+        (
+            "file a\nfile b\nfd 0 a rw\nfd 1 b rw\nfd 2 a r\n0 pwrite 0 0 61\n0 pwrite 1 0 62\n0 pread 2 0 4\n0 pread 1 0 4\n",
+            b"0 0 pwrite 0 0 1 = 1\n1 0 pwrite 1 0 1 = 1\n2 0 pread 2 0 4 = 61\n3 0 pread 1 0 4 = 62\nfile a 1 61\nfile b 1 62\nend 4 0 0\n",
+        ),
+    ] {
+        expect(&rt, RUN, trace, DONE, report)?;
+    }
+    Ok(())
 }
 
 #[test]
@@ -276,10 +310,10 @@ fn stopped_at_every_call(rt: HostRuntime) -> Result<(), Fail> {
 }
 
 // The bytes `NVCACHE1`, little-endian.
-const MAGIC: u64 = 0x3145_4843_4143_564e;
+pub(super) const MAGIC: u64 = 0x3145_4843_4143_564e;
 
 // The line of these words, and zeros behind them.
-fn line(words: [u64; 6]) -> [u8; 64] {
+pub(super) fn line(words: [u64; 6]) -> [u8; 64] {
     let mut line = [0; 64];
     for (i, word) in words.iter().enumerate() {
         line[8 * i..8 * i + 8].copy_from_slice(&word.to_le_bytes());
@@ -288,7 +322,7 @@ fn line(words: [u64; 6]) -> [u8; 64] {
 }
 
 // The header's part of a region with a page of 64 bytes, two entries, the file `a` and tail 0.
-fn header(magic: u64) -> [u8; 1152] {
+pub(super) fn header(magic: u64) -> [u8; 1152] {
     let mut part = [0; 1152];
     part[..64].copy_from_slice(&line([magic, 1, 64, 2, 1, 0]));
     part[128..192].copy_from_slice(&line([1, u64::from(b'a'), 0, 0, 0, 0]));
@@ -296,7 +330,7 @@ fn header(magic: u64) -> [u8; 1152] {
 }
 
 // The part of an entry with these words, and these bytes of data.
-fn entry(words: [u64; 6], data: [u8; 3]) -> [u8; 128] {
+pub(super) fn entry(words: [u64; 6], data: [u8; 3]) -> [u8; 128] {
     let mut part = [0; 128];
     part[..64].copy_from_slice(&line(words));
     part[64..67].copy_from_slice(&data);

@@ -1,41 +1,38 @@
-ghost use Rattle.std.specs.Prelude.{◌≡◌, ◌<◌, length, nat_eq, All, IfOk};
-ghost use Rattle.std.specs.List.{position_or_len};
-ghost use lib.Pointwise.{pointwise};
+ghost use Rattle.std.specs.Prelude.{◌≡◌, ◌<◌, length, IfOk};
 ghost use Rattle.nv_trace.specs.Shape.{IsWellFormed};
-ghost use Rattle.nv_top.specs.Faithful.{descriptor_files, place_of};
+ghost use Rattle.nv_top.specs.Faithful as faithful;
 
 use nv_header::Names;
 use nv_plain::{Bytes, NoMemory};
-use nv_trace::Trace;
+use nv_trace::{Descriptor, Trace, place_of};
 use std::alloc::Global;
 
-/// The file of each descriptor of a trace, by the place of its name among all names.
-pub(crate) fn files_of_descriptors(
+/// The descriptors of a trace, each file by the place of its name among all names.
+pub(crate) fn descriptors_in(
     alloc: Global,
     names: &[Bytes],
     trace: &Trace,
-) -> Result<Vec<u64>, NoMemory>
+) -> Result<Vec<Descriptor>, NoMemory>
     requires { IsWellFormed trace.now }
-    ensures { IfOk result (λ files. files.items ≡ descriptor_files names.now trace.now) }
+    ensures { IfOk result (λ descriptors. descriptors.items ≡ faithful.descriptors_in names.now trace.now) }
 {
-    let mut files = Vec::new(alloc);
-    for file in trace.descriptors() {
-        let name = &trace.names()[*file as usize];
-        files.push(place(names, name.as_slice()))?;
+    let mut descriptors = Vec::new(alloc);
+    for descriptor in trace.descriptors() {
+        descriptors.push(placed_in(names, trace, descriptor))?;
     }
-    Ok(files)
+    Ok(descriptors)
 }
 
-// The place of a name among some names; how many there are, where it is none of them.
-fn place(names: &[Bytes], name: &[u8]) -> u64
-    ensures { result ≡ place_of name.now names.now }
+// A descriptor of a trace, its file by the place of its name among all names.
+fn placed_in(names: &[Bytes], trace: &Trace, descriptor: &Descriptor) -> Descriptor
+    requires { descriptor.now.file < length trace.now.names }
+    ensures { result ≡ faithful.placed_in names.now trace.now descriptor.now }
 {
-    for (place, known) in names.iter().enumerate() {
-        if known.as_slice() == name {
-            return place as u64;
-        }
+    let name = &trace.names()[descriptor.file as usize];
+    Descriptor {
+        file: place_of(names, name.as_slice()),
+        mode: descriptor.mode,
     }
-    names.len() as u64
 }
 
 /// Names, copied.

@@ -17,7 +17,8 @@ ghost use Rattle.nv_top.specs.Answers.{log_faults};
 ghost use Rattle.nv_open.specs.Held.{told_after};
 ghost use Rattle.nv_open.specs.declared.error.Refusal.TheVariants as refusals;
 ghost use Rattle.nv_top.specs.Commands.{HasRunOn, IsGivenBack, IsNotRun};
-ghost use Rattle.nv_top.specs.Faithful.{Basis, descriptor_files, place_of};
+ghost use Rattle.nv_trace.specs.Said.{place_of};
+ghost use Rattle.nv_top.specs.Faithful.{Basis, descriptors_in};
 ghost use Rattle.nv_top.specs.Leaving.{AreLeft};
 ghost use Rattle.nv_top.specs.LogRuns.{HasRun, HasRunOver, IsFirst, basis_over, lines_in};
 ghost use Rattle.nv_top.specs.Outcomes.{report_of};
@@ -30,7 +31,7 @@ ghost use Rattle.nv_top.specs.declared.ending.Stop.TheVariants as stops;
 use crate::calls::{CallError, answer};
 use crate::ending::Stop;
 use crate::files::read_files;
-use crate::names::{copy_names, files_of_descriptors};
+use crate::names::{copy_names, descriptors_in};
 use crate::outcome::{Outcome, Placed, Refused};
 use crate::text::text_of;
 use crate::words::RunOptions;
@@ -41,7 +42,7 @@ use nv_open::{Opened, open};
 use nv_pmem::{Geometry, Lines};
 use nv_recover::recoveries_give_the_same_files;
 use nv_store::Backing;
-use nv_trace::{Trace, TracedCall};
+use nv_trace::{Descriptor, Trace, TracedCall};
 use std::alloc::Global;
 
 /// Runs a trace over a bench: opens its region, of these sizes where it is blank, with the files of the trace, makes the calls, brings the stores to the files, and
@@ -77,23 +78,23 @@ pub(crate) fn run<T: Bench>(
     ended.report
 }
 
-/// Makes the calls of a trace on a log that has no piece yet, one after another. Each descriptor is of the file with this number.
+/// Makes the calls of a trace on a log that has no piece yet, one after another. The descriptors are of files of the log.
 pub(crate) fn make_calls<'a, L: Lines + Drop, B: Backing + Drop>(
     alloc: Global,
     log: &mut Log<L, B>,
-    files: &[u64],
+    descriptors: &[Descriptor],
     calls: &'a [TracedCall],
 ) -> Result<Outcome<'a>, Stop>
     requires log { IsLog L.history L.room B.history log.old }
     requires running { log.old.stopped ≡ false }
-    requires files { All (λ file. file < length log.old.names) files.now }
-    requires within { All (λ traced. IsCallWithin (length files.now) traced.call) calls.now }
+    requires files { All (λ descriptor. descriptor.file < length log.old.names) descriptors.now }
+    requires within { All (λ traced. IsCallWithin (length descriptors.now) traced.call) calls.now }
     ensures log { IsLog L.history L.room B.history log.new }
     ensures region { IsSameRegion log.old log.new }
     ensures running { OnOk result (log.new.stopped ≡ false) }
     ensures made { IfOk result (λ outcome. (basis : Basis) → IsFirst L.history B.history basis log.old
         → IsStrictlyIncreasing (map (λ traced. traced.line) calls.now)
-        → HasRun L.history B.history ⊥ basis files.now calls.now log.new outcome) }
+        → HasRun L.history B.history ⊥ basis descriptors.now calls.now log.new outcome) }
     ensures never { (why : _) → ¬ (result ≡ Err (stops.Region why)) }
     ensures cause { CountHasCause (log_faults L.fault_count B.fault_count log.old) (log_faults L.fault_count B.fault_count log.new) result }
 {
@@ -103,7 +104,7 @@ pub(crate) fn make_calls<'a, L: Lines + Drop, B: Backing + Drop>(
         left: Vec::new(alloc),
     };
     for call in calls {
-        make(alloc, log, files, &mut outcome, call)?;
+        make(alloc, log, descriptors, &mut outcome, call)?;
     }
     Ok(outcome)
 }
@@ -112,24 +113,24 @@ pub(crate) fn make_calls<'a, L: Lines + Drop, B: Backing + Drop>(
 fn make<'a, L: Lines + Drop, B: Backing + Drop>(
     alloc: Global,
     log: &mut Log<L, B>,
-    files: &[u64],
+    descriptors: &[Descriptor],
     outcome: &mut Outcome<'a>,
     call: &'a TracedCall,
 ) -> Result<(), Stop>
     requires log { IsLog L.history L.room B.history log.old }
     requires running { log.old.stopped ≡ false }
-    requires files { All (λ file. file < length log.old.names) files.now }
-    requires within { IsCallWithin (length files.now) call.now.call }
+    requires files { All (λ descriptor. descriptor.file < length log.old.names) descriptors.now }
+    requires within { IsCallWithin (length descriptors.now) call.now.call }
     ensures log { IsLog L.history L.room B.history log.new }
     ensures region { IsSameRegion log.old log.new }
     ensures running { OnOk result (log.new.stopped ≡ false) }
     ensures made { OnOk result ((basis : Basis) (calls : List TracedCall) → IsAfterAll calls call.now
-        → HasRun L.history B.history ⊥ basis files.now calls log.old outcome.old
-        → HasRun L.history B.history ⊥ basis files.now (calls ++ call.now ∷ []) log.new outcome.new) }
+        → HasRun L.history B.history ⊥ basis descriptors.now calls log.old outcome.old
+        → HasRun L.history B.history ⊥ basis descriptors.now (calls ++ call.now ∷ []) log.new outcome.new) }
     ensures never { (why : _) → ¬ (result ≡ Err (stops.Region why)) }
     ensures cause { CountHasCause (log_faults L.fault_count B.fault_count log.old) (log_faults L.fault_count B.fault_count log.new) result }
 {
-    match answer(alloc, log, files, &call.call) {
+    match answer(alloc, log, descriptors, &call.call) {
         Ok(reply) => {
             outcome.placed.push(Placed { call, reply })?;
             Ok(())
@@ -173,7 +174,7 @@ pub(crate) fn run_over<L: Lines + Drop, B: Backing + Drop>(
     ensures cause { CountHasCause (sum_by L.fault_count region.parts.items + sum_by B.fault_count stores.items)
         (sum_by L.fault_count result.parts.items + sum_by B.fault_count result.stores.items) result.report }
 {
-    let Ok(files) = files_of_descriptors(alloc, region.names().as_slice(), trace) else {
+    let Ok(descriptors) = descriptors_in(alloc, region.names().as_slice(), trace) else {
         return Ended {
             parts: region.into_parts(),
             stores,
@@ -181,7 +182,7 @@ pub(crate) fn run_over<L: Lines + Drop, B: Backing + Drop>(
         };
     };
     match Log::new(alloc, region, stores, pages) {
-        Ok(log) => run_log(alloc, log, &files, trace),
+        Ok(log) => run_log(alloc, log, &descriptors, trace),
         Err((parts, stores, error)) => Ended {
             parts,
             stores,
@@ -194,14 +195,14 @@ pub(crate) fn run_over<L: Lines + Drop, B: Backing + Drop>(
 fn run_log<L: Lines + Drop, B: Backing + Drop>(
     alloc: Global,
     log: Log<L, B>,
-    files: &[u64],
+    descriptors: &[Descriptor],
     trace: &Trace,
 ) -> Ended<L, B>
     requires log { IsLog L.history L.room B.history log }
     requires running { log.stopped ≡ false }
     requires well_formed { IsWellFormed trace.now }
-    requires descriptors { files.now ≡ descriptor_files log.names trace.now }
-    requires files { All (λ file. file < length log.names) files.now }
+    requires descriptors { descriptors.now ≡ descriptors_in log.names trace.now }
+    requires files { All (λ descriptor. descriptor.file < length log.names) descriptors.now }
     ensures count { length result.stores.items ≡ length log.stores.items }
     ensures ran { IfOk result.report (λ text. (basis : Basis) → IsFirst L.history B.history basis log → basis.names ≡ log.names → IsStrictlyIncreasing (lines_in trace.now)
         → HasRunOver L.history B.history basis trace.now text.items result.parts.items result.stores.items) }
@@ -211,7 +212,7 @@ fn run_log<L: Lines + Drop, B: Backing + Drop>(
         (sum_by L.fault_count result.parts.items + sum_by B.fault_count result.stores.items) result.report }
 {
     let mut log = log;
-    match make_calls(alloc, &mut log, files, trace.calls()) {
+    match make_calls(alloc, &mut log, descriptors, trace.calls()) {
         Ok(outcome) => finish(alloc, log, &outcome),
         Err(stop) => {
             let (parts, stores) = log.into_devices();

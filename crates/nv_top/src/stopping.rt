@@ -10,7 +10,8 @@ ghost use Rattle.nv_engine.specs.Keeping.{IsLog};
 ghost use Rattle.nv_recover.specs.Standing.{AreQuietStores, files_of};
 ghost use Rattle.nv_trace.specs.Shape.{IsWellFormed};
 ghost use Rattle.nv_top.specs.Answers.{log_faults};
-ghost use Rattle.nv_top.specs.Faithful.{Basis, descriptor_files, place_of};
+ghost use Rattle.nv_trace.specs.Said.{place_of};
+ghost use Rattle.nv_top.specs.Faithful.{Basis, descriptors_in};
 ghost use Rattle.nv_top.specs.Fates.{fated_report};
 ghost use Rattle.nv_top.specs.LogRuns.{IsFirst, basis_over, lines_in};
 ghost use Rattle.nv_top.specs.Reports.{report_text};
@@ -23,7 +24,7 @@ use crate::attempts::make_calls_on;
 use crate::ending::Stop;
 use crate::fates::fates;
 use crate::files::read_files;
-use crate::names::files_of_descriptors;
+use crate::names::descriptors_in;
 use crate::outcome::Outcome;
 use crate::text::text_of;
 use crate::words::RunOptions;
@@ -34,7 +35,7 @@ use nv_open::{Opened, recover_region};
 use nv_pmem::Pick;
 use nv_recover::{Recovered, images_stand_for_files};
 use nv_store::Backing;
-use nv_trace::Trace;
+use nv_trace::{Descriptor, Trace};
 use std::alloc::Global;
 
 /// Runs a trace over a region whose log is empty, with a store for each of its names, that are lent by a bench: it is armed once the
@@ -75,12 +76,12 @@ pub(crate) fn run_to_stop<T: Bench>(
         (basis_over opened.region options.pages (files_of now)) trace.now (T.state bench.new).told text.items)) }
 {
     let Opened { region, stores } = opened;
-    let Ok(files) = files_of_descriptors(alloc, region.names().as_slice(), trace) else {
+    let Ok(descriptors) = descriptors_in(alloc, region.names().as_slice(), trace) else {
         bench.give_back(region.into_parts(), stores);
         return Err(Stop::NoMemory);
     };
     match Log::new(alloc, region, stores, options.pages) {
-        Ok(log) => stop_log(alloc, bench, log, &files, trace, k, options.image),
+        Ok(log) => stop_log(alloc, bench, log, &descriptors, trace, k, options.image),
         Err((parts, stores, error)) => {
             bench.give_back(parts, stores);
             Err(error.into())
@@ -94,7 +95,7 @@ fn stop_log<T: Bench>(
     alloc: Global,
     bench: &mut T,
     log: Log<T::Part, T::Store>,
-    files: &[u64],
+    descriptors: &[Descriptor],
     trace: &Trace,
     k: u64,
     pick: Pick,
@@ -108,8 +109,8 @@ fn stop_log<T: Bench>(
     requires log { IsLog T.Part.history T.Part.room T.Store.history log }
     requires running { log.stopped ≡ false }
     requires well_formed { IsWellFormed trace.now }
-    requires descriptors { files.now ≡ descriptor_files log.names trace.now }
-    requires files { All (λ file. file < length log.names) files.now }
+    requires descriptors { descriptors.now ≡ descriptors_in log.names trace.now }
+    requires files { All (λ descriptor. descriptor.file < length log.names) descriptors.now }
     ensures back { IsPoweredBack k (T.state bench.old) (T.state bench.new) }
     ensures settled { Settles (T.state bench.new).settled (T.state bench.new).faults result }
     ensures no_less { saturated ((T.state bench.old).faults + log_faults T.Part.fault_count T.Store.fault_count log) ≤ (T.state bench.new).settled }
@@ -123,7 +124,7 @@ fn stop_log<T: Bench>(
     power_leaves_an_image();
     let mut log = log;
     bench.arm(k);
-    let made = make_calls_on(alloc, &mut log, files, trace.calls());
+    let made = make_calls_on(alloc, &mut log, descriptors, trace.calls());
     let (parts, stores) = log.into_devices();
     bench.give_back(parts, stores);
     bench.power(pick)?;

@@ -1,15 +1,20 @@
 -- How an input ends, as its bytes come.
-use Rattle.std.proofs.Common.{◌≡◌, ◌≢◌, ℕ, suc, ◌+◌, ◌-◌, ◌<◌, ◌≤◌, Bool, true, false, eqb, ltb, leb, cond, min, List, [], ◌∷◌, ◌++◌, length, get_or, take, drop, Option, Some, None, inl, inr, refl, sym, ap, ◌∙◌, arith}
+use Rattle.std.proofs.Common.{◌≡◌, ◌≢◌, ℕ, suc, ◌+◌, ◌-◌, ◌<◌, ◌≤◌, Bool, true, false, eqb, ltb, leb, cond, min, List, [], ◌∷◌, ◌++◌, length, get_or, take, drop, not, Result, Ok, Err, inl, inr, refl, sym, ap, ◌∙◌, arith}
 use Rattle.std.proofs.Math.Dec.{eqb-suc-zero}
 use Rattle.std.proofs.Math.Nat.{zero-add}
-use Rattle.std.specs.Option.{option_map_or, option_and_then}
+use Rattle.std.specs.List.{list_all}
 use Rattle.std.proofs.lemmas.Bool.{false≢true, ltb-true, lt-ltb, lt-leb, le-leb, cases_lt, cond-true, cond-false, eq-eqb, eqb-true}
 use Rattle.std.proofs.lemmas.List.{append-nil, length-append, length-take, take-append-drop, take-append-le, take_all, get_or-take}
 use Rattle.std.proofs.Math.Seq.{take-append-add}
-use Rattle.nv_trace.specs.Lines.{parts_between}
+use Rattle.nv_trace.specs.Lines.{fields_of, parts_between}
 use Rattle.nv_trace.specs.Traced.{Traced, empty_trace}
-use Rattle.nv_trace.specs.Grammar.{statement_of}
-use Rattle.nv_trace.specs.Reading.{Ending, Whole, Bad, accepted, after_line, after_lines, ending_of, long_unless_bad, longest_line, largest_input}
+use Rattle.nv_trace.specs.Grammar.{and_then, is_printable}
+use Rattle.nv_trace.specs.Said.{said}
+use Rattle.nv_trace.specs.Reading.{Ending, Whole, Bad, after_line, after_lines, ending_of, long_unless_bad, longest_line, largest_input, unless_bad, with_statement}
+use Rattle.nv_trace.specs.declared.bad_line.BadLine.{BadLine}
+use Rattle.nv_trace.specs.declared.bad_line.Why.{Why}
+use Rattle.nv_trace.specs.declared.bad_line.Why.TheVariants.{Long as LongLine, Bytes as OddBytes}
+use Rattle.nv_trace.specs.declared.trace.Form.{Form}
 use Rattle.nv_trace.specs.Pending.{onto_line, counted_lines, ending_after, ending_from, lines_end, input_ends, room_for}
 use Rattle.nv_trace.specs.declared.reader.LineReader.{LineReader}
 use Rattle.nv_trace.proofs.Parts.{parts_some, onto_line_some, onto_line-append, parts-append, counted_more}
@@ -32,27 +37,32 @@ settled_long [] long = absurd (omega arith)
 settled_long (first ∷ rest) long =
     ap (cond (eqb first 35) true) (lt-ltb longest_line (length (first ∷ rest)) long) ∙ or_true (eqb first 35)
 
-settled_cases : (skipped long longer : Bool) (trace read more : Option Traced) → cond skipped true long ≡ true → (long ≡ true → longer ≡ true) → cond skipped trace (cond longer None more) ≡ cond skipped trace (cond long None read)
+settled_cases : (skipped long longer : Bool) (trace read more : Result Traced Why) → cond skipped true long ≡ true → (long ≡ true → longer ≡ true) → cond skipped trace (cond longer (Err LongLine) more) ≡ cond skipped trace (cond long (Err LongLine) read)
 settled_cases true long longer trace read more settled up = refl
-settled_cases false long longer trace read more settled up = cond-true longer None more (up settled) ∙ sym (cond-true long None read settled)
+settled_cases false long longer trace read more settled up = cond-true longer (Err LongLine) more (up settled) ∙ sym (cond-true long (Err LongLine) read settled)
+
+-- what a line says that is neither skipped nor too long
+abbrev read_of : Traced → ℕ → List ℕ → Result Traced Why
+read_of trace number line =
+    cond (not (list_all is_printable line)) (Err OddBytes) (and_then (λ statement. Ok (with_statement trace number statement)) (said trace (fields_of line)))
 
 settled_line : (trace : Traced) (number : ℕ) (line more : List ℕ) → is_settled line ≡ true → after_line trace number (line ++ more) ≡ after_line trace number line
 unfolding after_line
 settled_line trace number [] more settled = absurd (false≢true settled)
 settled_line trace number (first ∷ rest) more settled =
-    settled_cases (eqb first 35) (ltb longest_line (length (first ∷ rest))) (ltb longest_line (length (first ∷ (rest ++ more)))) (Some trace)
-    (option_and_then (accepted trace number) (statement_of (first ∷ rest))) (option_and_then (accepted trace number) (statement_of (first ∷ (rest ++ more)))) settled
+    settled_cases (eqb first 35) (ltb longest_line (length (first ∷ rest))) (ltb longest_line (length (first ∷ (rest ++ more)))) (Ok trace)
+    (read_of trace number (first ∷ rest)) (read_of trace number (first ∷ (rest ++ more))) settled
     (λ long. lt-ltb longest_line (length (first ∷ (rest ++ more))) (omega (arith, ltb-true longest_line (length (first ∷ rest)) long, length-append rest more)))
 
 settled_first : (whole : Bool) (trace : Traced) (number : ℕ) (line more : List ℕ) (rest : List (List ℕ)) → is_settled line ≡ true → after_lines trace number (counted_lines whole ((line ++ more) ∷ rest)) ≡ after_lines trace number (counted_lines whole (line ∷ rest))
 unfolding after_lines
 settled_first whole trace number [] more rest settled = absurd (false≢true settled)
 settled_first true trace number (byte ∷ line) more [] settled =
-    ap (λ after. option_map_or (λ next. after_lines next (number + 1) []) after (Bad number)) (settled_line trace number (byte ∷ line) more settled)
+    ap (λ after. unless_bad number (λ next. after_lines next (number + 1) []) after) (settled_line trace number (byte ∷ line) more settled)
 settled_first false trace number (byte ∷ line) more [] settled = refl
 settled_first whole trace number (byte ∷ line) more (first ∷ rest) settled =
     ap (after_lines trace number) (counted_more whole (byte ∷ (line ++ more)) first rest)
-    ∙ ap (λ after. option_map_or (λ next. after_lines next (number + 1) (counted_lines whole (first ∷ rest))) after (Bad number)) (settled_line trace number (byte ∷ line) more settled)
+    ∙ ap (λ after. unless_bad number (λ next. after_lines next (number + 1) (counted_lines whole (first ∷ rest))) after) (settled_line trace number (byte ∷ line) more settled)
     ∙ ap (after_lines trace number) (sym (counted_more whole (byte ∷ line) first rest))
 
 -- of a line that is settled nothing more has to be kept
@@ -107,7 +117,7 @@ kept_ending whole trace number line part rest none =
           ∙ ap (λ lines. after_lines trace number (counted_lines whole lines)) (onto_line-append line part parts ∙ all)
     ]
 
-pub line_ended : (whole : Bool) (trace : Traced) (number : ℕ) (line rest : List ℕ) → ending_after whole trace number line (10 ∷ rest) ≡ option_map_or (λ next. ending_after whole next (number + 1) [] rest) (after_line trace number line) (Bad number)
+pub line_ended : (whole : Bool) (trace : Traced) (number : ℕ) (line rest : List ℕ) → ending_after whole trace number line (10 ∷ rest) ≡ unless_bad number (λ next. ending_after whole next (number + 1) [] rest) (after_line trace number line)
 unfolding ending_after parts_between after_lines
 line_ended whole trace number line rest =
     let parts = parts_some 10 rest in
@@ -117,7 +127,7 @@ line_ended whole trace number line rest =
     ap (λ all. after_lines trace number (counted_lines whole all)) put ∙ ap (after_lines trace number) more
 
 -- an input that ends within a line
-pub open_ended : (trace : Traced) (number : ℕ) (line : List ℕ) → ending_after true trace number line [] ≡ cond (eqb (length line) 0) (Whole trace) (option_map_or Whole (after_line trace number line) (Bad number))
+pub open_ended : (trace : Traced) (number : ℕ) (line : List ℕ) → ending_after true trace number line [] ≡ cond (eqb (length line) 0) (Whole trace) (unless_bad number Whole (after_line trace number line))
 unfolding ending_after parts_between after_lines
 open_ended trace number [] = refl
 open_ended trace number (byte ∷ line) =
@@ -128,10 +138,10 @@ pub cut_off : (trace : Traced) (number : ℕ) (line : List ℕ) → ending_after
 unfolding ending_after parts_between after_lines
 cut_off trace number line = ap (λ parts. after_lines trace number (counted_lines false parts)) (onto_line_some line [] [])
 
-pub ending_at_start : (input : List ℕ) → ending_from empty_trace 1 [] 0 input ≡ ending_of input
+pub ending_at_start : (form : Form) (input : List ℕ) → ending_from (empty_trace form) 1 [] 0 input ≡ ending_of form input
 unfolding ending_from ending_after ending_of
-ending_at_start input =
-    ap (λ count. cond (leb count largest_input) (ending_after true empty_trace 1 [] input) (long_unless_bad (ending_after false empty_trace 1 [] (take largest_input input)))) (zero-add (length input))
+ending_at_start form input =
+    ap (λ count. cond (leb count largest_input) (ending_after true (empty_trace form) 1 [] input) (long_unless_bad (ending_after false (empty_trace form) 1 [] (take largest_input input)))) (zero-add (length input))
 
 take_past : (room : ℕ) (bytes rest : List ℕ) → length bytes ≤ room → take room (bytes ++ rest) ≡ bytes ++ take (room - length bytes) rest
 take_past room bytes rest fits =
@@ -156,14 +166,14 @@ continued old new bytes rest fits taken goes_on =
     ∙ ap (λ ending. cond test (lines_end true old (bytes ++ rest)) (long_unless_bad ending)) (goes_on false (take (largest_input - new.taken) rest) ∙ ap (lines_end false old) cut)
 
 -- they have a bad line
-pub stopped : (old : LineReader) (bytes rest : List ℕ) (number : ℕ) → old.taken + length bytes ≤ largest_input → ((whole : Bool) (rest : List ℕ) → lines_end whole old (bytes ++ rest) ≡ Bad number) → input_ends old (bytes ++ rest) ≡ Bad number
+pub stopped : (old : LineReader) (bytes rest : List ℕ) (line : BadLine) → old.taken + length bytes ≤ largest_input → ((whole : Bool) (rest : List ℕ) → lines_end whole old (bytes ++ rest) ≡ Bad line) → input_ends old (bytes ++ rest) ≡ Bad line
 unfolding ending_from
-stopped old bytes rest number fits bad =
+stopped old bytes rest line fits bad =
     let test = leb (old.taken + length (bytes ++ rest)) largest_input in
     let cut = take_past (largest_input - old.taken) bytes rest (omega arith) in
     ap (λ ending. cond test ending (long_unless_bad (lines_end false old (take (largest_input - old.taken) (bytes ++ rest))))) (bad true rest)
-    ∙ ap (λ ending. cond test (Bad number) (long_unless_bad ending)) (ap (lines_end false old) cut ∙ bad false (take (largest_input - old.taken - length bytes) rest))
-    ∙ same_cond test (Bad number)
+    ∙ ap (λ ending. cond test (Bad line) (long_unless_bad ending)) (ap (lines_end false old) cut ∙ bad false (take (largest_input - old.taken - length bytes) rest))
+    ∙ same_cond test (Bad line)
 
 -- bytes that pass the limit: those within it decide
 pub past_limit : (old : LineReader) (bytes rest front : List ℕ) → old.taken ≤ largest_input → largest_input < old.taken + length bytes → front ≡ take (largest_input - old.taken) bytes → input_ends old (bytes ++ rest) ≡ long_unless_bad (lines_end false old (front ++ []))

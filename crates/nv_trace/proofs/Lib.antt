@@ -4,4 +4,5 @@ mod Inputs
 mod Numbers
 mod Parts
 mod Refusals
+mod Shapes
 pub mod Writing

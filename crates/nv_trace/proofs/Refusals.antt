@@ -1,24 +1,27 @@
 -- What a refusal tells of the ending.
 use Rattle.std.proofs.Common.{◌≡◌, ℕ, ◌+◌, ◌<◌, ◌≤◌, Bool, false, eqb, List, [], ◌∷◌, ◌++◌, length, sym, ap, ◌∙◌, arith}
-use Rattle.std.specs.Option.{option_map_or}
 use Rattle.std.proofs.lemmas.Bool.{cond-true, cond-false, eq-eqb, ne_eqb}
-use Rattle.nv_trace.specs.Reading.{Whole, Bad, after_line, long_unless_bad, largest_input}
+use Rattle.nv_trace.specs.Reading.{Whole, Bad, after_line, long_unless_bad, largest_input, unless_bad}
 use Rattle.nv_trace.specs.Refused.{IsBadLine, Tells, read_error}
 use Rattle.nv_trace.specs.Pending.{ending_after, lines_end, input_ends, IsWithin, EndsAt}
+use Rattle.nv_trace.specs.declared.bad_line.BadLine.{BadLine}
 use Rattle.nv_trace.specs.declared.reader.LineReader.{LineReader}
 use Rattle.nv_trace.specs.declared.reader.LineError.{LineError}
 use Rattle.nv_trace.specs.declared.reader.LineError.TheVariants as line_errors
 use Rattle.nv_trace.proofs.Endings.{line_ended, open_ended, at_end, stopped}
 
+named : (bad : BadLine) (number : ℕ) → bad.number ≡ number → Bad (record { number = number; why = bad.why }) ≡ Bad bad
+named bad number is = ap (λ number. Bad (record { number = number; why = bad.why })) (sym is)
+
 pub bad_line : (reader : LineReader) (error : LineError) → IsBadLine reader.trace reader.number reader.line.items error → (whole : Bool) (rest : List ℕ) → EndsAt error (lines_end whole reader (10 ∷ rest))
 bad_line reader (line_errors.Bad bad) refused whole rest =
     line_ended whole reader.trace reader.number reader.line.items rest
-    ∙ ap (λ after. option_map_or (λ next. ending_after whole next (reader.number + 1) [] rest) after (Bad reader.number)) refused.0
-    ∙ ap Bad (sym refused.1)
+    ∙ ap (λ after. unless_bad reader.number (λ next. ending_after whole next (reader.number + 1) [] rest) after) refused.0
+    ∙ named bad reader.number refused.1
 bad_line reader line_errors.NoMemory refused whole rest = tt
 
 -- at the end of the input the open line is taken, where it has a byte
-pub last_line : (reader : LineReader) → IsWithin reader → 0 < length reader.line.items → input_ends reader [] ≡ option_map_or Whole (after_line reader.trace reader.number reader.line.items) (Bad reader.number)
+pub last_line : (reader : LineReader) → IsWithin reader → 0 < length reader.line.items → input_ends reader [] ≡ unless_bad reader.number Whole (after_line reader.trace reader.number reader.line.items)
 last_line reader within some =
     at_end reader within.taken
     ∙ open_ended reader.trace reader.number reader.line.items
@@ -32,12 +35,12 @@ no_last_line reader within none =
 
 pub bad_last_line : (reader : LineReader) (error : LineError) → IsWithin reader → 0 < length reader.line.items → IsBadLine reader.trace reader.number reader.line.items error → Tells (read_error error) (input_ends reader [])
 bad_last_line reader (line_errors.Bad bad) within some refused =
-    last_line reader within some ∙ ap (λ after. option_map_or Whole after (Bad reader.number)) refused.0 ∙ ap Bad (sym refused.1)
+    last_line reader within some ∙ ap (λ after. unless_bad reader.number Whole after) refused.0 ∙ named bad reader.number refused.1
 bad_last_line reader line_errors.NoMemory within some refused = tt
 
 -- a bad line among more bytes, within the limit
 pub bad_within : (reader : LineReader) (bytes rest : List ℕ) (error : LineError) → reader.taken + length bytes ≤ largest_input → ((whole : Bool) (rest : List ℕ) → EndsAt error (lines_end whole reader (bytes ++ rest))) → Tells (read_error error) (input_ends reader (bytes ++ rest))
-bad_within reader bytes rest (line_errors.Bad bad) fits ends = stopped reader bytes rest bad.number fits ends
+bad_within reader bytes rest (line_errors.Bad bad) fits ends = stopped reader bytes rest bad fits ends
 bad_within reader bytes rest line_errors.NoMemory fits ends = tt
 
 -- a bad line before the limit, which more bytes pass

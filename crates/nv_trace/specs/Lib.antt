@@ -3,6 +3,7 @@ pub mod Lines
 pub mod Grammar
 pub mod Traced
 pub mod Reading
+pub mod Said
 pub mod Shape
 pub mod Refused
 pub mod Pending

@@ -47,5 +47,5 @@ pub record IsWithin (reader : LineReader) : Type 0 where
 
 -- the lines end at this bad one; want of memory says nothing of them
 abbrev pub EndsAt : LineError → Ending → Type 0
-EndsAt (line_errors.Bad bad) ending = ending ≡ Bad bad.number
+EndsAt (line_errors.Bad bad) ending = ending ≡ Bad bad
 EndsAt line_errors.NoMemory ending = Unit {0}

@@ -1,27 +1,28 @@
 -- What the refusals of a line and of an input say.
-use Rattle.std.specs.Prelude.{◌≡◌, ℕ, List, None}
+use Rattle.std.specs.Prelude.{◌≡◌, ℕ, List, Err}
 use Rattle.nv_trace.specs.Traced.{Traced}
 use Rattle.nv_trace.specs.Reading.{after_line, ending_of, Ending, Bad, Long}
 use Rattle.nv_trace.specs.declared.reader.LineError.{LineError}
 use Rattle.nv_trace.specs.declared.reader.LineError.TheVariants as line_errors
 use Rattle.nv_trace.specs.declared.reader.ReadError.{ReadError}
 use Rattle.nv_trace.specs.declared.reader.ReadError.TheVariants as read_errors
+use Rattle.nv_trace.specs.declared.trace.Form.{Form}
 
--- the line may not follow, and is named by its number; want of memory has no cause
+-- the line is bad for this reason, and is named by its number; want of memory has no cause
 abbrev pub IsBadLine : Traced → ℕ → List ℕ → LineError → Type 0
-IsBadLine trace number line (line_errors.Bad bad) = (after_line trace number line ≡ None) × (bad.number ≡ number)
+IsBadLine trace number line (line_errors.Bad bad) = (after_line trace number line ≡ Err bad.why) × (bad.number ≡ number)
 IsBadLine trace number line line_errors.NoMemory = Unit {0}
 
 -- the ending that an error tells; a failed read and want of memory tell none
 abbrev pub Tells : ReadError → Ending → Type 0
-Tells (read_errors.Bad bad) ending = ending ≡ Bad bad.number
+Tells (read_errors.Bad bad) ending = ending ≡ Bad bad
 Tells read_errors.InputLong ending = ending ≡ Long
 Tells read_errors.Failed ending = Unit {0}
 Tells read_errors.NoMemory ending = Unit {0}
 
 -- the input ends so
-abbrev pub IsRefusedAs : ReadError → List ℕ → Type 0
-IsRefusedAs error input = Tells error (ending_of input)
+abbrev pub IsRefusedAs : Form → ReadError → List ℕ → Type 0
+IsRefusedAs form error input = Tells error (ending_of form input)
 
 -- the refusal of an input whose line is refused
 abbrev pub read_error : LineError → ReadError

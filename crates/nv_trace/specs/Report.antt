@@ -7,7 +7,7 @@ use Rattle.nv_plain.specs.declared.call.Reply.TheVariants.{Bytes, Count, Done}
 use Rattle.nv_trace.specs.declared.trace.TraceCall.{TraceCall}
 use Rattle.nv_trace.specs.declared.trace.TraceCall.TheVariants.{Pread, Pwrite, Fsync}
 use Rattle.nv_trace.specs.declared.report.Refusal.{Refusal}
-use Rattle.nv_trace.specs.declared.report.Refusal.TheVariants.{TooFar, TooLong, Stopped, Spent, Again, RegionFault, StoreFault}
+use Rattle.nv_trace.specs.declared.report.Refusal.TheVariants.{BadDescriptor, TooFar, TooLong, Stopped, Spent, Again, RegionFault, StoreFault}
 use Rattle.nv_trace.specs.declared.report.Fate.{Fate}
 use Rattle.nv_trace.specs.declared.report.Fate.TheVariants.{Kept, Lost}
 
@@ -43,6 +43,7 @@ history_text place thread call reply =
     line_text (decimal place ∷ decimal thread ∷ spaced (call_fields call) ∷ codes "=" ∷ reply_text reply ∷ [])
 
 abbrev pub refusal_text : Refusal → List ℕ
+refusal_text BadDescriptor = codes "bad descriptor"
 refusal_text TooFar = codes "too far"
 refusal_text TooLong = codes "too long"
 refusal_text Stopped = codes "stopped"

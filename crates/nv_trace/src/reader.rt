@@ -1,32 +1,22 @@
-ghost use Rattle.std.specs.Prelude.{◌≡◌, ◌≢◌, ℕ, ◌+◌, ◌^◌, ◌<◌, ◌≤◌, Bool, List, [], ◌∷◌, ◌++◌, length, slice_index, Some, Err, IfOk, IfErr, IfSome, IfNone, OnOk, OnErr, vec_len};
+ghost use Rattle.std.specs.List.{list_all};
+ghost use Rattle.std.specs.Prelude.{◌≡◌, ◌≢◌, ℕ, ◌+◌, ◌^◌, ◌<◌, ◌≤◌, Bool, List, [], ◌∷◌, ◌++◌, length, slice_index, Ok, Err, IfOk, IfErr, IfSome, IfNone, OnOk, OnErr, vec_len};
 ghost use Rattle.nv_plain.specs.Faults.{Rose};
 ghost use Rattle.nv_trace.specs.Reading as reading;
 ghost use Rattle.nv_trace.specs.Reading.{after_line, ending_of, Whole};
+ghost use Rattle.nv_trace.specs.Grammar.{is_printable};
+ghost use Rattle.nv_trace.specs.Said.{IsUnsaid};
 ghost use Rattle.nv_trace.specs.Refused.{IsBadLine, IsRefusedAs, Tells, read_error};
 ghost use Rattle.nv_trace.specs.Pending.{input_ends, lines_end, room_for, IsWithin, EndsAt};
 ghost use Rattle.nv_trace.specs.declared.reader.LineError.TheVariants as line_errors;
 ghost use Rattle.nv_trace.specs.declared.reader.ReadError.TheVariants as read_errors;
 
-use crate::statement::parse_statement;
+use crate::bad_line::{BadLine, Unsaid, Why};
+use crate::statement::statement_of;
+use crate::trace::Form;
 use crate::{Failed, Source, Trace};
 use nv_plain::NoMemory;
 use std::alloc::{AllocError, Global};
 use thiserror::Error;
-
-/// Why a line is bad.
-#[derive(Clone, Copy, Debug, PartialEq, Eq)]
-pub enum Why {
-    /// It is in no form of a line, or may not stand there.
-    Form,
-}
-
-/// A line that isn't in the grammar of traces, by its number, counted from 1.
-#[derive(Clone, Copy, Debug, PartialEq, Eq, Error)]
-#[error("bad line {number}")]
-pub struct BadLine {
-    pub number: u64,
-    pub why: Why,
-}
 
 /// Why a line was not taken.
 #[derive(Clone, Copy, Debug, PartialEq, Eq, Error)]
@@ -96,30 +86,49 @@ const CHUNK: usize = 65_536;
 
 /// Takes a line, without its line feed, into the trace. A line that is empty or begins with `#` says nothing; any other
 /// has at most 262,400 bytes. After a refusal the trace is as before.
-#[tactic(auto, unfolding(crate::specs::Reading::after_line))]
 pub fn read_line(trace: &mut Trace, number: u64, line: &[u8]) -> Result<(), LineError>
-    ensures read { OnOk result (after_line trace.old number line.now ≡ Some trace.new) }
+    ensures read { OnOk result (after_line trace.old number line.now ≡ Ok trace.new) }
     ensures bad { IfErr result (IsBadLine trace.old number line.now) }
+    ensures unchanged { OnErr result (trace.new ≡ trace.old) }
+{
+    match take_line(trace, number, line) {
+        Ok(()) => Ok(()),
+        Err(Unsaid::Bad(why)) => Err(LineError::Bad(BadLine { number, why })),
+        Err(Unsaid::NoMemory) => Err(LineError::NoMemory),
+    }
+}
+
+/// Takes a line into the trace, or says why it is bad.
+#[tactic(auto, unfolding(crate::specs::Reading::after_line))]
+fn take_line(trace: &mut Trace, number: u64, line: &[u8]) -> Result<(), Unsaid>
+    ensures read { OnOk result (after_line trace.old number line.now ≡ Ok trace.new) }
+    ensures bad { IfErr result (IsUnsaid (after_line trace.old number line.now)) }
     ensures unchanged { OnErr result (trace.new ≡ trace.old) }
 {
     if is_skipped(line) {
         return Ok(());
     }
-    let bad = LineError::Bad(BadLine {
-        number,
-        why: Why::Form,
-    });
     if line.len() > LONGEST_LINE {
-        return Err(bad);
+        return Err(Unsaid::Bad(Why::Long));
     }
-    let Some(statement) = parse_statement(trace.alloc(), line)? else {
-        return Err(bad);
-    };
-    if trace.accept(number, statement)? {
-        Ok(())
-    } else {
-        Err(bad)
+    if !are_printable(line) {
+        return Err(Unsaid::Bad(Why::Bytes));
     }
+    let statement = statement_of(trace.alloc(), trace, line)?;
+    trace.push(number, statement)?;
+    Ok(())
+}
+
+fn are_printable(line: &[u8]) -> bool
+    ensures { result ≡ list_all is_printable line.now }
+{
+    line.iter().all(|byte| is_printable(*byte))
+}
+
+fn is_printable(byte: u8) -> bool
+    ensures { result ≡ is_printable byte }
+{
+    matches!(byte, b' '..=b'~')
 }
 
 /// An empty line says nothing, and neither does one that begins with `#`.
@@ -134,14 +143,14 @@ fn is_skipped(line: &[u8]) -> bool
 ///
 /// The first bad line ends the reading. `InputLong` comes past the limit, unless a bad line ended before it, and `Failed`
 /// only from the source.
-pub fn read_trace<I: Source>(alloc: Global, src: &mut I) -> Result<Trace, ReadError>
-    ensures whole { IfOk result (λ trace. IfSome (I.left src.old) (λ input. ending_of input ≡ Whole trace)) }
+pub fn read_trace<I: Source>(alloc: Global, form: Form, src: &mut I) -> Result<Trace, ReadError>
+    ensures whole { IfOk result (λ trace. IfSome (I.left src.old) (λ input. ending_of form input ≡ Whole trace)) }
     ensures at_end { OnOk result (IfSome (I.left src.old) (λ _. I.left src.new ≡ Some [])) }
-    ensures refused { IfErr result (λ error. IfSome (I.left src.old) (IsRefusedAs error)) }
+    ensures refused { IfErr result (λ error. IfSome (I.left src.old) (IsRefusedAs form error)) }
     ensures failed { result ≡ Err read_errors.Failed → Rose (I.fault_count src.old) (I.fault_count src.new) }
     ensures kept { result ≢ Err read_errors.Failed → I.fault_count src.new ≡ I.fault_count src.old }
 {
-    let mut reader = LineReader::new(alloc);
+    let mut reader = LineReader::new(alloc, form);
     let mut buffer = zeros(alloc, CHUNK)?;
     loop {
         let count = src.read(&mut buffer)?;
@@ -167,12 +176,12 @@ struct LineReader {
 }
 
 impl LineReader {
-    fn new(alloc: Global) -> Self
-        ensures start { (input : List ℕ) → input_ends result input ≡ ending_of input }
+    fn new(alloc: Global, form: Form) -> Self
+        ensures start { (input : List ℕ) → input_ends result input ≡ ending_of form input }
         ensures within { IsWithin result }
     {
         LineReader {
-            trace: Trace::new(alloc),
+            trace: Trace::new(alloc, form),
             number: 1,
             line: Vec::new(alloc),
             taken: 0,

@@ -8,6 +8,8 @@ use std::alloc::{AllocError, Global};
 /// Why a call was refused.
 #[derive(Clone, Copy, Debug, PartialEq, Eq)]
 pub enum Refusal {
+    /// The descriptor isn't open, or not in the call's mode.
+    BadDescriptor,
     /// The call ends past the largest length of a file.
     TooFar,
     /// It touches more pages than one call may.
@@ -140,6 +142,7 @@ fn refusal_text(alloc: Global, refusal: &Refusal) -> Result<String, AllocError>
     ensures { IfOk result (λ text. string_bytes text ≡ refusal_text refusal.now) }
 {
     match refusal {
+        Refusal::BadDescriptor => String::from_str(alloc, "bad descriptor"),
         Refusal::TooFar => String::from_str(alloc, "too far"),
         Refusal::TooLong => String::from_str(alloc, "too long"),
         Refusal::Stopped => String::from_str(alloc, "stopped"),

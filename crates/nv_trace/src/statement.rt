@@ -1,18 +1,32 @@
-ghost use Rattle.std.specs.Prelude.{◌≡◌, ◌<◌, ◌≤◌, IfSome, ◌^◌, [], ◌∷◌, length, map, IfOk, MatchOption, SomeIff};
-ghost use Rattle.std.specs.List.{list_all};
+ghost use Rattle.std.specs.Prelude.{◌≡◌, ◌<◌, ◌≤◌, ◌^◌, ◌==◌, [], ◌∷◌, length, map, nat_eq, IfSome, IfOk, MatchOption, OnOk, SomeIff, Ok};
+ghost use Rattle.std.specs.List.{list_all, list_any};
+ghost use lib.Pointwise.{pointwise};
 ghost use Rattle.nv_trace.specs.Lines.{fields_of};
 ghost use Rattle.nv_trace.specs.Grammar as grammar;
-ghost use Rattle.nv_trace.specs.Shape.{IsStatementWithin};
-ghost use Rattle.nv_trace.specs.Grammar.{bytes_of, is_digit, is_numeral, largest_count, movable, number_of, read_of, said_by, statement_of, value_of, write_of};
+ghost use Rattle.nv_trace.specs.Grammar.{and_then, hex_of, is_digit, is_numeral, largest_count, movable, number_of, value_of};
+ghost use Rattle.nv_trace.specs.Said as said;
+ghost use Rattle.nv_trace.specs.Said.{IsRead, new_name, read_of, said_by, turn_of, write_of};
+ghost use Rattle.nv_trace.specs.Shape.{MayFollow};
+ghost use Rattle.nv_trace.specs.declared.statement.Statement.TheVariants as statement;
 
-use crate::TraceCall;
+use crate::bad_line::{Unsaid, Why};
+use crate::trace::{Descriptor, Trace, TraceCall};
 use arrayvec::ArrayVec;
 use hex::FromHexError;
-use nv_plain::{Bytes, NoMemory, is_file_name};
+use nv_plain::{Bytes, Mode, NoMemory, is_file_name};
 use std::alloc::Global;
 
 /// The most bytes of a file's name.
 const NAME_LIMIT: u64 = 56;
+
+/// The most files of a trace.
+const MOST_FILES: usize = 16;
+
+/// The most descriptors of a trace.
+const MOST_DESCRIPTORS: usize = 64;
+
+/// The largest number of a descriptor.
+const LAST_DESCRIPTOR: u64 = 63;
 
 /// The largest offset of a call.
 const LARGEST_OFFSET: u64 = (1 << 62) - 1;
@@ -21,38 +35,38 @@ const LARGEST_OFFSET: u64 = (1 << 62) - 1;
 const LARGEST_COUNT: u64 = 131_072;
 
 /// The most fields of a line that is in some form.
-const MOST_FIELDS: usize = 5;
+const MOST_FIELDS: usize = 6;
 
 /// What one line of a trace says.
 #[derive(Debug, Drop)]
 pub enum Statement {
     /// `file NAME`
     File(Bytes),
-    /// `fd 0 NAME rw`
-    Descriptor(Bytes),
+    /// `fd N NAME MODE`
+    Opened(Descriptor),
     /// A call.
     Call(TraceCall),
 }
 
-/// What a line says, or none where it is in no form.
-pub fn parse_statement(alloc: Global, line: &[u8]) -> Result<Option<Statement>, NoMemory>
-    ensures said { IfOk result (λ said. said ≡ statement_of line.now) }
-    ensures within { IfOk result (λ said. IfSome said IsStatementWithin) }
+/// What a line says behind those of a trace.
+#[tactic(auto, unfolding(crate::specs::Said::said))]
+pub(crate) fn statement_of(alloc: Global, trace: &Trace, line: &[u8]) -> Result<Statement, Unsaid>
+    ensures read { IsRead result (said.said trace.now (fields_of line.now)) }
+    ensures follows { IfOk result (MayFollow trace.now) }
 {
     let Some(fields) = fields(line) else {
-        return Ok(None);
+        return Err(Unsaid::Bad(Why::Form));
     };
-    match fields.as_slice() {
-        [word, name] => file(alloc, word, name),
-        [word, number, name, mode] => descriptor(alloc, word, number, name, mode),
-        [thread, word, descriptor, at, last] => call(alloc, thread, word, descriptor, at, last),
-        _ => Ok(None),
+    let fields = fields.as_slice();
+    if has_empty(fields) {
+        return Err(Unsaid::Bad(Why::Form));
     }
+    by_fields(alloc, trace, fields)
 }
 
 /// The fields of a line, where it has no more than a form may have.
 fn fields(line: &[u8]) -> Option<ArrayVec<&[u8], MOST_FIELDS>>
-    ensures { MatchOption result (5 < length (fields_of line.now)) (λ fields. map (λ field. field.now) fields.items ≡ fields_of line.now) }
+    ensures { MatchOption result (6 < length (fields_of line.now)) (λ fields. map (λ field. field.now) fields.items ≡ fields_of line.now) }
 {
     let mut fields = ArrayVec::new();
     for field in line.split(|byte| *byte == b' ') {
@@ -61,91 +75,283 @@ fn fields(line: &[u8]) -> Option<ArrayVec<&[u8], MOST_FIELDS>>
     Some(fields)
 }
 
-/// `file NAME`
-#[tactic(auto, unfolding(crate::specs::Grammar::said_by))]
-fn file(alloc: Global, word: &[u8], name: &[u8]) -> Result<Option<Statement>, NoMemory>
-    ensures within { IfOk result (λ said. IfSome said IsStatementWithin) }
-    ensures said { IfOk result (λ said. said ≡ said_by (word.now ∷ name.now ∷ [])) }
+fn has_empty(fields: &[&[u8]]) -> bool
+    ensures { result ≡ list_any (λ field. length field.now == 0) fields.now }
 {
-    if says(word, "file") && is_file_name(name, NAME_LIMIT) {
-        Ok(Some(Statement::File(copied(alloc, name)?)))
-    } else {
-        Ok(None)
+    fields.iter().any(|field| field.is_empty())
+}
+
+/// What some fields say, by how many there are.
+fn by_fields(alloc: Global, trace: &Trace, fields: &[&[u8]]) -> Result<Statement, Unsaid>
+    ensures read { IsRead result (said_by trace.now (map (λ field. field.now) fields.now)) }
+    ensures follows { IfOk result (MayFollow trace.now) }
+{
+    match fields {
+        [word, name] => file(alloc, trace, word, name),
+        [thread, word, fd] => Ok(sync(trace, thread, word, fd)?),
+        [word, number, name, mode] => Ok(descriptor(trace, word, number, name, mode)?),
+        [thread, word, fd, at, last] => read_or_write(alloc, trace, thread, word, fd, at, last),
+        [thread, word, fd, at, len, byte] => fill(alloc, trace, thread, word, fd, at, len, byte),
+        _ => Err(Unsaid::Bad(Why::Form)),
     }
 }
 
-/// `fd 0 NAME rw`
-#[tactic(auto, unfolding(crate::specs::Grammar::said_by))]
+/// `file NAME`
+#[tactic(auto, unfolding(crate::specs::Said::said_by))]
+fn file(alloc: Global, trace: &Trace, word: &[u8], name: &[u8]) -> Result<Statement, Unsaid>
+    ensures read { IsRead result (said_by trace.now (word.now ∷ name.now ∷ [])) }
+    ensures follows { IfOk result (MayFollow trace.now) }
+{
+    if !says(word, "file") {
+        return Err(Unsaid::Bad(Why::Form));
+    }
+    check_new(trace, name)?;
+    Ok(Statement::File(copied(alloc, name)?))
+}
+
+/// Whether a file may be declared here, and under this name.
+#[tactic(auto, unfolding(crate::specs::Said::new_name))]
+fn check_new(trace: &Trace, name: &[u8]) -> Result<(), Why>
+    ensures read { result ≡ and_then (λ _. Ok tt) (new_name trace.now name.now) }
+    ensures follows { OnOk result (MayFollow trace.now (statement.File name.now)) }
+    ensures name { OnOk result (new_name trace.now name.now ≡ Ok name.now) }
+{
+    if !trace.calls().is_empty() {
+        Err(Why::Late)
+    } else if trace.names().len() >= MOST_FILES {
+        Err(Why::Many)
+    } else if !is_file_name(name, NAME_LIMIT) {
+        Err(Why::Name)
+    } else if place_of(trace.names(), name) < trace.names().len() as u64 {
+        Err(Why::Repeat)
+    } else {
+        Ok(())
+    }
+}
+
+/// `fd N NAME MODE`
+#[tactic(auto, unfolding(crate::specs::Said::said_by, crate::specs::Said::new_descriptor))]
 fn descriptor(
-    alloc: Global,
+    trace: &Trace,
     word: &[u8],
     number: &[u8],
     name: &[u8],
     mode: &[u8],
-) -> Result<Option<Statement>, NoMemory>
-    ensures within { IfOk result (λ said. IfSome said IsStatementWithin) }
-    ensures said { IfOk result (λ said. said ≡ said_by (word.now ∷ number.now ∷ name.now ∷ mode.now ∷ [])) }
+) -> Result<Statement, Why>
+    ensures read { result ≡ said_by trace.now (word.now ∷ number.now ∷ name.now ∷ mode.now ∷ []) }
+    ensures follows { IfOk result (MayFollow trace.now) }
 {
-    if says(word, "fd") && says(number, "0") && is_file_name(name, NAME_LIMIT) && says(mode, "rw") {
-        Ok(Some(Statement::Descriptor(copied(alloc, name)?)))
+    if !says(word, "fd") {
+        return Err(Why::Form);
+    }
+    if !trace.calls().is_empty() {
+        return Err(Why::Late);
+    }
+    if trace.descriptors().len() >= MOST_DESCRIPTORS {
+        return Err(Why::Many);
+    }
+    check_turn(trace, number)?;
+    let file = file_of(trace, name)?;
+    let mode = mode_of(mode)?;
+    Ok(Statement::Opened(Descriptor { file, mode }))
+}
+
+/// Whether a field is the number of the next descriptor.
+fn check_turn(trace: &Trace, field: &[u8]) -> Result<u64, Why>
+    ensures { result ≡ turn_of trace.now field.now }
+{
+    let number = number(field, LAST_DESCRIPTOR)?;
+    if number == trace.descriptors().len() as u64 {
+        Ok(number)
     } else {
-        Ok(None)
+        Err(Why::Number)
     }
 }
 
-/// `0 pwrite 0 OFFSET HEX` or `0 pread 0 OFFSET LEN`
-#[tactic(auto, unfolding(crate::specs::Grammar::said_by))]
-fn call(
+/// The place of a file that is declared, by its name.
+#[tactic(auto, unfolding(crate::specs::Said::file_of))]
+fn file_of(trace: &Trace, name: &[u8]) -> Result<u64, Why>
+    ensures read { result ≡ said.file_of trace.now name.now }
+    ensures declared { IfOk result (λ file. file < length trace.now.names) }
+{
+    if !is_file_name(name, NAME_LIMIT) {
+        return Err(Why::Name);
+    }
+    let place = place_of(trace.names(), name);
+    if place < trace.names().len() as u64 {
+        Ok(place)
+    } else {
+        Err(Why::Unknown)
+    }
+}
+
+/// The mode that a field spells.
+#[tactic(auto, unfolding(crate::specs::Grammar::mode_of))]
+fn mode_of(field: &[u8]) -> Result<Mode, Why>
+    ensures { result ≡ grammar.mode_of field.now }
+{
+    if says(field, "r") {
+        Ok(Mode::R)
+    } else if says(field, "w") {
+        Ok(Mode::W)
+    } else if says(field, "rw") {
+        Ok(Mode::Rw)
+    } else {
+        Err(Why::Mode)
+    }
+}
+
+/// The words that a line begins with that is no call's.
+fn is_keyword(field: &[u8]) -> bool
+    ensures { result ≡ said.is_keyword field.now }
+{
+    says(field, "file") || says(field, "fd") || says(field, "round") || says(field, "steps")
+}
+
+/// `T fsync FD`
+#[tactic(auto, unfolding(crate::specs::Said::said_by))]
+fn sync(trace: &Trace, thread: &[u8], word: &[u8], fd: &[u8]) -> Result<Statement, Why>
+    ensures read { result ≡ said_by trace.now (thread.now ∷ word.now ∷ fd.now ∷ []) }
+    ensures follows { IfOk result (MayFollow trace.now) }
+{
+    if is_keyword(thread) || !says(word, "fsync") {
+        return Err(Why::Form);
+    }
+    let fd = call_on(trace, thread, fd)?;
+    Ok(Statement::Call(TraceCall::Fsync { fd }))
+}
+
+/// `T pwrite FD OFF HEX` or `T pread FD OFF LEN`
+#[tactic(auto, unfolding(crate::specs::Said::said_by))]
+fn read_or_write(
     alloc: Global,
+    trace: &Trace,
     thread: &[u8],
     word: &[u8],
-    descriptor: &[u8],
+    fd: &[u8],
     at: &[u8],
     last: &[u8],
-) -> Result<Option<Statement>, NoMemory>
-    ensures within { IfOk result (λ said. IfSome said IsStatementWithin) }
-    ensures said { IfOk result (λ said. said ≡ said_by (thread.now ∷ word.now ∷ descriptor.now ∷ at.now ∷ last.now ∷ [])) }
+) -> Result<Statement, Unsaid>
+    ensures read { IsRead result (said_by trace.now (thread.now ∷ word.now ∷ fd.now ∷ at.now ∷ last.now ∷ [])) }
+    ensures follows { IfOk result (MayFollow trace.now) }
 {
-    if !says(thread, "0") || !says(descriptor, "0") {
-        Ok(None)
+    if is_keyword(thread) {
+        Err(Unsaid::Bad(Why::Form))
     } else if says(word, "pwrite") {
-        write(alloc, at, last)
+        write(alloc, trace, thread, fd, at, last)
     } else if says(word, "pread") {
-        Ok(read(at, last))
+        Ok(read(trace, thread, fd, at, last)?)
     } else {
-        Ok(None)
+        Err(Unsaid::Bad(Why::Form))
     }
 }
 
-/// A write, by its offset and its bytes.
-fn write(alloc: Global, at: &[u8], bytes: &[u8]) -> Result<Option<Statement>, NoMemory>
-    ensures said { IfOk result (λ said. said ≡ write_of at.now bytes.now) }
-    ensures within { IfOk result (λ said. IfSome said IsStatementWithin) }
-{
-    let Some(at) = number(at, 0, LARGEST_OFFSET) else {
-        return Ok(None);
-    };
-    let Some(bytes) = hex_bytes(alloc, bytes)? else {
-        return Ok(None);
-    };
-    Ok(Some(Statement::Call(TraceCall::Pwrite { fd: 0, at, bytes })))
+/// Where a call reads or writes: its descriptor and its offset.
+#[derive(Clone, Copy)]
+struct CallPlace {
+    fd: u64,
+    at: u64,
 }
 
-/// A read, by its offset and how many bytes.
-fn read(at: &[u8], len: &[u8]) -> Option<Statement>
-    ensures said { result ≡ read_of at.now len.now }
-    ensures within { IfSome result IsStatementWithin }
+/// The place of a call, of the one thread that there is.
+fn call_at(trace: &Trace, thread: &[u8], fd: &[u8], at: &[u8]) -> Result<CallPlace, Why>
+    ensures read { result ≡ said.call_at trace.now thread.now fd.now at.now }
+    ensures within { IfOk result (λ place. (place.fd < length trace.now.descriptors) × (place.at ≤ grammar.largest_offset)) }
 {
-    let at = number(at, 0, LARGEST_OFFSET)?;
-    let len = number(len, 1, LARGEST_COUNT)?;
-    Some(Statement::Call(TraceCall::Pread { fd: 0, at, len }))
+    let fd = call_on(trace, thread, fd)?;
+    let at = number(at, LARGEST_OFFSET)?;
+    Ok(CallPlace { fd, at })
 }
 
-/// The bytes that a field spells, where a call may move so many.
+/// The descriptor of a call.
+#[tactic(auto, unfolding(crate::specs::Said::call_on))]
+fn call_on(trace: &Trace, thread: &[u8], fd: &[u8]) -> Result<u64, Why>
+    ensures read { result ≡ said.call_on trace.now thread.now fd.now }
+    ensures declared { IfOk result (λ fd. fd < length trace.now.descriptors) }
+{
+    number(thread, 0)?;
+    let fd = number(fd, LAST_DESCRIPTOR)?;
+    if fd < trace.descriptors().len() as u64 {
+        Ok(fd)
+    } else {
+        Err(Why::Unknown)
+    }
+}
+
+/// A read, by how many bytes.
+fn read(trace: &Trace, thread: &[u8], fd: &[u8], at: &[u8], len: &[u8]) -> Result<Statement, Why>
+    ensures read { result ≡ read_of trace.now thread.now fd.now at.now len.now }
+    ensures follows { IfOk result (MayFollow trace.now) }
+{
+    let CallPlace { fd, at } = call_at(trace, thread, fd, at)?;
+    let len = number(len, LARGEST_COUNT)?;
+    Ok(Statement::Call(TraceCall::Pread { fd, at, len }))
+}
+
+/// A write, by its bytes.
+fn write(
+    alloc: Global,
+    trace: &Trace,
+    thread: &[u8],
+    fd: &[u8],
+    at: &[u8],
+    hex: &[u8],
+) -> Result<Statement, Unsaid>
+    ensures read { IsRead result (write_of trace.now thread.now fd.now at.now hex.now) }
+    ensures follows { IfOk result (MayFollow trace.now) }
+{
+    let CallPlace { fd, at } = call_at(trace, thread, fd, at)?;
+    let bytes = bytes_of(alloc, hex)?;
+    Ok(Statement::Call(TraceCall::Pwrite { fd, at, bytes }))
+}
+
+/// `T pfill FD OFF LEN BYTE`
+#[tactic(auto, unfolding(crate::specs::Said::said_by))]
+fn fill(
+    alloc: Global,
+    trace: &Trace,
+    thread: &[u8],
+    word: &[u8],
+    fd: &[u8],
+    at: &[u8],
+    len: &[u8],
+    byte: &[u8],
+) -> Result<Statement, Unsaid>
+    ensures read { IsRead result (said_by trace.now (thread.now ∷ word.now ∷ fd.now ∷ at.now ∷ len.now ∷ byte.now ∷ [])) }
+    ensures follows { IfOk result (MayFollow trace.now) }
+{
+    if is_keyword(thread) || !says(word, "pfill") {
+        return Err(Unsaid::Bad(Why::Form));
+    }
+    let CallPlace { fd, at } = call_at(trace, thread, fd, at)?;
+    let len = number(len, LARGEST_COUNT)?;
+    let byte = number(byte, 255)?;
+    let bytes = vec![in alloc; byte as u8; len as usize]?;
+    Ok(Statement::Call(TraceCall::Pwrite {
+        fd,
+        at,
+        bytes: Bytes::from_vec(bytes),
+    }))
+}
+
+/// The bytes that a field spells, `-` for none.
 #[tactic(auto, unfolding(crate::specs::Grammar::bytes_of))]
+fn bytes_of(alloc: Global, field: &[u8]) -> Result<Bytes, Unsaid>
+    ensures read { IsRead result (grammar.bytes_of field.now) }
+    ensures few { IfOk result (λ bytes. length bytes ≤ largest_count) }
+{
+    if says(field, "-") {
+        return Ok(Bytes::from_vec(Vec::new(alloc)));
+    }
+    let bytes = hex_bytes(alloc, field)?;
+    bytes.ok_or(Unsaid::Bad(Why::Hex))
+}
+
+/// The bytes that hexadecimal digits spell, where a call may move so many.
+#[tactic(auto, unfolding(crate::specs::Grammar::hex_of))]
 fn hex_bytes(alloc: Global, field: &[u8]) -> Result<Option<Bytes>, NoMemory>
-    ensures said { IfOk result (λ bytes. bytes ≡ bytes_of field.now) }
-    ensures within { IfOk result (λ bytes. IfSome bytes (λ moved. (1 ≤ length moved) × (length moved ≤ largest_count))) }
+    ensures spelled { IfOk result (λ bytes. bytes ≡ hex_of field.now) }
+    ensures few { IfOk result (λ bytes. IfSome bytes (λ moved. length moved ≤ largest_count)) }
 {
     match hex::decode(alloc, field) {
         Ok(bytes) => Ok(moved(bytes)),
@@ -157,27 +363,28 @@ fn hex_bytes(alloc: Global, field: &[u8]) -> Result<Option<Bytes>, NoMemory>
 /// Some bytes, where a call may move so many.
 fn moved(bytes: Vec<u8>) -> Option<Bytes>
     ensures moved { result ≡ movable bytes.items }
-    ensures within { IfSome result (λ moved. (1 ≤ length moved) × (length moved ≤ largest_count)) }
+    ensures few { IfSome result (λ moved. length moved ≤ largest_count) }
 {
-    let count = bytes.len() as u64;
-    if 1 <= count && count <= LARGEST_COUNT {
+    if bytes.len() as u64 <= LARGEST_COUNT {
         Some(Bytes::from_vec(bytes))
     } else {
         None
     }
 }
 
-/// The number that a field spells, where it is one from `least` to `most`.
+/// The number that a field spells, up to the greatest that may stand there.
 #[tactic(auto, unfolding(crate::specs::Grammar::number_of))]
-fn number(field: &[u8], least: u64, most: u64) -> Option<u64>
-    ensures number { result ≡ number_of least most field.now }
-    ensures within { IfSome result (λ number. (least ≤ number) × (number ≤ most)) }
+fn number(field: &[u8], most: u64) -> Result<u64, Why>
+    ensures number { result ≡ number_of most field.now }
+    ensures within { IfOk result (λ number. number ≤ most) }
 {
     if !is_decimal(field) {
-        return None;
+        return Err(Why::Number);
     }
-    let value = value(field)?;
-    (least <= value && value <= most).then_some(value)
+    match value(field) {
+        Some(value) if value <= most => Ok(value),
+        _ => Err(Why::Number),
+    }
 }
 
 /// Whether these are decimal digits, the first of them no zero where there are more.
@@ -217,6 +424,18 @@ fn says(field: &[u8], word: &str) -> bool
     ensures { result ≡ grammar.says field.now word.now }
 {
     field == word.as_bytes()
+}
+
+/// The place of a name among some names, or how many there are.
+pub fn place_of(names: &[Bytes], name: &[u8]) -> u64
+    ensures { result ≡ said.place_of name.now names.now }
+{
+    for (place, known) in names.iter().enumerate() {
+        if known.as_slice() == name {
+            return place as u64;
+        }
+    }
+    names.len() as u64
 }
 
 /// A copy of a name.

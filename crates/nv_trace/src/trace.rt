@@ -1,13 +1,28 @@
-ghost use Rattle.std.specs.Prelude.{◌≡◌, ◌≢◌, [], ◌∷◌, if◌then◌else◌, nat_eq, true, Ok, Some, None, IfOk};
-ghost use lib.Pointwise.{pointwise};
-ghost use Rattle.nv_trace.specs.Shape.{IsStatementWithin, IsWellFormed};
+ghost use Rattle.std.specs.Prelude.{◌≡◌, IfOk, OnErr, OnOk};
+ghost use Rattle.nv_trace.specs.Shape.{IsWellFormed, MayFollow};
 ghost use Rattle.nv_trace.specs.Traced.{empty_trace};
-ghost use Rattle.nv_trace.specs.Reading.{accepted};
+ghost use Rattle.nv_trace.specs.Reading.{with_statement};
 
 use crate::statement::Statement;
-use nv_plain::{Bytes, NoMemory};
+use nv_plain::{Bytes, Mode, NoMemory};
 use std::alloc::Global;
 use std::marker::Model;
+
+/// What a trace is read for: some lines are in one of the forms alone.
+#[derive(Clone, Copy, Debug, PartialEq, Eq)]
+pub enum Form {
+    /// To make its calls, thread by thread.
+    Run,
+    /// To make their steps in a given order.
+    Sched,
+}
+
+/// A descriptor: its file, by its place among the names of the trace, and the mode in which it is open.
+#[derive(Clone, Copy, Debug, PartialEq, Eq)]
+pub struct Descriptor {
+    pub file: u64,
+    pub mode: Mode,
+}
 
 /// A call as a trace has it, by its descriptor's number. Offsets and lengths are in bytes.
 #[derive(Debug, Drop)]
@@ -29,8 +44,9 @@ pub struct TracedCall {
 #[derive(Drop)]
 pub struct Trace {
     alloc: Global,
+    form: Form,
     names: Vec<Bytes>,
-    descriptors: Vec<u64>,
+    descriptors: Vec<Descriptor>,
     calls: Vec<TracedCall>,
 }
 
@@ -39,20 +55,21 @@ impl Model for Trace {
 
     ghost Value = { Traced };
 
-    ghost view = { λ t. record { names = t.names.items; descriptors = t.descriptors.items; calls = t.calls.items } };
+    ghost view = { λ t. record { form = t.form; names = t.names.items; descriptors = t.descriptors.items; calls = t.calls.items } };
 
     ghost use Rattle.nv_trace.specs.Shape.{IsWellFormed};
 
-    ghost invariant = { λ t. IsWellFormed (record { names = t.names.items; descriptors = t.descriptors.items; calls = t.calls.items }) };
+    ghost invariant = { λ t. IsWellFormed (record { form = t.form; names = t.names.items; descriptors = t.descriptors.items; calls = t.calls.items }) };
 }
 
 impl Trace {
     /// A trace of no lines. Takes no memory.
-    pub fn new(alloc: Global) -> Self
-        ensures { result ≡ empty_trace }
+    pub fn new(alloc: Global, form: Form) -> Self
+        ensures { result ≡ empty_trace form }
     {
         Trace {
             alloc,
+            form,
             names: Vec::new(alloc),
             descriptors: Vec::new(alloc),
             calls: Vec::new(alloc),
@@ -66,8 +83,8 @@ impl Trace {
         &self.names
     }
 
-    /// The file of each descriptor, by its place among the names.
-    pub fn descriptors(&self) -> &[u64]
+    /// Its descriptors, in the order of their lines.
+    pub fn descriptors(&self) -> &[Descriptor]
         ensures { result.now ≡ self.now.descriptors }
     {
         &self.descriptors
@@ -86,34 +103,21 @@ impl Trace {
         self.alloc
     }
 
-    /// Takes one more statement, and says whether it may follow. If it may not, and without memory, nothing changes.
-    pub(crate) fn accept(&mut self, number: u64, statement: Statement) -> Result<bool, NoMemory>
-        requires { IsStatementWithin statement }
-        ensures follows { IfOk result (λ follows. accepted self.old number statement ≡ (if follows then Some self.new else None)) }
-        ensures unchanged { result ≢ Ok true → self.new ≡ self.old }
+    /// Takes one more statement. Without memory nothing changes.
+    pub(crate) fn push(&mut self, number: u64, statement: Statement) -> Result<(), NoMemory>
+        requires { MayFollow self.old statement }
+        ensures pushed { OnOk result (self.new ≡ with_statement self.old number statement) }
+        ensures unchanged { OnErr result (self.new ≡ self.old) }
     {
         match statement {
-            Statement::File(name) if self.names.is_empty() => self.names.push(name)?,
-            Statement::Descriptor(name)
-                if self.descriptors.is_empty() && is_only_name(&self.names, &name) => {
-                self.descriptors.push(0)?
-            }
-            Statement::Call(call) if self.descriptors.len() == 1 => self.calls.push(TracedCall {
+            Statement::File(name) => self.names.push(name)?,
+            Statement::Opened(descriptor) => self.descriptors.push(descriptor)?,
+            Statement::Call(call) => self.calls.push(TracedCall {
                 line: number,
                 thread: 0,
                 call,
             })?,
-            _ => return Ok(false),
         }
-        Ok(true)
-    }
-}
-
-fn is_only_name(names: &[Bytes], name: &Bytes) -> bool
-    ensures { result ≡ pointwise (pointwise nat_eq) names.now (name.now ∷ []) }
-{
-    match names {
-        [only] => only.as_slice() == name.as_slice(),
-        _ => false,
+        Ok(())
     }
 }

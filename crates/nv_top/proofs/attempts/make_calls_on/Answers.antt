@@ -18,7 +18,7 @@ loop-call-init g c =
       region = same_region c.args.log.now;
       faults = omega arith;
       made = λ basis is_first rise.
-          begins g.L.Lines.history g.B.Backing.history c.args.files.now (Rose first first) basis c.args.log.now
+          begins g.L.Lines.history g.B.Backing.history c.args.descriptors.now (Rose first first) basis c.args.log.now
           (record { placed = c.new.result; refused = c.new-2.result; left = c.new-3.result }) c.requires.running is_first c.new.ensures.items c.new-2.ensures.items c.new-3.ensures.items;
     }
 
@@ -27,7 +27,7 @@ make_on-requires-clause-log g c = c.loop-call.invariant.log
 
 pub make_on-requires-clause-files : goal.make_on-requires-clause-files
 make_on-requires-clause-files g c =
-    let Within : List (List ℕ) → Type 0 = λ names. All (λ file. file < length names) c.args.files.now in
+    let Within : List (List ℕ) → Type 0 = λ names. All (λ descriptor. descriptor.file < length names) c.args.descriptors.now in
     subst Within (sym c.loop-call.invariant.region.names) c.requires.files
 
 pub loop-call-preserved : goal.loop-call-preserved
@@ -46,7 +46,7 @@ loop-call-preserved g c =
       made = λ basis is_first rise.
           let After : TracedCall → Type 0 = IsAfterAll (take i calls) in
           let after_all = subst After (sym c.call-item.is) (after_all_before calls i call rise c.loop-call-test.true) in
-          let Run : List TracedCall → Type 0 = λ calls. HasRunTo g.L.Lines.history g.B.Backing.history (Rose first now) basis c.args.files.now calls c.make_on.new.log c.make_on.new.outcome in
+          let Run : List TracedCall → Type 0 = λ calls. HasRunTo g.L.Lines.history g.B.Backing.history (Rose first now) basis c.args.descriptors.now calls c.make_on.new.log c.make_on.new.outcome in
           subst Run (sym more) (c.in_ok-make_on.ensures.made first basis (take i calls) after_all c.loop-call.invariant.faults (c.loop-call.invariant.made basis is_first rise));
     }
 
@@ -54,5 +54,5 @@ pub returns-clause-made : goal.returns-clause-made
 returns-clause-made g c = λ basis is_first rise.
     let first = log_faults g.L.Lines.fault_count g.B.Backing.fault_count c.args.log.now in
     let now = log_faults g.L.Lines.fault_count g.B.Backing.fault_count c.loop-call.log in
-    let Run : List TracedCall → Type 0 = λ calls. HasRunTo g.L.Lines.history g.B.Backing.history (Rose first now) basis c.args.files.now calls c.loop-call.log c.loop-call.outcome in
+    let Run : List TracedCall → Type 0 = λ calls. HasRunTo g.L.Lines.history g.B.Backing.history (Rose first now) basis c.args.descriptors.now calls c.loop-call.log c.loop-call.outcome in
     subst Run (take_all c.loop-call.call-index c.args.calls.now c.loop-call-test.false) (c.loop-call.invariant.made basis is_first rise)

@@ -16,5 +16,5 @@ invariant-loop-call g l = record {
   made : (basis : Basis) → IsFirst g.L.Lines.history g.B.Backing.history basis l.initial.log → IsStrictlyIncreasing (map (λ traced. traced.line) l.calls)
       → HasRunTo g.L.Lines.history g.B.Backing.history
       (Rose (log_faults g.L.Lines.fault_count g.B.Backing.fault_count l.initial.log) (log_faults g.L.Lines.fault_count g.B.Backing.fault_count l.log))
-      basis l.files (take l.call-index l.calls) l.log l.outcome;
+      basis l.descriptors (take l.call-index l.calls) l.log l.outcome;
 }

@@ -9,7 +9,7 @@ returns-in_ok-push-in-Ok-clause-made g c = λ first basis calls after_all from r
     let was = log_faults g.L.Lines.fault_count g.B.Backing.fault_count c.args.log.now in
     let now = log_faults g.L.Lines.fault_count g.B.Backing.fault_count c.attempt.new.log in
     let grows : was ≤ now = c.attempt.ensures.faults in
-    on_answer g.L.Lines.history g.L.Lines.room g.B.Backing.history (Rose first was) (Rose first now) basis c.args.files.now calls c.args.log.now c.attempt.new.log c.args.outcome.now
+    on_answer g.L.Lines.history g.L.Lines.room g.B.Backing.history (Rose first was) (Rose first now) basis c.args.descriptors.now calls c.args.log.now c.attempt.new.log c.args.outcome.now
     (record { placed = c.push.new.self; refused = c.args.outcome.now.refused; left = c.args.outcome.now.left }) c.args.call
     (rose_on first was now grows) c.attempt.ensures.region c.attempt.ensures.log after_all c.attempt.ensures.still
     (λ is. elim (c.attempt.ensures.stops is) [ inl before ↦ inl before | inr rose ↦ inr (rose_since first was now from rose) ]) run
@@ -20,7 +20,7 @@ returns-in_ok-push-in-Err-Refused-clause-made g c = λ first basis calls after_a
     let was = log_faults g.L.Lines.fault_count g.B.Backing.fault_count c.args.log.now in
     let now = log_faults g.L.Lines.fault_count g.B.Backing.fault_count c.attempt.new.log in
     let grows : was ≤ now = c.attempt.ensures.faults in
-    on_refusal g.L.Lines.history g.L.Lines.room g.B.Backing.history (Rose first was) (Rose first now) basis c.args.files.now calls c.args.log.now c.attempt.new.log c.args.outcome.now
+    on_refusal g.L.Lines.history g.L.Lines.room g.B.Backing.history (Rose first was) (Rose first now) basis c.args.descriptors.now calls c.args.log.now c.attempt.new.log c.args.outcome.now
     (record { placed = c.args.outcome.now.placed; refused = c.push-in-Err-Refused.new.self; left = c.args.outcome.now.left }) c.args.call
     (rose_on first was now grows) c.attempt.ensures.region c.attempt.ensures.log after_all c.attempt.ensures.still
     (λ is. elim (c.attempt.ensures.stops is) [ inl before ↦ inl before | inr rose ↦ inr (rose_since first was now from rose) ]) run
@@ -31,7 +31,7 @@ returns-in_ok-push-in-Err-Left-clause-made g c = λ first basis calls after_all 
     let was = log_faults g.L.Lines.fault_count g.B.Backing.fault_count c.args.log.now in
     let now = log_faults g.L.Lines.fault_count g.B.Backing.fault_count c.attempt.new.log in
     let grows : was ≤ now = c.attempt.ensures.faults in
-    on_left g.L.Lines.history g.L.Lines.room g.B.Backing.history (Rose first was) (Rose first now) basis c.args.files.now calls c.args.log.now c.attempt.new.log c.args.outcome.now
+    on_left g.L.Lines.history g.L.Lines.room g.B.Backing.history (Rose first was) (Rose first now) basis c.args.descriptors.now calls c.args.log.now c.attempt.new.log c.args.outcome.now
     (record { placed = c.args.outcome.now.placed; refused = c.args.outcome.now.refused; left = c.push-in-Err-Left.new.self }) c.args.call
     (rose_on first was now grows) c.attempt.ensures.region c.attempt.ensures.log after_all c.attempt.ensures.still
     (λ is. elim (c.attempt.ensures.stops is) [ inl before ↦ inl before | inr rose ↦ inr (rose_since first was now from rose) ]) run

@@ -12,7 +12,7 @@ use Rattle.nv_open.specs.Adding.{all_names}
 use Rattle.nv_open.specs.Lending.{without_stores}
 use Rattle.nv_recover.specs.Standing.{files_of}
 use Rattle.nv_top.specs.Commands.{IsBasis, IsNotRun}
-use Rattle.nv_top.specs.Faithful.{place_of}
+use Rattle.nv_trace.specs.Said.{place_of}
 use Rattle.nv_top.specs.Headline.{HasStopped}
 use Rattle.nv_top.specs.LogRuns.{basis_over, lines_in}
 use Rattle.nv_top.specs.Stopping.{HasStoppedOn, IsAway}

@@ -5,9 +5,9 @@ use Rattle.nv_top.proofs.ending.say_bad_line.Goals as goal
 
 pub returns-in-Ok-clause-front : goal.returns-in-Ok-clause-front
 returns-in-Ok-clause-front g c failed =
-    let said : c.as_bytes.result.now ≡ bad_line c.args.bad.number = search rules in (
-      bad_line c.args.bad.number,
-      bad_is_error c.args.bad.number,
+    let said : c.as_bytes.result.now ≡ bad_line c.args.bad = search rules in (
+      bad_line c.args.bad,
+      bad_is_error c.args.bad,
       subst (λ (text : List ℕ). AppendsFront (g.O.Sink.written c.args.out.now) (g.O.Sink.written c.say.new.out) text) said (c.say.ensures.front failed),
     )
 

@@ -14,13 +14,13 @@ loop-call-init g c = record {
   running = c.requires.running;
   sound = refl;
   made = λ basis first rise.
-      run_begins g.L.Lines.history g.L.Lines.room g.B.Backing.history ⊥ basis c.args.files.now c.args.log.now
+      run_begins g.L.Lines.history g.L.Lines.room g.B.Backing.history ⊥ basis c.args.descriptors.now c.args.log.now
       (record { placed = c.new.result; refused = c.new-2.result; left = c.new-3.result }) first c.new.ensures.items c.new-2.ensures.items c.new-3.ensures.items;
 }
 
 pub make-requires-clause-files : goal.make-requires-clause-files
 make-requires-clause-files g c =
-    let Within : List (List ℕ) → Type 0 = λ names. All (λ file. file < length names) c.args.files.now in
+    let Within : List (List ℕ) → Type 0 = λ names. All (λ descriptor. descriptor.file < length names) c.args.descriptors.now in
     subst Within (sym c.loop-call.invariant.region.names) c.requires.files
 
 pub loop-call-preserved : goal.loop-call-preserved
@@ -38,11 +38,11 @@ loop-call-preserved g c =
       made = λ basis first rise.
           let After : TracedCall → Type 0 = IsAfterAll (take i calls) in
           let after_all = subst After (sym c.call-item.is) (after_all_before calls i call rise c.loop-call-test.true) in
-          let Run : List TracedCall → Type 0 = λ calls. HasRun g.L.Lines.history g.B.Backing.history ⊥ basis c.args.files.now calls c.make.new.log c.make.new.outcome in
+          let Run : List TracedCall → Type 0 = λ calls. HasRun g.L.Lines.history g.B.Backing.history ⊥ basis c.args.descriptors.now calls c.make.new.log c.make.new.outcome in
           subst Run (sym more) (c.in_ok-make.ensures.made basis (take i calls) after_all (c.loop-call.invariant.made basis first rise));
     }
 
 pub returns-clause-made : goal.returns-clause-made
 returns-clause-made g c = λ basis first rise.
-    let Run : List TracedCall → Type 0 = λ calls. HasRun g.L.Lines.history g.B.Backing.history ⊥ basis c.args.files.now calls c.loop-call.log c.loop-call.outcome in
+    let Run : List TracedCall → Type 0 = λ calls. HasRun g.L.Lines.history g.B.Backing.history ⊥ basis c.args.descriptors.now calls c.loop-call.log c.loop-call.outcome in
     subst Run (take_all c.loop-call.call-index c.args.calls.now c.loop-call-test.false) (c.loop-call.invariant.made basis first rise)

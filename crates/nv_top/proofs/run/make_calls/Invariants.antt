@@ -13,5 +13,5 @@ invariant-loop-call g l = record {
   running : l.log.stopped ≡ false;
   sound : log_faults g.L.Lines.fault_count g.B.Backing.fault_count l.log ≡ log_faults g.L.Lines.fault_count g.B.Backing.fault_count l.initial.log;
   made : (basis : Basis) → IsFirst g.L.Lines.history g.B.Backing.history basis l.initial.log → IsStrictlyIncreasing (map (λ traced. traced.line) l.calls)
-      → HasRun g.L.Lines.history g.B.Backing.history ⊥ basis l.files (take l.call-index l.calls) l.log l.outcome;
+      → HasRun g.L.Lines.history g.B.Backing.history ⊥ basis l.descriptors (take l.call-index l.calls) l.log l.outcome;
 }

@@ -10,7 +10,7 @@ use Rattle.nv_top.specs.Commands.{HasRunOn, IsBasis}
 use Rattle.nv_top.specs.LogRuns.{HasRunOver, basis_over, lines_in}
 use Rattle.nv_top.proofs.CommandLemmas.{if_told, leaves, told_at}
 use Rattle.nv_open.specs.Adding.{all_names}
-use Rattle.nv_top.specs.Faithful.{place_of}
+use Rattle.nv_trace.specs.Said.{place_of}
 use Rattle.nv_top.proofs.NameLemmas.{wanted_known}
 use Rattle.nv_top.proofs.RowLemmas.{present, quiet_row}
 use Rattle.std.proofs.Common.{Err}

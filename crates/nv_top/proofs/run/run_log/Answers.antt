@@ -5,7 +5,7 @@ use Rattle.nv_plain.specs.Files.{Files}
 use Rattle.nv_engine.specs.Holding.{Holds}
 use Rattle.nv_engine.specs.Laid.{Piece, laid}
 use Rattle.nv_trace.specs.declared.trace.TracedCall.{TracedCall}
-use Rattle.nv_top.specs.Faithful.{Basis, descriptor_files}
+use Rattle.nv_top.specs.Faithful.{Basis, descriptors_in}
 use Rattle.nv_top.specs.Leaving.{AreLeft}
 use Rattle.nv_top.specs.LogRuns.{HasRun, HasRunOver, IsFirst, lines_in}
 use Rattle.nv_top.specs.Outcomes.{report_of}
@@ -27,10 +27,10 @@ returns-in-Ok-clause-ran g c =
     → HasRunOver history held basis trace text.items c.finish.result.parts.items c.finish.result.stores.items)
     (λ text shown basis first named rise.
     let Rising : List TracedCall → Type 0 = λ calls. IsStrictlyIncreasing (map (λ traced. traced.line) calls) in
-    let Run : List TracedCall → Type 0 = λ calls. HasRun history held ⊥ basis c.args.files.now calls log outcome in
+    let Run : List TracedCall → Type 0 = λ calls. HasRun history held ⊥ basis c.args.descriptors.now calls log outcome in
     let run = subst Run c.calls.ensures.calls (c.in-Ok.ensures.made basis first (subst Rising (sym c.calls.ensures.calls) rise)) in
-    run_over history held basis trace c.args.files.now log outcome text.items c.finish.result.parts.items c.finish.result.stores.items run
-    (c.requires.descriptors ∙ ap (λ names. descriptor_files names trace) (sym named)) (c.make_calls.ensures.region.names ∙ sym named) c.make_calls.ensures.log.names_are shown)
+    run_over history held basis trace c.args.descriptors.now log outcome text.items c.finish.result.parts.items c.finish.result.stores.items run
+    (c.requires.descriptors ∙ ap (λ names. descriptors_in names trace) (sym named)) (c.make_calls.ensures.region.names ∙ sym named) c.make_calls.ensures.log.names_are shown)
     c.finish.ensures.shown
 
 pub returns-in-Ok-clause-whole : goal.returns-in-Ok-clause-whole

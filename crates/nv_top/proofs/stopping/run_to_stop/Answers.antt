@@ -7,8 +7,9 @@ use Rattle.nv_pmem.specs.RowStates.{AreNow}
 use Rattle.nv_pmem.specs.declared.geometry.Geometry.{Geometry}
 use Rattle.nv_store.specs.Store.{Store}
 use Rattle.nv_recover.specs.Standing.{files_of}
+use Rattle.nv_trace.specs.declared.trace.Descriptor.{Descriptor}
 use Rattle.nv_top.specs.Answers.{log_faults}
-use Rattle.nv_top.specs.Faithful.{Basis, Sizes, descriptor_files}
+use Rattle.nv_top.specs.Faithful.{Basis, Sizes, descriptors_in}
 use Rattle.nv_top.specs.LogRuns.{IsFirst, basis_over, lines_in}
 use Rattle.nv_top.specs.Stopping.{HasStoppedOn, IsAway}
 use Rattle.nv_top.proofs.NameLemmas.{descriptors_known}
@@ -19,10 +20,10 @@ pub stop_log-requires-clause-files : goal.stop_log-requires-clause-files
 stop_log-requires-clause-files g c κs within =
     let trace = c.args.trace.now in
     let region = c.args.opened.region in
-    let At : List ℕ → Type 0 = λ files. All (λ file. file < length c.in-Ok-new.log.names) files in
-    let Of : List (List ℕ) → Type 0 = λ names. All (λ file. file < length names) (descriptor_files region.names trace) in
-    let found : c.in-Ok.files.items ≡ descriptor_files region.names trace =
-    c.in-Ok.ensures ∙ ap (λ names. descriptor_files names trace) (c.as_slice.ensures ∙ c.names.ensures) in
+    let At : List Descriptor → Type 0 = λ descriptors. All (λ descriptor. descriptor.file < length c.in-Ok-new.log.names) descriptors in
+    let Of : List (List ℕ) → Type 0 = λ names. All (λ descriptor. descriptor.file < length names) (descriptors_in region.names trace) in
+    let found : c.in-Ok.descriptors.items ≡ descriptors_in region.names trace =
+    c.in-Ok.ensures ∙ ap (λ names. descriptors_in names trace) (c.as_slice.ensures ∙ c.names.ensures) in
     subst At (sym (c.deref.ensures.value ∙ found))
     (subst Of (sym c.in-Ok-new.ensures.names) (descriptors_known region.names trace c.requires.well_formed c.requires.known))
 

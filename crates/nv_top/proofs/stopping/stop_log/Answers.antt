@@ -8,7 +8,7 @@ use Rattle.nv_bench.specs.Holding.{Holding, IsQuietHolding}
 use Rattle.nv_trace.specs.declared.trace.TracedCall.{TracedCall}
 use Rattle.nv_top.specs.Answers.{log_faults}
 use Rattle.nv_top.specs.Attempts.{HasRunTo}
-use Rattle.nv_top.specs.Faithful.{Basis, descriptor_files}
+use Rattle.nv_top.specs.Faithful.{Basis, descriptors_in}
 use Rattle.nv_top.specs.LogRuns.{IsFirst, lines_in}
 use Rattle.nv_top.specs.Stopping.{HasStoppedOn, IsAway, ShowsRecovered}
 use Rattle.nv_top.proofs.StoppingLemmas.{at_some, count_grows, home_with, if_some, quiet_after, rose_home, run_while, stopped_on}
@@ -54,16 +54,16 @@ returns-clause-ran g c =
     let Rising : List TracedCall → Type 0 = λ calls. IsStrictlyIncreasing (map (λ traced. traced.line) calls) in
     let before = log_faults pf sf c.args.log in
     let now = log_faults pf sf log in
-    let Run : List TracedCall → Type 0 = λ calls. HasRunTo history held (Rose before now) basis c.args.files.now calls log outcome in
+    let Run : List TracedCall → Type 0 = λ calls. HasRunTo history held (Rose before now) basis c.args.descriptors.now calls log outcome in
     let run =
-    run_while history held (Rose before now) failed basis c.args.files.now trace.calls log outcome (rose_home start.faults before now last.faults no_less)
+    run_while history held (Rose before now) failed basis c.args.descriptors.now trace.calls log outcome (rose_home start.faults before now last.faults no_less)
     (subst Run c.calls.ensures.calls (c.in_ok-outcome.ensures.made basis first (subst Rising (sym c.calls.ensures.calls) rise))) in
     if_some start.told (λ left. IsAway c.args.log.names left → HasStoppedOn failed basis trace last.told text.items)
     (λ left told_is away.
     let Away : List (List ℕ) → Type 0 = λ names. IsAway names left in
-    stopped_on c.logs_have_one_meaning.ensures.recover c.images_stand_for_files.ensures.files c.power_leaves_an_image.ensures history g.T.Part.Lines.room held failed basis trace c.args.files.now log outcome last.told text.items
+    stopped_on c.logs_have_one_meaning.ensures.recover c.images_stand_for_files.ensures.files c.power_leaves_an_image.ensures history g.T.Part.Lines.room held failed basis trace c.args.descriptors.now log outcome last.told text.items
     c.args.pick left home.told off.told run
-    (c.requires.descriptors ∙ ap (λ names. descriptor_files names trace) (sym named)) (names_so ∙ sym named) c.make_calls_on-made.ensures.log
+    (c.requires.descriptors ∙ ap (λ names. descriptors_in names trace) (sym named)) (names_so ∙ sym named) c.make_calls_on-made.ensures.log
     (λ parts stores parts_are stores_are.
     let PartsNow : List _ → Type 0 = λ these. AreNow (map history these) parts in
     let StoresNow : List _ → Type 0 = λ these. AreNow (map held these) stores in

@@ -8,7 +8,7 @@ use Rattle.nv_trace.proofs.reader.read_trace.Goals as goal
 
 pub loop-buffer-init : goal.loop-buffer-init
 loop-buffer-init g c = record {
-  ends = at_start (g.I.Source.left c.args.src.now) c.new-reader.result c.new-reader.ensures.start;
+  ends = at_start c.args.form (g.I.Source.left c.args.src.now) c.new-reader.result c.new-reader.ensures.start;
   faults = refl;
   room = c.in_ok-buffer.ensures;
   within = c.new-reader.ensures.within;
@@ -17,7 +17,7 @@ loop-buffer-init g c = record {
 pub returns-in_err-count-clause-refused : goal.returns-in_err-count-clause-refused
 returns-in_err-count-clause-refused g c =
     let p = err_from_is_err_and c.from_residual-in_err-count.result c.from_residual-in_err-count.ensures.1 in
-    rw (p.1, p.2) (failed_tells (g.I.Source.left c.args.src.now))
+    rw (p.1, p.2) (failed_tells c.args.form (g.I.Source.left c.args.src.now))
 
 pub returns-then-count-eq0-clause-whole : goal.returns-then-count-eq0-clause-whole
 returns-then-count-eq0-clause-whole g c =
@@ -25,8 +25,8 @@ returns-then-count-eq0-clause-whole g c =
     let next = g.I.Source.left c.read.new.self in
     let reader = c.loop-buffer.reader in
     let read = rw c.if-count-eq0.true at c.in_ok-count.ensures.told in
-    let ended = ended_at told (g.I.Source.left c.loop-buffer.src) next reader c.deref_mut.result.now c.read.new.buf c.loop-buffer.invariant.ends read (omega arith) in
-    IfOk-weaker c.finish.result _ _ (λ trace whole. whole_end reader next told trace ended whole) c.finish.ensures.whole
+    let ended = ended_at c.args.form told (g.I.Source.left c.loop-buffer.src) next reader c.deref_mut.result.now c.read.new.buf c.loop-buffer.invariant.ends read (omega arith) in
+    IfOk-weaker c.finish.result _ _ (λ trace whole. whole_end c.args.form reader next told trace ended whole) c.finish.ensures.whole
 
 pub returns-then-count-eq0-clause-at_end : goal.returns-then-count-eq0-clause-at_end
 returns-then-count-eq0-clause-at_end g c =
@@ -34,8 +34,8 @@ returns-then-count-eq0-clause-at_end g c =
     let next = g.I.Source.left c.read.new.self in
     let reader = c.loop-buffer.reader in
     let read = rw c.if-count-eq0.true at c.in_ok-count.ensures.told in
-    let ended = ended_at told (g.I.Source.left c.loop-buffer.src) next reader c.deref_mut.result.now c.read.new.buf c.loop-buffer.invariant.ends read (omega arith) in
-    IfOk-weaker c.finish.result _ _ (λ trace whole. told_end reader next told ended) c.finish.ensures.whole
+    let ended = ended_at c.args.form told (g.I.Source.left c.loop-buffer.src) next reader c.deref_mut.result.now c.read.new.buf c.loop-buffer.invariant.ends read (omega arith) in
+    IfOk-weaker c.finish.result _ _ (λ trace whole. told_end c.args.form reader next told ended) c.finish.ensures.whole
 
 pub returns-then-count-eq0-clause-refused : goal.returns-then-count-eq0-clause-refused
 returns-then-count-eq0-clause-refused g c =
@@ -43,8 +43,8 @@ returns-then-count-eq0-clause-refused g c =
     let next = g.I.Source.left c.read.new.self in
     let reader = c.loop-buffer.reader in
     let read = rw c.if-count-eq0.true at c.in_ok-count.ensures.told in
-    let ended = ended_at told (g.I.Source.left c.loop-buffer.src) next reader c.deref_mut.result.now c.read.new.buf c.loop-buffer.invariant.ends read (omega arith) in
-    IfErr-weaker c.finish.result _ _ (λ error refused. refused_end reader next told error ended refused) c.finish.ensures.refused
+    let ended = ended_at c.args.form told (g.I.Source.left c.loop-buffer.src) next reader c.deref_mut.result.now c.read.new.buf c.loop-buffer.invariant.ends read (omega arith) in
+    IfErr-weaker c.finish.result _ _ (λ error refused. refused_end c.args.form reader next told error ended refused) c.finish.ensures.refused
 
 pub loop-buffer-preserved : goal.loop-buffer-preserved
 loop-buffer-preserved g c =
@@ -52,7 +52,7 @@ loop-buffer-preserved g c =
     let reader = c.loop-buffer.reader in
     let slice = c.deref.ensures.value ∙ with_items_is c.loop-buffer.buffer c.read.new.buf (omega arith) in
     record {
-      ends = after_read (g.I.Source.left c.loop-buffer.src) (g.I.Source.left c.read.new.self) reader count c.deref_mut.result.now c.read.new.buf
+      ends = after_read c.args.form (g.I.Source.left c.loop-buffer.src) (g.I.Source.left c.read.new.self) reader count c.deref_mut.result.now c.read.new.buf
           (g.I.Source.left c.args.src.now) c.take.new.self c.loop-buffer.invariant.ends c.in_ok-count.ensures.told
           (λ rest. c.in_ok-take.ensures.goes_on rest ∙ ap (λ bytes. input_ends reader (take count bytes ++ rest)) slice);
       faults = c.in_ok-count.ensures.cause ∙ c.loop-buffer.invariant.faults;
@@ -68,6 +68,6 @@ returns-in_err-take-clause-refused g c =
     let reader = c.loop-buffer.reader in
     let slice = c.deref.ensures.value ∙ with_items_is c.loop-buffer.buffer c.read.new.buf (omega arith) in
     rw (p.1, p.2)
-    (refused_at (g.I.Source.left c.loop-buffer.src) (g.I.Source.left c.read.new.self) reader count c.deref_mut.result.now c.read.new.buf
+    (refused_at c.args.form (g.I.Source.left c.loop-buffer.src) (g.I.Source.left c.read.new.self) reader count c.deref_mut.result.now c.read.new.buf
     (g.I.Source.left c.args.src.now) error c.loop-buffer.invariant.ends c.in_ok-count.ensures.told
     (λ rest. subst (λ bytes. Tells error (input_ends reader (take count bytes ++ rest))) slice (c.in_err-take.ensures.refused rest)))

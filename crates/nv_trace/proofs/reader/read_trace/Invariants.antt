@@ -6,7 +6,7 @@ use Rattle.nv_trace.proofs.reader.read_trace.Given as goal
 
 abbrev pub invariant-loop-buffer : goal.invariant-loop-buffer
 invariant-loop-buffer g l = record {
-  ends : EndsAlike (g.I.Source.left l.fn.src) (g.I.Source.left l.src) l.reader;
+  ends : EndsAlike l.fn.form (g.I.Source.left l.fn.src) (g.I.Source.left l.src) l.reader;
   faults : g.I.Source.fault_count l.src ≡ g.I.Source.fault_count l.fn.src;
   room : vec_len l.buffer ≡ 65536;
   within : IsWithin l.reader;

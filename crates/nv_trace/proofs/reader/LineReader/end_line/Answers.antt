@@ -1,7 +1,6 @@
 use Rattle.std.proofs.Common.{◌+◌, [], ◌∙◌, sym, ap}
-use Rattle.std.specs.Option.{option_map_or}
 use Rattle.std.proofs.lemmas.Result.{err_from_is_err_and}
-use Rattle.nv_trace.specs.Reading.{Bad, after_line}
+use Rattle.nv_trace.specs.Reading.{after_line, unless_bad}
 use Rattle.nv_trace.specs.Pending.{ending_after}
 use Rattle.nv_trace.proofs.Endings.{line_ended}
 use Rattle.nv_trace.proofs.Refusals.{bad_line}
@@ -19,4 +18,4 @@ returns-clause-goes_on c =
     λ whole rest.
     ap (λ line. ending_after whole c.read_line.new.trace (reader.number + 1) line rest) c.clear.ensures.items
     ∙ sym (line_ended whole reader.trace reader.number reader.line.items rest
-    ∙ ap (λ after. option_map_or (λ next. ending_after whole next (reader.number + 1) [] rest) after (Bad reader.number)) read)
+    ∙ ap (λ after. unless_bad reader.number (λ next. ending_after whole next (reader.number + 1) [] rest) after) read)

@@ -1,7 +1,6 @@
 use Rattle.std.proofs.Common.{◌≡◌, ◌<◌, length, ◌∙◌, sym, ap, arith}
-use Rattle.std.specs.Option.{option_map_or}
 use Rattle.std.proofs.lemmas.Result.{err_from_is_err_and}
-use Rattle.nv_trace.specs.Reading.{Whole, Bad, after_line}
+use Rattle.nv_trace.specs.Reading.{Whole, after_line, unless_bad}
 use Rattle.nv_trace.specs.declared.reader.LineReader.{LineReader}
 use Rattle.nv_trace.proofs.Refusals.{last_line, no_last_line, bad_last_line}
 use Rattle.nv_trace.proofs.reader.LineReader.finish.Goals as goal
@@ -20,7 +19,7 @@ returns-clause-whole c =
       | then-not-is_empty+in_ok-read_line w ↦
           let read = ap (after_line reader.trace reader.number) (sym w.deref.ensures.value) ∙ w.in_ok-read_line.ensures.read in
           let some : 0 < length reader.line.items = grind (arith, c.is_empty.ensures, w.if-not-is_empty.true, c.args.self.line.ok) in
-          last_line reader c.requires some ∙ ap (λ after. option_map_or Whole after (Bad reader.number)) read ∙ ap (λ (after : LineReader). Whole after.trace) (sym w.self-is)
+          last_line reader c.requires some ∙ ap (λ after. unless_bad reader.number Whole after) read ∙ ap (λ (after : LineReader). Whole after.trace) (sym w.self-is)
       | else-not-is_empty w ↦
           let none : length reader.line.items ≡ 0 = grind (arith, c.is_empty.ensures, w.if-not-is_empty.false, c.args.self.line.ok) in
           no_last_line reader c.requires none ∙ ap (λ (after : LineReader). Whole after.trace) (sym w.self-is)

@@ -1,5 +1,5 @@
 use Rattle.std.proofs.Common.{◌≡◌, ◌<◌, ℕ, List, false, get_or}
-use Rattle.nv_top.proofs.names.place.Given as goal
+use Rattle.nv_trace.proofs.statement.place_of.Given as goal
 use lib.Pointwise.{pointwise}
 use Rattle.std.specs.Prelude.{nat_eq}
 

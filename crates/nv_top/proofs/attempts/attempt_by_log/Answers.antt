@@ -1,16 +1,17 @@
-use Rattle.std.proofs.Common.{◌≡◌, ℕ, List, false, length, ap, sym, subst, arith}
+use Rattle.std.proofs.Common.{◌≡◌, ℕ, List, true, false, length, ap, sym, subst, arith}
 use Rattle.nv_plain.specs.declared.call.Reply.TheVariants.{Count}
-use Rattle.nv_trace.specs.Shape.{IsCallWithin}
 use Rattle.nv_trace.specs.declared.trace.TraceCall.{TraceCall}
 use Rattle.nv_trace.specs.declared.trace.TraceCall.TheVariants.{Pwrite}
 use Rattle.nv_top.specs.Answers.{IsAnswer}
+use Rattle.nv_top.specs.Early.{IsBusy}
+use Rattle.nv_top.specs.Faithful.{is_allowed}
 use Rattle.nv_top.proofs.AnswerLemmas.{write_answered}
 use Rattle.nv_top.proofs.AttemptLemmas.{running_where_ok}
-use Rattle.nv_top.proofs.attempts.attempt.Goals as goal
+use Rattle.nv_top.proofs.attempts.attempt_by_log.Goals as goal
 
 pub returns-in-Ok-write-clause-says : goal.returns-in-Ok-write-clause-says
 returns-in-Ok-write-clause-says g c =
-    let files = c.args.files.now in
+    let descriptors = c.args.descriptors.now in
     let old = c.args.log.now in
     let new = c.write.new.self in
     let fd = c.in-Pwrite.fd in
@@ -19,15 +20,16 @@ returns-in-Ok-write-clause-says g c =
     let written = c.as_slice.result.now in
     let wrote = c.in-Ok-write.ensures in
     let count = c.in-Ok-write.count in
-    let Within : TraceCall → Type 0 = λ call. IsCallWithin (length files) call in
-    let within = subst Within c.in-Pwrite.is c.requires.within in
-    let Answers : TraceCall → Type 0 = λ call. IsAnswer g.L.Lines.history g.B.Backing.history files call old new (Count count) in
+    let some = subst IsBusy c.in-Pwrite.is c.requires.busy in
+    let Allowed : TraceCall → Type 0 = λ call. is_allowed descriptors call ≡ true in
+    let allowed = subst Allowed c.in-Pwrite.is c.requires.allowed in
+    let Answers : TraceCall → Type 0 = λ call. IsAnswer g.L.Lines.history g.B.Backing.history descriptors call old new (Count count) in
     let Of : List ℕ → Type 0 = λ bytes. Answers (Pwrite fd at bytes) in
     let running : old.stopped ≡ false = running_where_ok old at (length written) count wrote.refused in (
       running,
       subst Answers (sym c.in-Pwrite.is)
           (subst Of c.as_slice.ensures
-          (write_answered g.L.Lines.history g.B.Backing.history files old new fd at written count running
-          (omega (arith, within.2, ap (λ (bytes : List ℕ). length bytes) c.as_slice.ensures))
+          (write_answered g.L.Lines.history g.B.Backing.history descriptors old new fd at written count running (subst (λ (bytes : List ℕ). Allowed (Pwrite fd at bytes)) (sym c.as_slice.ensures) allowed)
+          (omega (arith, some, ap (λ (bytes : List ℕ). length bytes) c.as_slice.ensures))
           wrote.refused wrote.stopped wrote.count wrote.head wrote.holds)),
     )

@@ -1,0 +1,113 @@
+-- What the fields of a line say behind the lines of a trace, or the first reason why they say nothing.
+use Rattle.std.specs.Prelude.{◌≡◌, ℕ, ◌-◌, ◌==◌, ◌&&◌, ◌||◌, nat_eq, nat_le, nat_lt, not, Bool, if◌then◌else◌, List, [], ◌∷◌, length, codes, replicate, Result, Ok, Err}
+use Rattle.std.specs.List.{list_any, position_or_len}
+use lib.Pointwise.{pointwise}
+use Rattle.nv_plain.specs.Layouts.{version_1}
+use Rattle.nv_plain.specs.Names.{is_name}
+use Rattle.nv_trace.specs.Grammar.{and_then, bytes_of, largest_count, largest_offset, mode_of, most_descriptors, most_files, number_of, says}
+use Rattle.nv_trace.specs.Traced.{Traced}
+use Rattle.nv_trace.specs.declared.bad_line.Why.{Why}
+use Rattle.nv_trace.specs.declared.bad_line.Why.TheVariants.{Form, Late, Number, Name, Many, Repeat, Unknown}
+use Rattle.nv_trace.specs.declared.bad_line.Unsaid.{Unsaid}
+use Rattle.nv_trace.specs.declared.bad_line.Unsaid.TheVariants as unsaid
+use Rattle.nv_trace.specs.declared.statement.CallPlace.{CallPlace}
+use Rattle.nv_trace.specs.declared.statement.Statement.{Statement}
+use Rattle.nv_trace.specs.declared.statement.Statement.TheVariants.{File, Opened, Call}
+use Rattle.nv_trace.specs.declared.trace.TraceCall.TheVariants.{Pread, Pwrite, Fsync}
+
+-- the place of a name among some names, or how many there are
+abbrev pub place_of : List ℕ → List (List ℕ) → ℕ
+place_of name names = position_or_len (λ known. pointwise nat_eq known name) names
+
+-- the name of a file that is declared: no call may stand before it, nor 16 files, nor the same name
+unfoldable pub new_name : Traced → List ℕ → Result (List ℕ) Why
+new_name trace name =
+    if nat_lt 0 (length trace.calls) then Err Late
+    else if nat_le most_files (length trace.names) then Err Many
+    else if not (is_name version_1.name_limit name) then Err Name
+    else if nat_lt (place_of name trace.names) (length trace.names) then Err Repeat
+    else Ok name
+
+-- a descriptor's number: it is that of the earlier ones
+abbrev pub turn_of : Traced → List ℕ → Result ℕ Why
+turn_of trace field =
+    and_then (λ number. if number == length trace.descriptors then Ok number else Err Number) (number_of (most_descriptors - 1) field)
+
+-- the place of a file that is declared, by its name
+unfoldable pub file_of : Traced → List ℕ → Result ℕ Why
+file_of trace name =
+    if not (is_name version_1.name_limit name) then Err Name
+    else if nat_lt (place_of name trace.names) (length trace.names) then Ok (place_of name trace.names)
+    else Err Unknown
+
+-- a descriptor that is declared: no call may stand before it, nor 64 descriptors
+unfoldable pub new_descriptor : Traced → (number name mode : List ℕ) → Result Statement Why
+new_descriptor trace number name mode =
+    if nat_lt 0 (length trace.calls) then Err Late
+    else if nat_le most_descriptors (length trace.descriptors) then Err Many
+    else and_then (λ _. and_then (λ file. and_then (λ mode. Ok (Opened (record { file = file; mode = mode }))) (mode_of mode)) (file_of trace name)) (turn_of trace number)
+
+-- the descriptor of a call, by its thread, which is 0, and its number
+unfoldable pub call_on : Traced → (thread fd : List ℕ) → Result ℕ Why
+call_on trace thread fd =
+    and_then (λ _. and_then (λ fd. if nat_lt fd (length trace.descriptors) then Ok fd else Err Unknown) (number_of (most_descriptors - 1) fd)) (number_of 0 thread)
+
+-- where a call reads or writes: its descriptor and its offset
+abbrev pub call_at : Traced → (thread fd at : List ℕ) → Result CallPlace Why
+call_at trace thread fd at =
+    and_then (λ fd. and_then (λ at. Ok (record { fd = fd; at = at })) (number_of largest_offset at)) (call_on trace thread fd)
+
+-- `T pread FD OFF LEN`
+abbrev pub read_of : Traced → (thread fd at len : List ℕ) → Result Statement Why
+read_of trace thread fd at len =
+    and_then (λ place. and_then (λ len. Ok (Call (Pread place.fd place.at len))) (number_of largest_count len)) (call_at trace thread fd at)
+
+-- `T pwrite FD OFF HEX`
+abbrev pub write_of : Traced → (thread fd at hex : List ℕ) → Result Statement Why
+write_of trace thread fd at hex =
+    and_then (λ place. and_then (λ bytes. Ok (Call (Pwrite place.fd place.at bytes))) (bytes_of hex)) (call_at trace thread fd at)
+
+-- `T pfill FD OFF LEN BYTE`: a write of so many bytes that are alike
+abbrev pub fill_of : Traced → (thread fd at len byte : List ℕ) → Result Statement Why
+fill_of trace thread fd at len byte =
+    and_then (λ place. and_then (λ len. and_then (λ byte. Ok (Call (Pwrite place.fd place.at (replicate len byte)))) (number_of 255 byte)) (number_of largest_count len))
+    (call_at trace thread fd at)
+
+-- `T fsync FD`
+abbrev pub sync_of : Traced → (thread fd : List ℕ) → Result Statement Why
+sync_of trace thread fd = and_then (λ fd. Ok (Call (Fsync fd))) (call_on trace thread fd)
+
+-- the words that a line begins with that is no call's
+abbrev pub is_keyword : List ℕ → Bool
+is_keyword field = says field (codes "file") || says field (codes "fd") || says field (codes "round") || says field (codes "steps")
+
+-- What some fields say, none of them empty: `file NAME`, `fd N NAME MODE` or a call.
+unfoldable pub said_by : Traced → List (List ℕ) → Result Statement Why
+said_by trace (word ∷ name ∷ []) =
+    if says word (codes "file") then and_then (λ name. Ok (File name)) (new_name trace name) else Err Form
+said_by trace (thread ∷ word ∷ fd ∷ []) =
+    if not (is_keyword thread) && says word (codes "fsync") then sync_of trace thread fd else Err Form
+said_by trace (word ∷ number ∷ name ∷ mode ∷ []) =
+    if says word (codes "fd") then new_descriptor trace number name mode else Err Form
+said_by trace (thread ∷ word ∷ fd ∷ at ∷ last ∷ []) =
+    if is_keyword thread then Err Form
+    else if says word (codes "pwrite") then write_of trace thread fd at last
+    else if says word (codes "pread") then read_of trace thread fd at last
+    else Err Form
+said_by trace (thread ∷ word ∷ fd ∷ at ∷ len ∷ byte ∷ []) =
+    if not (is_keyword thread) && says word (codes "pfill") then fill_of trace thread fd at len byte else Err Form
+said_by trace _ = Err Form
+
+-- what the fields of a line say
+unfoldable pub said : Traced → List (List ℕ) → Result Statement Why
+said trace fields = if list_any (λ field. length field == 0) fields then Err Form else said_by trace fields
+
+-- the reason why nothing was read is so; want of memory has none
+abbrev pub IsUnsaid : {A : Type 0} → Result A Why → Unsaid → Type 0
+IsUnsaid told (unsaid.Bad why) = told ≡ Err why
+IsUnsaid told unsaid.NoMemory = Unit {0}
+
+-- what was read is so, or the reason why it wasn't
+abbrev pub IsRead : {A : Type 0} → Result A Unsaid → Result A Why → Type 0
+IsRead (Ok read) told = told ≡ Ok read
+IsRead (Err unsaid) told = IsUnsaid told unsaid
