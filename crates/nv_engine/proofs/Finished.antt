@@ -60,7 +60,7 @@ module _ {L B : Type 0} (log : Log L B) (pieces : List Piece) (parts : List Part
   pub fits : Fits version_1 (row_words parts)
   fits = logged_fits version_1 log.geometry.page log.geometry.entries log.names log.tail pieces (row_words parts) logged has.fitting
 
-  pub recovers : (files : Files) → RecoversTo log.tail pieces files (row_words parts)
+  pub recovers : (files : Files) → RecoversTo log.geometry.page log.tail pieces files (row_words parts)
   recovers files = logged_recovers version_1 log.geometry.page log.geometry.entries log.names log.tail pieces (row_words parts) logged files has.fitting
 
 -- the stores after it

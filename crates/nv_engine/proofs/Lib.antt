@@ -1,13 +1,14 @@
+pub mod Cuts
 pub mod Ranges
-pub mod Logs
 pub mod OneLog
+pub mod Logs
+pub mod SlotSteps
+pub mod EntrySteps
 pub mod WrittenSlots
 pub mod Overlays
 pub mod WindowLemmas
 pub mod States
 pub mod Slots
-pub mod Commits
-pub mod Held
 pub mod Lengths
 pub mod Writes
 pub mod Opened

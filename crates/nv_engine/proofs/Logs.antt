@@ -1,143 +1,178 @@
--- Images whose log has some pieces: what they recover to, and that it is one log.
-use Rattle.std.proofs.Common.{◌≡◌, ◌≢◌, inl, inr, ℕ, ◌+◌, ◌-◌, ◌%◌, ◌<◌, ◌≤◌, List, [], ◌∷◌, length, slice_index_or, suc, refl, sym, ap, ◌∙◌, subst, arith, add-zero}
-use Rattle.std.proofs.lemmas.Bool.{cases_lt}
+-- Images whose log has some pieces: that they fit, and what they recover to.
+use Rattle.std.proofs.Common.{◌≡◌, ◌≢◌, inl, inr, ℕ, ◌+◌, ◌-◌, ◌*◌, ◌%◌, ◌^◌, ◌<◌, ◌≤◌, ◌==◌, if◌then◌else◌, List, [], ◌∷◌, length, suc, sym, ap, ◌∙◌, subst, arith}
+use Rattle.std.proofs.lemmas.Bool.{cases_eq, cases_lt, ne_eqb}
 use Rattle.std.proofs.lemmas.List.FromFn.{length-map-range_with_len}
-use Rattle.std.specs.Prelude.{◌==◌, ◌*◌, filter, fold}
+use Rattle.std.specs.Prelude.{filter, fold, All}
 use Rattle.std.specs.List.{flat_map, range_with_len}
 use Rattle.nv_plain.specs.Files.{Files}
-use Rattle.nv_plain.specs.Images.{Image, Entry, header_of, name_of, entry_at, slot_part, data_of}
+use Rattle.nv_plain.specs.Images.{Image, Entry, header_of, name_of, entry_at}
 use Rattle.nv_plain.specs.Layouts.{Layout}
-use Rattle.nv_plain.specs.Recovered.{IsCommitted, IsPiece, IsGroup, Fits, with_entry, committed, group_numbers}
+use Rattle.nv_plain.specs.Pieces.{piece_of}
+use Rattle.nv_plain.specs.Recovered.{IsCommitted, IsFollower, IsPiece, IsGroup, GoesOn, Fits, with_entry, committed, group_numbers}
+use Rattle.nv_entry.specs.Group.{piece_entry}
 use Rattle.nv_header.specs.Heads.{first_names}
-use Rattle.nv_engine.specs.Laid.{Piece, IsFitting, with_piece, laid}
-use Rattle.nv_engine.specs.Logged.{HoldsPiece, HasLog, AreFitting, RecoversTo}
-use Rattle.nv_engine.proofs.Ranges.{first_committed, alone_numbers, alone_next}
+use Rattle.nv_engine.specs.Laid.{Piece, IsFitting, entries_of, all_entries, leaders_from}
+use Rattle.nv_engine.specs.Logged.{HoldsPiece, HoldPieces, HasLog, AreFitting, RecoversTo}
+use Rattle.nv_engine.proofs.Cuts.{entries_some, own_some, own_end, own_goes_on, own_in_page}
+use Rattle.nv_engine.proofs.OneLog.{page_some}
+use Rattle.nv_engine.proofs.Ranges.{count_here, committed_leaders, leaders_next, leaders_laid}
 
--- ---- the pieces one after another
+-- the bounds of an image's log
+record AreBounds (layout : Layout) (page files limit : ℕ) (image : Image) : Type 0 where
+  pub some_page : 1 ≤ page
+  pub page_is : (header_of image).page ≡ page
+  pub files_is : (header_of image).files ≡ files
+  pub in_window : limit ≤ (header_of image).tail + (header_of image).entries
+  pub small : limit ≤ 2 ^ 60
 
--- from a number on the entries hold these pieces
-abbrev Holds : Image → ℕ → List Piece → Type 0
-Holds image from pieces = (i : ℕ) (none : Piece) → i < length pieces → HoldsPiece image (from + i) (slice_index_or pieces i none)
+-- ---- a piece is a group
 
-holds_later : (image : Image) (from : ℕ) (piece : Piece) (pieces : List Piece) → Holds image from (piece ∷ pieces) → Holds image (from + 1) pieces
-holds_later image from piece pieces holds i none below =
-    let At : ℕ → Type 0 = λ number. HoldsPiece image number (slice_index_or pieces i none) in
-    let next : from + suc i ≡ from + 1 + i = omega arith in
-    subst At next (holds (suc i) none (omega arith))
+module _ (layout : Layout) (page files limit : ℕ) (image : Image) (bounds : AreBounds layout page files limit image) where
+  module _ (number : ℕ) (piece : Piece) (holds : HoldsPiece page (header_of image).entries image number piece) (fits : IsFitting layout page files piece) where
+    -- the entries, by what is cut
+    entry : (i : ℕ) → i < entries_of page piece → entry_at image (number + i) ≡ piece_entry page number piece.file piece.at piece.bytes i (entry_at image (number + i)).commit
+    entry i below = (holds.whole.entries i below).fields
 
-holds_first : (image : Image) (from : ℕ) (piece : Piece) (pieces : List Piece) → Holds image from (piece ∷ pieces) → HoldsPiece image from piece
-holds_first image from piece pieces holds =
-    let At : ℕ → Type 0 = λ number. HoldsPiece image number piece in
-    subst At (add-zero from) (holds 0 piece (omega arith))
+    leading : entry_at image number ≡ entry_at image (number + 0)
+    leading = ap (entry_at image) (let same : number ≡ number + 0 = omega arith in same)
 
--- a file overwritten by an entry is overwritten by the piece that it holds
-with_held : (image : Image) (files : Files) (number : ℕ) (piece : Piece) → HoldsPiece image number piece → with_entry image files number ≡ with_piece files piece
-with_held image files number piece holds =
-    let over = λ (entry : Entry) (bytes : List ℕ). with_piece files (record { file = entry.file; at = entry.at; bytes = bytes }) in
-    let size = ap (λ (entry : Entry). entry.size) holds.entry in
-    ap (λ entry. over entry (data_of (slot_part image number) (entry_at image number).size)) holds.entry
-    ∙ ap (λ bytes. with_piece files (record { file = piece.file; at = piece.at; bytes = bytes })) (ap (data_of (slot_part image number)) size ∙ holds.bytes)
+    leader_file : (entry_at image number).file ≡ piece.file
+    leader_file = ap (λ (e : Entry). e.file) leading ∙ ap (λ (e : Entry). e.file) (entry 0 (entries_some page piece holds.some))
 
-laid_entries : (image : Image) (pieces : List Piece) (from : ℕ) (files : Files) → Holds image from pieces → fold (with_entry image) files (range_with_len from (length pieces)) ≡ laid files pieces
-laid_entries image [] from files holds = refl
-laid_entries image (piece ∷ pieces) from files holds =
-    ap (λ these. fold (with_entry image) these (range_with_len (from + 1) (length pieces))) (with_held image files from piece (holds_first image from piece pieces holds))
-    ∙ laid_entries image pieces (from + 1) (with_piece files piece) (holds_later image from piece pieces holds)
+    leader_own : (entry_at image number).leader ≡ number
+    leader_own = ap (λ (e : Entry). e.leader) leading ∙ ap (λ (e : Entry). e.leader) (entry 0 (entries_some page piece holds.some))
+
+    fits_at : (i : ℕ) → i < entries_of page piece → IsPiece layout image number (number + i)
+    fits_at i below =
+        let own = piece_of piece.at (length piece.bytes) page i in
+        let file = ap (λ (e : Entry). e.file) (entry i below) in
+        let at = ap (λ (e : Entry). e.at) (entry i below) in
+        let size = ap (λ (e : Entry). e.size) (entry i below) in
+        let Inside : ℕ → ℕ → ℕ → Type 0 = λ at size page. at % page + size ≤ page in
+        let Ends : ℕ → ℕ → ℕ → Type 0 = λ at size page. at + size ≤ page * layout.page_limit in
+        record {
+          known = omega (arith, file, bounds.files_is, fits.known);
+          same = file ∙ sym leader_file;
+          some = omega (arith, size, own_some piece.at (length piece.bytes) page i bounds.some_page below);
+          in_page =
+              subst (λ at. Inside at (entry_at image (number + i)).size (header_of image).page) (sym at)
+              (subst (λ size. Inside own.at size (header_of image).page) (sym size)
+              (subst (λ page. Inside own.at own.size page) (sym bounds.page_is) (own_in_page piece.at (length piece.bytes) page i bounds.some_page)));
+          in_file =
+              subst (λ at. Ends at (entry_at image (number + i)).size (header_of image).page) (sym at)
+              (subst (λ size. Ends own.at size (header_of image).page) (sym size)
+              (subst (λ page. Ends own.at own.size page) (sym bounds.page_is) (omega (arith, fits.in_file, own_end piece.at (length piece.bytes) page i bounds.some_page below))));
+        }
+
+    follows_at : (i : ℕ) → 1 ≤ i → i < entries_of page piece → IsFollower image number (number + i)
+    follows_at i past below = record {
+      none = ap (λ (e : Entry). e.count) (entry i below) ∙ ap (λ test. if test then entries_of page piece else 0) (ne_eqb i 0 (omega arith));
+      of = ap (λ (e : Entry). e.leader) (entry i below);
+      uncommitted = holds.whole.followers i past below;
+    }
+
+    goes_on_at : (i : ℕ) → i + 1 < entries_of page piece → GoesOn image (number + i)
+    goes_on_at i below =
+        let next : number + i + 1 ≡ number + (i + 1) = omega arith in
+        let size = ap (λ (e : Entry). e.size) (entry i (omega arith)) in
+        let at = ap (λ (e : Entry). e.at) (entry i (omega arith)) in
+        ap (λ n. (entry_at image n).at) next
+        ∙ ap (λ (e : Entry). e.at) (entry (i + 1) below)
+        ∙ own_goes_on piece.at (length piece.bytes) page i bounds.some_page below
+        ∙ omega (arith, size, at)
+
+    whole_group : number + entries_of page piece ≤ limit → entries_of page piece ≤ (header_of image).entries → IsGroup layout image number
+    whole_group within few =
+        let count = count_here page image bounds.some_page number piece holds in
+        record {
+          first = record {
+            some = omega (arith, count, entries_some page piece holds.some);
+            few = omega (arith, count, fits.few);
+            in_window = omega (arith, count, bounds.in_window);
+            small = omega (arith, count, bounds.small);
+            own = leader_own;
+          };
+          followers = λ other past inside.
+              let At : ℕ → Type 0 = IsFollower image number in
+              let is : number + (other - number) ≡ other = omega arith in
+              subst At is (follows_at (other - number) (omega arith) (omega (arith, inside.last, count)));
+          pieces = λ other inside.
+              let At : ℕ → Type 0 = IsPiece layout image number in
+              let is : number + (other - number) ≡ other = omega (arith, inside.first) in
+              subst At is (fits_at (other - number) (omega (arith, inside.first, inside.last, count)));
+          in_a_row = λ other from inside.
+              let At : ℕ → Type 0 = GoesOn image in
+              let is : number + (other - number) ≡ other = omega arith in
+              subst At is (goes_on_at (other - number) (omega (arith, inside.last, count)));
+        }
+
+  -- a committed number of these pieces is that of a group
+  group_among : (pieces : List Piece) (number leader : ℕ) → HoldPieces page (header_of image).entries image number pieces → All (IsFitting layout page files) pieces → number + all_entries page pieces ≤ limit
+      → all_entries page pieces ≤ (header_of image).entries → number ≤ leader → leader < number + all_entries page pieces → (entry_at image leader).commit ≡ leader + 1 → IsGroup layout image leader
+  group_among [] number leader held each within few low high commits = absurd (omega arith)
+  group_among (piece ∷ pieces) number leader held each within few low high commits = elim (cases_eq leader number) [
+    | inl same ↦
+        let At : ℕ → Type 0 = IsGroup layout image in
+        subst At (sym same) (whole_group number piece held.0 (each 0 piece (omega arith)) (omega arith) (omega arith))
+    | inr later ↦ elim (cases_lt leader (number + entries_of page piece)) [
+      | inl follows ↦
+          let is : leader ≡ number + (leader - number) = omega arith in
+          let Commits : ℕ → Type 0 = λ n. (entry_at image n).commit ≡ n + 1 in
+          absurd (held.0.whole.followers (leader - number) (omega arith) (omega arith) (subst Commits is commits))
+      | inr past ↦
+          group_among pieces (number + entries_of page piece) leader held.1 (λ i none below. each (suc i) none (omega arith)) (omega arith) (omega arith) (omega arith) (omega arith) commits
+    ]
+  ]
 
 -- ---- an image with a log
 
 module _ (layout : Layout) (page entries : ℕ) (names : List (List ℕ)) (tail : ℕ) (pieces : List Piece) (image : Image) (log : HasLog layout page entries names tail pieces image) where
-  no_piece : Piece
-  no_piece = record { file = 0; at = 0; bytes = [] }
-
   pub files_known : (header_of image).files ≡ length names
   unfolding first_names
   files_known = sym (length-map-range_with_len (name_of layout image) 0 (header_of image).files) ∙ ap length log.header.names_are
 
-  none_past : (number : ℕ) → tail + length pieces ≤ number → (entry_at image number).commit ≢ number + 1
+  some_page : 1 ≤ page
+  some_page = page_some layout page entries names tail image log.header
+
+  held : HoldPieces page (header_of image).entries image tail pieces
+  held =
+      let At : ℕ → Type 0 = λ n. HoldPieces page n image tail pieces in
+      subst At (sym log.header.entries_is) log.held
+
+  none_past : (number : ℕ) → tail + all_entries page pieces ≤ number → (entry_at image number).commit ≢ number + 1
   none_past number past commit = log.none.uncommitted number past (ap (λ count. image (1 + number % count) 0 0) (sym log.header.entries_is) ∙ commit)
 
   -- a committed number is that of a piece
-  committed_below : (leader : ℕ) → IsCommitted image leader → leader < tail + length pieces
-  committed_below leader commits = elim (cases_lt leader (tail + length pieces)) [
+  committed_below : (leader : ℕ) → IsCommitted image leader → leader < tail + all_entries page pieces
+  committed_below leader commits = elim (cases_lt leader (tail + all_entries page pieces)) [
     | inl below ↦ below
     | inr past ↦ absurd (none_past leader (omega arith) commits.commit)
   ]
 
-  piece_fits : (number : ℕ) (piece : Piece) → HoldsPiece image number piece → IsFitting layout page (length names) piece → IsPiece layout image number number
-  piece_fits number piece holds fits =
-      let file = ap (λ (entry : Entry). entry.file) holds.entry in
-      let at = ap (λ (entry : Entry). entry.at) holds.entry in
-      let size = ap (λ (entry : Entry). entry.size) holds.entry in
-      let Inside : ℕ → ℕ → ℕ → Type 0 = λ at size page. at % page + size ≤ page in
-      let Ends : ℕ → ℕ → ℕ → Type 0 = λ at size page. at + size ≤ page * layout.page_limit in
-      let page_is = log.header.page_is in
-      record {
-        known = omega (arith, file, files_known, fits.known);
-        same = refl;
-        some = omega (arith, size, fits.some);
-        in_page =
-            subst (λ at. Inside at (entry_at image number).size (header_of image).page) (sym at)
-            (subst (λ size. Inside piece.at size (header_of image).page) (sym size)
-            (subst (λ page. Inside piece.at (length piece.bytes) page) (sym page_is) fits.in_page));
-        in_file =
-            subst (λ at. Ends at (entry_at image number).size (header_of image).page) (sym at)
-            (subst (λ size. Ends piece.at size (header_of image).page) (sym size)
-            (subst (λ page. Ends piece.at (length piece.bytes) page) (sym page_is) fits.in_file));
-      }
-
-  group_alone : (number : ℕ) (piece : Piece) → tail ≤ number → number < tail + length pieces → AreFitting layout page entries (length names) tail pieces
-      → HoldsPiece image number piece → IsFitting layout page (length names) piece → IsGroup layout image number
-  group_alone number piece low high are holds fits =
-      let count = ap (λ (entry : Entry). entry.count) holds.entry in
-      record {
-        first = record {
-          some = omega (arith, count);
-          few = omega (arith, count, are.groups, are.few, log.header.entries_is);
-          in_window = omega (arith, count, are.few, log.header.entries_is, log.header.tail_is);
-          small = omega (arith, count, are.small);
-          own = ap (λ (entry : Entry). entry.leader) holds.entry;
-        };
-        followers = λ other past inside. absurd (omega (arith, inside.last, count));
-        pieces = λ other inside.
-            let same : number ≡ other = omega (arith, inside.first, inside.last, count) in
-            subst (IsPiece layout image number) same (piece_fits number piece holds fits);
-        in_a_row = λ other from inside. absurd (omega (arith, inside.last, count));
-      }
-
   pub logged_fits : AreFitting layout page entries (length names) tail pieces → Fits layout image
   logged_fits are leader commits =
-      let below = committed_below leader commits in
-      let low : tail ≤ leader = omega (arith, commits.from_tail, log.header.tail_is) in
-      let inside : leader - tail < length pieces = omega arith in
-      let number_is : tail + (leader - tail) ≡ leader = omega arith in
-      let piece = slice_index_or pieces (leader - tail) no_piece in
-      group_alone leader piece low below are
-      (subst (λ number. HoldsPiece image number piece) number_is (log.each (leader - tail) no_piece inside))
-      (are.each (leader - tail) no_piece inside)
+      group_among layout page (length names) (tail + all_entries page pieces) image
+      (record {
+        some_page = some_page;
+        page_is = log.header.page_is;
+        files_is = files_known;
+        in_window = omega (arith, are.few, log.header.entries_is, log.header.tail_is);
+        small = are.small;
+      })
+      pieces tail leader held are.each (omega arith) (omega (arith, are.few, log.header.entries_is)) (omega (arith, commits.from_tail, log.header.tail_is)) (committed_below leader commits) commits.commit
 
-  commits_each : (i : ℕ) → i < length pieces → (entry_at image (tail + i)).commit ≡ tail + i + 1
-  commits_each i below = ap (λ (entry : Entry). entry.commit) (log.each i no_piece below).entry
-
-  counts_each : (i : ℕ) → i < length pieces → (entry_at image (tail + i)).count ≡ 1
-  counts_each i below = ap (λ (entry : Entry). entry.count) (log.each i no_piece below).entry
-
-  committed_are : length pieces ≤ entries → committed image ≡ range_with_len tail (length pieces)
-  committed_are few =
-      ap (λ from. filter (λ number. (entry_at image number).commit == number + 1) (range_with_len from (header_of image).entries)) log.header.tail_is
-      ∙ first_committed image (header_of image).entries (length pieces) tail (omega (arith, log.header.entries_is)) commits_each none_past
-
-  pub logged_recovers : (stores : Files) → AreFitting layout page entries (length names) tail pieces → RecoversTo tail pieces stores image
+  pub logged_recovers : (stores : Files) → AreFitting layout page entries (length names) tail pieces → RecoversTo page tail pieces stores image
   logged_recovers stores are =
-      let groups = committed_are are.few in
+      let groups : committed image ≡ leaders_from page tail pieces =
+      ap (λ from. filter (λ number. (entry_at image number).commit == number + 1) (range_with_len from (header_of image).entries)) log.header.tail_is
+      ∙ committed_leaders page image some_page pieces tail (header_of image).entries (omega (arith, are.few, log.header.entries_is)) held none_past in
       record {
         first = log.header.tail_is;
         groups = groups;
         next =
             ap (λ numbers. fold (λ next leader. leader + (entry_at image leader).count) (header_of image).tail numbers) groups
-            ∙ alone_next image (length pieces) tail (header_of image).tail log.header.tail_is counts_each;
+            ∙ leaders_next page image some_page pieces tail (header_of image).tail log.header.tail_is held;
         files =
             ap (λ numbers. fold (with_entry image) stores (flat_map (group_numbers image) numbers)) groups
-            ∙ ap (fold (with_entry image) stores) (alone_numbers image (length pieces) tail counts_each)
-            ∙ laid_entries image pieces tail stores log.each;
+            ∙ leaders_laid page image some_page pieces tail stores held;
       }

@@ -1,30 +1,53 @@
--- One log: an image has no other, a quiet row has it in each image, and one more entry adds its piece and nothing else.
-use Rattle.std.proofs.Common.{◌≡◌, ◌≢◌, inl, inr, ℕ, ◌+◌, ◌/◌, ◌%◌, ◌<◌, ◌≤◌, List, [], ◌∷◌, ◌++◌, length, length-append, slice_index_or, sym, ap, ◌∙◌, subst, arith}
+-- One log: an image has no other, a quiet row has it in each image, and one more group adds its piece and nothing else.
+use Rattle.std.proofs.Common.{◌≡◌, ◌≢◌, ◌⊎◌, inl, inr, ℕ, ◌+◌, ◌/◌, ◌%◌, ◌<◌, ◌≤◌, List, [], ◌∷◌, ◌++◌, length, map, slice_index_or, ◌-◌, suc, zero, refl, sym, ap, ◌∙◌, subst, arith}
 use Rattle.std.proofs.Math.Nat.{mod-add-div', mul-le-mul_right}
 use Rattle.std.proofs.lemmas.Bool.{cases_eq, cases_lt}
-use Rattle.std.proofs.lemmas.List.{ext_get_or, get_or_append_left, get_or_push}
-use Rattle.nv_plain.specs.Images.{Image, PartImage, Entry, entry_at, entry_of, slot_part, data_of}
+use Rattle.std.proofs.lemmas.List.{ext_get_or, get_or-map, length-map}
+use Rattle.std.proofs.lemmas.List.FromFn.{length-map-range_with_len, get_or-map-range_with_len}
+use Rattle.std.specs.List.{range_with_len}
+use Rattle.nv_plain.specs.Files.{overwritten}
+use Rattle.nv_plain.specs.Images.{Image, PartImage, Entry, entry_of, data_of}
 use Rattle.nv_plain.specs.Layouts.{Layout}
+use Rattle.nv_plain.specs.Pieces.{piece_of, piece_bytes}
+use Rattle.nv_plain.proofs.FileLemmas.{length-overwritten, get_or-overwritten_inside}
 use Rattle.nv_pmem.specs.Part.{Part}
 use Rattle.nv_pmem.specs.Rows.{AreQuiet, IsRowImage, row_words}
 use Rattle.nv_pmem.proofs.ImageLaws.{quiet_image}
 use Rattle.nv_header.specs.Heads.{first_names}
-use Rattle.nv_header.specs.Regions.{ReadsAs}
-use Rattle.nv_engine.specs.Laid.{Piece}
-use Rattle.nv_engine.specs.Logged.{HoldsPiece, HasLog, DiffersInSlot}
+use Rattle.nv_header.specs.Regions.{ReadsAs, HasNoneFrom}
+use Rattle.nv_entry.specs.Group.{HoldsEntry, IsWhole}
+use Rattle.nv_engine.specs.Laid.{Piece, cut, entries_of, all_entries}
+use Rattle.nv_engine.specs.Overlaid.{overlaid}
+use Rattle.nv_engine.specs.Logged.{HoldsPiece, HoldPieces, HasLog, DiffersInSlots, HaveSameCommits, slot_of, from_slot}
+use Rattle.nv_engine.proofs.Cuts.{as_piece, entries_some, all_entries-push, own_first, cut_whole}
 
--- ---- an image has one log
+-- ---- what a slot holds of a piece
 
 pub no_piece : Piece
 no_piece = record { file = 0; at = 0; bytes = [] }
 
--- the piece that the entry of a number holds
-abbrev piece_at : Image → ℕ → Piece
-piece_at image number = record {
-  file = (entry_at image number).file;
-  at = (entry_at image number).at;
-  bytes = data_of (slot_part image number) (entry_at image number).size;
-}
+-- piece i of the cut ones
+abbrev pub cut_at : (page : ℕ) → Piece → ℕ → Piece
+cut_at page piece i =
+    let own = piece_of piece.at (length piece.bytes) page i in
+    record { file = piece.file; at = own.at; bytes = piece_bytes piece.bytes own }
+
+pub length-cut : (page : ℕ) (piece : Piece) → length (cut page piece) ≡ entries_of page piece
+length-cut page piece =
+    length-map (map (piece_of piece.at (length piece.bytes) page) (range_with_len 0 (entries_of page piece))) _
+    ∙ length-map-range_with_len (piece_of piece.at (length piece.bytes) page) 0 (entries_of page piece)
+
+pub get_or-cut : (page : ℕ) (piece : Piece) (i : ℕ) (none : Piece) → i < entries_of page piece → slice_index_or (cut page piece) i none ≡ cut_at page piece i
+get_or-cut page piece i none below =
+    let own = piece_of piece.at (length piece.bytes) page in
+    let owns = map own (range_with_len 0 (entries_of page piece)) in
+    let long = length-map-range_with_len own 0 (entries_of page piece) in
+    get_or-map (as_piece piece.file piece.bytes) owns i (own i) none (omega (arith, long))
+    ∙ ap (as_piece piece.file piece.bytes) (get_or-map-range_with_len own 0 (entries_of page piece) i i (own i) below (omega arith))
+
+-- the piece that a part holds
+abbrev pub piece_in : PartImage → Piece
+piece_in part = record { file = (entry_of part).file; at = (entry_of part).at; bytes = data_of part (entry_of part).size }
 
 -- two pieces with the same fields
 piece_same : (a b : Piece) → a.file ≡ b.file → a.at ≡ b.at → a.bytes ≡ b.bytes → a ≡ b
@@ -33,30 +56,104 @@ piece_same a b file at bytes =
     ∙ ap (λ n. record { file = b.file; at = n; bytes = a.bytes }) at
     ∙ ap (λ these. record { file = b.file; at = b.at; bytes = these }) bytes
 
-pub held_is : (image : Image) (number : ℕ) (piece : Piece) → HoldsPiece image number piece → piece ≡ piece_at image number
-held_is image number piece holds =
-    let bytes = ap (λ (entry : Entry). data_of (slot_part image number) entry.size) holds.entry ∙ holds.bytes in
-    sym (piece_same (piece_at image number) piece
-    (ap (λ (entry : Entry). entry.file) holds.entry) (ap (λ (entry : Entry). entry.at) holds.entry) bytes)
+pub commit_here : (page entries number : ℕ) (image : Image) (piece : Piece) → HoldsPiece page entries image number piece → (entry_of (image (slot_of entries number))).commit ≡ number + 1
+commit_here page entries number image piece holds =
+    let same : number ≡ number + 0 = omega arith in
+    ap (λ n. (entry_of (image (slot_of entries n))).commit) same ∙ holds.whole.committed
 
-module _ (layout : Layout) (page entries : ℕ) (names : List (List ℕ)) (tail : ℕ) (image : Image) where
-  -- no log has more pieces than another
-  no_longer : (pieces others : List Piece) → HasLog layout page entries names tail pieces image → HasLog layout page entries names tail others image → length pieces ≤ length others
-  no_longer pieces others log other = elim (cases_lt (length others) (length pieces)) [
-    | inl less ↦
-        let holds = log.each (length others) no_piece less in
-        absurd (other.none.uncommitted (tail + length others) (omega arith)
-        (ap (λ count. image (1 + (tail + length others) % count) 0 0) (sym log.header.entries_is) ∙ ap (λ (entry : Entry). entry.commit) holds.entry))
-    | inr no_less ↦ omega arith
-  ]
+module _ (page entries number : ℕ) (image : Image) (piece : Piece) (some_page : 1 ≤ page) (holds : HoldsPiece page entries image number piece) (i : ℕ) (below : i < entries_of page piece) where
+  pub held_in : piece_in (from_slot entries number image i) ≡ cut_at page piece i
+  held_in =
+      let part = from_slot entries number image i in
+      let entry = holds.whole.entries i below in
+      let size = ap (λ (e : Entry). e.size) entry.fields in
+      piece_same (piece_in part) (cut_at page piece i)
+      (ap (λ (e : Entry). e.file) entry.fields) (ap (λ (e : Entry). e.at) entry.fields)
+      (ap (data_of part) size ∙ entry.bytes_are)
 
-  pub one_log : (pieces others : List Piece) → HasLog layout page entries names tail pieces image → HasLog layout page entries names tail others image → pieces ≡ others
-  one_log pieces others log other =
-      let fewer = no_longer pieces others log other in
-      let more = no_longer others pieces other log in
-      ext_get_or no_piece pieces others (omega arith) (λ i below.
-      held_is image (tail + i) (slice_index_or pieces i no_piece) (log.each i no_piece below)
-      ∙ sym (held_is image (tail + i) (slice_index_or others i no_piece) (other.each i no_piece (omega arith))))
+-- ---- an image has one log
+
+module _ (page entries : ℕ) (image : Image) (some_page : 1 ≤ page) where
+  -- a number's group holds one piece
+  module _ (number : ℕ) (piece other : Piece) (holds : HoldsPiece page entries image number piece) (theirs : HoldsPiece page entries image number other) where
+    first : 0 < entries_of page piece
+    first = entries_some page piece holds.some
+
+    first_of_other : 0 < entries_of page other
+    first_of_other = entries_some page other theirs.some
+
+    same_file : piece.file ≡ other.file
+    same_file = sym (ap (λ (e : Entry). e.file) (holds.whole.entries 0 first).fields) ∙ ap (λ (e : Entry). e.file) (theirs.whole.entries 0 first_of_other).fields
+
+    same_at : piece.at ≡ other.at
+    same_at =
+        sym (own_first piece.at (length piece.bytes) page)
+        ∙ sym (ap (λ (e : Entry). e.at) (holds.whole.entries 0 first).fields)
+        ∙ ap (λ (e : Entry). e.at) (theirs.whole.entries 0 first_of_other).fields
+        ∙ own_first other.at (length other.bytes) page
+
+    same_count : entries_of page piece ≡ entries_of page other
+    same_count = sym (ap (λ (e : Entry). e.count) (holds.whole.entries 0 first).fields) ∙ ap (λ (e : Entry). e.count) (theirs.whole.entries 0 first_of_other).fields
+
+    same_cut : cut page piece ≡ cut page other
+    same_cut =
+        ext_get_or no_piece (cut page piece) (cut page other) (length-cut page piece ∙ same_count ∙ sym (length-cut page other))
+        (λ i below.
+        let here : i < entries_of page piece = omega (arith, length-cut page piece) in
+        let there : i < entries_of page other = omega (arith, same_count) in
+        get_or-cut page piece i no_piece here
+        ∙ sym (held_in page entries number image piece some_page holds i here)
+        ∙ held_in page entries number image other some_page theirs i there
+        ∙ sym (get_or-cut page other i no_piece there))
+
+    same_over : overwritten [] piece.at piece.bytes ≡ overwritten [] other.at other.bytes
+    same_over =
+        sym (cut_whole page [] piece some_page)
+        ∙ ap (λ file. overlaid file [] (cut page piece)) same_file
+        ∙ ap (overlaid other.file []) same_cut
+        ∙ cut_whole page [] other some_page
+
+    same_length : length piece.bytes ≡ length other.bytes
+    same_length =
+        omega (arith, same_at, length-overwritten [] piece.bytes piece.at holds.some, length-overwritten [] other.bytes other.at theirs.some, ap length same_over)
+
+    same_bytes : piece.bytes ≡ other.bytes
+    same_bytes =
+        ext_get_or 0 piece.bytes other.bytes same_length
+        (λ i below.
+        let here : piece.at + i - piece.at ≡ i = omega arith in
+        let there : piece.at + i - other.at ≡ i = omega (arith, same_at) in
+        ap (λ k. slice_index_or piece.bytes k 0) (sym here)
+        ∙ sym (get_or-overwritten_inside [] piece.bytes piece.at (piece.at + i) (omega arith) (omega arith))
+        ∙ ap (λ these. slice_index_or these (piece.at + i) 0) same_over
+        ∙ get_or-overwritten_inside [] other.bytes other.at (piece.at + i) (omega (arith, same_at)) (omega (arith, same_at, same_length))
+        ∙ ap (λ k. slice_index_or other.bytes k 0) there)
+
+    one_piece : piece ≡ other
+    one_piece = piece_same piece other same_file same_at same_bytes
+
+  held_one : (pieces others : List Piece) (number : ℕ) → HoldPieces page entries image number pieces → HoldPieces page entries image number others
+      → HasNoneFrom entries (number + all_entries page pieces) image → HasNoneFrom entries (number + all_entries page others) image → pieces ≡ others
+  held_one [] [] number held theirs none nor = refl
+  held_one [] (other ∷ others) number held theirs none nor =
+      absurd (none.uncommitted number (omega arith) (commit_here page entries number image other theirs.0))
+  held_one (piece ∷ pieces) [] number held theirs none nor =
+      absurd (nor.uncommitted number (omega arith) (commit_here page entries number image piece held.0))
+  held_one (piece ∷ pieces) (other ∷ others) number held theirs none nor =
+      let same = one_piece number piece other held.0 theirs.0 in
+      let count = ap (entries_of page) same in
+      let Theirs : ℕ → Type 0 = λ n. HoldPieces page entries image (number + n) others in
+      let rest = held_one pieces others (number + entries_of page piece) held.1 (subst Theirs (sym count) theirs.1)
+      (record { uncommitted = λ n from. none.uncommitted n (omega arith) })
+      (record { uncommitted = λ n from. nor.uncommitted n (omega (arith, count)) }) in
+      ap (λ one. one ∷ pieces) same ∙ ap (λ these. other ∷ these) rest
+
+pub page_some : (layout : Layout) (page entries : ℕ) (names : List (List ℕ)) (tail : ℕ) (image : Image) → ReadsAs layout page entries names tail image → 1 ≤ page
+page_some layout page entries names tail image reads = omega (arith, reads.readable.fields.page.least, reads.page_is)
+
+pub one_log : (layout : Layout) (page entries : ℕ) (names : List (List ℕ)) (tail : ℕ) (pieces others : List Piece) (image : Image) → HasLog layout page entries names tail pieces image → HasLog layout page entries names tail others image → pieces ≡ others
+one_log layout page entries names tail pieces others image log other =
+    held_one page entries image (page_some layout page entries names tail image log.header) pieces others tail log.held other.held log.none other.none
 
 -- ---- a quiet row
 
@@ -102,7 +199,7 @@ as_header layout page entries names tail image other same reads =
       tail_is = last.tail_is;
     }
 
--- ---- one more entry
+-- ---- one more group
 
 -- numbers that are less than a whole turn apart have slots of their own
 pub slots_apart : (a b entries : ℕ) → a < b → b < a + entries → a % entries ≢ b % entries
@@ -118,77 +215,128 @@ slots_apart a b entries less near same =
           absurd (omega (arith, one, two, same, mul-le-mul_right entries no_more))
     ]
 
--- a piece that another image holds too, since the part is the same
-holds_too : (image other : Image) (number : ℕ) (piece : Piece) → slot_part other number ≡ slot_part image number → HoldsPiece image number piece → HoldsPiece other number piece
-holds_too image other number piece same holds = record {
-  entry = ap entry_of same ∙ holds.entry;
-  bytes = ap (λ (part : PartImage). data_of part (length piece.bytes)) same ∙ holds.bytes;
+-- Where a number's slot is one of the next so many, and where it isn't.
+pub record IsNextSlot (entries next count number : ℕ) : Type 0 where
+  pub i : ℕ
+  pub below : i < count
+  pub same : number % entries ≡ (next + i) % entries
+
+pub in_next : (entries next number count : ℕ) → IsNextSlot entries next count number ⊎ ((i : ℕ) → i < count → number % entries ≢ (next + i) % entries)
+in_next entries next number zero = inr (λ i below. absurd (omega arith))
+in_next entries next number (suc count) = elim (cases_eq (number % entries) ((next + count) % entries)) [
+  | inl same ↦ inl (record { i = count; below = omega arith; same = same })
+  | inr apart ↦ elim (in_next entries next number count) [
+    | inl found ↦ inl (record { i = found.i; below = omega (arith, found.below); same = found.same })
+    | inr none ↦
+        inr (λ i below. elim (cases_eq i count) [
+          | inl last ↦ let At : ℕ → Type 0 = λ k. number % entries ≢ (next + k) % entries in subst At (sym last) apart
+          | inr earlier ↦ none i (omega arith)
+        ])
+  ]
+]
+
+-- a whole group of which another image has the same parts
+pub whole_too : (page number : ℕ) (piece : Piece) (image other : Image) → 1 ≤ entries_of page piece → ((i : ℕ) → i < entries_of page piece → other i ≡ image i)
+    → IsWhole page number piece.file piece.at piece.bytes image → IsWhole page number piece.file piece.at piece.bytes other
+whole_too page number piece image other some same whole = record {
+  committed = ap (λ (part : PartImage). (entry_of part).commit) (same 0 some) ∙ whole.committed;
+  followers = λ i from below commit. whole.followers i from below (ap (λ (part : PartImage). (entry_of part).commit) (sym (same i below)) ∙ commit);
+  entries = λ i below. subst (HoldsEntry page number piece.file piece.at piece.bytes i) (sym (same i below)) (whole.entries i below);
 }
 
-module _ (layout : Layout) (page entries : ℕ) (names : List (List ℕ)) (tail : ℕ) (pieces : List Piece) (image other : Image) (log : HasLog layout page entries names tail pieces image) (few : length pieces < entries) (differs : DiffersInSlot entries (tail + length pieces) image other) where
-  header_same : other 0 ≡ image 0
-  header_same = λ at line word. differs.same 0 line word (λ same. absurd (omega (arith, same))) at
+-- pieces that another image holds too, since their parts are the same
+held_too : (page entries : ℕ) (image other : Image) (pieces : List Piece) (number : ℕ) → ((n : ℕ) → number ≤ n → n < number + all_entries page pieces → other (slot_of entries n) ≡ image (slot_of entries n))
+    → HoldPieces page entries image number pieces → HoldPieces page entries other number pieces
+held_too page entries image other [] number same held = tt
+held_too page entries image other (piece ∷ pieces) number same held = (
+  record {
+    some = held.0.some;
+    whole =
+        whole_too page number piece (from_slot entries number image) (from_slot entries number other) (entries_some page piece held.0.some)
+        (λ i below. same (number + i) (omega arith) (omega arith)) held.0.whole;
+  },
+  held_too page entries image other pieces (number + entries_of page piece) (λ n from below. same n (omega arith) (omega arith)) held.1,
+)
 
-  pub reads_on : ReadsAs layout page entries names tail other
+held_push : (page entries : ℕ) (image : Image) (pieces : List Piece) (number : ℕ) (more : Piece) → HoldPieces page entries image number pieces → HoldsPiece page entries image (number + all_entries page pieces) more
+    → HoldPieces page entries image number (pieces ++ more ∷ [])
+held_push page entries image [] number more held holds =
+    let At : ℕ → Type 0 = λ n. HoldsPiece page entries image n more in
+    let here : number + 0 ≡ number = omega arith in
+    (subst At here holds, tt)
+held_push page entries image (piece ∷ pieces) number more held holds =
+    let At : ℕ → Type 0 = λ n. HoldsPiece page entries image n more in
+    let there : number + (entries_of page piece + all_entries page pieces) ≡ number + entries_of page piece + all_entries page pieces = omega arith in
+    (held.0, held_push page entries image pieces (number + entries_of page piece) more held.1 (subst At there holds))
+
+module _ (layout : Layout) (page entries : ℕ) (names : List (List ℕ)) (tail : ℕ) (pieces : List Piece) (count : ℕ) (image other : Image) (log : HasLog layout page entries names tail pieces image)
+    (room : all_entries page pieces + count ≤ entries) (differs : DiffersInSlots entries (tail + all_entries page pieces) count image other) where
+  header_same : other 0 ≡ image 0
+  header_same = λ at line word. differs.same 0 line word (λ i below same. absurd (omega (arith, same))) at
+
+  reads_on : ReadsAs layout page entries names tail other
   reads_on = as_header layout page entries names tail image other header_same log.header
 
   -- the part of any other slot is the same
-  part_same : (number : ℕ) → number % entries ≢ (tail + length pieces) % entries → other (1 + number % entries) ≡ image (1 + number % entries)
-  part_same number apart = λ at line word. differs.same (1 + number % entries) line word (λ same. apart (omega (arith, same))) at
+  part_same : (number : ℕ) → ((i : ℕ) → i < count → number % entries ≢ (tail + all_entries page pieces + i) % entries) → other (slot_of entries number) ≡ image (slot_of entries number)
+  part_same number apart = λ at line word. differs.same (slot_of entries number) line word (λ i below same. apart i below (omega (arith, same))) at
 
-  holds_on : (i : ℕ) (none : Piece) → i < length pieces → HoldsPiece other (tail + i) (slice_index_or pieces i none)
-  holds_on i none below =
-      let number = tail + i in
-      let apart = slots_apart number (tail + length pieces) entries (omega arith) (omega arith) in
-      let same : slot_part other number ≡ slot_part image number =
-      ap (λ count. other (1 + number % count)) reads_on.entries_is
-      ∙ part_same number apart
-      ∙ ap (λ count. image (1 + number % count)) (sym log.header.entries_is) in
-      holds_too image other number (slice_index_or pieces i none) same (log.each i none below)
+  held_on : HoldPieces page entries other tail pieces
+  held_on =
+      held_too page entries image other pieces tail
+      (λ n from below. part_same n (λ i inside. slots_apart n (tail + all_entries page pieces + i) entries (omega arith) (omega arith)))
+      log.held
 
   -- a number from there on, in any other slot, isn't committed
-  none_on : (number : ℕ) → tail + length pieces ≤ number → number % entries ≢ (tail + length pieces) % entries → (entry_of (other (1 + number % entries))).commit ≢ number + 1
-  none_on number from apart commit =
+  none_apart : (number : ℕ) → tail + all_entries page pieces ≤ number → ((i : ℕ) → i < count → number % entries ≢ (tail + all_entries page pieces + i) % entries) → (entry_of (other (slot_of entries number))).commit ≢ number + 1
+  none_apart number from apart commit =
       log.none.uncommitted number from (ap (λ (part : PartImage). (entry_of part).commit) (sym (part_same number apart)) ∙ commit)
 
-  pub nothing_more : (entry_of (other (1 + (tail + length pieces) % entries))).commit ≡ (entry_of (image (1 + (tail + length pieces) % entries))).commit → HasLog layout page entries names tail pieces other
-  nothing_more commit_is = record {
+  -- nor in a slot with the commit word that was there
+  none_same : (number : ℕ) → tail + all_entries page pieces ≤ number → (i : ℕ) → number % entries ≡ (tail + all_entries page pieces + i) % entries
+      → (entry_of (from_slot entries (tail + all_entries page pieces) other i)).commit ≡ (entry_of (from_slot entries (tail + all_entries page pieces) image i)).commit
+      → (entry_of (other (slot_of entries number))).commit ≢ number + 1
+  none_same number from i same commit_is commit =
+      log.none.uncommitted number from
+      (ap (λ slot. (entry_of (image (1 + slot))).commit) same ∙ sym commit_is ∙ ap (λ slot. (entry_of (other (1 + slot))).commit) (sym same) ∙ commit)
+
+  pub nothing_more : HaveSameCommits entries (tail + all_entries page pieces) 0 count image other → HasLog layout page entries names tail pieces other
+  nothing_more commits = record {
     header = reads_on;
-    each = holds_on;
+    held = held_on;
     none = record {
-      uncommitted = λ number from commit. elim (cases_eq (number % entries) ((tail + length pieces) % entries)) [
-        | inl same ↦
-            log.none.uncommitted number from
-            (ap (λ slot. (entry_of (image (1 + slot))).commit) same ∙ sym commit_is ∙ ap (λ slot. (entry_of (other (1 + slot))).commit) (sym same) ∙ commit)
-        | inr apart ↦ none_on number from apart commit
+      uncommitted = λ number from. elim (in_next entries (tail + all_entries page pieces) number count) [
+        | inl found ↦ none_same number from found.i found.same (commits found.i (omega arith) found.below)
+        | inr apart ↦ none_apart number from apart
       ];
     };
   }
 
-  -- the entries that hold the pieces and one more
-  each_more : (more : Piece) → HoldsPiece other (tail + length pieces) more → (i : ℕ) (none : Piece) → i < length (pieces ++ more ∷ []) → HoldsPiece other (tail + i) (slice_index_or (pieces ++ more ∷ []) i none)
-  each_more more holds i none below = elim (cases_lt i (length pieces)) [
-    | inl earlier ↦
-        subst (HoldsPiece other (tail + i)) (sym (get_or_append_left pieces (more ∷ []) none i earlier)) (holds_on i none earlier)
-    | inr no_earlier ↦
-        let last : length pieces ≡ i = omega (arith, length-append pieces (more ∷ [])) in
-        subst (HoldsPiece other (tail + i)) (sym (get_or_push pieces more none i last))
-        (subst (λ n. HoldsPiece other (tail + n) more) last holds)
+  -- the numbers after the group
+  none_after : (more : Piece) → count ≡ entries_of page more → HaveSameCommits entries (tail + all_entries page pieces) 1 count image other → HoldsPiece page entries other (tail + all_entries page pieces) more
+      → (number : ℕ) → tail + all_entries page pieces + count ≤ number → (entry_of (other (slot_of entries number))).commit ≢ number + 1
+  none_after more counts commits holds number from = elim (in_next entries (tail + all_entries page pieces) number count) [
+    | inl found ↦ elim (cases_eq found.i 0) [
+      | inl leads ↦ λ commit.
+          let next = tail + all_entries page pieces in
+          let same : (next + found.i) % entries ≡ next % entries = ap (λ k. k % entries) (omega (arith, leads)) in
+          absurd (omega (
+            arith,
+            entries_some page more holds.some,
+            counts,
+            commit,
+            commit_here page entries next other more holds,
+            ap (λ slot. (entry_of (other (1 + slot))).commit) (found.same ∙ same),
+          ))
+      | inr follows ↦ none_same number (omega arith) found.i found.same (commits found.i (omega arith) found.below)
+    ]
+    | inr apart ↦ none_apart number (omega arith) apart
   ]
 
-  pub one_more : (more : Piece) → HoldsPiece other (tail + length pieces) more → HasLog layout page entries names tail (pieces ++ more ∷ []) other
-  one_more more holds = record {
+  pub one_more : (more : Piece) → count ≡ entries_of page more → HaveSameCommits entries (tail + all_entries page pieces) 1 count image other → HoldsPiece page entries other (tail + all_entries page pieces) more
+      → HasLog layout page entries names tail (pieces ++ more ∷ []) other
+  one_more more counts commits holds = record {
     header = reads_on;
-    each = each_more more holds;
-    none = record {
-      uncommitted = λ number from commit.
-          let past : tail + length pieces + 1 ≤ number = omega (arith, length-append pieces (more ∷ [])) in
-          elim (cases_eq (number % entries) ((tail + length pieces) % entries)) [
-            | inl same ↦
-                let here : (entry_of (other (1 + (tail + length pieces) % entries))).commit ≡ tail + length pieces + 1 =
-                ap (λ count. (entry_of (other (1 + (tail + length pieces) % count))).commit) (sym reads_on.entries_is) ∙ ap (λ (entry : Entry). entry.commit) holds.entry in
-                absurd (omega (arith, here, commit, ap (λ slot. (entry_of (other (1 + slot))).commit) same))
-            | inr apart ↦ none_on number (omega arith) apart commit
-          ];
-    };
+    held = held_push page entries other pieces tail more held_on holds;
+    none = record { uncommitted = λ number from. none_after more counts commits holds number (omega (arith, all_entries-push page pieces more, counts)) };
   }

@@ -19,11 +19,10 @@ module _ {L B : Type 0} (history : L → History) (room : L → Room) (log : Log
         let empty = rest.empty image is in
         record {
           header = empty.header;
-          each = λ i none below. absurd (omega arith);
+          held = tt;
           none = record { uncommitted = λ number past. empty.log.uncommitted number (omega arith) };
         };
     fitting = record {
-      groups = omega arith;
       few = omega arith;
       small = omega (arith, region.number);
       each = All-nil (IsFitting version_1 log.geometry.page (length log.names));

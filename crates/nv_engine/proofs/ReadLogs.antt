@@ -1,10 +1,11 @@
 -- A read of a log: its parts and stores tell what they told, and the slots hold its pieces in their order.
-use Rattle.std.proofs.Common.{◌≡◌, ℕ, ◌+◌, ◌%◌, ◌≤◌, Bool, false, List, length, map, slice_index_or, refl, sym, ap, ◌∙◌, subst, arith}
-use Rattle.std.proofs.lemmas.List.{with_items_is}
+use Rattle.std.proofs.Common.{◌≡◌, inl, inr, ℕ, ◌+◌, ◌-◌, ◌<◌, ◌≤◌, Bool, false, List, [], ◌∷◌, length, length-append, map, slice_index_or, refl, sym, ap, ◌∙◌, subst, arith}
+use Rattle.std.proofs.lemmas.Bool.{cases_lt}
+use Rattle.std.proofs.lemmas.List.{with_items_is, get_or_append_left, get_or-append_right}
 use Rattle.std.specs.Prelude.{vec_len}
 use Rattle.std.specs.Vec.{with_items}
 use Rattle.nv_plain.specs.Files.{Files}
-use Rattle.nv_plain.specs.Images.{Entry, Image, PartImage, entry_of, data_of}
+use Rattle.nv_plain.specs.Images.{Entry, Image, data_of}
 use Rattle.nv_plain.specs.Layouts.{version_1}
 use Rattle.nv_pmem.specs.Part.{Part}
 use Rattle.nv_pmem.specs.Room.{Room}
@@ -19,7 +20,10 @@ use Rattle.nv_recover.specs.Standing.{AreQuietStores}
 use Rattle.nv_recover.proofs.RoomLaws.{parts_still}
 use Rattle.nv_engine.specs.Holding.{HasPieces, HasSomePieces, Holds}
 use Rattle.nv_engine.specs.Keeping.{IsLog, ReadsOnly}
-use Rattle.nv_engine.specs.Laid.{Piece}
+use Rattle.nv_entry.proofs.PieceRanges.{length-piece_bytes, piece_small}
+use Rattle.nv_engine.specs.Laid.{Piece, cut, cuts_of, entries_of, all_entries}
+use Rattle.nv_engine.specs.Logged.{HoldsPiece, HoldPieces, slot_of}
+use Rattle.nv_engine.proofs.OneLog.{cut_at, length-cut, get_or-cut}
 use Rattle.nv_engine.specs.Windows.{HoldsPieceOf, HoldInOrder}
 use Rattle.nv_engine.specs.declared.log.Log.{Log}
 
@@ -113,31 +117,55 @@ module _ {L B : Type 0} (history : L → lines.History) (room : L → Room) (dev
 
 -- ---- what the slots hold
 
-module _ (page entries tail : ℕ) (image : Image) (number : ℕ) (piece : Piece) where
-  slot_holds : (slot : PartImage) → image (1 + number % entries) ≡ slot → length piece.bytes ≤ page → entry_of slot ≡ record { commit = number + 1; file = piece.file; at = piece.at; size = length piece.bytes; count = 1; leader = number }
-      → data_of slot (length piece.bytes) ≡ piece.bytes → HoldsPieceOf page piece (image (1 + number % entries))
-  slot_holds slot is fits entry bytes =
-      let Held : PartImage → Type 0 = HoldsPieceOf page piece in
-      subst Held (sym is) (record {
-        file = ap (λ (e : Entry). e.file) entry;
-        at = ap (λ (e : Entry). e.at) entry;
-        size = ap (λ (e : Entry). e.size) entry;
-        fits = fits;
-        bytes = bytes;
-      })
+length-cuts : (page : ℕ) (pieces : List Piece) → length (cuts_of page pieces) ≡ all_entries page pieces
+length-cuts page [] = refl
+length-cuts page (piece ∷ pieces) =
+    length-append (cut page piece) (cuts_of page pieces)
+    ∙ ap (λ n. n + length (cuts_of page pieces)) (length-cut page piece)
+    ∙ ap (λ n. entries_of page piece + n) (length-cuts page pieces)
 
-pub hold_in_order : {L B : Type 0} (log : Log L B) (pieces : List Piece) (parts : List Part) → HasPieces log pieces parts → HoldInOrder log.geometry.entries log.tail log.head log.geometry.page pieces (row_words parts)
+module _ (page entries : ℕ) (image : Image) (some_page : 1 ≤ page) where
+  -- the slot of an entry holds what is cut for it
+  own_held : (number : ℕ) (piece : Piece) (i : ℕ) → HoldsPiece page entries image number piece → i < entries_of page piece → HoldsPieceOf page (cut_at page piece i) (image (slot_of entries (number + i)))
+  own_held number piece i holds below =
+      let part = image (slot_of entries (number + i)) in
+      let held = holds.whole.entries i below in
+      let long = length-piece_bytes piece.bytes piece.at page i some_page below in
+      record {
+        file = ap (λ (e : Entry). e.file) held.fields;
+        at = ap (λ (e : Entry). e.at) held.fields;
+        size = ap (λ (e : Entry). e.size) held.fields ∙ sym long;
+        fits = omega (arith, long, piece_small piece.at (length piece.bytes) page i);
+        bytes = ap (data_of part) long ∙ held.bytes_are;
+      }
+
+  cuts_held : (pieces : List Piece) (number : ℕ) → HoldPieces page entries image number pieces → (i : ℕ) (none : Piece) → i < length (cuts_of page pieces)
+      → HoldsPieceOf page (slice_index_or (cuts_of page pieces) i none) (image (slot_of entries (number + i)))
+  cuts_held [] number held i none below = absurd (omega arith)
+  cuts_held (piece ∷ pieces) number held i none below =
+      let long = length-cut page piece in
+      let all = length-append (cut page piece) (cuts_of page pieces) in
+      elim (cases_lt i (entries_of page piece)) [
+        | inl inside ↦
+            let Held : Piece → Type 0 = λ own. HoldsPieceOf page own (image (slot_of entries (number + i))) in
+            subst Held (sym (get_or_append_left (cut page piece) (cuts_of page pieces) none i (omega (arith, long)) ∙ get_or-cut page piece i none inside))
+            (own_held number piece i held.0 inside)
+        | inr past ↦
+            let rest = i - entries_of page piece in
+            let Held : Piece → Type 0 = λ own. HoldsPieceOf page own (image (slot_of entries (number + i))) in
+            let At : ℕ → Type 0 = λ n. HoldsPieceOf page (slice_index_or (cuts_of page pieces) rest none) (image (slot_of entries n)) in
+            let number_is : number + entries_of page piece + rest ≡ number + i = omega arith in
+            subst Held (sym (get_or-append_right (cut page piece) (cuts_of page pieces) (entries_of page piece) i none long (omega arith)))
+            (subst At number_is (cuts_held pieces (number + entries_of page piece) held.1 rest none (omega (arith, long, all))))
+      ]
+
+pub hold_in_order : {L B : Type 0} (log : Log L B) (pieces : List Piece) (parts : List Part) → HasPieces log pieces parts
+    → HoldInOrder log.geometry.entries log.tail log.head log.geometry.page (cuts_of log.geometry.page pieces) (row_words parts)
 hold_in_order log pieces parts has =
     let image = row_words parts in
+    let page = log.geometry.page in
     let logged = has.logs image (row_image_of_now parts) in
     record {
-      count = has.head;
-      each = λ i none below.
-          let number = log.tail + i in
-          let piece = slice_index_or pieces i none in
-          let holds = logged.each i none below in
-          let fits = has.fitting.each i none below in
-          slot_holds log.geometry.page log.geometry.entries log.tail image number piece (image (1 + number % _))
-          (ap (λ count. image (1 + number % count)) (sym logged.header.entries_is))
-          (omega (arith, fits.in_page)) holds.entry holds.bytes;
+      count = omega (arith, has.head, length-cuts page pieces);
+      each = cuts_held page log.geometry.entries image (omega (arith, log.geometry.page_in_limits.least)) pieces log.tail logged.held;
     }

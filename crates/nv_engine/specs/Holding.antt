@@ -9,7 +9,7 @@ use Rattle.nv_pmem.specs.Steps as lines
 use Rattle.nv_store.specs.Steps as stores
 use Rattle.nv_store.specs.Store.{Store}
 use Rattle.nv_recover.specs.Standing.{AreQuietStores, files_of}
-use Rattle.nv_engine.specs.Laid.{Piece, laid}
+use Rattle.nv_engine.specs.Laid.{Piece, all_entries, laid}
 use Rattle.nv_engine.specs.Logged.{HasLog, HasLogOrOneMore, AreFitting}
 use Rattle.nv_engine.specs.declared.log.Log.{Log}
 
@@ -18,7 +18,7 @@ pub record HasPieces {L B : Type 0} (log : Log L B) (pieces : List Piece) (parts
   pub quiet : AreQuiet parts
   pub logs : InEachRowImage (HasLog version_1 log.geometry.page log.geometry.entries log.names log.tail pieces) parts
   pub fitting : AreFitting version_1 log.geometry.page log.geometry.entries (length log.names) log.tail pieces
-  pub head : log.head ≡ log.tail + length pieces
+  pub head : log.head ≡ log.tail + all_entries log.geometry.page pieces
 
 -- and where it has some
 abbrev pub HasSomePieces : {L B : Type 0} → Log L B → List Part → Type 0
@@ -47,6 +47,6 @@ pub record HoldsOrOneMore {L B : Type 0} (history : L → lines.History) (held :
   pub synced : AreQuietStores stores
   pub files_are : files_of stores ≡ files
 
--- the piece that a write makes
+-- the piece that a write makes: all its bytes
 abbrev pub written : (file at : ℕ) → List ℕ → Piece
 written file at bytes = record { file = file; at = at; bytes = bytes }

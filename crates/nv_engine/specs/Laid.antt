@@ -1,9 +1,11 @@
 -- Pieces of a log, and the files that they are laid over.
-use Rattle.std.specs.Prelude.{ℕ, ◌+◌, ◌*◌, ◌%◌, ◌<◌, ◌≤◌, List, length, fold}
+use Rattle.std.specs.Prelude.{ℕ, ◌+◌, ◌*◌, ◌<◌, ◌≤◌, List, [], ◌∷◌, length, map, fold}
+use Rattle.std.specs.List.{flat_map}
 use Rattle.nv_plain.specs.Files.{Files, contents_of, with_contents, overwritten}
 use Rattle.nv_plain.specs.Layouts.{Layout}
+use Rattle.nv_plain.specs.Pieces.{pages_touched, pieces_of, piece_bytes}
 
--- a piece: which file it is of, where it goes, and its bytes
+-- a piece, as one write makes it: which file it is of, where it goes, and its bytes
 pub record Piece : Type 0 where
   pub file : ℕ
   pub at : ℕ
@@ -17,9 +19,34 @@ with_piece files piece = with_contents files piece.file (overwritten (contents_o
 abbrev pub laid : Files → List Piece → Files
 laid files pieces = fold with_piece files pieces
 
--- a piece that an entry may hold: its file is there, it has a byte, lies in one page, and ends inside the largest file
+-- a piece, cut at the boundaries of pages
+abbrev pub cut : (page : ℕ) → Piece → List Piece
+cut page piece =
+    map (λ own. record { file = piece.file; at = own.at; bytes = piece_bytes piece.bytes own })
+    (pieces_of piece.at (length piece.bytes) page)
+
+-- and all of some pieces
+abbrev pub cuts_of : (page : ℕ) → List Piece → List Piece
+cuts_of page pieces = flat_map (cut page) pieces
+
+-- how many entries a piece takes: one for each page that it touches
+abbrev pub entries_of : (page : ℕ) → Piece → ℕ
+entries_of page piece = pages_touched piece.at (length piece.bytes) page
+
+-- and how many some pieces take
+abbrev pub all_entries : (page : ℕ) → List Piece → ℕ
+all_entries page [] = 0
+all_entries page (piece ∷ pieces) = entries_of page piece + all_entries page pieces
+
+-- the number of each piece's first entry, where they lie one after another from a number on
+abbrev pub leaders_from : (page from : ℕ) → List Piece → List ℕ
+leaders_from page from [] = []
+leaders_from page from (piece ∷ pieces) = from ∷ leaders_from page (from + entries_of page piece) pieces
+
+-- a piece that a group may hold: its file is there, it has a byte, touches no more pages than a group has entries, and ends inside the
+-- largest file
 pub record IsFitting (layout : Layout) (page files : ℕ) (piece : Piece) : Type 0 where
   pub known : piece.file < files
   pub some : 1 ≤ length piece.bytes
-  pub in_page : piece.at % page + length piece.bytes ≤ page
+  pub few : entries_of page piece ≤ layout.group_limit
   pub in_file : piece.at + length piece.bytes ≤ page * layout.page_limit

@@ -7,4 +7,3 @@ pub mod Keeping
 pub mod Refusals
 pub mod Answers
 pub mod Windows
-pub mod Changing

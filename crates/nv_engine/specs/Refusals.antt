@@ -15,29 +15,26 @@ use Rattle.nv_engine.specs.declared.error.WriteError.TheVariants as write_error
 abbrev pub file_limit : {L B : Type 0} → Log L B → ℕ
 file_limit log = log.geometry.page * log.pages
 
--- why a write of so many pages at most is refused
-abbrev pub write_refusal : {L B : Type 0} → (most : ℕ) → Log L B → (at len : ℕ) → Option WriteError
-write_refusal most log at len =
+-- pages that one call may touch: those of a group, and no more than there are entries
+abbrev pub most_pages : {L B : Type 0} → Log L B → ℕ
+most_pages log = min version_1.group_limit log.geometry.entries
+
+-- why a write is refused, which takes an entry for each page that it touches
+abbrev pub write_refusal : {L B : Type 0} → Log L B → (at len : ℕ) → Option WriteError
+write_refusal log at len =
+    let count = pages_touched at len log.geometry.page in
     if nat_lt (file_limit log) (at + len) then Some write_error.TooFar
-    else if nat_lt most (pages_touched at len log.geometry.page) then Some write_error.TooLong
+    else if nat_lt (most_pages log) count then Some write_error.TooLong
     else if log.stopped then Some write_error.Stopped
-    else if nat_lt (2 ^ 60) (log.head + 1) then Some (write_error.Spent log.head)
-    else if nat_lt (log.tail + log.geometry.entries) (log.head + 1) then Some (write_error.Again log.head log.tail)
+    else if nat_lt (2 ^ 60) (log.head + count) then Some (write_error.Spent log.head)
+    else if nat_lt (log.tail + log.geometry.entries) (log.head + count) then Some (write_error.Again log.head log.tail)
     else None
-
--- pages that one write may touch: each piece is a group of its own
-abbrev pub write_pages : ℕ
-write_pages = 1
-
--- pages that one read may touch
-abbrev pub read_pages : {L B : Type 0} → Log L B → ℕ
-read_pages log = min version_1.group_limit log.geometry.entries
 
 -- why a read is refused
 abbrev pub read_refusal : {L B : Type 0} → Log L B → (at len : ℕ) → Option ReadError
 read_refusal log at len =
     if nat_lt (file_limit log) (at + len) then Some read_error.TooFar
-    else if nat_lt (read_pages log) (pages_touched at len log.geometry.page) then Some read_error.TooLong
+    else if nat_lt (most_pages log) (pages_touched at len log.geometry.page) then Some read_error.TooLong
     else if log.stopped then Some read_error.Stopped
     else None
 

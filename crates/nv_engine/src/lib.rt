@@ -10,7 +10,7 @@ mod reading;
 mod writing;
 
 pub use error::{OpenError, ReadError, WriteError};
-pub use laws::{files_lie_beneath_their_pieces, logs_have_one_meaning, writes_add_one_piece};
+pub use laws::{files_lie_beneath_their_pieces, logs_have_one_meaning, writes_add_one_group};
 pub use log::Log;
 pub use nv_recover::RecoverError;
 

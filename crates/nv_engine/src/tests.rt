@@ -28,11 +28,11 @@ fn blank_parts(alloc: Global, geometry: Geometry, fuse: &Fuse) -> Result<Vec<Mem
     Ok(parts)
 }
 
-// A region of 2 entries of a page of 64 bytes, with the files `a` and `b`.
-fn region(alloc: Global, fuse: &Fuse) -> Result<Region<MemPart>, Fail>
+// A region of so many entries of a page of 64 bytes, with the files `a` and `b`.
+fn region(alloc: Global, entries: u64, fuse: &Fuse) -> Result<Region<MemPart>, Fail>
     ensures { IfOk result (λ region. length region.names ≡ 2) }
 {
-    let geometry = Geometry::new(64, 2)?;
+    let geometry = Geometry::new(64, entries)?;
     let region = format(blank_parts(alloc, geometry, fuse)?, geometry).map_err(|failed| failed.1)?;
     let (region, _a) = add_file(alloc, region, b"a").map_err(|failed| failed.1)?;
     let (region, _b) = add_file(alloc, region, b"b").map_err(|failed| failed.1)?;
@@ -50,23 +50,40 @@ fn stores(alloc: Global, fuse: &Fuse) -> Result<Vec<MemStore>, NoMemory>
     Ok(stores)
 }
 
-// Their log, of files of 4 pages.
-fn opened(alloc: Global, parts: &Fuse, disks: &Fuse) -> Result<Log<MemPart, MemStore>, Fail>
+// A region's log over such stores, of files of 4 pages.
+fn log_over(
+    alloc: Global,
+    region: Region<MemPart>,
+    disks: &Fuse,
+) -> Result<Log<MemPart, MemStore>, Fail>
+    requires { length region.names ≡ 2 }
     ensures log { IfOk result (IsLog part_history part_room store_history) }
     ensures names { IfOk result (λ log. length log.names ≡ 2) }
     ensures running { IfOk result (λ log. log.stopped ≡ false) }
 {
-    let log = Log::new(alloc, region(alloc, parts)?, stores(alloc, disks)?, 4).map_err(
-        |failed| failed.2,
-    )?;
+    let log = Log::new(alloc, region, stores(alloc, disks)?, 4).map_err(|failed| failed.2)?;
     Ok(log)
+}
+
+// That of a new region.
+fn opened(
+    alloc: Global,
+    entries: u64,
+    parts: &Fuse,
+    disks: &Fuse,
+) -> Result<Log<MemPart, MemStore>, Fail>
+    ensures log { IfOk result (IsLog part_history part_room store_history) }
+    ensures names { IfOk result (λ log. length log.names ≡ 2) }
+    ensures running { IfOk result (λ log. log.stopped ≡ false) }
+{
+    log_over(alloc, region(alloc, entries, parts)?, disks)
 }
 
 #[test]
 fn writes_are_read_over_the_stores(rt: HostRuntime) -> Result<(), Fail> {
     let alloc = rt.alloc();
     let none = Fuse::new(alloc, &[])?;
-    let mut log = opened(alloc, &none, &none)?;
+    let mut log = opened(alloc, 2, &none, &none)?;
     assert_eq!(rt; log.geometry().page, 64);
     assert_eq!(rt; log.names().len(), 2);
     assert_eq!(rt; log.write(0, 0, b"hello"), Ok(5));
@@ -83,14 +100,48 @@ fn writes_are_read_over_the_stores(rt: HostRuntime) -> Result<(), Fail> {
     Ok(())
 }
 
+// The next log over 4 entries, after a write of 2 pages and a finish: it begins with number 2.
+fn begun_later(alloc: Global) -> Result<Log<MemPart, MemStore>, Fail>
+    ensures log { IfOk result (IsLog part_history part_room store_history) }
+    ensures names { IfOk result (λ log. length log.names ≡ 2) }
+{
+    let none = Fuse::new(alloc, &[])?;
+    let mut log = opened(alloc, 4, &none, &none)?;
+    log.write(0, 63, b"xy")?;
+    let (region, _stores) = log.finish(alloc).map_err(|failed| failed.2)?;
+    log_over(alloc, region, &none)
+}
+
+// A write of 3 pages from number 2 on is in the slots 2, 3 and 0.
+#[test]
+fn a_group_wraps_around_the_ring(rt: HostRuntime) -> Result<(), Fail> {
+    let alloc = rt.alloc();
+    let mut log = begun_later(alloc)?;
+    let mut bytes = [b'-'; 70];
+    bytes[3] = b'a';
+    bytes[4] = b'b';
+    bytes[67] = b'c';
+    bytes[68] = b'd';
+    assert_eq!(rt; log.write(0, 60, &bytes), Ok(70));
+    assert_eq!(rt; log.tail(), 2);
+    assert_eq!(rt; log.head(), 5);
+    assert_eq!(rt; log.read(alloc, 0, 60, 80)?.as_slice(), bytes.as_slice());
+    assert_eq!(rt; log.read(alloc, 0, 126, 9)?.as_slice(), b"-cd-".as_slice());
+    Ok(())
+}
+
 #[test]
 fn refusals_come_in_their_order(rt: HostRuntime) -> Result<(), Fail> {
     let alloc = rt.alloc();
     let none = Fuse::new(alloc, &[])?;
-    let mut log = opened(alloc, &none, &none)?;
+    let mut log = opened(alloc, 2, &none, &none)?;
     assert_eq!(rt; log.write(0, 256, b"x"), Err(WriteError::TooFar));
-    assert_eq!(rt; log.write(0, 63, b"xy"), Err(WriteError::TooLong));
+    assert_eq!(rt; log.write(0, 63, &[b'x'; 66]), Err(WriteError::TooLong));
     assert_eq!(rt; log.write(0, 255, b"x"), Ok(1));
+    assert_eq!(rt;
+        log.write(0, 63, b"xy"),
+        Err(WriteError::Again { head: 1, tail: 0 })
+    );
     assert_eq!(rt; log.write(0, 0, b"x"), Ok(1));
     assert_eq!(rt;
         log.write(0, 1, b"x"),
@@ -107,7 +158,7 @@ fn refusals_come_in_their_order(rt: HostRuntime) -> Result<(), Fail> {
 fn a_finish_leaves_the_bytes_in_the_stores(rt: HostRuntime) -> Result<(), Fail> {
     let alloc = rt.alloc();
     let none = Fuse::new(alloc, &[])?;
-    let mut log = opened(alloc, &none, &none)?;
+    let mut log = opened(alloc, 2, &none, &none)?;
     assert_eq!(rt; log.write(0, 2, b"hello"), Ok(5));
     let (region, mut stores) = log.finish(alloc).map_err(|failed| failed.2)?;
     assert_eq!(rt; region.next(), 1);
@@ -125,7 +176,7 @@ fn a_fault_stops_the_log(rt: HostRuntime) -> Result<(), Fail> {
     let alloc = rt.alloc();
     let none = Fuse::new(alloc, &[])?;
     let fuse = Fuse::new(alloc, &[])?;
-    let mut log = opened(alloc, &fuse, &none)?;
+    let mut log = opened(alloc, 2, &fuse, &none)?;
     fuse.arm(1);
     assert_eq!(rt; log.write(0, 0, b"x"), Err(WriteError::RegionFault));
     assert!(rt; log.is_stopped());
@@ -145,7 +196,7 @@ fn a_read_makes_one_call_of_a_store(rt: HostRuntime) -> Result<(), Fail> {
     let alloc = rt.alloc();
     let none = Fuse::new(alloc, &[])?;
     let fuse = Fuse::new(alloc, &[4])?;
-    let mut log = opened(alloc, &none, &fuse)?;
+    let mut log = opened(alloc, 2, &none, &fuse)?;
     assert_eq!(rt; log.read(alloc, 1, 0, 2)?.as_slice(), b"xy".as_slice());
     let failed = log.read(alloc, 1, 0, 2).err();
     assert_eq!(rt; failed, Some(ReadError::StoreFault));

@@ -9,10 +9,10 @@ ghost use Rattle.nv_pmem.specs.Room.{Keeps, Takes};
 ghost use Rattle.nv_pmem.specs.Moments.{Tells};
 ghost use Rattle.nv_pmem.specs.Rows.{DidRow, DidSomeRow, RowTells, EachRowMoment, InEachRowImage, on_part, row_words, AreQuiet};
 ghost use Rattle.nv_pmem.specs.Steps.{Did, DidSome, Flush, line_stores, durable_store};
-ghost use Rattle.nv_entry.specs.Group.{group_steps, pieces_steps, count_at, data_steps, field_steps, IsUncommitted, IsUncommittedOrWhole, IsWhole, StoresOnly, IsReady};
+ghost use Rattle.nv_entry.specs.Group.{group_steps, piece_steps, pieces_steps, count_at, data_steps, field_steps, IsUncommitted, IsUncommittedOrWhole, IsWhole, StoresOnly, IsReady};
 ghost use Rattle.nv_entry.specs.Ready.{WritesLines, FencesHead, StaysReady};
 
-use crate::{PieceHead, cut};
+use crate::{PieceHead, cut, piece_count};
 use nv_pmem::{Lines, RegionFault, store_durably};
 
 /// Writes the pieces of a write as the entries from number `first` on, and commits them as a group. `parts` are the
@@ -114,24 +114,49 @@ fn write_pieces<L: Lines>(
     ensures cause { HasCause (sum_by L.fault_count parts.old) (sum_by L.fault_count parts.new) result }
     ensures devices { map L.device parts.new ≡ map L.device parts.old }
 {
-    let entries = parts.len() as u64;
     for (i, part) in parts.iter_mut().enumerate() {
-        let span = cut(at, bytes.len() as u64, page, i as u64);
-        let head = PieceHead {
-            file,
-            at: span.at,
-            size: span.size,
-            count: group_count(entries, i),
-            leader: first,
-        };
-        let end = span.from + span.size;
-        write_entry(part, head, &bytes[span.from as usize..end as usize])?;
+        write_piece(part, page, first, file, at, bytes, i as u64)?;
     }
     Ok(())
 }
 
+/// Writes piece `i` of a write as an entry of the group from number `first` on, but for its commit word: its data and its
+/// fields, durable at `Ok`. Takes no memory.
+pub fn write_piece<L: Lines>(
+    part: &mut L,
+    page: u64,
+    first: u64,
+    file: u64,
+    at: u64,
+    bytes: &[u8],
+    i: u64,
+) -> Result<(), RegionFault>
+    requires page { IsPageSize page }
+    requires range { at + length bytes.now ≤ 2 ^ 60 }
+    requires piece { i < pages_touched at (length bytes.now) page }
+    requires ready { IsReady page (L.room part.old) }
+    ensures begun { DidSome (piece_steps page first file at bytes.now i) (L.history part.old) (L.history part.new) }
+    ensures done { OnOk result (Did (piece_steps page first file at bytes.now i) (L.history part.old) (L.history part.new)) }
+    ensures ready { OnOk result (IsReady page (L.room part.new)) }
+    ensures lines { (L.room part.new).lines ≡ (L.room part.old).lines }
+    ensures cause { HasCause (L.fault_count part.old) (L.fault_count part.new) result }
+    ensures device { L.device part.new ≡ L.device part.old }
+{
+    let len = bytes.len() as u64;
+    let span = cut(at, len, page, i);
+    let head = PieceHead {
+        file,
+        at: span.at,
+        size: span.size,
+        count: group_count(piece_count(at, len, page), i),
+        leader: first,
+    };
+    let end = span.from + span.size;
+    write_entry(part, head, &bytes[span.from as usize..end as usize])
+}
+
 // The number of entries that entry `i` of a group gives.
-fn group_count(entries: u64, i: usize) -> u64
+fn group_count(entries: u64, i: u64) -> u64
     ensures { result ≡ count_at entries i }
 {
     if i == 0 { entries } else { 0 }

@@ -9,7 +9,7 @@ use Rattle.nv_pmem.specs.Steps as lines
 use Rattle.nv_store.specs.Steps as stores
 use Rattle.nv_engine.specs.Holding.{Holds, written}
 use Rattle.nv_engine.specs.Laid.{Piece, with_piece}
-use Rattle.nv_engine.specs.Refusals.{write_refusal, write_pages, IsRefusedWrite}
+use Rattle.nv_engine.specs.Refusals.{write_refusal, most_pages, IsRefusedWrite}
 use Rattle.nv_engine.specs.declared.log.Log.{Log}
 use Rattle.nv_engine.specs.declared.error.WriteError.{WriteError}
 use Rattle.nv_trace.specs.declared.trace.Descriptor.{Descriptor}
@@ -19,7 +19,7 @@ use Rattle.nv_top.specs.Answers.{IsAnswer, sizes_of}
 use Rattle.nv_top.specs.Faithful.{barred_there, descriptor_at, is_allowed}
 
 -- a byte at least lies in a page at least
-pages_some : (at len page : ℕ) → 1 ≤ len → 1 ≤ pages_touched at len page
+pub pages_some : (at len page : ℕ) → 1 ≤ len → 1 ≤ pages_touched at len page
 pages_some at len page some =
     omega (arith, ap (λ test. cond test 0 ((at + len - 1) / page - at / page + 1)) (ne_eqb len 0 (λ none. omega (arith, some))))
 
@@ -40,20 +40,20 @@ none_where_ok None value refused = refl
 
 -- a write that was made
 pub write_answered : {L B : Type 0} (history : L → lines.History) (held : B → stores.History) (descriptors : List Descriptor) (old new : Log L B) (fd at : ℕ) (bytes : List ℕ) (count : ℕ)
-    → old.stopped ≡ false → is_allowed descriptors (Pwrite fd at bytes) ≡ true → 1 ≤ length bytes
-    → IsRefusedWrite (write_refusal write_pages old at (length bytes)) (Ok count) → new.stopped ≡ old.stopped → count ≡ length bytes → new.head ≡ old.head + 1
+    → old.stopped ≡ false → is_allowed descriptors (Pwrite fd at bytes) ≡ true
+    → IsRefusedWrite (write_refusal old at (length bytes)) (Ok count) → new.stopped ≡ old.stopped → count ≡ length bytes → new.head ≡ old.head + pages_touched at (length bytes) old.geometry.page
     → ((pieces : List Piece) (files : Files) → Holds history held old pieces files → Holds history held new (pieces ++ written (descriptor_at descriptors fd).file at bytes ∷ []) files)
     → IsAnswer history held descriptors (Pwrite fd at bytes) old new (Count count)
-write_answered history held descriptors old new fd at bytes count running allowed some refused still counted drew holds =
+write_answered history held descriptors old new fd at bytes count running allowed refused still counted drew holds =
     let page = old.geometry.page in
     let len = length bytes in
     let far = nat_lt (page * old.pages) (at + len) in
-    let long = nat_lt 1 (pages_touched at len page) in
-    let passes = passed far long _ _ _ (none_where_ok (write_refusal write_pages old at len) count refused) in
+    let long = nat_lt (most_pages old) (pages_touched at len page) in
+    let passes = passed far long _ _ _ (none_where_ok (write_refusal old at len) count refused) in
     record {
       running = still ∙ running;
       may = ap (λ allowed. if allowed then barred_there (sizes_of old) (Pwrite fd at bytes) else Some BadDescriptor) allowed ∙ not_barred far long TooFar TooLong passes.0 passes.1;
-      head = omega (arith, drew, ltb-false 1 (pages_touched at len page) passes.1, pages_some at len page some);
+      head = drew;
       answered = λ pieces files here. record {
         more = pieces ++ written (descriptor_at descriptors fd).file at bytes ∷ [];
         holds = holds pieces files here;

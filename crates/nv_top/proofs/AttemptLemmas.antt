@@ -11,8 +11,8 @@ use Rattle.nv_pmem.specs.declared.geometry.Geometry.{Geometry}
 use Rattle.nv_store.specs.Steps as stores
 use Rattle.nv_engine.specs.Holding.{Holds, HoldsOrOneMore}
 use Rattle.nv_engine.specs.Keeping.{IsLog, IsSameRegion}
-use Rattle.nv_engine.specs.Laid.{Piece, laid}
-use Rattle.nv_engine.specs.Refusals.{write_refusal, write_pages, IsRefusedWrite}
+use Rattle.nv_engine.specs.Laid.{Piece, all_entries, laid}
+use Rattle.nv_engine.specs.Refusals.{write_refusal, most_pages, IsRefusedWrite}
 use Rattle.nv_engine.specs.declared.error.WriteError.{WriteError}
 use Rattle.nv_engine.specs.declared.error.WriteError.TheVariants as write_error
 use Rattle.nv_engine.specs.declared.log.Log.{Log}
@@ -45,14 +45,14 @@ none_where_ok : {T : Type 0} (chain : Option WriteError) (value : T) → IsRefus
 none_where_ok (Some refusal) value refused = absurd cc
 none_where_ok None value refused = refl
 
-pub running_where_ok : {L B : Type 0} (old : Log L B) (at len count : ℕ) → IsRefusedWrite (write_refusal write_pages old at len) (Ok count) → old.stopped ≡ false
+pub running_where_ok : {L B : Type 0} (old : Log L B) (at len count : ℕ) → IsRefusedWrite (write_refusal old at len) (Ok count) → old.stopped ≡ false
 running_where_ok old at len count refused =
     let far = nat_lt (old.geometry.page * old.pages) (at + len) in
-    let long = nat_lt write_pages (pages_touched at len old.geometry.page) in
-    let rest = if nat_lt (2 ^ 60) (old.head + 1) then Some (write_error.Spent old.head)
-    else if nat_lt (old.tail + old.geometry.entries) (old.head + 1) then Some (write_error.Again old.head old.tail)
+    let long = nat_lt (most_pages old) (pages_touched at len old.geometry.page) in
+    let rest = if nat_lt (2 ^ 60) (old.head + pages_touched at len old.geometry.page) then Some (write_error.Spent old.head)
+    else if nat_lt (old.tail + old.geometry.entries) (old.head + pages_touched at len old.geometry.page) then Some (write_error.Again old.head old.tail)
     else None in
-    third_passes far long old.stopped write_error.TooFar write_error.TooLong write_error.Stopped rest (none_where_ok (write_refusal write_pages old at len) count refused)
+    third_passes far long old.stopped write_error.TooFar write_error.TooLong write_error.Stopped rest (none_where_ok (write_refusal old at len) count refused)
 
 -- what rose from a first count rose from it also later
 pub rose_on : (first before now : ℕ) → before ≤ now → Rose first before → Rose first now
@@ -75,14 +75,18 @@ module _ {L B : Type 0} (history : L → lines.History) (held : B → stores.His
   none_left log pieces next files (one ∷ two ∷ more) running here = absurd here
 
   -- what a log holds a refusal leaves
-  held_on : (old new : Log L B) (pieces : List Piece) (next : ℕ) (files : Files) (left : List outcome.Left) → new.head ≡ old.head → new.tail ≡ old.tail
+  held_on : (old new : Log L B) (pieces : List Piece) (next : ℕ) (files : Files) (left : List outcome.Left) → new.head ≡ old.head → new.tail ≡ old.tail → new.geometry ≡ old.geometry
       → (old.stopped ≡ true → new.stopped ≡ true) → (Holds history held old pieces files → Holds history held new pieces files)
       → ((more : Piece) → HoldsOrOneMore history held old pieces more files → HoldsOrOneMore history held new pieces more files)
       → IsHeld history held descriptors old pieces next files left → IsHeld history held descriptors new pieces next files left
-  held_on old new pieces next files [] head tail still holds or_more here = (holds here.0, here.1 ∙ sym head)
-  held_on old new pieces next files (one ∷ []) head tail still holds or_more here =
-      (or_more _ here.0, still here.1, here.2 ∙ ap (λ tail. tail + length pieces) (sym tail))
-  held_on old new pieces next files (one ∷ two ∷ more) head tail still holds or_more here = absurd here
+  held_on old new pieces next files [] head tail geometry still holds or_more here = (holds here.0, here.1 ∙ sym head)
+  held_on old new pieces next files (one ∷ []) head tail geometry still holds or_more here = (
+    or_more _ here.0,
+    still here.1,
+    here.2 ∙ ap (λ tail. tail + all_entries old.geometry.page pieces) (sym tail)
+        ∙ ap (λ (sizes : Geometry). new.tail + all_entries sizes.page pieces) (sym geometry),
+  )
+  held_on old new pieces next files (one ∷ two ∷ more) head tail geometry still holds or_more here = absurd here
 
   -- a run begins
   pub begins : (failed : Type 0) (basis : Basis) (log : Log L B) (outcome : Outcome) → log.stopped ≡ false → IsFirst history held basis log
@@ -221,7 +225,7 @@ module _ {L B : Type 0} (history : L → lines.History) (room : L → Room) (hel
     next = run.next;
     here =
         subst (IsHeld history held descriptors new run.pieces run.next basis.files) (sym lefts)
-        (held_on history held descriptors old new run.pieces run.next basis.files before.left.items turn.head same.tail still
+        (held_on history held descriptors old new run.pieces run.next basis.files before.left.items turn.head same.tail same.geometry still
         (turn.holds run.pieces basis.files) (λ more. turn.or_more run.pieces more basis.files) run.here);
     made =
         made_as run.next now (placed_calls before) (refused_calls before ++ record { call = call.now; refusal = refusal } ∷ []) (left_calls before)
@@ -244,8 +248,12 @@ module _ {L B : Type 0} (history : L → lines.History) (room : L → Room) (hel
         pieces = run.pieces;
         next = next;
         here =
-            subst (IsHeld history held descriptors new run.pieces next basis.files) (sym (pushed ∙ ap (λ left. left ++ one ∷ []) none.none))
-            (is.holds run.pieces basis.files none.holds, is.stopped, is.number_is ∙ none.holds.has.head ∙ ap (λ tail. tail + length run.pieces) (sym same.tail));
+            subst (IsHeld history held descriptors new run.pieces next basis.files) (sym (pushed ∙ ap (λ left. left ++ one ∷ []) none.none)) (
+              is.holds run.pieces basis.files none.holds,
+              is.stopped,
+              is.number_is ∙ none.holds.has.head ∙ ap (λ tail. tail + all_entries old.geometry.page run.pieces) (sym same.tail)
+                  ∙ ap (λ (sizes : Geometry). new.tail + all_entries sizes.page run.pieces) (sym same.geometry),
+            );
         made =
             made_as next now (placed_calls before) (refused_calls before) (left_calls before ++ call.now ∷ [])
             (ap (map placed_call) others) (ap (map refused_call) refusals) (ap (map left_call) pushed ∙ map_push left_call before.left.items one)

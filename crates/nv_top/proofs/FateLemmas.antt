@@ -1,12 +1,12 @@
 -- What a recovery makes of the write that was left open, and so of the files.
-use Rattle.std.proofs.Common.{◌≡◌, ℕ, ◌+◌, ◌≤◌, ◌==◌, ◌||◌, ◌++◌, [], ◌∷◌, zero, suc, Bool, true, false, if◌then◌else◌, All, List, map, length, refl, sym, ap, subst, ◌∙◌, inl, inr, arith, eq-eqb, ne_eqb, length-append}
-use Rattle.std.specs.List.{list_any, range_with_len}
+use Rattle.std.proofs.Common.{◌≡◌, ℕ, ◌+◌, ◌≤◌, ◌==◌, ◌||◌, ◌++◌, [], ◌∷◌, zero, suc, Bool, true, false, if◌then◌else◌, All, List, map, length, refl, sym, ap, subst, ◌∙◌, inl, inr, arith, eq-eqb, ne_eqb}
+use Rattle.std.specs.List.{list_any}
 use Rattle.std.proofs.lemmas.Bool.{le-ltb}
 use Rattle.std.proofs.lemmas.List.Sums.{fold_push}
 use Rattle.nv_plain.specs.Calls.{files_after}
 use Rattle.nv_plain.specs.Files.{Files}
 use Rattle.nv_plain.specs.Images.{Image}
-use Rattle.nv_plain.specs.Layouts.{Layout, version_1}
+use Rattle.nv_plain.specs.Layouts.{version_1}
 use Rattle.nv_pmem.specs.Part.{Part}
 use Rattle.nv_pmem.specs.RowStates.{AreNow, IsNow}
 use Rattle.nv_pmem.specs.Rows.{IsRowImage}
@@ -14,7 +14,7 @@ use Rattle.nv_pmem.specs.Steps as lines
 use Rattle.nv_store.specs.Steps as stores
 use Rattle.nv_recover.specs.Recovering.{HasFoundAll}
 use Rattle.nv_recover.specs.declared.recovering.Recovered as recover
-use Rattle.nv_engine.specs.Laid.{IsFitting, Piece, laid, with_piece}
+use Rattle.nv_engine.specs.Laid.{Piece, all_entries, entries_of, leaders_from, laid, with_piece}
 use Rattle.nv_engine.specs.Logged.{AreFitting, HasLog, LoggedImagesRecover, RecoversTo}
 use Rattle.nv_engine.specs.declared.log.Log.{Log}
 use Rattle.nv_trace.specs.declared.trace.Descriptor.{Descriptor}
@@ -27,24 +27,29 @@ use Rattle.nv_top.specs.Faithful.{IsWrite, after_fate, file_call}
 use Rattle.nv_top.specs.Fates.{fate_of, RecoversAsFated}
 use Rattle.nv_top.specs.Outcomes.{left_call}
 use Rattle.nv_top.specs.declared.outcome.Left as outcome
-use Rattle.nv_top.proofs.RunLemmas.{All-front}
+use Rattle.nv_top.proofs.AnswerLemmas.{pages_some}
 
--- ---- numbers in a row
+-- ---- numbers one after another
 
-none_from : (tail n number : ℕ) → tail + n ≤ number → list_any (λ leader. leader == number) (range_with_len tail n) ≡ false
-none_from tail zero number beyond = refl
-none_from tail (suc n) number beyond =
-    ap (λ is. is || list_any (λ leader. leader == number) (range_with_len (tail + 1) n)) (ne_eqb tail number (λ same. omega (arith, same, beyond)))
-    ∙ none_from (tail + 1) n number (omega (arith, beyond))
+-- each of some pieces has a byte
+abbrev HaveBytes : List Piece → Type 0
+HaveBytes pieces = All (λ piece. 1 ≤ length piece.bytes) pieces
+
+none_from : (page tail : ℕ) (pieces : List Piece) (number : ℕ) → HaveBytes pieces → tail + all_entries page pieces ≤ number → list_any (λ leader. leader == number) (leaders_from page tail pieces) ≡ false
+none_from page tail [] number some beyond = refl
+none_from page tail (piece ∷ pieces) number some beyond =
+    let takes = pages_some piece.at (length piece.bytes) page (some 0 piece (omega arith)) in
+    ap (λ is. is || list_any (λ leader. leader == number) (leaders_from page (tail + entries_of page piece) pieces)) (ne_eqb tail number (λ same. omega (arith, same, beyond, takes)))
+    ∙ none_from page (tail + entries_of page piece) pieces number (λ i none below. some (suc i) none (omega arith)) (omega (arith, beyond))
 
 or_true : (is : Bool) → (is || true) ≡ true
 or_true true = refl
 or_true false = refl
 
-last_is : (tail n number : ℕ) → number ≡ tail + n → list_any (λ leader. leader == number) (range_with_len tail (suc n)) ≡ true
-last_is tail zero number last = ap (λ is. is || false) (eq-eqb tail number (omega (arith, last)))
-last_is tail (suc n) number last =
-    ap (λ is. (tail == number) || is) (last_is (tail + 1) n number (omega (arith, last))) ∙ or_true (tail == number)
+last_is : (page tail : ℕ) (pieces : List Piece) (more : Piece) (number : ℕ) → number ≡ tail + all_entries page pieces → list_any (λ leader. leader == number) (leaders_from page tail (pieces ++ more ∷ [])) ≡ true
+last_is page tail [] more number last = ap (λ is. is || false) (eq-eqb tail number (omega (arith, last)))
+last_is page tail (piece ∷ pieces) more number last =
+    ap (λ is. (tail == number) || is) (last_is page (tail + entries_of page piece) pieces more number (omega (arith, last))) ∙ or_true (tail == number)
 
 fate_from : (first number : ℕ) (groups : List ℕ) (is : Bool) → first ≤ number → list_any (λ leader. leader == number) groups ≡ is → fate_of first groups number ≡ (if is then Kept else Lost)
 fate_from first number groups is from any =
@@ -52,11 +57,13 @@ fate_from first number groups is from any =
     ∙ ap (λ is. if is then Kept else Lost) any
 
 -- the first number past the groups of some pieces is lost, and the last number of them is kept
-past_is_lost : (tail n number : ℕ) → number ≡ tail + n → fate_of tail (range_with_len tail n) number ≡ Lost
-past_is_lost tail n number is = fate_from tail number (range_with_len tail n) false (omega (arith, is)) (none_from tail n number (omega (arith, is)))
+past_is_lost : (page tail : ℕ) (pieces : List Piece) (number : ℕ) → HaveBytes pieces → number ≡ tail + all_entries page pieces → fate_of tail (leaders_from page tail pieces) number ≡ Lost
+past_is_lost page tail pieces number some is =
+    fate_from tail number (leaders_from page tail pieces) false (omega (arith, is)) (none_from page tail pieces number some (omega (arith, is)))
 
-last_is_kept : (tail n number : ℕ) → number ≡ tail + n → fate_of tail (range_with_len tail (suc n)) number ≡ Kept
-last_is_kept tail n number is = fate_from tail number (range_with_len tail (suc n)) true (omega (arith, is)) (last_is tail n number is)
+last_is_kept : (page tail : ℕ) (pieces : List Piece) (more : Piece) (number : ℕ) → number ≡ tail + all_entries page pieces → fate_of tail (leaders_from page tail (pieces ++ more ∷ [])) number ≡ Kept
+last_is_kept page tail pieces more number is =
+    fate_from tail number (leaders_from page tail (pieces ++ more ∷ [])) true (omega (arith, is)) (last_is page tail pieces more number is)
 
 -- ---- rows have one state
 
@@ -79,14 +86,6 @@ one_state (history ∷ row) (x ∷ one) (y ∷ other) a b =
 
 -- ---- the files after it
 
-fitting_front : (layout : Layout) (page entries files tail : ℕ) (pieces : List Piece) (more : Piece) → AreFitting layout page entries files tail (pieces ++ more ∷ []) → AreFitting layout page entries files tail pieces
-fitting_front layout page entries files tail pieces more fitting = record {
-  groups = fitting.groups;
-  few = omega (arith, fitting.few, length-append pieces (more ∷ []));
-  small = omega (arith, fitting.small, length-append pieces (more ∷ []));
-  each = All-front (IsFitting layout page files) pieces (more ∷ []) fitting.each;
-}
-
 -- the piece of a write makes of files what the write makes of them
 as_written : (descriptors : List Descriptor) (call : TraceCall) (files : Files) → IsWrite call → with_piece files (piece_of descriptors call) ≡ files_after (file_call descriptors call) files
 as_written descriptors (Pread fd at len) files is = absurd is
@@ -96,12 +95,12 @@ as_written descriptors (Fsync fd) files is = absurd is
 module _ {L B : Type 0} (recover_so : LoggedImagesRecover) (history : L → lines.History) (held : B → stores.History) (descriptors : List Descriptor) (log : Log L B) (files : Files)
     (parts : List Part) (now : AreNow (map history log.parts.items) parts) (image : Image) (left_so : IsRowImage parts image) (found : recover.Recovered) (all : HasFoundAll image found) where
   recovered_to : (pieces : List Piece) → HasLog version_1 log.geometry.page log.geometry.entries log.names log.tail pieces image
-      → AreFitting version_1 log.geometry.page log.geometry.entries (length log.names) log.tail pieces → RecoversTo log.tail pieces files image
+      → AreFitting version_1 log.geometry.page log.geometry.entries (length log.names) log.tail pieces → RecoversTo log.geometry.page log.tail pieces files image
   recovered_to pieces logged fitting =
       recover_so version_1 log.geometry.page log.geometry.entries log.names log.tail pieces image files logged fitting
 
   -- the fate, by what was found
-  fate_at : (pieces : List Piece) (number : ℕ) (fate : Fate) → RecoversTo log.tail pieces files image → fate_of log.tail (range_with_len log.tail (length pieces)) number ≡ fate
+  fate_at : (pieces : List Piece) (number : ℕ) (fate : Fate) → RecoversTo log.geometry.page log.tail pieces files image → fate_of log.tail (leaders_from log.geometry.page log.tail pieces) number ≡ fate
       → fate_of found.first found.groups number ≡ fate
   fate_at pieces number fate recovers is =
       ap (λ first. fate_of first found.groups number) (all.first files ∙ recovers.first)
@@ -109,22 +108,19 @@ module _ {L B : Type 0} (recover_so : LoggedImagesRecover) (history : L → line
       ∙ is
 
   -- the log is as it was: the write is lost
-  as_lost : (pieces : List Piece) (one : outcome.Left) → one.number ≡ log.tail + length pieces → RecoversTo log.tail pieces files image
+  as_lost : (pieces : List Piece) (one : outcome.Left) → HaveBytes pieces → one.number ≡ log.tail + all_entries log.geometry.page pieces → RecoversTo log.geometry.page log.tail pieces files image
       → RecoversAsFated descriptors image files found (one ∷ []) (laid files pieces)
-  as_lost pieces one number_is recovers =
-      let fate = fate_at pieces one.number Lost recovers (past_is_lost log.tail (length pieces) one.number number_is) in
+  as_lost pieces one some number_is recovers =
+      let fate = fate_at pieces one.number Lost recovers (past_is_lost log.geometry.page log.tail pieces one.number some number_is) in
       recovers.files ∙ ap (after_fate (file_call descriptors one.call.now.call) (laid files pieces)) (sym fate)
 
   -- it has the piece more: the write is kept
-  as_kept : (pieces : List Piece) (one : outcome.Left) → IsWrite one.call.now.call → one.number ≡ log.tail + length pieces
-      → RecoversTo log.tail (pieces ++ piece_of descriptors one.call.now.call ∷ []) files image
+  as_kept : (pieces : List Piece) (one : outcome.Left) → IsWrite one.call.now.call → one.number ≡ log.tail + all_entries log.geometry.page pieces
+      → RecoversTo log.geometry.page log.tail (pieces ++ piece_of descriptors one.call.now.call ∷ []) files image
       → RecoversAsFated descriptors image files found (one ∷ []) (laid files pieces)
   as_kept pieces one is_write number_is recovers =
       let piece = piece_of descriptors one.call.now.call in
-      let long : length (pieces ++ piece ∷ []) ≡ suc (length pieces) = omega (arith, length-append pieces (piece ∷ [])) in
-      let fate =
-      fate_at (pieces ++ piece ∷ []) one.number Kept recovers
-      (ap (λ count. fate_of log.tail (range_with_len log.tail count) one.number) long ∙ last_is_kept log.tail (length pieces) one.number number_is) in
+      let fate = fate_at (pieces ++ piece ∷ []) one.number Kept recovers (last_is_kept log.geometry.page log.tail pieces piece one.number number_is) in
       recovers.files ∙ fold_push with_piece files pieces piece ∙ as_written descriptors one.call.now.call (laid files pieces) is_write
       ∙ ap (after_fate (file_call descriptors one.call.now.call) (laid files pieces)) (sym fate)
 
@@ -140,8 +136,8 @@ module _ {L B : Type 0} (recover_so : LoggedImagesRecover) (history : L → line
       let piece = piece_of descriptors one.call.now.call in
       elim (here.0.logs image image_of) [
         | inl logged ↦
-            as_lost pieces one here.2
-            (recovered_to pieces logged (fitting_front version_1 log.geometry.page log.geometry.entries (length log.names) log.tail pieces piece here.0.fitting))
+            let fitting = here.0.fitting_before in
+            as_lost pieces one (λ i none below. (fitting.each i none below).some) here.2 (recovered_to pieces logged fitting)
         | inr logged ↦ as_kept pieces one (writes 0 one.call.now (omega arith)) here.2 (recovered_to (pieces ++ piece ∷ []) logged here.0.fitting)
       ]
   recovers_as_fated pieces next (one ∷ two ∷ more) writes here = absurd here

@@ -6,7 +6,7 @@ use Rattle.nv_plain.specs.declared.call.Reply.{Reply}
 use Rattle.nv_pmem.specs.Steps as lines
 use Rattle.nv_store.specs.Steps as stores
 use Rattle.nv_engine.specs.Holding.{Holds, HoldsOrOneMore, written}
-use Rattle.nv_engine.specs.Laid.{Piece, laid}
+use Rattle.nv_engine.specs.Laid.{Piece, all_entries, laid}
 use Rattle.nv_engine.specs.declared.log.Log.{Log}
 use Rattle.nv_engine.specs.declared.error.ReadError.{ReadError}
 use Rattle.nv_engine.specs.declared.error.ReadError.TheVariants as read_error
@@ -113,7 +113,7 @@ abbrev pub IsHeld : {L B : Type 0} → (history : L → lines.History) → (held
 IsHeld history held descriptors log pieces next files [] = Holds history held log pieces files × (next ≡ log.head)
 IsHeld history held descriptors log pieces next files (one ∷ []) =
     HoldsOrOneMore history held log pieces (piece_of descriptors one.call.now.call) files
-    × (log.stopped ≡ true) × (one.number ≡ log.tail + length pieces)
+    × (log.stopped ≡ true) × (one.number ≡ log.tail + all_entries log.geometry.page pieces)
 IsHeld history held descriptors log pieces next files (one ∷ two ∷ more) = ⊥
 
 -- These calls were made, on a log that a device may have stopped: the log has some pieces over the files of the basis, and what they

@@ -86,10 +86,10 @@ barred_by sizes most at len =
     else if nat_lt most (pages_touched at len sizes.page) then Some TooLong
     else None
 
--- why a call is barred by where it reads or writes: a write has one piece, and a read touches no more pages than a group has entries
+-- why a call is barred by where it reads or writes: it ends too far, or touches more pages than a group may have entries, or than the log has
 abbrev pub barred_there : Sizes → TraceCall → Option Refusal
 barred_there sizes (Pread fd at len) = barred_by sizes (min version_1.group_limit sizes.entries) at len
-barred_there sizes (Pwrite fd at bytes) = barred_by sizes 1 at (length bytes)
+barred_there sizes (Pwrite fd at bytes) = barred_by sizes (min version_1.group_limit sizes.entries) at (length bytes)
 barred_there sizes (Fsync fd) = None
 
 -- a call's descriptor was opened in a mode that allows the call

@@ -58,7 +58,6 @@ abbrev pub IsShownOf : (stop : Option ℕ) → RunOptions → (old new : BenchSt
 IsShownOf None options old new holding trace text = HasRunOn options holding new.told trace text
 IsShownOf (Some k) options old new holding trace text = HasStopped (Rose old.faults new.faults) options holding new.told trace text
 
-
 -- what the report of a command shows of a bench that held this, and of the input that it had
 abbrev pub IsShown : Command → (input : Option (List ℕ)) → (old new : BenchState) → Holding → (text : List ℕ) → Type 0
 IsShown (Run options) input old new holding text =

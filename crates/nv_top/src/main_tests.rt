@@ -106,7 +106,13 @@ pub(super) fn lose_power(bench: &mut MemBench, pick: Pick) -> Result<(), NoMemor
 }
 
 // What a command over a new bench answers.
-fn expect<R>(rt: &R, words: &[&str], trace: &str, status: u8, output: &[u8]) -> Result<(), Fail>
+pub(super) fn expect<R>(
+    rt: &R,
+    words: &[&str],
+    trace: &str,
+    status: u8,
+    output: &[u8],
+) -> Result<(), Fail>
 where
     R: AllocGlobal + Abort + Threads + Wait + Sync,
 {
@@ -131,8 +137,8 @@ fn reports_of_runs(rt: HostRuntime) -> Result<(), Fail> {
         ("", &b"end 0 0 0\n"[..]),
         ("file a\nfd 0 a rw\n0 pwrite 0 0 09\n0 pread 0 60 9\n", full),
         (
-            "file a\nfd 0 a rw\n0 pwrite 0 4095 0909\n0 pwrite 0 63 0909\n0 pread 0 4096 1\n",
-            b"refused 0 pwrite 0 4095 2: too far\nrefused 0 pwrite 0 63 2: too long\nrefused 0 pread 0 4096 1: too far\nfile a 0 -\nend 0 3 0\n",
+            "file a\nfd 0 a rw\n0 pwrite 0 4095 0909\n0 pread 0 63 962\n0 pread 0 4096 1\n",
+            b"refused 0 pwrite 0 4095 2: too far\nrefused 0 pread 0 63 962: too long\nrefused 0 pread 0 4096 1: too far\nfile a 0 -\nend 0 3 0\n",
         ),
     ] {
         expect(&rt, RUN, trace, DONE, report)?;
@@ -167,6 +173,7 @@ fn sizes_of_files(rt: HostRuntime) -> Result<(), Fail> {
         text.starts_with(b"0 0 pwrite 0 63 2 = 2\nrefused 0 pwrite 0 128 1: too far\nfile a 65 00")
     );
     assert!(rt; text.ends_with(b"000909\nend 1 1 0\n"));
+    lose_power(&mut bench, Pick::Old)?;
     let trace = "file a\nfd 0 a rw\n0 pwrite 0 63 0808\n0 pread 0 8191 1\n0 pread 0 8192 1\n";
     let (status, text) = call(&rt, &mut bench, RUN, trace, &[], &[])?;
     assert_eq!(rt; status, DONE);
@@ -176,6 +183,19 @@ fn sizes_of_files(rt: HostRuntime) -> Result<(), Fail> {
         )
     );
     assert!(rt; text.ends_with(b"000808\nend 2 1 0\n"));
+    Ok(())
+}
+
+// Bytes 62 and 63 are the last ones of a page, and the next two lie behind it.
+#[test]
+fn write_of_two_pages(rt: HostRuntime) -> Result<(), Fail> {
+    let trace = "file a\nfd 0 a rw\n0 pwrite 0 62 01020304\n0 pread 0 60 9\n";
+    let mut bench = new_bench(rt.alloc(), &[])?;
+    let (status, text) = call(&rt, &mut bench, RUN, trace, &[], &[])?;
+    let calls = b"0 0 pwrite 0 62 4 = 4\n1 0 pread 0 60 9 = 000001020304\nfile a 66 ";
+    assert_eq!(rt; status, DONE);
+    assert!(rt; text.starts_with(calls));
+    assert!(rt; text.ends_with(b"0001020304\nend 2 0 0\n"));
     Ok(())
 }
 

@@ -1,99 +1,101 @@
--- The part of the slot is lent by itself, and the others stay as they were.
-use Rattle.std.proofs.Common.{◌≡◌, ◌+◌, ◌-◌, ◌%◌, ◌<◌, ◌≤◌, List, [], ◌∷◌, All, length, get_or, map, sum_by, refl, sym, ap, ◌∙◌, subst, arith}
-use Rattle.std.specs.Prelude.{OnOk}
-use Rattle.std.proofs.lemmas.List.Elements.{All-head, All-same, All-cons, All-nil}
-use Rattle.std.proofs.lemmas.Result.{on_ok_weaker}
-use Rattle.nv_plain.specs.Faults.{HasCause}
-use Rattle.nv_plain.specs.Layouts.{version_1}
-use Rattle.nv_pmem.specs.Limits.{entry_lines}
+-- The entries, and then the commit word in the part of the leader's slot.
+use Rattle.std.proofs.Common.{◌+◌, ◌%◌, ◌<◌, List, length, get_or, map, set, refl, sym, subst, ◌∙◌, arith}
 use Rattle.nv_pmem.specs.Rows.{RowStep, on_part, DidRow, DidSomeRow}
-use Rattle.nv_pmem.proofs.OneOfRow.{same_in_row}
-use Rattle.nv_pmem.proofs.StepLaws.{tells_told}
-use Rattle.nv_header.specs.Regions.{HasParts}
-use Rattle.nv_entry.specs.Group.{IsReady, group_steps}
-use Rattle.nv_engine.specs.Changing.{ChangesOne, Commits}
-use Rattle.nv_engine.specs.Holding.{written}
-use Rattle.nv_engine.proofs.Commits.{OneGroup, lent_one, lent_back, cause_of_one, cause_of_lone, told_both, commits, changes_one, group_is_write, did_some_at, did_at}
-use Rattle.nv_engine.specs.Written.{write_steps}
+use Rattle.nv_pmem.specs.Steps.{durable_store}
+use Rattle.nv_pmem.proofs.OneOfRow.{did_in_row, did_some_in_row, same_in_row}
+use Rattle.nv_pmem.proofs.StepLaws.{did_did, did_did_some, did_some_front}
+use Rattle.nv_entry.proofs.Rooms.{ready_settled}
+use Rattle.nv_plain.specs.Pieces.{pages_touched}
+use Rattle.nv_engine.specs.Written.{entry_steps}
+use Rattle.nv_engine.proofs.EntrySteps.{write_is}
 use Rattle.nv_engine.proofs.Slots.{parts_count, slot_ready, parts_ready}
 use Rattle.nv_engine.proofs.writing.commit.Goals as goal
 
-pub write_group-requires-clause-ready : goal.write_group-requires-clause-ready
-write_group-requires-clause-ready g c = λ k d.
-    let Ready = λ (part : g.row.L.Denot). IsReady c.args.geometry.page (g.L.Lines.room part) in
-    let entries = c.args.geometry.entries in
-    let i = c.args.number % entries in
-    let below : i < entries = omega (arith, c.args.geometry.entries_in_limits.least) in
-    let count = parts_count g.L.Lines.room c.args.geometry.page entries c.args.parts.now c.requires.parts in
-    let lent = lent_one c.args.parts.now (1 + i) (1 + i + 1 - (1 + i)) d (omega arith) (omega (arith, count)) in
-    let ready = slot_ready g.L.Lines.room c.args.geometry.page entries c.args.parts.now c.requires.parts i d below in
-    All-same Ready _ _ lent (All-cons Ready (get_or c.args.parts.now (1 + i) d) [] ready (All-nil Ready)) k d
+pub returns-in_err-write_pieces-clause-begun : goal.returns-in_err-write_pieces-clause-begun
+returns-in_err-write_pieces-clause-begun g c =
+    let Done : List RowStep → Type 0 = λ steps. DidSomeRow steps (map g.L.Lines.history c.args.parts.now) (map g.L.Lines.history c.write_pieces.new.parts) in
+    subst Done (sym (write_is c.args.geometry.page c.args.geometry.entries c.args.number c.args.file c.args.at c.args.bytes.now))
+    (did_some_front {first = entry_steps c.args.geometry.page c.args.geometry.entries c.args.number c.args.file c.args.at c.args.bytes.now (pages_touched c.args.at (length c.args.bytes.now) c.args.geometry.page)}
+    (on_part (1 + c.args.number % c.args.geometry.entries) (durable_store 0 0 (c.args.number + 1))) c.write_pieces.ensures.begun)
 
-pub returns : goal.returns
-returns g c =
+pub store_durably-requires-clause-line : goal.store_durably-requires-clause-line
+store_durably-requires-clause-line g c =
+    let below : c.args.number % c.args.geometry.entries < c.args.geometry.entries = omega (arith, c.args.geometry.entries_in_limits.least) in
+    let ready = slot_ready g.L.Lines.room c.args.geometry.page c.args.geometry.entries c.write_pieces.new.parts c.in_ok-write_pieces.ensures.parts
+    (c.args.number % c.args.geometry.entries) c.index-parts-slot.result below in
+    omega (arith, ready.lines)
+
+pub store_durably-requires-clause-spare : goal.store_durably-requires-clause-spare
+store_durably-requires-clause-spare g c =
+    let below : c.args.number % c.args.geometry.entries < c.args.geometry.entries = omega (arith, c.args.geometry.entries_in_limits.least) in
+    let ready = slot_ready g.L.Lines.room c.args.geometry.page c.args.geometry.entries c.write_pieces.new.parts c.in_ok-write_pieces.ensures.parts
+    (c.args.number % c.args.geometry.entries) c.index-parts-slot.result below in
+    omega (arith, ready.spare 0 (omega arith))
+
+pub returns-in_err-store_durably-clause-begun : goal.returns-in_err-store_durably-clause-begun
+returns-in_err-store_durably-clause-begun g c =
+    let entries = c.args.geometry.entries in
+    let parts = c.write_pieces.new.parts in
+    let slot = 1 + c.args.number % entries in
+    let item = c.index-parts-slot.result in
+    let inside : slot < length parts =
+    omega (arith, c.args.geometry.entries_in_limits.least, parts_count g.L.Lines.room c.args.geometry.page entries parts c.in_ok-write_pieces.ensures.parts) in
+    let Done : List RowStep → Type 0 = λ steps. DidSomeRow steps (map g.L.Lines.history c.args.parts.now) (map g.L.Lines.history (set parts slot c.store_durably.new.part)) in
+    subst Done (sym (write_is c.args.geometry.page entries c.args.number c.args.file c.args.at c.args.bytes.now))
+    (did_did_some c.in_ok-write_pieces.ensures.done
+    (did_some_in_row g.L.Lines.history parts slot (get_or parts slot item) c.store_durably.new.part item inside refl c.store_durably.ensures.begun))
+
+pub returns-in_err-store_durably-clause-devices : goal.returns-in_err-store_durably-clause-devices
+returns-in_err-store_durably-clause-devices g c =
+    let parts = c.write_pieces.new.parts in
+    let slot = 1 + c.args.number % c.args.geometry.entries in
+    let item = c.index-parts-slot.result in
+    same_in_row g.L.Lines.device parts slot (get_or parts slot item) c.store_durably.new.part item refl c.store_durably.ensures.device
+    ∙ c.write_pieces.ensures.devices
+
+pub returns-clause-begun : goal.returns-clause-begun
+returns-clause-begun g c =
+    let entries = c.args.geometry.entries in
+    let parts = c.write_pieces.new.parts in
+    let slot = 1 + c.args.number % entries in
+    let item = c.index-parts-slot.result in
+    let inside : slot < length parts =
+    omega (arith, c.args.geometry.entries_in_limits.least, parts_count g.L.Lines.room c.args.geometry.page entries parts c.in_ok-write_pieces.ensures.parts) in
+    let Done : List RowStep → Type 0 = λ steps. DidSomeRow steps (map g.L.Lines.history c.args.parts.now) (map g.L.Lines.history (set parts slot c.store_durably.new.part)) in
+    subst Done (sym (write_is c.args.geometry.page entries c.args.number c.args.file c.args.at c.args.bytes.now))
+    (did_did_some c.in_ok-write_pieces.ensures.done
+    (did_some_in_row g.L.Lines.history parts slot (get_or parts slot item) c.store_durably.new.part item inside refl c.store_durably.ensures.begun))
+
+pub returns-clause-done : goal.returns-clause-done
+returns-clause-done g c =
+    let entries = c.args.geometry.entries in
+    let parts = c.write_pieces.new.parts in
+    let slot = 1 + c.args.number % entries in
+    let item = c.index-parts-slot.result in
+    let inside : slot < length parts =
+    omega (arith, c.args.geometry.entries_in_limits.least, parts_count g.L.Lines.room c.args.geometry.page entries parts c.in_ok-write_pieces.ensures.parts) in
+    let Done : List RowStep → Type 0 = λ steps. DidRow steps (map g.L.Lines.history c.args.parts.now) (map g.L.Lines.history (set parts slot c.store_durably.new.part)) in
+    subst Done (sym (write_is c.args.geometry.page entries c.args.number c.args.file c.args.at c.args.bytes.now))
+    (did_did c.in_ok-write_pieces.ensures.done
+    (did_in_row g.L.Lines.history parts slot (get_or parts slot item) c.store_durably.new.part item inside refl c.in_ok-store_durably.ensures.done))
+
+pub returns-clause-parts : goal.returns-clause-parts
+returns-clause-parts g c =
     let page = c.args.geometry.page in
     let entries = c.args.geometry.entries in
-    let parts = c.args.parts.now in
-    let bytes = c.args.bytes.now in
-    let number = c.args.number in
-    let i = number % entries in
-    let slot = 1 + i in
-    let below : i < entries = omega (arith, c.args.geometry.entries_in_limits.least) in
-    let inside : slot < length parts = omega (arith, parts_count g.L.Lines.room page entries parts c.requires.parts) in
-    let single : slot + 1 - slot ≡ 1 = omega arith in
-    let lent = lent_back parts c.write_group.new.parts slot (slot + 1 - slot) single inside c.write_group.auto.parts in
-    let was = get_or parts slot lent.new in
-    let result = c.write_group.result in
-    let steps = group_steps page number c.args.file c.args.at bytes in
-    let Row : List g.row.L.Denot → Type 0 = λ these. DidSomeRow steps (map g.L.Lines.history these) (map g.L.Lines.history c.write_group.new.parts) in
-    let NewRow : List g.row.L.Denot → Type 0 = λ these. DidSomeRow steps (g.L.Lines.history was ∷ []) (map g.L.Lines.history these) in
-    let some = subst NewRow lent.back_is (subst Row lent.lent c.write_group.ensures.begun) in
-    let Done : List g.row.L.Denot → Type 0 = λ these. OnOk result (DidRow steps (map g.L.Lines.history these) (map g.L.Lines.history c.write_group.new.parts)) in
-    let NewDone : List g.row.L.Denot → Type 0 = λ these. OnOk result (DidRow steps (g.L.Lines.history was ∷ []) (map g.L.Lines.history these)) in
-    let all = subst NewDone lent.back_is (subst Done lent.lent c.write_group.ensures.done) in
-    let ready = slot_ready g.L.Lines.room page entries parts c.requires.parts i lent.new below in
-    let lines = tells_told (g.L.Lines.history was) (λ now. entry_lines page ≤ length now) (λ now past is. omega (arith, ready.lines, g.met.L.Lines.told_lines was now past is)) in
-    let group : OneGroup page c.args.at bytes = record {
-      atomic = c.groups_follow_steps.ensures.atomic;
-      only = c.groups_follow_steps.ensures.only;
-      whole = c.groups_follow_steps.ensures.whole;
-      quiet = c.groups_follow_steps.ensures.quiet;
-      is_page = c.args.geometry.page_in_limits;
-      are = λ k. omega (arith, c.type_inv.bytes k);
-      one = c.requires.one_page;
-    } in
-    let change = commits page number c.args.file c.args.at bytes group result (g.L.Lines.history was) (g.L.Lines.history lent.new) lines some all in
-    let Changes : List g.row.L.Denot → Type 0 = λ these. ChangesOne slot (Commits result page number (written c.args.file c.args.at bytes)) (map g.L.Lines.history parts) (map g.L.Lines.history these) in
-    let Ready = λ (part : g.row.L.Denot). IsReady page (g.L.Lines.room part) in
-    let Has : List g.row.L.Denot → Type 0 = λ these. HasParts version_1 page entries (map g.L.Lines.room these) in
-    let Cause : List g.row.L.Denot → Type 0 = λ these. HasCause (sum_by g.L.Lines.fault_count parts) (sum_by g.L.Lines.fault_count these) result in
-    let Slice : List g.row.L.Denot → Type 0 = λ these. HasCause (sum_by g.L.Lines.fault_count these) (sum_by g.L.Lines.fault_count c.write_group.new.parts) result in
-    let NewSlice : List g.row.L.Denot → Type 0 = λ these. HasCause (sum_by g.L.Lines.fault_count (was ∷ [])) (sum_by g.L.Lines.fault_count these) result in
-    let cause = subst NewSlice lent.back_is (subst Slice lent.lent c.write_group.ensures.cause) in
-    let written_is = group_is_write page number c.args.file c.args.at bytes c.requires.one_page in
-    let Some : List RowStep → Type 0 = λ these. DidSomeRow these (g.L.Lines.history was ∷ []) (g.L.Lines.history lent.new ∷ []) in
-    let All_of : List RowStep → Type 0 = λ these. OnOk result (DidRow these (g.L.Lines.history was ∷ []) (g.L.Lines.history lent.new ∷ [])) in
-    let own = write_steps page number c.args.file c.args.at bytes in
-    let Begun : List g.row.L.Denot → Type 0 = λ these. DidSomeRow (on_part slot own) (map g.L.Lines.history parts) (map g.L.Lines.history these) in
-    let Finished : List g.row.L.Denot → Type 0 = λ these. OnOk result (DidRow (on_part slot own) (map g.L.Lines.history parts) (map g.L.Lines.history these)) in
-    record {
-      begun = subst Begun (sym lent.whole) (did_some_at g.L.Lines.history parts slot lent.new lent.new own inside (subst Some written_is some));
-      done =
-          subst Finished (sym lent.whole)
-          (on_ok_weaker result (did_at g.L.Lines.history parts slot lent.new lent.new own inside) (subst All_of written_is all));
-      changes =
-          subst Changes (sym lent.whole)
-          (changes_one g.L.Lines.history parts slot lent.new lent.new (Commits result page number (written c.args.file c.args.at bytes)) inside
-          (told_both (g.L.Lines.history was) (g.L.Lines.history lent.new) some) change);
-      parts =
-          on_ok_weaker result
-          (λ (each : All Ready c.write_group.new.parts).
-          subst Has (sym lent.whole)
-          (parts_ready g.L.Lines.room page entries parts c.requires.parts i lent.new below (All-head Ready lent.new [] (All-same Ready (lent.new ∷ []) _ (sym lent.back_is) each))))
-          c.write_group.ensures.ready;
-      cause = subst Cause (sym lent.whole) (cause_of_one g.L.Lines.fault_count parts slot lent.new lent.new result inside (cause_of_lone g.L.Lines.fault_count was lent.new result cause));
-      devices =
-          ap (map g.L.Lines.device) lent.whole
-          ∙ same_in_row g.L.Lines.device parts slot was lent.new lent.new refl
-          (ap (λ (xs : List _). get_or xs 0 0) (sym (ap (map g.L.Lines.device) lent.back_is) ∙ c.write_group.ensures.devices ∙ ap (map g.L.Lines.device) lent.lent));
-    }
+    let parts = c.write_pieces.new.parts in
+    let place = c.args.number % entries in
+    let item = c.index-parts-slot.result in
+    let new = c.store_durably.new.part in
+    let below : place < entries = omega (arith, c.args.geometry.entries_in_limits.least) in
+    let ready = slot_ready g.L.Lines.room page entries parts c.in_ok-write_pieces.ensures.parts place item below in
+    parts_ready g.L.Lines.room page entries parts c.in_ok-write_pieces.ensures.parts place new below
+    (ready_settled page 0 (g.L.Lines.room (get_or parts (1 + place) item)) (g.L.Lines.room new) c.store_durably.ensures.room.lines c.in_ok-store_durably.ensures.settled ready)
+
+pub returns-clause-devices : goal.returns-clause-devices
+returns-clause-devices g c =
+    let parts = c.write_pieces.new.parts in
+    let slot = 1 + c.args.number % c.args.geometry.entries in
+    let item = c.index-parts-slot.result in
+    same_in_row g.L.Lines.device parts slot (get_or parts slot item) c.store_durably.new.part item refl c.store_durably.ensures.device
+    ∙ c.write_pieces.ensures.devices

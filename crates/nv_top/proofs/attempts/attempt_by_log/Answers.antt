@@ -3,7 +3,6 @@ use Rattle.nv_plain.specs.declared.call.Reply.TheVariants.{Count}
 use Rattle.nv_trace.specs.declared.trace.TraceCall.{TraceCall}
 use Rattle.nv_trace.specs.declared.trace.TraceCall.TheVariants.{Pwrite}
 use Rattle.nv_top.specs.Answers.{IsAnswer}
-use Rattle.nv_top.specs.Early.{IsBusy}
 use Rattle.nv_top.specs.Faithful.{is_allowed}
 use Rattle.nv_top.proofs.AnswerLemmas.{write_answered}
 use Rattle.nv_top.proofs.AttemptLemmas.{running_where_ok}
@@ -20,7 +19,6 @@ returns-in-Ok-write-clause-says g c =
     let written = c.as_slice.result.now in
     let wrote = c.in-Ok-write.ensures in
     let count = c.in-Ok-write.count in
-    let some = subst IsBusy c.in-Pwrite.is c.requires.busy in
     let Allowed : TraceCall → Type 0 = λ call. is_allowed descriptors call ≡ true in
     let allowed = subst Allowed c.in-Pwrite.is c.requires.allowed in
     let Answers : TraceCall → Type 0 = λ call. IsAnswer g.L.Lines.history g.B.Backing.history descriptors call old new (Count count) in
@@ -30,6 +28,5 @@ returns-in-Ok-write-clause-says g c =
       subst Answers (sym c.in-Pwrite.is)
           (subst Of c.as_slice.ensures
           (write_answered g.L.Lines.history g.B.Backing.history descriptors old new fd at written count running (subst (λ (bytes : List ℕ). Allowed (Pwrite fd at bytes)) (sym c.as_slice.ensures) allowed)
-          (omega (arith, some, ap (λ (bytes : List ℕ). length bytes) c.as_slice.ensures))
           wrote.refused wrote.stopped wrote.count wrote.head wrote.holds)),
     )

@@ -3,7 +3,6 @@ use Rattle.nv_plain.specs.declared.call.Reply.TheVariants.{Count}
 use Rattle.nv_trace.specs.declared.trace.TraceCall.{TraceCall}
 use Rattle.nv_trace.specs.declared.trace.TraceCall.TheVariants.{Pwrite}
 use Rattle.nv_top.specs.Answers.{IsAnswer}
-use Rattle.nv_top.specs.Early.{IsBusy}
 use Rattle.nv_top.specs.Faithful.{is_allowed}
 use Rattle.nv_top.proofs.AnswerLemmas.{write_answered}
 use Rattle.nv_top.proofs.calls.answer_by_log.Goals as goal
@@ -18,7 +17,6 @@ returns-in_ok-count-in-Pwrite-clause-says g c =
     let bytes = c.in-Pwrite.bytes in
     let written = c.as_slice.result.now in
     let wrote = c.in_ok-count-in-Pwrite.ensures in
-    let some = subst IsBusy c.in-Pwrite.is c.requires.busy in
     let Allowed : TraceCall → Type 0 = λ call. is_allowed descriptors call ≡ true in
     let allowed = subst Allowed c.in-Pwrite.is c.requires.allowed in
     let Answers : TraceCall → Type 0 = λ call. IsAnswer g.L.Lines.history g.B.Backing.history descriptors call old new (Count c.in_ok-count-in-Pwrite.count) in
@@ -26,5 +24,4 @@ returns-in_ok-count-in-Pwrite-clause-says g c =
     subst Answers (sym c.in-Pwrite.is)
     (subst Of c.as_slice.ensures
     (write_answered g.L.Lines.history g.B.Backing.history descriptors old new fd at written c.in_ok-count-in-Pwrite.count c.requires.running (subst (λ (bytes : List ℕ). Allowed (Pwrite fd at bytes)) (sym c.as_slice.ensures) allowed)
-    (omega (arith, some, ap (λ (bytes : List ℕ). length bytes) c.as_slice.ensures))
     wrote.refused wrote.stopped wrote.count wrote.head wrote.holds))

@@ -5,9 +5,10 @@ use Rattle.nv_plain.specs.Files.{Files, contents_of}
 use Rattle.nv_pmem.specs.Rows.{AreOnlyRead, row_words}
 use Rattle.nv_pmem.specs.RowStates.{AreNow}
 use Rattle.nv_recover.specs.Standing.{files_of}
-use Rattle.nv_engine.specs.Laid.{laid}
+use Rattle.nv_engine.specs.Laid.{laid, cuts_of}
 use Rattle.nv_engine.specs.Overlaid.{overlaid}
 use Rattle.nv_engine.specs.Windows.{window_of, HoldInOrder}
+use Rattle.nv_engine.proofs.Cuts.{cuts_overlaid}
 use Rattle.nv_engine.proofs.Lengths.{count_laid, files_count}
 use Rattle.nv_engine.proofs.Overlays.{files_overlaid}
 use Rattle.nv_engine.proofs.ReadLogs.{reads_none, still_log, hold_in_order}
@@ -45,17 +46,19 @@ returns-in-Ok-clause-bytes g c = λ pieces files holds.
     let count = c.saturating_sub.result in
     let window = c.fill.new.window in
     let whole = contents_of (laid files pieces) file in
+    let cuts = cuts_of log.geometry.page pieces in
     let Parts = λ (these : List g.row.L.Denot). AreNow (map g.L.Lines.history these) holds.parts in
     let Stores = λ (these : List g.row.B.Denot). AreNow (map g.B.Backing.history these) holds.stores in
-    let Held : ℕ → Type 0 = λ page. HoldInOrder log.geometry.entries log.tail log.head page pieces (row_words holds.parts) in
+    let Held : ℕ → Type 0 = λ page. HoldInOrder log.geometry.entries log.tail log.head page cuts (row_words holds.parts) in
     let page_is : length c.deref_mut-3.result.now ≡ log.geometry.page = ap length c.deref_mut-3.ensures.value ∙ c.requires.log.page_room in
     let known : file < length files.contents =
     omega (arith, c.requires.file, c.requires.log.store_each, files_count g.B.Backing.history log.stores.items holds.stores files holds.stores_are holds.files_are) in
-    let filled = c.in-Ok.ensures.window holds.parts holds.stores pieces
+    let filled = c.in-Ok.ensures.window holds.parts holds.stores cuts
     (subst Parts (sym c.deref_mut.ensures.value) holds.parts_are) (subst Stores (sym c.deref_mut-2.ensures.value) holds.stores_are)
     (subst Held (sym page_is) (hold_in_order log pieces holds.parts holds.has)) in
-    let laid_is : overlaid file (contents_of (files_of holds.stores) file) pieces ≡ whole =
-    ap (λ (these : Files). overlaid file (contents_of these file) pieces) holds.files_are
+    let laid_is : overlaid file (contents_of (files_of holds.stores) file) cuts ≡ whole =
+    ap (λ (these : Files). overlaid file (contents_of these file) cuts) holds.files_are
+    ∙ cuts_overlaid log.geometry.page file (contents_of files file) pieces (omega (arith, log.geometry.page_in_limits.least))
     ∙ sym (files_overlaid files pieces file (λ i none below.
     omega (arith, (holds.has.fitting.each i none below).known, c.requires.log.store_each, files_count g.B.Backing.history log.stores.items holds.stores files holds.stores_are holds.files_are))) in
     let there : file < length (laid files pieces).contents = omega (arith, known, count_laid files pieces) in
