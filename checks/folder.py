@@ -1,11 +1,18 @@
 #!/usr/bin/env python3
-"""Runs nv_run over folders of a real disk, as its users do: what one run leaves the next one finds, also where a run is killed.
+"""Runs nv_run over folders of a real disk, as its users do: what one run leaves the next one finds, also where a run is killed
+and where the disk, or something in the folder, is in its way.
 
-A run that is killed at any moment must leave, after a recovery, a front of its writes, each whole: with the process gone the
-files hold all that was written, so a write that was answered may not be missing. Closes with 'N passed, M failed', and fails
-where one fails.
+What stands in the way must end a run in `error device` or in a region that is refused, by no crash and in time; and what was
+answered before must be there once it is gone. A run that is killed at any moment must leave, after a recovery, a front of its
+writes, each whole: with the process gone the files hold all that was written, so a write that was answered may not be missing.
+Closes with 'N passed, M failed', and fails where one fails.
+
+    folder.py PROGRAM                     all of this; what needs a user of more rights is named and left out
+    folder.py PROGRAM --killed WRITES     killed runs of so many writes alone, and what they left
 """
 
+import contextlib
+import fcntl
 import os
 import random
 import subprocess
@@ -16,16 +23,25 @@ import time
 HELLO = b"file a\nfd 0 a rw\n0 pwrite 0 0 68656c6c6f\n0 pread 0 0 16\n"
 REPORT = b"0 0 pwrite 0 0 5 = 5\n1 0 pread 0 0 16 = 68656c6c6f\nfile a 5 68656c6c6f\nend 2 0 0\n"
 AGAIN = b"file a\nfd 0 a rw\n0 pread 0 0 5\n"
+ONLY_READ = b"file a\nfd 0 a r\n0 pread 0 0 5\n"
 READ = b"0 0 pread 0 0 5 = 68656c6c6f\nfile a 5 68656c6c6f\nend 1 0 0\n"
 USAGE = (b"error usage\n", 1)
 DEVICE = (b"error device\n", 5)
+KEPT = (b"recovered 1 1 0\nfile a 5 68656c6c6f\n", 0)
+# Killed, or without room, before its region was formatted, a run leaves one with no magic or no parts.
+NOT_YET = (b"error region bad magic", b"error region truncated ")
 RUN = ["run", "--noworker"]
 WRITES = 16
 MOMENTS = 50
+PAGE = 4096
+NOBODY = 65534
 
 
-def call(program, words, given=b""):
-    done = subprocess.run([program, *words], input=given, stdout=subprocess.PIPE, timeout=60)
+def call(program, words, given=b"", **how):
+    try:
+        done = subprocess.run([program, *words], input=given, stdout=subprocess.PIPE, timeout=60, **how)
+    except subprocess.TimeoutExpired:
+        return b"", "no end in 60 seconds"
     return done.stdout, done.returncode
 
 
@@ -33,7 +49,8 @@ def lives(program, folder):
     """One folder, opened again and again."""
     yield "hello", call(program, [folder, *RUN], HELLO), (REPORT, 0)
     yield "the file is there", call(program, [folder, *RUN], AGAIN), (READ, 0)
-    yield "a recovery", call(program, [folder, "recover"]), (b"recovered 1 1 0\nfile a 5 68656c6c6f\n", 0)
+    yield "a descriptor that only reads", call(program, [folder, *RUN], ONLY_READ), (READ, 0)
+    yield "a recovery", call(program, [folder, "recover"]), KEPT
 
 
 def refusals(program, folder):
@@ -46,43 +63,224 @@ def refusals(program, folder):
     yield "a part that is a folder", call(program, [folder, *RUN], HELLO), DEVICE
 
 
-def is_front(text):
-    """The file that a recovery shows holds the first so many of the bytes 1, 2, 3 and so on."""
+@contextlib.contextmanager
+def replaced(path, make):
+    """What has this path is away in here, and what `make` makes stands in its place."""
+    os.rename(path, path + ".away")
+    make(path)
+    yield
+    os.unlink(path)
+    os.rename(path + ".away", path)
+
+
+def nowhere(path):
+    os.symlink("nowhere", path)
+
+
+@contextlib.contextmanager
+def resized(path, size):
+    """The file is cut or made longer in here, and as it was thereafter."""
+    with open(path, "rb") as file:
+        was = file.read()
+    os.truncate(path, size)
+    yield
+    with open(path, "wb") as file:
+        file.write(was)
+
+
+@contextlib.contextmanager
+def locked(path):
+    """Another program has this folder locked in here."""
+    held = os.open(path, os.O_RDONLY)
+    fcntl.flock(held, fcntl.LOCK_EX)
+    yield
+    os.close(held)
+
+
+@contextlib.contextmanager
+def no_rights(path):
+    os.chmod(path, 0)
+    yield
+    os.chmod(path, 0o600)
+
+
+def obstacles(program, folder):
+    """Something in the folder that is in the way of a file that was written, and is taken away again."""
+    header, part, file = folder + "/region/part-0", folder + "/region/part-1", folder + "/files/a"
+    yield "hello", call(program, [folder, *RUN], HELLO), (REPORT, 0)
+    for name, obstacle, wanted in (
+        ("a header that is a link to nowhere", replaced(header, nowhere), DEVICE),
+        ("a file that is a link to nowhere", replaced(file, nowhere), DEVICE),
+        ("a header that is a pipe", replaced(header, os.mkfifo), DEVICE),
+        ("a file that is a pipe", replaced(file, os.mkfifo), DEVICE),
+        ("a region that another has", locked(folder + "/region"), DEVICE),
+        ("a header of 17 lines and a part of one", resized(header, 1151), (b"error region truncated 17 18\n", 7)),
+        ("a part of one line and a part of one", resized(part, 125), (b"error region truncated 49 50\n", 7)),
+    ):
+        with obstacle:
+            yield f"{name}, a run", call(program, [folder, *RUN], HELLO), wanted
+            yield f"{name}, a recovery", call(program, [folder, "recover"]), wanted
+        yield f"{name}, taken away", call(program, [folder, "recover"]), KEPT
+    for name, path, size in ("header", header, 1159), ("part", part, 135):
+        with resized(path, size):
+            yield f"a {name} with bytes behind its last line", call(program, [folder, "recover"]), KEPT
+
+
+def rights(program, folder):
+    """A part that the user may not open; where root runs this, it runs the program as nobody."""
+    part = folder + "/region/part-1"
+    how = {"user": NOBODY, "group": NOBODY, "extra_groups": []} if os.geteuid() == 0 else {}
+    os.chmod(folder, 0o777)
+    try:
+        hello = call(program, [folder, *RUN], HELLO, **how)
+    except PermissionError:
+        print("left out, a part without rights: nobody may not start the program")
+        return
+    yield "hello", hello, (REPORT, 0)
+    with no_rights(part):
+        yield "a part without rights, a run", call(program, [folder, *RUN], HELLO, **how), DEVICE
+        yield "a part without rights, a recovery", call(program, [folder, "recover"], **how), DEVICE
+    yield "a part with rights again", call(program, [folder, "recover"], **how), KEPT
+
+
+@contextlib.contextmanager
+def small_disk(folder, pages):
+    """A disk in memory of so many pages, mounted on the folder, or None where this user may mount none."""
+    made = ["mount", "-t", "tmpfs", "-o", f"size={pages * PAGE}", "none", folder]
+    try:
+        is_made = subprocess.run(made, stderr=subprocess.DEVNULL).returncode == 0
+    except FileNotFoundError:
+        is_made = False
+    try:
+        yield folder if is_made else None
+    finally:
+        if is_made:
+            subprocess.run(["umount", folder], check=True)
+
+
+def remount(folder, options):
+    subprocess.run(["mount", "-o", "remount," + options, folder], check=True)
+
+
+def fill(folder):
+    """Fills the disk of the folder with a file."""
+    with contextlib.suppress(OSError), open(folder + "/filler", "wb", buffering=0) as file:
+        while True:
+            file.write(bytes(PAGE))
+
+
+def disks(program, folder):
+    """A disk that is read-only or full when a run comes, and then is neither."""
+    with small_disk(folder, 64) as disk:
+        if disk is None:
+            print("left out, a read-only and a full disk: this user may mount none")
+            return
+        yield "hello", call(program, [disk, *RUN], HELLO), (REPORT, 0)
+        remount(disk, "ro")
+        yield "a read-only disk, a run", call(program, [disk, *RUN], HELLO), DEVICE
+        yield "a read-only disk, a recovery", call(program, [disk, "recover"]), DEVICE
+        remount(disk, "rw")
+        yield "a disk that may be written again", call(program, [disk, "recover"]), KEPT
+        # The parts have their pages, so the log takes the write; the file has none for it, so it stays in the log.
+        fill(disk)
+        beyond = b"file a\nfd 0 a rw\n0 pwrite 0 %d 21\n" % PAGE
+        yield "a full disk, a run", call(program, [disk, *RUN, "--pages", "65"], beyond), DEVICE
+        yield "a full disk, a recovery", call(program, [disk, "recover"]), DEVICE
+        os.unlink(disk + "/filler")
+        shown = (b"hello".ljust(PAGE, b"\0") + b"!").hex().encode()
+        yield "room again", call(program, [disk, "recover"]), (b"recovered 1 2 1\nfile a 4097 %s\n" % shown, 0)
+
+
+def full_disks(program, folder):
+    """Disks of each size up to one on which a run ends, and then with room for it."""
+    trace, status, pages = writes_of(WRITES), None, 0
+    while status != 0 and pages < 64:
+        pages += 1
+        with small_disk(folder, pages) as disk:
+            if disk is None:
+                return
+            text, status = call(program, [disk, *RUN], trace)
+            yield f"a disk of {pages} pages: {text[:80]!r}, status {status}", status == 0 or (text, status) == DEVICE, True
+            remount(disk, f"size={64 * PAGE}")
+            text, status_then = call(program, [disk, "recover"])
+            fits = left_by(text, status_then, WRITES) is not None
+            yield f"room behind {pages} pages: {text[:80]!r}, status {status_then}", fits, True
+
+
+def byte(i):
+    return 1 + i % 255
+
+
+def writes_of(count):
+    """A trace of so many writes, each of the next byte at the next place."""
+    return b"file a\nfd 0 a rw\n" + b"".join(b"0 pwrite 0 %d %02x\n" % (i, byte(i)) for i in range(count))
+
+
+def left_by(text, status, count):
+    """How many first writes a recovery of `writes_of` shows, -1 for no region yet; None where it shows anything else."""
+    if status == 7 and text.startswith(NOT_YET):
+        return -1
     lines = text.splitlines()
-    if len(lines) != 2 or not lines[1].startswith(b"file a "):
-        return len(lines) == 1
-    size, shown = lines[1].split()[2:4]
-    whole = bytes(range(1, WRITES + 1))[: int(size)]
-    return shown == (whole.hex().encode() or b"-")
+    if status != 0 or not lines or not lines[0].startswith(b"recovered "):
+        return None
+    if len(lines) == 1:
+        return 0
+    for size in range(count + 1):
+        shown = bytes(map(byte, range(size))).hex().encode() or b"-"
+        if lines[1:] == [b"file a %d %s" % (size, shown)]:
+            return size
+    return None
 
 
-def killed(program, folder):
-    """A run of single bytes, killed at some moment; and a run to its end, which says how long one takes."""
-    trace = b"file a\nfd 0 a rw\n" + b"".join(b"0 pwrite 0 %d %02x\n" % (i, i + 1) for i in range(WRITES))
+def wait_for_write(process, life, number):
+    """Waits until the log holds something of the write of this number, or the run has ended."""
+    line = b""
+    while not any(line) and process.poll() is None:
+        time.sleep(0.0005)
+        with contextlib.suppress(FileNotFoundError), open(f"{life}/region/part-{1 + number}", "rb") as part:
+            line = part.read(64)
+
+
+def killed(program, folder, writes=WRITES):
+    """Runs of single bytes that are killed: each fifth at any moment, the others when some write is on its way to the log."""
+    run = [*RUN, "--entries", str(writes)]
+    trace = writes_of(writes)
     start = time.monotonic()
-    call(program, [folder, *RUN], trace)
+    text, status = call(program, [folder, *run], trace)
     whole = time.monotonic() - start
+    yield f"a run to its end, status {status}", text.endswith(b"end %d 0 0\n" % writes), True
     draws = random.Random(1)
+    fronts = []
     for moment in range(MOMENTS):
         with tempfile.TemporaryDirectory(dir=folder) as life:
-            run = subprocess.Popen([program, life, *RUN], stdin=subprocess.PIPE, stdout=subprocess.DEVNULL)
-            run.stdin.write(trace)
-            run.stdin.close()
-            time.sleep(draws.random() * whole)
-            run.kill()
-            run.wait()
+            process = subprocess.Popen([program, life, *run], stdin=subprocess.PIPE, stdout=subprocess.DEVNULL)
+            process.stdin.write(trace)
+            process.stdin.close()
+            if moment % 5 == 0:
+                answered = -1
+                time.sleep(draws.random() * whole)
+            else:
+                # A write begins when those before it were answered.
+                answered = draws.randrange(writes)
+                wait_for_write(process, life, answered)
+                time.sleep(draws.random() * 0.001)
+            process.kill()
+            process.wait()
             text, status = call(program, [life, "recover"])
-            # Killed before its region was formatted, it leaves one with no magic or no parts.
-            fits = status == 0 and is_front(text) or status == 7 and text.startswith(NOT_YET)
-            yield f"killed at moment {moment}: {text[:80]!r}, status {status}", fits, True
+            left = left_by(text, status, writes)
+            yield f"killed with {answered} writes answered: {text[:80]!r}, status {status}", left is not None and left >= answered, True
+            fronts.append(left)
+            if left == -1:
+                yield "a region that the next run makes anew", call(program, [life, *run], trace)[1], 0
+    print(f"killed runs of {writes} writes left {fronts} (-1: no region yet)")
 
 
-NOT_YET = (b"error region bad magic", b"error region truncated ")
-
-
-def main(program):
+def main(program, option=None, writes=WRITES):
+    runs = [lives, refusals, obstacles, rights, disks, full_disks, killed]
+    if option == "--killed":
+        runs = [lambda program, folder: killed(program, folder, int(writes))]
     passed = failed = 0
-    for cases in (lives, refusals, killed):
+    for cases in runs:
         with tempfile.TemporaryDirectory() as folder:
             for name, found, wanted in cases(program, folder):
                 if found == wanted:
@@ -95,4 +293,4 @@ def main(program):
 
 
 if __name__ == "__main__":
-    sys.exit(main(sys.argv[1]))
+    sys.exit(main(*sys.argv[1:]))

@@ -9,6 +9,10 @@ mod ending;
 mod fates;
 mod files;
 mod gate;
+#[cfg(test)]
+mod group_tests;
+#[cfg(test)]
+mod hostile_tests;
 mod laws;
 #[cfg(test)]
 mod main_tests;
