@@ -93,6 +93,16 @@ both_told options old new names why refused unwritten =
       λ other. told_at old.told (λ holding. new.told ≡ told_after why old.told) holding told (unwritten other),
     ))
 
+pub unarmed_from : (left : Option (List ℕ)) (old new : BenchState) (trace : Traced) → IfSome left (λ input. ending_of forms.Run input ≡ Whole trace)
+    → (IsStrictlyIncreasing (lines_in trace) → IfSome old.told (λ holding. new.arms ≡ old.arms)) → IfSome left (λ input. IfSome old.told (λ holding. new.arms ≡ old.arms))
+unarmed_from None old new trace whole unarmed = tt
+unarmed_from (Some input) old new trace whole unarmed = unarmed (lines_rise forms.Run input trace whole)
+
+-- what holds of a bench that wasn't armed
+pub where_unarmed : (old new : BenchState) (P : Holding → Type 0) → IfSome old.told (λ holding. new.arms ≡ old.arms) → (new.arms ≡ old.arms → IfSome old.told P) → IfSome old.told P
+where_unarmed old new P unarmed holds =
+    if_told old.told P (λ holding told. told_at old.told P holding told (holds (told_at old.told (λ holding. new.arms ≡ old.arms) holding told unarmed)))
+
 -- ---- stores that are away
 
 abbrev NotNamed : List ℕ → NamedStore → Type 0

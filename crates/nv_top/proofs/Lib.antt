@@ -8,6 +8,7 @@ pub mod FateLemmas
 pub mod FinishLemmas
 pub mod HeadlineLemmas
 pub mod HomeLemmas
+pub mod LineLemmas
 pub mod LogRunLemmas
 pub mod NameLemmas
 pub mod NumberLemmas
@@ -18,4 +19,5 @@ pub mod StopLemmas
 pub mod StoppingLemmas
 pub mod TestBenches
 pub mod TextLemmas
+pub mod UnrefusedLemmas
 pub mod WordLemmas

@@ -16,7 +16,7 @@ use Rattle.nv_pmem.specs.Steps as lines
 use Rattle.nv_pmem.specs.declared.picker.Pick.{Pick}
 use Rattle.nv_store.specs.Steps as stores
 use Rattle.nv_store.specs.Store.{Store, IsQuiet}
-use Rattle.nv_bench.specs.Benches.{BenchState, told_back, with_faults}
+use Rattle.nv_bench.specs.Benches.{BenchState, armed_with, told_back, with_faults}
 use Rattle.nv_bench.specs.Holding.{Holding, IsQuietHolding, NamedStore, named_stores}
 use Rattle.nv_bench.specs.Laws.{AreWholeStores, PowerLeavesAnImage}
 use Rattle.nv_bench.specs.Powered.{powered}
@@ -29,12 +29,12 @@ use Rattle.nv_recover.specs.Standing.{AreQuietStores, ReadableStandsForRecovered
 use Rattle.nv_recover.specs.declared.recovering.Recovered as recover
 use Rattle.nv_engine.specs.Keeping.{IsLog}
 use Rattle.nv_engine.specs.Laid.{Piece, laid}
-use Rattle.nv_engine.specs.Logged.{LoggedImagesRecover}
+use Rattle.nv_engine.specs.Logged.{AreFitting, HasLog, LoggedImagesRecover}
 use Rattle.nv_engine.specs.declared.log.Log.{Log}
 use Rattle.nv_trace.specs.declared.trace.Descriptor.{Descriptor}
 use Rattle.nv_trace.specs.Traced.{Traced}
 use Rattle.nv_trace.specs.declared.trace.TracedCall.{TracedCall}
-use Rattle.nv_top.specs.Attempts.{HasRunTo, IsHeld}
+use Rattle.nv_top.specs.Attempts.{HasRunTo, IsHeld, piece_of}
 use Rattle.nv_top.specs.Faithful.{Basis, IsLeftOpen, IsWrite, after_open, descriptors_in, named}
 use Rattle.nv_top.specs.Fates.{fated, fated_report, RecoversAsFated}
 use Rattle.nv_top.specs.Outcomes.{left_call, left_calls, placed_calls, refused_calls}
@@ -58,6 +58,10 @@ use Rattle.nv_top.proofs.RunLemmas.{made_while}
 pub if_some : {X : Type 0} (found : Option X) (P : X → Type 0) → ((x : X) → found ≡ Some x → P x) → IfSome found P
 if_some None P each = tt
 if_some (Some x) P each = each x refl
+
+pub none_unless : {X : Type 0} (found : Option X) → ((x : X) → ¬ (found ≡ Some x)) → found ≡ None
+none_unless None never = refl
+none_unless (Some x) never = absurd (never x refl)
 
 pub at_some : {X : Type 0} (found : Option X) (P : X → Type 0) (x : X) → found ≡ Some x → IfSome found P → P x
 at_some {X} found P x is here =
@@ -219,18 +223,27 @@ run_while history held failed more basis descriptors calls log outcome on run = 
   made = made_while failed more basis descriptors calls run.next (laid basis.files run.pieces) (placed_calls outcome) (refused_calls outcome) (left_calls outcome) on run.made;
 }
 
-reads_at : {L B : Type 0} (history : L → lines.History) (held : B → stores.History) (descriptors : List Descriptor) (log : Log L B) (pieces : List Piece) (next : ℕ) (files : Files) (left : List outcome.Left)
+-- what an image has of a log's parts: pieces that the log may have
+pub record HasFitting {L B : Type 0} (log : Log L B) (image : Image) : Type 0 where
+  pub pieces : List Piece
+  pub logged : HasLog version_1 log.geometry.page log.geometry.entries log.names log.tail pieces image
+  pub fitting : AreFitting version_1 log.geometry.page log.geometry.entries (length log.names) log.tail pieces
+
+pub fitting_at : {L B : Type 0} (history : L → lines.History) (held : B → stores.History) (descriptors : List Descriptor) (log : Log L B) (pieces : List Piece) (next : ℕ) (files : Files) (left : List outcome.Left)
     (parts : List Part) (image : Image) → AreNow (map history log.parts.items) parts → IsRowImage parts image
-    → IsHeld history held descriptors log pieces next files left → ReadsAs version_1 log.geometry.page log.geometry.entries log.names log.tail image
-reads_at history held descriptors log pieces next files [] parts image now is here =
+    → IsHeld history held descriptors log pieces next files left → HasFitting log image
+fitting_at history held descriptors log pieces next files [] parts image now is here =
     let same = one_state (map history log.parts.items) parts here.0.parts now here.0.parts_are in
     let image_of : IsRowImage here.0.parts image = subst (λ parts. IsRowImage parts image) same is in
-    (here.0.has.logs image image_of).header
-reads_at history held descriptors log pieces next files (one ∷ []) parts image now is here =
+    record { pieces = pieces; logged = here.0.has.logs image image_of; fitting = here.0.has.fitting }
+fitting_at history held descriptors log pieces next files (one ∷ []) parts image now is here =
     let same = one_state (map history log.parts.items) parts here.0.parts now here.0.parts_are in
     let image_of : IsRowImage here.0.parts image = subst (λ parts. IsRowImage parts image) same is in
-    elim (here.0.logs image image_of) [ inl logged ↦ logged.header | inr logged ↦ logged.header ]
-reads_at history held descriptors log pieces next files (one ∷ two ∷ more) parts image now is here = absurd here
+    elim (here.0.logs image image_of) [
+      | inl logged ↦ record { pieces = pieces; logged = logged; fitting = here.0.fitting_before }
+      | inr logged ↦ record { pieces = pieces ++ piece_of descriptors one.call.now.call ∷ []; logged = logged; fitting = here.0.fitting }
+    ]
+fitting_at history held descriptors log pieces next files (one ∷ two ∷ more) parts image now is here = absurd here
 
 named_quiet : (names : List (List ℕ)) (stores : List Store) → All IsQuiet stores → All (λ (named : NamedStore). IsQuiet named.store) (named_stores names stores)
 named_quiet [] stores quiet = All-nil (λ (named : NamedStore). IsQuiet named.store)
@@ -242,6 +255,19 @@ named_quiet (name ∷ names) (store ∷ stores) quiet =
 -- what a bench holds to which parts and stores came back
 abbrev pub home_with : Holding → List (List ℕ) → List Part → List Store → Holding
 home_with left names parts stores = record { parts = parts; stores = left.stores ++ named_stores names stores }
+
+-- what a bench holds to which the parts and the stores of a log came back
+pub given_home : {L B : Type 0} (history : L → lines.History) (held : B → stores.History) (log : Log L B) (k : ℕ) (start armed : BenchState) (home : Option Holding) (left : Holding) (parts : List L) (backing : List B)
+    → ((now : List Part) (disks : List Store) → AreNow (map history parts) now → AreNow (map held backing) disks → home ≡ told_back now disks armed)
+    → parts ≡ log.parts.items → backing ≡ log.stores.items → armed ≡ armed_with k start → start.told ≡ Some left → start.lent ≡ log.names
+    → (now : List Part) (disks : List Store) → AreNow (map history log.parts.items) now → AreNow (map held log.stores.items) disks → home ≡ Some (home_with left log.names now disks)
+given_home history held log k start armed home left parts backing gives same_parts same_stores armed_is told_is lent now disks now_are disks_are =
+    let PartsNow : List _ → Type 0 = λ these. AreNow (map history these) now in
+    let StoresNow : List _ → Type 0 = λ these. AreNow (map held these) disks in
+    gives now disks (subst PartsNow (sym same_parts) now_are) (subst StoresNow (sym same_stores) disks_are)
+    ∙ ap (λ (s : BenchState). told_back now disks s) armed_is
+    ∙ ap (λ (told : Option Holding). option_map (λ (holding : Holding). home_with holding start.lent now disks) told) told_is
+    ∙ ap (λ names. Some (home_with left names now disks)) lent
 
 pub stopped_on : {L B : Type 0} (recover_so : LoggedImagesRecover) (stand_so : ReadableStandsForRecovered) (power_so : PowerLeavesAnImage) (history : L → lines.History) (room : L → Room) (held : B → stores.History)
     (failed : Type 0) (basis : Basis) (trace : Traced) (descriptors : List Descriptor) (log : Log L B) (outcome : Outcome) (told : Option Holding) (text : List ℕ) (pick : Pick) (left : Holding) (given off : Option Holding)
@@ -265,7 +291,7 @@ stopped_on recover_so stand_so power_so history room held failed basis trace des
     let all_quiet : All (λ (named : NamedStore). IsQuiet named.store) before.stores =
     All-append (λ (named : NamedStore). IsQuiet named.store) left.stores (named_stores log.names devices.stores) quiet (named_quiet log.names devices.stores devices.synced) in
     faithful_after recover_so stand_so history held failed basis trace descriptors log outcome told text after run devices same_descriptors same_names is_log.names_are image.parts
-    (reads_at history held descriptors log run.pieces run.next basis.files outcome.left.items devices.parts (row_words after.parts) devices.parts_are image.parts run.here)
+    (fitting_at history held descriptors log run.pieces run.next basis.files outcome.left.items devices.parts (row_words after.parts) devices.parts_are image.parts run.here).logged.header
     (files_again log.names left.stores devices.stores before after refl long is_log.names_are.distinct away image all_quiet)
     (at_some off (λ holding. ShowsRecovered holding outcome told text) after off_is shown)
 

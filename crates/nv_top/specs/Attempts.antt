@@ -1,10 +1,14 @@
 -- Attempts: what a call of a trace does over a log that a device may stop, and how far a run has come there.
-use Rattle.std.specs.Prelude.{◌≡◌, ℕ, ◌+◌, ◌≤◌, false, true, List, [], ◌∷◌, length, slice_index, None, Some, Result, Ok, Err}
+use Rattle.std.specs.Prelude.{◌≡◌, ℕ, ◌+◌, ◌≤◌, false, true, List, [], ◌∷◌, length, map, slice_index, None, Some, Result, Ok, Err}
 use Rattle.nv_plain.specs.Faults.{Rose}
 use Rattle.nv_plain.specs.Files.{Files}
+use Rattle.nv_plain.specs.Layouts.{version_1}
 use Rattle.nv_plain.specs.declared.call.Reply.{Reply}
+use Rattle.nv_pmem.specs.Rows.{RowTells}
 use Rattle.nv_pmem.specs.Steps as lines
 use Rattle.nv_store.specs.Steps as stores
+use Rattle.nv_header.specs.Needs.{HasLines}
+use Rattle.nv_open.specs.Refusals.{rooms_of}
 use Rattle.nv_engine.specs.Holding.{Holds, HoldsOrOneMore, written}
 use Rattle.nv_engine.specs.Laid.{Piece, all_entries, laid}
 use Rattle.nv_engine.specs.declared.log.Log.{Log}
@@ -105,6 +109,10 @@ AttemptHasCause before now (Ok _) = now ≡ before
 AttemptHasCause before now (Err (Refused refusal)) = TurnHasCause before now refusal
 AttemptHasCause before now (Err (Left number)) = Rose before now
 AttemptHasCause before now (Err NoMemory) = now ≡ before
+
+-- Where the parts of a log tell, they have the lines of its region.
+abbrev pub IsLong : {L B : Type 0} → (history : L → lines.History) → Log L B → Type 0
+IsLong history log = RowTells (map history log.parts.items) (λ parts. HasLines version_1 log.geometry.page log.geometry.entries (rooms_of parts))
 
 -- What a log holds of which these writes were left open, and that goes on with this number: it has these pieces; where one was
 -- left, a device stopped it, and it may have the piece of that write more. There is no second one.

@@ -9,7 +9,7 @@ ghost use Rattle.nv_top.specs.Early.{IsBusy};
 ghost use Rattle.nv_top.specs.Faithful.{Basis, is_allowed};
 ghost use Rattle.nv_top.specs.LogRuns.{IsFirst};
 ghost use Rattle.nv_top.specs.Runs.{IsAfterAll};
-ghost use Rattle.nv_top.specs.Attempts.{AttemptSays, AttemptHasCause, HasRunTo, of_read_error, of_write_error};
+ghost use Rattle.nv_top.specs.Attempts.{AttemptSays, AttemptHasCause, HasRunTo, IsLong, of_read_error, of_write_error};
 
 use crate::early::early;
 use crate::outcome::{Left, Outcome, Placed, Refused};
@@ -70,6 +70,7 @@ pub(crate) fn make_calls_on<'a, L: Lines + Drop, B: Backing + Drop>(
     requires within { All (λ traced. IsCallWithin (length descriptors.now) traced.call) calls.now }
     ensures log { IsLog L.history L.room B.history log.new }
     ensures region { IsSameRegion log.old log.new }
+    ensures long { IsLong L.history log.new }
     ensures made { IfOk result (λ outcome. (basis : Basis) → IsFirst L.history B.history basis log.old
         → IsStrictlyIncreasing (map (λ traced. traced.line) calls.now)
         → HasRunTo L.history B.history (Rose (log_faults L.fault_count B.fault_count log.old) (log_faults L.fault_count B.fault_count log.new))
@@ -100,6 +101,7 @@ fn make_on<'a, L: Lines + Drop, B: Backing + Drop>(
     requires within { IsCallWithin (length descriptors.now) call.now.call }
     ensures log { IsLog L.history L.room B.history log.new }
     ensures region { IsSameRegion log.old log.new }
+    ensures long { IsLong L.history log.old → IsLong L.history log.new }
     ensures made { OnOk result ((first : ℕ) (basis : Basis) (calls : List TracedCall) → IsAfterAll calls call.now
         → first ≤ log_faults L.fault_count B.fault_count log.old
         → HasRunTo L.history B.history (Rose first (log_faults L.fault_count B.fault_count log.old)) basis descriptors.now calls log.old outcome.old
@@ -135,6 +137,7 @@ fn attempt<L: Lines + Drop, B: Backing + Drop>(
     requires within { IsCallWithin (length descriptors.now) call.now }
     ensures log { IsLog L.history L.room B.history log.new }
     ensures region { IsSameRegion log.old log.new }
+    ensures long { IsLong L.history log.old → IsLong L.history log.new }
     ensures says { AttemptSays L.history B.history descriptors.now call.now log.old log.new result }
     ensures still { log.old.stopped ≡ true → log.new.stopped ≡ true }
     ensures stops { log.new.stopped ≡ true → (log.old.stopped ≡ true)
@@ -163,6 +166,7 @@ fn attempt_by_log<L: Lines + Drop, B: Backing + Drop>(
     requires within { IsCallWithin (length descriptors.now) call.now }
     ensures log { IsLog L.history L.room B.history log.new }
     ensures region { IsSameRegion log.old log.new }
+    ensures long { IsLong L.history log.old → IsLong L.history log.new }
     ensures says { AttemptSays L.history B.history descriptors.now call.now log.old log.new result }
     ensures still { log.old.stopped ≡ true → log.new.stopped ≡ true }
     ensures stops { log.new.stopped ≡ true → (log.old.stopped ≡ true)

@@ -89,11 +89,13 @@ pub fn nv_main<R: Threads + Wait + Sync, I: Source, O: Sink, B: Bench, G: Gate +
     ensures device_said { result ≡ DEVICE_FAULT → Appends (O.written out.old) (O.written out.new) device_line }
     ensures memory_said { result ≡ NO_MEMORY → Appends (O.written out.old) (O.written out.new) memory_line }
 
-    // With status 7 the line says why the region is refused. Of one that was refused before a stop that is so.
+    // With status 7 the line says why the region is refused. It is refused at entry, never after a stop's power failure.
     ensures region { result ≡ BAD_REGION → (why : Refusal) × Appends (O.written out.old) (O.written out.new) (region_line why)
         × ((command : Command) → command_over B.can_lose_power (map string_bytes words.now) ≡ Some command
-        → (B.state bench.new).arms ≡ (B.state bench.old).arms → IfSome (B.state bench.old).told (λ holding.
+        → IfSome (B.state bench.old).told (λ holding.
         IsRefused command (I.left src.old) (B.state bench.old) (B.state bench.new) holding why)) }
+    ensures unarmed { result ≡ BAD_REGION → IfSome (I.left src.old) (λ input. IfSome (B.state bench.old).told (λ holding.
+        (B.state bench.new).arms ≡ (B.state bench.old).arms)) }
 
     // With status 4 a front of such a line, or of the report, is written.
     ensures write_said { result ≡ WRITE_FAULT → ((text : List ℕ) × IsErrorLine text × AppendsFront (O.written out.old) (O.written out.new) text)
@@ -145,8 +147,10 @@ fn report<I: Source, B: Bench>(
     ensures unread { command_over B.can_lose_power (map string_bytes words.now) ≡ Some commands.Recover → I.left src.new ≡ I.left src.old }
     ensures region { (why : _) → result ≡ Err (stops.Region why)
         → (command : Command) → command_over B.can_lose_power (map string_bytes words.now) ≡ Some command
-        → (B.state bench.new).arms ≡ (B.state bench.old).arms → IfSome (B.state bench.old).told (λ holding.
+        → IfSome (B.state bench.old).told (λ holding.
         IsRefused command (I.left src.old) (B.state bench.old) (B.state bench.new) holding why) }
+    ensures unarmed { (why : _) → result ≡ Err (stops.Region why) → IfSome (I.left src.old) (λ input.
+        IfSome (B.state bench.old).told (λ holding. (B.state bench.new).arms ≡ (B.state bench.old).arms)) }
     ensures report { IfOk result (λ text. (command : Command) → command_over B.can_lose_power (map string_bytes words.now) ≡ Some command
         → IfSome (B.state bench.old).told (λ holding.
         IsShown command (I.left src.old) (B.state bench.old) (B.state bench.new) holding text.items)) }
@@ -201,9 +205,10 @@ fn run_input<I: Source, B: Bench>(
     ensures device_sound { result ≢ Err stops.Device
         → (B.state bench.new).faults ≤ expected_faults (B.state bench.old) (B.state bench.new) }
     ensures good_input { OnOk result (IfSome (I.left src.old) (λ input. IsTrace input × (I.left src.new ≡ Some []))) }
-    ensures region { (why : _) → result ≡ Err (stops.Region why) → (B.state bench.new).arms ≡ (B.state bench.old).arms
-        → IfSome (B.state bench.old).told (λ holding.
+    ensures region { (why : _) → result ≡ Err (stops.Region why) → IfSome (B.state bench.old).told (λ holding.
         IsRefused (commands.Run options) (I.left src.old) (B.state bench.old) (B.state bench.new) holding why) }
+    ensures unarmed { (why : _) → result ≡ Err (stops.Region why) → IfSome (I.left src.old) (λ input.
+        IfSome (B.state bench.old).told (λ holding. (B.state bench.new).arms ≡ (B.state bench.old).arms)) }
     ensures report { IfOk result (λ text. IfSome (B.state bench.old).told (λ holding.
         IsShown (commands.Run options) (I.left src.old) (B.state bench.old) (B.state bench.new) holding text.items)) }
 {
@@ -230,11 +235,13 @@ fn run_trace<T: Bench>(
     ensures cause { Settles (expected_faults (T.state bench.old) (T.state bench.new)) (T.state bench.new).faults result }
     ensures ran { IfOk result (λ text. IsStrictlyIncreasing (lines_in trace.now) → IfSome (T.state bench.old).told (λ holding.
         IsShownOf options.stop options (T.state bench.old) (T.state bench.new) holding trace.now text.items)) }
-    ensures refused { (why : _) → result ≡ Err (stops.Region why) → (T.state bench.new).arms ≡ (T.state bench.old).arms
+    ensures refused { (why : _) → result ≡ Err (stops.Region why)
         → IsStrictlyIncreasing (lines_in trace.now) → IfSome (T.state bench.old).told (λ holding. IsNotRun options holding trace.now.names why) }
-    ensures unwritten { (why : _) → result ≡ Err (stops.Region why) → (T.state bench.new).arms ≡ (T.state bench.old).arms
-        → ¬ (why ≡ refusals.TooManyFiles) → IsStrictlyIncreasing (lines_in trace.now)
+    ensures unwritten { (why : _) → result ≡ Err (stops.Region why) → ¬ (why ≡ refusals.TooManyFiles)
+        → IsStrictlyIncreasing (lines_in trace.now)
         → IfSome (T.state bench.old).told (λ holding. (T.state bench.new).told ≡ told_after why (T.state bench.old).told) }
+    ensures unarmed { (why : _) → result ≡ Err (stops.Region why) → IsStrictlyIncreasing (lines_in trace.now)
+        → IfSome (T.state bench.old).told (λ holding. (T.state bench.new).arms ≡ (T.state bench.old).arms) }
 {
     match options.stop {
         None => run(alloc, bench, options, trace),
@@ -267,6 +274,8 @@ fn stop_run<T: Bench>(
         → IfSome (T.state bench.old).told (λ holding. IsNotRun options holding trace.now.names why) }
     ensures unwritten { (why : _) → result ≡ Err (stops.Region why) → (T.state bench.new).arms ≡ (T.state bench.old).arms
         → ¬ (why ≡ refusals.TooManyFiles) → (T.state bench.new).told ≡ told_after why (T.state bench.old).told }
+    ensures unarmed { (why : _) → result ≡ Err (stops.Region why) → IsStrictlyIncreasing (lines_in trace.now)
+        → IfSome (T.state bench.old).told (λ holding. (T.state bench.new).arms ≡ (T.state bench.old).arms) }
 {
     images_follow_calls();
     let geometry = Geometry {

@@ -137,6 +137,20 @@ fn hostile_headers(rt: HostRuntime) -> Result<(), Fail> {
     Ok(())
 }
 
+// The last part lacks its line of data: 21 lines of 22 are there.
+#[test]
+fn a_region_that_is_cut(rt: HostRuntime) -> Result<(), Fail> {
+    let none = entry(NO_ENTRY, [0; 3]);
+    let parts = [&header(MAGIC)[..], &none[..], &none[..64]];
+    let mut bench = MemBench::of(rt.alloc(), &parts, &[("a", b"....")], &[])?;
+    let (status, text) = call(&rt, &mut bench, RECOVER, "", &[], &[])?;
+    assert_eq!(rt;
+        (status, text.as_slice()),
+        (BAD_REGION, &b"error region truncated 21 22\n"[..])
+    );
+    Ok(())
+}
+
 const SIX_WRITES: &str =
     "file a\nfd 0 a rw\n0 pwrite 0 0 00\n0 pwrite 0 1 01\n0 pwrite 0 2 02\n0 pwrite 0 3 03\n0 pwrite 0 4 04\n0 pwrite 0 5 05\n";
 

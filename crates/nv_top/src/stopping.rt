@@ -1,4 +1,4 @@
-ghost use Rattle.std.specs.Prelude.{◌≡◌, ◌⊎◌, ◌+◌, ◌-◌, ◌^◌, ◌<◌, ◌≤◌, [], List, true, false, length, map, sum_by, All, Err, IfOk, IfSome, OnOk};
+ghost use Rattle.std.specs.Prelude.{◌≡◌, ◌⊎◌, ◌+◌, ◌-◌, ◌^◌, ◌<◌, ◌≤◌, [], List, true, false, length, map, sum_by, All, None, Err, IfOk, IfSome, OnOk};
 ghost use Rattle.std.specs.List.Sorted.{IsStrictlyIncreasing};
 ghost use Rattle.nv_plain.specs.Faults.{Rose, saturated};
 ghost use Rattle.nv_pmem.specs.Part.{Part};
@@ -7,6 +7,7 @@ ghost use Rattle.nv_pmem.specs.Rows.{RowTells};
 ghost use Rattle.nv_store.specs.Store.{Store};
 ghost use Rattle.nv_bench.specs.Holding.{IsQuietHolding};
 ghost use Rattle.nv_engine.specs.Keeping.{IsLog};
+ghost use Rattle.nv_open.specs.Refusals.{IsRefusedFor};
 ghost use Rattle.nv_recover.specs.Standing.{AreQuietStores, files_of};
 ghost use Rattle.nv_trace.specs.Shape.{IsWellFormed};
 ghost use Rattle.nv_top.specs.Answers.{log_faults};
@@ -30,7 +31,7 @@ use crate::text::text_of;
 use crate::words::RunOptions;
 use nv_bench::{Bench, power_leaves_an_image};
 use nv_engine::{Log, logs_have_one_meaning};
-use nv_header::Names;
+use nv_header::{Names, a_header_has_one_answer};
 use nv_open::{Opened, recover_region};
 use nv_pmem::Pick;
 use nv_recover::{Recovered, images_stand_for_files};
@@ -66,6 +67,9 @@ pub(crate) fn run_to_stop<T: Bench>(
     ensures cause { (T.state bench.new).arms ≡ (T.state bench.old).arms → CountHasCause (saturated ((T.state bench.old).faults
         + (sum_by T.Part.fault_count opened.region.parts.items + sum_by T.Store.fault_count opened.stores.items))) (T.state bench.new).faults result }
     ensures refused { (why : _) → result ≡ Err (stops.Region why) → IsPoweredBack k (T.state bench.old) (T.state bench.new) }
+    ensures never { (why : _) → result ≡ Err (stops.Region why) → (parts : List Part) (now : List Store)
+        → AreNow (map T.Part.history opened.region.parts.items) parts → AreNow (map T.Store.history opened.stores.items) now
+        → IsStrictlyIncreasing (lines_in trace.now) → (T.state bench.old).told ≡ None }
     ensures no_less { (T.state bench.new).arms ≡ (T.state bench.old).arms + 1 → saturated ((T.state bench.old).faults
         + (sum_by T.Part.fault_count opened.region.parts.items + sum_by T.Store.fault_count opened.stores.items)) ≤ (T.state bench.new).settled }
     ensures ran { IfOk result (λ text. (parts : List Part) (now : List Store)
@@ -113,6 +117,8 @@ fn stop_log<T: Bench>(
     requires files { All (λ descriptor. descriptor.file < length log.names) descriptors.now }
     ensures back { IsPoweredBack k (T.state bench.old) (T.state bench.new) }
     ensures settled { Settles (T.state bench.new).settled (T.state bench.new).faults result }
+    ensures never { (why : _) → result ≡ Err (stops.Region why) → (basis : Basis) → IsFirst T.Part.history T.Store.history basis log
+        → IsStrictlyIncreasing (lines_in trace.now) → (T.state bench.old).told ≡ None }
     ensures no_less { saturated ((T.state bench.old).faults + log_faults T.Part.fault_count T.Store.fault_count log) ≤ (T.state bench.new).settled }
     ensures ran { IfOk result (λ text. (basis : Basis) → IsFirst T.Part.history T.Store.history basis log → basis.names ≡ log.names
         → IsStrictlyIncreasing (lines_in trace.now) → IfSome (T.state bench.old).told (λ left. IsAway log.names left
@@ -121,6 +127,7 @@ fn stop_log<T: Bench>(
 {
     logs_have_one_meaning();
     images_stand_for_files();
+    a_header_has_one_answer();
     power_leaves_an_image();
     let mut log = log;
     bench.arm(k);
@@ -143,6 +150,7 @@ fn show_recovered<T: Bench>(
     requires quiet { IfSome (T.state bench.old).told IsQuietHolding }
     ensures back { IsBack (T.state bench.old) (T.state bench.new) }
     ensures shown { IfOk result (λ text. IfSome (T.state bench.old).told (λ holding. ShowsRecovered holding outcome.now (T.state bench.new).told text.items)) }
+    ensures refused { (why : _) → result ≡ Err (stops.Region why) → IfSome (T.state bench.old).told (λ holding. IsRefusedFor holding.parts why) }
     ensures cause { CountHasCause (T.state bench.old).faults (T.state bench.new).faults result }
 {
     let (opened, found) = recover_region(alloc, bench)?;
@@ -165,6 +173,7 @@ fn show_fates<B: Backing>(
     ensures text { IfOk result (λ text. (now : List Store) → AreNow (map B.history stores.old.items) now
         → text.items ≡ report_text (fated_report outcome.now found.now names.now (files_of now))) }
     ensures histories { map B.history stores.new.items ≡ map B.history stores.old.items }
+    ensures never { (why : _) → ¬ (result ≡ Err (stops.Region why)) }
     ensures cause { CountHasCause (sum_by B.fault_count stores.old.items) (sum_by B.fault_count stores.new.items) result }
 {
     let files = read_files(alloc, stores)?;

@@ -6,6 +6,7 @@ use Rattle.nv_top.specs.Answers.{IsAnswer}
 use Rattle.nv_top.specs.Faithful.{is_allowed}
 use Rattle.nv_top.proofs.AnswerLemmas.{write_answered}
 use Rattle.nv_top.proofs.AttemptLemmas.{running_where_ok}
+use Rattle.nv_top.proofs.LineLemmas.{long_after}
 use Rattle.nv_top.proofs.attempts.attempt_by_log.Goals as goal
 
 pub returns-in-Ok-write-clause-says : goal.returns-in-Ok-write-clause-says
@@ -30,3 +31,11 @@ returns-in-Ok-write-clause-says g c =
           (write_answered g.L.Lines.history g.B.Backing.history descriptors old new fd at written count running (subst (λ (bytes : List ℕ). Allowed (Pwrite fd at bytes)) (sym c.as_slice.ensures) allowed)
           wrote.refused wrote.stopped wrote.count wrote.head wrote.holds)),
     )
+
+pub returns-in-Ok-write-clause-long : goal.returns-in-Ok-write-clause-long
+returns-in-Ok-write-clause-long g c =
+    long_after g.L.Lines.history c.args.log.now c.write.new.self _ c.write.ensures.parts.region c.write.ensures.begun
+
+pub returns-in-Err-write-clause-long : goal.returns-in-Err-write-clause-long
+returns-in-Err-write-clause-long g c =
+    long_after g.L.Lines.history c.args.log.now c.write.new.self _ c.write.ensures.parts.region c.write.ensures.begun

@@ -6,6 +6,7 @@ use Rattle.nv_top.specs.Answers.{log_faults}
 use Rattle.nv_top.specs.Attempts.{HasRunTo}
 use Rattle.nv_top.specs.Runs.{IsAfterAll}
 use Rattle.nv_top.proofs.AttemptLemmas.{begins}
+use Rattle.nv_top.proofs.LineLemmas.{long_at_first}
 use Rattle.nv_top.proofs.LogRunLemmas.{same_region, same_region_on}
 use Rattle.nv_top.proofs.RunLemmas.{after_all_before}
 use Rattle.nv_top.proofs.attempts.make_calls_on.Goals as goal
@@ -16,6 +17,7 @@ loop-call-init g c =
     record {
       log = c.requires.log;
       region = same_region c.args.log.now;
+      long = long_at_first g.L.Lines.history g.L.Lines.room g.met.L.Lines.told_lines c.args.log.now (c.requires.log.ready c.requires.running);
       faults = omega arith;
       made = λ basis is_first rise.
           begins g.L.Lines.history g.B.Backing.history c.args.descriptors.now (Rose first first) basis c.args.log.now
@@ -42,6 +44,7 @@ loop-call-preserved g c =
     record {
       log = c.make_on.ensures.log;
       region = same_region_on c.loop-call.invariant.region c.make_on.ensures.region;
+      long = c.make_on.ensures.long c.loop-call.invariant.long;
       faults = omega (arith, c.loop-call.invariant.faults, c.make_on.ensures.faults);
       made = λ basis is_first rise.
           let After : TracedCall → Type 0 = IsAfterAll (take i calls) in

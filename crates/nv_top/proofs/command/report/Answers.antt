@@ -14,15 +14,15 @@ run_input-requires-clause-stop g c κs within =
     stop_possible g.B.Bench.can_lose_power (map string_bytes c.args.words.now) c.in-Run.options (c.in_ok-command.ensures.command ∙ ap Some c.in-Run.is)
 
 pub returns-in-Run-clause-region : goal.returns-in-Run-clause-region
-returns-in-Run-clause-region g c why is command over arms =
+returns-in-Run-clause-region g c why is command over =
     let old = g.B.Bench.state c.args.bench.now in
     let new = g.B.Bench.state c.run_input.new.bench in
     let left = g.I.Source.left c.args.src.now in
     let With : Command → Type 0 = λ command. IfSome old.told (λ holding. IsRefused command left old new holding why) in
-    subst With (same_some (sym (c.in_ok-command.ensures.command ∙ ap Some c.in-Run.is) ∙ over)) (c.run_input.ensures.region why is arms)
+    subst With (same_some (sym (c.in_ok-command.ensures.command ∙ ap Some c.in-Run.is) ∙ over)) (c.run_input.ensures.region why is)
 
 pub returns-in-Recover-clause-region : goal.returns-in-Recover-clause-region
-returns-in-Recover-clause-region g c why is command over arms =
+returns-in-Recover-clause-region g c why is command over =
     let old = g.B.Bench.state c.args.bench.now in
     let new = g.B.Bench.state c.recover.new.bench in
     let left = g.I.Source.left c.args.src.now in

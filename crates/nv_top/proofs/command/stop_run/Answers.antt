@@ -1,4 +1,4 @@
-use Rattle.std.proofs.Common.{◌≡◌, ◌<◌, ◌+◌, ◌∙◌, [], ℕ, List, All, Err, length, map, refl, sym, ap, subst, sum_by, arith}
+use Rattle.std.proofs.Common.{◌≡◌, ◌<◌, ◌+◌, ◌∙◌, [], ℕ, List, All, Err, None, Some, length, map, refl, sym, ap, subst, sum_by, arith}
 use Rattle.std.specs.Prelude.{IfSome}
 use Rattle.std.specs.List.Sorted.{IsStrictlyIncreasing}
 use Rattle.std.proofs.lemmas.Result.{IfOk-weaker}
@@ -100,3 +100,20 @@ returns-clause-ran g c =
           (all_away region.names holding.stores (home_distinct old holding (g.met.T.Bench.named c.args.bench.now) told c.requires.home)));
     }))
     c.run_to_stop.ensures.ran
+
+pub returns-clause-unarmed : goal.returns-clause-unarmed
+returns-clause-unarmed g c why is rise =
+    let old = g.T.Bench.state c.args.bench.now in
+    let mid = g.T.Bench.state c.open.new.bench in
+    let new = g.T.Bench.state c.run_to_stop.new.bench in
+    let made = c.in_ok-opened.ensures in
+    let region = c.in_ok-opened.opened.region in
+    if_told old.told (λ holding. new.arms ≡ old.arms) (λ holding told.
+    let opened = told_at old.told _ holding told made.opened in
+    let parts = present (map g.T.Part.Lines.history region.parts.items) (told_at old.told _ holding told made.tell) in
+    let some = mid_told old mid region.names holding made.lent c.requires.home told in
+    let none = c.run_to_stop.ensures.never why is parts.states opened.files.held parts.are opened.files.are rise in
+    absurd (not_both (sym some ∙ none)))
+  where
+    not_both : {holding : Holding} → Some holding ≡ None → ⊥
+    not_both is = cc

@@ -4,14 +4,14 @@ use Rattle.std.proofs.lemmas.Result.{IfOk-weaker}
 use Rattle.nv_plain.specs.Faults.{Rose, saturated}
 use Rattle.nv_pmem.specs.Part.{Part}
 use Rattle.nv_pmem.specs.RowStates.{AreNow}
-use Rattle.nv_pmem.specs.declared.geometry.Geometry.{Geometry}
 use Rattle.nv_store.specs.Store.{Store}
 use Rattle.nv_recover.specs.Standing.{files_of}
 use Rattle.nv_trace.specs.declared.trace.Descriptor.{Descriptor}
 use Rattle.nv_top.specs.Answers.{log_faults}
-use Rattle.nv_top.specs.Faithful.{Basis, Sizes, descriptors_in}
+use Rattle.nv_top.specs.Faithful.{Basis, descriptors_in}
 use Rattle.nv_top.specs.LogRuns.{IsFirst, basis_over, lines_in}
 use Rattle.nv_top.specs.Stopping.{HasStoppedOn, IsAway}
+use Rattle.nv_top.proofs.LogRunLemmas.{begins}
 use Rattle.nv_top.proofs.NameLemmas.{descriptors_known}
 use Rattle.nv_top.proofs.StoppingLemmas.{at_some, if_some}
 use Rattle.nv_top.proofs.stopping.run_to_stop.Goals as goal
@@ -43,7 +43,6 @@ returns-in-Ok-new-clause-ran g c =
     let before = sum_by pf region.parts.items + sum_by sf c.args.opened.stores.items in
     let same_faults : log_faults pf sf log ≡ before =
     ap (λ (parts : List _). sum_by pf parts + sum_by sf log.stores.items) made.parts ∙ ap (λ count. sum_by pf region.parts.items + count) made.cause in
-    let sized : Geometry → ℕ → Sizes = λ geometry pages. record { page = geometry.page; entries = geometry.entries; pages = pages } in
     IfOk-weaker c.stop_log.result
     (λ text. (basis : Basis) → IsFirst history held basis log → basis.names ≡ log.names → IsStrictlyIncreasing (lines_in trace)
     → IfSome start.told (λ left. IsAway log.names left → HasStoppedOn (Rose (saturated (start.faults + log_faults pf sf log)) last) basis trace told text.items))
@@ -51,12 +50,7 @@ returns-in-Ok-new-clause-ran g c =
     → IfSome start.told (λ left. IsAway region.names left → HasStoppedOn (Rose (saturated (start.faults + before)) last) (basis_over region c.args.options.pages (files_of now)) trace told text.items))
     (λ text ran parts now parts_are now_are rise.
     let basis = basis_over region c.args.options.pages (files_of now) in
-    let first : IsFirst history held basis log = record {
-      sizes_are = ap (λ geometry. sized geometry log.pages) made.geometry ∙ ap (sized region.geometry) made.pages;
-      next_is = made.tail;
-      head_is = made.head;
-      holds = made.holds parts now parts_are now_are;
-    } in
+    let first = begins history held region c.args.options.pages log (files_of now) made.geometry made.pages made.tail made.head (made.holds parts now parts_are now_are) in
     let Counted : ℕ → Type 0 = λ faults. HasStoppedOn (Rose (saturated (start.faults + faults)) last) basis trace told text.items in
     if_some start.told (λ left. IsAway region.names left → HasStoppedOn (Rose (saturated (start.faults + before)) last) basis trace told text.items)
     (λ left told_is away.
@@ -76,3 +70,9 @@ returns-in-Ok-new-clause-no_less g c = λ armed.
     let same_faults : log_faults pf sf log ≡ sum_by pf region.parts.items + sum_by sf c.args.opened.stores.items =
     ap (λ (parts : List _). sum_by pf parts + sum_by sf log.stores.items) c.in-Ok-new.ensures.parts ∙ ap (λ count. sum_by pf region.parts.items + count) c.in-Ok-new.ensures.cause in
     omega (arith, c.stop_log.ensures.no_less, ap (λ count. saturated (start.faults + count)) same_faults)
+
+pub returns-in-Ok-new-clause-never : goal.returns-in-Ok-new-clause-never
+returns-in-Ok-new-clause-never g c why is parts now parts_are now_are rise =
+    let made = c.in-Ok-new.ensures in
+    c.stop_log.ensures.never why is (basis_over c.args.opened.region c.args.options.pages (files_of now))
+    (begins g.T.Part.Lines.history g.T.Store.Backing.history c.args.opened.region c.args.options.pages c.in-Ok-new.log (files_of now) made.geometry made.pages made.tail made.head (made.holds parts now parts_are now_are)) rise

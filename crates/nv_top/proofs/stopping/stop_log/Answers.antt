@@ -11,7 +11,8 @@ use Rattle.nv_top.specs.Attempts.{HasRunTo}
 use Rattle.nv_top.specs.Faithful.{Basis, descriptors_in}
 use Rattle.nv_top.specs.LogRuns.{IsFirst, lines_in}
 use Rattle.nv_top.specs.Stopping.{HasStoppedOn, IsAway, ShowsRecovered}
-use Rattle.nv_top.proofs.StoppingLemmas.{at_some, count_grows, home_with, if_some, quiet_after, rose_home, run_while, stopped_on}
+use Rattle.nv_top.proofs.StoppingLemmas.{at_some, count_grows, given_home, if_some, none_unless, quiet_after, rose_home, run_while, stopped_on}
+use Rattle.nv_top.proofs.UnrefusedLemmas.{never_refused}
 use Rattle.nv_top.proofs.stopping.stop_log.Goals as goal
 
 pub show_recovered-requires-clause-quiet : goal.show_recovered-requires-clause-quiet
@@ -64,17 +65,34 @@ returns-clause-ran g c =
     stopped_on c.logs_have_one_meaning.ensures.recover c.images_stand_for_files.ensures.files c.power_leaves_an_image.ensures history g.T.Part.Lines.room held failed basis trace c.args.descriptors.now log outcome last.told text.items
     c.args.pick left home.told off.told run
     (c.requires.descriptors ∙ ap (λ names. descriptors_in names trace) (sym named)) (names_so ∙ sym named) c.make_calls_on-made.ensures.log
-    (λ parts stores parts_are stores_are.
-    let PartsNow : List _ → Type 0 = λ these. AreNow (map history these) parts in
-    let StoresNow : List _ → Type 0 = λ these. AreNow (map held these) stores in
-    c.give_back.ensures.told parts stores
-    (subst PartsNow (sym (ap (λ (parts : _). parts.items) into.ensures.parts)) parts_are)
-    (subst StoresNow (sym (ap (λ (stores : _). stores.items) into.ensures.stores)) stores_are)
-    ∙ ap (λ (s : BenchState). told_back parts stores s) c.arm.ensures
-    ∙ ap (λ (told : _). option_map (λ (holding : Holding). home_with holding start.lent parts stores) told) told_is
-    ∙ ap (λ names. Some (home_with left names parts stores)) (c.requires.lent ∙ sym names_so))
+    (given_home history held log c.args.k start armed home.told left into.result.0.items into.result.1.items c.give_back.ensures.told
+    (ap (λ (parts : _). parts.items) into.ensures.parts) (ap (λ (stores : _). stores.items) into.ensures.stores) c.arm.ensures told_is (c.requires.lent ∙ sym names_so))
     (ap (λ (s : BenchState). s.told) c.in_ok-power.ensures.off)
     (λ holding is. g.met.T.Bench.whole c.give_back.new.self holding is)
     (at_some start.told IsQuietHolding left told_is c.requires.quiet).stores
     (subst Away (sym names_so) away) shown))
     c.show_recovered.ensures.shown
+
+pub returns-clause-never : goal.returns-clause-never
+returns-clause-never g c why is basis first rise =
+    let history = g.T.Part.Lines.history in
+    let held = g.T.Store.Backing.history in
+    let state = g.T.Bench.state in
+    let start = state c.args.bench.now in
+    let home = state c.give_back.new.self in
+    let off = state c.power.new.self in
+    let trace = c.args.trace.now in
+    let log = c.make_calls_on-made.new.log in
+    let into = c.into_devices-parts in
+    let failed : Type 0 = Rose (log_faults g.T.Part.Lines.fault_count g.T.Store.Backing.fault_count c.args.log) (log_faults g.T.Part.Lines.fault_count g.T.Store.Backing.fault_count log) in
+    let Rising : List TracedCall → Type 0 = λ calls. IsStrictlyIncreasing (map (λ traced. traced.line) calls) in
+    let run = c.in_ok-outcome.ensures.made basis first (subst Rising (sym c.calls.ensures.calls) rise) in
+    none_unless start.told (λ left told_is.
+    never_refused c.logs_have_one_meaning.ensures.fits c.images_stand_for_files.ensures.good c.a_header_has_one_answer.ensures.read c.power_leaves_an_image.ensures history held failed basis
+    c.args.descriptors.now c.calls.result.now log c.in_ok-outcome.outcome c.args.pick left home.told off.told why run c.make_calls_on-made.ensures.long
+    (given_home history held log c.args.k start (state c.arm.new.self) home.told left into.result.0.items into.result.1.items c.give_back.ensures.told
+    (ap (λ (parts : _). parts.items) into.ensures.parts) (ap (λ (stores : _). stores.items) into.ensures.stores) c.arm.ensures told_is
+    (c.requires.lent ∙ sym c.make_calls_on-made.ensures.region.names))
+    (ap (λ (s : BenchState). s.told) c.in_ok-power.ensures.off)
+    (λ holding is. g.met.T.Bench.whole c.give_back.new.self holding is)
+    (c.show_recovered.ensures.refused why is))
