@@ -1,10 +1,12 @@
 -- What contracts see of devices in memory.
-use Rattle.std.specs.Prelude.{◌≡◌, ℕ, ◌+◌, false, List, [], ◌∷◌, map, sum_by, All, Option, Some, string_bytes, refl}
+use Rattle.std.specs.Prelude.{◌≡◌, ℕ, ◌+◌, false, List, [], ◌∷◌, map, sum_by, All, Option, None, Some, Vec, string_bytes, refl}
 use Rattle.std.specs.Option.{unwrap_or}
 use Rattle.std.proofs.Common.{ap, subst}
 use Rattle.std.proofs.lemmas.List.Elements.{All-nil, All-cons}
 use Rattle.nv_plain.specs.Faults.{saturated}
 use Rattle.nv_pmem.specs.MemPart.{part_now, part_faults}
+use Rattle.nv_pmem.specs.Part.{Part}
+use Rattle.nv_pmem.specs.declared.mem_part.MemPart.{MemPart}
 use Rattle.nv_store.specs.Disk.{store_of}
 use Rattle.nv_store.specs.MemStore.{store_now, store_told_whole}
 use Rattle.nv_store.specs.Store.{IsWhole}
@@ -24,6 +26,11 @@ held_by bench = record { parts = map part_now bench.parts.items; stores = shelve
 abbrev pub faults_by : MemBench → ℕ
 faults_by bench = saturated (bench.gone + sum_by part_faults bench.parts.items + shelf_faults bench.shelf)
 
+-- what parts are, of some rows of them the first
+abbrev pub latest_of : {A : Type 0} → List (Vec MemPart A) → Option (List Part)
+latest_of [] = None
+latest_of (parts ∷ past) = Some (map part_now parts.items)
+
 -- all that is seen of it; it tells all
 abbrev pub mem_state : MemBench → BenchState
 mem_state bench = record {
@@ -34,11 +41,12 @@ mem_state bench = record {
   arms = bench.arms;
   armed = bench.armed;
   settled = bench.settled;
+  left = latest_of bench.left.states;
 }
 
 -- a bench that holds this, of which nothing was ever lent, armed or powered off, and that has never failed
 abbrev pub new_state : Holding → BenchState
-new_state holding = record { told = Some holding; is_open = false; lent = []; faults = 0; arms = 0; armed = 0; settled = 0 }
+new_state holding = record { told = Some holding; is_open = false; lent = []; faults = 0; arms = 0; armed = 0; settled = 0; left = None }
 
 -- stores in memory are whole
 stores_whole : (names : List (List ℕ)) (stores : List MemStore) → All (λ (named : NamedStore). IsWhole named.store) (named_stores names (map store_now stores))

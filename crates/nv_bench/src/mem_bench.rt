@@ -6,7 +6,7 @@ use crate::parts::{faults_of_parts, make_wanted, parts_of, power_parts};
 use crate::shelf::Shelf;
 use crate::{Bench, BenchError};
 use nv_plain::NoMemory;
-use nv_pmem::{Fuse, Geometry, MemPart, Pick, Picker};
+use nv_pmem::{Fuse, Geometry, MemPart, Past, Pick, Picker};
 use nv_store::MemStore;
 use std::alloc::Global;
 use std::mem;
@@ -27,6 +27,8 @@ pub struct MemBench {
     arms: u64,
     armed: u64,
     settled: u64,
+    // The parts as power left them, each time that it went off.
+    left: Past<Vec<MemPart>>,
     ghost home: { is_open ≡ true → vec_len parts ≡ 0 },
     // So stores are taken back without memory.
     ghost places: { HasPlaces (vec_len lent) shelf },
@@ -59,6 +61,7 @@ impl MemBench {
             arms: 0,
             armed: 0,
             settled: 0,
+            left: Past::new(),
         })
     }
 
@@ -91,6 +94,7 @@ impl MemBench {
             arms: 0,
             armed: 0,
             settled: 0,
+            left: Past::new(),
         })
     }
 
@@ -196,6 +200,7 @@ impl Bench for MemBench {
         self.shelf.lose_power(&mut picker);
         self.fuse.disarm();
         self.settled = self.faults();
+        self.left.note(&self.parts);
         Ok(())
     }
 

@@ -25,11 +25,20 @@ use Rattle.nv_top.specs.declared.outcome.Outcome.{Outcome}
 abbrev pub IsBack : (old new : BenchState) → Type 0
 IsBack old new = new ≡ record old { told = new.told; faults = new.faults }
 
--- All that was lent came back to a bench that was armed with this number once more; and it is as it was, but for what it tells, and
--- its counts.
+-- All that was lent came back to a bench that was armed with this number once more; and it is as it was, but for what it tells, its
+-- counts, and what power left.
 abbrev pub IsPoweredBack : ℕ → (old new : BenchState) → Type 0
 IsPoweredBack k old new =
-    new ≡ record old { told = new.told; is_open = false; lent = []; faults = new.faults; arms = old.arms + 1; armed = k; settled = new.settled }
+    new ≡ record old {
+      told = new.told;
+      is_open = false;
+      lent = [];
+      faults = new.faults;
+      arms = old.arms + 1;
+      armed = k;
+      settled = new.settled;
+      left = new.left;
+    }
 
 -- All that was lent came back to a bench that wasn't armed: it is as it was, but for what it tells and its count of faults.
 abbrev pub IsBackUnarmed : (old new : BenchState) → Type 0

@@ -6,7 +6,7 @@ use Rattle.nv_pmem.specs.MemPart.{part_now, part_faults}
 use Rattle.nv_pmem.specs.declared.mem_part.MemPart.{MemPart}
 use Rattle.nv_bench.specs.Holding.{Holding}
 use Rattle.nv_bench.specs.Powered.{powered, powered_parts}
-use Rattle.nv_bench.specs.MemBench.{held_by, faults_by}
+use Rattle.nv_bench.specs.MemBench.{held_by, faults_by, latest_of}
 use Rattle.nv_bench.specs.Shelf.{shelved, shelf_faults}
 use Rattle.nv_plain.specs.Faults.{saturated}
 use Rattle.nv_bench.specs.declared.shelf.Shelf.{Shelf}
@@ -36,6 +36,7 @@ returns-clause-off c =
     let count : saturated (old.gone + sum_by part_faults (with_items old.parts c.power_parts.new.parts).items + shelf_faults c.lose_power.new.self) ≡ faults_by old =
     ap (λ (these : List MemPart). saturated (old.gone + sum_by part_faults these + shelf_faults c.lose_power.new.self)) back ∙ faults in
     let settled : c.faults-self.result ≡ faults_by old = c.faults-self.ensures ∙ count in
+    let noted : latest_of c.note.new.self.states ≡ Some (powered c.args.pick (held_by old)).parts = ap latest_of c.note.ensures ∙ ap (λ (held : Holding). Some held.parts) items in
     λ i. record {
       told = Some (items i);
       is_open = old.is_open;
@@ -44,6 +45,7 @@ returns-clause-off c =
       arms = old.arms;
       armed = old.armed;
       settled = settled i;
+      left = noted i;
     }
 
 pub invariant_of-self-clause-named : goal.invariant_of-self-clause-named
