@@ -1,6 +1,7 @@
 -- A run over a log that a device may stop goes on by one call.
-use Rattle.std.proofs.Common.{◌≡◌, ◌⊎◌, ℕ, ◌+◌, ◌*◌, ◌^◌, ◌≤◌, ◌++◌, [], ◌∷◌, nat_lt, Bool, true, false, if◌then◌else◌, Bor, List, Option, map, length, None, Some, Ok, refl, sym, ap, subst, ◌∙◌, inl, inr, true≢false, arith}
+use Rattle.std.proofs.Common.{◌≡◌, ◌⊎◌, ℕ, ◌+◌, ◌*◌, ◌^◌, ◌≤◌, ◌++◌, [], ◌∷◌, nat_lt, Bool, true, false, if◌then◌else◌, Bor, All, List, Option, map, length, None, Some, Ok, refl, sym, ap, subst, ◌∙◌, inl, inr, true≢false, arith}
 use Rattle.std.proofs.lemmas.List.{map_push}
+use Rattle.std.proofs.lemmas.List.Elements.{All-nil, All-cons}
 use Rattle.nv_plain.specs.Faults.{Rose}
 use Rattle.nv_plain.specs.Files.{Files}
 use Rattle.nv_plain.specs.Pieces.{pages_touched}
@@ -61,6 +62,13 @@ rose_on first before now no_less rose = record { never_falls = omega (arith, no_
 pub rose_since : (first before now : ℕ) → first ≤ before → Rose before now → Rose first now
 rose_since first before now no_more rose = record { never_falls = omega (arith, no_more, rose.never_falls); more = omega (arith, no_more, rose.more, rose.never_falls) }
 
+-- a write that was left open drew the last numbers
+abbrev HasDrawn : Basis → (next : ℕ) → outcome.Left → Type 0
+HasDrawn basis next one = next ≡ one.number + entries_taken basis.sizes one.call.now.call
+
+abbrev HaveDrawn : Basis → (next : ℕ) → List outcome.Left → Type 0
+HaveDrawn basis next left = All (λ one. HasDrawn basis next one) left
+
 -- a log that runs has no write that was left open
 record HasNoneLeft {L B : Type 0} (history : L → lines.History) (held : B → stores.History) (log : Log L B) (pieces : List Piece) (next : ℕ) (files : Files) (left : List outcome.Left) : Type 0 where
   none : left ≡ []
@@ -102,6 +110,7 @@ module _ {L B : Type 0} (history : L → lines.History) (held : B → stores.His
         pieces = [];
         next = basis.next;
         here = subst (IsHeld history held descriptors log [] basis.next basis.files) (sym none_left) (first.holds, sym first.head_is);
+        drew_last = subst (HaveDrawn basis basis.next) (sym none_left) (All-nil (HasDrawn basis basis.next));
         made =
             subst Left_so (sym (ap (map left_call) none_left))
             (subst Refused_so (sym (ap (map refused_call) none_refused))
@@ -158,6 +167,7 @@ module _ {L B : Type 0} (history : L → lines.History) (room : L → Room) (hel
         pieces = here.more;
         next = new.head;
         here = subst (IsHeld history held descriptors new here.more new.head basis.files) (sym (lefts ∙ none.none)) (here.holds, refl);
+        drew_last = subst (HaveDrawn basis new.head) (sym (lefts ∙ none.none)) (All-nil (HasDrawn basis new.head));
         made =
             made_as new.head (laid basis.files here.more) (placed_calls before ++ record { call = call.now; reply = reply } ∷ []) (refused_calls before) (left_calls before)
             (ap (map placed_call) pushed ∙ map_push placed_call before.placed.items (record { call = call; reply = reply })) (ap (map refused_call) others) (ap (map left_call) lefts)
@@ -227,6 +237,7 @@ module _ {L B : Type 0} (history : L → lines.History) (room : L → Room) (hel
         subst (IsHeld history held descriptors new run.pieces run.next basis.files) (sym lefts)
         (held_on history held descriptors old new run.pieces run.next basis.files before.left.items turn.head same.tail same.geometry still
         (turn.holds run.pieces basis.files) (λ more. turn.or_more run.pieces more basis.files) run.here);
+    drew_last = subst (HaveDrawn basis run.next) (sym lefts) run.drew_last;
     made =
         made_as run.next now (placed_calls before) (refused_calls before ++ record { call = call.now; refusal = refusal } ∷ []) (left_calls before)
         (ap (map placed_call) others) (ap (map refused_call) pushed ∙ map_push refused_call before.refused.items (record { call = call; refusal = refusal })) (ap (map left_call) lefts)
@@ -254,6 +265,9 @@ module _ {L B : Type 0} (history : L → lines.History) (room : L → Room) (hel
               is.number_is ∙ none.holds.has.head ∙ ap (λ tail. tail + all_entries old.geometry.page run.pieces) (sym same.tail)
                   ∙ ap (λ (sizes : Geometry). new.tail + all_entries sizes.page run.pieces) (sym same.geometry),
             );
+        drew_last =
+            subst (HaveDrawn basis next) (sym (pushed ∙ ap (λ left. left ++ one ∷ []) none.none))
+            (All-cons (HasDrawn basis next) one [] (ap (λ number. number + entries_taken basis.sizes call.now.call) (none.next_is ∙ sym is.number_is)) (All-nil (HasDrawn basis next)));
         made =
             made_as next now (placed_calls before) (refused_calls before) (left_calls before ++ call.now ∷ [])
             (ap (map placed_call) others) (ap (map refused_call) refusals) (ap (map left_call) pushed ∙ map_push left_call before.left.items one)

@@ -2,6 +2,7 @@
 use Rattle.std.proofs.Common.{◌<◌, ◌≡◌, ℕ, ◌+◌, ◌≤◌, All, List, [], ◌∷◌, ◌++◌, Option, Some, None, IfSome, Result, Ok, Err, option_map, map, length, true, refl, sym, ap, subst, ◌∙◌, inl, inr, arith}
 use Rattle.std.proofs.lemmas.List.{get_or_default, length-map}
 use Rattle.std.proofs.lemmas.List.Elements.{All-nil, All-cons, All-head, All-tail, All-append, All-weaker}
+use Rattle.std.proofs.lemmas.List.Sums.{sum_by-append}
 use Rattle.nv_plain.specs.Faults.{Rose, saturated}
 use Rattle.nv_plain.specs.Files.{Files}
 use Rattle.nv_plain.specs.Images.{Image, header_of}
@@ -26,6 +27,7 @@ use Rattle.nv_header.specs.Regions.{IsAtRest, ReadsAs}
 use Rattle.nv_open.specs.Held.{HoldFiles, IsRecovered, files_named, header_names}
 use Rattle.nv_open.specs.Lending.{all_lent, stores_named, without_named, without_stores}
 use Rattle.nv_recover.specs.Standing.{AreQuietStores, ReadableStandsForRecovered, files_of}
+use Rattle.nv_recover.specs.Recovering.{HasFoundAll}
 use Rattle.nv_recover.specs.declared.recovering.Recovered as recover
 use Rattle.nv_engine.specs.Keeping.{IsLog}
 use Rattle.nv_engine.specs.Laid.{Piece, laid}
@@ -35,12 +37,12 @@ use Rattle.nv_trace.specs.declared.trace.Descriptor.{Descriptor}
 use Rattle.nv_trace.specs.Traced.{Traced}
 use Rattle.nv_trace.specs.declared.trace.TracedCall.{TracedCall}
 use Rattle.nv_top.specs.Attempts.{HasRunTo, IsHeld, piece_of}
-use Rattle.nv_top.specs.Faithful.{Basis, IsLeftOpen, IsWrite, after_open, descriptors_in, named}
-use Rattle.nv_top.specs.Fates.{fated, fated_report, RecoversAsFated}
+use Rattle.nv_top.specs.Faithful.{Basis, IsLeftOpen, IsWrite, after_open, descriptors_in, entries_of, entries_taken, named}
+use Rattle.nv_top.specs.Fates.{fate_of, fated, fated_report, RecoversAsFated}
 use Rattle.nv_top.specs.Outcomes.{left_call, left_calls, placed_calls, refused_calls}
 use Rattle.nv_top.specs.Reports.{OpenCall, report_text}
 use Rattle.nv_top.specs.Runs.{AreMade}
-use Rattle.nv_top.specs.Stopping.{HasStoppedOn, IsAway, RestsWith, ShowsRecovered}
+use Rattle.nv_top.specs.Stopping.{HasStoppedOn, IsAway, IsFated, RestsWith, ShowsRecovered, fate_in}
 use Rattle.nv_top.specs.Stops.{CountHasCause, StopHasCause}
 use Rattle.nv_top.specs.declared.ending.Stop.{Stop}
 use Rattle.nv_top.specs.declared.ending.Stop.TheVariants.{Usage, BadLine, InputLong, Read, Device, Region, NoMemory}
@@ -155,6 +157,38 @@ calls_of_left : (first : ℕ) (groups : List ℕ) (left : List outcome.Left) →
 calls_of_left first groups [] = refl
 calls_of_left first groups (one ∷ left) = ap (λ calls. one.call.now ∷ calls) (calls_of_left first groups left)
 
+-- at most one write is left open
+at_most_one : {L B : Type 0} (history : L → lines.History) (held : B → stores.History) (descriptors : List Descriptor) (log : Log L B) (pieces : List Piece) (next : ℕ) (files : Files) (left : List outcome.Left)
+    → IsHeld history held descriptors log pieces next files left → length left ≤ 1
+at_most_one history held descriptors log pieces next files [] here = omega arith
+at_most_one history held descriptors log pieces next files (one ∷ []) here = omega arith
+at_most_one history held descriptors log pieces next files (one ∷ two ∷ more) here = absurd here
+
+-- it drew the number behind those of the placed calls, so what the parts recover to says its fate
+fates_in : (basis : Basis) (parts : List Part) (found : recover.Recovered) (next : ℕ) (placed : List TracedCall) (left : List outcome.Left) → HasFoundAll (row_words parts) found
+    → All (λ one. next ≡ one.number + entries_taken basis.sizes one.call.now.call) left → next ≡ basis.next + entries_of basis.sizes (placed ++ map left_call left) → length left ≤ 1
+    → All (λ (o : OpenCall). o.fate ≡ fate_in parts basis.files (basis.next + entries_of basis.sizes placed)) (map (fated found.first found.groups) left)
+fates_in basis parts found next placed [] all drew drawn few = All-nil (λ (o : OpenCall). o.fate ≡ fate_in parts basis.files (basis.next + entries_of basis.sizes placed))
+fates_in basis parts found next placed (one ∷ []) all drew drawn few =
+    let Has : OpenCall → Type 0 = λ o. o.fate ≡ fate_in parts basis.files (basis.next + entries_of basis.sizes placed) in
+    let taken : TracedCall → ℕ = λ traced. entries_taken basis.sizes traced.call in
+    let number : one.number ≡ basis.next + entries_of basis.sizes placed = omega (arith, drew 0 one (omega arith), drawn, sum_by-append taken placed (left_call one ∷ [])) in
+    All-cons Has (fated found.first found.groups one) []
+    (ap (λ first. fate_of first found.groups one.number) (all.first basis.files)
+    ∙ ap (λ groups. fate_of (recovered (row_words parts) basis.files).first groups one.number) (all.groups basis.files)
+    ∙ ap (λ number. fate_in parts basis.files number) number) (All-nil Has)
+fates_in basis parts found next placed (one ∷ two ∷ more) all drew drawn few = absurd (omega (arith, few))
+
+is_fated : {L B : Type 0} (history : L → lines.History) (held : B → stores.History) (failed : Type 0) (basis : Basis) (descriptors : List Descriptor) (calls : List TracedCall) (log : Log L B) (outcome : Outcome)
+    (parts : List Part) (found : recover.Recovered) (names : List (List ℕ)) (files : Files)
+    → HasRunTo history held failed basis descriptors calls log outcome → HasFoundAll (row_words parts) found → IsFated basis parts (fated_report outcome found names files)
+is_fated history held failed basis descriptors calls log outcome parts found names files run all =
+    let few = at_most_one history held descriptors log run.pieces run.next basis.files outcome.left.items run.here in
+    record {
+      fates = fates_in basis parts found run.next (map (λ p. p.call) (placed_calls outcome)) outcome.left.items all run.drew_last run.made.drawn few;
+      at_most_one = omega (arith, few, length-map outcome.left.items (fated found.first found.groups));
+    }
+
 each_allowed : (names : List (List ℕ)) → AreFileNames version_1 names → All (λ name. is_name version_1.name_limit name ≡ true) names
 each_allowed names are k d inside =
     let May : List ℕ → Type 0 = λ name. is_name version_1.name_limit name ≡ true in
@@ -166,15 +200,15 @@ unfolding first_names
 names_read parts = refl
 
 pub faithful_after : {L B : Type 0} (recover_so : LoggedImagesRecover) (stand_so : ReadableStandsForRecovered) (history : L → lines.History) (held : B → stores.History) (failed : Type 0)
-    (basis : Basis) (trace : Traced) (descriptors : List Descriptor) (log : Log L B) (outcome : Outcome) (told : Option Holding) (text : List ℕ) (after : Holding)
+    (basis : Basis) (trace : Traced) (descriptors : List Descriptor) (log : Log L B) (outcome : Outcome) (bench : BenchState) (text : List ℕ) (after : Holding)
     (run : HasRunTo history held failed basis descriptors trace.calls log outcome) (devices : HasDevices history held log basis.files)
     → descriptors ≡ descriptors_in basis.names trace → log.names ≡ basis.names → AreFileNames version_1 log.names
     → IsRowImage devices.parts (row_words after.parts)
     → ReadsAs version_1 log.geometry.page log.geometry.entries log.names log.tail (row_words after.parts)
     → files_of (stores_named log.names after.stores) ≡ files_of devices.stores
-    → ShowsRecovered after outcome told text
-    → HasStoppedOn failed basis trace told text
-faithful_after recover_so stand_so history held failed basis trace descriptors log outcome told text after run devices same_descriptors same_names allowed image reads stores_again shown =
+    → ShowsRecovered after outcome bench.told text → bench.left ≡ Some after.parts
+    → HasStoppedOn failed basis trace bench text
+faithful_after recover_so stand_so history held failed basis trace descriptors log outcome bench text after run devices same_descriptors same_names allowed image reads stores_again shown power_left =
     let files = laid basis.files run.pieces in
     let left = outcome.left.items in
     let found = shown.found in
@@ -197,11 +231,14 @@ faithful_after recover_so stand_so history held failed basis trace descriptors l
     let shown_files = files_named after.parts (header_names after.parts) after.stores in
     let named_so : named basis.names shown_files ≡ named basis.names (after_open (descriptors_in basis.names trace) open_calls files) = ap (named basis.names) files_so in
     let Named : List (List ℕ) → Type 0 = λ names. AreFileNames version_1 names in
-    let NamesRest : List (List ℕ) → Type 0 = λ names. RestsWith names shown_files told in
-    let FilesRest : Files → Type 0 = λ files. RestsWith basis.names files told in
+    let NamesRest : List (List ℕ) → Type 0 = λ names. RestsWith names shown_files bench.told in
+    let FilesRest : Files → Type 0 = λ files. RestsWith basis.names files bench.told in
     let shown_so = files_so ∙ ap (after_open (descriptors_in basis.names trace) open_calls) made.files in
     record {
-      left = subst FilesRest shown_so (subst NamesRest (names_so ∙ same_names) shown.left);
+      parts = after.parts;
+      power_left = power_left;
+      fated = is_fated history held failed basis descriptors trace.calls log outcome after.parts found basis.names shown_files run shown.log;
+      rests = subst FilesRest shown_so (subst NamesRest (names_so ∙ same_names) shown.left);
       report = fated_report outcome found basis.names shown_files;
       faithful = made_faithful failed basis trace run.next files (placed_calls outcome) (refused_calls outcome) open_calls (named basis.names shown_files) made named_so;
       plain = names_plain version_1.name_limit basis.names shown_files.contents (each_allowed basis.names (subst Named same_names allowed));
@@ -220,6 +257,7 @@ run_while history held failed more basis descriptors calls log outcome on run = 
   pieces = run.pieces;
   next = run.next;
   here = run.here;
+  drew_last = run.drew_last;
   made = made_while failed more basis descriptors calls run.next (laid basis.files run.pieces) (placed_calls outcome) (refused_calls outcome) (left_calls outcome) on run.made;
 }
 
@@ -270,16 +308,16 @@ given_home history held log k start armed home left parts backing gives same_par
     ∙ ap (λ names. Some (home_with left names now disks)) lent
 
 pub stopped_on : {L B : Type 0} (recover_so : LoggedImagesRecover) (stand_so : ReadableStandsForRecovered) (power_so : PowerLeavesAnImage) (history : L → lines.History) (room : L → Room) (held : B → stores.History)
-    (failed : Type 0) (basis : Basis) (trace : Traced) (descriptors : List Descriptor) (log : Log L B) (outcome : Outcome) (told : Option Holding) (text : List ℕ) (pick : Pick) (left : Holding) (given off : Option Holding)
+    (failed : Type 0) (basis : Basis) (trace : Traced) (descriptors : List Descriptor) (log : Log L B) (outcome : Outcome) (bench : BenchState) (text : List ℕ) (pick : Pick) (left : Holding) (given off : Option Holding)
     → HasRunTo history held failed basis descriptors trace.calls log outcome
     → descriptors ≡ descriptors_in basis.names trace → log.names ≡ basis.names → IsLog history room held log
     → ((parts : List Part) (stores : List Store) → AreNow (map history log.parts.items) parts → AreNow (map held log.stores.items) stores → given ≡ Some (home_with left log.names parts stores))
-    → off ≡ option_map (powered pick) given
+    → off ≡ option_map (powered pick) given → bench.left ≡ option_map (λ (holding : Holding). (powered pick holding).parts) given
     → ((holding : Holding) → given ≡ Some holding → AreWholeStores holding)
     → All (λ (named : NamedStore). IsQuiet named.store) left.stores → IsAway log.names left
-    → IfSome off (λ holding. ShowsRecovered holding outcome told text)
-    → HasStoppedOn failed basis trace told text
-stopped_on recover_so stand_so power_so history room held failed basis trace descriptors log outcome told text pick left given off run same_descriptors same_names is_log gives powers whole quiet away shown =
+    → IfSome off (λ holding. ShowsRecovered holding outcome bench.told text)
+    → HasStoppedOn failed basis trace bench text
+stopped_on recover_so stand_so power_so history room held failed basis trace descriptors log outcome bench text pick left given off run same_descriptors same_names is_log gives powers leaves whole quiet away shown =
     let devices = devices_held history held descriptors log run.pieces run.next basis.files outcome.left.items run.here in
     let before = home_with left log.names devices.parts devices.stores in
     let after = powered pick before in
@@ -290,10 +328,11 @@ stopped_on recover_so stand_so power_so history room held failed basis trace des
     omega (arith, is_log.store_each, length_now (map held log.stores.items) devices.stores devices.stores_are, length-map log.stores.items held) in
     let all_quiet : All (λ (named : NamedStore). IsQuiet named.store) before.stores =
     All-append (λ (named : NamedStore). IsQuiet named.store) left.stores (named_stores log.names devices.stores) quiet (named_quiet log.names devices.stores devices.synced) in
-    faithful_after recover_so stand_so history held failed basis trace descriptors log outcome told text after run devices same_descriptors same_names is_log.names_are image.parts
+    faithful_after recover_so stand_so history held failed basis trace descriptors log outcome bench text after run devices same_descriptors same_names is_log.names_are image.parts
     (fitting_at history held descriptors log run.pieces run.next basis.files outcome.left.items devices.parts (row_words after.parts) devices.parts_are image.parts run.here).logged.header
     (files_again log.names left.stores devices.stores before after refl long is_log.names_are.distinct away image all_quiet)
-    (at_some off (λ holding. ShowsRecovered holding outcome told text) after off_is shown)
+    (at_some off (λ holding. ShowsRecovered holding outcome bench.told text) after off_is shown)
+    (leaves ∙ ap (option_map (λ (holding : Holding). (powered pick holding).parts)) given_is)
 
 -- ---- counts
 

@@ -1,5 +1,5 @@
 -- Attempts: what a call of a trace does over a log that a device may stop, and how far a run has come there.
-use Rattle.std.specs.Prelude.{◌≡◌, ℕ, ◌+◌, ◌≤◌, false, true, List, [], ◌∷◌, length, map, slice_index, None, Some, Result, Ok, Err}
+use Rattle.std.specs.Prelude.{◌≡◌, ℕ, ◌+◌, ◌≤◌, false, true, List, [], ◌∷◌, length, map, slice_index, All, None, Some, Result, Ok, Err}
 use Rattle.nv_plain.specs.Faults.{Rose}
 use Rattle.nv_plain.specs.Files.{Files}
 use Rattle.nv_plain.specs.Layouts.{version_1}
@@ -125,7 +125,8 @@ IsHeld history held descriptors log pieces next files (one ∷ []) =
 IsHeld history held descriptors log pieces next files (one ∷ two ∷ more) = ⊥
 
 -- These calls were made, on a log that a device may have stopped: the log has some pieces over the files of the basis, and what they
--- make of them are the files of the history; and so it is with a write that was left open. It is stopped only where devices failed.
+-- make of them are the files of the history; and so it is with a write that was left open, which drew the last numbers. It is stopped
+-- only where devices failed.
 pub record HasRunTo {L B : Type 0} (history : L → lines.History) (held : B → stores.History) (failed : Type 0) (basis : Basis) (descriptors : List Descriptor) (calls : List TracedCall)
     (log : Log L B) (outcome : Outcome) : Type 0 where
   pub sizes_are : sizes_of log ≡ basis.sizes
@@ -134,4 +135,5 @@ pub record HasRunTo {L B : Type 0} (history : L → lines.History) (held : B →
   pub pieces : List Piece
   pub next : ℕ
   pub here : IsHeld history held descriptors log pieces next basis.files outcome.left.items
+  pub drew_last : All (λ left. next ≡ left.number + entries_taken basis.sizes left.call.now.call) outcome.left.items
   pub made : AreMade failed basis descriptors calls next (laid basis.files pieces) (placed_calls outcome) (refused_calls outcome) (left_calls outcome)

@@ -47,16 +47,16 @@ IsLeftBy Recover old new = IsGivenBack old new
 abbrev pub expected_faults : (old new : BenchState) → ℕ
 expected_faults old new = max old.faults new.settled
 
--- The text is that of a faithful report of a run of the trace that was stopped, on a bench that held this and tells that now.
-pub record HasStopped (failed : Type 0) (options : RunOptions) (holding : Holding) (told : Option Holding) (trace : Traced) (text : List ℕ) : Type 0 where
+-- The text is that of a faithful report of a run of the trace that was stopped, on a bench that held this and is that now.
+pub record HasStopped (failed : Type 0) (options : RunOptions) (holding : Holding) (bench : BenchState) (trace : Traced) (text : List ℕ) : Type 0 where
   pub basis : Basis
   pub begun : IsBasis options holding trace.names basis
-  pub stopped : HasStoppedOn failed basis trace told text
+  pub stopped : HasStoppedOn failed basis trace bench text
 
 -- what the report of a run of a trace, stopped or not, shows of a bench that held this
 abbrev pub IsShownOf : (stop : Option ℕ) → RunOptions → (old new : BenchState) → Holding → Traced → (text : List ℕ) → Type 0
 IsShownOf None options old new holding trace text = HasRunOn options holding new.told trace text
-IsShownOf (Some k) options old new holding trace text = HasStopped (Rose old.faults new.faults) options holding new.told trace text
+IsShownOf (Some k) options old new holding trace text = HasStopped (Rose old.faults new.faults) options holding new trace text
 
 -- what the report of a command shows of a bench that held this, and of the input that it had
 abbrev pub IsShown : Command → (input : Option (List ℕ)) → (old new : BenchState) → Holding → (text : List ℕ) → Type 0

@@ -1,8 +1,10 @@
 -- Stopping: a run that is stopped at a device call, and what it leaves.
-use Rattle.std.specs.Prelude.{◌≡◌, ℕ, ◌+◌, ◌≤◌, false, List, [], ◌++◌, All, Option, Some, Result, Ok, Err}
+use Rattle.std.specs.Prelude.{◌≡◌, ℕ, ◌+◌, ◌≤◌, false, List, [], ◌++◌, length, All, Option, Some, Result, Ok, Err}
 use Rattle.nv_plain.specs.Faults.{Rose}
 use Rattle.nv_plain.specs.Files.{Files}
 use Rattle.nv_plain.specs.Layouts.{version_1}
+use Rattle.nv_plain.specs.Recovered.{recovered}
+use Rattle.nv_pmem.specs.Part.{Part}
 use Rattle.nv_pmem.specs.Rows.{row_words}
 use Rattle.nv_store.specs.Store.{Store}
 use Rattle.nv_header.specs.Regions.{IsAtRest}
@@ -13,8 +15,9 @@ use Rattle.nv_open.specs.Held.{files_named, header_names}
 use Rattle.nv_recover.specs.Recovering.{HasFoundAll}
 use Rattle.nv_recover.specs.declared.recovering.Recovered as recover
 use Rattle.nv_trace.specs.Traced.{Traced}
-use Rattle.nv_top.specs.Faithful.{Basis, IsFaithful, files_shown}
-use Rattle.nv_top.specs.Fates.{fated_report}
+use Rattle.nv_trace.specs.declared.report.Fate.{Fate}
+use Rattle.nv_top.specs.Faithful.{Basis, IsFaithful, entries_of, files_shown, placed_calls}
+use Rattle.nv_top.specs.Fates.{fate_of, fated_report}
 use Rattle.nv_top.specs.Readings.{HavePlainNames}
 use Rattle.nv_top.specs.Reports.{Report, report_text}
 use Rattle.nv_top.specs.declared.ending.Stop.{Stop}
@@ -85,10 +88,29 @@ pub record ShowsRecovered (holding : Holding) (outcome : Outcome) (told : Option
       (files_named holding.parts (header_names holding.parts) holding.stores))
   pub left : RestsWith (header_names holding.parts) (files_named holding.parts (header_names holding.parts) holding.stores) told
 
--- The text is that of a faithful report of a run of the trace, and the bench rests with the files that it shows.
-pub record HasStoppedOn (failed : Type 0) (basis : Basis) (trace : Traced) (told : Option Holding) (text : List ℕ) : Type 0 where
+-- the number that a write drew which was left open: the first one of the run that no placed call took
+abbrev pub open_number : Basis → Report → ℕ
+open_number basis report = basis.next + entries_of basis.sizes (placed_calls report)
+
+-- the fate of a write that drew this number, by what the log recovers to that stands in these parts
+abbrev pub fate_in : List Part → Files → ℕ → Fate
+fate_in parts files number =
+    let log = recovered (row_words parts) files in
+    fate_of log.first log.groups number
+
+-- At most one write was left open, and it is kept or lost as the log says that stands in these parts.
+pub record IsFated (basis : Basis) (parts : List Part) (report : Report) : Type 0 where
+  pub fates : All (λ o. o.fate ≡ fate_in parts basis.files (open_number basis report)) report.open_calls
+  pub at_most_one : length report.open_calls ≤ 1
+
+-- The text is that of a faithful report of a run of the trace, whose fates are those of the parts as power left them, and the bench rests
+-- with the files that it shows.
+pub record HasStoppedOn (failed : Type 0) (basis : Basis) (trace : Traced) (bench : BenchState) (text : List ℕ) : Type 0 where
   pub report : Report
   pub faithful : IsFaithful failed basis trace report
   pub plain : HavePlainNames report.files
   pub text_is : text ≡ report_text report
-  pub left : RestsWith basis.names (files_shown basis trace report) told
+  pub parts : List Part
+  pub power_left : bench.left ≡ Some parts
+  pub fated : IsFated basis parts report
+  pub rests : RestsWith basis.names (files_shown basis trace report) bench.told

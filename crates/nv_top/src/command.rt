@@ -269,7 +269,7 @@ fn stop_run<T: Bench>(
     ensures back { IsPoweredBack k (T.state bench.old) (T.state bench.new) ⊎ IsGivenBack (T.state bench.old) (T.state bench.new) }
     ensures cause { Settles (expected_faults (T.state bench.old) (T.state bench.new)) (T.state bench.new).faults result }
     ensures ran { IfOk result (λ text. IsStrictlyIncreasing (lines_in trace.now) → IfSome (T.state bench.old).told (λ holding.
-        HasStopped (Rose (T.state bench.old).faults (T.state bench.new).faults) options holding (T.state bench.new).told trace.now text.items)) }
+        HasStopped (Rose (T.state bench.old).faults (T.state bench.new).faults) options holding (T.state bench.new) trace.now text.items)) }
     ensures refused { (why : _) → result ≡ Err (stops.Region why) → (T.state bench.new).arms ≡ (T.state bench.old).arms
         → IfSome (T.state bench.old).told (λ holding. IsNotRun options holding trace.now.names why) }
     ensures unwritten { (why : _) → result ≡ Err (stops.Region why) → (T.state bench.new).arms ≡ (T.state bench.old).arms

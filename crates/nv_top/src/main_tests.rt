@@ -282,6 +282,23 @@ fn stopped_at_a_call(rt: HostRuntime) -> Result<(), Fail> {
     Ok(())
 }
 
+// A write whose bytes are there already is kept or lost by its number, whatever the file shows. The second write's last call is the 24th.
+#[test]
+fn same_bytes_again(rt: HostRuntime) -> Result<(), Fail> {
+    let trace = "file a\nfd 0 a rw\n0 pwrite 0 0 09\n0 pwrite 0 0 09\n";
+    let lost = b"0 0 pwrite 0 0 1 = 1\nopen 0 pwrite 0 0 1: lost\nfile a 1 09\nend 1 0 1\n";
+    let kept = b"0 0 pwrite 0 0 1 = 1\nopen 0 pwrite 0 0 1: kept\nfile a 1 09\nend 1 0 1\n";
+    for (stop, image, report) in [
+        ("13", "new", lost),
+        ("24", "old", lost),
+        ("24", "new", kept),
+    ] {
+        let words = &["run", "--noworker", "--stop", stop, "--image", image];
+        expect(&rt, words, trace, DONE, report)?;
+    }
+    Ok(())
+}
+
 // The report of a run of `hello` that is stopped at a device call, and what a recovery says then.
 fn stopped<R>(rt: &R, stop: u64, image: &str) -> Result<(Vec<u8>, Vec<u8>), Fail>
 where

@@ -77,7 +77,7 @@ pub(crate) fn run_to_stop<T: Bench>(
         → IsStrictlyIncreasing (lines_in trace.now) → IfSome (T.state bench.old).told (λ left. IsAway opened.region.names left
         → HasStoppedOn (Rose (saturated ((T.state bench.old).faults
         + (sum_by T.Part.fault_count opened.region.parts.items + sum_by T.Store.fault_count opened.stores.items))) (T.state bench.new).faults)
-        (basis_over opened.region options.pages (files_of now)) trace.now (T.state bench.new).told text.items)) }
+        (basis_over opened.region options.pages (files_of now)) trace.now (T.state bench.new) text.items)) }
 {
     let Opened { region, stores } = opened;
     let Ok(descriptors) = descriptors_in(alloc, region.names().as_slice(), trace) else {
@@ -123,7 +123,7 @@ fn stop_log<T: Bench>(
     ensures ran { IfOk result (λ text. (basis : Basis) → IsFirst T.Part.history T.Store.history basis log → basis.names ≡ log.names
         → IsStrictlyIncreasing (lines_in trace.now) → IfSome (T.state bench.old).told (λ left. IsAway log.names left
         → HasStoppedOn (Rose (saturated ((T.state bench.old).faults + log_faults T.Part.fault_count T.Store.fault_count log)) (T.state bench.new).faults)
-        basis trace.now (T.state bench.new).told text.items)) }
+        basis trace.now (T.state bench.new) text.items)) }
 {
     logs_have_one_meaning();
     images_stand_for_files();

@@ -70,16 +70,16 @@ returns-clause-ran g c =
     let lent = saturated (mid.faults + (sum_by g.T.Part.Lines.fault_count region.parts.items + sum_by g.T.Store.Backing.fault_count backing)) in
     IfOk-weaker c.run_to_stop.result
     (λ text. (parts : List Part) (now : List Store) → AreNow (map history region.parts.items) parts → AreNow (map held backing) now → IsStrictlyIncreasing (lines_in trace)
-    → IfSome mid.told (λ left. IsAway region.names left → HasStoppedOn (Rose lent new.faults) (basis_over region c.args.options.pages (files_of now)) trace new.told text.items))
-    (λ text. IsStrictlyIncreasing (lines_in trace) → IfSome old.told (λ holding. HasStopped (Rose old.faults new.faults) c.args.options holding new.told trace text.items))
+    → IfSome mid.told (λ left. IsAway region.names left → HasStoppedOn (Rose lent new.faults) (basis_over region c.args.options.pages (files_of now)) trace new text.items))
+    (λ text. IsStrictlyIncreasing (lines_in trace) → IfSome old.told (λ holding. HasStopped (Rose old.faults new.faults) c.args.options holding new trace text.items))
     (λ text ran rise.
-    if_told old.told (λ holding. HasStopped (Rose old.faults new.faults) c.args.options holding new.told trace text.items) (λ holding told.
+    if_told old.told (λ holding. HasStopped (Rose old.faults new.faults) c.args.options holding new trace text.items) (λ holding told.
     let opened = told_at old.told _ holding told made.opened in
     let parts = present (map history region.parts.items) (told_at old.told _ holding told made.tell) in
     let basis = basis_over region c.args.options.pages (files_of opened.files.held) in
     let left : Holding = record { parts = []; stores = without_stores region.names holding.stores } in
-    let Stopped : Holding → Type 0 = λ left. IsAway region.names left → HasStoppedOn (Rose lent new.faults) basis trace new.told text.items in
-    let Over : ℕ → Type 0 = λ count. HasStoppedOn (Rose count new.faults) basis trace new.told text.items in
+    let Stopped : Holding → Type 0 = λ left. IsAway region.names left → HasStoppedOn (Rose lent new.faults) basis trace new text.items in
+    let Over : ℕ → Type 0 = λ count. HasStoppedOn (Rose count new.faults) basis trace new text.items in
     let same : lent ≡ old.faults = omega (arith, made.counts) in
     let With : List (List ℕ) → Type 0 = λ wanted. IsBasis c.args.options holding wanted basis in
     record {

@@ -1,4 +1,4 @@
-use Rattle.std.proofs.Common.{ℕ, List, [], sym, ap, get_or, ◌∙◌}
+use Rattle.std.proofs.Common.{ℕ, List, [], ap, get_or, ◌∙◌}
 use Rattle.std.proofs.lemmas.List.{get_or_default}
 use Rattle.nv_trace.specs.Said.{place_of}
 use Rattle.nv_trace.specs.declared.trace.Descriptor.{Descriptor}

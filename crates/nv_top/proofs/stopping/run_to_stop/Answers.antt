@@ -38,25 +38,25 @@ returns-in-Ok-new-clause-ran g c =
     let log = c.in-Ok-new.log in
     let made = c.in-Ok-new.ensures in
     let start = g.T.Bench.state c.args.bench.now in
-    let last = (g.T.Bench.state c.stop_log.new.bench).faults in
-    let told = (g.T.Bench.state c.stop_log.new.bench).told in
+    let stopped = g.T.Bench.state c.stop_log.new.bench in
+    let last = stopped.faults in
     let before = sum_by pf region.parts.items + sum_by sf c.args.opened.stores.items in
     let same_faults : log_faults pf sf log ≡ before =
     ap (λ (parts : List _). sum_by pf parts + sum_by sf log.stores.items) made.parts ∙ ap (λ count. sum_by pf region.parts.items + count) made.cause in
     IfOk-weaker c.stop_log.result
     (λ text. (basis : Basis) → IsFirst history held basis log → basis.names ≡ log.names → IsStrictlyIncreasing (lines_in trace)
-    → IfSome start.told (λ left. IsAway log.names left → HasStoppedOn (Rose (saturated (start.faults + log_faults pf sf log)) last) basis trace told text.items))
+    → IfSome start.told (λ left. IsAway log.names left → HasStoppedOn (Rose (saturated (start.faults + log_faults pf sf log)) last) basis trace stopped text.items))
     (λ text. (parts : List Part) (now : List Store) → AreNow (map history region.parts.items) parts → AreNow (map held c.args.opened.stores.items) now → IsStrictlyIncreasing (lines_in trace)
-    → IfSome start.told (λ left. IsAway region.names left → HasStoppedOn (Rose (saturated (start.faults + before)) last) (basis_over region c.args.options.pages (files_of now)) trace told text.items))
+    → IfSome start.told (λ left. IsAway region.names left → HasStoppedOn (Rose (saturated (start.faults + before)) last) (basis_over region c.args.options.pages (files_of now)) trace stopped text.items))
     (λ text ran parts now parts_are now_are rise.
     let basis = basis_over region c.args.options.pages (files_of now) in
     let first = begins history held region c.args.options.pages log (files_of now) made.geometry made.pages made.tail made.head (made.holds parts now parts_are now_are) in
-    let Counted : ℕ → Type 0 = λ faults. HasStoppedOn (Rose (saturated (start.faults + faults)) last) basis trace told text.items in
-    if_some start.told (λ left. IsAway region.names left → HasStoppedOn (Rose (saturated (start.faults + before)) last) basis trace told text.items)
+    let Counted : ℕ → Type 0 = λ faults. HasStoppedOn (Rose (saturated (start.faults + faults)) last) basis trace stopped text.items in
+    if_some start.told (λ left. IsAway region.names left → HasStoppedOn (Rose (saturated (start.faults + before)) last) basis trace stopped text.items)
     (λ left told_is away.
     let Away : List (List ℕ) → Type 0 = λ names. IsAway names left in
     subst Counted same_faults
-    (at_some start.told (λ left. IsAway log.names left → HasStoppedOn (Rose (saturated (start.faults + log_faults pf sf log)) last) basis trace told text.items) left told_is
+    (at_some start.told (λ left. IsAway log.names left → HasStoppedOn (Rose (saturated (start.faults + log_faults pf sf log)) last) basis trace stopped text.items) left told_is
     (ran basis first (sym made.names) rise) (subst Away (sym made.names) away))))
     c.stop_log.ensures.ran
 

@@ -50,7 +50,7 @@ returns-clause-ran g c =
     IfOk-weaker c.show_recovered.result
     (λ text. IfSome off.told (λ holding. ShowsRecovered holding outcome last.told text.items))
     (λ text. (basis : Basis) → IsFirst history held basis c.args.log → basis.names ≡ c.args.log.names → IsStrictlyIncreasing (lines_in trace)
-    → IfSome start.told (λ left. IsAway c.args.log.names left → HasStoppedOn failed basis trace last.told text.items))
+    → IfSome start.told (λ left. IsAway c.args.log.names left → HasStoppedOn failed basis trace last text.items))
     (λ text shown basis first named rise.
     let Rising : List TracedCall → Type 0 = λ calls. IsStrictlyIncreasing (map (λ traced. traced.line) calls) in
     let before = log_faults pf sf c.args.log in
@@ -59,15 +59,16 @@ returns-clause-ran g c =
     let run =
     run_while history held (Rose before now) failed basis c.args.descriptors.now trace.calls log outcome (rose_home start.faults before now last.faults no_less)
     (subst Run c.calls.ensures.calls (c.in_ok-outcome.ensures.made basis first (subst Rising (sym c.calls.ensures.calls) rise))) in
-    if_some start.told (λ left. IsAway c.args.log.names left → HasStoppedOn failed basis trace last.told text.items)
+    if_some start.told (λ left. IsAway c.args.log.names left → HasStoppedOn failed basis trace last text.items)
     (λ left told_is away.
     let Away : List (List ℕ) → Type 0 = λ names. IsAway names left in
-    stopped_on c.logs_have_one_meaning.ensures.recover c.images_stand_for_files.ensures.files c.power_leaves_an_image.ensures history g.T.Part.Lines.room held failed basis trace c.args.descriptors.now log outcome last.told text.items
+    stopped_on c.logs_have_one_meaning.ensures.recover c.images_stand_for_files.ensures.files c.power_leaves_an_image.ensures history g.T.Part.Lines.room held failed basis trace c.args.descriptors.now log outcome last text.items
     c.args.pick left home.told off.told run
     (c.requires.descriptors ∙ ap (λ names. descriptors_in names trace) (sym named)) (names_so ∙ sym named) c.make_calls_on-made.ensures.log
     (given_home history held log c.args.k start armed home.told left into.result.0.items into.result.1.items c.give_back.ensures.told
     (ap (λ (parts : _). parts.items) into.ensures.parts) (ap (λ (stores : _). stores.items) into.ensures.stores) c.arm.ensures told_is (c.requires.lent ∙ sym names_so))
     (ap (λ (s : BenchState). s.told) c.in_ok-power.ensures.off)
+    (ap (λ (s : BenchState). s.left) c.show_recovered.ensures.back ∙ ap (λ (s : BenchState). s.left) c.in_ok-power.ensures.off)
     (λ holding is. g.met.T.Bench.whole c.give_back.new.self holding is)
     (at_some start.told IsQuietHolding left told_is c.requires.quiet).stores
     (subst Away (sym names_so) away) shown))
