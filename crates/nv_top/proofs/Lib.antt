@@ -6,6 +6,7 @@ pub mod EndingLemmas
 pub mod FaithfulLemmas
 pub mod FateLemmas
 pub mod FinishLemmas
+pub mod FolderLemmas
 pub mod HeadlineLemmas
 pub mod HomeLemmas
 pub mod LineLemmas

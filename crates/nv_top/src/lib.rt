@@ -8,6 +8,8 @@ mod early;
 mod ending;
 mod fates;
 mod files;
+#[cfg(test)]
+mod folder_tests;
 mod gate;
 #[cfg(test)]
 mod group_tests;

@@ -41,7 +41,7 @@ const EMPTY: &[u8] = b"recovered 0 0 0\nfile a 0 -\n";
 
 const FILLED: &[u8] = b"recovered 1 1 0\nfile a 5 68656c6c6f\n";
 
-fn strings(alloc: Global, words: &[&str]) -> Result<Vec<String>, Fail> {
+pub(super) fn strings(alloc: Global, words: &[&str]) -> Result<Vec<String>, Fail> {
     let mut strings = Vec::new(alloc);
     for word in words {
         strings.push(String::from_str(alloc, word)?)?;
