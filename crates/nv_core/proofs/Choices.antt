@@ -20,6 +20,10 @@ when_false b one other e = ap (λ c. if c then one else other) e
 pub not_both : {b : Bool} → b ≡ true → b ≡ false → ⊥
 not_both so not_so = true≢false (sym so ∙ not_so)
 
+pub unless_true : (b : Bool) → b ≢ true → b ≡ false
+unless_true true not_so = absurd (not_so refl)
+unless_true false not_so = refl
+
 -- where nothing is left the call is over, and else it is on its way out
 pub leaving_both : (P : Stage → Type 0) (hands : List Word) → (hands ≡ [] → P Idle) → (hands ≢ [] → P Leaving) → P (leaving hands)
 leaving_both P [] none some = none refl

@@ -17,7 +17,7 @@ use Rattle.nv_plain.specs.declared.call.FileCall.TheVariants.{Read, Write, Sync}
 use Rattle.nv_header.specs.Heads.{first_names}
 use Rattle.nv_header.specs.Regions.{ReadsAs}
 use Rattle.nv_entry.specs.Group.{HoldsEntry, count_at}
-use Rattle.nv_core.specs.Words.{Sizes, HEAD, kind_of, ready}
+use Rattle.nv_core.specs.Words.{Sizes, HEAD, was_readied}
 use Rattle.nv_core.specs.Passes.{IsAllowed, is_write, file_of, page_count}
 use Rattle.nv_core.specs.Deeds.{slot_of}
 use Rattle.nv_core.specs.Order.{Values}
@@ -231,7 +231,7 @@ module _ (plain : PlainLaws) (sizes : Sizes) (first : Values) (opened : Files) (
   committed_of (Sync file) n whole = absurd whole
 
   -- a leader that is ready reads as committed
-  pub ready_committed : (n : ℕ) → InWindow core n → (log.group n).first ≡ n → kind_of (entry_at sizes core n) ≡ ready → is_committed sizes image n ≡ true
+  pub ready_committed : (n : ℕ) → InWindow core n → (log.group n).first ≡ n → was_readied (entry_at sizes core n) ≡ true → is_committed sizes image n ≡ true
   ready_committed n within leads kind = committed_of (log.group n).call n (images.whole n within leads kind image is)
 
   pub image_fits : Fits version_1 image

@@ -2,7 +2,7 @@
 use Rattle.std.proofs.Common.{◌≡◌, ◌↔◌, ℕ, zero, suc, ◌+◌, ◌-◌, ◌<◌, ◌≤◌, ◌==◌, ◌&&◌, ◌||◌, not, Bool, true, false, if◌then◌else◌, List, [], ◌∷◌, ◌++◌, inl, inr, refl, sym, ap, ap₂, subst, ◌∙◌, arith}
 use Rattle.std.specs.Prelude.{fold, filter}
 use Rattle.std.specs.List.{flat_map, range_with_len}
-use Rattle.std.proofs.lemmas.Bool.{cases_eq, eqb-true, eqb-false, and_parts, and_from}
+use Rattle.std.proofs.lemmas.Bool.{cases_eq, eqb-true, and_parts, and_from}
 use Rattle.std.proofs.lemmas.List.{append-nil}
 use Rattle.std.proofs.lemmas.List.FromFn.{fill_by_all}
 use Rattle.nv_plain.specs.Files.{Files, contents_of}
@@ -13,11 +13,11 @@ use Rattle.nv_plain.specs.declared.call.FileCall.TheVariants.{Read, Write, Sync}
 use Rattle.nv_pmem.specs.Laws as lines
 use Rattle.nv_store.specs.Laws as stores
 use Rattle.nv_entry.specs.Commits.{GroupsAreAtomic, GroupsBecomeWhole, GroupsEndQuiet, GroupsStoreNothingElse}
-use Rattle.nv_core.specs.Words.{Sizes, HEAD, TAIL, STORE, kind_of, ready}
+use Rattle.nv_core.specs.Words.{Sizes, HEAD, TAIL, STORE}
 use Rattle.nv_core.specs.Passes.{IsOneOf}
 use Rattle.nv_core.specs.Order.{Values}
 use Rattle.nv_core.specs.Core.{Core}
-use Rattle.nv_core.specs.LogWindow.{InWindow, entry_at}
+use Rattle.nv_core.specs.LogWindow.{InWindow}
 use Rattle.nv_core.specs.Groups.{Log}
 use Rattle.nv_core.specs.Written.{IsWritten}
 use Rattle.nv_core.specs.EntryImages.{IsRegionImage, EntryImages}
@@ -36,6 +36,7 @@ use Rattle.nv_core.proofs.OpeningLogContent.{told_seen}
 use Rattle.nv_core.proofs.ImageLaws.{entry_images, stale_words}
 use Rattle.nv_core.proofs.CrashGroups.{some_entries, some_page, leads_if, end_low, test_is, image_fits, kept, kept_if, kept_after, number_high, ready_committed}
 use Rattle.nv_core.proofs.CrashOrder.{part_last, all_if, split_kept, split_added, unready_apart, ready_write, live_are_ready}
+use Rattle.nv_core.proofs.Choices.{not_both}
 
 -- the image of quiet stores is what they read as
 stores_are : stores.QuietHasOneImage → (sizes : Sizes) (names : List (List ℕ)) (tail : ℕ) (core : Core) (bytes : Files) → HasRegion sizes names tail core → AreStoreImages sizes core.values bytes → bytes ≡ store_files sizes core.values
@@ -120,10 +121,10 @@ module _ (plain : PlainLaws) (sizes : Sizes) (first : Values) (opened : Files) (
   not_true false e = refl
 
   committed_if : (n : ℕ) → InWindow core n → leads n ≡ true → is_ready sizes core n ≡ true → is_committed sizes image n ≡ true
-  committed_if n within e r = ready_committed plain sizes first opened names tail log placed core sound content region images stale image is n within (eqb-true (log.group n).first n e) (eqb-true (kind_of (entry_at sizes core n)) ready r)
+  committed_if n within e r = ready_committed plain sizes first opened names tail log placed core sound content region images stale image is n within (eqb-true (log.group n).first n e) r
 
   unready_if : (n : ℕ) → InWindow core n → leads n ≡ true → is_ready sizes core n ≡ false → IsUnready sizes log core n
-  unready_if n within e r = record { within = within; leads = eqb-true (log.group n).first n e; unready = eqb-false (kind_of (entry_at sizes core n)) ready r }
+  unready_if n within e r = record { within = within; leads = eqb-true (log.group n).first n e; unready = λ e. not_both e r }
 
   -- a write whose leader isn't ready is apart from each that is chosen above it
   other_apart : (n m : ℕ) → InWindow core n → InWindow core m → n < m → (test : Bool) → (test ≡ true → leads m ≡ true) → AllApart (others n) (call_if test (log.group m).call)

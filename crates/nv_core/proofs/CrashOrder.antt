@@ -1,10 +1,10 @@
 -- The order of writes: live pieces are the ready writes, and writes that are apart from those above them may as well come last.
 use Rattle.std.proofs.Common.{◌≡◌, ℕ, zero, suc, ◌+◌, ◌-◌, ◌<◌, ◌≤◌, ◌==◌, ◌&&◌, ◌||◌, not, Bool, true, false, if◌then◌else◌, List, [], ◌∷◌, ◌++◌, length, inl, inr, refl, sym, ap, ap₂, subst, ◌∙◌, arith}
-use Rattle.std.proofs.lemmas.Bool.{cases_lt, cases_eq, eqb-true, eq-eqb, ne_eqb}
+use Rattle.std.proofs.lemmas.Bool.{cases_lt, cases_eq, eq-eqb, ne_eqb}
 use Rattle.std.proofs.lemmas.List.{append-nil}
 use Rattle.nv_plain.specs.Files.{Files}
 use Rattle.nv_plain.specs.declared.call.FileCall.{FileCall}
-use Rattle.nv_core.specs.Words.{Sizes, HEAD, TAIL, kind_of, ready}
+use Rattle.nv_core.specs.Words.{Sizes, HEAD, TAIL, was_readied}
 use Rattle.nv_core.specs.Passes.{IsAmong, first_page}
 use Rattle.nv_core.specs.Standing.{IsPage}
 use Rattle.nv_core.specs.Core.{Core}
@@ -159,8 +159,8 @@ module _ (sizes : Sizes) (log : Log) (core : Core) (groups : Groups sizes core l
       live_of : (b : Bool) → is_ready sizes core n ≡ b → (m : ℕ) → n ≤ m → m < n + (log.group n).entries → live_piece m ≡ (if b then piece_write sizes (log.group n).call (m - n) ∷ [] else [])
       live_of true e m low high =
           let g = of_group m low high in
-          let kind : kind_of (entry_at sizes core m) ≡ ready = pieces.followers n m within leads (eqb-true (kind_of (entry_at sizes core n)) ready e) (low, high) in
-          ap₂ (λ a b. call_if (a && b) (piece_call sizes (log.group m) m)) (eq-eqb (kind_of (entry_at sizes core m)) ready kind) (ap (is_ready sizes core) (leader_of m low high) ∙ e)
+          let kind : was_readied (entry_at sizes core m) ≡ true = pieces.followers n m within leads e (low, high) in
+          ap₂ (λ a b. call_if (a && b) (piece_call sizes (log.group m) m)) kind (ap (is_ready sizes core) (leader_of m low high) ∙ e)
           ∙ ap (λ x. piece_call sizes x m ∷ []) g ∙ ap (λ f. piece_write sizes (log.group n).call (m - f) ∷ []) leads
       live_of false e m low high =
           ap (λ b. call_if (is_ready sizes core m && b) (piece_call sizes (log.group m) m)) (ap (is_ready sizes core) (leader_of m low high) ∙ e)

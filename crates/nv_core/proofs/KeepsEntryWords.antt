@@ -4,7 +4,7 @@ use Rattle.std.proofs.lemmas.Bool.{ltb-true, eqb-true, true≢false}
 use Rattle.std.proofs.lemmas.Nat.{div_below}
 use Rattle.nv_plain.specs.declared.call.FileCall.{FileCall}
 use Rattle.nv_plain.specs.declared.call.FileCall.TheVariants.{Read, Write, Sync}
-use Rattle.nv_core.specs.Words.{Sizes, ENTRY, same, page_total, filling, broken}
+use Rattle.nv_core.specs.Words.{Sizes, ENTRY, same, page_total, filling, broken, ready}
 use Rattle.nv_core.specs.Passes.{IsAmong, IsAllowed, is_write, at_of, len_of, file_of, page_count, end_page}
 use Rattle.nv_core.specs.Deeds.{Deed, slot_of, page_at, ready_word, Seizes, Readies, Breaks}
 use Rattle.nv_core.specs.Order.{Values}
@@ -54,7 +54,7 @@ words_step sizes first by core (Readies next) found sound words may =
     let most = pages_within sizes (core.passes by).call allowed (some_bytes (core.passes by).call at.0.write) in
     record {
       each = λ slot. changed_word sizes core (slot_of sizes next) (ready_word sizes (core.passes by) next) words
-          (IsReady (if next == (core.passes by).first then (core.passes by).entries else 0) (page_at sizes (core.passes by) next) refl
+          (IsReady ready (if next == (core.passes by).first then (core.passes by).entries else 0) (page_at sizes (core.passes by) next) (omega arith) (omega arith) refl
           (if_both (λ c. c ≤ 16) (next == (core.passes by).first) (core.passes by).entries 0 (λ _. let m = at.0.many in let a : page_count sizes (core.passes by).call ≤ 16 = (let b = allowed.short in omega (arith, b)) in omega (arith, m, a)) (λ _. omega arith))
           (let x = at.1.0 in let y = at.1.1 in let m = at.0.many in omega (arith, x, y, m, most))) slot;
     }

@@ -4,7 +4,7 @@ use Rattle.std.proofs.lemmas.Bool.{eqb-true, eq-eqb, cases_eq, and_from, le-leb,
 use Rattle.nv_plain.specs.declared.call.FileCall.{FileCall}
 use Rattle.nv_plain.specs.declared.call.FileCall.TheVariants.{Read, Write, Sync}
 use Rattle.nv_plain.specs.declared.call.Reply.{Reply}
-use Rattle.nv_core.specs.Words.{Sizes, Word, STOP, ORDER, HEAD, TAIL, LENGTH, DIRTY, PAGE, SIZE, STORE, ENTRY, kind_of, free, filling, ready, broken, index}
+use Rattle.nv_core.specs.Words.{Sizes, Word, STOP, ORDER, HEAD, TAIL, LENGTH, DIRTY, PAGE, SIZE, STORE, ENTRY, free, filling, broken, index, was_readied}
 use Rattle.nv_core.specs.Values.{Ending, Made, Failed}
 use Rattle.nv_core.specs.Passes.{Stage, Idle, Locking, Measuring, Sizing, Checking, Ordering, Reading, Heading, Tailing, Drawing, Fetching, Waiting, Copying, Seizing, Committing, Pledging, Readying, Placing, Growing, Releasing, Giving, Leaving, Returning, ReadFailing, WriteFailing, Breaking, Pass, IsUnseized, IsFilling, IsAmong, is_write, is_read, page_count, first_page, end_page, without, times}
 use Rattle.nv_core.specs.Deeds.{Deed, slot_of, page_at, ready_word, Loads, Takes, Gives, Places, Stops, Draws, Seizes, Pledges, Readies, Grows, Breaks, Splits, Leaves, Joins}
@@ -25,7 +25,7 @@ use Rattle.nv_core.proofs.Choices.{if_both, not_both, when_true, when_false, lea
 use Rattle.nv_core.proofs.LockLaws.{only_holder}
 use Rattle.nv_core.proofs.PageLaws.{write_pages}
 use Rattle.nv_core.proofs.WordLaws.{untouched, touches}
-use Rattle.nv_core.proofs.KeepsLocks.{kind_is}
+use Rattle.nv_core.proofs.KeepsLocks.{ready_is}
 use Rattle.nv_core.proofs.KeepsWindow.{window_step}
 use Rattle.nv_core.proofs.WindowLaws.{apart_within}
 use Rattle.nv_core.proofs.KeepsGroups.{is_draw, group_new, group_old, which, log_group}
@@ -171,8 +171,8 @@ one_pass sizes first core sound one other a b page x y = elim (cases_eq other on
 module _ (sizes : Sizes) (log : Log) (placed next : ℕ → Bool) (core now : Core) (head : now.words HEAD ≡ core.words HEAD) (tail : now.words TAIL ≡ core.words TAIL) where
   flight_kept : ((by : ℕ) → IsFlying (now.passes by) (now.passes by).stage → IsFlying (core.passes by) (core.passes by).stage × (group_of (now.passes by) ≡ group_of (core.passes by)))
       → ((by : ℕ) → IsFlying (now.passes by) (now.passes by).stage → next (now.passes by).first ≡ false)
-      → ((by : ℕ) → IsFlying (now.passes by) (now.passes by).stage → (now.passes by).stage ≡ Placing → kind_of (entry_at sizes now (now.passes by).first) ≡ ready)
-      → ((n : ℕ) → InWindow core n → (log.group n).first ≡ n → kind_of (entry_at sizes now n) ≡ ready → next n ≡ false → (by : ℕ) × IsWaiting (now.passes by) n)
+      → ((by : ℕ) → IsFlying (now.passes by) (now.passes by).stage → (now.passes by).stage ≡ Placing → was_readied (entry_at sizes now (now.passes by).first) ≡ true)
+      → ((n : ℕ) → InWindow core n → (log.group n).first ≡ n → was_readied (entry_at sizes now n) ≡ true → next n ≡ false → (by : ℕ) × IsWaiting (now.passes by) n)
       → InFlight sizes log placed core → InFlight sizes log next now
   flight_kept were unplaced firsts waits flight = record {
     own = λ by is n among. let old = were by is in let e : group_of (now.passes by) ≡ group_of (core.passes by) = old.1 in
@@ -199,17 +199,17 @@ flew_all sizes by core deed found here = by_number (λ n (p : Pass). IsFlying p 
 -- a step that makes no leader ready, places nothing and draws nothing
 same_flight : (sizes : Sizes) (log : Log) (placed : ℕ → Bool) (by : ℕ) (core : Core) (deed : Deed) (found : ℕ) → InFlight sizes log placed core
     → (after_step sizes by deed found core).words HEAD ≡ core.words HEAD → (after_step sizes by deed found core).words TAIL ≡ core.words TAIL
-    → ((slot : ℕ) → kind_of ((after_step sizes by deed found core).words (ENTRY slot)) ≡ ready → kind_of (core.words (ENTRY slot)) ≡ ready)
-    → ((slot : ℕ) → kind_of (core.words (ENTRY slot)) ≡ ready → kind_of ((after_step sizes by deed found core).words (ENTRY slot)) ≡ ready)
+    → ((slot : ℕ) → was_readied ((after_step sizes by deed found core).words (ENTRY slot)) ≡ true → was_readied (core.words (ENTRY slot)) ≡ true)
+    → ((slot : ℕ) → was_readied (core.words (ENTRY slot)) ≡ true → was_readied ((after_step sizes by deed found core).words (ENTRY slot)) ≡ true)
     → (IsFlying (changed sizes by core deed found) (changed sizes by core deed found).stage → IsFlying (core.passes (changes by core.made deed)) (core.passes (changes by core.made deed)).stage × (group_of (changed sizes by core deed found) ≡ group_of (core.passes (changes by core.made deed))))
-    → (IsFlying (changed sizes by core deed found) (changed sizes by core deed found).stage → (changed sizes by core deed found).stage ≡ Placing → kind_of (entry_at sizes core (changed sizes by core deed found).first) ≡ ready)
+    → (IsFlying (changed sizes by core deed found) (changed sizes by core deed found).stage → (changed sizes by core deed found).stage ≡ Placing → was_readied (entry_at sizes core (changed sizes by core deed found).first) ≡ true)
     → ((n : ℕ) → IsWaiting (core.passes (changes by core.made deed)) n → IsWaiting (changed sizes by core deed found) n)
     → InFlight sizes log placed (after_step sizes by deed found core)
 same_flight sizes log placed by core deed found flight head tail before still here firsts waits =
     flight_kept sizes log placed placed core (after_step sizes by deed found core) head tail (flew_all sizes by core deed found here)
     (λ n is. let old = flew_all sizes by core deed found here n is in let e : group_of ((after_step sizes by deed found core).passes n) ≡ group_of (core.passes n) = old.1 in
     subst (λ g. placed g.first ≡ false) (sym e) (flight.unplaced n old.0))
-    (by_number (λ n (p : Pass). IsFlying p p.stage → p.stage ≡ Placing → kind_of (entry_at sizes (after_step sizes by deed found core) p.first) ≡ ready) core.passes (changes by core.made deed) (changed sizes by core deed found)
+    (by_number (λ n (p : Pass). IsFlying p p.stage → p.stage ≡ Placing → was_readied (entry_at sizes (after_step sizes by deed found core) p.first) ≡ true) core.passes (changes by core.made deed) (changed sizes by core deed found)
     (λ is e. still (slot_of sizes (changed sizes by core deed found).first) (firsts is e)) (λ n ne is e. still (slot_of sizes (core.passes n).first) (flight.ready_first n is e)))
     (λ n within leads kind none. let w = flight.waiting n within leads (before (slot_of sizes n) kind) none in
     (w.0, by_number (λ m (p : Pass). IsWaiting (core.passes m) n → IsWaiting p n) core.passes (changes by core.made deed) (changed sizes by core deed found) (waits n) (λ m ne is. is) w.0 w.1))
@@ -226,14 +226,14 @@ plain_flight : (sizes : Sizes) (log : Log) (placed : ℕ → Bool) (by : ℕ) (c
     → InFlight sizes log placed (after_step sizes by deed found core)
 plain_flight sizes log placed by core deed found flight may head tail entry same no_draw no_place step here firsts =
     same_flight sizes log placed by core deed found flight (untouched sizes by core deed found may HEAD head) (untouched sizes by core deed found may TAIL tail)
-    (λ slot is. ap kind_of (sym (untouched sizes by core deed found may (ENTRY slot) (entry slot))) ∙ is)
-    (λ slot is. ap kind_of (untouched sizes by core deed found may (ENTRY slot) (entry slot)) ∙ is)
+    (λ slot is. ap was_readied (sym (untouched sizes by core deed found may (ENTRY slot) (entry slot))) ∙ is)
+    (λ slot is. ap was_readied (untouched sizes by core deed found may (ENTRY slot) (entry slot)) ∙ is)
     here (λ is e. absurd (firsts is e))
     (λ n waiting. absurd (not_placing sizes core.values (core.passes by) deed no_place step (subst (λ m. (core.passes m).stage ≡ Placing) same waiting.stage)))
 
 -- one that sets an ENTRY word that isn't ready before or then
 entry_flight : (sizes : Sizes) (log : Log) (placed : ℕ → Bool) (by : ℕ) (core : Core) (deed : Deed) (found slot value : ℕ) → InFlight sizes log placed core
-    → (after_step sizes by deed found core).words ≡ with_word core.words (ENTRY slot) value → kind_of value ≢ ready → kind_of (core.words (ENTRY slot)) ≢ ready
+    → (after_step sizes by deed found core).words ≡ with_word core.words (ENTRY slot) value → was_readied value ≢ true → was_readied (core.words (ENTRY slot)) ≢ true
     → changes by core.made deed ≡ by → is_place deed ≡ false → MayStep sizes core.values (core.passes by) deed
     → (IsFlying (changed sizes by core deed found) (changed sizes by core deed found).stage → IsFlying (core.passes (changes by core.made deed)) (core.passes (changes by core.made deed)).stage × (group_of (changed sizes by core deed found) ≡ group_of (core.passes (changes by core.made deed))))
     → (IsFlying (changed sizes by core deed found) (changed sizes by core deed found).stage → (changed sizes by core deed found).stage ≡ Placing → ⊥)
@@ -242,16 +242,16 @@ entry_flight sizes log placed by core deed found slot value flight words not_now
     same_flight sizes log placed by core deed found flight
     (ap (λ w. w HEAD) words ∙ word_else core.words (ENTRY slot) value HEAD (differ HEAD (ENTRY slot) refl))
     (ap (λ w. w TAIL) words ∙ word_else core.words (ENTRY slot) value TAIL (differ TAIL (ENTRY slot) refl))
-    (λ other is. now (ENTRY other) (ap (λ w. kind_of (w (ENTRY other))) (sym words) ∙ is))
-    (λ other is. ap (λ w. kind_of (w (ENTRY other))) words ∙ before (ENTRY other) is)
+    (λ other is. now (ENTRY other) (ap (λ w. was_readied (w (ENTRY other))) (sym words) ∙ is))
+    (λ other is. ap (λ w. was_readied (w (ENTRY other))) words ∙ before (ENTRY other) is)
     here (λ is e. absurd (firsts is e))
     (λ n waiting. absurd (not_placing sizes core.values (core.passes by) deed no_place step (subst (λ m. (core.passes m).stage ≡ Placing) same waiting.stage)))
   where
-    now : (word : Word) → kind_of (with_word core.words (ENTRY slot) value word) ≡ ready → kind_of (core.words word) ≡ ready
-    now = by_word (λ word v. kind_of v ≡ ready → kind_of (core.words word) ≡ ready) core.words (ENTRY slot) value (λ e. absurd (not_now e)) (λ word ne e. e)
+    now : (word : Word) → was_readied (with_word core.words (ENTRY slot) value word) ≡ true → was_readied (core.words word) ≡ true
+    now = by_word (λ word v. was_readied v ≡ true → was_readied (core.words word) ≡ true) core.words (ENTRY slot) value (λ e. absurd (not_now e)) (λ word ne e. e)
 
-    before : (word : Word) → kind_of (core.words word) ≡ ready → kind_of (with_word core.words (ENTRY slot) value word) ≡ ready
-    before = by_word (λ word v. kind_of (core.words word) ≡ ready → kind_of v ≡ ready) core.words (ENTRY slot) value (λ e. absurd (not_before e)) (λ word ne e. e)
+    before : (word : Word) → was_readied (core.words word) ≡ true → was_readied (with_word core.words (ENTRY slot) value word) ≡ true
+    before = by_word (λ word v. was_readied (core.words word) ≡ true → was_readied v ≡ true) core.words (ENTRY slot) value (λ e. absurd (not_before e)) (λ word ne e. e)
 
 -- an entry is made ready
 module _ (sizes : Sizes) (first : Values) (log : Log) (placed : ℕ → Bool) (by : ℕ) (core : Core) (found next : ℕ) (sound : Sound sizes first core) (groups : Groups sizes core log) (flight : InFlight sizes log placed core) (may : MayFind sizes by core (Readies next) found) where
@@ -268,23 +268,23 @@ module _ (sizes : Sizes) (first : Values) (log : Log) (placed : ℕ → Bool) (b
   own_next : IsOwn core log (core.passes by) next
   own_next = flight.own by flying_now next among_next
 
-  value_ready : kind_of (ready_word sizes (core.passes by) next) ≡ ready
-  value_ready = kind_is 2 (if next == (core.passes by).first then (core.passes by).entries else 0) (page_at sizes (core.passes by) next) (omega arith)
+  value_ready : was_readied (ready_word sizes (core.passes by) next) ≡ true
+  value_ready = ready_is (if next == (core.passes by).first then (core.passes by).entries else 0) (page_at sizes (core.passes by) next)
 
-  still_ready : (slot : ℕ) → kind_of (core.words (ENTRY slot)) ≡ ready → kind_of (ready_core.words (ENTRY slot)) ≡ ready
-  still_ready slot = by_word (λ word v. kind_of (core.words word) ≡ ready → kind_of v ≡ ready) core.words (ENTRY (slot_of sizes next)) (ready_word sizes (core.passes by) next) (λ _. value_ready) (λ word ne e. e) (ENTRY slot)
+  still_ready : (slot : ℕ) → was_readied (core.words (ENTRY slot)) ≡ true → was_readied (ready_core.words (ENTRY slot)) ≡ true
+  still_ready slot = by_word (λ word v. was_readied (core.words word) ≡ true → was_readied v ≡ true) core.words (ENTRY (slot_of sizes next)) (ready_word sizes (core.passes by) next) (λ _. value_ready) (λ word ne e. e) (ENTRY slot)
 
-  now_ready : kind_of (entry_at sizes ready_core next) ≡ ready
-  now_ready = ap kind_of (word_here core.words (ENTRY (slot_of sizes next)) (ready_word sizes (core.passes by) next)) ∙ value_ready
+  now_ready : was_readied (entry_at sizes ready_core next) ≡ true
+  now_ready = ap was_readied (word_here core.words (ENTRY (slot_of sizes next)) (ready_word sizes (core.passes by) next)) ∙ value_ready
 
-  was_ready : (n : ℕ) → InWindow core n → n ≢ next → kind_of (entry_at sizes ready_core n) ≡ ready → kind_of (entry_at sizes core n) ≡ ready
-  was_ready n is ne kind = ap kind_of (sym (word_else core.words (ENTRY (slot_of sizes next)) (ready_word sizes (core.passes by) next) (ENTRY (slot_of sizes n))
+  was_ready : (n : ℕ) → InWindow core n → n ≢ next → was_readied (entry_at sizes ready_core n) ≡ true → was_readied (entry_at sizes core n) ≡ true
+  was_ready n is ne kind = ap was_readied (sym (word_else core.words (ENTRY (slot_of sizes next)) (ready_word sizes (core.passes by) next) (ENTRY (slot_of sizes n))
       (λ e. apart_within sizes core sound.window n next is own_next.within ne (ap index e)))) ∙ kind
 
   flew_now : (n : ℕ) → IsFlying (ready_core.passes n) (ready_core.passes n).stage → IsFlying (core.passes n) (core.passes n).stage × (group_of (ready_core.passes n) ≡ group_of (core.passes n))
   flew_now = flew_all sizes by core (Readies next) found (λ is. (flying_now, refl))
 
-  wait_now : (n : ℕ) → InWindow core n → (log.group n).first ≡ n → kind_of (entry_at sizes ready_core n) ≡ ready → placed n ≡ false → (w : ℕ) × IsWaiting (ready_core.passes w) n
+  wait_now : (n : ℕ) → InWindow core n → (log.group n).first ≡ n → was_readied (entry_at sizes ready_core n) ≡ true → placed n ≡ false → (w : ℕ) × IsWaiting (ready_core.passes w) n
   wait_now n is leads kind none = elim (cases_eq n next) [
     | inl same ↦
         let g : log.group n ≡ group_of (core.passes by) = subst (λ m. log.group m ≡ group_of (core.passes by)) (sym same) own_next.group in
@@ -310,9 +310,9 @@ module _ (sizes : Sizes) (first : Values) (log : Log) (placed : ℕ → Bool) (b
       (word_else core.words (ENTRY (slot_of sizes next)) (ready_word sizes (core.passes by) next) TAIL (differ TAIL (ENTRY (slot_of sizes next)) refl))
       flew_now
       (λ n is. let old = flew_now n is in let e : group_of (ready_core.passes n) ≡ group_of (core.passes n) = old.1 in subst (λ g. placed g.first ≡ false) (sym e) (flight.unplaced n old.0))
-      (by_number (λ n (p : Pass). IsFlying p p.stage → p.stage ≡ Placing → kind_of (entry_at sizes ready_core p.first) ≡ ready) core.passes by (changed sizes by core (Readies next) found)
-      (λ _ e. if_both (λ s. s ≡ Placing → kind_of (entry_at sizes ready_core (core.passes by).first) ≡ ready) (next == (core.passes by).first) Placing (Readying (if next + 1 == (core.passes by).first + (core.passes by).entries then (core.passes by).first else next + 1))
-      (λ last _. subst (λ m. kind_of (entry_at sizes ready_core m) ≡ ready) (eqb-true next (core.passes by).first last) now_ready)
+      (by_number (λ n (p : Pass). IsFlying p p.stage → p.stage ≡ Placing → was_readied (entry_at sizes ready_core p.first) ≡ true) core.passes by (changed sizes by core (Readies next) found)
+      (λ _ e. if_both (λ s. s ≡ Placing → was_readied (entry_at sizes ready_core (core.passes by).first) ≡ true) (next == (core.passes by).first) Placing (Readying (if next + 1 == (core.passes by).first + (core.passes by).entries then (core.passes by).first else next + 1))
+      (λ last _. subst (λ m. was_readied (entry_at sizes ready_core m) ≡ true) (eqb-true next (core.passes by).first last) now_ready)
       (λ _ e. absurd (elsewhere _ _ refl refl e)) e)
       (λ n ne is e. still_ready (slot_of sizes (core.passes n).first) (flight.ready_first n is e)))
       wait_now flight
@@ -363,7 +363,7 @@ place_flight sizes first log placed by core found reply sound flight may = go (i
     go : (b : Bool) → is_write (core.passes by).call ≡ b → InFlight sizes log (placed_stepped (core.passes by) (Places reply) found placed) (after_step sizes by (Places reply) found core)
     go false e = subst (λ p. InFlight sizes log p (after_step sizes by (Places reply) found core)) (sym (when_false (is_write (core.passes by).call) (with_number placed (core.passes by).first true) placed e))
         (same_flight sizes log placed by core (Places reply) found flight (untouched sizes by core (Places reply) found may HEAD refl) (untouched sizes by core (Places reply) found may TAIL refl)
-        (λ slot is. ap kind_of (sym (entries slot)) ∙ is) (λ slot is. ap kind_of (entries slot) ∙ is)
+        (λ slot is. ap was_readied (sym (entries slot)) ∙ is) (λ slot is. ap was_readied (entries slot) ∙ is)
         (λ is. absurd (gone is)) (λ is. absurd (gone is)) (λ n waiting. absurd (not_both waiting.write e)))
     go true e = subst (λ p. InFlight sizes log p (after_step sizes by (Places reply) found core)) (sym (when_true (is_write (core.passes by).call) (with_number placed (core.passes by).first true) placed e))
         (flight_kept sizes log placed (with_number placed (core.passes by).first true) core (after_step sizes by (Places reply) found core)
@@ -371,11 +371,11 @@ place_flight sizes first log placed by core found reply sound flight may = go (i
         (flew_all sizes by core (Places reply) found (λ is. absurd (gone is)))
         (by_number (λ n (p : Pass). IsFlying p p.stage → with_number placed (core.passes by).first true p.first ≡ false) core.passes by (changed sizes by core (Places reply) found) (λ is. absurd (gone is))
         (λ n ne is. number_else placed (core.passes by).first true (core.passes n).first (λ same. ne (one_flight sizes first log placed core sound flight n by is flying same)) ∙ flight.unplaced n is))
-        (by_number (λ n (p : Pass). IsFlying p p.stage → p.stage ≡ Placing → kind_of (entry_at sizes (after_step sizes by (Places reply) found core) p.first) ≡ ready) core.passes by (changed sizes by core (Places reply) found) (λ is. absurd (gone is))
-        (λ n ne is at. ap kind_of (entries (slot_of sizes (core.passes n).first)) ∙ flight.ready_first n is at))
+        (by_number (λ n (p : Pass). IsFlying p p.stage → p.stage ≡ Placing → was_readied (entry_at sizes (after_step sizes by (Places reply) found core) p.first) ≡ true) core.passes by (changed sizes by core (Places reply) found) (λ is. absurd (gone is))
+        (λ n ne is at. ap was_readied (entries (slot_of sizes (core.passes n).first)) ∙ flight.ready_first n is at))
         (λ n within leads kind none.
         let ne : n ≢ (core.passes by).first = λ same. not_both (ap (with_number placed (core.passes by).first true) same ∙ number_here placed (core.passes by).first true) none in
-        let w = flight.waiting n within leads (ap kind_of (sym (entries (slot_of sizes n))) ∙ kind) (sym (number_else placed (core.passes by).first true n ne) ∙ none) in
+        let w = flight.waiting n within leads (ap was_readied (sym (entries (slot_of sizes n))) ∙ kind) (sym (number_else placed (core.passes by).first true n ne) ∙ none) in
         (w.0, by_number (λ m (p : Pass). IsWaiting (core.passes m) n → IsWaiting p n) core.passes by (changed sizes by core (Places reply) found) (λ waiting. absurd (ne (sym waiting.first))) (λ m ne is. is) w.0 w.1))
         flight)
       where
@@ -447,13 +447,13 @@ draw_flight sizes first log placed by core found sound groups flight may = go (f
         was : (n : ℕ) → InWindow core n → InWindow (after_step sizes by Draws found core) n
         was n is = let y = is.1 in (is.0, omega (arith, y, head))
 
-        not_ready : (n : ℕ) → IsAmong found (page_count sizes (core.passes by).call) n → kind_of (entry_at sizes core n) ≡ ready → ⊥
+        not_ready : (n : ℕ) → IsAmong found (page_count sizes (core.passes by).call) n → was_readied (entry_at sizes core n) ≡ true → ⊥
         not_ready n is kind =
             let none : entry_at sizes core n ≡ free = (window_step sizes first by core Draws found sound may).unseized_is by n
             (subst (λ p. HasUnseized p n) (sym (number_here core.passes by (changed sizes by core Draws found)))
             (subst (λ s. IsUnseized s (changed sizes by core Draws found).first (changed sizes by core Draws found).entries n) (sym stage)
             (is.0, subst (λ f. n < f + (changed sizes by core Draws found).entries) (sym from) (subst (λ c. n < found + c) (sym many) is.1)))) in
-            let zero_ : kind_of free ≡ ready = ap kind_of (sym none) ∙ kind in omega (arith, zero_)
+            not_both (ap was_readied (sym none) ∙ kind) refl
 
         on_page : (n : ℕ) → IsAmong found (page_count sizes (core.passes by).call) n → IsPage sizes (core.passes by).call (first_page sizes (core.passes by).call + (n - found))
         on_page n is = let x = is.0 in let y = is.1 in (omega arith, omega (arith, x, y))
@@ -482,7 +482,7 @@ draw_flight sizes first log placed by core found sound groups flight may = go (f
           unplaced = by_number (λ m (p : Pass). IsFlying p p.stage → with_number placed found false p.first ≡ false) core.passes by (changed sizes by core Draws found)
               (λ _. ap (with_number placed found false) from ∙ number_here placed found false)
               (λ m ne is. number_else placed found false (core.passes m).first (λ same. let l = own_first m is in let f = may.is in omega (arith, same, l, f)) ∙ flight.unplaced m is);
-          ready_first = by_number (λ m (p : Pass). IsFlying p p.stage → p.stage ≡ Placing → kind_of (entry_at sizes (after_step sizes by Draws found core) p.first) ≡ ready) core.passes by (changed sizes by core Draws found)
+          ready_first = by_number (λ m (p : Pass). IsFlying p p.stage → p.stage ≡ Placing → was_readied (entry_at sizes (after_step sizes by Draws found core) p.first) ≡ true) core.passes by (changed sizes by core Draws found)
               (λ _ placing. absurd (elsewhere (changed sizes by core Draws found).stage (Seizing found) stage refl placing)) (λ m ne is placing. flight.ready_first m is placing);
           waiting = λ n inside leads kind none. elim (split n inside) [
             | inl before ↦
@@ -521,7 +521,7 @@ flight_step sizes first log placed by core Draws found sound groups flight may =
 flight_step sizes first log placed by core (Seizes next) found sound groups flight may =
     let at : HasDrawn sizes (core.passes by).call (core.passes by).entries × IsAmong (core.passes by).first (core.passes by).entries next = subst (StandsAt sizes (core.passes by)) may.may (sound.standing by).at in
     let old : entry_at sizes core next ≡ free = sound.window.unseized_is by next (subst (λ s. IsUnseized s (core.passes by).first (core.passes by).entries next) (sym may.may) (omega arith, at.1.1)) in
-    entry_flight sizes log placed by core (Seizes next) found (slot_of sizes next) filling flight refl (λ e. omega (arith, e)) (λ e. let z : kind_of free ≡ ready = ap kind_of (sym old) ∙ e in omega (arith, z)) refl refl may.may
+    entry_flight sizes log placed by core (Seizes next) found (slot_of sizes next) filling flight refl (λ e. not_both e refl) (λ e. not_both (ap was_readied (sym old) ∙ e) refl) refl refl may.may
     (λ is. (subst (IsFlying (core.passes by)) (sym may.may) tt, refl))
     (λ _. if_both (λ s. s ≡ Placing → ⊥) (next + 1 == (core.passes by).first + (core.passes by).entries) (Committing 0) (Seizing (next + 1)) (λ _. elsewhere _ _ refl refl) (λ _. elsewhere _ _ refl refl))
 flight_step sizes first log placed by core (Pledges page) found sound groups flight may = plain_flight sizes log placed by core (Pledges page) found flight may refl refl (λ slot. refl) refl refl refl may.may
@@ -533,21 +533,21 @@ flight_step sizes first log placed by core Grows found sound groups flight may =
 flight_step sizes first log placed by core (Breaks next) found sound groups flight may =
     let at : HasDrawn sizes (core.passes by).call (core.passes by).entries × IsAmong (core.passes by).first (core.passes by).entries next = subst (StandsAt sizes (core.passes by)) may.may (sound.standing by).at in
     let old : entry_at sizes core next ≡ filling = sound.window.filling_is by next (subst (λ s. IsFilling s (core.passes by).first (core.passes by).entries next) (sym may.may) (omega arith, at.1.1)) in
-    entry_flight sizes log placed by core (Breaks next) found (slot_of sizes next) broken flight refl (λ e. omega (arith, e)) (λ e. let z : kind_of filling ≡ ready = ap kind_of (sym old) ∙ e in omega (arith, z)) refl refl may.may
+    entry_flight sizes log placed by core (Breaks next) found (slot_of sizes next) broken flight refl (λ e. not_both e refl) (λ e. not_both (ap was_readied (sym old) ∙ e) refl) refl refl may.may
     (λ is. (flew sizes core.values (core.passes by) found (Breaks next) refl may.may (flying_as (core.passes by) (changed sizes by core (Breaks next) found) (changed sizes by core (Breaks next) found).stage refl is), refl))
     (λ _. if_both (λ s. s ≡ Placing → ⊥) (next + 1 == (core.passes by).first + (core.passes by).entries) (leaving (without (ENTRY (slot_of sizes next)) (core.passes by).hands)) (Breaking (next + 1))
     (λ _. leaving_both (λ s. s ≡ Placing → ⊥) (without (ENTRY (slot_of sizes next)) (core.passes by).hands) (λ _. elsewhere _ _ refl refl) (λ _. elsewhere _ _ refl refl)) (λ _. elsewhere _ _ refl refl))
 flight_step sizes first log placed by core Splits found sound groups flight may = same_flight sizes log placed by core Splits found flight (untouched sizes by core Splits found may HEAD refl) (untouched sizes by core Splits found may TAIL refl)
-    (λ slot is. ap kind_of (sym (untouched sizes by core Splits found may (ENTRY slot) refl)) ∙ is) (λ slot is. ap kind_of (untouched sizes by core Splits found may (ENTRY slot) refl) ∙ is)
+    (λ slot is. ap was_readied (sym (untouched sizes by core Splits found may (ENTRY slot) refl)) ∙ is) (λ slot is. ap was_readied (untouched sizes by core Splits found may (ENTRY slot) refl) ∙ is)
     (λ is. absurd is) (λ is. absurd is)
     (λ n waiting. absurd (elsewhere (core.passes (core.made + 1)).stage Idle (sound.numbers.unborn (core.made + 1) (omega arith)).idle refl waiting.stage))
 flight_step sizes first log placed by core (Leaves cell) found sound groups flight may = same_flight sizes log placed by core (Leaves cell) found flight (untouched sizes by core (Leaves cell) found may HEAD refl) (untouched sizes by core (Leaves cell) found may TAIL refl)
-    (λ slot is. ap kind_of (sym (untouched sizes by core (Leaves cell) found may (ENTRY slot) refl)) ∙ is) (λ slot is. ap kind_of (untouched sizes by core (Leaves cell) found may (ENTRY slot) refl) ∙ is)
+    (λ slot is. ap was_readied (sym (untouched sizes by core (Leaves cell) found may (ENTRY slot) refl)) ∙ is) (λ slot is. ap was_readied (untouched sizes by core (Leaves cell) found may (ENTRY slot) refl) ∙ is)
     (λ is. (flying_as (core.passes by) (changed sizes by core (Leaves cell) found) (core.passes by).stage refl is, refl))
     (λ is at. flight.ready_first by (flying_as (core.passes by) (changed sizes by core (Leaves cell) found) (core.passes by).stage refl is) at)
     (λ n waiting. record { stage = waiting.stage; write = waiting.write; first = waiting.first })
 flight_step sizes first log placed by core (Joins number) found sound groups flight may = same_flight sizes log placed by core (Joins number) found flight (untouched sizes by core (Joins number) found may HEAD refl) (untouched sizes by core (Joins number) found may TAIL refl)
-    (λ slot is. ap kind_of (sym (untouched sizes by core (Joins number) found may (ENTRY slot) refl)) ∙ is) (λ slot is. ap kind_of (untouched sizes by core (Joins number) found may (ENTRY slot) refl) ∙ is)
+    (λ slot is. ap was_readied (sym (untouched sizes by core (Joins number) found may (ENTRY slot) refl)) ∙ is) (λ slot is. ap was_readied (untouched sizes by core (Joins number) found may (ENTRY slot) refl) ∙ is)
     (λ is. (flying_as (core.passes by) (changed sizes by core (Joins number) found) (core.passes by).stage refl is, refl))
     (λ is at. flight.ready_first by (flying_as (core.passes by) (changed sizes by core (Joins number) found) (core.passes by).stage refl is) at)
     (λ n waiting. record { stage = waiting.stage; write = waiting.write; first = waiting.first })
@@ -558,7 +558,7 @@ pub flight_begin : (sizes : Sizes) (log : Log) (placed : ℕ → Bool) (by : ℕ
 flight_begin sizes log placed by core call flight may = flight_kept sizes log placed placed core (after_begin sizes by call core) refl refl
     (by_number (λ n (p : Pass). IsFlying p p.stage → IsFlying (core.passes n) (core.passes n).stage × (group_of p ≡ group_of (core.passes n))) core.passes by (begun sizes call (core.passes by)) (λ is. absurd (none is)) (λ n ne is. (is, refl)))
     (by_number (λ n (p : Pass). IsFlying p p.stage → placed p.first ≡ false) core.passes by (begun sizes call (core.passes by)) (λ is. absurd (none is)) (λ n ne is. flight.unplaced n is))
-    (by_number (λ n (p : Pass). IsFlying p p.stage → p.stage ≡ Placing → kind_of (entry_at sizes core p.first) ≡ ready) core.passes by (begun sizes call (core.passes by)) (λ is. absurd (none is)) (λ n ne is. flight.ready_first n is))
+    (by_number (λ n (p : Pass). IsFlying p p.stage → p.stage ≡ Placing → was_readied (entry_at sizes core p.first) ≡ true) core.passes by (begun sizes call (core.passes by)) (λ is. absurd (none is)) (λ n ne is. flight.ready_first n is))
     (λ n within leads kind not_yet. let w = flight.waiting n within leads kind not_yet in
     (w.0, by_number (λ m (p : Pass). IsWaiting (core.passes m) n → IsWaiting p n) core.passes by (begun sizes call (core.passes by)) (λ waiting. absurd (elsewhere (core.passes by).stage Idle may.idle refl waiting.stage)) (λ m ne is. is) w.0 w.1))
     flight
@@ -592,7 +592,7 @@ flight_work sizes log placed by core work flight may =
     same : InFlight sizes log placed (after_work sizes by work core)
     same = flight_kept sizes log placed placed core (after_work sizes by work core) refl refl flew_now
         (λ n is. let old = flew_now n is in let e : group_of ((after_work sizes by work core).passes n) ≡ group_of (core.passes n) = old.1 in subst (λ g. placed g.first ≡ false) (sym e) (flight.unplaced n old.0))
-        (by_number (λ n (p : Pass). IsFlying p p.stage → p.stage ≡ Placing → kind_of (entry_at sizes core p.first) ≡ ready) core.passes by (worked sizes work (core.passes by))
+        (by_number (λ n (p : Pass). IsFlying p p.stage → p.stage ≡ Placing → was_readied (entry_at sizes core p.first) ≡ true) core.passes by (worked sizes work (core.passes by))
         (λ is at. absurd (worked_placing sizes core.values (core.passes by) work (core.passes by).stage work.ending may.due at)) (λ n ne is. flight.ready_first n is))
         (λ n within leads kind not_yet. let w = flight.waiting n within leads kind not_yet in
         (w.0, by_number (λ m (p : Pass). IsWaiting (core.passes m) n → IsWaiting p n) core.passes by (worked sizes work (core.passes by)) (λ waiting. absurd (subst (IsDue sizes core.values (core.passes by) work) waiting.stage may.due)) (λ m ne is. is) w.0 w.1))

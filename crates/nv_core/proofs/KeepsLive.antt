@@ -10,7 +10,7 @@ use Rattle.nv_plain.specs.Histories.{Answered}
 use Rattle.nv_plain.specs.declared.call.FileCall.{FileCall}
 use Rattle.nv_plain.specs.declared.call.FileCall.TheVariants.{Read, Write, Sync}
 use Rattle.nv_plain.specs.declared.call.Reply.{Reply}
-use Rattle.nv_core.specs.Words.{Sizes, Word, HEAD, TAIL, STORE, ENTRY, kind_of, free, filling, ready, broken, index}
+use Rattle.nv_core.specs.Words.{Sizes, Word, HEAD, TAIL, STORE, ENTRY, free, filling, broken, index, was_readied}
 use Rattle.nv_core.specs.Values.{Value, Bare, APart, AStore, ABuffer, Job, Ending, called}
 use Rattle.nv_core.specs.Passes.{Stage, Reading, Seizing, Placing, Pass, IsAmong, IsUnseized, IsFilling, file_of, is_write, page_count, first_page}
 use Rattle.nv_core.specs.Deeds.{Deed, slot_of, page_at, ready_word, Places, Draws, Seizes, Readies, Breaks}
@@ -29,9 +29,9 @@ use Rattle.nv_core.specs.LivePieces.{rising, call_if, piece_write, piece_call, i
 use Rattle.nv_core.specs.Sound.{Sound}
 use Rattle.nv_core.proofs.PlainLaws.{PlainLaws}
 use Rattle.nv_core.proofs.Changes.{by_word, number_here, number_else, word_here, word_else, differ}
-use Rattle.nv_core.proofs.Choices.{when_true, when_false, busy}
+use Rattle.nv_core.proofs.Choices.{when_true, when_false, busy, not_both, unless_true}
 use Rattle.nv_core.proofs.WordLaws.{untouched, touches}
-use Rattle.nv_core.proofs.KeepsLocks.{kind_is}
+use Rattle.nv_core.proofs.KeepsLocks.{ready_is}
 use Rattle.nv_core.proofs.WindowLaws.{apart_within}
 use Rattle.nv_core.proofs.PageLaws.{write_pages}
 use Rattle.nv_core.proofs.KeepsWindow.{window_step}
@@ -63,11 +63,10 @@ store_worked pass work values file =
 
 -- ---- what keeps the live pieces
 
-test_same : (one other is : ℕ) → (one ≡ is → other ≡ is) → (other ≡ is → one ≡ is) → (one == is) ≡ (other == is)
-test_same one other is there back = elim (cases_eq one is) [
-  | inl same ↦ eq-eqb one is same ∙ sym (eq-eqb other is (there same))
-  | inr ne ↦ ne_eqb one is ne ∙ sym (ne_eqb other is (λ e. ne (back e)))
-]
+test_same : (one other : Bool) → (one ≡ true → other ≡ true) → (other ≡ true → one ≡ true) → one ≡ other
+test_same true other there back = sym (there refl)
+test_same false true there back = back refl
+test_same false false there back = refl
 
 module _ (sizes : Sizes) (log : Log) (placed : ℕ → Bool) (opened : Files) (core now : Core) (head : now.words HEAD ≡ core.words HEAD) (tail : now.words TAIL ≡ core.words TAIL) where
   live_kept : calls_of now.history ≡ calls_of core.history → ((n : ℕ) → InWindow core n → is_live sizes log now n ≡ is_live sizes log core n)
@@ -97,8 +96,8 @@ module _ (sizes : Sizes) (log : Log) (placed : ℕ → Bool) (opened : Files) (c
 -- a step that makes no entry ready
 same_live : (sizes : Sizes) (first : Values) (log : Log) (placed : ℕ → Bool) (opened : Files) (by : ℕ) (core : Core) (deed : Deed) (found : ℕ) → Sound sizes first core → LivePieces sizes log placed opened core
     → (after_step sizes by deed found core).words HEAD ≡ core.words HEAD → (after_step sizes by deed found core).words TAIL ≡ core.words TAIL
-    → ((slot : ℕ) → kind_of ((after_step sizes by deed found core).words (ENTRY slot)) ≡ ready → kind_of (core.words (ENTRY slot)) ≡ ready)
-    → ((slot : ℕ) → kind_of (core.words (ENTRY slot)) ≡ ready → kind_of ((after_step sizes by deed found core).words (ENTRY slot)) ≡ ready)
+    → ((slot : ℕ) → was_readied ((after_step sizes by deed found core).words (ENTRY slot)) ≡ true → was_readied (core.words (ENTRY slot)) ≡ true)
+    → ((slot : ℕ) → was_readied (core.words (ENTRY slot)) ≡ true → was_readied ((after_step sizes by deed found core).words (ENTRY slot)) ≡ true)
     → added by (core.passes by) deed ≡ [] → LivePieces sizes log placed opened (after_step sizes by deed found core)
 same_live sizes first log placed opened by core deed found sound pieces head tail before still none =
     live_kept sizes log placed opened core (after_step sizes by deed found core) head tail
@@ -108,29 +107,29 @@ same_live sizes first log placed opened by core deed found sound pieces head tai
     (λ file. ap store_bytes (step_store sizes (core.passes by) deed core.values file)) sound.window.order pieces
   where
     tests : (n : ℕ) → is_ready sizes (after_step sizes by deed found core) n ≡ is_ready sizes core n
-    tests n = test_same (kind_of (entry_at sizes (after_step sizes by deed found core) n)) (kind_of (entry_at sizes core n)) ready (before (slot_of sizes n)) (still (slot_of sizes n))
+    tests n = test_same (is_ready sizes (after_step sizes by deed found core) n) (is_ready sizes core n) (before (slot_of sizes n)) (still (slot_of sizes n))
 
 plain_live : (sizes : Sizes) (first : Values) (log : Log) (placed : ℕ → Bool) (opened : Files) (by : ℕ) (core : Core) (deed : Deed) (found : ℕ) → Sound sizes first core → LivePieces sizes log placed opened core → MayFind sizes by core deed found
     → touches deed HEAD ≡ false → touches deed TAIL ≡ false → ((slot : ℕ) → touches deed (ENTRY slot) ≡ false) → added by (core.passes by) deed ≡ [] → LivePieces sizes log placed opened (after_step sizes by deed found core)
 plain_live sizes first log placed opened by core deed found sound pieces may head tail entry none =
     same_live sizes first log placed opened by core deed found sound pieces (untouched sizes by core deed found may HEAD head) (untouched sizes by core deed found may TAIL tail)
-    (λ slot is. ap kind_of (sym (untouched sizes by core deed found may (ENTRY slot) (entry slot))) ∙ is) (λ slot is. ap kind_of (untouched sizes by core deed found may (ENTRY slot) (entry slot)) ∙ is) none
+    (λ slot is. ap was_readied (sym (untouched sizes by core deed found may (ENTRY slot) (entry slot))) ∙ is) (λ slot is. ap was_readied (untouched sizes by core deed found may (ENTRY slot) (entry slot)) ∙ is) none
 
 entry_live : (sizes : Sizes) (first : Values) (log : Log) (placed : ℕ → Bool) (opened : Files) (by : ℕ) (core : Core) (deed : Deed) (found slot value : ℕ) → Sound sizes first core → LivePieces sizes log placed opened core
-    → (after_step sizes by deed found core).words ≡ with_word core.words (ENTRY slot) value → kind_of value ≢ ready → kind_of (core.words (ENTRY slot)) ≢ ready
+    → (after_step sizes by deed found core).words ≡ with_word core.words (ENTRY slot) value → was_readied value ≢ true → was_readied (core.words (ENTRY slot)) ≢ true
     → added by (core.passes by) deed ≡ [] → LivePieces sizes log placed opened (after_step sizes by deed found core)
 entry_live sizes first log placed opened by core deed found slot value sound pieces words not_now not_before none =
     same_live sizes first log placed opened by core deed found sound pieces
     (ap (λ w. w HEAD) words ∙ word_else core.words (ENTRY slot) value HEAD (differ HEAD (ENTRY slot) refl))
     (ap (λ w. w TAIL) words ∙ word_else core.words (ENTRY slot) value TAIL (differ TAIL (ENTRY slot) refl))
-    (λ other is. now (ENTRY other) (ap (λ w. kind_of (w (ENTRY other))) (sym words) ∙ is))
-    (λ other is. ap (λ w. kind_of (w (ENTRY other))) words ∙ before (ENTRY other) is) none
+    (λ other is. now (ENTRY other) (ap (λ w. was_readied (w (ENTRY other))) (sym words) ∙ is))
+    (λ other is. ap (λ w. was_readied (w (ENTRY other))) words ∙ before (ENTRY other) is) none
   where
-    now : (word : Word) → kind_of (with_word core.words (ENTRY slot) value word) ≡ ready → kind_of (core.words word) ≡ ready
-    now = by_word (λ word v. kind_of v ≡ ready → kind_of (core.words word) ≡ ready) core.words (ENTRY slot) value (λ e. absurd (not_now e)) (λ word ne e. e)
+    now : (word : Word) → was_readied (with_word core.words (ENTRY slot) value word) ≡ true → was_readied (core.words word) ≡ true
+    now = by_word (λ word v. was_readied v ≡ true → was_readied (core.words word) ≡ true) core.words (ENTRY slot) value (λ e. absurd (not_now e)) (λ word ne e. e)
 
-    before : (word : Word) → kind_of (core.words word) ≡ ready → kind_of (with_word core.words (ENTRY slot) value word) ≡ ready
-    before = by_word (λ word v. kind_of (core.words word) ≡ ready → kind_of v ≡ ready) core.words (ENTRY slot) value (λ e. absurd (not_before e)) (λ word ne e. e)
+    before : (word : Word) → was_readied (core.words word) ≡ true → was_readied (with_word core.words (ENTRY slot) value word) ≡ true
+    before = by_word (λ word v. was_readied (core.words word) ≡ true → was_readied v ≡ true) core.words (ENTRY slot) value (λ e. absurd (not_before e)) (λ word ne e. e)
 
 -- ---- the window in three parts
 
@@ -202,18 +201,18 @@ module _ (plain : PlainLaws) (sizes : Sizes) (first : Values) (log : Log) (place
   tail_same = word_else core.words (ENTRY (slot_of sizes next)) (ready_word sizes (core.passes by) next) TAIL (differ TAIL (ENTRY (slot_of sizes next)) refl)
 
   test_else : (n : ℕ) → InWindow core n → n ≢ next → is_ready sizes now n ≡ is_ready sizes core n
-  test_else n is ne = ap (λ w. kind_of w == ready) (word_else core.words (ENTRY (slot_of sizes next)) (ready_word sizes (core.passes by) next) (ENTRY (slot_of sizes n))
+  test_else n is ne = ap was_readied (word_else core.words (ENTRY (slot_of sizes next)) (ready_word sizes (core.passes by) next) (ENTRY (slot_of sizes n))
       (λ e. apart_within sizes core sound.window n next is (own next at_next.1).within ne (ap index e)))
 
   test_next : is_ready sizes now next ≡ true
-  test_next = eq-eqb (kind_of (entry_at sizes now next)) ready (ap kind_of (word_here core.words (ENTRY (slot_of sizes next)) (ready_word sizes (core.passes by) next))
-      ∙ kind_is 2 (if next == (core.passes by).first then (core.passes by).entries else 0) (page_at sizes (core.passes by) next) (omega arith))
+  test_next = ap was_readied (word_here core.words (ENTRY (slot_of sizes next)) (ready_word sizes (core.passes by) next))
+      ∙ ready_is (if next == (core.passes by).first then (core.passes by).entries else 0) (page_at sizes (core.passes by) next)
 
   -- the leader isn't ready before
   leader_not : is_ready sizes core (core.passes by).first ≡ false
-  leader_not = ne_eqb (kind_of (entry_at sizes core (core.passes by).first)) ready
+  leader_not = unless_true (is_ready sizes core (core.passes by).first)
       (λ e. let f : entry_at sizes core (core.passes by).first ≡ filling = sound.window.filling_is by (core.passes by).first (subst (λ s. IsFilling s (core.passes by).first (core.passes by).entries (core.passes by).first) (sym may.may) (inl refl)) in
-      let two : kind_of filling ≡ ready = ap kind_of (sym f) ∙ e in omega (arith, two))
+      not_both (ap was_readied (sym f) ∙ e) refl)
 
   -- a number's leader is in the window, and of its group
   leader_in : (n : ℕ) → InWindow core n → InWindow core (log.group n).first
@@ -296,7 +295,7 @@ module _ (plain : PlainLaws) (sizes : Sizes) (first : Values) (log : Log) (place
     now_ready : (n : ℕ) → next ≤ n → n < next + page_count sizes (core.passes by).call → is_ready sizes now n ≡ true
     now_ready n low high = elim (cases_eq n next) [
       | inl same ↦ ap (is_ready sizes now) same ∙ test_next
-      | inr ne ↦ test_else n (own n (among_write n low high)).within ne ∙ eq-eqb (kind_of (entry_at sizes core n)) ready
+      | inr ne ↦ test_else n (own n (among_write n low high)).within ne ∙
           (pieces.readied by n (subst (λ s. IsReadied s (core.passes by).first (core.passes by).entries n) (sym may.may) (among_write n low high, λ e. ne (e ∙ sym leader), inr leader)))
     ]
 
@@ -442,7 +441,7 @@ module _ (plain : PlainLaws) (sizes : Sizes) (first : Values) (log : Log) (place
   place_tail = untouched sizes by core (Places reply) found may TAIL refl
 
   place_test : (n : ℕ) → is_ready sizes placed_core n ≡ is_ready sizes core n
-  place_test n = ap (λ w. kind_of w == ready) (untouched sizes by core (Places reply) found may (ENTRY (slot_of sizes n)) refl)
+  place_test n = ap was_readied (untouched sizes by core (Places reply) found may (ENTRY (slot_of sizes n)) refl)
 
   place_live : live_pieces sizes log placed_core ≡ live_pieces sizes log core
   place_live = ap₂ (λ t h. rising (λ n. call_if (is_live sizes log placed_core n) (piece_call sizes (log.group n) n)) t (h - t)) place_tail place_head
@@ -491,7 +490,7 @@ module _ (plain : PlainLaws) (sizes : Sizes) (first : Values) (log : Log) (place
 
     own_test : is_to_place sizes log placed core (core.passes by).first ≡ true
     own_test = ap₂ (λ a b. (a && b) && not (placed (core.passes by).first)) (eq-eqb (log.group (core.passes by).first).first (core.passes by).first own_leads)
-        (eq-eqb (kind_of (entry_at sizes core (core.passes by).first)) ready (flight.ready_first by own_flight placing)) ∙ ap not (flight.unplaced by own_flight)
+        (flight.ready_first by own_flight placing) ∙ ap not (flight.unplaced by own_flight)
 
     then_test : is_to_place sizes log next_placed placed_core (core.passes by).first ≡ false
     then_test = ap (λ b. ((log.group (core.passes by).first).first == (core.passes by).first && is_ready sizes placed_core (core.passes by).first) && not b) (number_here placed (core.passes by).first true)
@@ -527,7 +526,7 @@ module _ (plain : PlainLaws) (sizes : Sizes) (first : Values) (log : Log) (place
         (λ n low high. ap (λ b. call_if b (log.group n).call) (other_test n (λ e. omega (arith, e, low))))))
 
     -- a write to be placed that was drawn before it is on other pages
-    earlier_apart : (n : ℕ) → InWindow core n → n < (core.passes by).first → (log.group n).first ≡ n → kind_of (entry_at sizes core n) ≡ ready → placed n ≡ false → AreApart (core.passes by).call (log.group n).call
+    earlier_apart : (n : ℕ) → InWindow core n → n < (core.passes by).first → (log.group n).first ≡ n → was_readied (entry_at sizes core n) ≡ true → placed n ≡ false → AreApart (core.passes by).call (log.group n).call
     earlier_apart n is less leads kind none = apart_turned (log.group n).call (core.passes by).call (drawn_by (flight.waiting n is leads kind none).0 (flight.waiting n is leads kind none).1)
       where
         drawn_by : (w : ℕ) → IsWaiting (core.passes w) n → AreApart (log.group n).call (core.passes by).call
@@ -558,7 +557,7 @@ module _ (plain : PlainLaws) (sizes : Sizes) (first : Values) (log : Log) (place
         let both = and_parts ((log.group n).first == n && is_ready sizes core n) (not (placed n)) test in
         let parts = and_parts ((log.group n).first == n) (is_ready sizes core n) both.0 in
         let l = first_low in let h = first_high in
-        earlier_apart n (low, omega (arith, high, l, h)) (omega (arith, high, l)) (eqb-true (log.group n).first n parts.0) (eqb-true (kind_of (entry_at sizes core n)) ready parts.1) (not_true (placed n) both.1)))
+        earlier_apart n (low, omega (arith, high, l, h)) (omega (arith, high, l)) (eqb-true (log.group n).first n parts.0) parts.1 (not_true (placed n) both.1)))
       where
         not_true : (b : Bool) → not b ≡ true → b ≡ false
         not_true true e = absurd (true≢false (sym e))
@@ -623,7 +622,7 @@ module _ (sizes : Sizes) (first : Values) (log : Log) (placed : ℕ → Bool) (o
 
   -- what was drawn isn't ready
   not_ready : (n : ℕ) → core.words HEAD ≤ n → n < core.words HEAD + page_count sizes (core.passes by).call → is_ready sizes core n ≡ false
-  not_ready n low high = ne_eqb (kind_of (entry_at sizes core n)) ready (λ kind.
+  not_ready n low high = unless_true (is_ready sizes core n) (λ kind.
       let none : entry_at sizes core n ≡ free = (window_step sizes first by core Draws found sound may).unseized_is by n
       (subst (λ p. HasUnseized p n) (sym (number_here core.passes by (changed sizes by core Draws found)))
       (subst (λ s. IsUnseized s (changed sizes by core Draws found).first (changed sizes by core Draws found).entries n) (sym (when_true (found == (core.passes by).head) (Seizing found) (leaving (core.passes by).hands) drew)) (
@@ -633,7 +632,7 @@ module _ (sizes : Sizes) (first : Values) (log : Log) (placed : ℕ → Bool) (o
             let many : (changed sizes by core Draws found).entries ≡ page_count sizes (core.passes by).call = when_true (found == (core.passes by).head) (page_count sizes (core.passes by).call) (core.passes by).entries drew in
             omega (arith, high, f, from, many),
       ))) in
-      let zero_ : kind_of free ≡ ready = ap kind_of (sym none) ∙ kind in omega (arith, zero_))
+      not_both (ap was_readied (sym none) ∙ kind) refl)
 
   -- calls of the window, where those of what was drawn are none
   grown_window : (calls was : ℕ → List FileCall) → ((n : ℕ) → InWindow core n → calls n ≡ was n) → ((n : ℕ) → core.words HEAD ≤ n → n < core.words HEAD + page_count sizes (core.passes by).call → calls n ≡ [])
@@ -694,11 +693,11 @@ live_step sizes first log placed opened by core (Readies next) found plain page_
 live_step sizes first log placed opened by core (Seizes next) found plain page_is sound groups pieces flight live may =
     let at : HasDrawn sizes (core.passes by).call (core.passes by).entries × IsAmong (core.passes by).first (core.passes by).entries next = subst (StandsAt sizes (core.passes by)) may.may (sound.standing by).at in
     let old : entry_at sizes core next ≡ free = sound.window.unseized_is by next (subst (λ s. IsUnseized s (core.passes by).first (core.passes by).entries next) (sym may.may) (omega arith, at.1.1)) in
-    entry_live sizes first log placed opened by core (Seizes next) found (slot_of sizes next) filling sound live refl (λ e. omega (arith, e)) (λ e. let z : kind_of free ≡ ready = ap kind_of (sym old) ∙ e in omega (arith, z)) refl
+    entry_live sizes first log placed opened by core (Seizes next) found (slot_of sizes next) filling sound live refl (λ e. not_both e refl) (λ e. not_both (ap was_readied (sym old) ∙ e) refl) refl
 live_step sizes first log placed opened by core (Breaks next) found plain page_is sound groups pieces flight live may =
     let at : HasDrawn sizes (core.passes by).call (core.passes by).entries × IsAmong (core.passes by).first (core.passes by).entries next = subst (StandsAt sizes (core.passes by)) may.may (sound.standing by).at in
     let old : entry_at sizes core next ≡ filling = sound.window.filling_is by next (subst (λ s. IsFilling s (core.passes by).first (core.passes by).entries next) (sym may.may) (omega arith, at.1.1)) in
-    entry_live sizes first log placed opened by core (Breaks next) found (slot_of sizes next) broken sound live refl (λ e. omega (arith, e)) (λ e. let z : kind_of filling ≡ ready = ap kind_of (sym old) ∙ e in omega (arith, z)) refl
+    entry_live sizes first log placed opened by core (Breaks next) found (slot_of sizes next) broken sound live refl (λ e. not_both e refl) (λ e. not_both (ap was_readied (sym old) ∙ e) refl) refl
 live_step sizes first log placed opened by core deed found plain page_is sound groups pieces flight live may = plain_live sizes first log placed opened by core deed found sound live may refl refl (λ slot. refl) refl
 
 -- ---- a call that begins, and a device call

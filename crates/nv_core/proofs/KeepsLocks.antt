@@ -1,8 +1,8 @@
 -- Each event keeps the locks.
-use Rattle.std.proofs.Common.{◌≡◌, ◌≢◌, ℕ, ◌+◌, ◌<◌, ◌≤◌, ◌==◌, true, false, if◌then◌else◌, List, [], ◌∷◌, inl, inr, refl, sym, ap, subst, ◌∙◌, arith}
-use Rattle.std.proofs.lemmas.Bool.{eqb-true, eqb-false, eq-eqb, ne_eqb, cases_eq}
+use Rattle.std.proofs.Common.{◌≡◌, ◌≢◌, ℕ, ◌+◌, ◌<◌, ◌≤◌, ◌==◌, ◌&&◌, nat_le, true, false, if◌then◌else◌, List, [], ◌∷◌, inl, inr, refl, sym, ap, subst, ◌∙◌, arith}
+use Rattle.std.proofs.lemmas.Bool.{le-leb, and_from, eqb-true, eqb-false, eq-eqb, ne_eqb, cases_eq}
 use Rattle.nv_plain.specs.declared.call.FileCall.{FileCall}
-use Rattle.nv_core.specs.Words.{Sizes, Word, PAGE, SIZE, STORE, ENTRY, is_shut, is_lock, kind_of, entry_word}
+use Rattle.nv_core.specs.Words.{Sizes, Word, PAGE, SIZE, STORE, ENTRY, is_shut, is_lock, kind_of, entry_word, ready, cleaned, was_readied}
 use Rattle.nv_core.specs.Passes.{Stage, Leaving, Releasing, Giving, Returning, Readying, Pass, IsUnseized, IsFilling, IsAmong, IsLastTaken, file_of, end_page, times}
 use Rattle.nv_core.specs.Deeds.{Deed, Stays, Comes, moved, move_of, slot_of, page_at, ready_word, Loads, Takes, Gives, Places, Stops, Draws, Seizes, Pledges, Readies, Grows, Breaks, Splits, Leaves, Joins, word_of, value_after}
 use Rattle.nv_core.specs.Order.{Values, Work, MayTake, MayGive}
@@ -86,6 +86,13 @@ unshut_lock cell lock = refl
 -- the kind of an ENTRY word
 pub kind_is : (kind count page : ℕ) → kind < 8 → kind_of (entry_word kind count page) ≡ kind
 kind_is kind count page small = omega arith
+
+pub ready_is : (count page : ℕ) → was_readied (entry_word ready count page) ≡ true
+ready_is count page = ap (λ kind. nat_le ready kind && nat_le kind cleaned) (kind_is ready count page (omega arith))
+
+pub readied_is : (kind count page : ℕ) → ready ≤ kind → kind ≤ cleaned → was_readied (entry_word kind count page) ≡ true
+readied_is kind count page low high =
+    ap (λ k. nat_le ready k && nat_le k cleaned) (kind_is kind count page (omega (arith, high))) ∙ and_from (nat_le ready kind) (nat_le kind cleaned) (le-leb ready kind low) (le-leb kind cleaned high)
 
 unshut_entry : (slot value : ℕ) → kind_of value ≢ 1 → kind_of value ≢ 3 → is_shut (ENTRY slot) value ≡ false
 unshut_entry slot value not_one not_three = when_false (kind_of value == 1) true (kind_of value == 3) (ne_eqb (kind_of value) 1 not_one) ∙ ne_eqb (kind_of value) 3 not_three

@@ -1,8 +1,8 @@
 -- Each event keeps what the ENTRY words say.
-use Rattle.std.proofs.Common.{◌≡◌, ◌≢◌, ◌⊎◌, ℕ, ◌+◌, ◌<◌, ◌≤◌, ◌==◌, Bool, true, false, if◌then◌else◌, length, inl, inr, refl, sym, ap, subst, ◌∙◌, arith}
+use Rattle.std.proofs.Common.{◌≡◌, ◌≢◌, ◌⊎◌, ℕ, ◌+◌, ◌<◌, ◌≤◌, ◌==◌, Bool, true, false, if◌then◌else◌, length, inl, inr, refl, sym, ap, subst, ◌∙◌, arith, ap₂}
 use Rattle.std.proofs.lemmas.Bool.{eqb-true, eqb-false, cases_eq}
 use Rattle.nv_plain.specs.declared.call.FileCall.{FileCall}
-use Rattle.nv_core.specs.Words.{Sizes, Word, HEAD, TAIL, ENTRY, kind_of, free, filling, ready, broken, index}
+use Rattle.nv_core.specs.Words.{Sizes, Word, HEAD, TAIL, ENTRY, kind_of, free, filling, broken, index, was_readied}
 use Rattle.nv_core.specs.Values.{Ending, Made, Failed}
 use Rattle.nv_core.specs.Passes.{Stage, Locking, Checking, Copying, Seizing, Committing, Pledging, Readying, Placing, ReadFailing, WriteFailing, Breaking, Pass, IsUnseized, IsFilling, IsAmong, is_write, page_count, first_page, end_page, without}
 use Rattle.nv_core.specs.Deeds.{Deed, slot_of, page_at, ready_word, Loads, Takes, Gives, Places, Stops, Draws, Seizes, Pledges, Readies, Grows, Breaks, Splits, Leaves, Joins}
@@ -17,11 +17,11 @@ use Rattle.nv_core.specs.Groups.{Group, Log, group_of, with_group, log_stepped, 
 use Rattle.nv_core.specs.Pieces.{word_of_number, IsReadied, Pieces}
 use Rattle.nv_core.specs.Sound.{Sound}
 use Rattle.nv_core.proofs.Changes.{by_number, by_word, number_here, word_here, word_else, differ}
-use Rattle.nv_core.proofs.Choices.{if_both, when_true, when_false}
+use Rattle.nv_core.proofs.Choices.{if_both, when_true, when_false, not_both}
 use Rattle.nv_core.proofs.ClearLaws.{IsClear, IsPlain, clear_to, clear_leaving}
 use Rattle.nv_core.proofs.PageLaws.{write_pages}
 use Rattle.nv_core.proofs.WordLaws.{untouched, touches}
-use Rattle.nv_core.proofs.KeepsLocks.{kind_is}
+use Rattle.nv_core.proofs.KeepsLocks.{kind_is, ready_is}
 use Rattle.nv_core.proofs.WindowLaws.{apart_within}
 use Rattle.nv_core.proofs.KeepsWindow.{window_step}
 use Rattle.nv_core.proofs.KeepsGroups.{group_old, which, log_group}
@@ -30,63 +30,67 @@ clear_readied : (stage : Stage) (first entries n : ℕ) → IsClear stage → Is
 clear_readied (Readying next) first entries n clear is = clear
 clear_readied stage first entries n clear is = is
 
+-- a word that is what it was says what it said
+same_says : (sizes : Sizes) {now was : ℕ} (group : Group) (number : ℕ) → now ≡ was → was ≡ word_of_number sizes group (kind_of was) number → now ≡ word_of_number sizes group (kind_of now) number
+same_says sizes group number e says = e ∙ says ∙ ap (λ w. word_of_number sizes group (kind_of w) number) (sym e)
+
 -- ---- no entry becomes ready, and none ceases to be
 
 module _ (sizes : Sizes) (log : Log) (core now : Core) (head : now.words HEAD ≡ core.words HEAD) (tail : now.words TAIL ≡ core.words TAIL) where
-  pieces_kept : ((slot : ℕ) → kind_of (now.words (ENTRY slot)) ≡ ready → now.words (ENTRY slot) ≡ core.words (ENTRY slot))
-      → ((slot : ℕ) → kind_of (core.words (ENTRY slot)) ≡ ready → now.words (ENTRY slot) ≡ core.words (ENTRY slot))
-      → ((by n : ℕ) → IsReadied (now.passes by).stage (now.passes by).first (now.passes by).entries n → kind_of (entry_at sizes core n) ≡ ready)
+  pieces_kept : ((slot : ℕ) → was_readied (now.words (ENTRY slot)) ≡ true → now.words (ENTRY slot) ≡ core.words (ENTRY slot))
+      → ((slot : ℕ) → was_readied (core.words (ENTRY slot)) ≡ true → now.words (ENTRY slot) ≡ core.words (ENTRY slot))
+      → ((by n : ℕ) → IsReadied (now.passes by).stage (now.passes by).first (now.passes by).entries n → was_readied (entry_at sizes core n) ≡ true)
       → Pieces sizes log core → Pieces sizes log now
   pieces_kept same still readied pieces = record {
-    says = λ n is kind. let e = same (slot_of sizes n) kind in e ∙ pieces.says n (was n is) (ap kind_of (sym e) ∙ kind);
+    says = λ n is kind. let e = same (slot_of sizes n) kind in same_says sizes (log.group n) n e (pieces.says n (was n is) (ap was_readied (sym e) ∙ kind));
     followers = λ n other is leads kind among. let e = same (slot_of sizes n) kind in
-        stays (slot_of sizes other) (pieces.followers n other (was n is) leads (ap kind_of (sym e) ∙ kind) among);
+        stays (slot_of sizes other) (pieces.followers n other (was n is) leads (ap was_readied (sym e) ∙ kind) among);
     readied = λ by n is. stays (slot_of sizes n) (readied by n is);
   }
     where
       was : (n : ℕ) → InWindow now n → InWindow core n
       was n is = (subst (λ t. t ≤ n) tail is.0, subst (λ h. n < h) head is.1)
 
-      stays : (slot : ℕ) → kind_of (core.words (ENTRY slot)) ≡ ready → kind_of (now.words (ENTRY slot)) ≡ ready
-      stays slot is = ap kind_of (still slot is) ∙ is
+      stays : (slot : ℕ) → was_readied (core.words (ENTRY slot)) ≡ true → was_readied (now.words (ENTRY slot)) ≡ true
+      stays slot is = ap was_readied (still slot is) ∙ is
 
 -- the passes after a step
 readied_now : (sizes : Sizes) (log : Log) (by : ℕ) (core : Core) (deed : Deed) (found : ℕ) → Pieces sizes log core
-    → ((n : ℕ) → IsReadied (changed sizes by core deed found).stage (changed sizes by core deed found).first (changed sizes by core deed found).entries n → kind_of (entry_at sizes core n) ≡ ready)
-    → (other n : ℕ) → IsReadied ((after_step sizes by deed found core).passes other).stage ((after_step sizes by deed found core).passes other).first ((after_step sizes by deed found core).passes other).entries n → kind_of (entry_at sizes core n) ≡ ready
-readied_now sizes log by core deed found pieces here = by_number (λ other (p : Pass). (n : ℕ) → IsReadied p.stage p.first p.entries n → kind_of (entry_at sizes core n) ≡ ready) core.passes (changes by core.made deed) (changed sizes by core deed found)
+    → ((n : ℕ) → IsReadied (changed sizes by core deed found).stage (changed sizes by core deed found).first (changed sizes by core deed found).entries n → was_readied (entry_at sizes core n) ≡ true)
+    → (other n : ℕ) → IsReadied ((after_step sizes by deed found core).passes other).stage ((after_step sizes by deed found core).passes other).first ((after_step sizes by deed found core).passes other).entries n → was_readied (entry_at sizes core n) ≡ true
+readied_now sizes log by core deed found pieces here = by_number (λ other (p : Pass). (n : ℕ) → IsReadied p.stage p.first p.entries n → was_readied (entry_at sizes core n) ≡ true) core.passes (changes by core.made deed) (changed sizes by core deed found)
     here (λ other ne n is. pieces.readied other n is)
 
 plain_step : (sizes : Sizes) (log : Log) (by : ℕ) (core : Core) (deed : Deed) (found : ℕ) → Pieces sizes log core → MayFind sizes by core deed found
     → touches deed HEAD ≡ false → touches deed TAIL ≡ false → ((slot : ℕ) → touches deed (ENTRY slot) ≡ false)
-    → ((n : ℕ) → IsReadied (changed sizes by core deed found).stage (changed sizes by core deed found).first (changed sizes by core deed found).entries n → kind_of (entry_at sizes core n) ≡ ready)
+    → ((n : ℕ) → IsReadied (changed sizes by core deed found).stage (changed sizes by core deed found).first (changed sizes by core deed found).entries n → was_readied (entry_at sizes core n) ≡ true)
     → Pieces sizes log (after_step sizes by deed found core)
 plain_step sizes log by core deed found pieces may head tail entry here =
     pieces_kept sizes log core (after_step sizes by deed found core) (untouched sizes by core deed found may HEAD head) (untouched sizes by core deed found may TAIL tail)
     (λ slot _. untouched sizes by core deed found may (ENTRY slot) (entry slot)) (λ slot _. untouched sizes by core deed found may (ENTRY slot) (entry slot)) (readied_now sizes log by core deed found pieces here) pieces
 
 none_readied : (sizes : Sizes) (core : Core) (by found number : ℕ) (deed : Deed) → IsPlain deed → MayStep sizes core.values (core.passes by) deed
-    → (n : ℕ) → IsReadied (stage_after sizes (core.passes by) deed found) (core.passes by).first (core.passes by).entries n → kind_of (entry_at sizes core n) ≡ ready
+    → (n : ℕ) → IsReadied (stage_after sizes (core.passes by) deed found) (core.passes by).first (core.passes by).entries n → was_readied (entry_at sizes core n) ≡ true
 none_readied sizes core by found number deed plain may n is = absurd (clear_readied (stage_after sizes (core.passes by) deed found) (core.passes by).first (core.passes by).entries n (clear_to sizes core.values (core.passes by) deed found plain may) is)
 
 -- a word that was not ready is set to another that is not
 entry_step : (sizes : Sizes) (log : Log) (by : ℕ) (core : Core) (deed : Deed) (found slot value : ℕ) → Pieces sizes log core
-    → (after_step sizes by deed found core).words ≡ with_word core.words (ENTRY slot) value → kind_of value ≢ ready → kind_of (core.words (ENTRY slot)) ≢ ready
-    → ((n : ℕ) → IsReadied (changed sizes by core deed found).stage (changed sizes by core deed found).first (changed sizes by core deed found).entries n → kind_of (entry_at sizes core n) ≡ ready)
+    → (after_step sizes by deed found core).words ≡ with_word core.words (ENTRY slot) value → was_readied value ≢ true → was_readied (core.words (ENTRY slot)) ≢ true
+    → ((n : ℕ) → IsReadied (changed sizes by core deed found).stage (changed sizes by core deed found).first (changed sizes by core deed found).entries n → was_readied (entry_at sizes core n) ≡ true)
     → Pieces sizes log (after_step sizes by deed found core)
 entry_step sizes log by core deed found slot value pieces words not_now not_before here =
     pieces_kept sizes log core (after_step sizes by deed found core)
     (ap (λ w. w HEAD) words ∙ word_else core.words (ENTRY slot) value HEAD (differ HEAD (ENTRY slot) refl))
     (ap (λ w. w TAIL) words ∙ word_else core.words (ENTRY slot) value TAIL (differ TAIL (ENTRY slot) refl))
-    (λ other is. ap (λ w. w (ENTRY other)) words ∙ now (ENTRY other) (ap (λ w. kind_of (w (ENTRY other))) (sym words) ∙ is))
+    (λ other is. ap (λ w. w (ENTRY other)) words ∙ now (ENTRY other) (ap (λ w. was_readied (w (ENTRY other))) (sym words) ∙ is))
     (λ other is. ap (λ w. w (ENTRY other)) words ∙ before (ENTRY other) is)
     (readied_now sizes log by core deed found pieces here) pieces
   where
-    now : (word : Word) → kind_of (with_word core.words (ENTRY slot) value word) ≡ ready → with_word core.words (ENTRY slot) value word ≡ core.words word
-    now = by_word (λ word v. kind_of v ≡ ready → v ≡ core.words word) core.words (ENTRY slot) value (λ e. absurd (not_now e)) (λ word ne e. refl)
+    now : (word : Word) → was_readied (with_word core.words (ENTRY slot) value word) ≡ true → with_word core.words (ENTRY slot) value word ≡ core.words word
+    now = by_word (λ word v. was_readied v ≡ true → v ≡ core.words word) core.words (ENTRY slot) value (λ e. absurd (not_now e)) (λ word ne e. refl)
 
-    before : (word : Word) → kind_of (core.words word) ≡ ready → with_word core.words (ENTRY slot) value word ≡ core.words word
-    before = by_word (λ word v. kind_of (core.words word) ≡ ready → v ≡ core.words word) core.words (ENTRY slot) value (λ e. absurd (not_before e)) (λ word ne e. refl)
+    before : (word : Word) → was_readied (core.words word) ≡ true → with_word core.words (ENTRY slot) value word ≡ core.words word
+    before = by_word (λ word v. was_readied (core.words word) ≡ true → v ≡ core.words word) core.words (ENTRY slot) value (λ e. absurd (not_before e)) (λ word ne e. refl)
 
 -- the first entry that is made ready
 pledged_none : (first entries n : ℕ) → IsReadied (Readying (if entries == 1 then first else first + 1)) first entries n → ⊥
@@ -109,14 +113,14 @@ module _ (sizes : Sizes) (first : Values) (log : Log) (by : ℕ) (core : Core) (
   own : (n : ℕ) → IsAmong pass.first pass.entries n → IsOwn core log pass n
   own n is = groups.own by (subst HasGroup (sym may.may) tt) n is
 
-  readied_was : (n : ℕ) → IsReadied (Readying next) pass.first pass.entries n → kind_of (entry_at sizes core n) ≡ ready
+  readied_was : (n : ℕ) → IsReadied (Readying next) pass.first pass.entries n → was_readied (entry_at sizes core n) ≡ true
   readied_was n is = pieces.readied by n (subst (λ s. IsReadied s pass.first pass.entries n) (sym may.may) is)
 
   word_now : entry_at sizes now next ≡ ready_word sizes pass next
   word_now = word_here core.words (ENTRY (slot_of sizes next)) (ready_word sizes pass next)
 
-  kind_now : kind_of (entry_at sizes now next) ≡ ready
-  kind_now = ap kind_of word_now ∙ kind_is 2 (if next == pass.first then pass.entries else 0) (page_at sizes pass next) (omega arith)
+  kind_now : was_readied (entry_at sizes now next) ≡ true
+  kind_now = ap was_readied word_now ∙ ready_is (if next == pass.first then pass.entries else 0) (page_at sizes pass next)
 
   word_apart : (n : ℕ) → InWindow core n → n ≢ next → entry_at sizes now n ≡ entry_at sizes core n
   word_apart n is ne = word_else core.words (ENTRY (slot_of sizes next)) (ready_word sizes pass next) (ENTRY (slot_of sizes n))
@@ -132,10 +136,10 @@ module _ (sizes : Sizes) (first : Values) (log : Log) (by : ℕ) (core : Core) (
   window_was n is = (subst (λ t. t ≤ n) tail_same is.0, subst (λ h. n < h) head_same is.1)
 
   -- what is ready stays so
-  stays_ready : (n : ℕ) → InWindow core n → kind_of (entry_at sizes core n) ≡ ready → kind_of (entry_at sizes now n) ≡ ready
+  stays_ready : (n : ℕ) → InWindow core n → was_readied (entry_at sizes core n) ≡ true → was_readied (entry_at sizes now n) ≡ true
   stays_ready n is kind = elim (cases_eq n next) [
-    | inl same ↦ subst (λ m. kind_of (entry_at sizes now m) ≡ ready) (sym same) kind_now
-    | inr ne ↦ ap kind_of (word_apart n is ne) ∙ kind
+    | inl same ↦ subst (λ m. was_readied (entry_at sizes now m) ≡ true) (sym same) kind_now
+    | inr ne ↦ ap was_readied (word_apart n is ne) ∙ kind
   ]
 
   -- the window has all numbers of a group
@@ -143,18 +147,18 @@ module _ (sizes : Sizes) (first : Values) (log : Log) (by : ℕ) (core : Core) (
   grouped n other is leads among = let h = (groups.each n is).high in let t = is.0 in let a = among.0 in let b = among.1 in (omega (arith, t, a), omega (arith, h, leads, b))
 
   -- a follower of the pass's group once it is made ready, and the leader comes last
-  all_ready : next ≡ pass.first → (other : ℕ) → IsAmong pass.first pass.entries other → kind_of (entry_at sizes now other) ≡ ready
+  all_ready : next ≡ pass.first → (other : ℕ) → IsAmong pass.first pass.entries other → was_readied (entry_at sizes now other) ≡ true
   all_ready leader other among = elim (cases_eq other next) [
-    | inl same ↦ subst (λ m. kind_of (entry_at sizes now m) ≡ ready) (sym same) kind_now
+    | inl same ↦ subst (λ m. was_readied (entry_at sizes now m) ≡ true) (sym same) kind_now
     | inr ne ↦ stays_ready other (own other among).within (readied_was other (among, λ e. ne (e ∙ sym leader), inr leader))
   ]
 
   ready_step : Pieces sizes log now
   ready_step = record {
     says = λ n is kind. elim (cases_eq n next) [
-      | inl same ↦ subst (λ m. entry_at sizes now m ≡ word_of_number sizes (log.group m) m) (sym same)
-          (word_now ∙ ap (λ g. word_of_number sizes g next) (sym (own next at_next.1).group))
-      | inr ne ↦ let e = word_apart n (window_was n is) ne in e ∙ pieces.says n (window_was n is) (ap kind_of (sym e) ∙ kind)
+      | inl same ↦ subst (λ m. entry_at sizes now m ≡ word_of_number sizes (log.group m) (kind_of (entry_at sizes now m)) m) (sym same)
+          (word_now ∙ ap₂ (λ g k. word_of_number sizes g k next) (sym (own next at_next.1).group) (sym (ap kind_of word_now ∙ kind_is 2 (if next == pass.first then pass.entries else 0) (page_at sizes pass next) (omega arith))))
+      | inr ne ↦ let e = word_apart n (window_was n is) ne in same_says sizes (log.group n) n e (pieces.says n (window_was n is) (ap was_readied (sym e) ∙ kind))
     ];
     followers = λ n other is leads kind among. elim (cases_eq n next) [
       | inl same ↦
@@ -162,21 +166,21 @@ module _ (sizes : Sizes) (first : Values) (log : Log) (by : ℕ) (core : Core) (
           let f : pass.first ≡ n = sym (ap (λ one. one.first) g) ∙ leads in
           all_ready (sym same ∙ sym f) other (subst (λ m. IsAmong m pass.entries other) (sym f) (subst (λ c. IsAmong n c other) (ap (λ one. one.entries) g) among))
       | inr ne ↦ let e = word_apart n (window_was n is) ne in
-          stays_ready other (grouped n other (window_was n is) leads among) (pieces.followers n other (window_was n is) leads (ap kind_of (sym e) ∙ kind) among)
+          stays_ready other (grouped n other (window_was n is) leads among) (pieces.followers n other (window_was n is) leads (ap was_readied (sym e) ∙ kind) among)
     ];
-    readied = by_number (λ other (p : Pass). (n : ℕ) → IsReadied p.stage p.first p.entries n → kind_of (entry_at sizes now n) ≡ ready) core.passes by (changed sizes by core (Readies next) found)
-        (λ n. if_both (λ s. IsReadied s pass.first pass.entries n → kind_of (entry_at sizes now n) ≡ ready) (next == pass.first) Placing (Readying (if next + 1 == pass.first + pass.entries then pass.first else next + 1))
+    readied = by_number (λ other (p : Pass). (n : ℕ) → IsReadied p.stage p.first p.entries n → was_readied (entry_at sizes now n) ≡ true) core.passes by (changed sizes by core (Readies next) found)
+        (λ n. if_both (λ s. IsReadied s pass.first pass.entries n → was_readied (entry_at sizes now n) ≡ true) (next == pass.first) Placing (Readying (if next + 1 == pass.first + pass.entries then pass.first else next + 1))
         (λ _ is. absurd is)
         (λ e. let follower = eqb-false next pass.first e in
-        if_both (λ m. IsReadied (Readying m) pass.first pass.entries n → kind_of (entry_at sizes now n) ≡ ready) (next + 1 == pass.first + pass.entries) pass.first (next + 1)
+        if_both (λ m. IsReadied (Readying m) pass.first pass.entries n → was_readied (entry_at sizes now n) ≡ true) (next + 1 == pass.first + pass.entries) pass.first (next + 1)
         (λ last is. let end = eqb-true (next + 1) (pass.first + pass.entries) last in let b = is.0.1 in before n is.0 is.1 (omega (arith, end, b)))
         (λ _ is. let a = at_next.1.0 in before n is.0 is.1 (elim is.2 [ inl less ↦ omega (arith, less) | inr same ↦ absurd (omega (arith, same, a)) ]))))
         (λ other ne n is. other_readied other n is);
   }
     where
-      before : (n : ℕ) → IsAmong pass.first pass.entries n → n ≢ pass.first → n ≤ next → kind_of (entry_at sizes now n) ≡ ready
+      before : (n : ℕ) → IsAmong pass.first pass.entries n → n ≢ pass.first → n ≤ next → was_readied (entry_at sizes now n) ≡ true
       before n among ne low = elim (cases_eq n next) [
-        | inl same ↦ subst (λ m. kind_of (entry_at sizes now m) ≡ ready) (sym same) kind_now
+        | inl same ↦ subst (λ m. was_readied (entry_at sizes now m) ≡ true) (sym same) kind_now
         | inr apart ↦ stays_ready n (own n among).within (readied_was n (among, ne, inl (omega (arith, low, apart))))
       ]
 
@@ -184,7 +188,7 @@ module _ (sizes : Sizes) (first : Values) (log : Log) (by : ℕ) (core : Core) (
       among_readied (Readying m) from count n is = (tt, is.0)
       among_readied stage from count n is = absurd is
 
-      other_readied : (other n : ℕ) → IsReadied (core.passes other).stage (core.passes other).first (core.passes other).entries n → kind_of (entry_at sizes now n) ≡ ready
+      other_readied : (other n : ℕ) → IsReadied (core.passes other).stage (core.passes other).first (core.passes other).entries n → was_readied (entry_at sizes now n) ≡ true
       other_readied other n is =
           let a = among_readied (core.passes other).stage (core.passes other).first (core.passes other).entries n is in
           stays_ready n (groups.own other a.0 n a.1).within (pieces.readied other n is)
@@ -198,7 +202,7 @@ draw_step sizes first log by core found sound groups pieces may = go (found == (
     group : Group
     group = record { call = (core.passes by).call; first = found; entries = page_count sizes (core.passes by).call }
 
-    none : (n : ℕ) → IsReadied (changed sizes by core Draws found).stage (changed sizes by core Draws found).first (changed sizes by core Draws found).entries n → kind_of (entry_at sizes core n) ≡ ready
+    none : (n : ℕ) → IsReadied (changed sizes by core Draws found).stage (changed sizes by core Draws found).first (changed sizes by core Draws found).entries n → was_readied (entry_at sizes core n) ≡ true
     none n is = absurd (if_both (λ s. IsReadied s (changed sizes by core Draws found).first (changed sizes by core Draws found).entries n → ⊥) (found == (core.passes by).head) (Seizing found) (leaving (core.passes by).hands) (λ _ z. z)
         (λ _. clear_readied (leaving (core.passes by).hands) (changed sizes by core Draws found).first (changed sizes by core Draws found).entries n (clear_leaving (core.passes by).hands)) is)
 
@@ -233,18 +237,18 @@ draw_step sizes first log by core found sound groups pieces may = go (found == (
         many = when_true (found == (core.passes by).head) (page_count sizes (core.passes by).call) (core.passes by).entries e
 
         -- what was drawn is free
-        not_ready : (n : ℕ) → IsAmong found (page_count sizes (core.passes by).call) n → kind_of (entry_at sizes core n) ≡ ready → ⊥
+        not_ready : (n : ℕ) → IsAmong found (page_count sizes (core.passes by).call) n → was_readied (entry_at sizes core n) ≡ true → ⊥
         not_ready n is kind =
             let none : entry_at sizes core n ≡ free = (window_step sizes first by core Draws found sound may).unseized_is by n
             (subst (λ p. HasUnseized p n) (sym (number_here core.passes by (changed sizes by core Draws found)))
             (subst (λ s. IsUnseized s (changed sizes by core Draws found).first (changed sizes by core Draws found).entries n) (sym stage)
             (is.0, subst (λ f. n < f + (changed sizes by core Draws found).entries) (sym from) (subst (λ c. n < found + c) (sym many) is.1)))) in
-            let zero_ : kind_of free ≡ ready = ap kind_of (sym none) ∙ kind in omega (arith, zero_)
+            not_both (ap was_readied (sym none) ∙ kind) refl
 
         won : Pieces sizes (with_group group log) (after_step sizes by Draws found core)
         won = record {
           says = λ n is kind. elim (split n is) [
-            | inl was ↦ pieces.says n was kind ∙ ap (λ g. word_of_number sizes g n) (sym (old n was.1))
+            | inl was ↦ pieces.says n was kind ∙ ap (λ g. word_of_number sizes g (kind_of (entry_at sizes core n)) n) (sym (old n was.1))
             | inr new ↦ absurd (not_ready n new kind)
           ];
           followers = λ n other is leads kind among. elim (split n is) [
@@ -273,17 +277,17 @@ pieces_step sizes first log by core Draws found sound groups pieces may = draw_s
 pieces_step sizes first log by core (Seizes next) found sound groups pieces may =
     let at : HasDrawn sizes (core.passes by).call (core.passes by).entries × IsAmong (core.passes by).first (core.passes by).entries next = subst (StandsAt sizes (core.passes by)) may.may (sound.standing by).at in
     let old : entry_at sizes core next ≡ free = sound.window.unseized_is by next (subst (λ s. IsUnseized s (core.passes by).first (core.passes by).entries next) (sym may.may) (omega arith, at.1.1)) in
-    entry_step sizes log by core (Seizes next) found (slot_of sizes next) filling pieces refl (λ e. omega (arith, e)) (λ e. let z : kind_of free ≡ ready = ap kind_of (sym old) ∙ e in omega (arith, z))
-    (λ n. if_both (λ s. IsReadied s (core.passes by).first (core.passes by).entries n → kind_of (entry_at sizes core n) ≡ ready) (next + 1 == (core.passes by).first + (core.passes by).entries) (Committing 0) (Seizing (next + 1)) (λ _ z. absurd z) (λ _ z. absurd z))
+    entry_step sizes log by core (Seizes next) found (slot_of sizes next) filling pieces refl (λ e. not_both e refl) (λ e. not_both (ap was_readied (sym old) ∙ e) refl)
+    (λ n. if_both (λ s. IsReadied s (core.passes by).first (core.passes by).entries n → was_readied (entry_at sizes core n) ≡ true) (next + 1 == (core.passes by).first + (core.passes by).entries) (Committing 0) (Seizing (next + 1)) (λ _ z. absurd z) (λ _ z. absurd z))
 pieces_step sizes first log by core (Pledges page) found sound groups pieces may = plain_step sizes log by core (Pledges page) found pieces may refl refl (λ slot. refl)
-    (λ n. if_both (λ s. IsReadied s (core.passes by).first (core.passes by).entries n → kind_of (entry_at sizes core n) ≡ ready) (page + 1 == end_page sizes (core.passes by).call) (Readying (if (core.passes by).entries == 1 then (core.passes by).first else (core.passes by).first + 1)) (Pledging (page + 1))
+    (λ n. if_both (λ s. IsReadied s (core.passes by).first (core.passes by).entries n → was_readied (entry_at sizes core n) ≡ true) (page + 1 == end_page sizes (core.passes by).call) (Readying (if (core.passes by).entries == 1 then (core.passes by).first else (core.passes by).first + 1)) (Pledging (page + 1))
     (λ _ z. absurd (pledged_none (core.passes by).first (core.passes by).entries n z)) (λ _ z. absurd z))
 pieces_step sizes first log by core (Readies next) found sound groups pieces may = ready_step sizes first log by core found next sound groups pieces may
 pieces_step sizes first log by core (Breaks next) found sound groups pieces may =
     let at : HasDrawn sizes (core.passes by).call (core.passes by).entries × IsAmong (core.passes by).first (core.passes by).entries next = subst (StandsAt sizes (core.passes by)) may.may (sound.standing by).at in
     let old : entry_at sizes core next ≡ filling = sound.window.filling_is by next (subst (λ s. IsFilling s (core.passes by).first (core.passes by).entries next) (sym may.may) (omega arith, at.1.1)) in
-    entry_step sizes log by core (Breaks next) found (slot_of sizes next) broken pieces refl (λ e. omega (arith, e)) (λ e. let z : kind_of filling ≡ ready = ap kind_of (sym old) ∙ e in omega (arith, z))
-    (λ n. if_both (λ s. IsReadied s (core.passes by).first (core.passes by).entries n → kind_of (entry_at sizes core n) ≡ ready) (next + 1 == (core.passes by).first + (core.passes by).entries)
+    entry_step sizes log by core (Breaks next) found (slot_of sizes next) broken pieces refl (λ e. not_both e refl) (λ e. not_both (ap was_readied (sym old) ∙ e) refl)
+    (λ n. if_both (λ s. IsReadied s (core.passes by).first (core.passes by).entries n → was_readied (entry_at sizes core n) ≡ true) (next + 1 == (core.passes by).first + (core.passes by).entries)
     (leaving (without (ENTRY (slot_of sizes next)) (core.passes by).hands)) (Breaking (next + 1))
     (λ _ z. absurd (clear_readied (leaving (without (ENTRY (slot_of sizes next)) (core.passes by).hands)) (core.passes by).first (core.passes by).entries n (clear_leaving (without (ENTRY (slot_of sizes next)) (core.passes by).hands)) z)) (λ _ z. absurd z))
 pieces_step sizes first log by core Splits found sound groups pieces may = plain_step sizes log by core Splits found pieces may refl refl (λ slot. refl) (λ n z. absurd z)
@@ -294,8 +298,8 @@ pieces_step sizes first log by core (Joins number) found sound groups pieces may
 
 pub pieces_begin : (sizes : Sizes) (log : Log) (by : ℕ) (core : Core) (call : FileCall) → Pieces sizes log core → Pieces sizes log (after_begin sizes by call core)
 pieces_begin sizes log by core call pieces = pieces_kept sizes log core (after_begin sizes by call core) refl refl (λ slot _. refl) (λ slot _. refl)
-    (by_number (λ other (p : Pass). (n : ℕ) → IsReadied p.stage p.first p.entries n → kind_of (entry_at sizes core n) ≡ ready) core.passes by (begun sizes call (core.passes by))
-    (λ n. if_both (λ s. IsReadied s 0 0 n → kind_of (entry_at sizes core n) ≡ ready) (page_count sizes call == 0) Checking (Locking (first_page sizes call)) (λ _ z. absurd z) (λ _ z. absurd z))
+    (by_number (λ other (p : Pass). (n : ℕ) → IsReadied p.stage p.first p.entries n → was_readied (entry_at sizes core n) ≡ true) core.passes by (begun sizes call (core.passes by))
+    (λ n. if_both (λ s. IsReadied s 0 0 n → was_readied (entry_at sizes core n) ≡ true) (page_count sizes call == 0) Checking (Locking (first_page sizes call)) (λ _ z. absurd z) (λ _ z. absurd z))
     (λ other ne n is. pieces.readied other n is)) pieces
 
 worked_readied : (sizes : Sizes) (values : Values) (pass : Pass) (work : Work) (stage : Stage) (how : Ending) (from count n : ℕ) → IsDue sizes values pass work stage → IsReadied (stage_worked sizes pass how stage) from count n → ⊥
@@ -314,6 +318,6 @@ pieces_work sizes log by core work pieces may =
   where
     same : Pieces sizes log (after_work sizes by work core)
     same = pieces_kept sizes log core (after_work sizes by work core) refl refl (λ slot _. refl) (λ slot _. refl)
-        (by_number (λ other (p : Pass). (n : ℕ) → IsReadied p.stage p.first p.entries n → kind_of (entry_at sizes core n) ≡ ready) core.passes by (worked sizes work (core.passes by))
+        (by_number (λ other (p : Pass). (n : ℕ) → IsReadied p.stage p.first p.entries n → was_readied (entry_at sizes core n) ≡ true) core.passes by (worked sizes work (core.passes by))
         (λ n is. absurd (worked_readied sizes core.values (core.passes by) work (core.passes by).stage work.ending (core.passes by).first (core.passes by).entries n may.due is))
         (λ other ne n is. pieces.readied other n is)) pieces

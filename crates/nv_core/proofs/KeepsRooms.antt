@@ -1,5 +1,5 @@
 -- Each event keeps the rooms.
-use Rattle.std.proofs.Common.{◌≡◌, ◌≢◌, ◌⊎◌, ℕ, zero, suc, ◌+◌, ◌-◌, ◌<◌, ◌≤◌, ◌==◌, false, if◌then◌else◌, List, [], ◌∷◌, length, drop, inl, inr, refl, sym, ap, subst, ◌∙◌, arith}
+use Rattle.std.proofs.Common.{◌≡◌, ◌≢◌, ◌⊎◌, ℕ, zero, suc, ◌+◌, ◌-◌, ◌<◌, ◌≤◌, ◌==◌, false, if◌then◌else◌, List, [], ◌∷◌, length, drop, inl, inr, refl, sym, ap, subst, ◌∙◌, arith, true}
 use Rattle.std.specs.Prelude.{slice_index_or}
 use Rattle.std.proofs.Math.Numerals.{add-one}
 use Rattle.std.proofs.lemmas.Bool.{eqb-true, eq-eqb, ne_eqb, cases_eq}
@@ -11,7 +11,7 @@ use Rattle.nv_pmem.specs.Room.{Room}
 use Rattle.nv_pmem.specs.Rows.{RowStep, steps_on}
 use Rattle.nv_pmem.specs.Steps.{Step}
 use Rattle.nv_entry.specs.Commits.{GroupsEndReady}
-use Rattle.nv_core.specs.Words.{Sizes, Word, HEADER, STORE, ENTRY, kind_of, free, filling, ready, broken}
+use Rattle.nv_core.specs.Words.{Sizes, Word, HEADER, STORE, ENTRY, kind_of, free, filling, broken, was_readied}
 use Rattle.nv_core.specs.Values.{Value, Bare, APart, AStore, ABuffer, Writes, Ending, Made, Failed, called}
 use Rattle.nv_core.specs.Passes.{Stage, Locking, Checking, Copying, Seizing, Committing, Pledging, Readying, Placing, ReadFailing, WriteFailing, Breaking, Pass, IsUnseized, IsFilling, IsAmong, file_of, page_count, first_page, end_page, without, times}
 use Rattle.nv_core.specs.Deeds.{Deed, slot_of, page_at, ready_word, Loads, Takes, Gives, Places, Stops, Draws, Seizes, Pledges, Readies, Grows, Breaks, Splits, Leaves, Joins}
@@ -25,7 +25,7 @@ use Rattle.nv_core.specs.LogWindow.{Fills}
 use Rattle.nv_core.specs.Rooms.{EndsReady, KeepsReady, FillsReady, KeepsRoomy, Rooms}
 use Rattle.nv_core.specs.Sound.{Sound}
 use Rattle.nv_core.proofs.Changes.{by_number, by_word, word_else, differ}
-use Rattle.nv_core.proofs.Choices.{if_both, when_true, when_false, busy}
+use Rattle.nv_core.proofs.Choices.{if_both, when_true, when_false, busy, not_both}
 use Rattle.nv_core.proofs.ClearLaws.{IsClear, clear_filling, clear_to, clear_leaving}
 use Rattle.nv_core.proofs.WordLaws.{untouched, touches}
 use Rattle.nv_core.proofs.HoldingSteps.{few_entries, apart_in}
@@ -39,7 +39,7 @@ use Rattle.nv_core.proofs.WrittenLaws.{part_stepped, part_worked, value_called, 
 
 module _ (sizes : Sizes) (core now : Core) (values : (slot : ℕ) → now.values (ENTRY slot) ≡ core.values (ENTRY slot)) (header : now.values HEADER ≡ core.values HEADER) where
   rooms_kept : ((slot : ℕ) → now.words (ENTRY slot) ≡ free → core.words (ENTRY slot) ≡ free)
-      → ((slot : ℕ) → kind_of (now.words (ENTRY slot)) ≡ ready → (kind_of (core.words (ENTRY slot)) ≡ ready) ⊎ KeepsReady sizes (core.values (ENTRY slot)))
+      → ((slot : ℕ) → was_readied (now.words (ENTRY slot)) ≡ true → (was_readied (core.words (ENTRY slot)) ≡ true) ⊎ KeepsReady sizes (core.values (ENTRY slot)))
       → ((by number : ℕ) → Fills (now.passes by) number → FillsReady sizes (now.passes by) (now.passes by).stage number (core.values (ENTRY (slot_of sizes number))))
       → Rooms sizes core → Rooms sizes now
   rooms_kept frees readies fills rooms = record {
@@ -155,24 +155,24 @@ module _ (sizes : Sizes) (first : Values) (by : ℕ) (core : Core) (found : ℕ)
   plain_step : (deed : Deed) → MayFind sizes by core deed found → ((slot : ℕ) → touches deed (ENTRY slot) ≡ false) → Rooms sizes (after_step sizes by deed found core)
   plain_step deed may entry = rooms_kept sizes core (after_step sizes by deed found core) (part_stepped sizes (core.passes by) deed core.values) (header_stepped sizes (core.passes by) deed core.values)
       (λ slot is. sym (untouched sizes by core deed found may (ENTRY slot) (entry slot)) ∙ is)
-      (λ slot is. inl (ap kind_of (sym (untouched sizes by core deed found may (ENTRY slot) (entry slot))) ∙ is)) (fills_now deed may) rooms
+      (λ slot is. inl (ap was_readied (sym (untouched sizes by core deed found may (ENTRY slot) (entry slot))) ∙ is)) (fills_now deed may) rooms
 
   -- one that sets an ENTRY word that isn't free then, and ready only where the part is
   entry_step : (deed : Deed) (slot value : ℕ) → MayFind sizes by core deed found → (after_step sizes by deed found core).words ≡ with_word core.words (ENTRY slot) value → kind_of value ≢ free
-      → (kind_of value ≡ ready → KeepsReady sizes (core.values (ENTRY slot))) → Rooms sizes (after_step sizes by deed found core)
+      → (was_readied value ≡ true → KeepsReady sizes (core.values (ENTRY slot))) → Rooms sizes (after_step sizes by deed found core)
   entry_step deed slot value may words not_free is_ready = rooms_kept sizes core (after_step sizes by deed found core) (part_stepped sizes (core.passes by) deed core.values) (header_stepped sizes (core.passes by) deed core.values)
       (λ other is. frees (ENTRY other) (sym (ap (λ w. w (ENTRY other)) words) ∙ is))
-      (λ other is. readies (ENTRY other) (ap (λ w. kind_of (w (ENTRY other))) (sym words) ∙ is)) (fills_now deed may) rooms
+      (λ other is. readies (ENTRY other) (ap (λ w. was_readied (w (ENTRY other))) (sym words) ∙ is)) (fills_now deed may) rooms
     where
       frees : (word : Word) → with_word core.words (ENTRY slot) value word ≡ free → core.words word ≡ free
       frees = by_word (λ word v. v ≡ free → core.words word ≡ free) core.words (ENTRY slot) value (λ e. absurd (not_free (ap kind_of e))) (λ word ne e. e)
 
-      readies : (word : Word) → kind_of (with_word core.words (ENTRY slot) value word) ≡ ready → (kind_of (core.words word) ≡ ready) ⊎ KeepsReady sizes (core.values word)
-      readies = by_word (λ word v. kind_of v ≡ ready → (kind_of (core.words word) ≡ ready) ⊎ KeepsReady sizes (core.values word)) core.words (ENTRY slot) value (λ e. inr (is_ready e)) (λ word ne e. inl e)
+      readies : (word : Word) → was_readied (with_word core.words (ENTRY slot) value word) ≡ true → (was_readied (core.words word) ≡ true) ⊎ KeepsReady sizes (core.values word)
+      readies = by_word (λ word v. was_readied v ≡ true → (was_readied (core.words word) ≡ true) ⊎ KeepsReady sizes (core.values word)) core.words (ENTRY slot) value (λ e. inr (is_ready e)) (λ word ne e. inl e)
 
 pub rooms_step : (sizes : Sizes) (first : Values) (by : ℕ) (core : Core) (deed : Deed) (found : ℕ) → Sound sizes first core → MayFind sizes by core deed found → Rooms sizes (after_step sizes by deed found core)
-rooms_step sizes first by core (Seizes next) found sound may = entry_step sizes first by core found sound sound.rooms (Seizes next) (slot_of sizes next) filling may refl (λ e. omega (arith, e)) (λ e. absurd (omega (arith, e)))
-rooms_step sizes first by core (Breaks next) found sound may = entry_step sizes first by core found sound sound.rooms (Breaks next) (slot_of sizes next) broken may refl (λ e. omega (arith, e)) (λ e. absurd (omega (arith, e)))
+rooms_step sizes first by core (Seizes next) found sound may = entry_step sizes first by core found sound sound.rooms (Seizes next) (slot_of sizes next) filling may refl (λ e. omega (arith, e)) (λ e. absurd (not_both e refl))
+rooms_step sizes first by core (Breaks next) found sound may = entry_step sizes first by core found sound sound.rooms (Breaks next) (slot_of sizes next) broken may refl (λ e. omega (arith, e)) (λ e. absurd (not_both e refl))
 rooms_step sizes first by core (Readies next) found sound may =
     entry_step sizes first by core found sound sound.rooms (Readies next) (slot_of sizes next) (ready_word sizes (core.passes by) next) may refl
     (λ e. let k = kind_is 2 (if next == (core.passes by).first then (core.passes by).entries else 0) (page_at sizes (core.passes by) next) (omega arith) in omega (arith, k, e))
@@ -295,7 +295,7 @@ module _ (ends : GroupsEndReady) (sizes : Sizes) (first : Values) (by : ℕ) (co
   commit_rooms = record {
     free = λ slot less is. subst (KeepsReady sizes) (sym (value_not_called sizes (core.passes by) work core.values calls due slot (unlike slot free is (λ e. omega (arith, e))))) (sound.rooms.free slot less is);
     ready = λ slot less is. subst (KeepsReady sizes) (sym (value_not_called sizes (core.passes by) work core.values calls due slot (unlike slot (core.words (ENTRY slot)) refl
-        (λ e. let z : kind_of filling ≡ ready = ap kind_of (sym e) ∙ is in omega (arith, z))))) (sound.rooms.ready slot less is);
+        (λ e. not_both (ap was_readied (sym e) ∙ is) refl)))) (sound.rooms.ready slot less is);
     filling = λ n number. by_number (λ n (p : Pass). Fills p number → FillsReady sizes p p.stage number (values_worked (core.passes by) work core.values (ENTRY (slot_of sizes number)))) core.passes by (worked sizes work (core.passes by))
         (subst (λ s. IsFilling (stage_worked sizes (core.passes by) work.ending s) (core.passes by).first (core.passes by).entries number
         → FillsReady sizes (worked sizes work (core.passes by)) (stage_worked sizes (core.passes by) work.ending s) number (values_worked (core.passes by) work core.values (ENTRY (slot_of sizes number)))) (sym at) (filled_now work.ending refl number))

@@ -3,7 +3,7 @@ use Rattle.std.proofs.Common.{◌≡◌, ◌≢◌, ◌⊎◌, ℕ, ◌+◌, ◌
 use Rattle.std.proofs.lemmas.Bool.{cases_eq}
 use Rattle.nv_plain.specs.declared.call.FileCall.{FileCall}
 use Rattle.nv_plain.specs.declared.call.Reply.{Reply}
-use Rattle.nv_core.specs.Words.{Sizes, Word, HEAD, TAIL, PAGE, ENTRY, kind_of, free, filling, ready, broken, index}
+use Rattle.nv_core.specs.Words.{Sizes, Word, HEAD, TAIL, PAGE, ENTRY, kind_of, free, filling, broken, index, was_readied}
 use Rattle.nv_core.specs.Values.{Ending, Made, Failed}
 use Rattle.nv_core.specs.Passes.{Stage, Locking, Checking, Copying, Drawing, Seizing, Committing, Pledging, Readying, Placing, Reading, WriteFailing, Breaking, Fault, Pass, IsOneOf, IsUnseized, IsFilling, IsAmong, is_write, page_count, first_page, end_page, times}
 use Rattle.nv_core.specs.Deeds.{Deed, slot_of, page_at, ready_word, Loads, Takes, Gives, Places, Stops, Draws, Seizes, Pledges, Readies, Grows, Breaks, Splits, Leaves, Joins}
@@ -27,7 +27,7 @@ use Rattle.nv_core.proofs.Choices.{if_both, not_both, when_true, when_false}
 use Rattle.nv_core.proofs.ClearLaws.{IsClear, clear_to, clear_leaving}
 use Rattle.nv_core.proofs.PageLaws.{write_pages}
 use Rattle.nv_core.proofs.WordLaws.{untouched}
-use Rattle.nv_core.proofs.KeepsLocks.{kind_is}
+use Rattle.nv_core.proofs.KeepsLocks.{readied_is, ready_is}
 use Rattle.nv_core.proofs.KeepsLoaded.{holds_page, held_by_one}
 use Rattle.nv_core.proofs.KeepsWindow.{window_step}
 use Rattle.nv_core.proofs.KeepsInFlight.{no_reading}
@@ -91,7 +91,7 @@ still_of core now group keeps is = record { by = is.by; fault = is.fault; ended 
 module _ (sizes : Sizes) (log : Log) (placed next : ℕ → Bool) (core now : Core) (head : now.words HEAD ≡ core.words HEAD) (tail : now.words TAIL ≡ core.words TAIL) where
   unready_kept : KeepsFaults core now → BreaksListed now
       → ((n : ℕ) → InWindow core n → entry_at sizes now n ≡ broken → (entry_at sizes core n ≡ broken) ⊎ IsOfFault now (log.group n))
-      → ((n : ℕ) → InWindow core n → kind_of (entry_at sizes core n) ≡ ready → kind_of (entry_at sizes now n) ≡ ready)
+      → ((n : ℕ) → InWindow core n → was_readied (entry_at sizes core n) ≡ true → was_readied (entry_at sizes now n) ≡ true)
       → ((n : ℕ) → IsUnready sizes log core n → placed n ≡ false → next n ≡ false)
       → Unready sizes log placed core → Unready sizes log next now
   unready_kept faults breaks brokens still places unready = record {
@@ -127,12 +127,12 @@ module _ (sizes : Sizes) (first : Values) (log : Log) (placed : ℕ → Bool) (b
       → Unready sizes log next (after_step sizes by deed found core)
   plain_unready next head tail entry places =
       unready_kept sizes log placed next core (after_step sizes by deed found core) head tail faults_after breaks_after
-      (λ n within e. inl (sym (entry (slot_of sizes n)) ∙ e)) (λ n within e. ap kind_of (entry (slot_of sizes n)) ∙ e) places unready
+      (λ n within e. inl (sym (entry (slot_of sizes n)) ∙ e)) (λ n within e. ap was_readied (entry (slot_of sizes n)) ∙ e) places unready
 
   -- one that sets the ENTRY word of a number of the window
   entry_unready : (next value : ℕ) → (after_step sizes by deed found core).words ≡ with_word core.words (ENTRY (slot_of sizes next)) value → InWindow core next
       → (value ≡ broken → IsOfFault (after_step sizes by deed found core) (log.group next))
-      → (kind_of (core.words (ENTRY (slot_of sizes next))) ≡ ready → kind_of value ≡ ready)
+      → (was_readied (core.words (ENTRY (slot_of sizes next))) ≡ true → was_readied value ≡ true)
       → Unready sizes log placed (after_step sizes by deed found core)
   entry_unready next value words there breaks_ still =
       unready_kept sizes log placed placed core (after_step sizes by deed found core)
@@ -144,11 +144,11 @@ module _ (sizes : Sizes) (first : Values) (log : Log) (placed : ℕ → Bool) (b
             (breaks_ (sym (word_here core.words (ENTRY (slot_of sizes next)) value) ∙ ap (λ w. w (ENTRY (slot_of sizes next))) (sym words) ∙ ap (λ m. (after_step sizes by deed found core).words (ENTRY (slot_of sizes m))) (sym same) ∙ e)))
         | inr ne ↦ inl (sym (word_else core.words (ENTRY (slot_of sizes next)) value (ENTRY (slot_of sizes n)) (λ s. apart_within sizes core sound.window n next within there ne (ap index s))) ∙ ap (λ w. w (ENTRY (slot_of sizes n))) (sym words) ∙ e)
       ])
-      (λ n within e. ap (λ w. kind_of (w (ENTRY (slot_of sizes n)))) words ∙ stays (ENTRY (slot_of sizes n)) e)
+      (λ n within e. ap (λ w. was_readied (w (ENTRY (slot_of sizes n)))) words ∙ stays (ENTRY (slot_of sizes n)) e)
       (λ n is e. e) unready
     where
-      stays : (word : Word) → kind_of (core.words word) ≡ ready → kind_of (with_word core.words (ENTRY (slot_of sizes next)) value word) ≡ ready
-      stays = by_word (λ word v. kind_of (core.words word) ≡ ready → kind_of v ≡ ready) core.words (ENTRY (slot_of sizes next)) value still (λ word ne e. e)
+      stays : (word : Word) → was_readied (core.words word) ≡ true → was_readied (with_word core.words (ENTRY (slot_of sizes next)) value word) ≡ true
+      stays = by_word (λ word v. was_readied (core.words word) ≡ true → was_readied v ≡ true) core.words (ENTRY (slot_of sizes next)) value still (λ word ne e. e)
 
 -- ---- a call is placed
 
@@ -166,7 +166,7 @@ place_places sizes first log placed by core found reply sound flight may n is no
     go true e =
         let at = placing_first sizes core.values (core.passes by) reply (core.passes by).stage (sound.standing by).at may.may e in
         ap (λ p. p n) (when_true (is_write (core.passes by).call) (with_number placed (core.passes by).first true) placed e)
-        ∙ number_else placed (core.passes by).first true n (λ same. is.unready (subst (λ m. kind_of (entry_at sizes core m) ≡ ready) (sym same) (flight.ready_first by at.1 at.0)))
+        ∙ number_else placed (core.passes by).first true n (λ same. is.unready (subst (λ m. was_readied (entry_at sizes core m) ≡ true) (sym same) (flight.ready_first by at.1 at.0)))
         ∙ none
 
 -- ---- numbers are drawn
@@ -225,7 +225,7 @@ module _ (sizes : Sizes) (first : Values) (log : Log) (placed : ℕ → Bool) (b
       kept (IsFree e) not_free not_filling = not_free (ap kind_of e)
       kept (IsFilled e) not_free not_filling = not_filling (ap kind_of e)
       kept (IsBroken e) not_free not_filling = none_broken n page (unready.broken n is.within e) on own
-      kept (IsReady count at e few low) not_free not_filling = is.unready (ap kind_of e ∙ kind_is 2 count at (omega arith))
+      kept (IsReady kind count at low high e few within) not_free not_filling = is.unready (ap was_readied e ∙ readied_is kind count at low high)
 
       numbered : IsNumbered sizes core n → ⊥
       numbered (Drawn other has) = none_shared other n page (inl has) on own
@@ -336,13 +336,13 @@ unready_step sizes first log placed by core (Seizes next) found sound groups fli
     let has : HasUnseized (core.passes by) next = subst (λ s. IsUnseized s (core.passes by).first (core.passes by).entries next) (sym may.may) (omega arith, at.1.1) in
     let old : entry_at sizes core next ≡ free = sound.window.unseized_is by next has in
     entry_unready sizes first log placed by core (Seizes next) found sound unready may next filling refl (sound.window.unseized_in by next has) (λ e. absurd (omega (arith, e)))
-    (λ e. let z : kind_of free ≡ ready = ap kind_of (sym old) ∙ e in absurd (omega (arith, z)))
+    (λ e. absurd (not_both (ap was_readied (sym old) ∙ e) refl))
 unready_step sizes first log placed by core (Readies next) found sound groups flight unready may =
     let at : HasDrawn sizes (core.passes by).call (core.passes by).entries × IsAmong (core.passes by).first (core.passes by).entries next = subst (StandsAt sizes (core.passes by)) may.may (sound.standing by).at in
     let own = groups.own by (subst HasGroup (sym may.may) tt) next at.1 in
-    let kind : kind_of (ready_word sizes (core.passes by) next) ≡ ready = kind_is 2 (if next == (core.passes by).first then (core.passes by).entries else 0) (page_at sizes (core.passes by) next) (omega arith) in
+    let kind : was_readied (ready_word sizes (core.passes by) next) ≡ true = ready_is (if next == (core.passes by).first then (core.passes by).entries else 0) (page_at sizes (core.passes by) next) in
     entry_unready sizes first log placed by core (Readies next) found sound unready may next (ready_word sizes (core.passes by) next) refl own.within
-    (λ e. absurd (let z : kind_of broken ≡ ready = ap kind_of (sym e) ∙ kind in omega (arith, z))) (λ _. kind)
+    (λ e. absurd (not_both (ap was_readied (sym e) ∙ kind) refl)) (λ _. kind)
 unready_step sizes first log placed by core (Breaks next) found sound groups flight unready may =
     let at : HasDrawn sizes (core.passes by).call (core.passes by).entries × IsAmong (core.passes by).first (core.passes by).entries next = subst (StandsAt sizes (core.passes by)) may.may (sound.standing by).at in
     let own = groups.own by (subst HasGroup (sym may.may) tt) next at.1 in
@@ -350,7 +350,7 @@ unready_step sizes first log placed by core (Breaks next) found sound groups fli
     entry_unready sizes first log placed by core (Breaks next) found sound unready may next broken refl own.within
     (λ _. still_of core (after_step sizes by (Breaks next) found core) (log.group next) (faults_after sizes first log placed by core (Breaks next) found sound unready may)
     record { by = by; fault = fault_of (core.passes by); ended = unready.breaking by next may.may; is = own.group })
-    (λ e. let z : kind_of filling ≡ ready = ap kind_of (sym old) ∙ e in absurd (omega (arith, z)))
+    (λ e. absurd (not_both (ap was_readied (sym old) ∙ e) refl))
 unready_step sizes first log placed by core (Loads word) found sound groups flight unready may = plain_unready sizes first log placed by core (Loads word) found sound unready may placed
     (untouched sizes by core (Loads word) found may HEAD refl) (untouched sizes by core (Loads word) found may TAIL refl) (λ slot. untouched sizes by core (Loads word) found may (ENTRY slot) refl) (λ n is none. none)
 unready_step sizes first log placed by core (Takes cell) found sound groups flight unready may = plain_unready sizes first log placed by core (Takes cell) found sound unready may placed

@@ -12,7 +12,7 @@ use Rattle.nv_pmem.specs.Laws.{BlankIsQuiet}
 use Rattle.nv_pmem.specs.Images.{IsQuiet, InEachImage}
 use Rattle.nv_pmem.specs.Runs.{run}
 use Rattle.nv_entry.specs.Commits.{after_some}
-use Rattle.nv_core.specs.Words.{Sizes, Word, HEAD, TAIL, STORE, ENTRY, kind_of, free, filling, ready, broken, index}
+use Rattle.nv_core.specs.Words.{Sizes, Word, HEAD, TAIL, STORE, ENTRY, kind_of, free, filling, broken, index, was_readied}
 use Rattle.nv_core.specs.Values.{Ending, Made, Failed, Writes, called}
 use Rattle.nv_core.specs.Passes.{Stage, Locking, Checking, Copying, Seizing, Committing, Pledging, Readying, Placing, ReadFailing, WriteFailing, Breaking, Pass, IsUnseized, IsFilling, IsAmong, AreBytes, IsAllowed, file_of, is_write, page_count, first_page, end_page, without}
 use Rattle.nv_core.specs.Deeds.{Deed, slot_of, page_at, ready_word, Loads, Takes, Gives, Places, Stops, Draws, Seizes, Pledges, Readies, Grows, Breaks, Splits, Leaves, Joins}
@@ -122,7 +122,7 @@ calls_as sizes log next old new first call stage same is = tt
 module _ (sizes : Sizes) (tail : ℕ) (log : Log) (core now : Core) (head : now.words HEAD ≡ core.words HEAD) (window : now.words TAIL ≡ core.words TAIL)
     (values : (slot : ℕ) → now.values (ENTRY slot) ≡ core.values (ENTRY slot)) where
   written_kept : ((slot : ℕ) → now.words (ENTRY slot) ≡ free → core.words (ENTRY slot) ≡ free)
-      → ((n : ℕ) → InWindow core n → (log.group n).first ≡ n → kind_of (entry_at sizes now n) ≡ ready → (kind_of (entry_at sizes core n) ≡ ready) ⊎ (log.calls n ≡ commit_length sizes (log.group n).call n))
+      → ((n : ℕ) → InWindow core n → (log.group n).first ≡ n → was_readied (entry_at sizes now n) ≡ true → (was_readied (entry_at sizes core n) ≡ true) ⊎ (log.calls n ≡ commit_length sizes (log.group n).call n))
       → ((by : ℕ) → HasCalls sizes log (now.passes by) (now.passes by).stage) → Written sizes tail log core → Written sizes tail log now
   written_kept frees readies calls written = record {
     groups = λ n is leads. written_same sizes core.values now.values tail (log.group n).call n (log.calls n)
@@ -152,7 +152,7 @@ plain_step sizes tail log by core deed found written may head window entry here 
     written_kept sizes tail log core (after_step sizes by deed found core) (untouched sizes by core deed found may HEAD head) (untouched sizes by core deed found may TAIL window)
     (part_stepped sizes (core.passes by) deed core.values)
     (λ slot is. sym (untouched sizes by core deed found may (ENTRY slot) (entry slot)) ∙ is)
-    (λ n is leads kind. inl (ap kind_of (sym (untouched sizes by core deed found may (ENTRY (slot_of sizes n)) (entry (slot_of sizes n)))) ∙ kind))
+    (λ n is leads kind. inl (ap was_readied (sym (untouched sizes by core deed found may (ENTRY (slot_of sizes n)) (entry (slot_of sizes n)))) ∙ kind))
     (calls_now sizes log tail by core deed found written here) written
 
 clear_step : (sizes : Sizes) (tail : ℕ) (log : Log) (by : ℕ) (core : Core) (deed : Deed) (found number : ℕ) → IsPlain deed → MayStep sizes core.values (core.passes by) deed
@@ -161,7 +161,7 @@ clear_step sizes tail log by core deed found number plain may = clear_calls size
 
 -- a step that sets an ENTRY word that is neither free nor ready then
 entry_step : (sizes : Sizes) (tail : ℕ) (log : Log) (by : ℕ) (core : Core) (deed : Deed) (found slot value : ℕ) → Written sizes tail log core
-    → (after_step sizes by deed found core).words ≡ with_word core.words (ENTRY slot) value → kind_of value ≢ free → kind_of value ≢ ready
+    → (after_step sizes by deed found core).words ≡ with_word core.words (ENTRY slot) value → kind_of value ≢ free → was_readied value ≢ true
     → HasCalls sizes log (changed sizes by core deed found) (changed sizes by core deed found).stage → Written sizes tail log (after_step sizes by deed found core)
 entry_step sizes tail log by core deed found slot value written words not_free not_ready here =
     written_kept sizes tail log core (after_step sizes by deed found core)
@@ -169,14 +169,14 @@ entry_step sizes tail log by core deed found slot value written words not_free n
     (ap (λ w. w TAIL) words ∙ word_else core.words (ENTRY slot) value TAIL (differ TAIL (ENTRY slot) refl))
     (part_stepped sizes (core.passes by) deed core.values)
     (λ other is. frees (ENTRY other) (sym (ap (λ w. w (ENTRY other)) words) ∙ is))
-    (λ n is leads kind. inl (readies (ENTRY (slot_of sizes n)) (ap (λ w. kind_of (w (ENTRY (slot_of sizes n)))) (sym words) ∙ kind)))
+    (λ n is leads kind. inl (readies (ENTRY (slot_of sizes n)) (ap (λ w. was_readied (w (ENTRY (slot_of sizes n)))) (sym words) ∙ kind)))
     (calls_now sizes log tail by core deed found written here) written
   where
     frees : (word : Word) → with_word core.words (ENTRY slot) value word ≡ free → core.words word ≡ free
     frees = by_word (λ word v. v ≡ free → core.words word ≡ free) core.words (ENTRY slot) value (λ e. absurd (not_free (ap kind_of e))) (λ word ne e. e)
 
-    readies : (word : Word) → kind_of (with_word core.words (ENTRY slot) value word) ≡ ready → kind_of (core.words word) ≡ ready
-    readies = by_word (λ word v. kind_of v ≡ ready → kind_of (core.words word) ≡ ready) core.words (ENTRY slot) value (λ e. absurd (not_ready e)) (λ word ne e. e)
+    readies : (word : Word) → was_readied (with_word core.words (ENTRY slot) value word) ≡ true → was_readied (core.words word) ≡ true
+    readies = by_word (λ word v. was_readied v ≡ true → was_readied (core.words word) ≡ true) core.words (ENTRY slot) value (λ e. absurd (not_ready e)) (λ word ne e. e)
 
 -- an entry is made ready: a leader only when all device calls of its group's commit have come
 ready_step : (sizes : Sizes) (first : Values) (tail : ℕ) (log : Log) (by : ℕ) (core : Core) (found next : ℕ) → Sound sizes first core → Groups sizes core log → Written sizes tail log core → MayFind sizes by core (Readies next) found
@@ -187,7 +187,7 @@ ready_step sizes first tail log by core found next sound groups written may =
     (word_else core.words (ENTRY (slot_of sizes next)) value TAIL (differ TAIL (ENTRY (slot_of sizes next)) refl))
     (λ slot. refl)
     (λ other is. by_word (λ word v. v ≡ free → core.words word ≡ free) core.words (ENTRY (slot_of sizes next)) value (λ e. absurd (let k = kind_two in let z : kind_of value ≡ 0 = ap kind_of e in omega (arith, k, z))) (λ word ne e. e) (ENTRY other) is)
-    (λ n is leads kind. by_word (λ word v. word ≡ ENTRY (slot_of sizes n) → kind_of v ≡ ready → (kind_of (core.words word) ≡ ready) ⊎ (log.calls n ≡ commit_length sizes (log.group n).call n)) core.words (ENTRY (slot_of sizes next)) value
+    (λ n is leads kind. by_word (λ word v. word ≡ ENTRY (slot_of sizes n) → was_readied v ≡ true → (was_readied (core.words word) ≡ true) ⊎ (log.calls n ≡ commit_length sizes (log.group n).call n)) core.words (ENTRY (slot_of sizes next)) value
     (λ e _. inr (leader n is leads (ap index e))) (λ word ne e k. inl k) (ENTRY (slot_of sizes n)) refl kind)
     (calls_now sizes log tail by core (Readies next) found written
     (if_both (λ s. HasCalls sizes log (changed sizes by core (Readies next) found) s) (next == (core.passes by).first) Placing
@@ -238,7 +238,7 @@ other_step sizes first tail log by core Stops found sound groups written may ne 
     (stop_calls sizes log (core.passes by) (changed sizes by core Stops found) (core.passes by).stage may.may)
 other_step sizes first tail log by core Draws found sound groups written may ne = absurd (not_both refl ne)
 other_step sizes first tail log by core (Seizes next) found sound groups written may ne =
-    entry_step sizes tail log by core (Seizes next) found (slot_of sizes next) filling written refl (λ e. omega (arith, e)) (λ e. omega (arith, e))
+    entry_step sizes tail log by core (Seizes next) found (slot_of sizes next) filling written refl (λ e. omega (arith, e)) (λ e. not_both e refl)
     (let none : log.calls (core.passes by).first ≡ 0 = subst (HasCalls sizes log (core.passes by)) may.may (written.calls by) in
     if_both (HasCalls sizes log (changed sizes by core (Seizes next) found)) (next + 1 == (core.passes by).first + (core.passes by).entries) (Committing 0) (Seizing (next + 1)) (λ _. none) (λ _. none))
 other_step sizes first tail log by core (Pledges page) found sound groups written may ne = plain_step sizes tail log by core (Pledges page) found written may refl refl (λ slot. refl)
@@ -246,7 +246,7 @@ other_step sizes first tail log by core (Pledges page) found sound groups writte
     if_both (HasCalls sizes log (changed sizes by core (Pledges page) found)) (page + 1 == end_page sizes (core.passes by).call) (Readying (if (core.passes by).entries == 1 then (core.passes by).first else (core.passes by).first + 1)) (Pledging (page + 1)) (λ _. all) (λ _. all))
 other_step sizes first tail log by core (Readies next) found sound groups written may ne = ready_step sizes first tail log by core found next sound groups written may
 other_step sizes first tail log by core (Breaks next) found sound groups written may ne =
-    entry_step sizes tail log by core (Breaks next) found (slot_of sizes next) broken written refl (λ e. omega (arith, e)) (λ e. omega (arith, e))
+    entry_step sizes tail log by core (Breaks next) found (slot_of sizes next) broken written refl (λ e. omega (arith, e)) (λ e. not_both e refl)
     (if_both (HasCalls sizes log (changed sizes by core (Breaks next) found)) (next + 1 == (core.passes by).first + (core.passes by).entries)
     (leaving (without (ENTRY (slot_of sizes next)) (core.passes by).hands)) (Breaking (next + 1))
     (λ _. clear_calls sizes log (changed sizes by core (Breaks next) found) (leaving (without (ENTRY (slot_of sizes next)) (core.passes by).hands)) (clear_leaving (without (ENTRY (slot_of sizes next)) (core.passes by).hands))) (λ _. tt))
@@ -363,7 +363,7 @@ module _ (sizes : Sizes) (first : Values) (tail : ℕ) (log : Log) (by : ℕ) (c
         (λ e. ne (first_apart sizes first core sound n by counted (subst IsCounted (sym at) tt) e))) (written.calls n));
     ready = λ n is leads kind. number_else log.calls (core.passes by).first (calls_after work.ending calls) n
         (λ e. let one : entry_at sizes core n ≡ filling = subst (λ m. entry_at sizes core m ≡ filling) (sym e) (sound.window.filling_is by (core.passes by).first (fills (core.passes by).first (among_first sizes (core.passes by) pass_drawn))) in
-        let two : kind_of filling ≡ ready = ap kind_of (sym one) ∙ kind in omega (arith, two))
+        not_both (ap was_readied (sym one) ∙ kind) refl)
         ∙ written.ready n is leads kind;
     free = λ slot less is. subst (λ v. IsBlank sizes v tail slot) (sym (value_else slot
         (λ e. let one : core.words (ENTRY slot) ≡ filling = ap (λ s. core.words (ENTRY s)) e ∙ sound.window.filling_is by ((core.passes by).first + due.row.part) (fills _ among_part) in omega (arith, one, is))))
@@ -532,10 +532,10 @@ module _ (sizes : Sizes) (first : Values) (tail : ℕ) (log : Log) (by : ℕ) (c
       (among_first sizes (core.passes n) (counted_drawn sizes (core.passes n) (core.passes n).stage counted (sound.standing n).at))).within.1)
       (written.calls n))
 
-  draw_ready : (n : ℕ) → InWindow new_core n → (drawn_log.group n).first ≡ n → kind_of (entry_at sizes core n) ≡ ready → drawn_log.calls n ≡ commit_length sizes (drawn_log.group n).call n
+  draw_ready : (n : ℕ) → InWindow new_core n → (drawn_log.group n).first ≡ n → was_readied (entry_at sizes core n) ≡ true → drawn_log.calls n ≡ commit_length sizes (drawn_log.group n).call n
   draw_ready n is leads kind = elim (split n is) [
     | inl old ↦ old_calls n old.1 ∙ written.ready n old (sym (ap (λ g. g.first) (old_group n old.1)) ∙ leads) kind ∙ ap (λ g. commit_length sizes g.call n) (sym (old_group n old.1))
-    | inr new ↦ absurd (let z : kind_of free ≡ ready = ap kind_of (sym (new_free n new)) ∙ kind in omega (arith, z))
+    | inr new ↦ absurd (not_both (ap was_readied (sym (new_free n new)) ∙ kind) refl)
   ]
 
   draw_won : Written sizes tail drawn_log new_core

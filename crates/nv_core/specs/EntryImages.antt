@@ -1,12 +1,12 @@
 -- Entry images: what a power failure may leave of the region's entries, where all of its parts tell.
-use Rattle.std.specs.Prelude.{◌≡◌, ℕ, ◌+◌, ◌<◌}
+use Rattle.std.specs.Prelude.{◌≡◌, ℕ, ◌+◌, ◌<◌, true}
 use Rattle.nv_plain.specs.Images.{PartImage, Image}
 use Rattle.nv_plain.specs.declared.call.FileCall.{FileCall}
 use Rattle.nv_plain.specs.declared.call.FileCall.TheVariants.{Write}
 use Rattle.nv_pmem.specs.Part.{Part}
 use Rattle.nv_pmem.specs.Images.{IsImage, IsQuiet}
 use Rattle.nv_entry.specs.Group.{IsUncommitted, IsUncommittedOrWhole, IsWhole}
-use Rattle.nv_core.specs.Words.{Sizes, HEADER, ENTRY, kind_of, free, ready}
+use Rattle.nv_core.specs.Words.{Sizes, HEADER, ENTRY, was_readied, free}
 use Rattle.nv_core.specs.Values.{Value}
 use Rattle.nv_core.specs.Passes.{Stage, Seizing, Pledging, Readying, IsAmong, page_count}
 use Rattle.nv_core.specs.Deeds.{slot_of}
@@ -59,8 +59,8 @@ HasPledged stage = ⊥
 
 -- ---- all of them
 
--- In every image each group of the window reads as uncommitted or whole, be it filled, broken or ready. One that is drawn and not yet
--- filled reads as uncommitted. One whose leader is ready, or whose pass has begun to pledge, reads as whole, and its parts are quiet.
+-- In every image each group of the window reads as uncommitted or whole, be it filled, broken or made ready. One that is drawn and not yet
+-- filled reads as uncommitted. One whose leader was made ready, or whose pass has begun to pledge, reads as whole, and its parts are quiet.
 -- The parts of free entries are quiet too.
 pub record EntryImages (sizes : Sizes) (log : Log) (core : Core) : Type 0 where
   pub groups : (number : ℕ) → InWindow core number → (log.group number).first ≡ number
@@ -71,8 +71,8 @@ pub record EntryImages (sizes : Sizes) (log : Log) (core : Core) : Type 0 where
       → InEachImageOf sizes core.values (ReadsWhole sizes (core.passes by).call (core.passes by).first)
   pub pledged_quiet : (by number : ℕ) → HasPledged (core.passes by).stage → IsAmong (core.passes by).first (core.passes by).entries number
       → KeepsQuiet (core.values (ENTRY (slot_of sizes number)))
-  pub whole : (number : ℕ) → InWindow core number → (log.group number).first ≡ number → kind_of (entry_at sizes core number) ≡ ready
+  pub whole : (number : ℕ) → InWindow core number → (log.group number).first ≡ number → was_readied (entry_at sizes core number) ≡ true
       → InEachImageOf sizes core.values (ReadsWhole sizes (log.group number).call number)
-  pub whole_quiet : (number other : ℕ) → InWindow core number → (log.group number).first ≡ number → kind_of (entry_at sizes core number) ≡ ready
+  pub whole_quiet : (number other : ℕ) → InWindow core number → (log.group number).first ≡ number → was_readied (entry_at sizes core number) ≡ true
       → IsAmong number (log.group number).entries other → KeepsQuiet (core.values (ENTRY (slot_of sizes other)))
   pub free_quiet : (slot : ℕ) → slot < sizes.entries → core.words (ENTRY slot) ≡ free → KeepsQuiet (core.values (ENTRY slot))

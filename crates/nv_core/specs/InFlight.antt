@@ -1,6 +1,6 @@
 -- Writes in flight: those that a pass has drawn and that have no place yet.
 use Rattle.std.specs.Prelude.{◌≡◌, ℕ, ◌+◌, ◌≤◌, ◌==◌, Bool, true, false, if◌then◌else◌}
-use Rattle.nv_core.specs.Words.{Sizes, kind_of, ready}
+use Rattle.nv_core.specs.Words.{Sizes, was_readied}
 use Rattle.nv_core.specs.Passes.{Stage, Seizing, Committing, Pledging, Readying, Placing, Pass, IsAmong, is_write}
 use Rattle.nv_core.specs.Deeds.{Deed, Draws, Places}
 use Rattle.nv_core.specs.Stepped.{begun}
@@ -35,14 +35,14 @@ IsFlying pass (Readying number) = Unit {0}
 IsFlying pass Placing = is_write pass.call ≡ true
 IsFlying pass stage = ⊥
 
--- a pass whose write's leader is ready, and is to be placed next
+-- a pass whose write's leader was made ready, and is to be placed next
 pub record IsWaiting (pass : Pass) (number : ℕ) : Type 0 where
   pub stage : pass.stage ≡ Placing
   pub write : is_write pass.call ≡ true
   pub first : pass.first ≡ number
 
--- The numbers of a write in flight are its group, and it isn't placed. No number above these is of a page of that write. A leader that is
--- ready and not placed is that of a write that is placed next.
+-- The numbers of a write in flight are its group, and it isn't placed. No number above these is of a page of that write. A leader that
+-- was made ready and is not placed is that of a write that is placed next.
 pub record InFlight (sizes : Sizes) (log : Log) (placed : ℕ → Bool) (core : Core) : Type 0 where
   pub own : (by : ℕ) → IsFlying (core.passes by) (core.passes by).stage → (number : ℕ) → IsAmong (core.passes by).first (core.passes by).entries number
       → IsOwn core log (core.passes by) number
@@ -51,6 +51,6 @@ pub record InFlight (sizes : Sizes) (log : Log) (placed : ℕ → Bool) (core : 
       → (core.passes by).first + (core.passes by).entries ≤ number → IsPage sizes (core.passes by).call (page_of_number sizes (log.group number) number) → ⊥
   pub unplaced : (by : ℕ) → IsFlying (core.passes by) (core.passes by).stage → placed (core.passes by).first ≡ false
   pub ready_first : (by : ℕ) → IsFlying (core.passes by) (core.passes by).stage → (core.passes by).stage ≡ Placing
-      → kind_of (entry_at sizes core (core.passes by).first) ≡ ready
-  pub waiting : (number : ℕ) → InWindow core number → (log.group number).first ≡ number → kind_of (entry_at sizes core number) ≡ ready
+      → was_readied (entry_at sizes core (core.passes by).first) ≡ true
+  pub waiting : (number : ℕ) → InWindow core number → (log.group number).first ≡ number → was_readied (entry_at sizes core number) ≡ true
       → placed number ≡ false → (by : ℕ) × IsWaiting (core.passes by) number

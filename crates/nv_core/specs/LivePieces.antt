@@ -7,7 +7,7 @@ use Rattle.nv_plain.specs.Pieces.{piece_of, piece_bytes}
 use Rattle.nv_plain.specs.declared.call.FileCall.{FileCall}
 use Rattle.nv_plain.specs.declared.call.FileCall.TheVariants.{Write}
 use Rattle.nv_store.specs.Store.{Store}
-use Rattle.nv_core.specs.Words.{Sizes, HEAD, TAIL, STORE, kind_of, ready}
+use Rattle.nv_core.specs.Words.{Sizes, HEAD, TAIL, STORE, was_readied}
 use Rattle.nv_core.specs.Values.{Value, AStore}
 use Rattle.nv_core.specs.Order.{Values}
 use Rattle.nv_core.specs.Core.{Core}
@@ -37,11 +37,11 @@ piece_write sizes call i = call
 abbrev pub piece_call : Sizes → Group → (number : ℕ) → FileCall
 piece_call sizes group number = piece_write sizes group.call (number - group.first)
 
--- whether a number's entry is ready
+-- whether a number's entry was made ready
 abbrev pub is_ready : Sizes → Core → (number : ℕ) → Bool
-is_ready sizes core number = kind_of (entry_at sizes core number) == ready
+is_ready sizes core number = was_readied (entry_at sizes core number)
 
--- an entry is live where it is ready, and its leader too
+-- an entry is live where it was made ready, and its leader too
 abbrev pub is_live : Sizes → Log → Core → (number : ℕ) → Bool
 is_live sizes log core number = is_ready sizes core number && is_ready sizes core (log.group number).first
 
@@ -51,7 +51,7 @@ live_pieces sizes log core =
 
 -- ---- the writes that are to be placed
 
--- a leader is ready, and its write isn't placed
+-- a leader was made ready, and its write isn't placed
 abbrev pub is_to_place : Sizes → Log → (ℕ → Bool) → Core → (number : ℕ) → Bool
 is_to_place sizes log placed core number = ((log.group number).first == number && is_ready sizes core number) && not (placed number)
 

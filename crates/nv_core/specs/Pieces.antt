@@ -1,6 +1,6 @@
--- Pieces: what the ENTRY words of ready entries say.
-use Rattle.std.specs.Prelude.{◌≡◌, ◌≢◌, ◌⊎◌, ℕ, ◌+◌, ◌-◌, ◌<◌, ◌==◌, if◌then◌else◌}
-use Rattle.nv_core.specs.Words.{Sizes, kind_of, ready, entry_word}
+-- Pieces: what the ENTRY words of entries that were made ready say.
+use Rattle.std.specs.Prelude.{◌≡◌, ◌≢◌, ◌⊎◌, ℕ, ◌+◌, ◌-◌, ◌<◌, ◌==◌, true, if◌then◌else◌}
+use Rattle.nv_core.specs.Words.{Sizes, kind_of, was_readied, entry_word}
 use Rattle.nv_core.specs.Passes.{Stage, Readying, IsAmong, first_page}
 use Rattle.nv_core.specs.Core.{Core}
 use Rattle.nv_core.specs.LogWindow.{InWindow, entry_at}
@@ -10,21 +10,21 @@ use Rattle.nv_core.specs.Groups.{Group, Log}
 abbrev pub page_of_number : Sizes → Group → (number : ℕ) → ℕ
 page_of_number sizes group number = first_page sizes group.call + (number - group.first)
 
--- the ENTRY word of a ready entry: the group's count in its leader, none in a follower, and the page of its piece
-abbrev pub word_of_number : Sizes → Group → (number : ℕ) → ℕ
-word_of_number sizes group number = entry_word ready (if number == group.first then group.entries else 0) (page_of_number sizes group number)
+-- the ENTRY word of an entry that was made ready: the group's count in its leader, none in a follower, and the page of its piece
+abbrev pub word_of_number : Sizes → Group → (kind number : ℕ) → ℕ
+word_of_number sizes group kind number = entry_word kind (if number == group.first then group.entries else 0) (page_of_number sizes group number)
 
 -- a follower that its pass has made ready, the leader being still to come
 abbrev pub IsReadied : Stage → (first entries number : ℕ) → Type 0
 IsReadied (Readying next) first entries number = IsAmong first entries number × (number ≢ first) × ((number < next) ⊎ (next ≡ first))
 IsReadied stage first entries number = ⊥
 
--- Each entry of a write is that of its piece on one page: a ready one says so. Where a leader is ready its followers are, and a pass's
--- followers are made ready one after another before it.
+-- Each entry of a write is that of its piece on one page: one that was made ready says so. Where a leader was made ready its followers
+-- were, and a pass's followers are made ready one after another before it.
 pub record Pieces (sizes : Sizes) (log : Log) (core : Core) : Type 0 where
-  pub says : (number : ℕ) → InWindow core number → kind_of (entry_at sizes core number) ≡ ready
-      → entry_at sizes core number ≡ word_of_number sizes (log.group number) number
-  pub followers : (number other : ℕ) → InWindow core number → (log.group number).first ≡ number → kind_of (entry_at sizes core number) ≡ ready
-      → IsAmong number (log.group number).entries other → kind_of (entry_at sizes core other) ≡ ready
+  pub says : (number : ℕ) → InWindow core number → was_readied (entry_at sizes core number) ≡ true
+      → entry_at sizes core number ≡ word_of_number sizes (log.group number) (kind_of (entry_at sizes core number)) number
+  pub followers : (number other : ℕ) → InWindow core number → (log.group number).first ≡ number → was_readied (entry_at sizes core number) ≡ true
+      → IsAmong number (log.group number).entries other → was_readied (entry_at sizes core other) ≡ true
   pub readied : (by number : ℕ) → IsReadied (core.passes by).stage (core.passes by).first (core.passes by).entries number
-      → kind_of (entry_at sizes core number) ≡ ready
+      → was_readied (entry_at sizes core number) ≡ true

@@ -1,12 +1,12 @@
 -- Rooms: which parts can take the stores of an entry, or of the header's tail.
-use Rattle.std.specs.Prelude.{◌≡◌, ℕ, suc, ◌-◌, ◌<◌, List, [], drop}
+use Rattle.std.specs.Prelude.{◌≡◌, ℕ, suc, ◌-◌, ◌<◌, true, List, [], drop}
 use Rattle.nv_plain.specs.Layouts.{version_1}
 use Rattle.nv_pmem.specs.RoomSteps.{EndWith}
 use Rattle.nv_pmem.specs.Rows.{steps_on}
 use Rattle.nv_pmem.specs.Steps.{Step}
 use Rattle.nv_entry.specs.Group.{IsReady}
 use Rattle.nv_header.specs.Regions.{IsRoomy}
-use Rattle.nv_core.specs.Words.{Sizes, HEADER, ENTRY, kind_of, free, ready}
+use Rattle.nv_core.specs.Words.{Sizes, HEADER, ENTRY, was_readied, free}
 use Rattle.nv_core.specs.Values.{Value, APart}
 use Rattle.nv_core.specs.Passes.{Stage, Committing, WriteFailing, Breaking, Pass}
 use Rattle.nv_core.specs.Deeds.{slot_of}
@@ -37,10 +37,10 @@ abbrev pub KeepsRoomy : Value → Type 0
 KeepsRoomy (APart device room) = IsRoomy version_1.header_lines room
 KeepsRoomy value = ⊥
 
--- The parts of entries that are free or ready are ready for an entry, and those being filled come to be so. The header's part has room.
+-- The parts of entries that are free or were made ready are ready for an entry, and those being filled come to be so. The header's part has room.
 pub record Rooms (sizes : Sizes) (core : Core) : Type 0 where
   pub free : (slot : ℕ) → slot < sizes.entries → core.words (ENTRY slot) ≡ free → KeepsReady sizes (core.values (ENTRY slot))
-  pub ready : (slot : ℕ) → slot < sizes.entries → kind_of (core.words (ENTRY slot)) ≡ ready → KeepsReady sizes (core.values (ENTRY slot))
+  pub ready : (slot : ℕ) → slot < sizes.entries → was_readied (core.words (ENTRY slot)) ≡ true → KeepsReady sizes (core.values (ENTRY slot))
   pub filling : (by number : ℕ) → Fills (core.passes by) number
       → FillsReady sizes (core.passes by) (core.passes by).stage number (core.values (ENTRY (slot_of sizes number)))
   pub header : KeepsRoomy (core.values HEADER)

@@ -7,7 +7,7 @@ use Rattle.nv_core.specs.LogWindow.{InWindow, entry_at}
 use Rattle.nv_core.specs.Groups.{Log}
 use Rattle.nv_core.specs.EntryImages.{InEachImageOf}
 
--- a number is the leader's of a group whose leader is filling, ready or broken
+-- a number is the leader's of a group whose leader is filling, made ready or broken
 pub record LeadsGroup (sizes : Sizes) (log : Log) (core : Core) (number : ℕ) : Type 0 where
   pub within : InWindow core number
   pub leads : (log.group number).first ≡ number

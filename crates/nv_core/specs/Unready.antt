@@ -1,6 +1,6 @@
--- Unready writes: those whose leader isn't ready, be it drawn, being filled or broken.
-use Rattle.std.specs.Prelude.{◌≡◌, ◌≢◌, ℕ, ◌+◌, ◌≤◌, Bool, false}
-use Rattle.nv_core.specs.Words.{Sizes, kind_of, ready, broken}
+-- Unready writes: those whose leader was never made ready, be it drawn, being filled or broken.
+use Rattle.std.specs.Prelude.{◌≡◌, ◌≢◌, ℕ, ◌+◌, ◌≤◌, Bool, true, false}
+use Rattle.nv_core.specs.Words.{Sizes, was_readied, broken}
 use Rattle.nv_core.specs.Passes.{Breaking, Fault, IsOneOf}
 use Rattle.nv_core.specs.Stepped.{fault_of}
 use Rattle.nv_core.specs.Standing.{IsPage}
@@ -20,13 +20,13 @@ pub record IsOfFault (core : Core) (group : Group) : Type 0 where
   pub ended : IsOneOf (core.passes by).faulted fault
   pub is : group ≡ group_of_fault fault
 
--- a number is the leader's of a group of the window, and isn't ready
+-- a number is the leader's of a group of the window, and was never made ready
 pub record IsUnready (sizes : Sizes) (log : Log) (core : Core) (number : ℕ) : Type 0 where
   pub within : InWindow core number
   pub leads : (log.group number).first ≡ number
-  pub unready : kind_of (entry_at sizes core number) ≢ ready
+  pub unready : was_readied (entry_at sizes core number) ≢ true
 
--- A broken entry is one of a call that a fault ended. A write whose leader isn't ready has no place, and no number above its own is of one
+-- A broken entry is one of a call that a fault ended. A write whose leader was never made ready has no place, and no number above its own is of one
 -- of its pages, be it broken too.
 pub record Unready (sizes : Sizes) (log : Log) (placed : ℕ → Bool) (core : Core) : Type 0 where
   pub breaking : (by number : ℕ) → (core.passes by).stage ≡ Breaking number → IsOneOf (core.passes by).faulted (fault_of (core.passes by))

@@ -1,5 +1,5 @@
 -- Words: the shared words by name, and where each of them stands.
-use Rattle.std.specs.Prelude.{◌≡◌, ℕ, ◌+◌, ◌*◌, ◌/◌, ◌%◌, ◌<◌, ◌==◌, ◌&&◌, Bool, true, false, if◌then◌else◌}
+use Rattle.std.specs.Prelude.{◌≡◌, ℕ, ◌+◌, ◌*◌, ◌/◌, ◌%◌, ◌<◌, ◌==◌, ◌&&◌, nat_le, Bool, true, false, if◌then◌else◌}
 
 -- The sizes of a mount: bytes of a page, files, pages of a file, entries of the log, and buffers.
 pub record Sizes : Type 0 where
@@ -130,6 +130,10 @@ entry_word kind count page = kind + 8 * count + 1024 * page
 -- its kind
 abbrev pub kind_of : ℕ → ℕ
 kind_of word = word % 8
+
+-- whether its entry was made ready, be it ready still, held or cleaned
+abbrev pub was_readied : ℕ → Bool
+was_readied word = nat_le ready (kind_of word) && nat_le (kind_of word) cleaned
 
 -- and its page
 abbrev pub page_of : ℕ → ℕ
