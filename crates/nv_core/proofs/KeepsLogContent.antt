@@ -28,6 +28,7 @@ use Rattle.nv_core.proofs.KeepsPieces.{pieces_step, pieces_begin, pieces_work}
 use Rattle.nv_core.proofs.KeepsInFlight.{flight_step, flight_begin, flight_work}
 use Rattle.nv_core.proofs.KeepsUnready.{unready_step, unready_begin, unready_work}
 use Rattle.nv_core.proofs.KeepsLive.{live_step, live_begin, live_work}
+use Rattle.nv_core.proofs.KeepsLeaders.{leaders_step, leaders_begin, leaders_work}
 
 module _ (blank : BlankIsQuiet) (lines : StepsKeepLines) (plain : PlainLaws) (sizes : Sizes) (page_is : IsPageSize sizes.page) (first : Values) (opened : Files) (tail : ℕ) (log : Log) (placed : ℕ → Bool) (by : ℕ) (core : Core) where
   content_step : (deed : Deed) (found : ℕ) → Sound sizes first core → LogContent sizes first opened tail log placed core → MayFind sizes by core deed found
@@ -40,6 +41,7 @@ module _ (blank : BlankIsQuiet) (lines : StepsKeepLines) (plain : PlainLaws) (si
     flight = flight_step sizes first log placed by core deed found sound content.groups content.flight may;
     unready = unready_step sizes first log placed by core deed found sound content.groups content.flight content.unready may;
     live = live_step sizes first log placed opened by core deed found plain (let least = page_is.least in omega (arith, least)) sound content.groups content.pieces content.flight content.live may;
+    leaders = leaders_step sizes first log by core deed found sound content.groups content.leaders may;
   }
 
   content_begin : (call : FileCall) → Sound sizes first core → LogContent sizes first opened tail log placed core → MayBegin sizes call (core.passes by) → LogContent sizes first opened tail log placed (after_begin sizes by call core)
@@ -51,6 +53,7 @@ module _ (blank : BlankIsQuiet) (lines : StepsKeepLines) (plain : PlainLaws) (si
     flight = flight_begin sizes log placed by core call content.flight may;
     unready = unready_begin sizes log placed by core call content.unready;
     live = live_begin sizes first log placed opened by core call sound content.live;
+    leaders = leaders_begin sizes log by core call content.leaders;
   }
 
   content_work : (work : Work) → Sound sizes first core → LogContent sizes first opened tail log placed core → MayWork sizes core.values (core.passes by) work
@@ -63,6 +66,7 @@ module _ (blank : BlankIsQuiet) (lines : StepsKeepLines) (plain : PlainLaws) (si
     flight = flight_work sizes log placed by core work content.flight may;
     unready = unready_work sizes log placed by core work content.unready may;
     live = live_work sizes first log placed opened by core work sound content.live;
+    leaders = leaders_work sizes log by core work content.leaders;
   }
 
 module _ (blank : BlankIsQuiet) (lines : StepsKeepLines) (plain : PlainLaws) where

@@ -52,6 +52,9 @@ pub mod KeepsInFlight
 pub mod KeepsUnready
 pub mod LiveLaws
 pub mod KeepsLive
+pub mod KeepsLeaders
+pub mod PatchLaws
+pub mod PatchSteps
 pub mod OpeningLogContent
 pub mod KeepsLogContent
 pub mod KeepsEntryWords

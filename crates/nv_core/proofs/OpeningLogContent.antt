@@ -23,6 +23,7 @@ use Rattle.nv_core.specs.Pieces.{IsReadied, Pieces}
 use Rattle.nv_core.specs.InFlight.{IsFlying, InFlight}
 use Rattle.nv_core.specs.Apart.{after_calls}
 use Rattle.nv_core.specs.LivePieces.{rising, call_if, piece_call, is_live, is_to_place, calls_of, told_bytes, store_bytes, store_files, LivePieces}
+use Rattle.nv_core.specs.Leaders.{Leaders}
 use Rattle.nv_core.specs.Unready.{Unready}
 use Rattle.nv_core.proofs.ImageLaws.{part_one}
 use Rattle.nv_core.proofs.ClearLaws.{IsClear}
@@ -70,6 +71,9 @@ module _ (sizes : Sizes) (log : Log) (placed : ℕ → Bool) (core : Core) (empt
     unplaced = λ n is. absurd (none_within n is.within);
     apart = λ n other is. absurd (none_within n is.within);
   }
+
+  pub leaders_opening : Leaders sizes log core
+  leaders_opening = record { each = λ n is. absurd (none_within n is) }
 
   -- the files at opening are what the stores read as
   pub live_opening : core.history ≡ [] → LivePieces sizes log placed (store_files sizes core.values) core
@@ -119,4 +123,5 @@ opening_has_the_log one_image mount files tail log placed opens has = record {
   flight = flight_opening mount.sizes log placed (opening mount) refl (λ n. refl);
   unready = unready_opening mount.sizes log placed (opening mount) refl (λ n. refl);
   live = subst (λ f. LivePieces mount.sizes log placed f (opening mount)) (files_are mount.sizes mount.values files has) (live_opening mount.sizes log placed (opening mount) refl (λ n. refl) refl);
+  leaders = leaders_opening mount.sizes log placed (opening mount) refl (λ n. refl);
 }

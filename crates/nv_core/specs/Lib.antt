@@ -45,7 +45,9 @@ pub mod Pieces
 pub mod InFlight
 pub mod Unready
 pub mod LivePieces
+pub mod Leaders
 pub mod LogContent
+pub mod PatchedPages
 pub mod Crash
 pub mod AtRest
 pub mod WalkOpens

@@ -21,6 +21,7 @@ use Rattle.nv_core.specs.Pieces.{Pieces}
 use Rattle.nv_core.specs.InFlight.{placed_after, InFlight}
 use Rattle.nv_core.specs.Unready.{Unready}
 use Rattle.nv_core.specs.LivePieces.{LivePieces}
+use Rattle.nv_core.specs.Leaders.{Leaders}
 
 -- These parts, over the cells' values and the files at opening, the tail that the header has, the log, and which writes are placed.
 -- That a page with no entries is its store's page after the history is a part of Content: CleanPages.
@@ -32,6 +33,7 @@ pub record LogContent (sizes : Sizes) (first : Values) (opened : Files) (tail : 
   pub flight : InFlight sizes log placed core
   pub unready : Unready sizes log placed core
   pub live : LivePieces sizes log placed opened core
+  pub leaders : Leaders sizes log core
 
 -- ---- events
 

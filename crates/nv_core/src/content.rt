@@ -1,4 +1,5 @@
 ghost use Rattle.nv_core.specs.Content.{EventsKeepContent, OpeningHasContent, RunsKeepContent};
+ghost use Rattle.nv_core.specs.PatchedPages.{PagesArePatched};
 
 use nv_entry::groups_follow_steps;
 use nv_plain::{history_goes_on, write_is_its_pieces, write_leaves_its_bytes};
@@ -14,4 +15,14 @@ pub fn runs_keep_content()
     write_is_its_pieces();
     history_goes_on();
     groups_follow_steps();
+}
+
+/// A page on which no write is in flight is, after the history, its store's page overwritten by the pieces of its entries that were
+/// made ready, in rising number: what a read of a page with entries gathers.
+pub fn pages_are_patched()
+    ensures { PagesArePatched }
+{
+    write_leaves_its_bytes();
+    write_is_its_pieces();
+    history_goes_on();
 }

@@ -8,7 +8,7 @@ mod crash;
 mod laws;
 mod log;
 
-pub use content::runs_keep_content;
+pub use content::{pages_are_patched, runs_keep_content};
 pub use crash::{crashes_leave_whole_writes, regions_at_rest_open, walks_survive_crashes};
 pub use laws::{
     lengths_follow_the_history, no_sound_state_allows, runs_are_sound, walks_are_runs,

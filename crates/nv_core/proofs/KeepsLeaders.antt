@@ -1,0 +1,206 @@
+-- Each event keeps what entries that were made ready say of their leaders.
+use Rattle.std.proofs.Common.{◌≡◌, ◌≢◌, ◌⊎◌, ℕ, ◌+◌, ◌<◌, ◌≤◌, ◌==◌, Bool, true, false, if◌then◌else◌, inl, inr, refl, sym, ap, subst, ◌∙◌, arith}
+use Rattle.std.proofs.lemmas.Bool.{cases_eq}
+use Rattle.nv_plain.specs.declared.call.FileCall.{FileCall}
+use Rattle.nv_core.specs.Words.{Sizes, Word, HEAD, TAIL, ENTRY, was_readied, free, filling, broken, index}
+use Rattle.nv_core.specs.Passes.{Seizing, IsUnseized, IsFilling, IsAmong, is_write, page_count}
+use Rattle.nv_core.specs.Deeds.{Deed, slot_of, page_at, ready_word, Takes, Gives, Draws, Seizes, Readies, Breaks}
+use Rattle.nv_core.specs.Stages.{leaving}
+use Rattle.nv_core.specs.Order.{Values, Work}
+use Rattle.nv_core.specs.Core.{Core, changed, with_word, after_step, after_begin, after_work}
+use Rattle.nv_core.specs.Events.{MayFind}
+use Rattle.nv_core.specs.Standing.{StandsAt, HasDrawn, IsSmall, HasRoom}
+use Rattle.nv_core.specs.LogWindow.{HasUnseized, InWindow, entry_at}
+use Rattle.nv_core.specs.Groups.{Group, Log, group_of, with_group, log_stepped, log_worked, HasGroup, IsOwn, Groups}
+use Rattle.nv_core.specs.LivePieces.{is_ready}
+use Rattle.nv_core.specs.Leaders.{Leaders}
+use Rattle.nv_core.specs.Sound.{Sound}
+use Rattle.nv_core.proofs.Changes.{number_here, word_here, word_else, differ}
+use Rattle.nv_core.proofs.Choices.{not_both, when_true, when_false}
+use Rattle.nv_core.proofs.PageLaws.{write_pages}
+use Rattle.nv_core.proofs.WordLaws.{untouched, touches}
+use Rattle.nv_core.proofs.KeepsLocks.{ready_is}
+use Rattle.nv_core.proofs.WindowLaws.{apart_within}
+use Rattle.nv_core.proofs.KeepsWindow.{window_step}
+use Rattle.nv_core.proofs.KeepsGroups.{group_old, which, log_group}
+
+-- ---- one word changes, or none
+
+-- the words of the entries of other numbers than one stay
+abbrev SameBut : Sizes → Core → Core → (next : ℕ) → Type 0
+SameBut sizes core now next = (n : ℕ) → InWindow core n → n ≢ next → entry_at sizes now n ≡ entry_at sizes core n
+
+module _ (sizes : Sizes) (log : Log) (core now : Core) (head : now.words HEAD ≡ core.words HEAD) (tail : now.words TAIL ≡ core.words TAIL) (groups : Groups sizes core log) (leaders : Leaders sizes log core) where
+  was : (n : ℕ) → InWindow now n → InWindow core n
+  was n is = (subst (λ t. t ≤ n) tail is.0, subst (λ h. n < h) head is.1)
+
+  leader : (n : ℕ) → InWindow core n → InWindow core (log.group n).first
+  leader n within = let g = groups.each n within in let t = g.low in let h = g.high in let s = g.drawn.some in (t, omega (arith, h, s))
+
+  same_leaders : ((slot : ℕ) → now.words (ENTRY slot) ≡ core.words (ENTRY slot)) → Leaders sizes log now
+  same_leaders same = record {
+    each = λ n within ready_. elim (leaders.each n (was n within) (sym (ap was_readied (same (slot_of sizes n))) ∙ ready_)) [
+      | inl is ↦ inl (ap was_readied (same (slot_of sizes (log.group n).first)) ∙ is)
+      | inr is ↦ inr (same (slot_of sizes (log.group n).first) ∙ is)
+    ];
+  }
+
+  -- an entry becomes what is not ready, and its number's followers weren't ready, if it is a leader's
+  spoilt : (next : ℕ) → is_ready sizes now next ≡ false → ((n : ℕ) → InWindow core n → is_ready sizes core n ≡ true → (log.group n).first ≡ next → ⊥) → SameBut sizes core now next → Leaders sizes log now
+  spoilt next not_now none same = record {
+    each = λ n within ready_. elim (cases_eq n next) [
+      | inl e ↦ absurd (not_both (ap (is_ready sizes now) (sym e) ∙ ready_) not_now)
+      | inr ne ↦
+          let before = sym (ap was_readied (same n (was n within) ne)) ∙ ready_ in
+          let kept = same (log.group n).first (leader n (was n within)) (none n (was n within) before) in
+          elim (leaders.each n (was n within) before) [ inl is ↦ inl (ap was_readied kept ∙ is) | inr is ↦ inr (kept ∙ is) ]
+    ];
+  }
+
+  -- an entry is made ready, and its leader is being filled, if it isn't its own
+  readied : (next : ℕ) → is_ready sizes now next ≡ true → ((log.group next).first ≢ next → entry_at sizes core (log.group next).first ≡ filling) → InWindow core next → SameBut sizes core now next → Leaders sizes log now
+  readied next is_now fills there same = record {
+    each = λ n within ready_. elim (cases_eq (log.group n).first next) [
+      | inl e ↦ inl (ap (is_ready sizes now) e ∙ is_now)
+      | inr ne ↦
+          let kept = same (log.group n).first (leader n (was n within)) ne in
+          elim (cases_eq n next) [
+            | inl e ↦ inr (kept ∙ subst (λ m. entry_at sizes core (log.group m).first ≡ filling) (sym e) (fills (λ is. ne (ap (λ m. (log.group m).first) e ∙ is))))
+            | inr other ↦ elim (leaders.each n (was n within) (sym (ap was_readied (same n (was n within) other)) ∙ ready_)) [ inl is ↦ inl (ap was_readied kept ∙ is) | inr is ↦ inr (kept ∙ is) ]
+          ]
+    ];
+  }
+
+-- ---- the steps
+
+plain_leaders : (sizes : Sizes) (log : Log) (by : ℕ) (core : Core) (deed : Deed) (found : ℕ) → Groups sizes core log → Leaders sizes log core → MayFind sizes by core deed found
+    → touches deed HEAD ≡ false → touches deed TAIL ≡ false → ((slot : ℕ) → touches deed (ENTRY slot) ≡ false) → Leaders sizes log (after_step sizes by deed found core)
+plain_leaders sizes log by core deed found groups leaders may head tail entry =
+    same_leaders sizes log core (after_step sizes by deed found core) (untouched sizes by core deed found may HEAD head) (untouched sizes by core deed found may TAIL tail) groups leaders (λ slot. untouched sizes by core deed found may (ENTRY slot) (entry slot))
+
+-- the word of an entry is set
+module _ (sizes : Sizes) (first : Values) (log : Log) (by : ℕ) (core : Core) (sound : Sound sizes first core) (groups : Groups sizes core log) (leaders : Leaders sizes log core) (next value : ℕ) (within : InWindow core next) where
+  abbrev set_words : Word → ℕ
+  set_words = with_word core.words (ENTRY (slot_of sizes next)) value
+
+  set_head : set_words HEAD ≡ core.words HEAD
+  set_head = word_else core.words (ENTRY (slot_of sizes next)) value HEAD (differ HEAD (ENTRY (slot_of sizes next)) refl)
+
+  set_tail : set_words TAIL ≡ core.words TAIL
+  set_tail = word_else core.words (ENTRY (slot_of sizes next)) value TAIL (differ TAIL (ENTRY (slot_of sizes next)) refl)
+
+  set_here : set_words (ENTRY (slot_of sizes next)) ≡ value
+  set_here = word_here core.words (ENTRY (slot_of sizes next)) value
+
+  set_else : (n : ℕ) → InWindow core n → n ≢ next → set_words (ENTRY (slot_of sizes n)) ≡ core.words (ENTRY (slot_of sizes n))
+  set_else n is ne = word_else core.words (ENTRY (slot_of sizes next)) value (ENTRY (slot_of sizes n)) (λ e. apart_within sizes core sound.window n next is within ne (ap index e))
+
+module _ (sizes : Sizes) (first : Values) (log : Log) (by : ℕ) (core : Core) (found : ℕ) (sound : Sound sizes first core) (groups : Groups sizes core log) (leaders : Leaders sizes log core) where
+  own : HasGroup (core.passes by).stage → (n : ℕ) → IsAmong (core.passes by).first (core.passes by).entries n → IsOwn core log (core.passes by) n
+  own has n is = groups.own by has n is
+
+  seize_leaders : (next : ℕ) → MayFind sizes by core (Seizes next) found → Leaders sizes log (after_step sizes by (Seizes next) found core)
+  seize_leaders next may =
+      let at : HasDrawn sizes (core.passes by).call (core.passes by).entries × IsAmong (core.passes by).first (core.passes by).entries next = subst (StandsAt sizes (core.passes by)) may.may (sound.standing by).at in
+      let old : entry_at sizes core next ≡ free = sound.window.unseized_is by next (subst (λ s. IsUnseized s (core.passes by).first (core.passes by).entries next) (sym may.may) (omega arith, at.1.1)) in
+      let within : InWindow core next = (own (subst HasGroup (sym may.may) tt) next at.1).within in
+      spoilt sizes log core (after_step sizes by (Seizes next) found core)
+      (set_head sizes first log by core sound groups leaders next filling within) (set_tail sizes first log by core sound groups leaders next filling within) groups leaders next
+      (ap was_readied (set_here sizes first log by core sound groups leaders next filling within))
+      (λ n is ready_ e. elim (leaders.each n is ready_) [
+        | inl led ↦ not_both (sym (ap (is_ready sizes core) e) ∙ led) (ap was_readied old)
+        | inr fills ↦ let z : free ≡ filling = sym old ∙ sym (ap (entry_at sizes core) e) ∙ fills in omega (arith, z)
+      ])
+      (set_else sizes first log by core sound groups leaders next filling within)
+
+  break_leaders : (next : ℕ) → MayFind sizes by core (Breaks next) found → Leaders sizes log (after_step sizes by (Breaks next) found core)
+  break_leaders next may =
+      let at : HasDrawn sizes (core.passes by).call (core.passes by).entries × IsAmong (core.passes by).first (core.passes by).entries next = subst (StandsAt sizes (core.passes by)) may.may (sound.standing by).at in
+      let mine = own (subst HasGroup (sym may.may) tt) next at.1 in
+      spoilt sizes log core (after_step sizes by (Breaks next) found core)
+      (set_head sizes first log by core sound groups leaders next broken mine.within) (set_tail sizes first log by core sound groups leaders next broken mine.within) groups leaders next
+      (ap was_readied (set_here sizes first log by core sound groups leaders next broken mine.within))
+      (λ n is ready_ e.
+      let g = groups.each n is in
+      let s = g.drawn.some in
+      let same : log.group n ≡ group_of (core.passes by) = sym (g.same (log.group n).first (omega arith, omega (arith, s))) ∙ ap log.group e ∙ mine.group in
+      let f : (core.passes by).first ≡ next = sym (ap (λ one. one.first) same) ∙ e in
+      let among : IsAmong (core.passes by).first (core.passes by).entries n = subst (λ one. IsAmong one.first one.entries n) same g.among in
+      let a = among.0 in
+      let fills : entry_at sizes core n ≡ filling = sound.window.filling_is by n (subst (λ s. IsFilling s (core.passes by).first (core.passes by).entries n) (sym may.may) (omega (arith, f, a), among.1)) in
+      not_both ready_ (ap was_readied fills))
+      (set_else sizes first log by core sound groups leaders next broken mine.within)
+
+  ready_leaders : (next : ℕ) → MayFind sizes by core (Readies next) found → Leaders sizes log (after_step sizes by (Readies next) found core)
+  ready_leaders next may =
+      let at : HasDrawn sizes (core.passes by).call (core.passes by).entries × IsAmong (core.passes by).first (core.passes by).entries next = subst (StandsAt sizes (core.passes by)) may.may (sound.standing by).at in
+      let mine = own (subst HasGroup (sym may.may) tt) next at.1 in
+      let value = ready_word sizes (core.passes by) next in
+      readied sizes log core (after_step sizes by (Readies next) found core)
+      (set_head sizes first log by core sound groups leaders next value mine.within) (set_tail sizes first log by core sound groups leaders next value mine.within) groups leaders next
+      (ap was_readied (set_here sizes first log by core sound groups leaders next value mine.within)
+      ∙ ready_is (if next == (core.passes by).first then (core.passes by).entries else 0) (page_at sizes (core.passes by) next))
+      (λ ne. sound.window.filling_is by (log.group next).first (subst (λ s. IsFilling s (core.passes by).first (core.passes by).entries (log.group next).first) (sym may.may) (inl (ap (λ one. one.first) mine.group))))
+      mine.within (set_else sizes first log by core sound groups leaders next value mine.within)
+
+-- what was drawn isn't ready
+draw_leaders : (sizes : Sizes) (first : Values) (log : Log) (by : ℕ) (core : Core) (found : ℕ) → Sound sizes first core → Groups sizes core log → Leaders sizes log core → MayFind sizes by core Draws found
+    → Leaders sizes (log_stepped sizes (core.passes by) Draws found log) (after_step sizes by Draws found core)
+draw_leaders sizes first log by core found sound groups leaders may = go (found == (core.passes by).head) refl
+  where
+    group : Group
+    group = record { call = (core.passes by).call; first = found; entries = page_count sizes (core.passes by).call }
+
+    go : (b : Bool) → (found == (core.passes by).head) ≡ b → Leaders sizes (log_stepped sizes (core.passes by) Draws found log) (after_step sizes by Draws found core)
+    go false e = subst (λ l. Leaders sizes l (after_step sizes by Draws found core)) (sym (when_false (found == (core.passes by).head) (with_group group log) log e))
+        (same_leaders sizes log core (after_step sizes by Draws found core) (word_here core.words HEAD _ ∙ when_false (found == (core.passes by).head) (found + page_count sizes (core.passes by).call) found e ∙ sym may.is) refl groups leaders (λ slot. refl))
+    go true e = subst (λ l. Leaders sizes l (after_step sizes by Draws found core)) (sym (when_true (found == (core.passes by).head) (with_group group log) log e)) record {
+      each = λ n within ready_. elim (split n within) [
+        | inl was ↦ subst (λ g. (is_ready sizes core g.first ≡ true) ⊎ (entry_at sizes core g.first ≡ filling)) (sym (old n was.1)) (leaders.each n was ready_)
+        | inr new ↦ absurd (not_both ready_ (ap was_readied (none n new)))
+      ];
+    }
+      where
+        head : (after_step sizes by Draws found core).words HEAD ≡ core.words HEAD + page_count sizes (core.passes by).call
+        head = word_here core.words HEAD _ ∙ when_true (found == (core.passes by).head) (found + page_count sizes (core.passes by).call) found e ∙ ap (λ f. f + page_count sizes (core.passes by).call) (sym may.is)
+
+        at : (is_write (core.passes by).call ≡ true) × IsSmall sizes (core.passes by) × HasRoom sizes (core.passes by)
+        at = subst (StandsAt sizes (core.passes by)) may.may (sound.standing by).at
+
+        drawn : HasDrawn sizes (core.passes by).call (page_count sizes (core.passes by).call)
+        drawn = record { write = at.0; many = refl; some = write_pages sizes (core.passes by).call at.0 }
+
+        split : (n : ℕ) → InWindow (after_step sizes by Draws found core) n → InWindow core n ⊎ IsAmong found (page_count sizes (core.passes by).call) n
+        split = which sizes core (after_step sizes by Draws found core) log group groups refl (sym may.is) head sound.window.order drawn
+
+        old : (n : ℕ) → n < core.words HEAD → (with_group group log).group n ≡ log.group n
+        old = group_old sizes core (after_step sizes by Draws found core) log group groups refl (sym may.is) head sound.window.order drawn
+
+        none : (n : ℕ) → IsAmong found (page_count sizes (core.passes by).call) n → entry_at sizes core n ≡ free
+        none n is = (window_step sizes first by core Draws found sound may).unseized_is by n
+            (subst (λ p. HasUnseized p n) (sym (number_here core.passes by (changed sizes by core Draws found)))
+            (subst (λ s. IsUnseized s (changed sizes by core Draws found).first (changed sizes by core Draws found).entries n) (sym (when_true (found == (core.passes by).head) (Seizing found) (leaving (core.passes by).hands) e)) (
+              is.0,
+              subst (λ f. n < f + (changed sizes by core Draws found).entries) (sym (when_true (found == (core.passes by).head) found (core.passes by).first e))
+                  (subst (λ c. n < found + c) (sym (when_true (found == (core.passes by).head) (page_count sizes (core.passes by).call) (core.passes by).entries e)) is.1),
+            )))
+
+pub leaders_step : (sizes : Sizes) (first : Values) (log : Log) (by : ℕ) (core : Core) (deed : Deed) (found : ℕ) → Sound sizes first core → Groups sizes core log → Leaders sizes log core → MayFind sizes by core deed found
+    → Leaders sizes (log_stepped sizes (core.passes by) deed found log) (after_step sizes by deed found core)
+leaders_step sizes first log by core Draws found sound groups leaders may = draw_leaders sizes first log by core found sound groups leaders may
+leaders_step sizes first log by core (Seizes next) found sound groups leaders may = seize_leaders sizes first log by core found sound groups leaders next may
+leaders_step sizes first log by core (Readies next) found sound groups leaders may = ready_leaders sizes first log by core found sound groups leaders next may
+leaders_step sizes first log by core (Breaks next) found sound groups leaders may = break_leaders sizes first log by core found sound groups leaders next may
+leaders_step sizes first log by core (Takes cell) found sound groups leaders may = plain_leaders sizes log by core (Takes cell) found groups leaders may refl refl (λ slot. refl)
+leaders_step sizes first log by core (Gives cell) found sound groups leaders may = plain_leaders sizes log by core (Gives cell) found groups leaders may refl refl (λ slot. refl)
+leaders_step sizes first log by core deed found sound groups leaders may = plain_leaders sizes log by core deed found groups leaders may refl refl (λ slot. refl)
+
+-- ---- a call that begins, and a device call
+
+pub leaders_begin : (sizes : Sizes) (log : Log) (by : ℕ) (core : Core) (call : FileCall) → Leaders sizes log core → Leaders sizes log (after_begin sizes by call core)
+leaders_begin sizes log by core call leaders = record { each = leaders.each }
+
+pub leaders_work : (sizes : Sizes) (log : Log) (by : ℕ) (core : Core) (work : Work) → Leaders sizes log core → Leaders sizes (log_worked (core.passes by) work.ending (core.passes by).stage log) (after_work sizes by work core)
+leaders_work sizes log by core work leaders =
+    subst (λ g. Leaders sizes record { group = g; calls = (log_worked (core.passes by) work.ending (core.passes by).stage log).calls } (after_work sizes by work core)) (sym (log_group (core.passes by) work.ending (core.passes by).stage log))
+    record { each = leaders.each }

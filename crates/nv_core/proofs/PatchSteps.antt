@@ -1,0 +1,285 @@
+-- Patched pages, number by number: what the part of an entry reads as, and what a step leaves of the entries of a page.
+use Rattle.std.proofs.Common.{◌≡◌, ℕ, zero, suc, ◌+◌, ◌-◌, ◌%◌, ◌<◌, ◌≤◌, ◌==◌, ◌&&◌, Bool, true, false, if◌then◌else◌, List, length, inl, inr, refl, sym, ap, ap₂, subst, ◌∙◌, arith}
+use Rattle.std.specs.Prelude.{Option, Some, None}
+use Rattle.std.proofs.lemmas.Bool.{cases_eq, cases_Bool, ne_eqb}
+use Rattle.nv_plain.specs.Files.{overwritten}
+use Rattle.nv_plain.specs.Images.{PartImage, Image, entry_of, data_of}
+use Rattle.nv_plain.specs.Pieces.{piece_of, piece_bytes}
+use Rattle.nv_plain.specs.declared.call.FileCall.{FileCall}
+use Rattle.nv_plain.specs.declared.call.FileCall.TheVariants.{Read, Write, Sync}
+use Rattle.nv_pmem.specs.Part.{Part, word_of as part_word}
+use Rattle.nv_pmem.specs.Images.{IsImage}
+use Rattle.nv_pmem.specs.Laws.{LoadsAreAnImage}
+use Rattle.nv_entry.specs.Group.{HoldsEntry}
+use Rattle.nv_core.specs.Words.{Sizes, HEAD, TAIL, HEADER, ENTRY, PAGE, kind_of, was_readied, page_of, free, filling, broken, entry_word, index}
+use Rattle.nv_core.specs.Values.{Value, Bare, APart, AStore, ABuffer}
+use Rattle.nv_core.specs.Passes.{Drawing, Pass, IsUnseized, IsFilling, IsAmong, is_write, first_page, page_count, end_page, times}
+use Rattle.nv_core.specs.Deeds.{Deed, slot_of, ready_word, Takes, Gives, Draws, Seizes, Readies, Breaks}
+use Rattle.nv_core.specs.Order.{Values}
+use Rattle.nv_core.specs.Standing.{StandsAt, HasDrawn, IsSmall, HasRoom, IsPage}
+use Rattle.nv_core.specs.Holding.{HoldsLocks}
+use Rattle.nv_core.specs.Core.{Core, with_word, after_step}
+use Rattle.nv_core.specs.Events.{MayFind}
+use Rattle.nv_core.specs.LogWindow.{InWindow, entry_at}
+use Rattle.nv_core.specs.Groups.{Group, Log, with_group, log_stepped, HasGroup, Groups}
+use Rattle.nv_core.specs.Pieces.{page_of_number, Pieces}
+use Rattle.nv_core.specs.InFlight.{IsFlying}
+use Rattle.nv_core.specs.Written.{IsPart}
+use Rattle.nv_core.specs.EntryImages.{IsRegionImage, entries_from, ReadsWhole, EntryImages}
+use Rattle.nv_core.specs.LivePieces.{is_ready}
+use Rattle.nv_core.specs.ValidBuffers.{with_own}
+use Rattle.nv_core.specs.PatchedPages.{is_on, patched_by_number, patched_from, IsStill}
+use Rattle.nv_core.specs.Sound.{Sound}
+use Rattle.nv_core.proofs.Changes.{word_here, word_else, differ}
+use Rattle.nv_core.proofs.Choices.{when_true, when_false}
+use Rattle.nv_core.proofs.HoldingLaws.{among_in}
+use Rattle.nv_core.proofs.PageLaws.{write_pages}
+use Rattle.nv_core.proofs.WordLaws.{untouched, touches}
+use Rattle.nv_core.proofs.WindowLaws.{apart_within}
+use Rattle.nv_core.proofs.KeepsGroups.{group_old, group_new, which}
+use Rattle.nv_core.proofs.KeepsLive.{and_false}
+use Rattle.nv_core.proofs.PatchLaws.{on_call, leader_in, leader_group}
+
+-- ---- number by number
+
+-- a number whose entry is none of the page changes nothing, and one whose entry is overwrites it with its piece
+pub patch_none : (sizes : Sizes) (log : Log) (core : Core) (page from count : ℕ) (bytes : List ℕ) → is_on sizes log core page from ≡ false
+    → patched_from sizes log core page from (suc count) bytes ≡ patched_from sizes log core page (suc from) count bytes
+patch_none sizes log core page from count bytes none = ap (patched_from sizes log core page (suc from) count) (when_false (is_on sizes log core page from) (with_own sizes (log.group from).call page bytes) bytes none)
+
+pub patch_one : (sizes : Sizes) (log : Log) (core : Core) (page from count : ℕ) (bytes : List ℕ) → is_on sizes log core page from ≡ true
+    → patched_from sizes log core page from (suc count) bytes ≡ patched_from sizes log core page (suc from) count (with_own sizes (log.group from).call page bytes)
+patch_one sizes log core page from count bytes is = ap (patched_from sizes log core page (suc from) count) (when_true (is_on sizes log core page from) (with_own sizes (log.group from).call page bytes) bytes is)
+
+-- some numbers, and then those from there on
+pub patch_both : (sizes : Sizes) (log : Log) (core : Core) (page from one other : ℕ) (bytes : List ℕ)
+    → patched_from sizes log core page from (one + other) bytes ≡ patched_from sizes log core page (from + one) other (patched_from sizes log core page from one bytes)
+patch_both sizes log core page from zero other bytes =
+    let a : zero + other ≡ other = omega arith in let b : from ≡ from + zero = omega arith in
+    ap (λ c. patched_from sizes log core page from c bytes) a ∙ ap (λ f. patched_from sizes log core page f other bytes) b
+patch_both sizes log core page from (suc one) other bytes =
+    let a : suc one + other ≡ suc (one + other) = omega arith in
+    let b : suc from + one ≡ from + suc one = omega arith in
+    ap (λ c. patched_from sizes log core page from c bytes) a
+    ∙ patch_both sizes log core page (suc from) one other (patched_by_number sizes log core page from bytes)
+    ∙ ap (λ f. patched_from sizes log core page f other (patched_from sizes log core page (suc from) one (patched_by_number sizes log core page from bytes))) b
+
+-- numbers of which none is of the page
+pub patch_nothing : (sizes : Sizes) (log : Log) (core : Core) (page from count : ℕ) (bytes : List ℕ) → ((n : ℕ) → from ≤ n → n < from + count → is_on sizes log core page n ≡ false)
+    → patched_from sizes log core page from count bytes ≡ bytes
+patch_nothing sizes log core page from zero bytes none = refl
+patch_nothing sizes log core page from (suc count) bytes none =
+    patch_none sizes log core page from count bytes (none from (omega arith) (omega arith))
+    ∙ patch_nothing sizes log core page (suc from) count bytes (λ n low high. none n (omega (arith, low)) (omega (arith, high)))
+
+-- entries that are the same of the page patch it alike
+pub patch_same : (sizes : Sizes) (log other : Log) (core now : Core) (page from count : ℕ) (bytes : List ℕ)
+    → ((n : ℕ) → from ≤ n → n < from + count → (is_on sizes other now page n ≡ is_on sizes log core page n) × (other.group n ≡ log.group n))
+    → patched_from sizes other now page from count bytes ≡ patched_from sizes log core page from count bytes
+patch_same sizes log other core now page from zero bytes same = refl
+patch_same sizes log other core now page from (suc count) bytes same =
+    let here = same from (omega arith) (omega arith) in
+    patch_same sizes log other core now page (suc from) count (patched_by_number sizes other now page from bytes) (λ n low high. same n (omega (arith, low)) (omega (arith, high)))
+    ∙ ap (patched_from sizes log core page (suc from) count) (ap₂ (λ b g. if b then with_own sizes g.call page bytes else bytes) here.0 here.1)
+
+-- ---- what an entry's word says
+
+-- an entry that was made ready says its number's page
+pub word_page : (sizes : Sizes) (log : Log) (core : Core) → Groups sizes core log → Pieces sizes log core → (number : ℕ) → InWindow core number → is_ready sizes core number ≡ true
+    → page_of (entry_at sizes core number) ≡ page_of_number sizes (log.group number) number
+word_page sizes log core groups pieces number within ready_ =
+    ap page_of (pieces.says number within ready_)
+    ∙ page_is (kind_of (entry_at sizes core number)) (if number == (log.group number).first then (log.group number).entries else 0) (page_of_number sizes (log.group number) number) (omega arith)
+    (let g = groups.each number within in let m = g.drawn.many in let s = g.allowed.short in
+    let few : (log.group number).entries ≤ 16 = omega (arith, m, s) in
+    if_few (number == (log.group number).first) few)
+  where
+    page_is : (kind count page : ℕ) → kind < 8 → count ≤ 16 → page_of (entry_word kind count page) ≡ page
+    page_is kind count page small few = omega (arith, small, few)
+
+    if_few : (b : Bool) → (log.group number).entries ≤ 16 → (if b then (log.group number).entries else 0) ≤ 16
+    if_few true few = few
+    if_few false few = omega arith
+
+-- ---- what its part reads as
+
+told_image : Option Part → PartImage
+told_image (Some part) = part_word part
+told_image None = λ line word. 0
+
+image_of : Value → PartImage
+image_of (APart device room) = told_image device.told
+image_of value = λ line word. 0
+
+image_is : (value : Value) (part : Part) → IsPart value part → image_of value ≡ part_word part
+unfolding told_image image_of
+image_is (APart device room) part is = ap told_image is
+image_is Bare part is = absurd is
+image_is (AStore device) part is = absurd is
+image_is (ABuffer buffer) part is = absurd is
+
+-- the region as loads read it
+region : Values → Image
+region values zero = image_of (values HEADER)
+region values (suc slot) = image_of (values (ENTRY slot))
+
+region_entry : (values : Values) (slot : ℕ) → region values (1 + slot) ≡ image_of (values (ENTRY slot))
+unfolding region
+region_entry values slot = let e : 1 + slot ≡ suc slot = omega arith in ap (region values) e
+
+region_is : LoadsAreAnImage → (sizes : Sizes) (values : Values) → IsRegionImage sizes values (region values)
+unfolding region
+region_is loads sizes values = record {
+  header = λ part is. subst (IsImage part) (sym (image_is (values HEADER) part is)) (loads part);
+  entries = λ slot less part is. subst (IsImage part) (sym (region_entry values slot ∙ image_is (values (ENTRY slot)) part is)) (loads part);
+}
+
+module _ (loads : LoadsAreAnImage) (sizes : Sizes) (log : Log) (core : Core) (groups : Groups sizes core log) (images : EntryImages sizes log core) (number page : ℕ) (within : InWindow core number)
+    (leads : is_ready sizes core (log.group number).first ≡ true) (on : page_of_number sizes (log.group number) number ≡ page) (part : Part) (is : IsPart (core.values (ENTRY (slot_of sizes number))) part) where
+  whole : (call : FileCall) → (log.group number).call ≡ call → ReadsWhole sizes call (log.group number).first (region core.values)
+  whole call e =
+      let same = leader_group sizes log core groups number within in
+      subst (λ c. ReadsWhole sizes c (log.group number).first (region core.values)) (ap (λ g. g.call) same ∙ e)
+      (images.whole (log.group number).first (leader_in sizes log core groups number within) (ap (λ g. g.first) same) leads (region core.values) (region_is loads sizes core.values))
+
+  its_part : entries_from sizes (region core.values) (log.group number).first (number - (log.group number).first) ≡ part_word part
+  its_part =
+      let a = (groups.each number within).among.0 in
+      let n : (log.group number).first + (number - (log.group number).first) ≡ number = omega (arith, a) in
+      ap (λ m. region core.values (1 + slot_of sizes m)) n ∙ region_entry core.values (slot_of sizes number) ∙ image_is (core.values (ENTRY (slot_of sizes number))) part is
+
+  -- The part of a live entry of a page reads as the piece of that page.
+  pub reads_piece : (old : List ℕ) → overwritten old ((entry_of (part_word part)).at % sizes.page) (data_of (part_word part) (entry_of (part_word part)).size) ≡ with_own sizes (log.group number).call page old
+  reads_piece old = go (log.group number).call refl
+    where
+      go : (call : FileCall) → (log.group number).call ≡ call → overwritten old ((entry_of (part_word part)).at % sizes.page) (data_of (part_word part) (entry_of (part_word part)).size) ≡ with_own sizes call page old
+      go (Read file at len) e = absurd (whole (Read file at len) e)
+      go (Sync file) e = absurd (whole (Sync file) e)
+      go (Write file at bytes) e =
+          let g = groups.each number within in
+          let a = g.among.0 in let b = g.among.1 in
+          let m : (log.group number).entries ≡ page_count sizes (Write file at bytes) = g.drawn.many ∙ ap (page_count sizes) e in
+          let i = number - (log.group number).first in
+          let holds : HoldsEntry sizes.page (log.group number).first file at bytes i (part_word part) =
+          subst (HoldsEntry sizes.page (log.group number).first file at bytes i) its_part ((whole (Write file at bytes) e).entries i (omega (arith, a, b, m))) in
+          let size : (entry_of (part_word part)).size ≡ (piece_of at (length bytes) sizes.page i).size = ap (λ x. x.size) holds.fields in
+          let here : i ≡ page - first_page sizes (Write file at bytes) = (let f = ap (first_page sizes) e in omega (arith, on, f)) in
+          ap (λ x. overwritten old (x.at % sizes.page) (data_of (part_word part) (entry_of (part_word part)).size)) holds.fields
+          ∙ ap (λ n. overwritten old ((piece_of at (length bytes) sizes.page i).at % sizes.page) (data_of (part_word part) n)) size
+          ∙ ap (overwritten old ((piece_of at (length bytes) sizes.page i).at % sizes.page)) holds.bytes_are
+          ∙ ap (λ n. overwritten old ((piece_of at (length bytes) sizes.page n).at % sizes.page) (piece_bytes bytes (piece_of at (length bytes) sizes.page n))) here
+
+-- ---- what a step leaves of a still page's entries
+
+-- a pass that is to draw holds its pages
+drawing_holds : (sizes : Sizes) (pass : Pass) → HoldsLocks sizes pass Drawing → (page : ℕ) → IsPage sizes pass.call page → times (PAGE page) pass.hands ≡ 1
+drawing_holds sizes pass held page is = held (PAGE page) (λ slot. differ (PAGE page) (ENTRY slot) refl) ∙ among_in (first_page sizes pass.call) (end_page sizes pass.call) page is.0 is.1
+
+-- what a draw leaves of the groups before, and adds to the window
+module _ (sizes : Sizes) (first : Values) (log : Log) (by : ℕ) (core : Core) (found : ℕ) (sound : Sound sizes first core) (groups : Groups sizes core log) (may : MayFind sizes by core Draws found) where
+  abbrev drawn_group : Group
+  drawn_group = record { call = (core.passes by).call; first = found; entries = page_count sizes (core.passes by).call }
+
+  abbrev drawn_log : Log
+  drawn_log = log_stepped sizes (core.passes by) Draws found log
+
+  at_drawing : (is_write (core.passes by).call ≡ true) × IsSmall sizes (core.passes by) × HasRoom sizes (core.passes by)
+  at_drawing = subst (StandsAt sizes (core.passes by)) may.may (sound.standing by).at
+
+  draws : HasDrawn sizes (core.passes by).call (page_count sizes (core.passes by).call)
+  draws = record { write = at_drawing.0; many = refl; some = write_pages sizes (core.passes by).call at_drawing.0 }
+
+  head_more : (found == (core.passes by).head) ≡ true → (after_step sizes by Draws found core).words HEAD ≡ core.words HEAD + page_count sizes (core.passes by).call
+  head_more e = word_here core.words HEAD _ ∙ when_true (found == (core.passes by).head) (found + page_count sizes (core.passes by).call) found e ∙ ap (λ f. f + page_count sizes (core.passes by).call) (sym may.is)
+
+  pub draw_old : (n : ℕ) → InWindow core n → drawn_log.group n ≡ log.group n
+  draw_old n within = elim (cases_Bool (found == (core.passes by).head)) [
+    | inr e ↦ ap (λ l. l.group n) (when_false (found == (core.passes by).head) (with_group drawn_group log) log e)
+    | inl e ↦ ap (λ l. l.group n) (when_true (found == (core.passes by).head) (with_group drawn_group log) log e)
+        ∙ group_old sizes core (after_step sizes by Draws found core) log drawn_group groups refl (sym may.is) (head_more e) sound.window.order draws n within.1
+  ]
+
+  -- no number of a page that the pass doesn't hold
+  pub draw_new : (n page : ℕ) → times (PAGE page) (core.passes by).hands ≡ 0 → InWindow (after_step sizes by Draws found core) n → page_of_number sizes (drawn_log.group n) n ≡ page → InWindow core n
+  draw_new n page none within on = elim (cases_Bool (found == (core.passes by).head)) [
+    | inr e ↦ let h : (after_step sizes by Draws found core).words HEAD ≡ core.words HEAD = word_here core.words HEAD _ ∙ when_false (found == (core.passes by).head) (found + page_count sizes (core.passes by).call) found e ∙ sym may.is in
+        (within.0, subst (λ m. n < m) h within.1)
+    | inl e ↦ elim (which sizes core (after_step sizes by Draws found core) log drawn_group groups refl (sym may.is) (head_more e) sound.window.order draws n within) [
+      | inl old ↦ old
+      | inr new ↦ absurd (
+          let g : drawn_log.group n ≡ drawn_group = ap (λ l. l.group n) (when_true (found == (core.passes by).head) (with_group drawn_group log) log e)
+          ∙ group_new sizes core (after_step sizes by Draws found core) log drawn_group groups refl (sym may.is) (head_more e) sound.window.order draws n new in
+          let o : page_of_number sizes drawn_group n ≡ page = sym (ap (λ x. page_of_number sizes x n) g) ∙ on in
+          let a = new.0 in let b = new.1 in
+          let holds = drawing_holds sizes (core.passes by) (subst (HoldsLocks sizes (core.passes by)) may.may (sound.holding by).locks) page (omega (arith, o), omega (arith, o, a, b)) in
+          omega (arith, holds, none))
+    ]
+  ]
+
+module _ (sizes : Sizes) (first : Values) (log : Log) (by : ℕ) (core : Core) (found page : ℕ) (sound : Sound sizes first core) (groups : Groups sizes core log) (still : IsStill sizes core page) where
+  -- what is said of a step: a number of the window has its group still, and its entry is one of the page where it was
+  abbrev pub KeepsOn : Deed → Type 0
+  KeepsOn deed = (n : ℕ) → InWindow core n
+      → (is_on sizes (log_stepped sizes (core.passes by) deed found log) (after_step sizes by deed found core) page n ≡ is_on sizes log core page n) × ((log_stepped sizes (core.passes by) deed found log).group n ≡ log.group n)
+
+  abbrev on_test : ℕ → Bool
+  on_test n = page_of_number sizes (log.group n) n == page
+
+  -- a word that is set, and was and is of no entry that was made ready
+  set_unready : (next value n : ℕ) → InWindow core next → InWindow core n → was_readied value ≡ false → was_readied (entry_at sizes core next) ≡ false
+      → was_readied (with_word core.words (ENTRY (slot_of sizes next)) value (ENTRY (slot_of sizes n))) ≡ was_readied (entry_at sizes core n)
+  set_unready next value n inside within not_now not_before = elim (cases_eq n next) [
+    | inl e ↦ ap (λ m. was_readied (with_word core.words (ENTRY (slot_of sizes next)) value (ENTRY (slot_of sizes m)))) e
+        ∙ ap was_readied (word_here core.words (ENTRY (slot_of sizes next)) value) ∙ not_now ∙ sym (ap (λ m. was_readied (entry_at sizes core m)) e ∙ not_before)
+    | inr ne ↦ ap was_readied (word_else core.words (ENTRY (slot_of sizes next)) value (ENTRY (slot_of sizes n)) (λ e. apart_within sizes core sound.window n next within inside ne (ap index e)))
+  ]
+
+  -- what touches no entry
+  pub plain_on : (deed : Deed) → MayFind sizes by core deed found → ((slot : ℕ) → touches deed (ENTRY slot) ≡ false) → (n : ℕ) → is_on sizes log (after_step sizes by deed found core) page n ≡ is_on sizes log core page n
+  plain_on deed may entry n = ap (λ w. was_readied w && on_test n) (untouched sizes by core deed found may (ENTRY (slot_of sizes n)) (entry (slot_of sizes n)))
+
+  seize_on : (next : ℕ) → MayFind sizes by core (Seizes next) found → KeepsOn (Seizes next)
+  seize_on next may n within =
+      let at : HasDrawn sizes (core.passes by).call (core.passes by).entries × IsAmong (core.passes by).first (core.passes by).entries next = subst (StandsAt sizes (core.passes by)) may.may (sound.standing by).at in
+      let old : entry_at sizes core next ≡ free = sound.window.unseized_is by next (subst (λ s. IsUnseized s (core.passes by).first (core.passes by).entries next) (sym may.may) (omega arith, at.1.1)) in
+      (ap (λ b. b && on_test n) (set_unready next filling n (groups.own by (subst HasGroup (sym may.may) tt) next at.1).within within refl (ap was_readied old)), refl)
+
+  break_on : (next : ℕ) → MayFind sizes by core (Breaks next) found → KeepsOn (Breaks next)
+  break_on next may n within =
+      let at : HasDrawn sizes (core.passes by).call (core.passes by).entries × IsAmong (core.passes by).first (core.passes by).entries next = subst (StandsAt sizes (core.passes by)) may.may (sound.standing by).at in
+      let old : entry_at sizes core next ≡ filling = sound.window.filling_is by next (subst (λ s. IsFilling s (core.passes by).first (core.passes by).entries next) (sym may.may) (omega arith, at.1.1)) in
+      (ap (λ b. b && on_test n) (set_unready next broken n (groups.own by (subst HasGroup (sym may.may) tt) next at.1).within within refl (ap was_readied old)), refl)
+
+  -- an entry that is made ready is of a page of a write in flight, and so of another page
+  ready_on : (next : ℕ) → MayFind sizes by core (Readies next) found → KeepsOn (Readies next)
+  ready_on next may n within =
+      let at : HasDrawn sizes (core.passes by).call (core.passes by).entries × IsAmong (core.passes by).first (core.passes by).entries next = subst (StandsAt sizes (core.passes by)) may.may (sound.standing by).at in
+      let own = groups.own by (subst HasGroup (sym may.may) tt) next at.1 in
+      let value = ready_word sizes (core.passes by) next in
+      elim (cases_eq n next) [
+        | inl e ↦
+            let off : on_test n ≡ false = ne_eqb (page_of_number sizes (log.group n) n) page (λ on.
+            still by (subst (IsFlying (core.passes by)) (sym may.may) tt)
+            (subst (λ c. IsPage sizes c page) (ap (λ g. g.call) (ap log.group e ∙ own.group)) (on_call sizes log core groups n page within on))) in
+            (none_of (was_readied (with_word core.words (ENTRY (slot_of sizes next)) value (ENTRY (slot_of sizes n)))) (was_readied (entry_at sizes core n)) (on_test n) off, refl)
+        | inr ne ↦ (ap (λ w. was_readied w && on_test n) (word_else core.words (ENTRY (slot_of sizes next)) value (ENTRY (slot_of sizes n)) (λ e. apart_within sizes core sound.window n next within own.within ne (ap index e))), refl)
+      ]
+    where
+      none_of : (one other test : Bool) → test ≡ false → (one && test) ≡ (other && test)
+      none_of one other test e = ap (λ t. one && t) e ∙ and_false one ∙ sym (ap (λ t. other && t) e ∙ and_false other)
+
+  pub step_on : (deed : Deed) → MayFind sizes by core deed found → KeepsOn deed
+  step_on Draws may n within = let old = draw_old sizes first log by core found sound groups may n within in (ap (λ g. was_readied (entry_at sizes core n) && page_of_number sizes g n == page) old, old)
+  step_on (Seizes next) may n within = seize_on next may n within
+  step_on (Readies next) may n within = ready_on next may n within
+  step_on (Breaks next) may n within = break_on next may n within
+  step_on (Takes cell) may n within = (plain_on (Takes cell) may (λ slot. refl) n, refl)
+  step_on (Gives cell) may n within = (plain_on (Gives cell) may (λ slot. refl) n, refl)
+  step_on deed may n within = (plain_on deed may (λ slot. refl) n, refl)
+
+  -- A step patches a still page as before, with numbers of the window.
+  pub step_patches : (deed : Deed) → MayFind sizes by core deed found → (from count : ℕ) (bytes : List ℕ) → core.words TAIL ≤ from → from + count ≤ core.words HEAD
+      → patched_from sizes (log_stepped sizes (core.passes by) deed found log) (after_step sizes by deed found core) page from count bytes ≡ patched_from sizes log core page from count bytes
+  step_patches deed may from count bytes low high =
+      patch_same sizes log (log_stepped sizes (core.passes by) deed found log) core (after_step sizes by deed found core) page from count bytes
+      (λ n above below. step_on deed may n (omega (arith, low, above), omega (arith, below, high)))

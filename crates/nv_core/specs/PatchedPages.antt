@@ -1,0 +1,44 @@
+-- Patched pages: what a page becomes when the pieces of its entries come over it, and when that is the page after the history.
+use Rattle.std.specs.Prelude.{◌≡◌, ℕ, zero, suc, ◌-◌, ◌<◌, ◌==◌, ◌&&◌, Bool, if◌then◌else◌, List, Some}
+use Rattle.nv_plain.specs.Files.{Files}
+use Rattle.nv_store.specs.Store.{Store}
+use Rattle.nv_core.specs.Words.{Sizes, HEAD, TAIL, STORE}
+use Rattle.nv_core.specs.Order.{Values}
+use Rattle.nv_core.specs.Standing.{IsPage}
+use Rattle.nv_core.specs.Core.{Core}
+use Rattle.nv_core.specs.Groups.{Log}
+use Rattle.nv_core.specs.Pieces.{page_of_number}
+use Rattle.nv_core.specs.InFlight.{IsFlying}
+use Rattle.nv_core.specs.LivePieces.{is_ready}
+use Rattle.nv_core.specs.PagesAfter.{page_from, file_of_page, start_of_page, page_now}
+use Rattle.nv_core.specs.StorePages.{store_of}
+use Rattle.nv_core.specs.ValidBuffers.{with_own}
+use Rattle.nv_core.specs.LogContent.{LogContent}
+use Rattle.nv_core.specs.Sound.{Sound}
+
+-- whether a number's entry was made ready, and is of a page
+abbrev pub is_on : Sizes → Log → Core → (page number : ℕ) → Bool
+is_on sizes log core page number = is_ready sizes core number && page_of_number sizes (log.group number) number == page
+
+-- the page, overwritten by the number's piece if its entry is one of the page
+abbrev pub patched_by_number : Sizes → Log → Core → (page number : ℕ) → List ℕ → List ℕ
+patched_by_number sizes log core page number bytes = if is_on sizes log core page number then with_own sizes (log.group number).call page bytes else bytes
+
+-- and by those of so many numbers from one on, in rising number
+abbrev pub patched_from : Sizes → Log → Core → (page from count : ℕ) → List ℕ → List ℕ
+patched_from sizes log core page from zero bytes = bytes
+patched_from sizes log core page from (suc count) bytes = patched_from sizes log core page (suc from) count (patched_by_number sizes log core page from bytes)
+
+-- no write in flight is on a page
+abbrev pub IsStill : Sizes → Core → (page : ℕ) → Type 0
+IsStill sizes core page = (by : ℕ) → IsFlying (core.passes by) (core.passes by).stage → IsPage sizes (core.passes by).call page → ⊥
+
+-- In a sound state in which the content of the log is right, a page with no write in flight is, after the history, its store's page overwritten
+-- by the pieces of its entries.
+abbrev pub PagesArePatched : Type 0
+PagesArePatched =
+    (sizes : Sizes) (first : Values) (opened : Files) (tail : ℕ) (log : Log) (placed : ℕ → Bool) (core : Core) (page : ℕ) (store : Store)
+    → Sound sizes first core → LogContent sizes first opened tail log placed core → IsStill sizes core page
+    → file_of_page sizes page < sizes.files → store_of (core.values (STORE (file_of_page sizes page))) ≡ Some store
+    → page_now sizes opened core page
+    ≡ patched_from sizes log core page (core.words TAIL) (core.words HEAD - core.words TAIL) (page_from store.seen (start_of_page sizes page) sizes.page)
