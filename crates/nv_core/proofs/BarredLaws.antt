@@ -3,10 +3,10 @@ use Rattle.std.proofs.Common.{◌≡◌, ◌≢◌, ◌⊎◌, ℕ, ◌+◌, ◌
 use Rattle.std.proofs.lemmas.Bool.{eqb-true, true≢false}
 use Rattle.nv_plain.specs.declared.call.FileCall.{FileCall}
 use Rattle.nv_plain.specs.declared.call.Reply.{Reply}
-use Rattle.nv_core.specs.Words.{Sizes, Word, STOP, ORDER, HEAD, TAIL, SIZE, LENGTH, STORE, ENTRY, PAGE, DIRTY, same}
-use Rattle.nv_core.specs.Passes.{Stage, Locking, Measuring, Sizing, Checking, Ordering, Reading, Fetching, Copying, Returning, Heading, Tailing, Drawing, Seizing, Committing, Pledging, Readying, Placing, Growing, Releasing, Giving, Leaving, ReadFailing, WriteFailing, Breaking, Fault, Pass, IsOneOf, page_count, first_page, end_page, without, times}
-use Rattle.nv_core.specs.Deeds.{Deed, moved, move_of, Comes, Stays, Loads, Takes, Gives, Places, Stops, Draws, Seizes, Pledges, Readies, Grows, Breaks, Splits, Leaves, Joins, slot_of}
-use Rattle.nv_core.specs.Stages.{stage_after, after_load, after_take, after_give, after_stop, leaving, exceeds}
+use Rattle.nv_core.specs.Words.{Sizes, Word, STOP, ORDER, HEAD, TAIL, SIZE, LENGTH, STORE, ENTRY, PAGE, DIRTY, same, CLEANUP}
+use Rattle.nv_core.specs.Passes.{Stage, Locking, Measuring, Sizing, Checking, Ordering, Reading, Fetching, Copying, Returning, Heading, Tailing, Drawing, Seizing, Committing, Pledging, Readying, Placing, Growing, Releasing, Giving, Leaving, ReadFailing, WriteFailing, Breaking, Fault, Pass, IsOneOf, page_count, first_page, end_page, without, times, Waiting, Bounding, Starting, Scanning, Grasping, Patching, Restoring, Unlocking, PieceFailing}
+use Rattle.nv_core.specs.Deeds.{Deed, moved, move_of, Comes, Stays, Loads, Takes, Gives, Places, Stops, Draws, Seizes, Pledges, Readies, Grows, Breaks, Splits, Leaves, Joins, slot_of, Holds, Returns}
+use Rattle.nv_core.specs.Stages.{stage_after, after_load, after_take, after_give, after_stop, leaving, exceeds, after_return}
 use Rattle.nv_core.specs.Stepped.{fault_of, begun}
 use Rattle.nv_core.specs.Order.{Values, Work, MayWork, MayStep, MayLoad, MayTake, MayPlace, IsDue, IsFailing}
 use Rattle.nv_core.specs.Core.{Core, changes, changed, after_step, after_begin, after_work, worked, values_worked}
@@ -33,24 +33,31 @@ at stage e is = subst HasChecked (sym e) is
 before_load : (sizes : Sizes) (values : Values) (pass : Pass) (word : Word) (found : ℕ) → IsElse (Loads word) → MayLoad sizes values pass word → HasChecked (after_load sizes pass word found) → HasChecked pass.stage
 before_load sizes values pass STOP found other may is = absurd other
 before_load sizes values pass ORDER found other may is = at Ordering may tt
-before_load sizes values pass HEAD found other may is = at Heading may tt
-before_load sizes values pass TAIL found other may is = at Tailing may tt
+before_load sizes values pass HEAD found other may is = elim may [ inl here ↦ at Heading here tt | inr here ↦ at (Bounding here.0) here.1 tt ]
+before_load sizes values pass TAIL found other may is = elim may [ inl here ↦ at Tailing here tt | inr here ↦ at (Starting here.0) here.1 tt ]
+before_load sizes values pass (ENTRY slot) found other may is = at (Scanning may.0 may.1) may.2 tt
 before_load sizes values pass (DIRTY page) found other may is = at (Reading may.0) may.1.stage tt
 before_load sizes values pass (LENGTH file) found other may is = absurd (if_both (λ s. HasChecked s → ⊥) (exceeds pass found && not pass.sized) Sizing Checking (λ _ z. z) (λ _ z. z) is)
 before_load sizes values pass word found other may is = absurd may
 
-before_take : (sizes : Sizes) (pass : Pass) (cell : Word) (found : ℕ) → MayTake pass cell → HasChecked (stage_after sizes pass (Takes cell) found) → ((file : ℕ) × (cell ≡ STORE file)) × HasChecked pass.stage
+-- the locks that are taken behind the load of STOP
+abbrev IsLate : Word → Type 0
+IsLate cell = ((file : ℕ) × (cell ≡ STORE file)) ⊎ ((page : ℕ) × (cell ≡ CLEANUP page))
+
+before_take : (sizes : Sizes) (pass : Pass) (cell : Word) (found : ℕ) → MayTake pass cell → HasChecked (stage_after sizes pass (Takes cell) found) → IsLate cell × HasChecked pass.stage
 before_take sizes pass (PAGE page) found may is = absurd (if_both (λ s. HasChecked s → ⊥) (found == 0) (after_take sizes pass (PAGE page)) (leaving pass.hands)
     (λ _. if_both (λ s. HasChecked s → ⊥) (page + 1 == end_page sizes pass.call) Measuring (Locking (page + 1)) (λ _ z. z) (λ _ z. z)) (λ _. unchecked pass.hands) is)
 before_take sizes pass (SIZE file) found may is = absurd (if_both (λ s. HasChecked s → ⊥) (found == 0) Measuring (leaving pass.hands) (λ _ z. z) (λ _. unchecked pass.hands) is)
-before_take sizes pass (STORE file) found may is = ((file, refl), at (Fetching may.0) may.1 tt)
+before_take sizes pass (STORE file) found may is = (inl (file, refl), at (Fetching may.0 may.1) may.2 tt)
+before_take sizes pass (CLEANUP page) found may is = (inr (page, refl), at (Waiting page) may tt)
 before_take sizes pass cell found may is = absurd may
 
 before_give : (sizes : Sizes) (pass : Pass) (cell : Word) (stage : Stage) → IsGivingBack stage → HasChecked (after_give sizes pass cell stage) → HasChecked stage
 before_give sizes pass cell Leaving may is = absurd (unchecked (without cell pass.hands) is)
 before_give sizes pass cell Releasing may is = tt
 before_give sizes pass cell (Giving page) may is = tt
-before_give sizes pass cell (Returning page) may is = tt
+before_give sizes pass cell (Returning page dirty) may is = tt
+before_give sizes pass cell (Unlocking page) may is = tt
 before_give sizes pass cell stage may is = absurd may
 
 before_place : (sizes : Sizes) (values : Values) (pass : Pass) (reply : Reply) (stage : Stage) → MayPlace sizes values pass reply stage → HasChecked stage
@@ -59,7 +66,8 @@ before_place sizes values pass reply (Reading page) may = tt
 before_place sizes values pass reply stage may = absurd may
 
 pub unstopped : (pass : Pass) (stage : Stage) → IsFailing stage → HasChecked (after_stop pass stage) → ⊥
-unstopped pass ReadFailing may is = unchecked pass.hands is
+unstopped pass (ReadFailing page dirty) may is = unchecked pass.hands is
+unstopped pass (PieceFailing page next) may is = is
 unstopped pass WriteFailing may is = is
 unstopped pass stage may is = may
 
@@ -76,6 +84,12 @@ before sizes values pass found (Readies next) other may is = at (Readying next) 
 before sizes values pass found Grows other may is = at Growing may tt
 before sizes values pass found (Breaks next) other may is = absurd (if_both (λ s. HasChecked s → ⊥) (next + 1 == pass.first + pass.entries) (leaving (without (ENTRY (slot_of sizes next)) pass.hands)) (Breaking (next + 1))
     (λ _. unchecked (without (ENTRY (slot_of sizes next)) pass.hands)) (λ _ z. z) is)
+before sizes values pass found (Holds next) other may is = at (Grasping may.0 next) may.1 tt
+before sizes values pass found (Returns next) other may is = go may.1 may.2 (subst (λ s. HasChecked (after_return sizes pass s)) may.2 is)
+  where
+    go : (failed : Bool) → pass.stage ≡ Restoring may.0 next failed → HasChecked (after_return sizes pass (Restoring may.0 next failed)) → HasChecked pass.stage
+    go true here is = absurd (unchecked (without (ENTRY (slot_of sizes next)) pass.hands) is)
+    go false here is = at (Restoring may.0 next false) here tt
 before sizes values pass found deed other may is = absurd may
 
 -- a call that begins hasn't loaded STOP, and one that makes a device call has
@@ -87,14 +101,16 @@ worked_checked sizes values pass work due = go pass.stage due
   where
     go : (stage : Stage) → IsDue sizes values pass work stage → HasChecked stage
     go (Committing calls) due = tt
-    go (Copying page) due = tt
+    go (Copying page dirty) due = tt
+    go (Patching page number) due = tt
     go stage due = absurd due
 
 -- ---- cells that a pass takes before it loads STOP
 
--- a cell that is no store's and no entry's
+-- a cell that is no store's and no entry's, nor keeps a page's entries from being cleaned
 pub record IsTakenBefore (cell : Word) : Type 0 where
   pub store : (file : ℕ) → cell ≢ STORE file
+  pub cleanup : (page : ℕ) → cell ≢ CLEANUP page
   pub entry : (slot : ℕ) → cell ≢ ENTRY slot
 
 fewer : (cell other : Word) (hands : List Word) → times cell (without other hands) ≤ times cell hands
@@ -102,9 +118,9 @@ fewer cell other [] = omega arith
 fewer cell other (first ∷ rest) = let again = fewer cell other rest in
     if_both (λ h. times cell h ≤ times cell (first ∷ rest)) (same other first) rest (first ∷ without other rest) (λ _. omega arith) (λ _. omega (arith, again))
 
-taken_less : (pass : Pass) (cell other : Word) (found : ℕ) → IsTakenBefore cell → ((file : ℕ) × (other ≡ STORE file)) → times cell (moved (if found == 0 then Comes other else Stays) pass.hands) ≤ times cell pass.hands
+taken_less : (pass : Pass) (cell other : Word) (found : ℕ) → IsTakenBefore cell → IsLate other → times cell (moved (if found == 0 then Comes other else Stays) pass.hands) ≤ times cell pass.hands
 taken_less pass cell other found early is = if_both (λ m. times cell (moved m pass.hands) ≤ times cell pass.hands) (found == 0) (Comes other) Stays
-    (λ _. let e = times_else cell other pass.hands (λ e. early.store is.0 (e ∙ is.1)) in omega (arith, e)) (λ _. omega arith)
+    (λ _. let e = times_else cell other pass.hands (λ e. elim is [ inl late ↦ early.store late.0 (e ∙ late.1) | inr late ↦ early.cleanup late.0 (e ∙ late.1) ]) in omega (arith, e)) (λ _. omega arith)
 
 -- behind that load it takes no more of them
 none_taken : (sizes : Sizes) (values : Values) (pass : Pass) (cell : Word) (found : ℕ) (deed : Deed) → IsTakenBefore cell → MayStep sizes values pass deed → HasChecked (stage_after sizes pass deed found)
@@ -114,6 +130,8 @@ none_taken sizes values pass cell found (Gives other) early may is = fewer cell 
 none_taken sizes values pass cell found (Seizes next) early may is = let e = times_else cell (ENTRY (slot_of sizes next)) pass.hands (early.entry (slot_of sizes next)) in omega (arith, e)
 none_taken sizes values pass cell found (Readies next) early may is = fewer cell (ENTRY (slot_of sizes next)) pass.hands
 none_taken sizes values pass cell found (Breaks next) early may is = fewer cell (ENTRY (slot_of sizes next)) pass.hands
+none_taken sizes values pass cell found (Holds next) early may is = let e = times_else cell (ENTRY (slot_of sizes next)) pass.hands (early.entry (slot_of sizes next)) in omega (arith, e)
+none_taken sizes values pass cell found (Returns next) early may is = fewer cell (ENTRY (slot_of sizes next)) pass.hands
 none_taken sizes values pass cell found deed early may is = omega arith
 
 -- a load of STOP that goes on found it 0

@@ -1,11 +1,11 @@
 -- Buffers: what a step leaves of what its pass's pages have, and of what a read has gathered.
-use Rattle.std.proofs.Common.{◌≡◌, ℕ, ◌+◌, ◌^◌, ◌<◌, ◌≤◌, ◌==◌, nat_lt, nat_le, not, ◌&&◌, if◌then◌else◌, List, [], ◌∷◌, inl, inr, refl, sym, ap, subst, ◌∙◌, arith}
+use Rattle.std.proofs.Common.{◌≡◌, ℕ, ◌+◌, ◌^◌, ◌<◌, ◌≤◌, ◌==◌, nat_lt, nat_le, not, ◌&&◌, true, false, if◌then◌else◌, List, [], ◌∷◌, inl, inr, refl, sym, ap, subst, ◌∙◌, arith}
 use Rattle.std.proofs.lemmas.Bool.{cases_lt}
 use Rattle.nv_plain.specs.declared.call.FileCall.{FileCall}
-use Rattle.nv_core.specs.Words.{Sizes, Word, STOP, ORDER, HEAD, TAIL, SIZE, LENGTH, STORE, ENTRY, PAGE, DIRTY, same}
-use Rattle.nv_core.specs.Passes.{Stage, Idle, Locking, Measuring, Sizing, Checking, Ordering, Reading, Fetching, Copying, Returning, Waiting, Heading, Tailing, Drawing, Seizing, Committing, Pledging, Readying, Placing, Growing, Releasing, Giving, Leaving, ReadFailing, WriteFailing, Breaking, Pass, IsLastTaken, is_write, is_read, page_count, first_page, end_page, without, times}
-use Rattle.nv_core.specs.Deeds.{Deed, Loads, Takes, Gives, Places, Stops, Draws, Seizes, Pledges, Readies, Grows, Breaks, slot_of, move_of, moved}
-use Rattle.nv_core.specs.Stages.{stage_after, after_load, after_take, after_give, after_stop, leaving, giving, ending, ordered, copying, exceeds}
+use Rattle.nv_core.specs.Words.{Sizes, Word, STOP, ORDER, HEAD, TAIL, SIZE, LENGTH, STORE, ENTRY, PAGE, CLEANUP, DIRTY, ready, is_entry_of, same}
+use Rattle.nv_core.specs.Passes.{Stage, Idle, Locking, Measuring, Sizing, Checking, Ordering, Reading, Waiting, Fetching, Copying, Returning, Bounding, Starting, Scanning, Grasping, Patching, Restoring, Unlocking, Heading, Tailing, Drawing, Seizing, Committing, Pledging, Readying, Placing, Growing, Releasing, Giving, Leaving, ReadFailing, PieceFailing, WriteFailing, Breaking, Pass, IsLastTaken, is_write, is_read, page_count, first_page, end_page, without, times}
+use Rattle.nv_core.specs.Deeds.{Deed, Loads, Takes, Gives, Places, Stops, Draws, Seizes, Pledges, Readies, Grows, Breaks, Holds, Returns, slot_of, move_of, moved}
+use Rattle.nv_core.specs.Stages.{stage_after, after_load, after_take, after_give, after_stop, after_head, after_tail, after_look, after_hold, after_return, scanning, leaving, giving, ending, ordered, copying, exceeds}
 use Rattle.nv_core.specs.Order.{Values, MayStep, MayLoad, MayTake, MayGive, IsFailing}
 use Rattle.nv_core.specs.Standing.{IsPage}
 use Rattle.nv_core.specs.Holding.{one_if, is_among, HoldsLocks}
@@ -22,9 +22,18 @@ use Rattle.nv_core.proofs.FileLaws.{own_none}
 abbrev pub IsWhole : Stage → Type 0
 IsWhole Ordering = Unit {0}
 IsWhole (Reading page) = Unit {0}
-IsWhole (Fetching page) = Unit {0}
-IsWhole (Copying page) = Unit {0}
-IsWhole (Returning page) = Unit {0}
+IsWhole (Waiting page) = Unit {0}
+IsWhole (Fetching page dirty) = Unit {0}
+IsWhole (Copying page dirty) = Unit {0}
+IsWhole (Returning page dirty) = Unit {0}
+IsWhole (Bounding page) = Unit {0}
+IsWhole (Starting page) = Unit {0}
+IsWhole (Scanning page number) = Unit {0}
+IsWhole (Grasping page number) = Unit {0}
+IsWhole (Patching page number) = Unit {0}
+IsWhole (Restoring page number failed) = Unit {0}
+IsWhole (Unlocking page) = Unit {0}
+IsWhole (PieceFailing page number) = Unit {0}
 IsWhole (Committing calls) = Unit {0}
 IsWhole (Pledging page) = Unit {0}
 IsWhole (Readying number) = Unit {0}
@@ -34,9 +43,18 @@ IsWhole stage = ⊥
 whole_pages : (sizes : Sizes) (pass : Pass) (stage : Stage) → IsWhole stage → HoldsLocks sizes pass stage → (page : ℕ) → times (PAGE page) pass.hands ≡ one_if (is_among (first_page sizes pass.call) (end_page sizes pass.call) page)
 whole_pages sizes pass Ordering whole held page = held (PAGE page) (λ slot. differ (PAGE page) (ENTRY slot) refl)
 whole_pages sizes pass (Reading next) whole held page = held (PAGE page) (λ slot. differ (PAGE page) (ENTRY slot) refl)
-whole_pages sizes pass (Fetching next) whole held page = held (PAGE page) (λ slot. differ (PAGE page) (ENTRY slot) refl)
-whole_pages sizes pass (Copying next) whole held page = held (PAGE page) (λ slot. differ (PAGE page) (ENTRY slot) refl)
-whole_pages sizes pass (Returning next) whole held page = held (PAGE page) (λ slot. differ (PAGE page) (ENTRY slot) refl)
+whole_pages sizes pass (Waiting next) whole held page = held (PAGE page) (λ slot. differ (PAGE page) (ENTRY slot) refl)
+whole_pages sizes pass (Fetching next dirty) whole held page = held (PAGE page) (λ slot. differ (PAGE page) (ENTRY slot) refl)
+whole_pages sizes pass (Copying next dirty) whole held page = held (PAGE page) (λ slot. differ (PAGE page) (ENTRY slot) refl)
+whole_pages sizes pass (Returning next dirty) whole held page = held (PAGE page) (λ slot. differ (PAGE page) (ENTRY slot) refl)
+whole_pages sizes pass (Bounding next) whole held page = held (PAGE page) (λ slot. differ (PAGE page) (ENTRY slot) refl)
+whole_pages sizes pass (Starting next) whole held page = held (PAGE page) (λ slot. differ (PAGE page) (ENTRY slot) refl)
+whole_pages sizes pass (Scanning next number) whole held page = held (PAGE page) (λ slot. differ (PAGE page) (ENTRY slot) refl)
+whole_pages sizes pass (Grasping next number) whole held page = held (PAGE page) (λ slot. differ (PAGE page) (ENTRY slot) refl)
+whole_pages sizes pass (Patching next number) whole held page = held (PAGE page) (λ slot. differ (PAGE page) (ENTRY slot) refl)
+whole_pages sizes pass (Restoring next number failed) whole held page = held (PAGE page) (λ slot. differ (PAGE page) (ENTRY slot) refl)
+whole_pages sizes pass (Unlocking next) whole held page = held (PAGE page) (λ slot. differ (PAGE page) (ENTRY slot) refl)
+whole_pages sizes pass (PieceFailing next number) whole held page = held (PAGE page) (λ slot. differ (PAGE page) (ENTRY slot) refl)
 whole_pages sizes pass (Committing calls) whole held page = held (PAGE page) (λ slot. differ (PAGE page) (ENTRY slot) refl)
 whole_pages sizes pass (Pledging next) whole held page = held (PAGE page) (λ slot. differ (PAGE page) (ENTRY slot) refl)
 whole_pages sizes pass (Readying number) whole held page = held (PAGE page) (λ slot. differ (PAGE page) (ENTRY slot) refl)
@@ -84,6 +102,8 @@ no_more sizes (Takes cell) found page hands un = absurd un
 no_more sizes (Gives cell) found page hands un = less_times (PAGE page) cell hands
 no_more sizes (Seizes number) found page hands un = let e = times_else (PAGE page) (ENTRY (slot_of sizes number)) hands (differ (PAGE page) (ENTRY (slot_of sizes number)) refl) in omega (arith, e)
 no_more sizes (Readies number) found page hands un = less_times (PAGE page) (ENTRY (slot_of sizes number)) hands
+no_more sizes (Holds number) found page hands un = let e = times_else (PAGE page) (ENTRY (slot_of sizes number)) hands (differ (PAGE page) (ENTRY (slot_of sizes number)) refl) in omega (arith, e)
+no_more sizes (Returns number) found page hands un = less_times (PAGE page) (ENTRY (slot_of sizes number)) hands
 no_more sizes (Breaks number) found page hands un = less_times (PAGE page) (ENTRY (slot_of sizes number)) hands
 no_more sizes deed found page hands un = omega arith
 
@@ -105,7 +125,8 @@ pub giving_back : (stage : Stage) → IsGivingBack stage → IsUnpatched stage
 giving_back Leaving back = tt
 giving_back Releasing back = tt
 giving_back (Giving page) back = tt
-giving_back (Returning page) back = tt
+giving_back (Returning page dirty) back = tt
+giving_back (Unlocking page) back = tt
 giving_back stage back = absurd back
 
 -- the steps that neither place, pledge nor ready
@@ -121,6 +142,11 @@ IsKeeping (Places reply) = ⊥
 IsKeeping (Pledges page) = ⊥
 IsKeeping deed = Unit {0}
 
+-- a step other than one that gives back CLEANUP once all pieces of a page are read: that fills the page's buffer
+abbrev pub IsUnfilling : Deed → Stage → Type 0
+IsUnfilling (Gives cell) stage = (page : ℕ) → stage ≡ Unlocking page → ⊥
+IsUnfilling deed stage = Unit {0}
+
 at : (stage : Stage) {other : Stage} → other ≡ stage → IsUnpatched stage → IsUnpatched other
 at stage e is = subst IsUnpatched (sym e) is
 
@@ -128,19 +154,22 @@ load_before : (sizes : Sizes) (values : Values) (pass : Pass) (word : Word) → 
 load_before sizes values pass (LENGTH file) may = at Measuring may.0 tt
 load_before sizes values pass STOP may = at Checking may tt
 load_before sizes values pass ORDER may = at Ordering may tt
-load_before sizes values pass HEAD may = at Heading may tt
-load_before sizes values pass TAIL may = at Tailing may tt
+load_before sizes values pass HEAD may = elim may [ inl is ↦ at Heading is tt | inr is ↦ at (Bounding is.0) is.1 tt ]
+load_before sizes values pass TAIL may = elim may [ inl is ↦ at Tailing is tt | inr is ↦ at (Starting is.0) is.1 tt ]
+load_before sizes values pass (ENTRY slot) may = at (Scanning may.0 may.1) may.2 tt
 load_before sizes values pass (DIRTY page) may = at (Reading may.0) may.1.stage tt
 load_before sizes values pass word may = absurd may
 
 take_before : (pass : Pass) (cell : Word) → MayTake pass cell → IsUnpatched pass.stage
 take_before pass (PAGE page) may = at (Locking page) may tt
 take_before pass (SIZE file) may = at Sizing may.0 tt
-take_before pass (STORE file) may = at (Fetching may.0) may.1 tt
+take_before pass (STORE file) may = at (Fetching may.0 may.1) may.2 tt
+take_before pass (CLEANUP page) may = at (Waiting page) may tt
 take_before pass cell may = absurd may
 
 failing_before : (stage : Stage) → IsFailing stage → IsUnpatched stage
-failing_before ReadFailing may = tt
+failing_before (ReadFailing page dirty) may = tt
+failing_before (PieceFailing page number) may = tt
 failing_before WriteFailing may = tt
 failing_before stage may = absurd may
 
@@ -153,6 +182,8 @@ plain_before sizes values pass Draws mild may = at Drawing may tt
 plain_before sizes values pass (Seizes number) mild may = at (Seizing number) may tt
 plain_before sizes values pass Grows mild may = at Growing may tt
 plain_before sizes values pass (Breaks number) mild may = at (Breaking number) may tt
+plain_before sizes values pass (Holds number) mild may = at (Grasping may.0 number) may.1 tt
+plain_before sizes values pass (Returns number) mild may = at (Restoring may.0 number may.1) may.2 tt
 plain_before sizes values pass (Places reply) mild may = absurd mild
 plain_before sizes values pass (Pledges page) mild may = absurd mild
 plain_before sizes values pass (Readies number) mild may = absurd mild
@@ -168,6 +199,9 @@ module _ (sizes : Sizes) (values : Values) (pass : Pass) (page : ℕ) (old : Lis
   pub old_ending : patched_page sizes pass.call (ending sizes pass) page old ≡ old
   old_ending = if_both (λ s. patched_page sizes pass.call s page old ≡ old) pass.sized Releasing (giving sizes pass.call) (λ _. refl) (λ _. old_giving)
 
+  old_scanning : (next number : ℕ) → patched_page sizes pass.call (scanning pass next number) page old ≡ old
+  old_scanning next number = if_both (λ s. patched_page sizes pass.call s page old ≡ old) (nat_lt number pass.head) (Scanning next number) (Unlocking next) (λ _. refl) (λ _. refl)
+
   old_load : (word : Word) (found : ℕ) → MayLoad sizes values pass word → patched_page sizes pass.call (after_load sizes pass word found) page old ≡ old
   old_load (LENGTH file) found may = if_both (λ s. patched_page sizes pass.call s page old ≡ old) (exceeds pass found && not pass.sized) Sizing Checking (λ _. refl) (λ _. refl)
   old_load STOP found may = if_both (λ s. patched_page sizes pass.call s page old ≡ old) (found == 0) Ordering (leaving pass.hands) (λ _. refl) (λ _. old_leaving pass.hands)
@@ -175,9 +209,19 @@ module _ (sizes : Sizes) (values : Values) (pass : Pass) (page : ℕ) (old : Lis
       (λ _. if_both (λ s. patched_page sizes pass.call s page old ≡ old) (is_write pass.call) Heading (if is_read pass.call then Reading (first_page sizes pass.call) else Placing) (λ _. refl)
       (λ other. if_both (λ s. patched_page sizes pass.call s page old ≡ old) (is_read pass.call) (Reading (first_page sizes pass.call)) Placing (λ _. refl) (λ _. own_none sizes pass.call page old other)))
       (λ _. old_leaving pass.hands)
-  old_load HEAD found may = if_both (λ s. patched_page sizes pass.call s page old ≡ old) (nat_le (found + page_count sizes pass.call) (2 ^ 60)) Tailing (leaving pass.hands) (λ _. refl) (λ _. old_leaving pass.hands)
-  old_load TAIL found may = if_both (λ s. patched_page sizes pass.call s page old ≡ old) (nat_le (pass.head + page_count sizes pass.call) (found + sizes.entries)) Drawing (leaving pass.hands) (λ _. refl) (λ _. old_leaving pass.hands)
-  old_load (DIRTY next) found may = if_both (λ s. patched_page sizes pass.call s page old ≡ old) (found == 0) (Fetching next) (Waiting next) (λ _. refl) (λ _. refl)
+  old_load HEAD found may = elim may [
+    | inl is ↦ subst (λ s. patched_page sizes pass.call (after_head sizes pass found s) page old ≡ old) (sym is)
+        (if_both (λ s. patched_page sizes pass.call s page old ≡ old) (nat_le (found + page_count sizes pass.call) (2 ^ 60)) Tailing (leaving pass.hands) (λ _. refl) (λ _. old_leaving pass.hands))
+    | inr is ↦ subst (λ s. patched_page sizes pass.call (after_head sizes pass found s) page old ≡ old) (sym is.1) refl
+  ]
+  old_load TAIL found may = elim may [
+    | inl is ↦ subst (λ s. patched_page sizes pass.call (after_tail sizes pass found s) page old ≡ old) (sym is)
+        (if_both (λ s. patched_page sizes pass.call s page old ≡ old) (nat_le (pass.head + page_count sizes pass.call) (found + sizes.entries)) Drawing (leaving pass.hands) (λ _. refl) (λ _. old_leaving pass.hands))
+    | inr is ↦ subst (λ s. patched_page sizes pass.call (after_tail sizes pass found s) page old ≡ old) (sym is.1) (old_scanning is.0 found)
+  ]
+  old_load (ENTRY slot) found may = subst (λ s. patched_page sizes pass.call (after_look pass found s) page old ≡ old) (sym may.2)
+      (if_both (λ s. patched_page sizes pass.call s page old ≡ old) (is_entry_of ready may.0 found) (Grasping may.0 may.1) (scanning pass may.0 (may.1 + 1)) (λ _. refl) (λ _. old_scanning may.0 (may.1 + 1)))
+  old_load (DIRTY next) found may = if_both (λ s. patched_page sizes pass.call s page old ≡ old) (found == 0) (Fetching next false) (Waiting next) (λ _. refl) (λ _. refl)
   old_load word found may = absurd may
 
   old_take : (cell : Word) (found : ℕ) → MayTake pass cell → patched_page sizes pass.call (stage_after sizes pass (Takes cell) found) page old ≡ old
@@ -185,18 +229,21 @@ module _ (sizes : Sizes) (values : Values) (pass : Pass) (page : ℕ) (old : Lis
       (λ _. if_both (λ s. patched_page sizes pass.call s page old ≡ old) (next + 1 == end_page sizes pass.call) Measuring (Locking (next + 1)) (λ _. refl) (λ _. refl)) (λ _. old_leaving pass.hands)
   old_take (SIZE file) found may = if_both (λ s. patched_page sizes pass.call s page old ≡ old) (found == 0) Measuring (leaving pass.hands) (λ _. refl) (λ _. old_leaving pass.hands)
   old_take (STORE file) found may = if_both (λ s. patched_page sizes pass.call s page old ≡ old) (found == 0) (copying pass.stage) (leaving pass.hands)
-      (λ _. subst (λ s. patched_page sizes pass.call (copying s) page old ≡ old) (sym may.1) refl) (λ _. old_leaving pass.hands)
+      (λ _. subst (λ s. patched_page sizes pass.call (copying s) page old ≡ old) (sym may.2) refl) (λ _. old_leaving pass.hands)
+  old_take (CLEANUP next) found may = if_both (λ s. patched_page sizes pass.call s page old ≡ old) (found == 0) (Fetching next true) (leaving pass.hands) (λ _. refl) (λ _. old_leaving pass.hands)
   old_take cell found may = absurd may
 
   old_give : (cell : Word) (stage : Stage) → IsGivingBack stage → patched_page sizes pass.call (after_give sizes pass cell stage) page old ≡ old
   old_give cell Leaving back = old_leaving (without cell pass.hands)
   old_give cell Releasing back = old_giving
   old_give cell (Giving next) back = if_both (λ s. patched_page sizes pass.call s page old ≡ old) (next + 1 == end_page sizes pass.call) Idle (Giving (next + 1)) (λ _. refl) (λ _. refl)
-  old_give cell (Returning next) back = refl
+  old_give cell (Returning next dirty) back = if_both (λ s. patched_page sizes pass.call s page old ≡ old) dirty (Bounding next) (Reading (next + 1)) (λ _. refl) (λ _. refl)
+  old_give cell (Unlocking next) back = refl
   old_give cell stage back = absurd back
 
   old_stop : (stage : Stage) → IsFailing stage → patched_page sizes pass.call (after_stop pass stage) page old ≡ old
-  old_stop ReadFailing may = old_leaving pass.hands
+  old_stop (ReadFailing next dirty) may = old_leaving pass.hands
+  old_stop (PieceFailing next number) may = refl
   old_stop WriteFailing may = refl
   old_stop stage may = absurd may
 
@@ -210,6 +257,9 @@ module _ (sizes : Sizes) (values : Values) (pass : Pass) (page : ℕ) (old : Lis
   plain_after Grows found mild may = old_ending
   plain_after (Breaks next) found mild may = if_both (λ s. patched_page sizes pass.call s page old ≡ old) (next + 1 == pass.first + pass.entries) (leaving (without (ENTRY (slot_of sizes next)) pass.hands)) (Breaking (next + 1))
       (λ _. old_leaving (without (ENTRY (slot_of sizes next)) pass.hands)) (λ _. refl)
+  plain_after (Holds number) found mild may = subst (λ s. patched_page sizes pass.call (after_hold s) page old ≡ old) (sym may.1) refl
+  plain_after (Returns number) found mild may = subst (λ s. patched_page sizes pass.call (after_return sizes pass s) page old ≡ old) (sym may.2)
+      (if_both (λ s. patched_page sizes pass.call s page old ≡ old) may.1 (leaving (without (ENTRY (slot_of sizes number)) pass.hands)) (scanning pass may.0 (number + 1)) (λ _. old_leaving (without (ENTRY (slot_of sizes number)) pass.hands)) (λ _. old_scanning may.0 (number + 1)))
   plain_after (Places reply) found mild may = absurd mild
   plain_after (Pledges next) found mild may = absurd mild
   plain_after (Readies next) found mild may = absurd mild

@@ -1,9 +1,9 @@
 -- Choices: what holds of both branches holds of the choice; and a pass that may step is not idle.
-use Rattle.std.proofs.Common.{◌≡◌, ◌≢◌, Bool, true, false, if◌then◌else◌, List, [], ◌∷◌, refl, sym, ap, subst, ◌∙◌}
+use Rattle.std.proofs.Common.{◌≡◌, ◌≢◌, Bool, true, false, if◌then◌else◌, List, [], ◌∷◌, refl, sym, ap, subst, ◌∙◌, inl, inr}
 use Rattle.std.proofs.lemmas.Bool.{true≢false}
-use Rattle.nv_core.specs.Words.{Sizes, Word, STOP, ORDER, HEAD, TAIL, SIZE, LENGTH, STORE, PAGE, DIRTY}
-use Rattle.nv_core.specs.Passes.{Stage, Idle, Leaving, Releasing, Giving, Returning, Pass}
-use Rattle.nv_core.specs.Deeds.{Deed, Loads, Takes, Gives, Places, Stops, Draws, Seizes, Pledges, Readies, Grows, Breaks}
+use Rattle.nv_core.specs.Words.{Sizes, Word, STOP, ORDER, HEAD, TAIL, SIZE, LENGTH, STORE, PAGE, DIRTY, ENTRY, CLEANUP}
+use Rattle.nv_core.specs.Passes.{Stage, Idle, Leaving, Releasing, Giving, Returning, Pass, Unlocking}
+use Rattle.nv_core.specs.Deeds.{Deed, Loads, Takes, Gives, Places, Stops, Draws, Seizes, Pledges, Readies, Grows, Breaks, Holds, Returns}
 use Rattle.nv_core.specs.Stages.{leaving}
 use Rattle.nv_core.specs.Order.{Values, MayStep, MayLoad, MayTake, MayGive, MayPlace, IsFailing}
 
@@ -46,21 +46,24 @@ give_idle : (pass : Pass) (word : Word) → MayGive pass word Idle → ⊥
 give_idle pass (SIZE file) may = may
 give_idle pass (PAGE page) may = may
 give_idle pass (STORE file) may = may
+give_idle pass (CLEANUP page) may = may
 give_idle pass word may = may
 
 load_idle : (sizes : Sizes) (values : Values) (pass : Pass) (word : Word) → MayLoad sizes values pass word → pass.stage ≢ Idle
 load_idle sizes values pass (LENGTH file) may = busy _ _ may.0 refl
 load_idle sizes values pass STOP may = busy _ _ may refl
 load_idle sizes values pass ORDER may = busy _ _ may refl
-load_idle sizes values pass HEAD may = busy _ _ may refl
-load_idle sizes values pass TAIL may = busy _ _ may refl
+load_idle sizes values pass HEAD may = elim may [ inl at ↦ busy _ _ at refl | inr at ↦ busy _ _ at.1 refl ]
+load_idle sizes values pass TAIL may = elim may [ inl at ↦ busy _ _ at refl | inr at ↦ busy _ _ at.1 refl ]
+load_idle sizes values pass (ENTRY slot) may = busy _ _ may.2 refl
 load_idle sizes values pass (DIRTY page) may = busy _ _ may.1.stage refl
 load_idle sizes values pass word may = absurd may
 
 take_idle : (pass : Pass) (word : Word) → MayTake pass word → pass.stage ≢ Idle
 take_idle pass (PAGE page) may = busy _ _ may refl
 take_idle pass (SIZE file) may = busy _ _ may.0 refl
-take_idle pass (STORE file) may = busy _ _ may.1 refl
+take_idle pass (STORE file) may = busy _ _ may.2 refl
+take_idle pass (CLEANUP page) may = busy _ _ may refl
 take_idle pass word may = absurd may
 
 pub step_idle : (sizes : Sizes) (values : Values) (pass : Pass) (deed : Deed) → MayStep sizes values pass deed → pass.stage ≢ Idle
@@ -75,6 +78,8 @@ step_idle sizes values pass (Pledges page) may = busy _ _ may refl
 step_idle sizes values pass (Readies number) may = busy _ _ may refl
 step_idle sizes values pass Grows may = busy _ _ may refl
 step_idle sizes values pass (Breaks number) may = busy _ _ may refl
+step_idle sizes values pass (Holds number) may = busy _ _ may.1 refl
+step_idle sizes values pass (Returns number) may = busy _ _ may.2 refl
 step_idle sizes values pass deed may = absurd may
 
 -- the stages at which a lock is given back
@@ -82,13 +87,15 @@ abbrev pub IsGivingBack : Stage → Type 0
 IsGivingBack Leaving = Unit {0}
 IsGivingBack Releasing = Unit {0}
 IsGivingBack (Giving page) = Unit {0}
-IsGivingBack (Returning page) = Unit {0}
+IsGivingBack (Returning page dirty) = Unit {0}
+IsGivingBack (Unlocking page) = Unit {0}
 IsGivingBack stage = ⊥
 
 pub gives_back : (pass : Pass) (word : Word) (stage : Stage) → MayGive pass word stage → IsGivingBack stage
 gives_back pass (SIZE file) Releasing may = tt
 gives_back pass (PAGE page) (Giving next) may = tt
-gives_back pass (STORE file) (Returning page) may = tt
+gives_back pass (STORE file) (Returning page dirty) may = tt
+gives_back pass (CLEANUP page) (Unlocking next) may = tt
 gives_back pass word Leaving may = tt
 gives_back pass word stage may = absurd may
 
@@ -97,12 +104,14 @@ abbrev pub IsGiven : Stage → Word → Type 0
 IsGiven Leaving word = Unit {0}
 IsGiven Releasing (SIZE file) = Unit {0}
 IsGiven (Giving page) (PAGE other) = Unit {0}
-IsGiven (Returning page) (STORE file) = Unit {0}
+IsGiven (Returning page dirty) (STORE file) = Unit {0}
+IsGiven (Unlocking page) (CLEANUP other) = Unit {0}
 IsGiven stage word = ⊥
 
 pub gives_one : (pass : Pass) (word : Word) (stage : Stage) → MayGive pass word stage → IsGiven stage word
 gives_one pass (SIZE file) Releasing may = tt
 gives_one pass (PAGE page) (Giving next) may = tt
-gives_one pass (STORE file) (Returning page) may = tt
+gives_one pass (STORE file) (Returning page dirty) may = tt
+gives_one pass (CLEANUP page) (Unlocking next) may = tt
 gives_one pass word Leaving may = tt
 gives_one pass word stage may = absurd may

@@ -9,8 +9,8 @@ use Rattle.nv_header.specs.Heads.{first_names}
 use Rattle.nv_header.specs.Regions.{ReadsAs}
 use Rattle.nv_core.specs.Words.{Sizes, Word, TAIL, HEADER, STORE, ENTRY}
 use Rattle.nv_core.specs.Values.{Value, Bare, APart, AStore, ABuffer, called}
-use Rattle.nv_core.specs.Passes.{Stage, Committing, Copying, Pass, file_of}
-use Rattle.nv_core.specs.Deeds.{Deed, Loads, Takes, Gives, Places, Stops, Draws, Seizes, Pledges, Readies, Grows, Breaks, Splits, Leaves, Joins, slot_of}
+use Rattle.nv_core.specs.Passes.{Stage, Committing, Copying, Pass, file_of, Patching}
+use Rattle.nv_core.specs.Deeds.{Deed, Loads, Takes, Gives, Places, Stops, Draws, Seizes, Pledges, Readies, Grows, Breaks, Splits, Leaves, Joins, slot_of, Holds, Returns}
 use Rattle.nv_core.specs.Order.{Values, Work, MayWork, IsDue}
 use Rattle.nv_core.specs.Core.{Core, with_word, after_step, after_begin, after_work, values_worked}
 use Rattle.nv_core.specs.Events.{Act, Begins, Does, Calls, after_act, MayFind, MayAct}
@@ -119,6 +119,8 @@ tail_stays sizes by core found (Pledges page) may = untouched sizes by core (Ple
 tail_stays sizes by core found (Readies next) may = untouched sizes by core (Readies next) found may TAIL refl
 tail_stays sizes by core found Grows may = untouched sizes by core Grows found may TAIL refl
 tail_stays sizes by core found (Breaks next) may = untouched sizes by core (Breaks next) found may TAIL refl
+tail_stays sizes by core found (Holds next) may = untouched sizes by core (Holds next) found may TAIL refl
+tail_stays sizes by core found (Returns next) may = untouched sizes by core (Returns next) found may TAIL refl
 tail_stays sizes by core found Splits may = untouched sizes by core Splits found may TAIL refl
 tail_stays sizes by core found (Leaves cell) may = untouched sizes by core (Leaves cell) found may TAIL refl
 tail_stays sizes by core found (Joins number) may = untouched sizes by core (Joins number) found may TAIL refl
@@ -137,7 +139,8 @@ worked_header sizes values pass work may = header_read work.job work.ending pass
 
     at : (stage : Stage) → IsDue sizes values pass work stage → with_word values work.cell (called work.job work.ending (values work.cell)) HEADER ≡ values HEADER
     at (Committing calls) due = other (ENTRY (slot_of sizes (pass.first + due.row.part))) due.cell (differ HEADER (ENTRY (slot_of sizes (pass.first + due.row.part))) refl)
-    at (Copying page) due = other (STORE (file_of pass.call)) due.cell (differ HEADER (STORE (file_of pass.call)) refl)
+    at (Patching page number) due = other (ENTRY (slot_of sizes number)) due.cell (differ HEADER (ENTRY (slot_of sizes number)) refl)
+    at (Copying page dirty) due = other (STORE (file_of pass.call)) due.cell (differ HEADER (STORE (file_of pass.call)) refl)
     at stage due = absurd due
 
 region_act : LoadsAreAnImage → (sizes : Sizes) (names : List (List ℕ)) (tail by : ℕ) (core : Core) (act : Act) → HasRegion sizes names tail core → MayAct sizes by core act → HasRegion sizes names tail (after_act sizes by act core)

@@ -1,19 +1,19 @@
 -- What a read has gathered: it stays right through each step.
-use Rattle.std.proofs.Common.{◌≡◌, ℕ, ◌+◌, ◌^◌, ◌==◌, nat_lt, nat_le, not, ◌&&◌, true, false, if◌then◌else◌, List, [], ◌∷◌, inl, inr, refl, sym, ap, subst, ◌∙◌, arith}
+use Rattle.std.proofs.Common.{◌≡◌, ℕ, ◌+◌, ◌^◌, ◌==◌, nat_lt, nat_le, not, ◌&&◌, Bool, true, false, if◌then◌else◌, List, [], ◌∷◌, inl, inr, refl, sym, ap, subst, ◌∙◌, arith}
 use Rattle.std.proofs.lemmas.Bool.{cases_lt, true≢false}
 use Rattle.nv_plain.specs.declared.call.FileCall.{FileCall}
 use Rattle.nv_plain.specs.declared.call.FileCall.TheVariants.{Read, Write, Sync}
-use Rattle.nv_core.specs.Words.{Sizes, Word, STOP, ORDER, HEAD, TAIL, SIZE, LENGTH, STORE, ENTRY, PAGE, DIRTY}
+use Rattle.nv_core.specs.Words.{Sizes, Word, STOP, ORDER, HEAD, TAIL, SIZE, LENGTH, STORE, ENTRY, PAGE, CLEANUP, DIRTY, ready, is_entry_of}
 use Rattle.nv_core.specs.Values.{is_valid, bytes_in}
-use Rattle.nv_core.specs.Passes.{Stage, Idle, Locking, Measuring, Sizing, Checking, Ordering, Reading, Fetching, Copying, Returning, Waiting, Heading, Tailing, Drawing, Seizing, Committing, Pledging, Readying, Placing, Growing, Releasing, Giving, Leaving, ReadFailing, WriteFailing, Breaking, Pass, is_write, is_read, page_count, first_page, end_page, without, times}
-use Rattle.nv_core.specs.Deeds.{Deed, Loads, Takes, Gives, Places, Stops, Draws, Seizes, Pledges, Readies, Grows, Breaks, slot_of}
-use Rattle.nv_core.specs.Stages.{stage_after, after_load, after_take, after_give, after_stop, leaving, giving, ending, ordered, copying, exceeds}
+use Rattle.nv_core.specs.Passes.{Stage, Idle, Locking, Measuring, Sizing, Checking, Ordering, Reading, Waiting, Fetching, Copying, Returning, Bounding, Starting, Scanning, Grasping, Patching, Restoring, Unlocking, Heading, Tailing, Drawing, Seizing, Committing, Pledging, Readying, Placing, Growing, Releasing, Giving, Leaving, ReadFailing, PieceFailing, WriteFailing, Breaking, Pass, is_write, is_read, page_count, first_page, end_page, without, times}
+use Rattle.nv_core.specs.Deeds.{Deed, Loads, Takes, Gives, Places, Stops, Draws, Seizes, Pledges, Readies, Grows, Breaks, Holds, Returns, slot_of}
+use Rattle.nv_core.specs.Stages.{stage_after, after_load, after_take, after_give, after_stop, after_head, after_tail, after_look, after_hold, after_return, scanning, leaving, giving, ending, ordered, copying, exceeds}
 use Rattle.nv_core.specs.Order.{Values, MayStep, MayLoad, MayTake, IsFailing, page_bytes}
 use Rattle.nv_core.specs.Standing.{StandsAt, IsPage}
 use Rattle.nv_core.specs.Holding.{HoldsLocks}
-use Rattle.nv_core.specs.ValidBuffers.{Gathered, GatheredAt}
+use Rattle.nv_core.specs.ValidBuffers.{Gathered, Halfway, GatheredAt}
 use Rattle.nv_core.proofs.Choices.{if_both, leaving_both, IsGivingBack, gives_back}
-use Rattle.nv_core.proofs.BufferLaws.{whole_holds}
+use Rattle.nv_core.proofs.BufferLaws.{whole_holds, IsUnfilling}
 
 -- ---- other values, other passes' events
 
@@ -29,13 +29,31 @@ module _ (sizes : Sizes) (now later : ℕ → List ℕ) (values others : Values)
       let e = same page (holds page is) in
       page_bytes_same pass.fetched values others page e.0 ∙ was page is (elim passed [ inl low ↦ inl low | inr valid ↦ inr (sym (ap is_valid e.0) ∙ valid) ]) ∙ sym e.1
 
+  half : (next : ℕ) → ((page : ℕ) → IsPage sizes pass.call page → times (PAGE page) pass.hands ≡ 1)
+      → ((page : ℕ) → times (PAGE page) pass.hands ≡ 1 → (others (PAGE page) ≡ values (PAGE page)) × (later page ≡ now page))
+      → Halfway sizes now values pass.call pass.fetched next → Halfway sizes later others pass.call pass.fetched next
+  half next holds same was = (
+    λ page is ne passed. let e = same page (holds page is) in
+        page_bytes_same pass.fetched values others page e.0 ∙ was.0 page is ne (elim passed [ inl low ↦ inl low | inr valid ↦ inr (sym (ap is_valid e.0) ∙ valid) ]) ∙ sym e.1,
+    was.1,
+  )
+
   -- where the pages that the pass holds and what they have stay the same
   pub gathered_same : (stage : Stage) → HoldsLocks sizes pass stage → ((page : ℕ) → times (PAGE page) pass.hands ≡ 1 → (others (PAGE page) ≡ values (PAGE page)) × (later page ≡ now page))
       → GatheredAt sizes now values pass.call pass.fetched stage → GatheredAt sizes later others pass.call pass.fetched stage
   gathered_same (Reading next) held same was = more next (whole_holds sizes pass (Reading next) tt held) same was
-  gathered_same (Fetching next) held same was = more next (whole_holds sizes pass (Fetching next) tt held) same was
-  gathered_same (Copying next) held same was = more next (whole_holds sizes pass (Copying next) tt held) same was
-  gathered_same (Returning next) held same was = more (next + 1) (whole_holds sizes pass (Returning next) tt held) same was
+  gathered_same (Waiting next) held same was = more next (whole_holds sizes pass (Waiting next) tt held) same was
+  gathered_same (Fetching next dirty) held same was = more next (whole_holds sizes pass (Fetching next dirty) tt held) same was
+  gathered_same (Copying next dirty) held same was = more next (whole_holds sizes pass (Copying next dirty) tt held) same was
+  gathered_same (Returning next false) held same was = more (next + 1) (whole_holds sizes pass (Returning next false) tt held) same was
+  gathered_same (Returning next true) held same was = half next (whole_holds sizes pass (Returning next true) tt held) same was
+  gathered_same (Bounding next) held same was = half next (whole_holds sizes pass (Bounding next) tt held) same was
+  gathered_same (Starting next) held same was = half next (whole_holds sizes pass (Starting next) tt held) same was
+  gathered_same (Scanning next number) held same was = half next (whole_holds sizes pass (Scanning next number) tt held) same was
+  gathered_same (Grasping next number) held same was = half next (whole_holds sizes pass (Grasping next number) tt held) same was
+  gathered_same (Patching next number) held same was = half next (whole_holds sizes pass (Patching next number) tt held) same was
+  gathered_same (Restoring next number false) held same was = half next (whole_holds sizes pass (Restoring next number false) tt held) same was
+  gathered_same (Unlocking next) held same was = half next (whole_holds sizes pass (Unlocking next) tt held) same was
   gathered_same (Locking page) held same was = was
   gathered_same Measuring held same was = was
   gathered_same Sizing held same was = was
@@ -68,6 +86,10 @@ module _ (sizes : Sizes) (now : ℕ → List ℕ) (values : Values) (pass : Pass
   old : (stage : Stage) → pass.stage ≡ stage → GatheredAt sizes now values pass.call pass.fetched pass.stage → GatheredAt sizes now values pass.call pass.fetched stage
   old stage is was = subst (GatheredAt sizes now values pass.call pass.fetched) is was
 
+  -- what a read with a page halfway has at the next number, or past all of them
+  at_scanning : (page number : ℕ) → Halfway sizes now values pass.call pass.fetched page → GatheredAt sizes now values pass.call pass.fetched (scanning pass page number)
+  at_scanning page number was = if_both (GatheredAt sizes now values pass.call pass.fetched) (nat_lt number pass.head) (Scanning page number) (Unlocking page) (λ _. was) (λ _. was)
+
   first_read : pass.fetched ≡ [] → AreRight sizes now values pass.call → Gathered sizes now values pass.call pass.fetched (first_page sizes pass.call)
   first_read none right page is passed = elim passed [
     | inl low ↦ absurd (let l = is.0 in omega (arith, l, low))
@@ -82,15 +104,28 @@ module _ (sizes : Sizes) (now : ℕ → List ℕ) (values : Values) (pass : Pass
       (λ _. if_both (GatheredAt sizes now values pass.call pass.fetched) (is_write pass.call) Heading (if is_read pass.call then Reading (first_page sizes pass.call) else Placing) (λ _. tt)
       (λ _. if_both (GatheredAt sizes now values pass.call pass.fetched) (is_read pass.call) (Reading (first_page sizes pass.call)) Placing (λ _. first_read (old Ordering may was) (right may)) (λ none. none)))
       (λ _. at_leaving pass.hands)
-  at_load HEAD found may right was = if_both (GatheredAt sizes now values pass.call pass.fetched) (nat_le (found + page_count sizes pass.call) (2 ^ 60)) Tailing (leaving pass.hands) (λ _. tt) (λ _. at_leaving pass.hands)
-  at_load TAIL found may right was = if_both (GatheredAt sizes now values pass.call pass.fetched) (nat_le (pass.head + page_count sizes pass.call) (found + sizes.entries)) Drawing (leaving pass.hands) (λ _. tt) (λ _. at_leaving pass.hands)
-  at_load (DIRTY next) found may right was = if_both (GatheredAt sizes now values pass.call pass.fetched) (found == 0) (Fetching next) (Waiting next)
-      (λ _ page is passed. let g : Gathered sizes now values pass.call pass.fetched may.0 = old (Reading may.0) may.1.stage was in
+  at_load HEAD found may right was = elim may [
+    | inl is ↦ subst (λ s. GatheredAt sizes now values pass.call pass.fetched (after_head sizes pass found s)) (sym is)
+        (if_both (GatheredAt sizes now values pass.call pass.fetched) (nat_le (found + page_count sizes pass.call) (2 ^ 60)) Tailing (leaving pass.hands) (λ _. tt) (λ _. at_leaving pass.hands))
+    | inr is ↦ subst (λ s. GatheredAt sizes now values pass.call pass.fetched (after_head sizes pass found s)) (sym is.1) (old (Bounding is.0) is.1 was)
+  ]
+  at_load TAIL found may right was = elim may [
+    | inl is ↦ subst (λ s. GatheredAt sizes now values pass.call pass.fetched (after_tail sizes pass found s)) (sym is)
+        (if_both (GatheredAt sizes now values pass.call pass.fetched) (nat_le (pass.head + page_count sizes pass.call) (found + sizes.entries)) Drawing (leaving pass.hands) (λ _. tt) (λ _. at_leaving pass.hands))
+    | inr is ↦ subst (λ s. GatheredAt sizes now values pass.call pass.fetched (after_tail sizes pass found s)) (sym is.1) (at_scanning is.0 found (old (Starting is.0) is.1 was))
+  ]
+  at_load (ENTRY slot) found may right was =
+      let was_half : Halfway sizes now values pass.call pass.fetched may.0 = old (Scanning may.0 may.1) may.2 was in
+      subst (λ s. GatheredAt sizes now values pass.call pass.fetched (after_look pass found s)) (sym may.2)
+      (if_both (GatheredAt sizes now values pass.call pass.fetched) (is_entry_of ready may.0 found) (Grasping may.0 may.1) (scanning pass may.0 (may.1 + 1)) (λ _. was_half) (λ _. at_scanning may.0 (may.1 + 1) was_half))
+  at_load (DIRTY next) found may right was =
+      let reached : Gathered sizes now values pass.call pass.fetched next = λ page is passed.
+      let g : Gathered sizes now values pass.call pass.fetched may.0 = old (Reading may.0) may.1.stage was in
       elim passed [
         | inl low ↦ elim (cases_lt page may.0) [ inl before ↦ g page is (inl before) | inr past ↦ g page is (inr (may.1.passed page past low)) ]
         | inr valid ↦ g page is (inr valid)
-      ])
-      (λ _. tt)
+      ] in
+      if_both (GatheredAt sizes now values pass.call pass.fetched) (found == 0) (Fetching next false) (Waiting next) (λ _. reached) (λ _. reached)
   at_load word found may right was = absurd may
 
   at_take : (cell : Word) (found : ℕ) → MayTake pass cell → GatheredAt sizes now values pass.call pass.fetched pass.stage → GatheredAt sizes now values pass.call pass.fetched (stage_after sizes pass (Takes cell) found)
@@ -98,34 +133,44 @@ module _ (sizes : Sizes) (now : ℕ → List ℕ) (values : Values) (pass : Pass
       (λ _. if_both (GatheredAt sizes now values pass.call pass.fetched) (page + 1 == end_page sizes pass.call) Measuring (Locking (page + 1)) (λ _. old (Locking page) may was) (λ _. old (Locking page) may was)) (λ _. at_leaving pass.hands)
   at_take (SIZE file) found may was = if_both (GatheredAt sizes now values pass.call pass.fetched) (found == 0) Measuring (leaving pass.hands) (λ _. old Sizing may.0 was) (λ _. at_leaving pass.hands)
   at_take (STORE file) found may was = if_both (GatheredAt sizes now values pass.call pass.fetched) (found == 0) (copying pass.stage) (leaving pass.hands)
-      (λ _. subst (λ s. GatheredAt sizes now values pass.call pass.fetched (copying s)) (sym may.1) (old (Fetching may.0) may.1 was)) (λ _. at_leaving pass.hands)
+      (λ _. subst (λ s. GatheredAt sizes now values pass.call pass.fetched (copying s)) (sym may.2) (old (Fetching may.0 may.1) may.2 was)) (λ _. at_leaving pass.hands)
+  at_take (CLEANUP page) found may was = if_both (GatheredAt sizes now values pass.call pass.fetched) (found == 0) (Fetching page true) (leaving pass.hands) (λ _. old (Waiting page) may was) (λ _. at_leaving pass.hands)
   at_take cell found may was = absurd may
 
-  at_give : (cell : Word) (stage : Stage) → IsGivingBack stage → GatheredAt sizes now values pass.call pass.fetched stage → GatheredAt sizes now values pass.call pass.fetched (after_give sizes pass cell stage)
-  at_give cell Leaving back was = at_leaving (without cell pass.hands)
-  at_give cell Releasing back was = at_giving
-  at_give cell (Giving page) back was = if_both (GatheredAt sizes now values pass.call pass.fetched) (page + 1 == end_page sizes pass.call) Idle (Giving (page + 1)) (λ _. tt) (λ _. tt)
-  at_give cell (Returning page) back was = was
-  at_give cell stage back was = absurd back
+  at_give : (cell : Word) (stage : Stage) → IsGivingBack stage → ((page : ℕ) → stage ≡ Unlocking page → ⊥) → GatheredAt sizes now values pass.call pass.fetched stage → GatheredAt sizes now values pass.call pass.fetched (after_give sizes pass cell stage)
+  at_give cell Leaving back other was = at_leaving (without cell pass.hands)
+  at_give cell Releasing back other was = at_giving
+  at_give cell (Giving page) back other was = if_both (GatheredAt sizes now values pass.call pass.fetched) (page + 1 == end_page sizes pass.call) Idle (Giving (page + 1)) (λ _. tt) (λ _. tt)
+  at_give cell (Returning page true) back other was = was
+  at_give cell (Returning page false) back other was = was
+  at_give cell (Unlocking page) back other was = absurd (other page refl)
+  at_give cell stage back other was = absurd back
 
   at_stop : (stage : Stage) → IsFailing stage → GatheredAt sizes now values pass.call pass.fetched (after_stop pass stage)
-  at_stop ReadFailing may = at_leaving pass.hands
+  at_stop (ReadFailing page dirty) may = at_leaving pass.hands
+  at_stop (PieceFailing page number) may = tt
   at_stop WriteFailing may = tt
   at_stop stage may = absurd may
 
-  pub gathered_on : (deed : Deed) (found : ℕ) → MayStep sizes values pass deed → StandsAt sizes pass pass.stage → (pass.stage ≡ Ordering → AreRight sizes now values pass.call) → GatheredAt sizes now values pass.call pass.fetched pass.stage
+  at_return : (page number : ℕ) (failed : Bool) → GatheredAt sizes now values pass.call pass.fetched (Restoring page number failed) → GatheredAt sizes now values pass.call pass.fetched (after_return sizes pass (Restoring page number failed))
+  at_return page number true was = at_leaving (without (ENTRY (slot_of sizes number)) pass.hands)
+  at_return page number false was = at_scanning page (number + 1) was
+
+  pub gathered_on : (deed : Deed) (found : ℕ) → IsUnfilling deed pass.stage → MayStep sizes values pass deed → StandsAt sizes pass pass.stage → (pass.stage ≡ Ordering → AreRight sizes now values pass.call) → GatheredAt sizes now values pass.call pass.fetched pass.stage
       → GatheredAt sizes now values pass.call pass.fetched (stage_after sizes pass deed found)
-  gathered_on (Loads word) found may stands right was = at_load word found may right was
-  gathered_on (Takes cell) found may stands right was = at_take cell found may was
-  gathered_on (Gives cell) found may stands right was = at_give cell pass.stage (gives_back pass cell pass.stage may) was
-  gathered_on (Places reply) found may stands right was = if_both (GatheredAt sizes now values pass.call pass.fetched) (is_write pass.call && exceeds pass pass.length) Growing (ending sizes pass) (λ _. tt) (λ _. at_ending)
-  gathered_on Stops found may stands right was = at_stop pass.stage may
-  gathered_on Draws found may stands right was = if_both (GatheredAt sizes now values pass.call pass.fetched) (found == pass.head) (Seizing found) (leaving pass.hands) (λ _. tt) (λ _. at_leaving pass.hands)
-  gathered_on (Seizes next) found may stands right was = if_both (GatheredAt sizes now values pass.call pass.fetched) (next + 1 == pass.first + pass.entries) (Committing 0) (Seizing (next + 1)) (λ _. tt) (λ _. tt)
-  gathered_on (Pledges page) found may stands right was = if_both (GatheredAt sizes now values pass.call pass.fetched) (page + 1 == end_page sizes pass.call) (Readying (if pass.entries == 1 then pass.first else pass.first + 1)) (Pledging (page + 1)) (λ _. tt) (λ _. tt)
-  gathered_on (Readies next) found may stands right was = if_both (GatheredAt sizes now values pass.call pass.fetched) (next == pass.first) Placing (Readying (if next + 1 == pass.first + pass.entries then pass.first else next + 1))
+  gathered_on (Loads word) found other may stands right was = at_load word found may right was
+  gathered_on (Takes cell) found other may stands right was = at_take cell found may was
+  gathered_on (Gives cell) found other may stands right was = at_give cell pass.stage (gives_back pass cell pass.stage may) other was
+  gathered_on (Places reply) found other may stands right was = if_both (GatheredAt sizes now values pass.call pass.fetched) (is_write pass.call && exceeds pass pass.length) Growing (ending sizes pass) (λ _. tt) (λ _. at_ending)
+  gathered_on Stops found other may stands right was = at_stop pass.stage may
+  gathered_on Draws found other may stands right was = if_both (GatheredAt sizes now values pass.call pass.fetched) (found == pass.head) (Seizing found) (leaving pass.hands) (λ _. tt) (λ _. at_leaving pass.hands)
+  gathered_on (Seizes next) found other may stands right was = if_both (GatheredAt sizes now values pass.call pass.fetched) (next + 1 == pass.first + pass.entries) (Committing 0) (Seizing (next + 1)) (λ _. tt) (λ _. tt)
+  gathered_on (Pledges page) found other may stands right was = if_both (GatheredAt sizes now values pass.call pass.fetched) (page + 1 == end_page sizes pass.call) (Readying (if pass.entries == 1 then pass.first else pass.first + 1)) (Pledging (page + 1)) (λ _. tt) (λ _. tt)
+  gathered_on (Readies next) found other may stands right was = if_both (GatheredAt sizes now values pass.call pass.fetched) (next == pass.first) Placing (Readying (if next + 1 == pass.first + pass.entries then pass.first else next + 1))
       (λ _. write_only pass.call (let s : StandsAt sizes pass (Readying next) = subst (StandsAt sizes pass) may stands in s.0.write)) (λ _. tt)
-  gathered_on Grows found may stands right was = at_ending
-  gathered_on (Breaks next) found may stands right was = if_both (GatheredAt sizes now values pass.call pass.fetched) (next + 1 == pass.first + pass.entries) (leaving (without (ENTRY (slot_of sizes next)) pass.hands)) (Breaking (next + 1))
+  gathered_on Grows found other may stands right was = at_ending
+  gathered_on (Breaks next) found other may stands right was = if_both (GatheredAt sizes now values pass.call pass.fetched) (next + 1 == pass.first + pass.entries) (leaving (without (ENTRY (slot_of sizes next)) pass.hands)) (Breaking (next + 1))
       (λ _. at_leaving (without (ENTRY (slot_of sizes next)) pass.hands)) (λ _. tt)
-  gathered_on deed found may stands right was = absurd may
+  gathered_on (Holds number) found other may stands right was = subst (λ s. GatheredAt sizes now values pass.call pass.fetched (after_hold s)) (sym may.1) (old (Grasping may.0 number) may.1 was)
+  gathered_on (Returns number) found other may stands right was = subst (λ s. GatheredAt sizes now values pass.call pass.fetched (after_return sizes pass s)) (sym may.2) (at_return may.0 number may.1 (old (Restoring may.0 number may.1) may.2 was))
+  gathered_on deed found other may stands right was = absurd may

@@ -2,14 +2,14 @@
 use Rattle.std.proofs.Common.{◌≡◌, ◌≢◌, ℕ, ◌+◌, ◌<◌, ◌≤◌, ◌==◌, nat_lt, nat_le, ◌^◌, Bool, true, false, not, ◌&&◌, if◌then◌else◌, List, ◌∷◌, inl, inr, refl, sym, ap, subst, ◌∙◌, arith}
 use Rattle.std.proofs.lemmas.Bool.{and_from, and_left, and_right, eqb-true, le-leb, lt-leb, lt-ltb, le-ltb, eq-eqb, ne_eqb, cases_eq, cases_lt}
 use Rattle.nv_plain.specs.Histories.{Answered}
-use Rattle.nv_core.specs.Words.{Sizes, Word, STOP, ORDER, HEAD, TAIL, SIZE, LENGTH, STORE, ENTRY, PAGE, DIRTY, same}
-use Rattle.nv_core.specs.Passes.{Stage, Idle, Locking, Measuring, Sizing, Checking, Ordering, Reading, Fetching, Copying, Returning, Waiting, Heading, Tailing, Drawing, Seizing, Committing, Pledging, Readying, Placing, Growing, Releasing, Giving, Leaving, ReadFailing, WriteFailing, Breaking, Pass, file_of, is_read, is_write, page_count, first_page, end_page, without, times}
-use Rattle.nv_core.specs.Deeds.{Deed, Stays, Comes, moved, slot_of, Loads, Takes, Gives, Places, Stops, Draws, Seizes, Pledges, Readies, Grows, Breaks}
-use Rattle.nv_core.specs.Stages.{copying, stage_after, after_load, after_take, after_give, after_stop, leaving, giving, ending, ordered, exceeds}
+use Rattle.nv_core.specs.Words.{Sizes, Word, STOP, ORDER, HEAD, TAIL, SIZE, LENGTH, STORE, ENTRY, PAGE, DIRTY, same, CLEANUP, ready, is_entry_of}
+use Rattle.nv_core.specs.Passes.{Stage, Idle, Locking, Measuring, Sizing, Checking, Ordering, Reading, Fetching, Copying, Returning, Waiting, Heading, Tailing, Drawing, Seizing, Committing, Pledging, Readying, Placing, Growing, Releasing, Giving, Leaving, ReadFailing, WriteFailing, Breaking, Pass, file_of, is_read, is_write, page_count, first_page, end_page, without, times, Bounding, Starting, Scanning, Grasping, Restoring, Unlocking, PieceFailing}
+use Rattle.nv_core.specs.Deeds.{Deed, Stays, Comes, moved, slot_of, Loads, Takes, Gives, Places, Stops, Draws, Seizes, Pledges, Readies, Grows, Breaks, Holds, Returns}
+use Rattle.nv_core.specs.Stages.{copying, stage_after, after_load, after_take, after_give, after_stop, leaving, giving, ending, ordered, exceeds, scanning, after_head, after_tail, after_look, after_hold, after_return}
 use Rattle.nv_core.specs.Stepped.{stepped}
 use Rattle.nv_core.specs.Order.{Values, MayStep, MayLoad, MayTake, MayGive, MayPlace, IsFailing}
 use Rattle.nv_core.specs.Standing.{IsPage, StandsAt, Standing}
-use Rattle.nv_core.specs.Holding.{one_if, is_among, page_held, size_held, store_held, lock_held, HoldsLocks}
+use Rattle.nv_core.specs.Holding.{one_if, is_among, page_held, size_held, store_held, lock_held, HoldsLocks, cleanup_held}
 use Rattle.nv_core.proofs.Changes.{differ, same_true}
 use Rattle.nv_core.proofs.Choices.{if_both, when_true, when_false, leaving_both, gives_one}
 use Rattle.nv_core.proofs.LockLaws.{times_else, times_without, times_without_else}
@@ -61,8 +61,8 @@ among_less from end page low = elim (cases_eq page from) [
 -- ---- locks in hands
 
 -- the locks of some hands, at a stage
-abbrev Holds : Sizes → Pass → Stage → List Word → Type 0
-Holds sizes pass stage hands = (cell : Word) → ((slot : ℕ) → cell ≢ ENTRY slot) → times cell hands ≡ lock_held sizes pass stage cell
+abbrev HoldsAt : Sizes → Pass → Stage → List Word → Type 0
+HoldsAt sizes pass stage hands = (cell : Word) → ((slot : ℕ) → cell ≢ ENTRY slot) → times cell hands ≡ lock_held sizes pass stage cell
 
 -- nothing is held, and nothing is owed
 pub nothing : (sizes : Sizes) (pass : Pass) (cell : Word) → lock_held sizes pass Idle cell ≡ 0
@@ -76,7 +76,7 @@ out sizes now hands is = leaving_both (HoldsLocks sizes now) hands (λ e cell _.
 -- one lock more, and one less
 taken : (sizes : Sizes) (pass now : Pass) (old new : Stage) (cell : Word) → now.hands ≡ cell ∷ pass.hands
     → ((other : Word) → lock_held sizes now new other ≡ one_if (same other cell) + lock_held sizes pass old other)
-    → Holds sizes pass old pass.hands → Holds sizes now new now.hands
+    → HoldsAt sizes pass old pass.hands → HoldsAt sizes now new now.hands
 taken sizes pass now old new cell hands owed held other lock =
     ap (times other) hands ∙ ap (λ t. one_if (same other cell) + t) (held other lock) ∙ sym (owed other)
 
@@ -89,16 +89,16 @@ times_less other cell hands some = go (same other cell) refl
 
 given : (sizes : Sizes) (pass now : Pass) (old new : Stage) (cell : Word) → now.hands ≡ without cell pass.hands → 1 ≤ times cell pass.hands
     → ((other : Word) → lock_held sizes pass old other ≡ one_if (same other cell) + lock_held sizes now new other)
-    → Holds sizes pass old pass.hands → Holds sizes now new now.hands
+    → HoldsAt sizes pass old pass.hands → HoldsAt sizes now new now.hands
 given sizes pass now old new cell hands some owed held other lock =
     let a = ap (times other) hands in let b = times_less other cell pass.hands some in let c = held other lock in let d = owed other in
     omega (arith, a, b, c, d)
 
 -- what moves of entries leaves the locks
-entry_taken : (sizes : Sizes) (pass now : Pass) (stage : Stage) (slot : ℕ) → now.hands ≡ ENTRY slot ∷ pass.hands → Holds sizes pass stage pass.hands → (cell : Word) → ((slot : ℕ) → cell ≢ ENTRY slot) → times cell now.hands ≡ lock_held sizes pass stage cell
+entry_taken : (sizes : Sizes) (pass now : Pass) (stage : Stage) (slot : ℕ) → now.hands ≡ ENTRY slot ∷ pass.hands → HoldsAt sizes pass stage pass.hands → (cell : Word) → ((slot : ℕ) → cell ≢ ENTRY slot) → times cell now.hands ≡ lock_held sizes pass stage cell
 entry_taken sizes pass now stage slot hands held cell lock = ap (times cell) hands ∙ times_else cell (ENTRY slot) pass.hands (lock slot) ∙ held cell lock
 
-entry_given : (sizes : Sizes) (pass now : Pass) (stage : Stage) (slot : ℕ) → now.hands ≡ without (ENTRY slot) pass.hands → Holds sizes pass stage pass.hands → (cell : Word) → ((slot : ℕ) → cell ≢ ENTRY slot) → times cell now.hands ≡ lock_held sizes pass stage cell
+entry_given : (sizes : Sizes) (pass now : Pass) (stage : Stage) (slot : ℕ) → now.hands ≡ without (ENTRY slot) pass.hands → HoldsAt sizes pass stage pass.hands → (cell : Word) → ((slot : ℕ) → cell ≢ ENTRY slot) → times cell now.hands ≡ lock_held sizes pass stage cell
 entry_given sizes pass now stage slot hands held cell lock = ap (times cell) hands ∙ times_without_else cell (ENTRY slot) pass.hands (lock slot) ∙ held cell lock
 
 -- ---- the ends of a call
@@ -117,13 +117,17 @@ giving_locks sizes now held is full = if_both (HoldsLocks sizes now) (page_count
     empty cell none = refl
 
 -- a call that holds all its pages goes on to give them back
-ending_locks : (sizes : Sizes) (pass now : Pass) → now.call ≡ pass.call → now.sized ≡ pass.sized → now.hands ≡ pass.hands → Holds sizes now Checking now.hands → HoldsLocks sizes now (ending sizes pass)
+ending_locks : (sizes : Sizes) (pass now : Pass) → now.call ≡ pass.call → now.sized ≡ pass.sized → now.hands ≡ pass.hands → HoldsAt sizes now Checking now.hands → HoldsLocks sizes now (ending sizes pass)
 ending_locks sizes pass now call sized hands full = if_both (HoldsLocks sizes now) pass.sized Releasing (giving sizes pass.call) (λ _. full)
     (λ e. subst (λ c. HoldsLocks sizes now (giving sizes c)) call (giving_locks sizes now now refl (λ cell lock. full cell lock ∙ without_size cell (sized ∙ e))))
   where
     without_size : (cell : Word) → now.sized ≡ false → lock_held sizes now Checking cell ≡ lock_held sizes now (Giving (first_page sizes now.call)) cell
     without_size (SIZE file) e = ap (λ n. if file == file_of now.call then n else 0) (when_false now.sized 1 0 e)
     without_size cell e = refl
+
+-- a read of a page with entries goes on with another number, or with CLEANUP
+scan_locks : (sizes : Sizes) (pass now : Pass) (page number : ℕ) → HoldsAt sizes now (Unlocking page) now.hands → HoldsLocks sizes now (scanning pass page number)
+scan_locks sizes pass now page number full = if_both (HoldsLocks sizes now) (nat_lt number pass.head) (Scanning page number) (Unlocking page) (λ _. full) (λ _. full)
 
 -- ---- the steps
 
@@ -146,15 +150,30 @@ lock_loads sizes values pass ORDER found number history held may =
     (λ _. if_both (HoldsLocks sizes now) (is_write pass.call) Heading (if is_read pass.call then Reading (first_page sizes pass.call) else Placing) (λ _. full)
     (λ _. if_both (HoldsLocks sizes now) (is_read pass.call) (Reading (first_page sizes pass.call)) Placing (λ _. full) (λ _. full)))
     (λ _. out sizes now pass.hands refl)
-lock_loads sizes values pass HEAD found number history held may =
-    let now = stepped sizes number history (Loads HEAD) found pass in
-    if_both (HoldsLocks sizes now) (nat_le (found + page_count sizes pass.call) (2 ^ 60)) Tailing (leaving pass.hands) (λ _. at_stage sizes pass Heading may held) (λ _. out sizes now pass.hands refl)
-lock_loads sizes values pass TAIL found number history held may =
-    let now = stepped sizes number history (Loads TAIL) found pass in
-    if_both (HoldsLocks sizes now) (nat_le (pass.head + page_count sizes pass.call) (found + sizes.entries)) Drawing (leaving pass.hands) (λ _. at_stage sizes pass Tailing may held) (λ _. out sizes now pass.hands refl)
+lock_loads sizes values pass HEAD found number history held may = elim may [
+  | inl here ↦ subst (λ s. HoldsLocks sizes now (after_head sizes pass found s)) (sym here)
+      (if_both (HoldsLocks sizes now) (nat_le (found + page_count sizes pass.call) (2 ^ 60)) Tailing (leaving pass.hands) (λ _. at_stage sizes pass Heading here held) (λ _. out sizes now pass.hands refl))
+  | inr here ↦ subst (λ s. HoldsLocks sizes now (after_head sizes pass found s)) (sym here.1) (at_stage sizes pass (Bounding here.0) here.1 held)
+]
+  where
+    now : Pass
+    now = stepped sizes number history (Loads HEAD) found pass
+lock_loads sizes values pass TAIL found number history held may = elim may [
+  | inl here ↦ subst (λ s. HoldsLocks sizes now (after_tail sizes pass found s)) (sym here)
+      (if_both (HoldsLocks sizes now) (nat_le (pass.head + page_count sizes pass.call) (found + sizes.entries)) Drawing (leaving pass.hands) (λ _. at_stage sizes pass Tailing here held) (λ _. out sizes now pass.hands refl))
+  | inr here ↦ subst (λ s. HoldsLocks sizes now (after_tail sizes pass found s)) (sym here.1) (scan_locks sizes pass now here.0 found (at_stage sizes pass (Starting here.0) here.1 held))
+]
+  where
+    now : Pass
+    now = stepped sizes number history (Loads TAIL) found pass
+lock_loads sizes values pass (ENTRY slot) found number history held may =
+    let now = stepped sizes number history (Loads (ENTRY slot)) found pass in
+    let full = at_stage sizes pass (Scanning may.0 may.1) may.2 held in
+    subst (λ s. HoldsLocks sizes now (after_look pass found s)) (sym may.2)
+    (if_both (HoldsLocks sizes now) (is_entry_of ready may.0 found) (Grasping may.0 may.1) (scanning pass may.0 (may.1 + 1)) (λ _. full) (λ _. scan_locks sizes pass now may.0 (may.1 + 1) full))
 lock_loads sizes values pass (DIRTY page) found number history held may =
     let full = at_stage sizes pass (Reading may.0) may.1.stage held in
-    if_both (HoldsLocks sizes (stepped sizes number history (Loads (DIRTY page)) found pass)) (found == 0) (Fetching page) (Waiting page) (λ _. full) (λ _. full)
+    if_both (HoldsLocks sizes (stepped sizes number history (Loads (DIRTY page)) found pass)) (found == 0) (Fetching page false) (Waiting page) (λ _. full) (λ _. full)
 lock_loads sizes values pass word found number history held may = absurd may
 
 -- a lock that is found shut
@@ -170,13 +189,16 @@ took sizes pass cell found number history e = ap (λ b. moved (if b then Comes c
 no_more : (n : ℕ) → n ≡ 0 + n
 no_more n = omega arith
 
+more_none : (n : ℕ) → n ≡ n + 0
+more_none n = omega arith
+
 lock_takes : (sizes : Sizes) (pass : Pass) (cell : Word) (found number : ℕ) (history : List Answered) → Standing sizes pass → HoldsLocks sizes pass pass.stage → MayTake pass cell
     → HoldsLocks sizes (stepped sizes number history (Takes cell) found pass) (stage_after sizes pass (Takes cell) found)
 lock_takes sizes pass (PAGE page) found number history stands held may =
     if_both (HoldsLocks sizes now) (found == 0) (after_take sizes pass (PAGE page)) (leaving pass.hands)
     (λ e. if_both (HoldsLocks sizes now) (page + 1 == end_page sizes pass.call) Measuring (Locking (page + 1))
-    (λ last. taken sizes pass now (Locking page) Measuring (PAGE page) (took sizes pass (PAGE page) found number history e) (owed Measuring (λ p. ap (λ end. one_if (is_among (first_page sizes pass.call) end p)) (sym (eqb-true (page + 1) (end_page sizes pass.call) last)) ∙ more p) refl refl) before)
-    (λ _. taken sizes pass now (Locking page) (Locking (page + 1)) (PAGE page) (took sizes pass (PAGE page) found number history e) (owed (Locking (page + 1)) more refl refl) before))
+    (λ last. taken sizes pass now (Locking page) Measuring (PAGE page) (took sizes pass (PAGE page) found number history e) (owed Measuring (λ p. ap (λ end. one_if (is_among (first_page sizes pass.call) end p)) (sym (eqb-true (page + 1) (end_page sizes pass.call) last)) ∙ more p) refl refl (λ p. refl)) before)
+    (λ _. taken sizes pass now (Locking page) (Locking (page + 1)) (PAGE page) (took sizes pass (PAGE page) found number history e) (owed (Locking (page + 1)) more refl refl (λ p. refl)) before))
     (missed sizes pass (PAGE page) found number history)
   where
     now : Pass
@@ -192,12 +214,13 @@ lock_takes sizes pass (PAGE page) found number history stands held may =
     more p = among_more (first_page sizes pass.call) page p low
 
     owed : (stage : Stage) → ((p : ℕ) → page_held sizes (stepped sizes number history (Takes (PAGE page)) found pass) stage p ≡ one_if (p == page) + one_if (is_among (first_page sizes pass.call) page p))
-        → size_held (stepped sizes number history (Takes (PAGE page)) found pass) stage ≡ one_if pass.sized → store_held stage ≡ 0
+        → size_held (stepped sizes number history (Takes (PAGE page)) found pass) stage ≡ one_if pass.sized → store_held stage ≡ 0 → ((p : ℕ) → cleanup_held stage p ≡ 0)
         → (other : Word) → lock_held sizes (stepped sizes number history (Takes (PAGE page)) found pass) stage other ≡ one_if (same other (PAGE page)) + lock_held sizes pass (Locking page) other
-    owed stage pages size store (PAGE p) = pages p
-    owed stage pages size store (SIZE file) = ap (λ n. if file == file_of pass.call then n else 0) size ∙ no_more _
-    owed stage pages size store (STORE file) = ap (λ n. if file == file_of pass.call then n else 0) store ∙ no_more _
-    owed stage pages size store other = refl
+    owed stage pages size store none (PAGE p) = pages p
+    owed stage pages size store none (SIZE file) = ap (λ n. if file == file_of pass.call then n else 0) size ∙ no_more _
+    owed stage pages size store none (STORE file) = ap (λ n. if file == file_of pass.call then n else 0) store ∙ no_more _
+    owed stage pages size store none (CLEANUP p) = none p
+    owed stage pages size store none other = refl
 lock_takes sizes pass (SIZE file) found number history stands held may =
     if_both (HoldsLocks sizes now) (found == 0) Measuring (leaving pass.hands)
     (λ e. taken sizes pass now Sizing Measuring (SIZE file) (took sizes pass (SIZE file) found number history e) (owed (when_true (found == 0) true pass.sized e)) (at_stage sizes pass Sizing may.0 held))
@@ -221,21 +244,36 @@ lock_takes sizes pass (SIZE file) found number history stands held may =
     owed sized other = refl
 lock_takes sizes pass (STORE file) found number history stands held may =
     if_both (HoldsLocks sizes now) (found == 0) (copying pass.stage) (leaving pass.hands)
-    (λ e. subst (λ s. HoldsLocks sizes now (copying s)) (sym may.1)
-    (taken sizes pass now (Fetching may.0) (Copying may.0) (STORE file) (took sizes pass (STORE file) found number history e) owed (at_stage sizes pass (Fetching may.0) may.1 held)))
+    (λ e. subst (λ s. HoldsLocks sizes now (copying s)) (sym may.2)
+    (taken sizes pass now (Fetching may.0 may.1) (Copying may.0 may.1) (STORE file) (took sizes pass (STORE file) found number history e) owed (at_stage sizes pass (Fetching may.0 may.1) may.2 held)))
     (missed sizes pass (STORE file) found number history)
   where
     now : Pass
     now = stepped sizes number history (Takes (STORE file)) found pass
 
-    owed : (other : Word) → lock_held sizes (stepped sizes number history (Takes (STORE file)) found pass) (Copying may.0) other ≡ one_if (same other (STORE file)) + lock_held sizes pass (Fetching may.0) other
-    owed (STORE other) = subst (λ f. (if other == file_of pass.call then 1 else 0) ≡ one_if (other == f) + (if other == file_of pass.call then 0 else 0)) (sym may.2) (choice (other == file_of pass.call))
+    owed : (other : Word) → lock_held sizes (stepped sizes number history (Takes (STORE file)) found pass) (Copying may.0 may.1) other ≡ one_if (same other (STORE file)) + lock_held sizes pass (Fetching may.0 may.1) other
+    owed (STORE other) = subst (λ f. (if other == file_of pass.call then 1 else 0) ≡ one_if (other == f) + (if other == file_of pass.call then 0 else 0)) (sym may.3) (choice (other == file_of pass.call))
       where
         choice : (b : Bool) → one_if b ≡ one_if b + (if b then 0 else 0)
         choice true = refl
         choice false = refl
     owed (PAGE page) = no_more _
     owed (SIZE other) = no_more _
+    owed (CLEANUP page) = no_more _
+    owed other = refl
+lock_takes sizes pass (CLEANUP page) found number history stands held may =
+    if_both (HoldsLocks sizes now) (found == 0) (Fetching page true) (leaving pass.hands)
+    (λ e. taken sizes pass now (Waiting page) (Fetching page true) (CLEANUP page) (took sizes pass (CLEANUP page) found number history e) owed (at_stage sizes pass (Waiting page) may held))
+    (missed sizes pass (CLEANUP page) found number history)
+  where
+    now : Pass
+    now = stepped sizes number history (Takes (CLEANUP page)) found pass
+
+    owed : (other : Word) → lock_held sizes (stepped sizes number history (Takes (CLEANUP page)) found pass) (Fetching page true) other ≡ one_if (same other (CLEANUP page)) + lock_held sizes pass (Waiting page) other
+    owed (CLEANUP other) = more_none _
+    owed (PAGE other) = no_more _
+    owed (SIZE file) = no_more _
+    owed (STORE file) = no_more _
     owed other = refl
 lock_takes sizes pass cell found number history stands held may = absurd may
 
@@ -267,8 +305,8 @@ lock_gives sizes pass (SIZE file) found number history Releasing at held may =
     owed other = refl
 lock_gives sizes pass (PAGE page) found number history (Giving next) at held may =
     if_both (HoldsLocks sizes now) (next + 1 == end_page sizes pass.call) Idle (Giving (next + 1))
-    (λ last. given sizes pass now (Giving next) Idle (PAGE page) refl some (owed Idle (λ p. less p ∙ ap (λ n. one_if (p == next) + n) (none p last)) refl refl) held)
-    (λ _. given sizes pass now (Giving next) (Giving (next + 1)) (PAGE page) refl some (owed (Giving (next + 1)) less refl refl) held)
+    (λ last. given sizes pass now (Giving next) Idle (PAGE page) refl some (owed Idle (λ p. less p ∙ ap (λ n. one_if (p == next) + n) (none p last)) refl refl (λ p. refl)) held)
+    (λ _. given sizes pass now (Giving next) (Giving (next + 1)) (PAGE page) refl some (owed (Giving (next + 1)) less refl refl (λ p. refl)) held)
   where
     now : Pass
     now = stepped sizes number history (Gives (PAGE page)) found pass
@@ -286,14 +324,17 @@ lock_gives sizes pass (PAGE page) found number history (Giving next) at held may
     some = (let a = held (PAGE page) (λ slot. differ (PAGE page) (ENTRY slot) refl) in let b = subst (λ p. one_if (is_among next (end_page sizes pass.call) p) ≡ 1) (sym may) (among_in next (end_page sizes pass.call) next (omega arith) at.1) in omega (arith, a, b))
 
     owed : (stage : Stage) → ((p : ℕ) → one_if (is_among next (end_page sizes pass.call) p) ≡ one_if (p == next) + page_held sizes (stepped sizes number history (Gives (PAGE page)) found pass) stage p)
-        → size_held (stepped sizes number history (Gives (PAGE page)) found pass) stage ≡ 0 → store_held stage ≡ 0
+        → size_held (stepped sizes number history (Gives (PAGE page)) found pass) stage ≡ 0 → store_held stage ≡ 0 → ((p : ℕ) → cleanup_held stage p ≡ 0)
         → (other : Word) → lock_held sizes pass (Giving next) other ≡ one_if (same other (PAGE page)) + lock_held sizes (stepped sizes number history (Gives (PAGE page)) found pass) stage other
-    owed stage pages size store (PAGE p) = subst (λ q. one_if (is_among next (end_page sizes pass.call) p) ≡ one_if (p == q) + page_held sizes (stepped sizes number history (Gives (PAGE page)) found pass) stage p) (sym may) (pages p)
-    owed stage pages size store (SIZE file) = ap (λ n. if file == file_of pass.call then n else 0) (sym size) ∙ no_more _
-    owed stage pages size store (STORE file) = ap (λ n. if file == file_of pass.call then n else 0) (sym store) ∙ no_more _
-    owed stage pages size store other = refl
-lock_gives sizes pass (STORE file) found number history (Returning page) at held may =
-    given sizes pass now (Returning page) (Reading (page + 1)) (STORE file) refl some owed held
+    owed stage pages size store clean (PAGE p) = subst (λ q. one_if (is_among next (end_page sizes pass.call) p) ≡ one_if (p == q) + page_held sizes (stepped sizes number history (Gives (PAGE page)) found pass) stage p) (sym may) (pages p)
+    owed stage pages size store clean (SIZE file) = ap (λ n. if file == file_of pass.call then n else 0) (sym size) ∙ no_more _
+    owed stage pages size store clean (STORE file) = ap (λ n. if file == file_of pass.call then n else 0) (sym store) ∙ no_more _
+    owed stage pages size store clean (CLEANUP p) = sym (clean p) ∙ no_more _
+    owed stage pages size store clean other = refl
+lock_gives sizes pass (STORE file) found number history (Returning page dirty) at held may =
+    if_both (HoldsLocks sizes now) dirty (Bounding page) (Reading (page + 1))
+    (λ e. given sizes pass now (Returning page dirty) (Bounding page) (STORE file) refl some (owed (Bounding page) (λ p. refl) refl refl (λ p. ap (λ b. one_if (b && p == page)) e)) held)
+    (λ e. given sizes pass now (Returning page dirty) (Reading (page + 1)) (STORE file) refl some (owed (Reading (page + 1)) (λ p. refl) refl refl (λ p. ap (λ b. one_if (b && p == page)) e)) held)
   where
     now : Pass
     now = stepped sizes number history (Gives (STORE file)) found pass
@@ -301,14 +342,33 @@ lock_gives sizes pass (STORE file) found number history (Returning page) at held
     some : 1 ≤ times (STORE file) pass.hands
     some = (let a = held (STORE file) (λ slot. differ (STORE file) (ENTRY slot) refl) in let b : one_if (file == file_of pass.call) ≡ 1 = when_true (file == file_of pass.call) 1 0 (eq-eqb file (file_of pass.call) may) in omega (arith, a, b))
 
-    owed : (other : Word) → lock_held sizes pass (Returning page) other ≡ one_if (same other (STORE file)) + lock_held sizes (stepped sizes number history (Gives (STORE file)) found pass) (Reading (page + 1)) other
-    owed (STORE other) = subst (λ f. (if other == file_of pass.call then 1 else 0) ≡ one_if (other == f) + (if other == file_of pass.call then 0 else 0)) (sym may) (choice (other == file_of pass.call))
+    owed : (next : Stage) → ((p : ℕ) → one_if (is_among (first_page sizes pass.call) (end_page sizes pass.call) p) ≡ page_held sizes (stepped sizes number history (Gives (STORE file)) found pass) next p)
+        → one_if pass.sized ≡ size_held (stepped sizes number history (Gives (STORE file)) found pass) next → 0 ≡ store_held next → ((p : ℕ) → one_if (dirty && p == page) ≡ cleanup_held next p)
+        → (other : Word) → lock_held sizes pass (Returning page dirty) other ≡ one_if (same other (STORE file)) + lock_held sizes (stepped sizes number history (Gives (STORE file)) found pass) next other
+    owed next pages size store clean (STORE other) = subst (λ n. (if other == file_of pass.call then 1 else 0) ≡ one_if (other == file) + (if other == file_of pass.call then n else 0)) store
+        (subst (λ f. (if other == file_of pass.call then 1 else 0) ≡ one_if (other == f) + (if other == file_of pass.call then 0 else 0)) (sym may) (choice (other == file_of pass.call)))
       where
         choice : (b : Bool) → one_if b ≡ one_if b + (if b then 0 else 0)
         choice true = refl
         choice false = refl
-    owed (PAGE page) = no_more _
-    owed (SIZE other) = no_more _
+    owed next pages size store clean (PAGE p) = pages p ∙ no_more _
+    owed next pages size store clean (SIZE other) = ap (λ n. if other == file_of pass.call then n else 0) size ∙ no_more _
+    owed next pages size store clean (CLEANUP p) = clean p ∙ no_more _
+    owed next pages size store clean other = refl
+lock_gives sizes pass (CLEANUP page) found number history (Unlocking next) at held may =
+    given sizes pass now (Unlocking next) (Reading (next + 1)) (CLEANUP page) refl some owed held
+  where
+    now : Pass
+    now = stepped sizes number history (Gives (CLEANUP page)) found pass
+
+    some : 1 ≤ times (CLEANUP page) pass.hands
+    some = (let a = held (CLEANUP page) (λ slot. differ (CLEANUP page) (ENTRY slot) refl) in let b : one_if (page == next) ≡ 1 = when_true (page == next) 1 0 (eq-eqb page next may) in omega (arith, a, b))
+
+    owed : (other : Word) → lock_held sizes pass (Unlocking next) other ≡ one_if (same other (CLEANUP page)) + lock_held sizes (stepped sizes number history (Gives (CLEANUP page)) found pass) (Reading (next + 1)) other
+    owed (CLEANUP other) = ap (λ p. one_if (other == p)) (sym may) ∙ more_none _
+    owed (PAGE other) = no_more _
+    owed (SIZE file) = no_more _
+    owed (STORE file) = no_more _
     owed other = refl
 lock_gives sizes pass cell found number history stage at held may = absurd (gives_one pass cell stage may)
 
@@ -325,17 +385,18 @@ lock_steps sizes values pass (Places reply) found number history stands held may
     now : Pass
     now = stepped sizes number history (Places reply) found pass
 
-    from : (stage : Stage) → MayPlace sizes values pass reply stage → HoldsLocks sizes pass stage → Holds sizes pass Checking pass.hands
+    from : (stage : Stage) → MayPlace sizes values pass reply stage → HoldsLocks sizes pass stage → HoldsAt sizes pass Checking pass.hands
     from Placing may held = held
     from (Reading page) may held = held
     from stage may held = absurd may
 
-    full : Holds sizes pass Checking pass.hands
+    full : HoldsAt sizes pass Checking pass.hands
     full = from pass.stage may held
 lock_steps sizes values pass Stops found number history stands held may = stops pass.stage may held
   where
     stops : (stage : Stage) → IsFailing stage → HoldsLocks sizes pass stage → HoldsLocks sizes (stepped sizes number history Stops found pass) (after_stop pass stage)
-    stops ReadFailing is held = out sizes (stepped sizes number history Stops found pass) pass.hands refl
+    stops (ReadFailing page dirty) is held = out sizes (stepped sizes number history Stops found pass) pass.hands refl
+    stops (PieceFailing page next) is held = held
     stops WriteFailing is held = held
     stops stage is held = absurd is
 lock_steps sizes values pass Draws found number history stands held may =
@@ -360,4 +421,13 @@ lock_steps sizes values pass (Breaks next) found number history stands held may 
     let full = entry_given sizes pass now Checking (slot_of sizes next) refl (at_stage sizes pass (Breaking next) may held) in
     if_both (HoldsLocks sizes now) (next + 1 == pass.first + pass.entries) (leaving (without (ENTRY (slot_of sizes next)) pass.hands)) (Breaking (next + 1))
     (λ _. out sizes now (without (ENTRY (slot_of sizes next)) pass.hands) refl) (λ _. full)
+lock_steps sizes values pass (Holds next) found number history stands held may =
+    let now = stepped sizes number history (Holds next) found pass in
+    subst (λ s. HoldsLocks sizes now (after_hold s)) (sym may.1) (entry_taken sizes pass now (Grasping may.0 next) (slot_of sizes next) refl (at_stage sizes pass (Grasping may.0 next) may.1 held))
+lock_steps sizes values pass (Returns next) found number history stands held may =
+    let now = stepped sizes number history (Returns next) found pass in
+    subst (λ s. HoldsLocks sizes now (after_return sizes pass s)) (sym may.2)
+    (if_both (HoldsLocks sizes now) may.1 (leaving (without (ENTRY (slot_of sizes next)) pass.hands)) (scanning pass may.0 (next + 1))
+    (λ _. out sizes now (without (ENTRY (slot_of sizes next)) pass.hands) refl)
+    (λ _. scan_locks sizes pass now may.0 (next + 1) (entry_given sizes pass now (Restoring may.0 next may.1) (slot_of sizes next) refl (at_stage sizes pass (Restoring may.0 next may.1) may.2 held))))
 lock_steps sizes values pass deed found number history stands held may = absurd may

@@ -2,8 +2,8 @@
 use Rattle.std.proofs.Common.{◌≡◌, ◌≢◌, ℕ, ◌≤◌, ◌==◌, Bool, true, false, List, [], ◌∷◌, length, refl, sym, ap, subst, arith}
 use Rattle.std.proofs.lemmas.Bool.{true≢false}
 use Rattle.nv_plain.specs.declared.call.FileCall.{FileCall}
-use Rattle.nv_core.specs.Words.{Sizes, Word, STOP, STORE, ENTRY, PAGE}
-use Rattle.nv_core.specs.Passes.{Stage, ReadFailing, WriteFailing, Fault, Pass, IsOneOf, times}
+use Rattle.nv_core.specs.Words.{Sizes, Word, STOP, STORE, ENTRY, PAGE, CLEANUP}
+use Rattle.nv_core.specs.Passes.{Stage, ReadFailing, WriteFailing, Fault, Pass, IsOneOf, times, PieceFailing}
 use Rattle.nv_core.specs.Deeds.{Deed, Loads, Stops, Splits, Leaves, Joins}
 use Rattle.nv_core.specs.Stepped.{stopped_after, begun}
 use Rattle.nv_core.specs.Order.{Values, Work, MayWork, IsFailing}
@@ -58,14 +58,16 @@ once_here sizes by core found Splits broken may = omega arith
 once_here sizes by core found Stops broken may = let none = ap length (broken.passed by (failing (core.passes by).stage may)) in omega (arith, none)
   where
     failing : (stage : Stage) → IsFailing stage → HasChecked stage
-    failing ReadFailing may = tt
+    failing (ReadFailing page dirty) may = tt
+    failing (PieceFailing page next) may = tt
     failing WriteFailing may = tt
     failing stage may = absurd may
 once_here sizes by core found deed broken may = broken.once by
 
 -- a pass that fails holds its pages
 failing_page : (sizes : Sizes) (pass : Pass) (page : ℕ) (stage : Stage) → IsFailing stage → HoldsLocks sizes pass stage → IsPage sizes pass.call page → times (PAGE page) pass.hands ≡ 1
-failing_page sizes pass page ReadFailing may held is = holds_page sizes pass page is (held (PAGE page) (λ slot. differ (PAGE page) (ENTRY slot) refl))
+failing_page sizes pass page (ReadFailing other dirty) may held is = holds_page sizes pass page is (held (PAGE page) (λ slot. differ (PAGE page) (ENTRY slot) refl))
+failing_page sizes pass page (PieceFailing other next) may held is = holds_page sizes pass page is (held (PAGE page) (λ slot. differ (PAGE page) (ENTRY slot) refl))
 failing_page sizes pass page WriteFailing may held is = holds_page sizes pass page is (held (PAGE page) (λ slot. differ (PAGE page) (ENTRY slot) refl))
 failing_page sizes pass page stage may held is = absurd may
 
@@ -74,7 +76,7 @@ abbrev Bars : Sizes → Fault → Word → Type 0
 Bars sizes fault cell = (page : ℕ) × (cell ≡ PAGE page) × IsPage sizes fault.call page
 
 early : (sizes : Sizes) (fault : Fault) (cell : Word) → Bars sizes fault cell → IsTakenBefore cell
-early sizes fault cell is = subst IsTakenBefore (sym is.1) record { store = λ file. differ (PAGE is.0) (STORE file) refl; entry = λ slot. differ (PAGE is.0) (ENTRY slot) refl }
+early sizes fault cell is = subst IsTakenBefore (sym is.1) record { store = λ file. differ (PAGE is.0) (STORE file) refl; cleanup = λ page. differ (PAGE is.0) (CLEANUP page) refl; entry = λ slot. differ (PAGE is.0) (ENTRY slot) refl }
 
 were_barred : (sizes : Sizes) (core : Core) → Broken sizes core → (n m : ℕ) (cell : Word) (fault : Fault) → IsOneOf (core.passes n).faulted fault → Bars sizes fault cell → HasChecked (core.passes m).stage → times cell (core.passes m).hands ≡ 0
 were_barred sizes core broken n m cell fault is at checked = subst (λ c. times c (core.passes m).hands ≡ 0) (sym at.1) (broken.pages n m at.0 fault is at.2 checked)

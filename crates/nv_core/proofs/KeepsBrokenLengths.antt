@@ -3,8 +3,8 @@ use Rattle.std.proofs.Common.{◌≡◌, ℕ, ◌+◌, nat_lt, true, refl, sym, 
 use Rattle.std.proofs.lemmas.Bool.{and_from, lt-ltb, true≢false}
 use Rattle.nv_plain.specs.declared.call.FileCall.{FileCall}
 use Rattle.nv_plain.specs.declared.call.FileCall.TheVariants.{Read, Write, Sync}
-use Rattle.nv_core.specs.Words.{Sizes, Word, SIZE, STORE, ENTRY}
-use Rattle.nv_core.specs.Passes.{Fault, Stage, ReadFailing, WriteFailing, IsOneOf, file_of, at_of, len_of, is_write, times}
+use Rattle.nv_core.specs.Words.{Sizes, Word, SIZE, STORE, ENTRY, CLEANUP}
+use Rattle.nv_core.specs.Passes.{Fault, Stage, ReadFailing, WriteFailing, IsOneOf, file_of, at_of, len_of, is_write, times, PieceFailing}
 use Rattle.nv_core.specs.Deeds.{Deed}
 use Rattle.nv_core.specs.Stepped.{fault_of}
 use Rattle.nv_core.specs.Order.{Values, Work, MayWork, IsFailing}
@@ -23,7 +23,7 @@ abbrev Bars : Fault → Word → Type 0
 Bars fault cell = (cell ≡ SIZE (file_of fault.call)) × IsExtending fault
 
 early : (fault : Fault) (cell : Word) → Bars fault cell → IsTakenBefore cell
-early fault cell is = subst IsTakenBefore (sym is.0) record { store = λ file. differ (SIZE (file_of fault.call)) (STORE file) refl; entry = λ slot. differ (SIZE (file_of fault.call)) (ENTRY slot) refl }
+early fault cell is = subst IsTakenBefore (sym is.0) record { store = λ file. differ (SIZE (file_of fault.call)) (STORE file) refl; cleanup = λ page. differ (SIZE (file_of fault.call)) (CLEANUP page) refl; entry = λ slot. differ (SIZE (file_of fault.call)) (ENTRY slot) refl }
 
 were_barred : (core : Core) → BrokenLengths core → (n m : ℕ) (cell : Word) (fault : Fault) → IsOneOf (core.passes n).faulted fault → Bars fault cell → HasChecked (core.passes m).stage → times cell (core.passes m).hands ≡ 0
 were_barred core was n m cell fault is at checked = subst (λ c. times c (core.passes m).hands ≡ 0) (sym at.0) (was.files n m fault is at.1 checked)
@@ -35,7 +35,8 @@ some_bytes (Read file at len) write = absurd (true≢false (sym write))
 some_bytes (Sync file) write = absurd (true≢false (sym write))
 
 failing_measured : (stage : Stage) → IsFailing stage → HasMeasured stage
-failing_measured ReadFailing fails = tt
+failing_measured (ReadFailing page dirty) fails = tt
+failing_measured (PieceFailing page next) fails = tt
 failing_measured WriteFailing fails = tt
 failing_measured stage fails = absurd fails
 

@@ -1,10 +1,10 @@
 -- Each event keeps the dirty counters.
-use Rattle.std.proofs.Common.{◌≡◌, ◌≢◌, ◌⊎◌, ◌↔◌, ℕ, ◌+◌, ◌<◌, ◌≤◌, ◌==◌, nat_lt, nat_le, ◌&&◌, ◌||◌, Bool, true, false, if◌then◌else◌, List, ◌∷◌, length, inl, inr, refl, sym, ap, subst, ◌∙◌, arith}
+use Rattle.std.proofs.Common.{◌≡◌, ◌≢◌, ◌⊎◌, ◌↔◌, ℕ, ◌+◌, ◌<◌, ◌≤◌, ◌==◌, nat_lt, nat_le, ◌&&◌, ◌||◌, Bool, true, false, if◌then◌else◌, List, ◌∷◌, length, inl, inr, refl, sym, ap, subst, ◌∙◌, arith, ◌-◌}
 use Rattle.std.proofs.lemmas.Bool.{eqb-true, eqb-false, eq-eqb, ne_eqb, le-leb, lt-ltb, leb-true, ltb-true, and_parts, and_from, and_left, or_cases, cases_eq, cases_lt, cases_Bool}
 use Rattle.nv_plain.specs.declared.call.FileCall.{FileCall}
-use Rattle.nv_core.specs.Words.{Sizes, Word, PAGE, ENTRY, DIRTY, index, kind_of, page_of, ready, held, filling, broken, entry_word}
-use Rattle.nv_core.specs.Passes.{Stage, Locking, Checking, Copying, Seizing, Committing, Pledging, Readying, Placing, ReadFailing, WriteFailing, Breaking, Pass, without, IsUnseized, IsFilling, IsAmong, IsAllowed, page_count, first_page, end_page, times}
-use Rattle.nv_core.specs.Deeds.{Deed, slot_of, page_at, ready_word, Loads, Takes, Gives, Places, Stops, Draws, Seizes, Pledges, Readies, Grows, Breaks, Splits, Leaves, Joins}
+use Rattle.nv_core.specs.Words.{Sizes, Word, PAGE, ENTRY, DIRTY, index, kind_of, page_of, ready, held, filling, broken, entry_word, is_entry_of}
+use Rattle.nv_core.specs.Passes.{Stage, Locking, Checking, Copying, Seizing, Committing, Pledging, Readying, Placing, ReadFailing, WriteFailing, Breaking, Pass, without, IsUnseized, IsFilling, IsAmong, IsAllowed, page_count, first_page, end_page, times, Patching, PieceFailing}
+use Rattle.nv_core.specs.Deeds.{Deed, slot_of, page_at, ready_word, Loads, Takes, Gives, Places, Stops, Draws, Seizes, Pledges, Readies, Grows, Breaks, Splits, Leaves, Joins, Holds, Returns}
 use Rattle.nv_core.specs.Values.{Ending, Made, Failed}
 use Rattle.nv_core.specs.Stages.{leaving, after_stop}
 use Rattle.nv_core.specs.Stepped.{stepped, begun}
@@ -17,19 +17,20 @@ use Rattle.nv_core.specs.Events.{MayFind, MayBegin}
 use Rattle.nv_core.specs.Standing.{StandsAt, IsPage, HasDrawn}
 use Rattle.nv_core.specs.Holding.{one_if, is_among, HoldsLocks}
 use Rattle.nv_core.specs.Locks.{Locks}
-use Rattle.nv_core.specs.LogWindow.{Fills}
+use Rattle.nv_core.specs.LogWindow.{Fills, InWindow, entry_at}
 use Rattle.nv_core.specs.DirtyCounters.{is_of_page, entries_of, number_on, pledged, DirtyCounters}
 use Rattle.nv_core.specs.Sound.{Sound}
 use Rattle.nv_core.proofs.Changes.{by_number, differ, number_here, number_else, word_here, word_else}
 use Rattle.nv_core.proofs.Choices.{if_both, when_true, when_false, busy}
 use Rattle.nv_core.proofs.LockLaws.{only_holder, times_without_else}
-use Rattle.nv_core.proofs.WindowLaws.{OneEntry}
+use Rattle.nv_core.proofs.WindowLaws.{OneEntry, slot_within}
 use Rattle.nv_core.proofs.HoldingLaws.{among_in, among_below, among_above, among_more}
 use Rattle.nv_core.proofs.WordLaws.{untouched, touches}
 use Rattle.nv_core.proofs.TotalLaws.{total_same, total_at}
 use Rattle.nv_core.proofs.KeepsWindow.{readies_one, pledged_alike}
-use Rattle.nv_core.proofs.KeepsLocks.{kind_is, locks_step, readying_next}
+use Rattle.nv_core.proofs.KeepsLocks.{kind_is, locks_step, readying_next, entry_is}
 use Rattle.nv_core.proofs.KeepsLoaded.{held_by_one, holds_page, pledged_page}
+use Rattle.nv_core.specs.Loaded.{Looks}
 
 -- a page's lock is 0 or held by one pass
 page_held : (core : Core) → Locks core → (page : ℕ) → (core.words (PAGE page) ≡ 0) ⊎ ((n : ℕ) × (times (PAGE page) (core.passes n).hands ≡ 1))
@@ -227,6 +228,27 @@ entry_of_none sizes words slot value page less was is =
     let e = entries_at sizes words slot value page less in
     let a : one_if (is_of_page page (words (ENTRY slot))) ≡ 0 = when_false _ 1 0 was in let b : one_if (is_of_page page value) ≡ 0 = when_false _ 1 0 is in omega (arith, e, a, b)
 
+-- ---- one entry that is held or returned stays of its page
+
+entry_same : (sizes : Sizes) (words : Word → ℕ) (slot value page : ℕ) → slot < sizes.entries → is_of_page page (words (ENTRY slot)) ≡ is_of_page page value → entries_of sizes (with_word words (ENTRY slot) value) page ≡ entries_of sizes words page
+entry_same sizes words slot value page less same = let e = entries_at sizes words slot value page less in let a : one_if (is_of_page page (words (ENTRY slot))) ≡ one_if (is_of_page page value) = ap one_if same in omega (arith, e, a)
+
+of_ready : (page word : ℕ) → kind_of word ≡ ready → is_of_page page word ≡ (page_of word == page)
+of_ready page word is = ap (λ k. (k == ready || k == held) && page_of word == page) is
+
+of_held : (page word : ℕ) → kind_of word ≡ held → is_of_page page word ≡ (page_of word == page)
+of_held page word is = ap (λ k. (k == ready || k == held) && page_of word == page) is
+
+hold_same : (page word : ℕ) → kind_of word ≡ ready → is_of_page page word ≡ is_of_page page (word + 1)
+hold_same page word is =
+    let up : kind_of (word + 1) ≡ held = omega (arith, is) in let at : page_of word ≡ page_of (word + 1) = omega (arith, is) in
+    of_ready page word is ∙ ap (λ p. p == page) at ∙ sym (of_held page (word + 1) up)
+
+return_same : (page word : ℕ) → kind_of word ≡ held → is_of_page page word ≡ is_of_page page (word - 1)
+return_same page word is =
+    let down : kind_of (word - 1) ≡ ready = omega (arith, is) in let at : page_of word ≡ page_of (word - 1) = omega (arith, is) in
+    of_held page word is ∙ ap (λ p. p == page) at ∙ sym (of_ready page (word - 1) down)
+
 slot_less : (sizes : Sizes) (pass : Pass) (number : ℕ) → HasDrawn sizes pass.call pass.entries → IsAllowed sizes pass.call → slot_of sizes number < sizes.entries
 slot_less sizes pass number drawn allowed = mod_below number sizes.entries (let a = few_entries sizes pass.call pass.entries drawn allowed in let b = drawn.some in omega (arith, a, b))
 
@@ -390,7 +412,8 @@ readies_step sizes first by core found next sound dirty may = record {
 -- ---- all steps
 
 stopped_unpledged : (pass : Pass) (stage : Stage) → IsFailing stage → IsUnpledged stage × IsUnpledged (after_stop pass stage)
-stopped_unpledged pass ReadFailing is = (tt, unpledged_leaving pass.hands)
+stopped_unpledged pass (ReadFailing page dirty) is = (tt, unpledged_leaving pass.hands)
+stopped_unpledged pass (PieceFailing page next) is = (tt, tt)
 stopped_unpledged pass WriteFailing is = (tt, tt)
 stopped_unpledged pass stage is = absurd is
 
@@ -421,6 +444,18 @@ dirty_step sizes first by core (Breaks next) found sound dirty may =
     (ap (is_of_page page) (sound.window.filling_is by next fills) ∙ not_of_page page 1 (λ e. omega (arith, e)) (λ e. omega (arith, e))) (not_of_page page 5 (λ e. omega (arith, e)) (λ e. omega (arith, e))))
     (subst IsUnpledged (sym may.may) tt) (if_both IsUnpledged (next + 1 == (core.passes by).first + (core.passes by).entries) (leaving (without (ENTRY (slot_of sizes next)) (core.passes by).hands)) (Breaking (next + 1))
     (λ _. unpledged_leaving (without (ENTRY (slot_of sizes next)) (core.passes by).hands)) (λ _. tt))
+dirty_step sizes first by core (Holds next) found sound dirty may =
+    let looks : InWindow core next × (is_entry_of ready may.may.0 (entry_at sizes core next) ≡ true) = subst (Looks sizes core) may.may.1 (sound.loaded.looks by) in
+    let kind = (entry_is ready may.may.0 (entry_at sizes core next) looks.1).0 in
+    silent_step sizes first by core (Holds next) found sound dirty may (λ page. refl)
+    (λ page. entry_same sizes core.words (slot_of sizes next) (found + 1) page (slot_within sizes core next sound.window looks.0) (ap (is_of_page page) may.is ∙ hold_same page found (ap kind_of (sym may.is) ∙ kind)))
+    (clear_unpledged _ (clear_from sizes core.values (core.passes by) (Holds next) tt may.may)) (clear_unpledged _ (clear_to sizes core.values (core.passes by) (Holds next) found tt may.may))
+dirty_step sizes first by core (Returns next) found sound dirty may =
+    let looks : InWindow core next × (is_entry_of held may.may.0 (entry_at sizes core next) ≡ true) = subst (Looks sizes core) may.may.2 (sound.loaded.looks by) in
+    let kind = (entry_is held may.may.0 (entry_at sizes core next) looks.1).0 in
+    silent_step sizes first by core (Returns next) found sound dirty may (λ page. refl)
+    (λ page. entry_same sizes core.words (slot_of sizes next) (found - 1) page (slot_within sizes core next sound.window looks.0) (ap (is_of_page page) may.is ∙ return_same page found (ap kind_of (sym may.is) ∙ kind)))
+    (clear_unpledged _ (clear_from sizes core.values (core.passes by) (Returns next) tt may.may)) (clear_unpledged _ (clear_to sizes core.values (core.passes by) (Returns next) found tt may.may))
 dirty_step sizes first by core Splits found sound dirty may = silent_step sizes first by core Splits found sound dirty may (λ page. refl) (same_entries sizes by core Splits found may (λ slot. refl))
     (subst IsUnpledged (sym (sound.numbers.unborn (core.made + 1) (omega arith)).idle) tt) tt
 dirty_step sizes first by core (Leaves cell) found sound dirty may = dirty_still sizes core (after_step sizes by (Leaves cell) found core) dirty (λ word. untouched sizes by core (Leaves cell) found may word refl)
@@ -454,6 +489,8 @@ dirty_work sizes first by core work dirty may = dirty_still sizes core (after_wo
           | inr above ↦ among_above (first_page sizes (core.passes by).call) (first_page sizes (core.passes by).call) page above
         ]) (λ _. refl)
     works page (Committing calls) (Failed came faults) due = refl
-    works page (Copying next) Made due = refl
-    works page (Copying next) (Failed came faults) due = refl
+    works page (Copying next dirty) Made due = refl
+    works page (Copying next dirty) (Failed came faults) due = refl
+    works page (Patching next number) Made due = refl
+    works page (Patching next number) (Failed came faults) due = refl
     works page stage how due = absurd due

@@ -1,22 +1,25 @@
 -- Each event keeps what ENTRY words say.
-use Rattle.std.proofs.Common.{◌≡◌, ℕ, ◌+◌, ◌-◌, ◌*◌, ◌/◌, ◌<◌, ◌≤◌, ◌==◌, true, if◌then◌else◌, zero, suc, refl, sym, subst, arith, mul_comm}
+use Rattle.std.proofs.Common.{◌≡◌, ℕ, ◌+◌, ◌-◌, ◌*◌, ◌/◌, ◌<◌, ◌≤◌, ◌==◌, true, if◌then◌else◌, zero, suc, refl, sym, subst, arith, mul_comm, ap, ◌∙◌}
 use Rattle.std.proofs.lemmas.Bool.{ltb-true, eqb-true, true≢false}
 use Rattle.std.proofs.lemmas.Nat.{div_below}
 use Rattle.nv_plain.specs.declared.call.FileCall.{FileCall}
 use Rattle.nv_plain.specs.declared.call.FileCall.TheVariants.{Read, Write, Sync}
-use Rattle.nv_core.specs.Words.{Sizes, ENTRY, same, page_total, filling, broken, ready}
+use Rattle.nv_core.specs.Words.{Sizes, ENTRY, same, page_total, filling, broken, ready, held, kind_of, is_entry_of}
 use Rattle.nv_core.specs.Passes.{IsAmong, IsAllowed, is_write, at_of, len_of, file_of, page_count, end_page}
-use Rattle.nv_core.specs.Deeds.{Deed, slot_of, page_at, ready_word, Seizes, Readies, Breaks}
+use Rattle.nv_core.specs.Deeds.{Deed, slot_of, page_at, ready_word, Seizes, Readies, Breaks, Holds, Returns}
 use Rattle.nv_core.specs.Order.{Values}
 use Rattle.nv_core.specs.Core.{Core, with_word, after_step}
 use Rattle.nv_core.specs.Events.{MayFind}
 use Rattle.nv_core.specs.Standing.{StandsAt, HasDrawn}
-use Rattle.nv_core.specs.EntryWords.{IsEntryWord, IsFilled, IsBroken, IsReady, EntryWords}
+use Rattle.nv_core.specs.EntryWords.{IsEntryWord, IsFilled, IsBroken, IsReady, EntryWords, IsFree}
 use Rattle.nv_core.specs.Sound.{Sound}
 use Rattle.nv_core.proofs.Choices.{if_both, busy}
 use Rattle.nv_core.proofs.SlotLaws.{more}
 use Rattle.nv_core.proofs.PageLaws.{div_more}
 use Rattle.nv_core.proofs.WordLaws.{untouched}
+use Rattle.nv_core.specs.LogWindow.{InWindow, entry_at}
+use Rattle.nv_core.specs.Loaded.{Looks}
+use Rattle.nv_core.proofs.KeepsLocks.{entry_is}
 
 -- a write has a byte
 some_bytes : (call : FileCall) → is_write call ≡ true → 1 ≤ len_of call
@@ -45,6 +48,19 @@ pages_within sizes call allowed some =
 changed_word : (sizes : Sizes) (core : Core) (at value : ℕ) → EntryWords sizes core.words → IsEntryWord sizes value → (slot : ℕ) → IsEntryWord sizes (with_word core.words (ENTRY at) value (ENTRY slot))
 changed_word sizes core at value words is slot = if_both (IsEntryWord sizes) (same (ENTRY slot) (ENTRY at)) value (core.words (ENTRY slot)) (λ _. is) (λ _. words.each slot)
 
+-- a ready word, and the same word held
+hold_word : (sizes : Sizes) (word : ℕ) → IsEntryWord sizes word → kind_of word ≡ ready → IsEntryWord sizes (word + 1)
+hold_word sizes word (IsFree e) is = absurd (omega (arith, e, is))
+hold_word sizes word (IsFilled e) is = absurd (omega (arith, e, is))
+hold_word sizes word (IsBroken e) is = absurd (omega (arith, e, is))
+hold_word sizes word (IsReady kind count page low high e few within) is = IsReady held count page (omega arith) (omega arith) (omega (arith, e, is, low, high)) few within
+
+return_word : (sizes : Sizes) (word : ℕ) → IsEntryWord sizes word → kind_of word ≡ held → IsEntryWord sizes (word - 1)
+return_word sizes word (IsFree e) is = absurd (omega (arith, e, is))
+return_word sizes word (IsFilled e) is = absurd (omega (arith, e, is))
+return_word sizes word (IsBroken e) is = absurd (omega (arith, e, is))
+return_word sizes word (IsReady kind count page low high e few within) is = IsReady ready count page (omega arith) (omega arith) (omega (arith, e, is, low, high)) few within
+
 pub words_step : (sizes : Sizes) (first : Values) (by : ℕ) (core : Core) (deed : Deed) (found : ℕ) → Sound sizes first core → EntryWords sizes core.words → MayFind sizes by core deed found → EntryWords sizes (after_step sizes by deed found core).words
 words_step sizes first by core (Seizes next) found sound words may = record { each = λ slot. changed_word sizes core (slot_of sizes next) filling words (IsFilled refl) slot }
 words_step sizes first by core (Breaks next) found sound words may = record { each = λ slot. changed_word sizes core (slot_of sizes next) broken words (IsBroken refl) slot }
@@ -57,5 +73,17 @@ words_step sizes first by core (Readies next) found sound words may =
           (IsReady ready (if next == (core.passes by).first then (core.passes by).entries else 0) (page_at sizes (core.passes by) next) (omega arith) (omega arith) refl
           (if_both (λ c. c ≤ 16) (next == (core.passes by).first) (core.passes by).entries 0 (λ _. let m = at.0.many in let a : page_count sizes (core.passes by).call ≤ 16 = (let b = allowed.short in omega (arith, b)) in omega (arith, m, a)) (λ _. omega arith))
           (let x = at.1.0 in let y = at.1.1 in let m = at.0.many in omega (arith, x, y, m, most))) slot;
+    }
+words_step sizes first by core (Holds next) found sound words may =
+    let looks : InWindow core next × (is_entry_of ready may.may.0 (entry_at sizes core next) ≡ true) = subst (Looks sizes core) may.may.1 (sound.loaded.looks by) in
+    record {
+      each = λ slot. changed_word sizes core (slot_of sizes next) (found + 1) words
+          (hold_word sizes found (subst (IsEntryWord sizes) may.is (words.each (slot_of sizes next))) (ap kind_of (sym may.is) ∙ (entry_is ready may.may.0 (entry_at sizes core next) looks.1).0)) slot;
+    }
+words_step sizes first by core (Returns next) found sound words may =
+    let looks : InWindow core next × (is_entry_of held may.may.0 (entry_at sizes core next) ≡ true) = subst (Looks sizes core) may.may.2 (sound.loaded.looks by) in
+    record {
+      each = λ slot. changed_word sizes core (slot_of sizes next) (found - 1) words
+          (return_word sizes found (subst (IsEntryWord sizes) may.is (words.each (slot_of sizes next))) (ap kind_of (sym may.is) ∙ (entry_is held may.may.0 (entry_at sizes core next) looks.1).0)) slot;
     }
 words_step sizes first by core deed found sound words may = record { each = λ slot. subst (IsEntryWord sizes) (sym (untouched sizes by core deed found may (ENTRY slot) refl)) (words.each slot) }

@@ -4,8 +4,8 @@ use Rattle.std.proofs.lemmas.Bool.{cases_lt, leb-true, and_from, and_parts, le-l
 use Rattle.nv_plain.specs.declared.call.FileCall.{FileCall}
 use Rattle.nv_core.specs.Words.{Sizes, HEAD, TAIL}
 use Rattle.nv_core.specs.Values.{Ending, Made, Failed}
-use Rattle.nv_core.specs.Passes.{Stage, Locking, Checking, Copying, Seizing, Committing, Pledging, Readying, ReadFailing, WriteFailing, Breaking, Pass, IsAllowed, IsAmong, is_write, page_count, first_page}
-use Rattle.nv_core.specs.Deeds.{Deed, Loads, Takes, Gives, Places, Stops, Draws, Seizes, Pledges, Readies, Grows, Breaks, Splits, Leaves, Joins}
+use Rattle.nv_core.specs.Passes.{Stage, Locking, Checking, Copying, Seizing, Committing, Pledging, Readying, ReadFailing, WriteFailing, Breaking, Pass, IsAllowed, IsAmong, is_write, page_count, first_page, PieceFailing, Patching}
+use Rattle.nv_core.specs.Deeds.{Deed, Loads, Takes, Gives, Places, Stops, Draws, Seizes, Pledges, Readies, Grows, Breaks, Splits, Leaves, Joins, Holds, Returns}
 use Rattle.nv_core.specs.Stages.{stage_after, after_stop, leaving}
 use Rattle.nv_core.specs.Stepped.{begun}
 use Rattle.nv_core.specs.Order.{Values, Work, MayWork, IsDue, IsFailing, MayStep}
@@ -46,7 +46,8 @@ had sizes values pass found Grows ne may is = absurd (clear_group _ (clear_to si
 had sizes values pass found Stops ne may is = stops pass.stage may is
   where
     stops : (stage : Stage) → IsFailing stage → HasGroup (after_stop pass stage) → HasGroup stage
-    stops ReadFailing may is = absurd (clear_group (leaving pass.hands) (clear_leaving pass.hands) is)
+    stops (PieceFailing page next) may is = absurd is
+    stops (ReadFailing page dirty) may is = absurd (clear_group (leaving pass.hands) (clear_leaving pass.hands) is)
     stops WriteFailing may is = tt
     stops stage may is = absurd may
 had sizes values pass found Draws ne may is = absurd (not_both refl ne)
@@ -54,6 +55,8 @@ had sizes values pass found (Seizes next) ne may is = subst HasGroup (sym may) t
 had sizes values pass found (Pledges page) ne may is = subst HasGroup (sym may) tt
 had sizes values pass found (Readies next) ne may is = subst HasGroup (sym may) tt
 had sizes values pass found (Breaks next) ne may is = subst HasGroup (sym may) tt
+had sizes values pass found (Holds next) ne may is = absurd (clear_group _ (clear_to sizes values pass (Holds next) found tt may) is)
+had sizes values pass found (Returns next) ne may is = absurd (clear_group _ (clear_to sizes values pass (Returns next) found tt may) is)
 had sizes values pass found deed ne may is = absurd may
 
 -- ---- the window stays
@@ -208,6 +211,8 @@ groups_step sizes first by core log Draws found sound groups may = draw_step siz
 groups_step sizes first by core log Splits found sound groups may = step_same sizes first by core log Splits found sound groups may refl refl (λ is. absurd is)
 groups_step sizes first by core log (Leaves cell) found sound groups may = step_same sizes first by core log (Leaves cell) found sound groups may refl refl (λ is. (is, refl))
 groups_step sizes first by core log (Joins number) found sound groups may = step_same sizes first by core log (Joins number) found sound groups may refl refl (λ is. (is, refl))
+groups_step sizes first by core log (Holds next) found sound groups may = step_same sizes first by core log (Holds next) found sound groups may refl refl (λ is. (had sizes core.values (core.passes by) found (Holds next) refl may.may is, refl))
+groups_step sizes first by core log (Returns next) found sound groups may = step_same sizes first by core log (Returns next) found sound groups may refl refl (λ is. (had sizes core.values (core.passes by) found (Returns next) refl may.may is, refl))
 groups_step sizes first by core log (Loads word) found sound groups may = step_same sizes first by core log (Loads word) found sound groups may refl refl (λ is. (had sizes core.values (core.passes by) found (Loads word) refl may.may is, refl))
 groups_step sizes first by core log (Takes cell) found sound groups may = step_same sizes first by core log (Takes cell) found sound groups may refl refl (λ is. (had sizes core.values (core.passes by) found (Takes cell) refl may.may is, refl))
 groups_step sizes first by core log (Gives cell) found sound groups may = step_same sizes first by core log (Gives cell) found sound groups may refl refl (λ is. (had sizes core.values (core.passes by) found (Gives cell) refl may.may is, refl))
@@ -229,8 +234,10 @@ groups_begin sizes by core log call groups = groups_same sizes core (after_begin
 
 worked_had : (sizes : Sizes) (values : Values) (pass : Pass) (work : Work) (stage : Stage) (how : Ending) → IsDue sizes values pass work stage → HasGroup (stage_worked sizes pass how stage) → HasGroup stage
 worked_had sizes values pass work (Committing calls) how due is = tt
-worked_had sizes values pass work (Copying page) Made due is = absurd is
-worked_had sizes values pass work (Copying page) (Failed came faults) due is = absurd is
+worked_had sizes values pass work (Copying page dirty) Made due is = absurd is
+worked_had sizes values pass work (Copying page dirty) (Failed came faults) due is = absurd is
+worked_had sizes values pass work (Patching page number) Made due is = absurd is
+worked_had sizes values pass work (Patching page number) (Failed came faults) due is = absurd is
 worked_had sizes values pass work stage how due is = absurd due
 
 pub log_group : (pass : Pass) (how : Ending) (stage : Stage) (log : Log) → (log_worked pass how stage log).group ≡ log.group

@@ -9,14 +9,14 @@ use Rattle.nv_pmem.specs.Runs.{run}
 use Rattle.nv_pmem.specs.Steps.{Step, after_step as after_line_step}
 use Rattle.nv_core.specs.Words.{Sizes, Word, HEADER, STORE, ENTRY, PAGE, index}
 use Rattle.nv_core.specs.Values.{Value, Bare, APart, AStore, ABuffer, Job, Writes, Reads, Ending, Made, Failed, called, filled}
-use Rattle.nv_core.specs.Passes.{Stage, Committing, Copying, Pass, file_of}
-use Rattle.nv_core.specs.Deeds.{Deed, Pledges, slot_of, patched_by}
-use Rattle.nv_core.specs.Order.{Values, Work, MayWork, IsDue, IsNextCall}
+use Rattle.nv_core.specs.Passes.{Stage, Committing, Copying, Pass, file_of, Patching}
+use Rattle.nv_core.specs.Deeds.{Deed, Pledges, slot_of, patched_by, Gives}
+use Rattle.nv_core.specs.Order.{Values, Work, MayWork, IsDue, IsNextCall, IsPieceRead}
 use Rattle.nv_core.specs.Core.{with_word, values_read, values_worked, values_stepped}
 use Rattle.nv_core.specs.Written.{IsPart}
 use Rattle.nv_core.specs.HeaderStays.{HeaderStays}
 use Rattle.nv_core.proofs.Changes.{word_here, word_else, differ}
-use Rattle.nv_core.proofs.WrittenLaws.{part_stepped, part_worked}
+use Rattle.nv_core.proofs.WrittenLaws.{part_stepped, part_worked, given_else, told_still}
 
 -- a part has as many lines as one that the cell told before
 abbrev HasLines : Value → Part → Type 0
@@ -36,6 +36,7 @@ header_kept first tail old new same lines stays = record {
 
 pub header_stepped : (sizes : Sizes) (pass : Pass) (deed : Deed) (values : Values) → values_stepped sizes pass deed values HEADER ≡ values HEADER
 header_stepped sizes pass (Pledges page) values = word_else values (PAGE page) (patched_by sizes pass.call page (values (PAGE page))) HEADER (differ HEADER (PAGE page) refl)
+header_stepped sizes pass (Gives cell) values = given_else pass pass.stage values HEADER (λ page. differ HEADER (PAGE page) refl)
 header_stepped sizes pass deed values = refl
 
 pub header_step : (sizes : Sizes) (first : Values) (tail : ℕ) (pass : Pass) (deed : Deed) (values : Values) → HeaderStays first tail values → HeaderStays first tail (values_stepped sizes pass deed values)
@@ -45,7 +46,7 @@ header_step sizes first tail pass deed values stays = header_kept first tail val
 -- ---- device calls
 
 pub header_read : (job : Job) (how : Ending) (stage : Stage) (values : Values) → values_read job how stage values HEADER ≡ values HEADER
-header_read (Reads at bytes) Made (Copying page) values = word_else values (PAGE page) (filled bytes (values (PAGE page))) HEADER (differ HEADER (PAGE page) refl)
+header_read (Reads at bytes) Made (Copying page false) values = word_else values (PAGE page) (filled bytes (values (PAGE page))) HEADER (differ HEADER (PAGE page) refl)
 header_read job how stage values = refl
 
 lines_kept : StepsKeepLines → (step : Step) (part : Part) → length (after_line_step step part) ≡ length part
@@ -84,8 +85,12 @@ header_work keeps sizes first tail pass work values stays may = go pass.stage ma
       | inr ne ↦ entry_else (ENTRY (slot_of sizes (pass.first + due.row.part))) due.cell slot (λ e. ne (ap index e)) part is
     ]
 
+    peeked : (number : ℕ) (due : IsPieceRead sizes values number work) (slot : ℕ) (part : Part) → IsPart (values_worked pass work values (ENTRY slot)) part → HasLines (values (ENTRY slot)) part
+    peeked number due slot part is = (part, told_still sizes values pass work number due slot part is, refl)
+
     go : (stage : Stage) → IsDue sizes values pass work stage → HeaderStays first tail (values_worked pass work values)
     go (Committing calls) due = header_kept first tail values (values_worked pass work values) (header (ENTRY (slot_of sizes (pass.first + due.row.part))) due.cell (differ HEADER (ENTRY (slot_of sizes (pass.first + due.row.part))) refl)) (entry calls due) stays
-    go (Copying page) due = header_kept first tail values (values_worked pass work values) (header (STORE (file_of pass.call)) due.cell (differ HEADER (STORE (file_of pass.call)) refl))
+    go (Copying page dirty) due = header_kept first tail values (values_worked pass work values) (header (STORE (file_of pass.call)) due.cell (differ HEADER (STORE (file_of pass.call)) refl))
         (λ slot. entry_else (STORE (file_of pass.call)) due.cell slot (differ (ENTRY slot) (STORE (file_of pass.call)) refl)) stays
+    go (Patching page number) due = header_kept first tail values (values_worked pass work values) (header (ENTRY (slot_of sizes number)) due.cell (differ HEADER (ENTRY (slot_of sizes number)) refl)) (peeked number due) stays
     go stage due = absurd due

@@ -1,15 +1,15 @@
 -- Each event keeps the history.
-use Rattle.std.proofs.Common.{◌≡◌, ◌≢◌, ◌⊎◌, ℕ, ◌+◌, ◌^◌, ◌<◌, ◌≤◌, ◌==◌, nat_lt, not, ◌&&◌, Bool, true, false, List, [], ◌∷◌, ◌++◌, length, zero, suc, inl, inr, refl, sym, ap, subst, ◌∙◌, arith, le_trans, append_assoc, append-nil, length-append}
+use Rattle.std.proofs.Common.{◌≡◌, ◌≢◌, ◌⊎◌, ℕ, ◌+◌, ◌^◌, ◌<◌, ◌≤◌, ◌==◌, nat_lt, not, ◌&&◌, Bool, true, false, List, [], ◌∷◌, ◌++◌, length, zero, suc, inl, inr, refl, sym, ap, subst, ◌∙◌, arith, le_trans, append_assoc, append-nil, length-append, if◌then◌else◌}
 use Rattle.std.proofs.lemmas.List.Elements.{filter-append}
 use Rattle.std.proofs.lemmas.Bool.{ne_eqb, ltb-true}
 use Rattle.nv_plain.specs.Histories.{Answered}
 use Rattle.nv_plain.specs.declared.call.FileCall.{FileCall}
 use Rattle.nv_plain.specs.declared.call.Reply.{Reply}
 use Rattle.nv_core.specs.Totals.{total}
-use Rattle.nv_core.specs.Words.{Sizes, Word, STOP, ORDER, HEAD, TAIL, SIZE, LENGTH, STORE, ENTRY, PAGE, DIRTY}
-use Rattle.nv_core.specs.Passes.{Stage, Idle, Locking, Measuring, Sizing, Checking, Ordering, Reading, Fetching, Copying, Returning, Heading, Tailing, Drawing, Seizing, Committing, Pledging, Readying, Placing, Growing, Releasing, Giving, Leaving, ReadFailing, WriteFailing, Breaking, Pass, is_write, page_count, first_page, end_page, without}
-use Rattle.nv_core.specs.Deeds.{Deed, Loads, Takes, Gives, Places, Stops, Draws, Seizes, Pledges, Readies, Grows, Breaks, Splits, Leaves, Joins, slot_of}
-use Rattle.nv_core.specs.Stages.{stage_after, after_load, after_take, after_give, after_stop, leaving, giving, ending, exceeds, ordered}
+use Rattle.nv_core.specs.Words.{Sizes, Word, STOP, ORDER, HEAD, TAIL, SIZE, LENGTH, STORE, ENTRY, PAGE, DIRTY, CLEANUP}
+use Rattle.nv_core.specs.Passes.{Stage, Idle, Locking, Measuring, Sizing, Checking, Ordering, Reading, Fetching, Copying, Returning, Heading, Tailing, Drawing, Seizing, Committing, Pledging, Readying, Placing, Growing, Releasing, Giving, Leaving, ReadFailing, WriteFailing, Breaking, Pass, is_write, page_count, first_page, end_page, without, Waiting, Bounding, Starting, Scanning, Grasping, Patching, Restoring, Unlocking, PieceFailing}
+use Rattle.nv_core.specs.Deeds.{Deed, Loads, Takes, Gives, Places, Stops, Draws, Seizes, Pledges, Readies, Grows, Breaks, Splits, Leaves, Joins, slot_of, Holds, Returns}
+use Rattle.nv_core.specs.Stages.{stage_after, after_load, after_take, after_give, after_stop, leaving, giving, ending, exceeds, ordered, after_return}
 use Rattle.nv_core.specs.Stepped.{stepped, added, begun}
 use Rattle.nv_core.specs.Order.{Values, Work, MayWork, MayStep, MayLoad, MayTake, MayPlace, IsDue, IsFailing}
 use Rattle.nv_core.specs.Core.{Core, changes, changed, made_stepped, after_step, after_begin, after_work, worked, stage_worked, with_number}
@@ -34,6 +34,8 @@ begins_more first whole more begins = (begins.0 ++ more, ap (λ w. w ++ more) be
 
 most_open : (stage : Stage) → stage_open stage ≤ 1
 most_open (Reading page) = omega arith
+most_open (Restoring page number true) = omega arith
+most_open (Restoring page number false) = omega arith
 most_open stage = omega arith
 
 -- only behind the load of STOP is a call open, while it goes on
@@ -45,6 +47,8 @@ open_or_not Sizing = inr refl
 open_or_not Checking = inr refl
 open_or_not Leaving = inr refl
 open_or_not (Breaking number) = inr refl
+open_or_not (Restoring page number true) = inr refl
+open_or_not (Restoring page number false) = inl tt
 open_or_not stage = inl tt
 
 one_open : (sizes : Sizes) (core : Core) → Broken sizes core → (n : ℕ) → open_calls (core.passes n) ≤ 1
@@ -84,8 +88,9 @@ quiet_load : (sizes : Sizes) (values : Values) (pass : Pass) (word : Word) (foun
 quiet_load sizes values pass (LENGTH file) found quiet may = to_none pass.stage _ (if_both (λ s. stage_open s ≡ 0) (exceeds pass found && not pass.sized) Sizing Checking (λ _. refl) (λ _. refl))
 quiet_load sizes values pass STOP found quiet may = to_none pass.stage _ (if_both (λ s. stage_open s ≡ 0) (found == 0) Ordering (leaving pass.hands) (λ _. refl) (λ _. none_leaving pass.hands))
 quiet_load sizes values pass ORDER found quiet may = absurd quiet
-quiet_load sizes values pass HEAD found quiet may = from_open pass.stage _ Heading may refl
-quiet_load sizes values pass TAIL found quiet may = from_open pass.stage _ Tailing may refl
+quiet_load sizes values pass HEAD found quiet may = elim may [ inl here ↦ from_open pass.stage _ Heading here refl | inr here ↦ from_open pass.stage _ (Bounding here.0) here.1 refl ]
+quiet_load sizes values pass TAIL found quiet may = elim may [ inl here ↦ from_open pass.stage _ Tailing here refl | inr here ↦ from_open pass.stage _ (Starting here.0) here.1 refl ]
+quiet_load sizes values pass (ENTRY slot) found quiet may = from_open pass.stage _ (Scanning may.0 may.1) may.2 refl
 quiet_load sizes values pass (DIRTY page) found quiet may = from_open pass.stage _ (Reading may.0) may.1.stage refl
 quiet_load sizes values pass word found quiet may = absurd may
 
@@ -93,14 +98,16 @@ quiet_take : (sizes : Sizes) (pass : Pass) (cell : Word) (found : ℕ) → MayTa
 quiet_take sizes pass (PAGE page) found may = to_none pass.stage _ (if_both (λ s. stage_open s ≡ 0) (found == 0) (after_take sizes pass (PAGE page)) (leaving pass.hands)
     (λ _. if_both (λ s. stage_open s ≡ 0) (page + 1 == end_page sizes pass.call) Measuring (Locking (page + 1)) (λ _. refl) (λ _. refl)) (λ _. none_leaving pass.hands))
 quiet_take sizes pass (SIZE file) found may = to_none pass.stage _ (if_both (λ s. stage_open s ≡ 0) (found == 0) Measuring (leaving pass.hands) (λ _. refl) (λ _. none_leaving pass.hands))
-quiet_take sizes pass (STORE file) found may = from_open pass.stage _ (Fetching may.0) may.1 refl
+quiet_take sizes pass (STORE file) found may = from_open pass.stage _ (Fetching may.0 may.1) may.2 refl
+quiet_take sizes pass (CLEANUP page) found may = from_open pass.stage _ (Waiting page) may refl
 quiet_take sizes pass cell found may = absurd may
 
 quiet_give : (sizes : Sizes) (pass : Pass) (cell : Word) (stage : Stage) → IsGivingBack stage → stage_open (after_give sizes pass cell stage) ≤ stage_open stage
 quiet_give sizes pass cell Leaving may = to_none Leaving _ (none_leaving (without cell pass.hands))
 quiet_give sizes pass cell Releasing may = to_none Releasing _ (none_giving sizes pass.call)
 quiet_give sizes pass cell (Giving page) may = to_none (Giving page) _ (if_both (λ s. stage_open s ≡ 0) (page + 1 == end_page sizes pass.call) Idle (Giving (page + 1)) (λ _. refl) (λ _. refl))
-quiet_give sizes pass cell (Returning page) may = omega arith
+quiet_give sizes pass cell (Returning page dirty) may = most_open (if dirty then Bounding page else Reading (page + 1))
+quiet_give sizes pass cell (Unlocking page) may = omega arith
 quiet_give sizes pass cell stage may = absurd may
 
 -- what a quiet step leaves open of its pass
@@ -111,7 +118,8 @@ quiet sizes values pass found number history (Gives cell) is may = let a = quiet
 quiet sizes values pass found number history Stops is may = stops pass.stage may
   where
     stops : (stage : Stage) → IsFailing stage → stage_open (after_stop pass stage) + suc (length pass.faulted) ≤ stage_open stage + length pass.faulted
-    stops ReadFailing may = let a = none_leaving pass.hands in omega (arith, a)
+    stops (ReadFailing page dirty) may = let a = none_leaving pass.hands in omega (arith, a)
+    stops (PieceFailing page next) may = omega arith
     stops WriteFailing may = omega arith
     stops stage may = absurd may
 quiet sizes values pass found number history Draws is may = let a = from_open pass.stage (stage_after sizes pass Draws found) Drawing may refl in omega (arith, a)
@@ -123,6 +131,12 @@ quiet sizes values pass found number history (Breaks next) is may =
     let a = if_both (λ s. stage_open s ≡ 0) (next + 1 == pass.first + pass.entries) (leaving (without (ENTRY (slot_of sizes next)) pass.hands)) (Breaking (next + 1)) (λ _. none_leaving (without (ENTRY (slot_of sizes next)) pass.hands)) (λ _. refl) in
     omega (arith, a)
 quiet sizes values pass found number history (Places reply) is may = absurd is
+quiet sizes values pass found number history (Holds next) is may = let a = from_open pass.stage (stage_after sizes pass (Holds next) found) (Grasping may.0 next) may.1 refl in omega (arith, a)
+quiet sizes values pass found number history (Returns next) is may = let a = go may.1 may.2 in omega (arith, a)
+  where
+    go : (failed : Bool) → pass.stage ≡ Restoring may.0 next failed → stage_open (after_return sizes pass pass.stage) ≤ stage_open pass.stage
+    go true here = to_none pass.stage _ (ap (λ s. stage_open (after_return sizes pass s)) here ∙ none_leaving (without (ENTRY (slot_of sizes next)) pass.hands))
+    go false here = from_open pass.stage _ (Restoring may.0 next false) here refl
 quiet sizes values pass found number history deed is may = absurd may
 
 -- a pass's open calls change the count by as much
@@ -283,5 +297,6 @@ history_work sizes by core work one made may = history_still core by (worked siz
   where
     due_open : (stage : Stage) → IsDue sizes core.values (core.passes by) work stage → stage_open stage ≡ 1
     due_open (Committing calls) due = refl
-    due_open (Copying page) due = refl
+    due_open (Copying page dirty) due = refl
+    due_open (Patching page number) due = refl
     due_open stage due = absurd due

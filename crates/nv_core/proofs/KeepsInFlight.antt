@@ -4,11 +4,11 @@ use Rattle.std.proofs.lemmas.Bool.{eqb-true, eq-eqb, cases_eq, and_from, le-leb,
 use Rattle.nv_plain.specs.declared.call.FileCall.{FileCall}
 use Rattle.nv_plain.specs.declared.call.FileCall.TheVariants.{Read, Write, Sync}
 use Rattle.nv_plain.specs.declared.call.Reply.{Reply}
-use Rattle.nv_core.specs.Words.{Sizes, Word, STOP, ORDER, HEAD, TAIL, LENGTH, DIRTY, PAGE, SIZE, STORE, ENTRY, free, filling, broken, index, was_readied}
+use Rattle.nv_core.specs.Words.{Sizes, Word, STOP, ORDER, HEAD, TAIL, LENGTH, DIRTY, PAGE, SIZE, STORE, ENTRY, free, filling, broken, index, was_readied, CLEANUP, ready, is_entry_of}
 use Rattle.nv_core.specs.Values.{Ending, Made, Failed}
-use Rattle.nv_core.specs.Passes.{Stage, Idle, Locking, Measuring, Sizing, Checking, Ordering, Reading, Heading, Tailing, Drawing, Fetching, Waiting, Copying, Seizing, Committing, Pledging, Readying, Placing, Growing, Releasing, Giving, Leaving, Returning, ReadFailing, WriteFailing, Breaking, Pass, IsUnseized, IsFilling, IsAmong, is_write, is_read, page_count, first_page, end_page, without, times}
-use Rattle.nv_core.specs.Deeds.{Deed, slot_of, page_at, ready_word, Loads, Takes, Gives, Places, Stops, Draws, Seizes, Pledges, Readies, Grows, Breaks, Splits, Leaves, Joins}
-use Rattle.nv_core.specs.Stages.{stage_after, after_load, after_take, after_give, after_stop, leaving, giving, ending, ordered, copying, exceeds}
+use Rattle.nv_core.specs.Passes.{Stage, Idle, Locking, Measuring, Sizing, Checking, Ordering, Reading, Heading, Tailing, Drawing, Fetching, Waiting, Copying, Seizing, Committing, Pledging, Readying, Placing, Growing, Releasing, Giving, Leaving, Returning, ReadFailing, WriteFailing, Breaking, Pass, IsUnseized, IsFilling, IsAmong, is_write, is_read, page_count, first_page, end_page, without, times, Bounding, Scanning, Grasping, Patching, Restoring, Unlocking, PieceFailing}
+use Rattle.nv_core.specs.Deeds.{Deed, slot_of, page_at, ready_word, Loads, Takes, Gives, Places, Stops, Draws, Seizes, Pledges, Readies, Grows, Breaks, Splits, Leaves, Joins, Holds, Returns}
+use Rattle.nv_core.specs.Stages.{stage_after, after_load, after_take, after_give, after_stop, leaving, giving, ending, ordered, copying, exceeds, scanning, after_head, after_tail, after_look, after_hold, after_return}
 use Rattle.nv_core.specs.Stepped.{begun}
 use Rattle.nv_core.specs.Order.{Values, Work, MayWork, IsDue, IsFailing, commit_steps, MayStep, MayLoad, MayTake, MayPlace}
 use Rattle.nv_core.specs.Core.{Core, changes, changed, with_word, with_number, after_step, after_begin, after_work, worked, stage_worked}
@@ -29,6 +29,7 @@ use Rattle.nv_core.proofs.KeepsLocks.{ready_is}
 use Rattle.nv_core.proofs.KeepsWindow.{window_step}
 use Rattle.nv_core.proofs.WindowLaws.{apart_within}
 use Rattle.nv_core.proofs.KeepsGroups.{is_draw, group_new, group_old, which, log_group}
+use Rattle.nv_core.proofs.Rekinded.{IsRekinded, holds_rekind, returns_rekind, rekind_still, rekind_before}
 
 -- ---- where a flight begins and ends
 
@@ -41,6 +42,13 @@ not_giving sizes pass call = if_both (λ s. IsFlying pass s → ⊥) (page_count
 not_ending : (sizes : Sizes) (pass one : Pass) → IsFlying pass (ending sizes one) → ⊥
 not_ending sizes pass one = if_both (λ s. IsFlying pass s → ⊥) one.sized Releasing (giving sizes one.call) (λ _ z. z) (λ _. not_giving sizes pass one.call)
 
+not_scanning : (pass one : Pass) (page number : ℕ) → IsFlying pass (scanning one page number) → ⊥
+not_scanning pass one page number = if_both (λ s. IsFlying pass s → ⊥) (nat_lt number one.head) (Scanning page number) (Unlocking page) (λ _ z. z) (λ _ z. z)
+
+not_returned : (sizes : Sizes) (pass one : Pass) (page number : ℕ) (failed : Bool) → IsFlying pass (after_return sizes one (Restoring page number failed)) → ⊥
+not_returned sizes pass one page number failed = if_both (λ s. IsFlying pass s → ⊥) failed (leaving (without (ENTRY (slot_of sizes number)) one.hands)) (scanning one page (number + 1))
+    (λ _. not_leaving pass (without (ENTRY (slot_of sizes number)) one.hands)) (λ _. not_scanning pass one page (number + 1))
+
 not_loaded : (sizes : Sizes) (values : Values) (pass : Pass) (word : Word) (found : ℕ) → MayLoad sizes values pass word → IsFlying pass (after_load sizes pass word found) → ⊥
 not_loaded sizes values pass (LENGTH file) found may = if_both (λ s. IsFlying pass s → ⊥) (exceeds pass found && not pass.sized) Sizing Checking (λ _ z. z) (λ _ z. z)
 not_loaded sizes values pass STOP found may = if_both (λ s. IsFlying pass s → ⊥) (found == 0) Ordering (leaving pass.hands) (λ _ z. z) (λ _. not_leaving pass pass.hands)
@@ -48,9 +56,19 @@ not_loaded sizes values pass ORDER found may = if_both (λ s. IsFlying pass s �
     (λ _. if_both (λ s. IsFlying pass s → ⊥) (is_write pass.call) Heading (if is_read pass.call then Reading (first_page sizes pass.call) else Placing) (λ _ z. z)
     (λ none. if_both (λ s. IsFlying pass s → ⊥) (is_read pass.call) (Reading (first_page sizes pass.call)) Placing (λ _ z. z) (λ _ z. not_both z none)))
     (λ _. not_leaving pass pass.hands)
-not_loaded sizes values pass HEAD found may = if_both (λ s. IsFlying pass s → ⊥) (nat_le (found + page_count sizes pass.call) (2 ^ 60)) Tailing (leaving pass.hands) (λ _ z. z) (λ _. not_leaving pass pass.hands)
-not_loaded sizes values pass TAIL found may = if_both (λ s. IsFlying pass s → ⊥) (nat_le (pass.head + page_count sizes pass.call) (found + sizes.entries)) Drawing (leaving pass.hands) (λ _ z. z) (λ _. not_leaving pass pass.hands)
-not_loaded sizes values pass (DIRTY page) found may = if_both (λ s. IsFlying pass s → ⊥) (found == 0) (Fetching page) (Waiting page) (λ _ z. z) (λ _ z. z)
+not_loaded sizes values pass HEAD found may = elim may [
+  | inl here ↦ subst (λ s. IsFlying pass (after_head sizes pass found s) → ⊥) (sym here)
+      (if_both (λ s. IsFlying pass s → ⊥) (nat_le (found + page_count sizes pass.call) (2 ^ 60)) Tailing (leaving pass.hands) (λ _ z. z) (λ _. not_leaving pass pass.hands))
+  | inr here ↦ subst (λ s. IsFlying pass (after_head sizes pass found s) → ⊥) (sym here.1) (λ z. z)
+]
+not_loaded sizes values pass TAIL found may = elim may [
+  | inl here ↦ subst (λ s. IsFlying pass (after_tail sizes pass found s) → ⊥) (sym here)
+      (if_both (λ s. IsFlying pass s → ⊥) (nat_le (pass.head + page_count sizes pass.call) (found + sizes.entries)) Drawing (leaving pass.hands) (λ _ z. z) (λ _. not_leaving pass pass.hands))
+  | inr here ↦ subst (λ s. IsFlying pass (after_tail sizes pass found s) → ⊥) (sym here.1) (not_scanning pass pass here.0 found)
+]
+not_loaded sizes values pass (ENTRY slot) found may = subst (λ s. IsFlying pass (after_look pass found s) → ⊥) (sym may.2)
+    (if_both (λ s. IsFlying pass s → ⊥) (is_entry_of ready may.0 found) (Grasping may.0 may.1) (scanning pass may.0 (may.1 + 1)) (λ _ z. z) (λ _. not_scanning pass pass may.0 (may.1 + 1)))
+not_loaded sizes values pass (DIRTY page) found may = if_both (λ s. IsFlying pass s → ⊥) (found == 0) (Fetching page false) (Waiting page) (λ _ z. z) (λ _ z. z)
 not_loaded sizes values pass word found may = absurd may
 
 not_taken : (sizes : Sizes) (pass : Pass) (cell : Word) (found : ℕ) → MayTake pass cell → IsFlying pass (stage_after sizes pass (Takes cell) found) → ⊥
@@ -58,14 +76,16 @@ not_taken sizes pass (PAGE page) found may = if_both (λ s. IsFlying pass s → 
     (λ _. if_both (λ s. IsFlying pass s → ⊥) (page + 1 == end_page sizes pass.call) Measuring (Locking (page + 1)) (λ _ z. z) (λ _ z. z)) (λ _. not_leaving pass pass.hands)
 not_taken sizes pass (SIZE file) found may = if_both (λ s. IsFlying pass s → ⊥) (found == 0) Measuring (leaving pass.hands) (λ _ z. z) (λ _. not_leaving pass pass.hands)
 not_taken sizes pass (STORE file) found may = if_both (λ s. IsFlying pass s → ⊥) (found == 0) (copying pass.stage) (leaving pass.hands)
-    (λ _. subst (λ s. IsFlying pass (copying s) → ⊥) (sym may.1) (λ z. z)) (λ _. not_leaving pass pass.hands)
+    (λ _. subst (λ s. IsFlying pass (copying s) → ⊥) (sym may.2) (λ z. z)) (λ _. not_leaving pass pass.hands)
+not_taken sizes pass (CLEANUP page) found may = if_both (λ s. IsFlying pass s → ⊥) (found == 0) (Fetching page true) (leaving pass.hands) (λ _ z. z) (λ _. not_leaving pass pass.hands)
 not_taken sizes pass cell found may = absurd may
 
 not_given : (sizes : Sizes) (pass : Pass) (cell : Word) (stage : Stage) → IsGivingBack stage → IsFlying pass (after_give sizes pass cell stage) → ⊥
 not_given sizes pass cell Leaving may = not_leaving pass (without cell pass.hands)
 not_given sizes pass cell Releasing may = not_giving sizes pass pass.call
 not_given sizes pass cell (Giving page) may = if_both (λ s. IsFlying pass s → ⊥) (page + 1 == end_page sizes pass.call) Idle (Giving (page + 1)) (λ _ z. z) (λ _ z. z)
-not_given sizes pass cell (Returning page) may = λ z. z
+not_given sizes pass cell (Returning page dirty) may = if_both (λ s. IsFlying pass s → ⊥) dirty (Bounding page) (Reading (page + 1)) (λ _ z. z) (λ _ z. z)
+not_given sizes pass cell (Unlocking page) may = λ z. z
 not_given sizes pass cell stage may = absurd may
 
 flying_as : (old new : Pass) (stage : Stage) → new.call ≡ old.call → IsFlying new stage → IsFlying old stage
@@ -86,7 +106,8 @@ flew sizes values pass found Grows ne may is = absurd (not_ending sizes pass pas
 flew sizes values pass found Stops ne may is = absurd (stops pass.stage may is)
   where
     stops : (stage : Stage) → IsFailing stage → IsFlying pass (after_stop pass stage) → ⊥
-    stops ReadFailing may = not_leaving pass pass.hands
+    stops (PieceFailing page next) may = λ z. z
+    stops (ReadFailing page dirty) may = not_leaving pass pass.hands
     stops WriteFailing may = λ z. z
     stops stage may = absurd may
 flew sizes values pass found Draws ne may is = absurd (not_both refl ne)
@@ -95,6 +116,8 @@ flew sizes values pass found (Pledges page) ne may is = subst (IsFlying pass) (s
 flew sizes values pass found (Readies next) ne may is = subst (IsFlying pass) (sym may) tt
 flew sizes values pass found (Breaks next) ne may is = absurd (if_both (λ s. IsFlying pass s → ⊥) (next + 1 == pass.first + pass.entries) (leaving (without (ENTRY (slot_of sizes next)) pass.hands)) (Breaking (next + 1))
     (λ _. not_leaving pass (without (ENTRY (slot_of sizes next)) pass.hands)) (λ _ z. z) is)
+flew sizes values pass found (Holds next) ne may is = absurd (subst (λ s. IsFlying pass (after_hold s)) may.1 is)
+flew sizes values pass found (Returns next) ne may is = absurd (not_returned sizes pass pass may.0 next may.1 (subst (λ s. IsFlying pass (after_return sizes pass s)) may.2 is))
 flew sizes values pass found deed ne may is = absurd may
 
 -- ---- a pass that is to take its place does nothing else
@@ -114,13 +137,15 @@ not_placing : (sizes : Sizes) (values : Values) (pass : Pass) (deed : Deed) → 
 not_placing sizes values pass (Loads (LENGTH file)) ne may = elsewhere _ _ may.0 refl
 not_placing sizes values pass (Loads STOP) ne may = elsewhere _ _ may refl
 not_placing sizes values pass (Loads ORDER) ne may = elsewhere _ _ may refl
-not_placing sizes values pass (Loads HEAD) ne may = elsewhere _ _ may refl
-not_placing sizes values pass (Loads TAIL) ne may = elsewhere _ _ may refl
+not_placing sizes values pass (Loads HEAD) ne may = elim may [ inl here ↦ elsewhere _ _ here refl | inr here ↦ elsewhere _ _ here.1 refl ]
+not_placing sizes values pass (Loads TAIL) ne may = elim may [ inl here ↦ elsewhere _ _ here refl | inr here ↦ elsewhere _ _ here.1 refl ]
+not_placing sizes values pass (Loads (ENTRY slot)) ne may = elsewhere _ _ may.2 refl
 not_placing sizes values pass (Loads (DIRTY page)) ne may = elsewhere _ _ may.1.stage refl
 not_placing sizes values pass (Loads word) ne may = absurd may
 not_placing sizes values pass (Takes (PAGE page)) ne may = elsewhere _ _ may refl
 not_placing sizes values pass (Takes (SIZE file)) ne may = elsewhere _ _ may.0 refl
-not_placing sizes values pass (Takes (STORE file)) ne may = elsewhere _ _ may.1 refl
+not_placing sizes values pass (Takes (STORE file)) ne may = elsewhere _ _ may.2 refl
+not_placing sizes values pass (Takes (CLEANUP page)) ne may = elsewhere _ _ may refl
 not_placing sizes values pass (Takes cell) ne may = absurd may
 not_placing sizes values pass (Gives cell) ne may = λ e. subst IsGivingBack e (gives_back pass cell pass.stage may)
 not_placing sizes values pass (Places reply) ne may = absurd (not_both refl ne)
@@ -131,6 +156,8 @@ not_placing sizes values pass (Pledges page) ne may = elsewhere _ _ may refl
 not_placing sizes values pass (Readies next) ne may = elsewhere _ _ may refl
 not_placing sizes values pass Grows ne may = elsewhere _ _ may refl
 not_placing sizes values pass (Breaks next) ne may = elsewhere _ _ may refl
+not_placing sizes values pass (Holds next) ne may = elsewhere _ _ may.1 refl
+not_placing sizes values pass (Returns next) ne may = elsewhere _ _ may.2 refl
 not_placing sizes values pass deed ne may = absurd may
 
 -- ---- passes in flight hold pages of their own
@@ -252,6 +279,21 @@ entry_flight sizes log placed by core deed found slot value flight words not_now
 
     before : (word : Word) → was_readied (core.words word) ≡ true → was_readied (with_word core.words (ENTRY slot) value word) ≡ true
     before = by_word (λ word v. was_readied (core.words word) ≡ true → was_readied v ≡ true) core.words (ENTRY slot) value (λ e. absurd (not_before e)) (λ word ne e. e)
+
+-- an entry is held or returned
+rekind_flight : (sizes : Sizes) (log : Log) (placed : ℕ → Bool) (by : ℕ) (core : Core) (deed : Deed) (found next value : ℕ) → InFlight sizes log placed core
+    → (after_step sizes by deed found core).words ≡ with_word core.words (ENTRY (slot_of sizes next)) value → IsRekinded sizes core next value
+    → changes by core.made deed ≡ by → is_place deed ≡ false → MayStep sizes core.values (core.passes by) deed
+    → (IsFlying (changed sizes by core deed found) (changed sizes by core deed found).stage → ⊥)
+    → InFlight sizes log placed (after_step sizes by deed found core)
+rekind_flight sizes log placed by core deed found next value flight words rekinded same no_place step none =
+    same_flight sizes log placed by core deed found flight
+    (ap (λ w. w HEAD) words ∙ word_else core.words (ENTRY (slot_of sizes next)) value HEAD (differ HEAD (ENTRY (slot_of sizes next)) refl))
+    (ap (λ w. w TAIL) words ∙ word_else core.words (ENTRY (slot_of sizes next)) value TAIL (differ TAIL (ENTRY (slot_of sizes next)) refl))
+    (λ other is. rekind_before sizes core next value rekinded (ENTRY other) (ap (λ w. was_readied (w (ENTRY other))) (sym words) ∙ is))
+    (λ other is. ap (λ w. was_readied (w (ENTRY other))) words ∙ rekind_still sizes core next value rekinded (ENTRY other) is)
+    (λ is. absurd (none is)) (λ is. absurd (none is))
+    (λ n waiting. absurd (not_placing sizes core.values (core.passes by) deed no_place step (subst (λ m. (core.passes m).stage ≡ Placing) same waiting.stage)))
 
 -- an entry is made ready
 module _ (sizes : Sizes) (first : Values) (log : Log) (placed : ℕ → Bool) (by : ℕ) (core : Core) (found next : ℕ) (sound : Sound sizes first core) (groups : Groups sizes core log) (flight : InFlight sizes log placed core) (may : MayFind sizes by core (Readies next) found) where
@@ -514,7 +556,8 @@ flight_step sizes first log placed by core Stops found sound groups flight may =
     (λ is. stopped (core.passes by).stage may.may)
   where
     stopped : (stage : Stage) → IsFailing stage → after_stop (core.passes by) stage ≡ Placing → ⊥
-    stopped ReadFailing failing = leaving_both (λ s. s ≡ Placing → ⊥) (core.passes by).hands (λ _. elsewhere _ _ refl refl) (λ _. elsewhere _ _ refl refl)
+    stopped (PieceFailing page next) failing = elsewhere _ _ refl refl
+    stopped (ReadFailing page dirty) failing = leaving_both (λ s. s ≡ Placing → ⊥) (core.passes by).hands (λ _. elsewhere _ _ refl refl) (λ _. elsewhere _ _ refl refl)
     stopped WriteFailing failing = elsewhere _ _ refl refl
     stopped stage failing = absurd failing
 flight_step sizes first log placed by core Draws found sound groups flight may = draw_flight sizes first log placed by core found sound groups flight may
@@ -537,6 +580,12 @@ flight_step sizes first log placed by core (Breaks next) found sound groups flig
     (λ is. (flew sizes core.values (core.passes by) found (Breaks next) refl may.may (flying_as (core.passes by) (changed sizes by core (Breaks next) found) (changed sizes by core (Breaks next) found).stage refl is), refl))
     (λ _. if_both (λ s. s ≡ Placing → ⊥) (next + 1 == (core.passes by).first + (core.passes by).entries) (leaving (without (ENTRY (slot_of sizes next)) (core.passes by).hands)) (Breaking (next + 1))
     (λ _. leaving_both (λ s. s ≡ Placing → ⊥) (without (ENTRY (slot_of sizes next)) (core.passes by).hands) (λ _. elsewhere _ _ refl refl) (λ _. elsewhere _ _ refl refl)) (λ _. elsewhere _ _ refl refl))
+flight_step sizes first log placed by core (Holds next) found sound groups flight may =
+    rekind_flight sizes log placed by core (Holds next) found next (found + 1) flight refl (holds_rekind sizes first by core found next sound may) refl refl may.may
+    (λ is. subst (λ s. IsFlying (changed sizes by core (Holds next) found) (after_hold s)) may.may.1 is)
+flight_step sizes first log placed by core (Returns next) found sound groups flight may =
+    rekind_flight sizes log placed by core (Returns next) found next (found - 1) flight refl (returns_rekind sizes first by core found next sound may) refl refl may.may
+    (λ is. not_returned sizes (changed sizes by core (Returns next) found) (core.passes by) may.may.0 next may.may.1 (subst (λ s. IsFlying (changed sizes by core (Returns next) found) (after_return sizes (core.passes by) s)) may.may.2 is))
 flight_step sizes first log placed by core Splits found sound groups flight may = same_flight sizes log placed by core Splits found flight (untouched sizes by core Splits found may HEAD refl) (untouched sizes by core Splits found may TAIL refl)
     (λ slot is. ap was_readied (sym (untouched sizes by core Splits found may (ENTRY slot) refl)) ∙ is) (λ slot is. ap was_readied (untouched sizes by core Splits found may (ENTRY slot) refl) ∙ is)
     (λ is. absurd is) (λ is. absurd is)
@@ -568,15 +617,19 @@ flight_begin sizes log placed by core call flight may = flight_kept sizes log pl
 
 worked_flew : (sizes : Sizes) (values : Values) (pass one : Pass) (work : Work) (stage : Stage) (how : Ending) → IsDue sizes values pass work stage → IsFlying one (stage_worked sizes pass how stage) → IsFlying pass stage
 worked_flew sizes values pass one work (Committing calls) how due is = tt
-worked_flew sizes values pass one work (Copying page) Made due is = absurd is
-worked_flew sizes values pass one work (Copying page) (Failed came faults) due is = absurd is
+worked_flew sizes values pass one work (Copying page dirty) Made due is = absurd is
+worked_flew sizes values pass one work (Copying page dirty) (Failed came faults) due is = absurd is
+worked_flew sizes values pass one work (Patching page number) Made due is = absurd is
+worked_flew sizes values pass one work (Patching page number) (Failed came faults) due is = absurd is
 worked_flew sizes values pass one work stage how due is = absurd due
 
 worked_placing : (sizes : Sizes) (values : Values) (pass : Pass) (work : Work) (stage : Stage) (how : Ending) → IsDue sizes values pass work stage → stage_worked sizes pass how stage ≡ Placing → ⊥
 worked_placing sizes values pass work (Committing calls) Made due = if_both (λ s. s ≡ Placing → ⊥) (calls + 1 == length (commit_steps sizes pass pass.call)) (Pledging (first_page sizes pass.call)) (Committing (calls + 1)) (λ _. elsewhere _ _ refl refl) (λ _. elsewhere _ _ refl refl)
 worked_placing sizes values pass work (Committing calls) (Failed came faults) due = elsewhere _ _ refl refl
-worked_placing sizes values pass work (Copying page) Made due = elsewhere _ _ refl refl
-worked_placing sizes values pass work (Copying page) (Failed came faults) due = elsewhere _ _ refl refl
+worked_placing sizes values pass work (Copying page dirty) Made due = elsewhere _ _ refl refl
+worked_placing sizes values pass work (Copying page dirty) (Failed came faults) due = elsewhere _ _ refl refl
+worked_placing sizes values pass work (Patching page number) Made due = elsewhere _ _ refl refl
+worked_placing sizes values pass work (Patching page number) (Failed came faults) due = elsewhere _ _ refl refl
 worked_placing sizes values pass work stage how due = absurd due
 
 pub flight_work : (sizes : Sizes) (log : Log) (placed : ℕ → Bool) (by : ℕ) (core : Core) (work : Work) → InFlight sizes log placed core → MayWork sizes core.values (core.passes by) work

@@ -1,10 +1,10 @@
 -- Each event keeps what entries that were made ready say of their leaders.
-use Rattle.std.proofs.Common.{◌≡◌, ◌≢◌, ◌⊎◌, ℕ, ◌+◌, ◌<◌, ◌≤◌, ◌==◌, Bool, true, false, if◌then◌else◌, inl, inr, refl, sym, ap, subst, ◌∙◌, arith}
+use Rattle.std.proofs.Common.{◌≡◌, ◌≢◌, ◌⊎◌, ℕ, ◌+◌, ◌-◌, ◌<◌, ◌≤◌, ◌==◌, Bool, true, false, if◌then◌else◌, inl, inr, refl, sym, ap, subst, ◌∙◌, arith}
 use Rattle.std.proofs.lemmas.Bool.{cases_eq}
 use Rattle.nv_plain.specs.declared.call.FileCall.{FileCall}
 use Rattle.nv_core.specs.Words.{Sizes, Word, HEAD, TAIL, ENTRY, was_readied, free, filling, broken, index}
 use Rattle.nv_core.specs.Passes.{Seizing, IsUnseized, IsFilling, IsAmong, is_write, page_count}
-use Rattle.nv_core.specs.Deeds.{Deed, slot_of, page_at, ready_word, Takes, Gives, Draws, Seizes, Readies, Breaks}
+use Rattle.nv_core.specs.Deeds.{Deed, slot_of, page_at, ready_word, Takes, Gives, Draws, Seizes, Readies, Breaks, Holds, Returns}
 use Rattle.nv_core.specs.Stages.{leaving}
 use Rattle.nv_core.specs.Order.{Values, Work}
 use Rattle.nv_core.specs.Core.{Core, changed, with_word, after_step, after_begin, after_work}
@@ -15,11 +15,12 @@ use Rattle.nv_core.specs.Groups.{Group, Log, group_of, with_group, log_stepped, 
 use Rattle.nv_core.specs.LivePieces.{is_ready}
 use Rattle.nv_core.specs.Leaders.{Leaders}
 use Rattle.nv_core.specs.Sound.{Sound}
-use Rattle.nv_core.proofs.Changes.{number_here, word_here, word_else, differ}
+use Rattle.nv_core.proofs.Changes.{by_word, number_here, word_here, word_else, differ}
 use Rattle.nv_core.proofs.Choices.{not_both, when_true, when_false}
 use Rattle.nv_core.proofs.PageLaws.{write_pages}
 use Rattle.nv_core.proofs.WordLaws.{untouched, touches}
 use Rattle.nv_core.proofs.KeepsLocks.{ready_is}
+use Rattle.nv_core.proofs.Rekinded.{holds_rekind, returns_rekind}
 use Rattle.nv_core.proofs.WindowLaws.{apart_within}
 use Rattle.nv_core.proofs.KeepsWindow.{window_step}
 use Rattle.nv_core.proofs.KeepsGroups.{group_old, which, log_group}
@@ -143,6 +144,31 @@ module _ (sizes : Sizes) (first : Values) (log : Log) (by : ℕ) (core : Core) (
       (λ ne. sound.window.filling_is by (log.group next).first (subst (λ s. IsFilling s (core.passes by).first (core.passes by).entries (log.group next).first) (sym may.may) (inl (ap (λ one. one.first) mine.group))))
       mine.within (set_else sizes first log by core sound groups leaders next value mine.within)
 
+-- a word of an entry that was made ready is set to another one of such an entry
+pub still_readied : (core : Core) (slot value : ℕ) → was_readied value ≡ true → was_readied (core.words (ENTRY slot)) ≡ true → (other : ℕ)
+    → was_readied (with_word core.words (ENTRY slot) value (ENTRY other)) ≡ was_readied (core.words (ENTRY other))
+still_readied core slot value now before other = by_word (λ word v. was_readied v ≡ was_readied (core.words word)) core.words (ENTRY slot) value (now ∙ sym before) (λ word ne. refl) (ENTRY other)
+
+touch_leaders : (sizes : Sizes) (log : Log) (core now : Core) (slot value : ℕ) → now.words ≡ with_word core.words (ENTRY slot) value → was_readied value ≡ true → was_readied (core.words (ENTRY slot)) ≡ true → Leaders sizes log core → Leaders sizes log now
+touch_leaders sizes log core now slot value words is before leaders = record {
+  each = λ n within ready_. elim (leaders.each n (was n within) (sym (same n) ∙ ready_)) [
+    | inl led ↦ inl (same (log.group n).first ∙ led)
+    | inr fills ↦ inr (ap (λ w. w (ENTRY (slot_of sizes (log.group n).first))) words ∙ kept (ENTRY (slot_of sizes (log.group n).first)) fills)
+  ];
+}
+  where
+    was : (n : ℕ) → InWindow now n → InWindow core n
+    was n within = (
+      subst (λ t. t ≤ n) (ap (λ w. w TAIL) words ∙ word_else core.words (ENTRY slot) value TAIL (differ TAIL (ENTRY slot) refl)) within.0,
+      subst (λ h. n < h) (ap (λ w. w HEAD) words ∙ word_else core.words (ENTRY slot) value HEAD (differ HEAD (ENTRY slot) refl)) within.1,
+    )
+
+    same : (n : ℕ) → is_ready sizes now n ≡ is_ready sizes core n
+    same n = ap (λ w. was_readied (w (ENTRY (slot_of sizes n)))) words ∙ still_readied core slot value is before (slot_of sizes n)
+
+    kept : (word : Word) → core.words word ≡ filling → with_word core.words (ENTRY slot) value word ≡ filling
+    kept = by_word (λ word v. core.words word ≡ filling → v ≡ filling) core.words (ENTRY slot) value (λ e. absurd (not_both before (ap was_readied e))) (λ word ne e. e)
+
 -- what was drawn isn't ready
 draw_leaders : (sizes : Sizes) (first : Values) (log : Log) (by : ℕ) (core : Core) (found : ℕ) → Sound sizes first core → Groups sizes core log → Leaders sizes log core → MayFind sizes by core Draws found
     → Leaders sizes (log_stepped sizes (core.passes by) Draws found log) (after_step sizes by Draws found core)
@@ -191,6 +217,10 @@ leaders_step sizes first log by core Draws found sound groups leaders may = draw
 leaders_step sizes first log by core (Seizes next) found sound groups leaders may = seize_leaders sizes first log by core found sound groups leaders next may
 leaders_step sizes first log by core (Readies next) found sound groups leaders may = ready_leaders sizes first log by core found sound groups leaders next may
 leaders_step sizes first log by core (Breaks next) found sound groups leaders may = break_leaders sizes first log by core found sound groups leaders next may
+leaders_step sizes first log by core (Holds next) found sound groups leaders may =
+    let re = holds_rekind sizes first by core found next sound may in touch_leaders sizes log core (after_step sizes by (Holds next) found core) (slot_of sizes next) (found + 1) refl re.now re.was leaders
+leaders_step sizes first log by core (Returns next) found sound groups leaders may =
+    let re = returns_rekind sizes first by core found next sound may in touch_leaders sizes log core (after_step sizes by (Returns next) found core) (slot_of sizes next) (found - 1) refl re.now re.was leaders
 leaders_step sizes first log by core (Takes cell) found sound groups leaders may = plain_leaders sizes log by core (Takes cell) found groups leaders may refl refl (λ slot. refl)
 leaders_step sizes first log by core (Gives cell) found sound groups leaders may = plain_leaders sizes log by core (Gives cell) found groups leaders may refl refl (λ slot. refl)
 leaders_step sizes first log by core deed found sound groups leaders may = plain_leaders sizes log by core deed found groups leaders may refl refl (λ slot. refl)

@@ -7,11 +7,11 @@ use Rattle.nv_plain.specs.Calls.{files_after}
 use Rattle.nv_plain.specs.declared.call.FileCall.{FileCall}
 use Rattle.nv_plain.specs.declared.call.FileCall.TheVariants.{Read, Write, Sync}
 use Rattle.nv_plain.specs.declared.call.Reply.{Reply}
-use Rattle.nv_core.specs.Words.{Sizes, Word, STOP, ORDER, HEAD, TAIL, SIZE, LENGTH, STORE, ENTRY, PAGE, DIRTY, index}
+use Rattle.nv_core.specs.Words.{Sizes, Word, STOP, ORDER, HEAD, TAIL, SIZE, LENGTH, STORE, ENTRY, PAGE, DIRTY, index, CLEANUP, ready, is_entry_of}
 use Rattle.nv_core.specs.Values.{Ending, Made, Failed}
-use Rattle.nv_core.specs.Passes.{Stage, Idle, Locking, Measuring, Sizing, Checking, Ordering, Reading, Fetching, Copying, Returning, Waiting, Heading, Tailing, Drawing, Seizing, Committing, Pledging, Readying, Placing, Growing, Releasing, Giving, Leaving, ReadFailing, WriteFailing, Breaking, Pass, file_of, at_of, len_of, is_write, is_read, page_count, first_page, end_page, without, times}
-use Rattle.nv_core.specs.Deeds.{Deed, Loads, Takes, Gives, Places, Stops, Draws, Seizes, Pledges, Readies, Grows, Breaks, Splits, Leaves, Joins, slot_of}
-use Rattle.nv_core.specs.Stages.{stage_after, after_load, after_take, after_give, after_stop, leaving, giving, ending, ordered, copying, exceeds}
+use Rattle.nv_core.specs.Passes.{Stage, Idle, Locking, Measuring, Sizing, Checking, Ordering, Reading, Fetching, Copying, Returning, Waiting, Heading, Tailing, Drawing, Seizing, Committing, Pledging, Readying, Placing, Growing, Releasing, Giving, Leaving, ReadFailing, WriteFailing, Breaking, Pass, file_of, at_of, len_of, is_write, is_read, page_count, first_page, end_page, without, times, Bounding, Scanning, Grasping, Patching, Unlocking, PieceFailing}
+use Rattle.nv_core.specs.Deeds.{Deed, Loads, Takes, Gives, Places, Stops, Draws, Seizes, Pledges, Readies, Grows, Breaks, Splits, Leaves, Joins, slot_of, Holds, Returns}
+use Rattle.nv_core.specs.Stages.{stage_after, after_load, after_take, after_give, after_stop, leaving, giving, ending, ordered, copying, exceeds, scanning, after_head, after_tail, after_look, after_hold, after_return}
 use Rattle.nv_core.specs.Stepped.{added}
 use Rattle.nv_core.specs.Order.{Values, Work, MayWork, MayStep, MayLoad, MayTake, MayPlace, IsDue, IsFailing, commit_steps}
 use Rattle.nv_core.specs.Core.{Core, changes, changed, after_step, after_begin, after_work, stage_worked}
@@ -42,15 +42,17 @@ load_growing : (sizes : Sizes) (values : Values) (pass : Pass) (word : Word) →
 load_growing sizes values pass (LENGTH file) may = unlike _ may.0 (λ z. z)
 load_growing sizes values pass STOP may = unlike _ may (λ z. z)
 load_growing sizes values pass ORDER may = unlike _ may (λ z. z)
-load_growing sizes values pass HEAD may = unlike _ may (λ z. z)
-load_growing sizes values pass TAIL may = unlike _ may (λ z. z)
+load_growing sizes values pass HEAD may = elim may [ inl here ↦ unlike _ here (λ z. z) | inr here ↦ unlike _ here.1 (λ z. z) ]
+load_growing sizes values pass TAIL may = elim may [ inl here ↦ unlike _ here (λ z. z) | inr here ↦ unlike _ here.1 (λ z. z) ]
+load_growing sizes values pass (ENTRY slot) may = unlike _ may.2 (λ z. z)
 load_growing sizes values pass (DIRTY page) may = unlike _ may.1.stage (λ z. z)
 load_growing sizes values pass word may = absurd may
 
 take_growing : (pass : Pass) (word : Word) → MayTake pass word → pass.stage ≡ Growing → ⊥
 take_growing pass (PAGE page) may = unlike _ may (λ z. z)
 take_growing pass (SIZE file) may = unlike _ may.0 (λ z. z)
-take_growing pass (STORE file) may = unlike _ may.1 (λ z. z)
+take_growing pass (STORE file) may = unlike _ may.2 (λ z. z)
+take_growing pass (CLEANUP page) may = unlike _ may (λ z. z)
 take_growing pass word may = absurd may
 
 pub place_growing : (sizes : Sizes) (values : Values) (pass : Pass) (reply : Reply) → MayPlace sizes values pass reply pass.stage → pass.stage ≡ Growing → ⊥
@@ -72,6 +74,8 @@ step_growing sizes values pass (Pledges page) un may = unlike _ may (λ z. z)
 step_growing sizes values pass (Readies number) un may = unlike _ may (λ z. z)
 step_growing sizes values pass Grows un may = absurd un
 step_growing sizes values pass (Breaks number) un may = unlike _ may (λ z. z)
+step_growing sizes values pass (Holds number) un may = unlike _ may.1 (λ z. z)
+step_growing sizes values pass (Returns number) un may = unlike _ may.2 (λ z. z)
 step_growing sizes values pass deed un may = absurd may
 
 -- and only a step that places a call leads there
@@ -84,15 +88,28 @@ ungrown_giving sizes call = if_both (λ s. IsGrow s → ⊥) (page_count sizes c
 ungrown_ending : (sizes : Sizes) (pass : Pass) → IsGrow (ending sizes pass) → ⊥
 ungrown_ending sizes pass = if_both (λ s. IsGrow s → ⊥) pass.sized Releasing (giving sizes pass.call) (λ _ z. z) (λ _. ungrown_giving sizes pass.call)
 
+ungrown_scanning : (pass : Pass) (page number : ℕ) → IsGrow (scanning pass page number) → ⊥
+ungrown_scanning pass page number = if_both (λ s. IsGrow s → ⊥) (nat_lt number pass.head) (Scanning page number) (Unlocking page) (λ _ z. z) (λ _ z. z)
+
 load_grows : (sizes : Sizes) (values : Values) (pass : Pass) (word : Word) (found : ℕ) → MayLoad sizes values pass word → IsGrow (after_load sizes pass word found) → ⊥
 load_grows sizes values pass (LENGTH file) found may = if_both (λ s. IsGrow s → ⊥) (exceeds pass found && not pass.sized) Sizing Checking (λ _ z. z) (λ _ z. z)
 load_grows sizes values pass STOP found may = if_both (λ s. IsGrow s → ⊥) (found == 0) Ordering (leaving pass.hands) (λ _ z. z) (λ _. ungrown_leaving pass.hands)
 load_grows sizes values pass ORDER found may = if_both (λ s. IsGrow s → ⊥) (nat_lt found (2 ^ 60)) (ordered sizes pass.call) (leaving pass.hands)
     (λ _. if_both (λ s. IsGrow s → ⊥) (is_write pass.call) Heading (if is_read pass.call then Reading (first_page sizes pass.call) else Placing) (λ _ z. z)
     (λ _. if_both (λ s. IsGrow s → ⊥) (is_read pass.call) (Reading (first_page sizes pass.call)) Placing (λ _ z. z) (λ _ z. z))) (λ _. ungrown_leaving pass.hands)
-load_grows sizes values pass HEAD found may = if_both (λ s. IsGrow s → ⊥) (nat_le (found + page_count sizes pass.call) (2 ^ 60)) Tailing (leaving pass.hands) (λ _ z. z) (λ _. ungrown_leaving pass.hands)
-load_grows sizes values pass TAIL found may = if_both (λ s. IsGrow s → ⊥) (nat_le (pass.head + page_count sizes pass.call) (found + sizes.entries)) Drawing (leaving pass.hands) (λ _ z. z) (λ _. ungrown_leaving pass.hands)
-load_grows sizes values pass (DIRTY page) found may = if_both (λ s. IsGrow s → ⊥) (found == 0) (Fetching page) (Waiting page) (λ _ z. z) (λ _ z. z)
+load_grows sizes values pass HEAD found may = elim may [
+  | inl here ↦ subst (λ s. IsGrow (after_head sizes pass found s) → ⊥) (sym here)
+      (if_both (λ s. IsGrow s → ⊥) (nat_le (found + page_count sizes pass.call) (2 ^ 60)) Tailing (leaving pass.hands) (λ _ z. z) (λ _. ungrown_leaving pass.hands))
+  | inr here ↦ subst (λ s. IsGrow (after_head sizes pass found s) → ⊥) (sym here.1) (λ z. z)
+]
+load_grows sizes values pass TAIL found may = elim may [
+  | inl here ↦ subst (λ s. IsGrow (after_tail sizes pass found s) → ⊥) (sym here)
+      (if_both (λ s. IsGrow s → ⊥) (nat_le (pass.head + page_count sizes pass.call) (found + sizes.entries)) Drawing (leaving pass.hands) (λ _ z. z) (λ _. ungrown_leaving pass.hands))
+  | inr here ↦ subst (λ s. IsGrow (after_tail sizes pass found s) → ⊥) (sym here.1) (ungrown_scanning pass here.0 found)
+]
+load_grows sizes values pass (ENTRY slot) found may = subst (λ s. IsGrow (after_look pass found s) → ⊥) (sym may.2)
+    (if_both (λ s. IsGrow s → ⊥) (is_entry_of ready may.0 found) (Grasping may.0 may.1) (scanning pass may.0 (may.1 + 1)) (λ _ z. z) (λ _. ungrown_scanning pass may.0 (may.1 + 1)))
+load_grows sizes values pass (DIRTY page) found may = if_both (λ s. IsGrow s → ⊥) (found == 0) (Fetching page false) (Waiting page) (λ _ z. z) (λ _ z. z)
 load_grows sizes values pass word found may = absurd may
 
 take_grows : (sizes : Sizes) (pass : Pass) (cell : Word) (found : ℕ) → MayTake pass cell → IsGrow (stage_after sizes pass (Takes cell) found) → ⊥
@@ -100,14 +117,16 @@ take_grows sizes pass (PAGE page) found may = if_both (λ s. IsGrow s → ⊥) (
     (λ _. if_both (λ s. IsGrow s → ⊥) (page + 1 == end_page sizes pass.call) Measuring (Locking (page + 1)) (λ _ z. z) (λ _ z. z)) (λ _. ungrown_leaving pass.hands)
 take_grows sizes pass (SIZE file) found may = if_both (λ s. IsGrow s → ⊥) (found == 0) Measuring (leaving pass.hands) (λ _ z. z) (λ _. ungrown_leaving pass.hands)
 take_grows sizes pass (STORE file) found may = if_both (λ s. IsGrow s → ⊥) (found == 0) (copying pass.stage) (leaving pass.hands)
-    (λ _. subst (λ s. IsGrow (copying s) → ⊥) (sym may.1) (λ z. z)) (λ _. ungrown_leaving pass.hands)
+    (λ _. subst (λ s. IsGrow (copying s) → ⊥) (sym may.2) (λ z. z)) (λ _. ungrown_leaving pass.hands)
+take_grows sizes pass (CLEANUP page) found may = if_both (λ s. IsGrow s → ⊥) (found == 0) (Fetching page true) (leaving pass.hands) (λ _ z. z) (λ _. ungrown_leaving pass.hands)
 take_grows sizes pass cell found may = absurd may
 
 give_grows : (sizes : Sizes) (pass : Pass) (cell : Word) (stage : Stage) → IsGivingBack stage → IsGrow (after_give sizes pass cell stage) → ⊥
 give_grows sizes pass cell Leaving may = ungrown_leaving (without cell pass.hands)
 give_grows sizes pass cell Releasing may = ungrown_giving sizes pass.call
 give_grows sizes pass cell (Giving page) may = if_both (λ s. IsGrow s → ⊥) (page + 1 == end_page sizes pass.call) Idle (Giving (page + 1)) (λ _ z. z) (λ _ z. z)
-give_grows sizes pass cell (Returning page) may = λ z. z
+give_grows sizes pass cell (Returning page dirty) may = if_both (λ s. IsGrow s → ⊥) dirty (Bounding page) (Reading (page + 1)) (λ _ z. z) (λ _ z. z)
+give_grows sizes pass cell (Unlocking page) may = λ z. z
 give_grows sizes pass cell stage may = absurd may
 
 none_grows : (sizes : Sizes) (values : Values) (pass : Pass) (found : ℕ) (deed : Deed) → IsUnplaced deed → MayStep sizes values pass deed → IsGrow (stage_after sizes pass deed found) → ⊥
@@ -118,7 +137,8 @@ none_grows sizes values pass found (Places reply) un may = absurd un
 none_grows sizes values pass found Stops un may = stops pass.stage may
   where
     stops : (stage : Stage) → IsFailing stage → IsGrow (after_stop pass stage) → ⊥
-    stops ReadFailing may = ungrown_leaving pass.hands
+    stops (PieceFailing page next) may = λ z. z
+    stops (ReadFailing page dirty) may = ungrown_leaving pass.hands
     stops WriteFailing may = λ z. z
     stops stage may = absurd may
 none_grows sizes values pass found Draws un may = if_both (λ s. IsGrow s → ⊥) (found == pass.head) (Seizing found) (leaving pass.hands) (λ _ z. z) (λ _. ungrown_leaving pass.hands)
@@ -128,6 +148,10 @@ none_grows sizes values pass found (Readies next) un may = if_both (λ s. IsGrow
 none_grows sizes values pass found Grows un may = ungrown_ending sizes pass
 none_grows sizes values pass found (Breaks next) un may = if_both (λ s. IsGrow s → ⊥) (next + 1 == pass.first + pass.entries) (leaving (without (ENTRY (slot_of sizes next)) pass.hands)) (Breaking (next + 1))
     (λ _. ungrown_leaving (without (ENTRY (slot_of sizes next)) pass.hands)) (λ _ z. z)
+none_grows sizes values pass found (Holds next) un may = subst (λ s. IsGrow (after_hold s) → ⊥) (sym may.1) (λ z. z)
+none_grows sizes values pass found (Returns next) un may = subst (λ s. IsGrow (after_return sizes pass s) → ⊥) (sym may.2)
+    (if_both (λ s. IsGrow s → ⊥) may.1 (leaving (without (ENTRY (slot_of sizes next)) pass.hands)) (scanning pass may.0 (next + 1))
+    (λ _. ungrown_leaving (without (ENTRY (slot_of sizes next)) pass.hands)) (λ _. ungrown_scanning pass may.0 (next + 1)))
 none_grows sizes values pass found deed un may = absurd may
 
 -- ---- a step that places a call
@@ -391,9 +415,11 @@ due_growing sizes values pass work stage due is = subst (IsDue sizes values pass
 
 worked_growing : (sizes : Sizes) (values : Values) (pass : Pass) (work : Work) (how : Ending) (stage : Stage) → IsDue sizes values pass work stage → IsGrow (stage_worked sizes pass how stage) → ⊥
 worked_growing sizes values pass work Made (Committing calls) due = if_both (λ s. IsGrow s → ⊥) (calls + 1 == length (commit_steps sizes pass pass.call)) (Pledging (first_page sizes pass.call)) (Committing (calls + 1)) (λ _ z. z) (λ _ z. z)
-worked_growing sizes values pass work Made (Copying page) due = λ z. z
+worked_growing sizes values pass work Made (Copying page dirty) due = λ z. z
+worked_growing sizes values pass work Made (Patching page number) due = λ z. z
 worked_growing sizes values pass work (Failed came faults) (Committing calls) due = λ z. z
-worked_growing sizes values pass work (Failed came faults) (Copying page) due = λ z. z
+worked_growing sizes values pass work (Failed came faults) (Copying page dirty) due = λ z. z
+worked_growing sizes values pass work (Failed came faults) (Patching page number) due = λ z. z
 worked_growing sizes values pass work how stage due = absurd due
 
 pub lengths_work : (sizes : Sizes) (opening : Files) (by : ℕ) (core : Core) (work : Work) → MayWork sizes core.values (core.passes by) work → Lengths sizes opening core → Lengths sizes opening (after_work sizes by work core)

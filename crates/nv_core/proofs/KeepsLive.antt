@@ -13,7 +13,7 @@ use Rattle.nv_plain.specs.declared.call.Reply.{Reply}
 use Rattle.nv_core.specs.Words.{Sizes, Word, HEAD, TAIL, STORE, ENTRY, free, filling, broken, index, was_readied}
 use Rattle.nv_core.specs.Values.{Value, Bare, APart, AStore, ABuffer, Job, Ending, called}
 use Rattle.nv_core.specs.Passes.{Stage, Reading, Seizing, Placing, Pass, IsAmong, IsUnseized, IsFilling, file_of, is_write, page_count, first_page}
-use Rattle.nv_core.specs.Deeds.{Deed, slot_of, page_at, ready_word, Places, Draws, Seizes, Readies, Breaks}
+use Rattle.nv_core.specs.Deeds.{Deed, slot_of, page_at, ready_word, Places, Draws, Seizes, Readies, Breaks, Holds, Returns}
 use Rattle.nv_core.specs.Stages.{leaving}
 use Rattle.nv_core.specs.Stepped.{added}
 use Rattle.nv_core.specs.Order.{Values, Work, MayPlace}
@@ -40,6 +40,7 @@ use Rattle.nv_core.proofs.KeepsGroups.{group_old, log_group}
 use Rattle.nv_core.proofs.KeepsStores.{step_store, read_store}
 use Rattle.nv_core.proofs.ApartLaws.{comes_first, after_both}
 use Rattle.nv_core.proofs.LiveLaws.{rising_same, rising_none, rising_split, rising_apart, all_apart, come_last, AllApart, pieces_after, pieces_apart, writes_apart, apart_turned}
+use Rattle.nv_core.proofs.Rekinded.{IsRekinded, holds_rekind, returns_rekind, rekind_still, rekind_before}
 
 -- ---- the stores
 
@@ -47,7 +48,7 @@ pub map_same : {A B : Type 0} (f g : A → B) (xs : List A) → ((x : A) → f x
 map_same f g [] same = refl
 map_same f g (x ∷ xs) same = ap₂ (λ a b. a ∷ b) (same x) (map_same f g xs same)
 
-stores_same : (sizes : Sizes) (old new : Values) → ((file : ℕ) → store_bytes (new (STORE file)) ≡ store_bytes (old (STORE file))) → store_files sizes new ≡ store_files sizes old
+pub stores_same : (sizes : Sizes) (old new : Values) → ((file : ℕ) → store_bytes (new (STORE file)) ≡ store_bytes (old (STORE file))) → store_files sizes new ≡ store_files sizes old
 stores_same sizes old new same = ap (λ c. record { contents = c }) (map_same (λ file. store_bytes (new (STORE file))) (λ file. store_bytes (old (STORE file))) (range_with_len 0 sizes.files) same)
 
 store_called : (job : Job) (how : Ending) (value : Value) → store_bytes (called job how value) ≡ store_bytes value
@@ -56,7 +57,7 @@ store_called job how (APart device room) = refl
 store_called job how (AStore device) = refl
 store_called job how (ABuffer buffer) = refl
 
-store_worked : (pass : Pass) (work : Work) (values : Values) (file : ℕ) → store_bytes (values_worked pass work values (STORE file)) ≡ store_bytes (values (STORE file))
+pub store_worked : (pass : Pass) (work : Work) (values : Values) (file : ℕ) → store_bytes (values_worked pass work values (STORE file)) ≡ store_bytes (values (STORE file))
 store_worked pass work values file =
     ap store_bytes (read_store work.job work.ending pass.stage (with_word values work.cell (called work.job work.ending (values work.cell))) file)
     ∙ by_word (λ other v. store_bytes v ≡ store_bytes (values other)) values work.cell (called work.job work.ending (values work.cell)) (store_called work.job work.ending (values work.cell)) (λ other ne. refl) (STORE file)
@@ -130,6 +131,17 @@ entry_live sizes first log placed opened by core deed found slot value sound pie
 
     before : (word : Word) → was_readied (core.words word) ≡ true → was_readied (with_word core.words (ENTRY slot) value word) ≡ true
     before = by_word (λ word v. was_readied (core.words word) ≡ true → was_readied v ≡ true) core.words (ENTRY slot) value (λ e. absurd (not_before e)) (λ word ne e. e)
+
+-- an entry is held or returned
+rekind_live : (sizes : Sizes) (first : Values) (log : Log) (placed : ℕ → Bool) (opened : Files) (by : ℕ) (core : Core) (deed : Deed) (found next value : ℕ) → Sound sizes first core → LivePieces sizes log placed opened core
+    → (after_step sizes by deed found core).words ≡ with_word core.words (ENTRY (slot_of sizes next)) value → IsRekinded sizes core next value
+    → added by (core.passes by) deed ≡ [] → LivePieces sizes log placed opened (after_step sizes by deed found core)
+rekind_live sizes first log placed opened by core deed found next value sound pieces words rekinded none =
+    same_live sizes first log placed opened by core deed found sound pieces
+    (ap (λ w. w HEAD) words ∙ word_else core.words (ENTRY (slot_of sizes next)) value HEAD (differ HEAD (ENTRY (slot_of sizes next)) refl))
+    (ap (λ w. w TAIL) words ∙ word_else core.words (ENTRY (slot_of sizes next)) value TAIL (differ TAIL (ENTRY (slot_of sizes next)) refl))
+    (λ other is. rekind_before sizes core next value rekinded (ENTRY other) (ap (λ w. was_readied (w (ENTRY other))) (sym words) ∙ is))
+    (λ other is. ap (λ w. was_readied (w (ENTRY other))) words ∙ rekind_still sizes core next value rekinded (ENTRY other) is) none
 
 -- ---- the window in three parts
 
@@ -698,6 +710,10 @@ live_step sizes first log placed opened by core (Breaks next) found plain page_i
     let at : HasDrawn sizes (core.passes by).call (core.passes by).entries × IsAmong (core.passes by).first (core.passes by).entries next = subst (StandsAt sizes (core.passes by)) may.may (sound.standing by).at in
     let old : entry_at sizes core next ≡ filling = sound.window.filling_is by next (subst (λ s. IsFilling s (core.passes by).first (core.passes by).entries next) (sym may.may) (omega arith, at.1.1)) in
     entry_live sizes first log placed opened by core (Breaks next) found (slot_of sizes next) broken sound live refl (λ e. not_both e refl) (λ e. not_both (ap was_readied (sym old) ∙ e) refl) refl
+live_step sizes first log placed opened by core (Holds next) found plain page_is sound groups pieces flight live may =
+    rekind_live sizes first log placed opened by core (Holds next) found next (found + 1) sound live refl (holds_rekind sizes first by core found next sound may) refl
+live_step sizes first log placed opened by core (Returns next) found plain page_is sound groups pieces flight live may =
+    rekind_live sizes first log placed opened by core (Returns next) found next (found - 1) sound live refl (returns_rekind sizes first by core found next sound may) refl
 live_step sizes first log placed opened by core deed found plain page_is sound groups pieces flight live may = plain_live sizes first log placed opened by core deed found sound live may refl refl (λ slot. refl) refl
 
 -- ---- a call that begins, and a device call

@@ -3,11 +3,11 @@ use Rattle.std.proofs.Common.{◌≡◌, ◌≢◌, ◌⊎◌, ℕ, ◌+◌, ◌
 use Rattle.std.proofs.lemmas.Bool.{eqb-true, eq-eqb, and_from, and_parts, ltb-true, le-ltb, cases_eq, cases_lt, cases_Bool}
 use Rattle.nv_plain.specs.declared.call.FileCall.{FileCall}
 use Rattle.nv_plain.specs.declared.call.Reply.{Reply}
-use Rattle.nv_core.specs.Words.{Sizes, Word, STOP, ORDER, HEAD, TAIL, SIZE, LENGTH, STORE, ENTRY, PAGE, DIRTY, index}
+use Rattle.nv_core.specs.Words.{Sizes, Word, STOP, ORDER, HEAD, TAIL, SIZE, LENGTH, STORE, ENTRY, PAGE, DIRTY, index, CLEANUP, ready, is_entry_of}
 use Rattle.nv_core.specs.Values.{Ending, Made, Failed}
-use Rattle.nv_core.specs.Passes.{Stage, Idle, Locking, Measuring, Sizing, Checking, Ordering, Reading, Fetching, Copying, Returning, Waiting, Heading, Tailing, Drawing, Seizing, Committing, Pledging, Readying, Placing, Growing, Releasing, Giving, Leaving, ReadFailing, WriteFailing, Breaking, Pass, file_of, at_of, len_of, is_write, is_read, page_count, first_page, end_page, without, times}
-use Rattle.nv_core.specs.Deeds.{Deed, Loads, Takes, Gives, Places, Stops, Draws, Seizes, Pledges, Readies, Grows, Breaks, Splits, Leaves, Joins, slot_of, value_after}
-use Rattle.nv_core.specs.Stages.{stage_after, after_load, after_take, after_give, after_stop, leaving, giving, ending, ordered, copying, exceeds, first_stage}
+use Rattle.nv_core.specs.Passes.{Stage, Idle, Locking, Measuring, Sizing, Checking, Ordering, Reading, Fetching, Copying, Returning, Waiting, Heading, Tailing, Drawing, Seizing, Committing, Pledging, Readying, Placing, Growing, Releasing, Giving, Leaving, ReadFailing, WriteFailing, Breaking, Pass, file_of, at_of, len_of, is_write, is_read, page_count, first_page, end_page, without, times, Bounding, Starting, Scanning, Grasping, Patching, Restoring, Unlocking, PieceFailing}
+use Rattle.nv_core.specs.Deeds.{Deed, Loads, Takes, Gives, Places, Stops, Draws, Seizes, Pledges, Readies, Grows, Breaks, Splits, Leaves, Joins, slot_of, value_after, Holds, Returns}
+use Rattle.nv_core.specs.Stages.{stage_after, after_load, after_take, after_give, after_stop, leaving, giving, ending, ordered, copying, exceeds, first_stage, scanning, after_head, after_tail, after_look, after_hold, after_return}
 use Rattle.nv_core.specs.Stepped.{begun, length_after, sized_after}
 use Rattle.nv_core.specs.Order.{Values, Work, MayWork, MayStep, MayLoad, MayTake, MayGive, MayPlace, IsDue, IsFailing, commit_steps}
 use Rattle.nv_core.proofs.PageLaws.{some_pages}
@@ -15,7 +15,7 @@ use Rattle.nv_core.specs.Core.{Core, changes, changed, made_stepped, after_step,
 use Rattle.nv_core.specs.Events.{MayDo, MayFind, MayBegin}
 use Rattle.nv_core.specs.Standing.{StandsAt, IsPage}
 use Rattle.nv_core.specs.Holding.{one_if, is_among, HoldsLocks}
-use Rattle.nv_core.specs.Loaded.{HasMeasured, SawClean, Loaded}
+use Rattle.nv_core.specs.Loaded.{HasMeasured, SawClean, Loaded, Looks}
 use Rattle.nv_core.specs.Sound.{Sound}
 use Rattle.nv_core.proofs.Changes.{by_number, by_word, number_here, word_here, word_else, differ}
 use Rattle.nv_core.proofs.Choices.{if_both, not_both, when_true, leaving_both, IsGivingBack, gives_back}
@@ -27,7 +27,7 @@ use Rattle.nv_core.proofs.Inherits.{inherits}
 -- ---- HEAD and TAIL
 
 -- HEAD never falls, and a pass that steps sees it as it is, or as before
-head_up : (sizes : Sizes) (by : ℕ) (core : Core) (deed : Deed) (found : ℕ) → MayFind sizes by core deed found → core.words HEAD ≤ (after_step sizes by deed found core).words HEAD
+pub head_up : (sizes : Sizes) (by : ℕ) (core : Core) (deed : Deed) (found : ℕ) → MayFind sizes by core deed found → core.words HEAD ≤ (after_step sizes by deed found core).words HEAD
 head_up sizes by core Draws found may = subst (λ v. core.words HEAD ≤ v) (sym (word_here core.words HEAD _))
     (if_both (λ v. core.words HEAD ≤ v) (found == (core.passes by).head) _ found (λ _. let e = may.is in omega (arith, e)) (λ _. let e = may.is in omega (arith, e)))
 head_up sizes by core deed found may = let e = untouched sizes by core deed found may HEAD refl in omega (arith, e)
@@ -36,7 +36,7 @@ tail_touch : (deed : Deed) → touches deed TAIL ≡ false
 tail_touch (Takes cell) = refl
 tail_touch deed = refl
 
-tail_is : (sizes : Sizes) (by : ℕ) (core : Core) (deed : Deed) (found : ℕ) → MayFind sizes by core deed found → (after_step sizes by deed found core).words TAIL ≡ core.words TAIL
+pub tail_is : (sizes : Sizes) (by : ℕ) (core : Core) (deed : Deed) (found : ℕ) → MayFind sizes by core deed found → (after_step sizes by deed found core).words TAIL ≡ core.words TAIL
 tail_is sizes by core deed found may = untouched sizes by core deed found may TAIL (tail_touch deed)
 
 head_here : (sizes : Sizes) (first : Values) (by : ℕ) (core : Core) (found : ℕ) (deed : Deed) → Sound sizes first core → MayFind sizes by core deed found → (changed sizes by core deed found).head ≤ (after_step sizes by deed found core).words HEAD
@@ -123,8 +123,9 @@ at stage e is = subst HasMeasured (sym e) is
 before_load : (sizes : Sizes) (values : Values) (pass : Pass) (word : Word) → IsElse (Loads word) → MayLoad sizes values pass word → HasMeasured pass.stage
 before_load sizes values pass STOP other may = at Checking may tt
 before_load sizes values pass ORDER other may = at Ordering may tt
-before_load sizes values pass HEAD other may = at Heading may tt
-before_load sizes values pass TAIL other may = at Tailing may tt
+before_load sizes values pass HEAD other may = elim may [ inl here ↦ at Heading here tt | inr here ↦ at (Bounding here.0) here.1 tt ]
+before_load sizes values pass TAIL other may = elim may [ inl here ↦ at Tailing here tt | inr here ↦ at (Starting here.0) here.1 tt ]
+before_load sizes values pass (ENTRY slot) other may = at (Scanning may.0 may.1) may.2 tt
 before_load sizes values pass (DIRTY page) other may = at (Reading may.0) may.1.stage tt
 before_load sizes values pass (LENGTH file) other may = absurd other
 before_load sizes values pass word other may = absurd may
@@ -133,14 +134,16 @@ before_take : (sizes : Sizes) (pass : Pass) (cell : Word) (found : ℕ) → MayT
 before_take sizes pass (PAGE page) found may is = absurd (if_both (λ s. HasMeasured s → ⊥) (found == 0) (after_take sizes pass (PAGE page)) (leaving pass.hands)
     (λ _. if_both (λ s. HasMeasured s → ⊥) (page + 1 == end_page sizes pass.call) Measuring (Locking (page + 1)) (λ _ z. z) (λ _ z. z)) (λ _. unmeasured pass.hands) is)
 before_take sizes pass (SIZE file) found may is = absurd (if_both (λ s. HasMeasured s → ⊥) (found == 0) Measuring (leaving pass.hands) (λ _ z. z) (λ _. unmeasured pass.hands) is)
-before_take sizes pass (STORE file) found may is = at (Fetching may.0) may.1 tt
+before_take sizes pass (STORE file) found may is = at (Fetching may.0 may.1) may.2 tt
+before_take sizes pass (CLEANUP page) found may is = at (Waiting page) may tt
 before_take sizes pass cell found may is = absurd may
 
 before_give : (sizes : Sizes) (pass : Pass) (cell : Word) (stage : Stage) → MayGive pass cell stage → HasMeasured (after_give sizes pass cell stage) → HasMeasured stage
 before_give sizes pass cell Leaving may is = absurd (unmeasured (without cell pass.hands) is)
 before_give sizes pass cell Releasing may is = absurd (unmeasured_giving sizes pass.call is)
 before_give sizes pass cell (Giving page) may is = absurd (if_both (λ s. HasMeasured s → ⊥) (page + 1 == end_page sizes pass.call) Idle (Giving (page + 1)) (λ _ z. z) (λ _ z. z) is)
-before_give sizes pass cell (Returning page) may is = tt
+before_give sizes pass cell (Returning page dirty) may is = tt
+before_give sizes pass cell (Unlocking page) may is = tt
 before_give sizes pass cell stage may is = is
 
 before_place : (sizes : Sizes) (values : Values) (pass : Pass) (reply : Reply) (stage : Stage) → MayPlace sizes values pass reply stage → HasMeasured stage
@@ -156,7 +159,8 @@ before sizes values pass found (Places reply) other may is = before_place sizes 
 before sizes values pass found Stops other may is = absurd (stops pass.stage may is)
   where
     stops : (stage : Stage) → IsFailing stage → HasMeasured (after_stop pass stage) → ⊥
-    stops ReadFailing may is = unmeasured pass.hands is
+    stops (ReadFailing page dirty) may is = unmeasured pass.hands is
+    stops (PieceFailing page next) may is = is
     stops WriteFailing may is = is
     stops stage may is = absurd may
 before sizes values pass found Draws other may is = at Drawing may tt
@@ -166,6 +170,12 @@ before sizes values pass found (Readies next) other may is = at (Readying next) 
 before sizes values pass found Grows other may is = absurd (unmeasured_ending sizes pass is)
 before sizes values pass found (Breaks next) other may is = absurd (if_both (λ s. HasMeasured s → ⊥) (next + 1 == pass.first + pass.entries) (leaving (without (ENTRY (slot_of sizes next)) pass.hands)) (Breaking (next + 1))
     (λ _. unmeasured (without (ENTRY (slot_of sizes next)) pass.hands)) (λ _ z. z) is)
+before sizes values pass found (Holds next) other may is = at (Grasping may.0 next) may.1 tt
+before sizes values pass found (Returns next) other may is = go may.1 may.2 (subst (λ s. HasMeasured (after_return sizes pass s)) may.2 is)
+  where
+    go : (failed : Bool) → pass.stage ≡ Restoring may.0 next failed → HasMeasured (after_return sizes pass (Restoring may.0 next failed)) → HasMeasured pass.stage
+    go true here is = absurd (unmeasured (without (ENTRY (slot_of sizes next)) pass.hands) is)
+    go false here is = at (Restoring may.0 next false) here tt
 before sizes values pass found deed other may is = absurd may
 
 -- what the steps but that load leave of it
@@ -200,6 +210,7 @@ holds_size sizes pass stage measured held sized = go stage measured held
     go (Giving page) measured held = absurd measured
     go Leaving measured held = absurd measured
     go (Breaking number) measured held = absurd measured
+    go (Restoring page number true) measured held = absurd measured
     go stage measured held = one (held (SIZE (file_of pass.call)) (λ slot. differ (SIZE (file_of pass.call)) (ENTRY slot) refl))
 
 -- no other pass holds what one holds
@@ -294,9 +305,9 @@ pub holds_page : (sizes : Sizes) (pass : Pass) (page : ℕ) → IsPage sizes pas
 holds_page sizes pass page is held = held ∙ among_in (first_page sizes pass.call) (end_page sizes pass.call) page is.0 is.1
 
 clean_page : (sizes : Sizes) (pass : Pass) (page : ℕ) (stage : Stage) → StandsAt sizes pass stage → HoldsLocks sizes pass stage → SawClean stage page → times (PAGE page) pass.hands ≡ 1
-clean_page sizes pass page (Fetching next) stands held saw = subst (λ p. times (PAGE p) pass.hands ≡ 1) saw (holds_page sizes pass next stands.1 (held (PAGE next) (λ slot. differ (PAGE next) (ENTRY slot) refl)))
-clean_page sizes pass page (Copying next) stands held saw = subst (λ p. times (PAGE p) pass.hands ≡ 1) saw (holds_page sizes pass next stands.1 (held (PAGE next) (λ slot. differ (PAGE next) (ENTRY slot) refl)))
-clean_page sizes pass page (Returning next) stands held saw = subst (λ p. times (PAGE p) pass.hands ≡ 1) saw (holds_page sizes pass next stands.1 (held (PAGE next) (λ slot. differ (PAGE next) (ENTRY slot) refl)))
+clean_page sizes pass page (Fetching next false) stands held saw = subst (λ p. times (PAGE p) pass.hands ≡ 1) saw (holds_page sizes pass next stands.1 (held (PAGE next) (λ slot. differ (PAGE next) (ENTRY slot) refl)))
+clean_page sizes pass page (Copying next false) stands held saw = subst (λ p. times (PAGE p) pass.hands ≡ 1) saw (holds_page sizes pass next stands.1 (held (PAGE next) (λ slot. differ (PAGE next) (ENTRY slot) refl)))
+clean_page sizes pass page (Returning next false) stands held saw = subst (λ p. times (PAGE p) pass.hands ≡ 1) saw (holds_page sizes pass next stands.1 (held (PAGE next) (λ slot. differ (PAGE next) (ENTRY slot) refl)))
 clean_page sizes pass page stage stands held saw = absurd saw
 
 pub pledged_page : (sizes : Sizes) (pass : Pass) (page : ℕ) → StandsAt sizes pass (Pledging page) → HoldsLocks sizes pass (Pledging page) → times (PAGE page) pass.hands ≡ 1
@@ -328,30 +339,55 @@ unseen_giving sizes call page = if_both (λ s. SawClean s page → ⊥) (page_co
 unseen_ending : (sizes : Sizes) (pass : Pass) (page : ℕ) → SawClean (ending sizes pass) page → ⊥
 unseen_ending sizes pass page = if_both (λ s. SawClean s page → ⊥) pass.sized Releasing (giving sizes pass.call) (λ _ z. z) (λ _. unseen_giving sizes pass.call page)
 
+unseen_scanning : (pass : Pass) (page number seen : ℕ) → SawClean (scanning pass page number) seen → ⊥
+unseen_scanning pass page number seen = if_both (λ s. SawClean s seen → ⊥) (nat_lt number pass.head) (Scanning page number) (Unlocking page) (λ _ z. z) (λ _ z. z)
+
 clean_load : (sizes : Sizes) (values : Values) (pass : Pass) (word : Word) (found page : ℕ) → MayLoad sizes values pass word → SawClean (after_load sizes pass word found) page → (word ≡ DIRTY page) × (found ≡ 0)
 clean_load sizes values pass (LENGTH file) found page may saw = absurd (if_both (λ s. SawClean s page → ⊥) (exceeds pass found && not pass.sized) Sizing Checking (λ _ z. z) (λ _ z. z) saw)
 clean_load sizes values pass STOP found page may saw = absurd (if_both (λ s. SawClean s page → ⊥) (found == 0) Ordering (leaving pass.hands) (λ _ z. z) (λ _. unseen pass.hands page) saw)
 clean_load sizes values pass ORDER found page may saw = absurd (if_both (λ s. SawClean s page → ⊥) (nat_lt found (2 ^ 60)) (ordered sizes pass.call) (leaving pass.hands)
     (λ _. if_both (λ s. SawClean s page → ⊥) (is_write pass.call) Heading (if is_read pass.call then Reading (first_page sizes pass.call) else Placing) (λ _ z. z)
     (λ _. if_both (λ s. SawClean s page → ⊥) (is_read pass.call) (Reading (first_page sizes pass.call)) Placing (λ _ z. z) (λ _ z. z))) (λ _. unseen pass.hands page) saw)
-clean_load sizes values pass HEAD found page may saw = absurd (if_both (λ s. SawClean s page → ⊥) (nat_le (found + page_count sizes pass.call) (2 ^ 60)) Tailing (leaving pass.hands) (λ _ z. z) (λ _. unseen pass.hands page) saw)
-clean_load sizes values pass TAIL found page may saw = absurd (if_both (λ s. SawClean s page → ⊥) (nat_le (pass.head + page_count sizes pass.call) (found + sizes.entries)) Drawing (leaving pass.hands) (λ _ z. z) (λ _. unseen pass.hands page) saw)
-clean_load sizes values pass (DIRTY next) found page may saw = if_both (λ s. SawClean s page → (DIRTY next ≡ DIRTY page) × (found ≡ 0)) (found == 0) (Fetching next) (Waiting next) (λ e is. (ap DIRTY is, eqb-true found 0 e)) (λ _ z. absurd z) saw
+clean_load sizes values pass HEAD found page may saw = elim may [
+  | inl here ↦ absurd (clean_head here (subst (λ s. SawClean (after_head sizes pass found s) page) here saw))
+  | inr here ↦ absurd (subst (λ s. SawClean (after_head sizes pass found s) page) here.1 saw)
+]
+  where
+    clean_head : pass.stage ≡ Heading → SawClean (after_head sizes pass found Heading) page → ⊥
+    clean_head here = if_both (λ s. SawClean s page → ⊥) (nat_le (found + page_count sizes pass.call) (2 ^ 60)) Tailing (leaving pass.hands) (λ _ z. z) (λ _. unseen pass.hands page)
+clean_load sizes values pass TAIL found page may saw = elim may [
+  | inl here ↦ absurd (clean_tail here (subst (λ s. SawClean (after_tail sizes pass found s) page) here saw))
+  | inr here ↦ absurd (unseen_scanning pass here.0 found page (subst (λ s. SawClean (after_tail sizes pass found s) page) here.1 saw))
+]
+  where
+    clean_tail : pass.stage ≡ Tailing → SawClean (after_tail sizes pass found Tailing) page → ⊥
+    clean_tail here = if_both (λ s. SawClean s page → ⊥) (nat_le (pass.head + page_count sizes pass.call) (found + sizes.entries)) Drawing (leaving pass.hands) (λ _ z. z) (λ _. unseen pass.hands page)
+clean_load sizes values pass (ENTRY slot) found page may saw =
+    absurd (if_both (λ s. SawClean s page → ⊥) (is_entry_of ready may.0 found) (Grasping may.0 may.1) (scanning pass may.0 (may.1 + 1)) (λ _ z. z) (λ _. unseen_scanning pass may.0 (may.1 + 1) page)
+    (subst (λ s. SawClean (after_look pass found s) page) may.2 saw))
+clean_load sizes values pass (DIRTY next) found page may saw = if_both (λ s. SawClean s page → (DIRTY next ≡ DIRTY page) × (found ≡ 0)) (found == 0) (Fetching next false) (Waiting next) (λ e is. (ap DIRTY is, eqb-true found 0 e)) (λ _ z. absurd z) saw
 clean_load sizes values pass word found page may saw = absurd may
 
 clean_take : (sizes : Sizes) (pass : Pass) (cell : Word) (found page : ℕ) → MayTake pass cell → SawClean (stage_after sizes pass (Takes cell) found) page → SawClean pass.stage page
 clean_take sizes pass (PAGE next) found page may saw = absurd (if_both (λ s. SawClean s page → ⊥) (found == 0) (after_take sizes pass (PAGE next)) (leaving pass.hands)
     (λ _. if_both (λ s. SawClean s page → ⊥) (next + 1 == end_page sizes pass.call) Measuring (Locking (next + 1)) (λ _ z. z) (λ _ z. z)) (λ _. unseen pass.hands page) saw)
 clean_take sizes pass (SIZE file) found page may saw = absurd (if_both (λ s. SawClean s page → ⊥) (found == 0) Measuring (leaving pass.hands) (λ _ z. z) (λ _. unseen pass.hands page) saw)
-clean_take sizes pass (STORE file) found page may saw = subst (λ s. SawClean s page) (sym may.1)
-    (if_both (λ s. SawClean s page → may.0 ≡ page) (found == 0) (copying pass.stage) (leaving pass.hands) (λ _. subst (λ s. SawClean (copying s) page → may.0 ≡ page) (sym may.1) (λ is. is)) (λ _ z. absurd (unseen pass.hands page z)) saw)
+clean_take sizes pass (STORE file) found page may saw = subst (λ s. SawClean s page) (sym may.2)
+    (if_both (λ s. SawClean s page → SawClean (Fetching may.0 may.1) page) (found == 0) (copying pass.stage) (leaving pass.hands)
+    (λ _. subst (λ s. SawClean (copying s) page → SawClean (Fetching may.0 may.1) page) (sym may.2) (copied may.1)) (λ _ z. absurd (unseen pass.hands page z)) saw)
+  where
+    copied : (dirty : Bool) → SawClean (Copying may.0 dirty) page → SawClean (Fetching may.0 dirty) page
+    copied true is = is
+    copied false is = is
+clean_take sizes pass (CLEANUP next) found page may saw = absurd (if_both (λ s. SawClean s page → ⊥) (found == 0) (Fetching next true) (leaving pass.hands) (λ _ z. z) (λ _. unseen pass.hands page) saw)
 clean_take sizes pass cell found page may saw = absurd may
 
 clean_give : (sizes : Sizes) (pass : Pass) (cell : Word) (page : ℕ) (stage : Stage) → IsGivingBack stage → SawClean (after_give sizes pass cell stage) page → ⊥
 clean_give sizes pass cell page Leaving may saw = unseen (without cell pass.hands) page saw
 clean_give sizes pass cell page Releasing may saw = unseen_giving sizes pass.call page saw
 clean_give sizes pass cell page (Giving next) may saw = if_both (λ s. SawClean s page → ⊥) (next + 1 == end_page sizes pass.call) Idle (Giving (next + 1)) (λ _ z. z) (λ _ z. z) saw
-clean_give sizes pass cell page (Returning next) may saw = saw
+clean_give sizes pass cell page (Returning next dirty) may saw = if_both (λ s. SawClean s page → ⊥) dirty (Bounding next) (Reading (next + 1)) (λ _ z. z) (λ _ z. z) saw
+clean_give sizes pass cell page (Unlocking next) may saw = saw
 clean_give sizes pass cell page stage may saw = may
 
 clean_here : (sizes : Sizes) (first : Values) (by : ℕ) (core : Core) (found : ℕ) (deed : Deed) → Sound sizes first core → MayFind sizes by core deed found
@@ -365,7 +401,8 @@ clean_here sizes first by core found (Places reply) sound may page saw = absurd 
 clean_here sizes first by core found Stops sound may page saw = absurd (stops (core.passes by).stage may.may saw)
   where
     stops : (stage : Stage) → IsFailing stage → SawClean (after_stop (core.passes by) stage) page → ⊥
-    stops ReadFailing may saw = unseen (core.passes by).hands page saw
+    stops (ReadFailing other dirty) may saw = unseen (core.passes by).hands page saw
+    stops (PieceFailing other next) may saw = saw
     stops WriteFailing may saw = saw
     stops stage may saw = may
 clean_here sizes first by core found Draws sound may page saw = absurd (if_both (λ s. SawClean s page → ⊥) (found == (core.passes by).head) (Seizing found) (leaving (core.passes by).hands) (λ _ z. z) (λ _. unseen (core.passes by).hands page) saw)
@@ -374,6 +411,11 @@ clean_here sizes first by core found (Pledges next) sound may page saw = absurd 
 clean_here sizes first by core found (Readies next) sound may page saw = absurd (if_both (λ s. SawClean s page → ⊥) (next == (core.passes by).first) Placing (Readying (if next + 1 == (core.passes by).first + (core.passes by).entries then (core.passes by).first else next + 1)) (λ _ z. z) (λ _ z. z) saw)
 clean_here sizes first by core found Grows sound may page saw = absurd (unseen_ending sizes (core.passes by) page saw)
 clean_here sizes first by core found (Breaks next) sound may page saw = absurd (if_both (λ s. SawClean s page → ⊥) (next + 1 == (core.passes by).first + (core.passes by).entries) (leaving (without (ENTRY (slot_of sizes next)) (core.passes by).hands)) (Breaking (next + 1)) (λ _. unseen (without (ENTRY (slot_of sizes next)) (core.passes by).hands) page) (λ _ z. z) saw)
+clean_here sizes first by core found (Holds next) sound may page saw = absurd (subst (λ s. SawClean (after_hold s) page) may.may.1 saw)
+clean_here sizes first by core found (Returns next) sound may page saw =
+    absurd (if_both (λ s. SawClean s page → ⊥) may.may.1 (leaving (without (ENTRY (slot_of sizes next)) (core.passes by).hands)) (scanning (core.passes by) may.may.0 (next + 1))
+    (λ _. unseen (without (ENTRY (slot_of sizes next)) (core.passes by).hands) page) (λ _. unseen_scanning (core.passes by) may.may.0 (next + 1) page)
+    (subst (λ s. SawClean (after_return sizes (core.passes by) s) page) may.may.2 saw))
 clean_here sizes first by core found Splits sound may page saw = absurd saw
 clean_here sizes first by core found (Leaves cell) sound may page saw = untouched sizes by core (Leaves cell) found may (DIRTY page) refl ∙ sound.loaded.clean by page saw
 clean_here sizes first by core found (Joins number) sound may page saw = untouched sizes by core (Joins number) found may (DIRTY page) refl ∙ sound.loaded.clean by page saw
@@ -381,8 +423,9 @@ clean_here sizes first by core found (Joins number) sound may page saw = untouch
 -- ---- all of it
 
 -- a pass that a step leaves, at a word that it leaves
-pub loaded_step : (sizes : Sizes) (first : Values) (by : ℕ) (core : Core) (deed : Deed) (found : ℕ) → Sound sizes first core → by ≤ core.made → MayFind sizes by core deed found → Loaded (after_step sizes by deed found core)
-loaded_step sizes first by core deed found sound made may = record {
+pub loaded_step : (sizes : Sizes) (first : Values) (by : ℕ) (core : Core) (deed : Deed) (found : ℕ) → Sound sizes first core → by ≤ core.made → MayFind sizes by core deed found
+    → ((n : ℕ) → Looks sizes (after_step sizes by deed found core) ((after_step sizes by deed found core).passes n).stage) → Loaded sizes (after_step sizes by deed found core)
+loaded_step sizes first by core deed found sound made may looks = record {
   head = by_number (λ n (p : Pass). p.head ≤ (after_step sizes by deed found core).words HEAD) core.passes (changes by core.made deed) (changed sizes by core deed found)
       (head_here sizes first by core found deed sound may) (λ n ne. le_trans (sound.loaded.head n) (head_up sizes by core deed found may));
   tail = by_number (λ n (p : Pass). p.tail ≤ (after_step sizes by deed found core).words TAIL) core.passes (changes by core.made deed) (changed sizes by core deed found)
@@ -398,6 +441,7 @@ loaded_step sizes first by core deed found sound made may = record {
       (length_is_here sizes first by core found deed sound may) (λ n ne. elim (cases_eq n by) [ inl same ↦ length_is_same n deed may ne same | inr other ↦ length_is_else sizes first by core found deed sound may n other ]);
   clean = by_number (λ n (p : Pass). (page : ℕ) → SawClean p.stage page → (after_step sizes by deed found core).words (DIRTY page) ≡ 0) core.passes (changes by core.made deed) (changed sizes by core deed found)
       (clean_here sizes first by core found deed sound may) (λ n ne. elim (cases_eq n by) [ inl same ↦ clean_same n deed may ne same | inr other ↦ clean_else sizes first by core found deed sound may n other ]);
+  looks = looks;
 }
   where
     -- the pass that splits is left as it is
@@ -423,8 +467,9 @@ no_bytes sizes call none = elim (cases_lt 0 (len_of call)) [
 first_measured : (sizes : Sizes) (call : FileCall) → HasMeasured (first_stage sizes call) → (page_count sizes call == 0) ≡ true
 first_measured sizes call = if_both (λ s. HasMeasured s → (page_count sizes call == 0) ≡ true) (page_count sizes call == 0) Checking (Locking (first_page sizes call)) (λ e _. e) (λ _ z. absurd z)
 
-pub loaded_begin : (sizes : Sizes) (first : Values) (by : ℕ) (core : Core) (call : FileCall) → Sound sizes first core → MayBegin sizes call (core.passes by) → Loaded (after_begin sizes by call core)
-loaded_begin sizes first by core call sound may = record {
+pub loaded_begin : (sizes : Sizes) (first : Values) (by : ℕ) (core : Core) (call : FileCall) → Sound sizes first core → MayBegin sizes call (core.passes by)
+    → ((n : ℕ) → Looks sizes (after_begin sizes by call core) ((after_begin sizes by call core).passes n).stage) → Loaded sizes (after_begin sizes by call core)
+loaded_begin sizes first by core call sound may looks = record {
   head = by_number (λ n (p : Pass). p.head ≤ core.words HEAD) core.passes by _ (sound.loaded.head by) (λ n ne. sound.loaded.head n);
   tail = by_number (λ n (p : Pass). p.tail ≤ core.words TAIL) core.passes by _ (sound.loaded.tail by) (λ n ne. sound.loaded.tail n);
   length = by_number (λ n (p : Pass). p.length ≤ core.words (LENGTH (file_of p.call))) core.passes by _ (omega arith) (λ n ne. sound.loaded.length n);
@@ -436,23 +481,29 @@ loaded_begin sizes first by core call sound may = record {
       (λ measured sized. absurd (not_both sized refl)) (λ n ne. sound.loaded.length_is n);
   clean = by_number (λ n (p : Pass). (page : ℕ) → SawClean p.stage page → core.words (DIRTY page) ≡ 0) core.passes by (begun sizes call (core.passes by))
       (λ page. if_both (λ s. SawClean s page → core.words (DIRTY page) ≡ 0) (page_count sizes call == 0) Checking (Locking (first_page sizes call)) (λ _ z. absurd z) (λ _ z. absurd z)) (λ n ne. sound.loaded.clean n);
+  looks = looks;
 }
 
 worked_measured : (sizes : Sizes) (values : Values) (pass : Pass) (work : Work) (stage : Stage) (how : Ending) → IsDue sizes values pass work stage → HasMeasured (stage_worked sizes pass how stage) → HasMeasured stage
 worked_measured sizes values pass work (Committing calls) how due is = tt
-worked_measured sizes values pass work (Copying page) how due is = tt
+worked_measured sizes values pass work (Copying page dirty) how due is = tt
+worked_measured sizes values pass work (Patching page number) how due is = tt
 worked_measured sizes values pass work stage how due is = absurd due
 
 worked_clean : (sizes : Sizes) (values : Values) (pass : Pass) (work : Work) (page : ℕ) (stage : Stage) (how : Ending) → IsDue sizes values pass work stage → SawClean (stage_worked sizes pass how stage) page → SawClean stage page
 worked_clean sizes values pass work page (Committing calls) Made due is =
     absurd (if_both (λ s. SawClean s page → ⊥) (calls + 1 == length (commit_steps sizes pass pass.call)) (Pledging (first_page sizes pass.call)) (Committing (calls + 1)) (λ _ z. z) (λ _ z. z) is)
 worked_clean sizes values pass work page (Committing calls) (Failed came faults) due is = is
-worked_clean sizes values pass work page (Copying next) Made due is = is
-worked_clean sizes values pass work page (Copying next) (Failed came faults) due is = absurd is
+worked_clean sizes values pass work page (Copying next true) Made due is = is
+worked_clean sizes values pass work page (Copying next false) Made due is = is
+worked_clean sizes values pass work page (Copying next dirty) (Failed came faults) due is = absurd is
+worked_clean sizes values pass work page (Patching next number) Made due is = absurd is
+worked_clean sizes values pass work page (Patching next number) (Failed came faults) due is = absurd is
 worked_clean sizes values pass work page stage how due is = absurd due
 
-pub loaded_work : (sizes : Sizes) (first : Values) (by : ℕ) (core : Core) (work : Work) → Sound sizes first core → MayWork sizes core.values (core.passes by) work → Loaded (after_work sizes by work core)
-loaded_work sizes first by core work sound may = record {
+pub loaded_work : (sizes : Sizes) (first : Values) (by : ℕ) (core : Core) (work : Work) → Sound sizes first core → MayWork sizes core.values (core.passes by) work
+    → ((n : ℕ) → Looks sizes (after_work sizes by work core) ((after_work sizes by work core).passes n).stage) → Loaded sizes (after_work sizes by work core)
+loaded_work sizes first by core work sound may looks = record {
   head = by_number (λ n (p : Pass). p.head ≤ core.words HEAD) core.passes by _ (sound.loaded.head by) (λ n ne. sound.loaded.head n);
   tail = by_number (λ n (p : Pass). p.tail ≤ core.words TAIL) core.passes by _ (sound.loaded.tail by) (λ n ne. sound.loaded.tail n);
   length = by_number (λ n (p : Pass). p.length ≤ core.words (LENGTH (file_of p.call))) core.passes by _ (sound.loaded.length by) (λ n ne. sound.loaded.length n);
@@ -464,4 +515,5 @@ loaded_work sizes first by core work sound may = record {
       (λ measured sized. sound.loaded.length_is by (worked_measured sizes core.values (core.passes by) work (core.passes by).stage work.ending may.due measured) sized) (λ n ne. sound.loaded.length_is n);
   clean = by_number (λ n (p : Pass). (page : ℕ) → SawClean p.stage page → core.words (DIRTY page) ≡ 0) core.passes by (worked sizes work (core.passes by))
       (λ page saw. sound.loaded.clean by page (worked_clean sizes core.values (core.passes by) work page (core.passes by).stage work.ending may.due saw)) (λ n ne. sound.loaded.clean n);
+  looks = looks;
 }

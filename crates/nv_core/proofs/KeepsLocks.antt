@@ -1,10 +1,10 @@
 -- Each event keeps the locks.
-use Rattle.std.proofs.Common.{◌≡◌, ◌≢◌, ℕ, ◌+◌, ◌<◌, ◌≤◌, ◌==◌, ◌&&◌, nat_le, true, false, if◌then◌else◌, List, [], ◌∷◌, inl, inr, refl, sym, ap, subst, ◌∙◌, arith}
-use Rattle.std.proofs.lemmas.Bool.{le-leb, and_from, eqb-true, eqb-false, eq-eqb, ne_eqb, cases_eq}
+use Rattle.std.proofs.Common.{◌≡◌, ◌≢◌, ℕ, ◌+◌, ◌<◌, ◌≤◌, ◌==◌, ◌&&◌, nat_le, true, false, if◌then◌else◌, List, [], ◌∷◌, inl, inr, refl, sym, ap, subst, ◌∙◌, arith, ◌-◌}
+use Rattle.std.proofs.lemmas.Bool.{le-leb, and_from, eqb-true, eqb-false, eq-eqb, ne_eqb, cases_eq, and_parts}
 use Rattle.nv_plain.specs.declared.call.FileCall.{FileCall}
-use Rattle.nv_core.specs.Words.{Sizes, Word, PAGE, SIZE, STORE, ENTRY, is_shut, is_lock, kind_of, entry_word, ready, cleaned, was_readied}
-use Rattle.nv_core.specs.Passes.{Stage, Leaving, Releasing, Giving, Returning, Readying, Pass, IsUnseized, IsFilling, IsAmong, IsLastTaken, file_of, end_page, times}
-use Rattle.nv_core.specs.Deeds.{Deed, Stays, Comes, moved, move_of, slot_of, page_at, ready_word, Loads, Takes, Gives, Places, Stops, Draws, Seizes, Pledges, Readies, Grows, Breaks, Splits, Leaves, Joins, word_of, value_after}
+use Rattle.nv_core.specs.Words.{Sizes, Word, PAGE, SIZE, STORE, ENTRY, is_shut, is_lock, kind_of, entry_word, ready, cleaned, was_readied, CLEANUP, held, page_of, is_entry_of}
+use Rattle.nv_core.specs.Passes.{Stage, Leaving, Releasing, Giving, Returning, Readying, Pass, IsUnseized, IsFilling, IsAmong, IsLastTaken, file_of, end_page, times, Unlocking, IsHeld}
+use Rattle.nv_core.specs.Deeds.{Deed, Stays, Comes, moved, move_of, slot_of, page_at, ready_word, Loads, Takes, Gives, Places, Stops, Draws, Seizes, Pledges, Readies, Grows, Breaks, Splits, Leaves, Joins, word_of, value_after, Holds, Returns}
 use Rattle.nv_core.specs.Order.{Values, Work, MayTake, MayGive}
 use Rattle.nv_core.specs.Core.{Core, changes, changed, after_step, after_begin, after_work}
 use Rattle.nv_core.specs.Events.{MayFind}
@@ -17,6 +17,8 @@ use Rattle.nv_core.proofs.Choices.{if_both, not_both, when_true, when_false}
 use Rattle.nv_core.proofs.LockLaws.{IsFit, locks_move, keyed_same, times_here}
 use Rattle.nv_core.proofs.HoldingLaws.{among_in}
 use Rattle.nv_core.proofs.WordLaws.{given_lock}
+use Rattle.nv_core.specs.LogWindow.{InWindow, entry_at}
+use Rattle.nv_core.specs.Loaded.{Looks}
 
 -- at readying the next is one of those that are being filled
 pub readying_next : (first entries next : ℕ) → IsAmong first entries next → IsFilling (Readying next) first entries next
@@ -35,12 +37,16 @@ given_held sizes pass (SIZE file) Releasing at held may =
 given_held sizes pass (PAGE page) (Giving next) at held may =
     let a = held (PAGE page) (λ slot. differ (PAGE page) (ENTRY slot) refl) in
     let b = subst (λ p. one_if (is_among next (end_page sizes pass.call) p) ≡ 1) (sym may) (among_in next (end_page sizes pass.call) next (omega arith) at.1) in omega (arith, a, b)
-given_held sizes pass (STORE file) (Returning page) at held may =
+given_held sizes pass (STORE file) (Returning page dirty) at held may =
     let a = held (STORE file) (λ slot. differ (STORE file) (ENTRY slot) refl) in
     let b : one_if (file == file_of pass.call) ≡ 1 = when_true (file == file_of pass.call) 1 0 (eq-eqb file (file_of pass.call) may) in omega (arith, a, b)
+given_held sizes pass (CLEANUP page) (Unlocking next) at held may =
+    let a = held (CLEANUP page) (λ slot. differ (CLEANUP page) (ENTRY slot) refl) in
+    let b : one_if (page == next) ≡ 1 = when_true (page == next) 1 0 (eq-eqb page next may) in omega (arith, a, b)
 given_held sizes pass (SIZE file) Leaving at held may = last_held (SIZE file) pass.hands may
 given_held sizes pass (PAGE page) Leaving at held may = last_held (PAGE page) pass.hands may
 given_held sizes pass (STORE file) Leaving at held may = last_held (STORE file) pass.hands may
+given_held sizes pass (CLEANUP page) Leaving at held may = last_held (CLEANUP page) pass.hands may
 given_held sizes pass cell stage at held may = absurd may
 
 -- a lock that is not 0 is 1
@@ -59,24 +65,28 @@ take_fit pass cell value found may is small = if_both (λ m. IsFit cell value 1 
     unshut (PAGE page) may e = zero_shut value e
     unshut (SIZE file) may e = zero_shut value e
     unshut (STORE file) may e = zero_shut value e
+    unshut (CLEANUP page) may e = zero_shut value e
     unshut cell may e = absurd may
 
     shut : (cell : Word) → MayTake pass cell → is_shut cell 1 ≡ true
     shut (PAGE page) may = refl
     shut (SIZE file) may = refl
     shut (STORE file) may = refl
+    shut (CLEANUP page) may = refl
     shut cell may = absurd may
 
     still : (cell : Word) → MayTake pass cell → (value == 0) ≡ false → is_shut cell 1 ≡ is_shut cell value
     still (PAGE page) may e = sym (one value small e)
     still (SIZE file) may e = sym (one value small e)
     still (STORE file) may e = sym (one value small e)
+    still (CLEANUP page) may e = sym (one value small e)
     still cell may e = absurd may
 
 taken_lock : (pass : Pass) (cell : Word) → MayTake pass cell → is_lock cell ≡ true
 taken_lock pass (PAGE page) may = refl
 taken_lock pass (SIZE file) may = refl
 taken_lock pass (STORE file) may = refl
+taken_lock pass (CLEANUP page) may = refl
 taken_lock pass cell may = absurd may
 
 unshut_lock : (cell : Word) → is_lock cell ≡ true → is_shut cell 0 ≡ false
@@ -94,8 +104,31 @@ pub readied_is : (kind count page : ℕ) → ready ≤ kind → kind ≤ cleaned
 readied_is kind count page low high =
     ap (λ k. nat_le ready k && nat_le k cleaned) (kind_is kind count page (omega (arith, high))) ∙ and_from (nat_le ready kind) (nat_le kind cleaned) (le-leb ready kind low) (le-leb kind cleaned high)
 
+pub ready_was : (word : ℕ) → kind_of word ≡ ready → was_readied word ≡ true
+ready_was word is = ap (λ k. nat_le ready k && nat_le k cleaned) is
+
+pub held_was : (word : ℕ) → kind_of word ≡ held → was_readied word ≡ true
+held_was word is = ap (λ k. nat_le ready k && nat_le k cleaned) is
+
 unshut_entry : (slot value : ℕ) → kind_of value ≢ 1 → kind_of value ≢ 3 → is_shut (ENTRY slot) value ≡ false
 unshut_entry slot value not_one not_three = when_false (kind_of value == 1) true (kind_of value == 3) (ne_eqb (kind_of value) 1 not_one) ∙ ne_eqb (kind_of value) 3 not_three
+
+shut_entry : (slot value : ℕ) → kind_of value ≡ 3 → is_shut (ENTRY slot) value ≡ true
+shut_entry slot value three = when_false (kind_of value == 1) true (kind_of value == 3) (ne_eqb (kind_of value) 1 (λ e. omega (arith, e, three))) ∙ eq-eqb (kind_of value) 3 three
+
+-- an entry of a kind and of a page
+pub entry_is : (kind page word : ℕ) → is_entry_of kind page word ≡ true → (kind_of word ≡ kind) × (page_of word ≡ page)
+entry_is kind page word is = let both = and_parts (kind_of word == kind) (page_of word == page) is in (eqb-true (kind_of word) kind both.0, eqb-true (page_of word) page both.1)
+
+pub hold_is : (page word : ℕ) → is_entry_of ready page word ≡ true → is_entry_of held page (word + 1) ≡ true
+hold_is page word is =
+    let both = entry_is ready page word is in let k = both.0 in let p = both.1 in
+    and_from (kind_of (word + 1) == held) (page_of (word + 1) == page) (eq-eqb (kind_of (word + 1)) held (omega (arith, k))) (eq-eqb (page_of (word + 1)) page (omega (arith, k, p)))
+
+pub return_is : (page word : ℕ) → is_entry_of held page word ≡ true → is_entry_of ready page (word - 1) ≡ true
+return_is page word is =
+    let both = entry_is held page word is in let k = both.0 in let p = both.1 in
+    and_from (kind_of (word - 1) == ready) (page_of (word - 1) == page) (eq-eqb (kind_of (word - 1)) ready (omega (arith, k))) (eq-eqb (page_of (word - 1)) page (omega (arith, k, p)))
 
 fits : (sizes : Sizes) (first : Values) (by : ℕ) (core : Core) (found : ℕ) (deed : Deed) → Sound sizes first core → MayFind sizes by core deed found
     → IsFit (word_of sizes (core.passes by) deed) (core.words (word_of sizes (core.passes by) deed)) (value_after sizes (core.passes by) deed found) (move_of sizes deed found) (core.passes (changes by core.made deed)).hands
@@ -123,6 +156,18 @@ fits sizes first by core found (Breaks next) sound may =
     let fills = subst (λ s. IsFilling s (core.passes by).first (core.passes by).entries next) (sym may.may) (omega arith, at.1.1) in
     let one = (sound.holding by).filling next fills in
     (refl, omega (arith, one), refl)
+fits sizes first by core found (Holds next) sound may =
+    let looks : InWindow core next × (is_entry_of ready may.may.0 (entry_at sizes core next) ≡ true) = subst (Looks sizes core) may.may.1 (sound.loaded.looks by) in
+    let kind = (entry_is ready may.may.0 (entry_at sizes core next) looks.1).0 in let is = may.is in (
+      refl,
+      unshut_entry (slot_of sizes next) (entry_at sizes core next) (λ e. omega (arith, e, kind)) (λ e. omega (arith, e, kind)),
+      shut_entry (slot_of sizes next) (found + 1) (omega (arith, kind, is)),
+    )
+fits sizes first by core found (Returns next) sound may =
+    let looks : InWindow core next × (is_entry_of held may.may.0 (entry_at sizes core next) ≡ true) = subst (Looks sizes core) may.may.2 (sound.loaded.looks by) in
+    let kind = (entry_is held may.may.0 (entry_at sizes core next) looks.1).0 in let is = may.is in
+    let one = (sound.holding by).held next (subst (λ s. IsHeld s next) (sym may.may.2) refl) in
+    (refl, omega (arith, one), unshut_entry (slot_of sizes next) (found - 1) (λ e. omega (arith, e, kind, is)) (λ e. omega (arith, e, kind, is)))
 fits sizes first by core found Splits sound may = refl
 fits sizes first by core found (Leaves cell) sound may = refl
 fits sizes first by core found (Joins number) sound may = refl

@@ -30,6 +30,20 @@ use Rattle.nv_core.proofs.KeepsUnready.{unready_step, unready_begin, unready_wor
 use Rattle.nv_core.proofs.KeepsLive.{live_step, live_begin, live_work}
 use Rattle.nv_core.proofs.KeepsLeaders.{leaders_step, leaders_begin, leaders_work}
 
+-- a call that begins
+pub log_begin : (sizes : Sizes) (first : Values) (opened : Files) (tail : ℕ) (log : Log) (placed : ℕ → Bool) (by : ℕ) (core : Core) (call : FileCall)
+    → Sound sizes first core → LogContent sizes first opened tail log placed core → MayBegin sizes call (core.passes by) → LogContent sizes first opened tail log placed (after_begin sizes by call core)
+log_begin sizes first opened tail log placed by core call sound content may = record {
+  groups = groups_begin sizes by core log call content.groups;
+  written = written_begin sizes tail log by core call content.written;
+  header = content.header;
+  pieces = pieces_begin sizes log by core call content.pieces;
+  flight = flight_begin sizes log placed by core call content.flight may;
+  unready = unready_begin sizes log placed by core call content.unready;
+  live = live_begin sizes first log placed opened by core call sound content.live;
+  leaders = leaders_begin sizes log by core call content.leaders;
+}
+
 module _ (blank : BlankIsQuiet) (lines : StepsKeepLines) (plain : PlainLaws) (sizes : Sizes) (page_is : IsPageSize sizes.page) (first : Values) (opened : Files) (tail : ℕ) (log : Log) (placed : ℕ → Bool) (by : ℕ) (core : Core) where
   content_step : (deed : Deed) (found : ℕ) → Sound sizes first core → LogContent sizes first opened tail log placed core → MayFind sizes by core deed found
       → LogContent sizes first opened tail (log_stepped sizes (core.passes by) deed found log) (placed_stepped (core.passes by) deed found placed) (after_step sizes by deed found core)
@@ -42,18 +56,6 @@ module _ (blank : BlankIsQuiet) (lines : StepsKeepLines) (plain : PlainLaws) (si
     unready = unready_step sizes first log placed by core deed found sound content.groups content.flight content.unready may;
     live = live_step sizes first log placed opened by core deed found plain (let least = page_is.least in omega (arith, least)) sound content.groups content.pieces content.flight content.live may;
     leaders = leaders_step sizes first log by core deed found sound content.groups content.leaders may;
-  }
-
-  content_begin : (call : FileCall) → Sound sizes first core → LogContent sizes first opened tail log placed core → MayBegin sizes call (core.passes by) → LogContent sizes first opened tail log placed (after_begin sizes by call core)
-  content_begin call sound content may = record {
-    groups = groups_begin sizes by core log call content.groups;
-    written = written_begin sizes tail log by core call content.written;
-    header = content.header;
-    pieces = pieces_begin sizes log by core call content.pieces;
-    flight = flight_begin sizes log placed by core call content.flight may;
-    unready = unready_begin sizes log placed by core call content.unready;
-    live = live_begin sizes first log placed opened by core call sound content.live;
-    leaders = leaders_begin sizes log by core call content.leaders;
   }
 
   content_work : (work : Work) → Sound sizes first core → LogContent sizes first opened tail log placed core → MayWork sizes core.values (core.passes by) work
@@ -78,7 +80,7 @@ module _ (blank : BlankIsQuiet) (lines : StepsKeepLines) (plain : PlainLaws) whe
   content_act sizes page_is first opened tail log placed by core (Begins call deed found) sound made content may =
       subst (λ p. LogContent sizes first opened tail (log_stepped sizes p deed found log) (placed_stepped p deed found placed) (after_step sizes by deed found (after_begin sizes by call core))) (number_here core.passes by (begun sizes call (core.passes by)))
       (content_step blank lines plain sizes page_is first opened tail log placed by (after_begin sizes by call core) deed found (sound_begin sizes first by core call sound made may.0)
-      (content_begin blank lines plain sizes page_is first opened tail log placed by core call sound content may.0) may.1)
+      (log_begin sizes first opened tail log placed by core call sound content may.0) may.1)
 
   -- Each event keeps them.
   pub events_keep_the_log : EventsKeepTheLog

@@ -1,11 +1,11 @@
 -- Each event keeps what the ENTRY words say.
-use Rattle.std.proofs.Common.{◌≡◌, ◌≢◌, ◌⊎◌, ℕ, ◌+◌, ◌<◌, ◌≤◌, ◌==◌, Bool, true, false, if◌then◌else◌, length, inl, inr, refl, sym, ap, subst, ◌∙◌, arith, ap₂}
+use Rattle.std.proofs.Common.{◌≡◌, ◌≢◌, ◌⊎◌, ℕ, ◌+◌, ◌<◌, ◌≤◌, ◌==◌, Bool, true, false, if◌then◌else◌, length, inl, inr, refl, sym, ap, subst, ◌∙◌, arith, ap₂, ◌-◌}
 use Rattle.std.proofs.lemmas.Bool.{eqb-true, eqb-false, cases_eq}
 use Rattle.nv_plain.specs.declared.call.FileCall.{FileCall}
 use Rattle.nv_core.specs.Words.{Sizes, Word, HEAD, TAIL, ENTRY, kind_of, free, filling, broken, index, was_readied}
 use Rattle.nv_core.specs.Values.{Ending, Made, Failed}
-use Rattle.nv_core.specs.Passes.{Stage, Locking, Checking, Copying, Seizing, Committing, Pledging, Readying, Placing, ReadFailing, WriteFailing, Breaking, Pass, IsUnseized, IsFilling, IsAmong, is_write, page_count, first_page, end_page, without}
-use Rattle.nv_core.specs.Deeds.{Deed, slot_of, page_at, ready_word, Loads, Takes, Gives, Places, Stops, Draws, Seizes, Pledges, Readies, Grows, Breaks, Splits, Leaves, Joins}
+use Rattle.nv_core.specs.Passes.{Stage, Locking, Checking, Copying, Seizing, Committing, Pledging, Readying, Placing, ReadFailing, WriteFailing, Breaking, Pass, IsUnseized, IsFilling, IsAmong, is_write, page_count, first_page, end_page, without, PieceFailing, Patching}
+use Rattle.nv_core.specs.Deeds.{Deed, slot_of, page_at, ready_word, Loads, Takes, Gives, Places, Stops, Draws, Seizes, Pledges, Readies, Grows, Breaks, Splits, Leaves, Joins, Holds, Returns}
 use Rattle.nv_core.specs.Stages.{stage_after, after_stop, leaving}
 use Rattle.nv_core.specs.Stepped.{begun}
 use Rattle.nv_core.specs.Order.{Values, Work, MayWork, IsDue, IsFailing, commit_steps, MayStep}
@@ -14,7 +14,7 @@ use Rattle.nv_core.specs.Events.{MayFind}
 use Rattle.nv_core.specs.Standing.{StandsAt, HasDrawn, IsSmall, HasRoom}
 use Rattle.nv_core.specs.LogWindow.{HasUnseized, InWindow, entry_at}
 use Rattle.nv_core.specs.Groups.{Group, Log, group_of, with_group, log_stepped, log_worked, HasGroup, IsOwn, Groups}
-use Rattle.nv_core.specs.Pieces.{word_of_number, IsReadied, Pieces}
+use Rattle.nv_core.specs.Pieces.{word_of_number, IsReadied, Pieces, page_of_number}
 use Rattle.nv_core.specs.Sound.{Sound}
 use Rattle.nv_core.proofs.Changes.{by_number, by_word, number_here, word_here, word_else, differ}
 use Rattle.nv_core.proofs.Choices.{if_both, when_true, when_false, not_both}
@@ -25,6 +25,7 @@ use Rattle.nv_core.proofs.KeepsLocks.{kind_is, ready_is}
 use Rattle.nv_core.proofs.WindowLaws.{apart_within}
 use Rattle.nv_core.proofs.KeepsWindow.{window_step}
 use Rattle.nv_core.proofs.KeepsGroups.{group_old, which, log_group}
+use Rattle.nv_core.proofs.Rekinded.{IsRekinded, holds_rekind, returns_rekind, rekind_still, rekind_before}
 
 clear_readied : (stage : Stage) (first entries n : ℕ) → IsClear stage → IsReadied stage first entries n → ⊥
 clear_readied (Readying next) first entries n clear is = clear
@@ -91,6 +92,44 @@ entry_step sizes log by core deed found slot value pieces words not_now not_befo
 
     before : (word : Word) → was_readied (core.words word) ≡ true → with_word core.words (ENTRY slot) value word ≡ core.words word
     before = by_word (λ word v. was_readied (core.words word) ≡ true → v ≡ core.words word) core.words (ENTRY slot) value (λ e. absurd (not_before e)) (λ word ne e. refl)
+
+-- an entry is held or returned
+rekind_step : (sizes : Sizes) (first : Values) (log : Log) (by : ℕ) (core : Core) (deed : Deed) (found next value : ℕ) → Sound sizes first core → Pieces sizes log core
+    → (after_step sizes by deed found core).words ≡ with_word core.words (ENTRY (slot_of sizes next)) value → IsRekinded sizes core next value
+    → ((n : ℕ) → IsReadied (changed sizes by core deed found).stage (changed sizes by core deed found).first (changed sizes by core deed found).entries n → was_readied (entry_at sizes core n) ≡ true)
+    → Pieces sizes log (after_step sizes by deed found core)
+rekind_step sizes first log by core deed found next value sound pieces words rekinded here = record {
+  says = λ n is kind. elim (cases_eq n next) [
+    | inl same ↦ subst (λ m. entry_at sizes now m ≡ word_of_number sizes (log.group m) (kind_of (entry_at sizes now m)) m) (sym same)
+        (word_next ∙ rekinded.says (if next == (log.group next).first then (log.group next).entries else 0) (page_of_number sizes (log.group next) next) (pieces.says next rekinded.within rekinded.was)
+        ∙ ap (λ w. word_of_number sizes (log.group next) (kind_of w) next) (sym word_next))
+    | inr ne ↦ let e = word_apart n (was n is) ne in same_says sizes (log.group n) n e (pieces.says n (was n is) (ap was_readied (sym e) ∙ kind))
+  ];
+  followers = λ n other is leads kind among. still other (pieces.followers n other (was n is) leads (before n kind) among);
+  readied = λ other n is. still n (readied_now sizes log by core deed found pieces here other n is);
+}
+  where
+    now : Core
+    now = after_step sizes by deed found core
+
+    was : (n : ℕ) → InWindow (after_step sizes by deed found core) n → InWindow core n
+    was n is = (
+      subst (λ t. t ≤ n) (ap (λ w. w TAIL) words ∙ word_else core.words (ENTRY (slot_of sizes next)) value TAIL (differ TAIL (ENTRY (slot_of sizes next)) refl)) is.0,
+      subst (λ h. n < h) (ap (λ w. w HEAD) words ∙ word_else core.words (ENTRY (slot_of sizes next)) value HEAD (differ HEAD (ENTRY (slot_of sizes next)) refl)) is.1,
+    )
+
+    word_next : entry_at sizes (after_step sizes by deed found core) next ≡ value
+    word_next = ap (λ w. w (ENTRY (slot_of sizes next))) words ∙ word_here core.words (ENTRY (slot_of sizes next)) value
+
+    word_apart : (n : ℕ) → InWindow core n → n ≢ next → entry_at sizes (after_step sizes by deed found core) n ≡ entry_at sizes core n
+    word_apart n is ne = ap (λ w. w (ENTRY (slot_of sizes n))) words
+        ∙ word_else core.words (ENTRY (slot_of sizes next)) value (ENTRY (slot_of sizes n)) (λ e. apart_within sizes core sound.window n next is rekinded.within ne (ap index e))
+
+    still : (n : ℕ) → was_readied (entry_at sizes core n) ≡ true → was_readied (entry_at sizes (after_step sizes by deed found core) n) ≡ true
+    still n is = ap (λ w. was_readied (w (ENTRY (slot_of sizes n)))) words ∙ rekind_still sizes core next value rekinded (ENTRY (slot_of sizes n)) is
+
+    before : (n : ℕ) → was_readied (entry_at sizes (after_step sizes by deed found core) n) ≡ true → was_readied (entry_at sizes core n) ≡ true
+    before n is = rekind_before sizes core next value rekinded (ENTRY (slot_of sizes n)) (ap (λ w. was_readied (w (ENTRY (slot_of sizes n)))) (sym words) ∙ is)
 
 -- the first entry that is made ready
 pledged_none : (first entries n : ℕ) → IsReadied (Readying (if entries == 1 then first else first + 1)) first entries n → ⊥
@@ -261,7 +300,8 @@ draw_step sizes first log by core found sound groups pieces may = go (found == (
 -- ---- all steps
 
 stop_readied : (pass : Pass) (stage : Stage) (n : ℕ) → IsFailing stage → IsReadied (after_stop pass stage) pass.first pass.entries n → ⊥
-stop_readied one ReadFailing n is readied = clear_readied (leaving one.hands) one.first one.entries n (clear_leaving one.hands) readied
+stop_readied one (PieceFailing page next) n is readied = readied
+stop_readied one (ReadFailing page dirty) n is readied = clear_readied (leaving one.hands) one.first one.entries n (clear_leaving one.hands) readied
 stop_readied one WriteFailing n is readied = readied
 stop_readied one stage n is readied = is
 
@@ -290,6 +330,10 @@ pieces_step sizes first log by core (Breaks next) found sound groups pieces may 
     (λ n. if_both (λ s. IsReadied s (core.passes by).first (core.passes by).entries n → was_readied (entry_at sizes core n) ≡ true) (next + 1 == (core.passes by).first + (core.passes by).entries)
     (leaving (without (ENTRY (slot_of sizes next)) (core.passes by).hands)) (Breaking (next + 1))
     (λ _ z. absurd (clear_readied (leaving (without (ENTRY (slot_of sizes next)) (core.passes by).hands)) (core.passes by).first (core.passes by).entries n (clear_leaving (without (ENTRY (slot_of sizes next)) (core.passes by).hands)) z)) (λ _ z. absurd z))
+pieces_step sizes first log by core (Holds next) found sound groups pieces may =
+    rekind_step sizes first log by core (Holds next) found next (found + 1) sound pieces refl (holds_rekind sizes first by core found next sound may) (none_readied sizes core by found by (Holds next) tt may.may)
+pieces_step sizes first log by core (Returns next) found sound groups pieces may =
+    rekind_step sizes first log by core (Returns next) found next (found - 1) sound pieces refl (returns_rekind sizes first by core found next sound may) (none_readied sizes core by found by (Returns next) tt may.may)
 pieces_step sizes first log by core Splits found sound groups pieces may = plain_step sizes log by core Splits found pieces may refl refl (λ slot. refl) (λ n z. absurd z)
 pieces_step sizes first log by core (Leaves cell) found sound groups pieces may = plain_step sizes log by core (Leaves cell) found pieces may refl refl (λ slot. refl) (λ n is. pieces.readied by n is)
 pieces_step sizes first log by core (Joins number) found sound groups pieces may = plain_step sizes log by core (Joins number) found pieces may refl refl (λ slot. refl) (λ n is. pieces.readied by n is)
@@ -306,8 +350,10 @@ worked_readied : (sizes : Sizes) (values : Values) (pass : Pass) (work : Work) (
 worked_readied sizes values one work (Committing calls) Made from count n due =
     if_both (λ s. IsReadied s from count n → ⊥) (calls + 1 == length (commit_steps sizes one one.call)) (Pledging (first_page sizes one.call)) (Committing (calls + 1)) (λ _ z. z) (λ _ z. z)
 worked_readied sizes values one work (Committing calls) (Failed came faults) from count n due = λ z. z
-worked_readied sizes values one work (Copying page) Made from count n due = λ z. z
-worked_readied sizes values one work (Copying page) (Failed came faults) from count n due = λ z. z
+worked_readied sizes values one work (Copying page dirty) Made from count n due = λ z. z
+worked_readied sizes values one work (Copying page dirty) (Failed came faults) from count n due = λ z. z
+worked_readied sizes values one work (Patching page number) Made from count n due = λ z. z
+worked_readied sizes values one work (Patching page number) (Failed came faults) from count n due = λ z. z
 worked_readied sizes values one work stage how from count n due = absurd due
 
 pub pieces_work : (sizes : Sizes) (log : Log) (by : ℕ) (core : Core) (work : Work) → Pieces sizes log core → MayWork sizes core.values (core.passes by) work

@@ -1,5 +1,5 @@
 -- Each event keeps the rooms.
-use Rattle.std.proofs.Common.{◌≡◌, ◌≢◌, ◌⊎◌, ℕ, zero, suc, ◌+◌, ◌-◌, ◌<◌, ◌≤◌, ◌==◌, false, if◌then◌else◌, List, [], ◌∷◌, length, drop, inl, inr, refl, sym, ap, subst, ◌∙◌, arith, true}
+use Rattle.std.proofs.Common.{◌≡◌, ◌≢◌, ◌⊎◌, ℕ, zero, suc, ◌+◌, ◌-◌, ◌<◌, ◌≤◌, ◌==◌, false, if◌then◌else◌, List, [], ◌∷◌, length, drop, inl, inr, refl, sym, ap, subst, ◌∙◌, arith, true, Bool}
 use Rattle.std.specs.Prelude.{slice_index_or}
 use Rattle.std.proofs.Math.Numerals.{add-one}
 use Rattle.std.proofs.lemmas.Bool.{eqb-true, eq-eqb, ne_eqb, cases_eq}
@@ -11,17 +11,17 @@ use Rattle.nv_pmem.specs.Room.{Room}
 use Rattle.nv_pmem.specs.Rows.{RowStep, steps_on}
 use Rattle.nv_pmem.specs.Steps.{Step}
 use Rattle.nv_entry.specs.Commits.{GroupsEndReady}
-use Rattle.nv_core.specs.Words.{Sizes, Word, HEADER, STORE, ENTRY, kind_of, free, filling, broken, was_readied}
-use Rattle.nv_core.specs.Values.{Value, Bare, APart, AStore, ABuffer, Writes, Ending, Made, Failed, called}
-use Rattle.nv_core.specs.Passes.{Stage, Locking, Checking, Copying, Seizing, Committing, Pledging, Readying, Placing, ReadFailing, WriteFailing, Breaking, Pass, IsUnseized, IsFilling, IsAmong, file_of, page_count, first_page, end_page, without, times}
-use Rattle.nv_core.specs.Deeds.{Deed, slot_of, page_at, ready_word, Loads, Takes, Gives, Places, Stops, Draws, Seizes, Pledges, Readies, Grows, Breaks, Splits, Leaves, Joins}
+use Rattle.nv_core.specs.Words.{Sizes, Word, HEADER, STORE, ENTRY, kind_of, free, filling, broken, was_readied, held, is_entry_of, ready}
+use Rattle.nv_core.specs.Values.{Value, Bare, APart, AStore, ABuffer, Writes, Ending, Made, Failed, called, Peeks}
+use Rattle.nv_core.specs.Passes.{Stage, Locking, Checking, Copying, Seizing, Committing, Pledging, Readying, Placing, ReadFailing, WriteFailing, Breaking, Pass, IsUnseized, IsFilling, IsAmong, file_of, page_count, first_page, end_page, without, times, Patching, PieceFailing}
+use Rattle.nv_core.specs.Deeds.{Deed, slot_of, page_at, ready_word, Loads, Takes, Gives, Places, Stops, Draws, Seizes, Pledges, Readies, Grows, Breaks, Splits, Leaves, Joins, Holds, Returns}
 use Rattle.nv_core.specs.Stages.{after_stop, leaving}
 use Rattle.nv_core.specs.Stepped.{begun}
-use Rattle.nv_core.specs.Order.{Values, Work, MayWork, MayLeave, IsDue, IsNextCall, IsPageRead, IsFailing, commit_steps}
+use Rattle.nv_core.specs.Order.{Values, Work, MayWork, MayLeave, IsDue, IsNextCall, IsPageRead, IsFailing, commit_steps, IsPieceRead}
 use Rattle.nv_core.specs.Core.{Core, changes, changed, with_word, after_step, after_begin, after_work, worked, stage_worked, values_worked}
 use Rattle.nv_core.specs.Events.{MayFind}
 use Rattle.nv_core.specs.Standing.{StandsAt, HasDrawn}
-use Rattle.nv_core.specs.LogWindow.{Fills}
+use Rattle.nv_core.specs.LogWindow.{Fills, InWindow, entry_at}
 use Rattle.nv_core.specs.Rooms.{EndsReady, KeepsReady, FillsReady, KeepsRoomy, Rooms}
 use Rattle.nv_core.specs.Sound.{Sound}
 use Rattle.nv_core.proofs.Changes.{by_number, by_word, word_else, differ}
@@ -29,11 +29,13 @@ use Rattle.nv_core.proofs.Choices.{if_both, when_true, when_false, busy, not_bot
 use Rattle.nv_core.proofs.ClearLaws.{IsClear, clear_filling, clear_to, clear_leaving}
 use Rattle.nv_core.proofs.WordLaws.{untouched, touches}
 use Rattle.nv_core.proofs.HoldingSteps.{few_entries, apart_in}
-use Rattle.nv_core.proofs.KeepsLocks.{kind_is}
+use Rattle.nv_core.proofs.KeepsLocks.{kind_is, entry_is, ready_was, held_was}
 use Rattle.nv_core.proofs.KeepsLoaded.{held_by_one}
 use Rattle.nv_core.proofs.KeepsHeader.{header_stepped, header_read}
 use Rattle.nv_core.proofs.RowParts.{row_within}
-use Rattle.nv_core.proofs.WrittenLaws.{part_stepped, part_worked, value_called, value_not_called}
+use Rattle.nv_core.proofs.WrittenLaws.{part_stepped, part_worked, value_called, value_not_called, value_peeked, value_not_peeked}
+use Rattle.nv_core.specs.Loaded.{Looks}
+use Rattle.nv_core.proofs.WindowLaws.{slot_within}
 
 -- ---- no part changes
 
@@ -88,8 +90,9 @@ module _ (sizes : Sizes) (first : Values) (by : ℕ) (core : Core) (found : ℕ)
 
   stops : (number : ℕ) (pass : Pass) (stage : Stage) → IsFailing stage → IsFilling (after_stop (core.passes by) stage) pass.first pass.entries number
       → FillsReady sizes pass (after_stop (core.passes by) stage) number (core.values (ENTRY (slot_of sizes number)))
-  stops number pass ReadFailing fails is = none_filled sizes pass number _ (leaving (core.passes by).hands) (clear_leaving (core.passes by).hands) is
+  stops number pass (ReadFailing page dirty) fails is = none_filled sizes pass number _ (leaving (core.passes by).hands) (clear_leaving (core.passes by).hands) is
   stops number pass WriteFailing fails is = tt
+  stops number pass (PieceFailing page next) fails is = absurd is
   stops number pass stage fails is = absurd fails
 
   none_here : (deed : Deed) (number : ℕ) → IsClear (changed sizes by core deed found).stage → Fills (changed sizes by core deed found) number
@@ -140,6 +143,8 @@ module _ (sizes : Sizes) (first : Values) (by : ℕ) (core : Core) (found : ℕ)
       (next + 1 == (core.passes by).first + (core.passes by).entries) (leaving (without (ENTRY (slot_of sizes next)) (core.passes by).hands)) (Breaking (next + 1))
       (λ _. none_filled sizes (changed sizes by core (Breaks next) found) number (core.values (ENTRY (slot_of sizes number))) (leaving (without (ENTRY (slot_of sizes next)) (core.passes by).hands)) (clear_leaving (without (ENTRY (slot_of sizes next)) (core.passes by).hands)))
       (λ _ _. tt) is
+  fills_here (Holds next) may number is = none_here (Holds next) number (clear_to sizes core.values (core.passes by) (Holds next) found tt may.may) is
+  fills_here (Returns next) may number is = none_here (Returns next) number (clear_to sizes core.values (core.passes by) (Returns next) found tt may.may) is
   fills_here Splits may number is = absurd is
   fills_here (Leaves cell) may number is = rooms.filling by number is
   fills_here (Joins other) may number is = rooms.filling by number is
@@ -184,6 +189,16 @@ rooms_step sizes first by core (Readies next) found sound may =
     fills : (next ≡ (core.passes by).first) ⊎ (next ≢ (core.passes by).first) → IsFilling (Readying next) (core.passes by).first (core.passes by).entries next
     fills (inl leader) = inl leader
     fills (inr ne) = let low = at.1.0 in inr (omega (arith, low, ne), omega arith, at.1.1)
+rooms_step sizes first by core (Holds next) found sound may =
+    let looks : InWindow core next × (is_entry_of ready may.may.0 (entry_at sizes core next) ≡ true) = subst (Looks sizes core) may.may.1 (sound.loaded.looks by) in
+    let kind = (entry_is ready may.may.0 (entry_at sizes core next) looks.1).0 in let is = may.is in
+    entry_step sizes first by core found sound sound.rooms (Holds next) (slot_of sizes next) (found + 1) may refl (λ e. omega (arith, e, kind, is))
+    (λ _. sound.rooms.ready (slot_of sizes next) (slot_within sizes core next sound.window looks.0) (ready_was (entry_at sizes core next) kind))
+rooms_step sizes first by core (Returns next) found sound may =
+    let looks : InWindow core next × (is_entry_of held may.may.0 (entry_at sizes core next) ≡ true) = subst (Looks sizes core) may.may.2 (sound.loaded.looks by) in
+    let kind = (entry_is held may.may.0 (entry_at sizes core next) looks.1).0 in let is = may.is in
+    entry_step sizes first by core found sound sound.rooms (Returns next) (slot_of sizes next) (found - 1) may refl (λ e. omega (arith, e, kind, is))
+    (λ _. sound.rooms.ready (slot_of sizes next) (slot_within sizes core next sound.window looks.0) (held_was (entry_at sizes core next) kind))
 rooms_step sizes first by core deed found sound may = plain_step sizes first by core found sound sound.rooms deed may (λ slot. refl)
 
 -- ---- a call that begins
@@ -308,8 +323,8 @@ module _ (ends : GroupsEndReady) (sizes : Sizes) (first : Values) (by : ℕ) (co
           ((sound.holding by).filling ((core.passes by).first + due.row.part) (fills_here_at ((core.passes by).first + due.row.part) here))
           (subst (λ s. times (ENTRY s) (core.passes n).hands ≡ 1) e ((sound.holding n).filling number is)) ne
 
-read_rooms : (sizes : Sizes) (by : ℕ) (core : Core) (work : Work) (page : ℕ) → Rooms sizes core → (core.passes by).stage ≡ Copying page → IsPageRead sizes core.values (core.passes by) page work → Rooms sizes (after_work sizes by work core)
-read_rooms sizes by core work page rooms at due = rooms_kept sizes core (after_work sizes by work core)
+read_rooms : (sizes : Sizes) (by : ℕ) (core : Core) (work : Work) (page : ℕ) (dirty : Bool) → Rooms sizes core → (core.passes by).stage ≡ Copying page dirty → IsPageRead sizes core.values (core.passes by) page work → Rooms sizes (after_work sizes by work core)
+read_rooms sizes by core work page dirty rooms at due = rooms_kept sizes core (after_work sizes by work core)
     (λ slot. part_worked (core.passes by) work core.values slot ∙ word_else core.values work.cell (called work.job work.ending (core.values work.cell)) (ENTRY slot) (λ e. differ (ENTRY slot) (STORE (file_of (core.passes by).call)) refl (e ∙ due.cell)))
     (header_worked (core.passes by) work core.values (λ e. differ HEADER (STORE (file_of (core.passes by).call)) refl (e ∙ due.cell)))
     (λ slot is. is) (λ slot is. inl is)
@@ -318,8 +333,41 @@ read_rooms sizes by core work page rooms at due = rooms_kept sizes core (after_w
     → FillsReady sizes (worked sizes work (core.passes by)) (stage_worked sizes (core.passes by) work.ending s) number (core.values (ENTRY (slot_of sizes number)))) (sym at) (go number work.ending))
     (λ n ne. rooms.filling n number) n) rooms
   where
-    go : (number : ℕ) (how : Ending) → IsFilling (stage_worked sizes (core.passes by) how (Copying page)) (core.passes by).first (core.passes by).entries number
-        → FillsReady sizes (worked sizes work (core.passes by)) (stage_worked sizes (core.passes by) how (Copying page)) number (core.values (ENTRY (slot_of sizes number)))
+    go : (number : ℕ) (how : Ending) → IsFilling (stage_worked sizes (core.passes by) how (Copying page dirty)) (core.passes by).first (core.passes by).entries number
+        → FillsReady sizes (worked sizes work (core.passes by)) (stage_worked sizes (core.passes by) how (Copying page dirty)) number (core.values (ENTRY (slot_of sizes number)))
+    go number Made is = absurd is
+    go number (Failed came faults) is = absurd is
+
+-- a read of a piece leaves each part its room
+peek_ends : (sizes : Sizes) (rest : List Step) (at : ℕ) (bytes : List ℕ) (how : Ending) (value : Value) → EndsReady sizes rest value → EndsReady sizes rest (called (Peeks at bytes) how value)
+peek_ends sizes rest at bytes how (APart device room) is = is
+peek_ends sizes rest at bytes how value is = absurd is
+
+peek_rooms : (sizes : Sizes) (by : ℕ) (core : Core) (work : Work) (page one : ℕ) → Rooms sizes core → (core.passes by).stage ≡ Patching page one → IsPieceRead sizes core.values one work → Rooms sizes (after_work sizes by work core)
+peek_rooms sizes by core work page one rooms at due = record {
+  free = λ slot less is. ends [] slot (rooms.free slot less is);
+  ready = λ slot less is. ends [] slot (rooms.ready slot less is);
+  filling = λ n number. by_number (λ n (p : Pass). Fills p number → FillsReady sizes p p.stage number (values_worked (core.passes by) work core.values (ENTRY (slot_of sizes number)))) core.passes by (worked sizes work (core.passes by))
+      (subst (λ s. IsFilling (stage_worked sizes (core.passes by) work.ending s) (core.passes by).first (core.passes by).entries number
+      → FillsReady sizes (worked sizes work (core.passes by)) (stage_worked sizes (core.passes by) work.ending s) number (values_worked (core.passes by) work core.values (ENTRY (slot_of sizes number)))) (sym at) (go number work.ending))
+      (λ n ne is. fills (core.passes n) (core.passes n).stage number (rooms.filling n number is)) n;
+  header = subst KeepsRoomy (sym (header_worked (core.passes by) work core.values (λ e. differ HEADER (ENTRY (slot_of sizes one)) refl (e ∙ due.cell)))) rooms.header;
+}
+  where
+    ends : (steps : List Step) (slot : ℕ) → EndsReady sizes steps (core.values (ENTRY slot)) → EndsReady sizes steps (values_worked (core.passes by) work core.values (ENTRY slot))
+    ends steps slot is = elim (cases_eq slot (slot_of sizes one)) [
+      | inl same ↦ subst (EndsReady sizes steps) (sym (value_peeked sizes core.values (core.passes by) work one due slot same)) (peek_ends sizes steps due.at due.bytes work.ending (core.values (ENTRY slot)) is)
+      | inr ne ↦ subst (EndsReady sizes steps) (sym (value_not_peeked sizes core.values (core.passes by) work one due slot ne)) is
+    ]
+
+    fills : (pass : Pass) (stage : Stage) (number : ℕ) → FillsReady sizes pass stage number (core.values (ENTRY (slot_of sizes number))) → FillsReady sizes pass stage number (values_worked (core.passes by) work core.values (ENTRY (slot_of sizes number)))
+    fills pass (Committing (suc calls)) number is = ends (steps_on (number - pass.first) (drop (suc calls) (commit_steps sizes pass pass.call))) (slot_of sizes number) is
+    fills pass WriteFailing number is = tt
+    fills pass (Breaking next) number is = tt
+    fills pass stage number is = ends [] (slot_of sizes number) is
+
+    go : (number : ℕ) (how : Ending) → IsFilling (stage_worked sizes (core.passes by) how (Patching page one)) (core.passes by).first (core.passes by).entries number
+        → FillsReady sizes (worked sizes work (core.passes by)) (stage_worked sizes (core.passes by) how (Patching page one)) number (values_worked (core.passes by) work core.values (ENTRY (slot_of sizes number)))
     go number Made is = absurd is
     go number (Failed came faults) is = absurd is
 
@@ -328,5 +376,6 @@ rooms_work ends sizes first by core work sound may = go (core.passes by).stage r
   where
     go : (stage : Stage) → (core.passes by).stage ≡ stage → IsDue sizes core.values (core.passes by) work stage → Rooms sizes (after_work sizes by work core)
     go (Committing calls) at due = commit_rooms ends sizes first by core work calls sound may at due
-    go (Copying page) at due = read_rooms sizes by core work page sound.rooms at due
+    go (Copying page dirty) at due = read_rooms sizes by core work page dirty sound.rooms at due
+    go (Patching page number) at due = peek_rooms sizes by core work page number sound.rooms at due
     go stage at due = absurd due

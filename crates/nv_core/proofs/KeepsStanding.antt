@@ -43,9 +43,9 @@ pub standing_work : (sizes : Sizes) (first : Values) (by : ℕ) (core : Core) (w
 standing_work sizes first by core work sound may = by_number (λ n p. Standing sizes p) core.passes by _ (standing_works sizes core.values (core.passes by) work (sound.standing by) may) (λ n ne. sound.standing n)
 
 holds : (sizes : Sizes) (first : Values) (by : ℕ) (core : Core) (found : ℕ) (deed : Deed) → Sound sizes first core → MayDo sizes by core deed → Holding sizes (changed sizes by core deed found)
-holds sizes first by core found Splits sound may = record { locks = λ cell lock. sym (nothing sizes (changed sizes by core Splits found) cell); filling = λ n is. absurd is; none = λ slot off. refl }
+holds sizes first by core found Splits sound may = record { locks = λ cell lock. sym (nothing sizes (changed sizes by core Splits found) cell); filling = λ n is. absurd is; held = λ n is. absurd is; none = λ slot off away. refl }
 holds sizes first by core found (Leaves cell) sound may =
-    let old = sound.holding by in record { locks = left_locks sizes (core.passes by) (cell ∷ (core.passes by).left) (core.passes by).stage old.locks; filling = old.filling; none = old.none }
+    let old = sound.holding by in record { locks = left_locks sizes (core.passes by) (cell ∷ (core.passes by).left) (core.passes by).stage old.locks; filling = old.filling; held = old.held; none = old.none }
 holds sizes first by core found (Joins number) sound may = sound.holding by
 holds sizes first by core found deed sound may = holding_steps sizes core.values (core.passes by) deed found by core.history (sound.standing by) (sound.holding by) may
 

@@ -5,8 +5,8 @@ use Rattle.nv_plain.specs.Faults.{Rose}
 use Rattle.nv_plain.specs.declared.call.FileCall.{FileCall}
 use Rattle.nv_core.specs.Words.{Sizes, Word, STOP, ENTRY, PAGE, page_total}
 use Rattle.nv_core.specs.Values.{Ending, Made, Failed, called, faults_of, identity_of, buffers_in}
-use Rattle.nv_core.specs.Passes.{Stage, Locking, Checking, Copying, Seizing, Committing, Pledging, Readying, Placing, ReadFailing, WriteFailing, Breaking, Pass, page_count, first_page, end_page, without}
-use Rattle.nv_core.specs.Deeds.{Deed, Loads, Takes, Gives, Places, Stops, Draws, Seizes, Pledges, Readies, Grows, Breaks, Splits, Leaves, Joins, slot_of}
+use Rattle.nv_core.specs.Passes.{Stage, Locking, Checking, Copying, Seizing, Committing, Pledging, Readying, Placing, ReadFailing, WriteFailing, Breaking, Pass, page_count, first_page, end_page, without, PieceFailing, Patching}
+use Rattle.nv_core.specs.Deeds.{Deed, Loads, Takes, Gives, Places, Stops, Draws, Seizes, Pledges, Readies, Grows, Breaks, Splits, Leaves, Joins, slot_of, Holds, Returns}
 use Rattle.nv_core.specs.Stages.{stage_after, after_stop, leaving}
 use Rattle.nv_core.specs.Stepped.{stopped_after}
 use Rattle.nv_core.specs.Order.{Values, Work, MayWork, MayStep, IsDue, IsFailing, MayEnd, commit_steps}
@@ -27,7 +27,8 @@ use Rattle.nv_core.proofs.Inherits.{inherits}
 -- ---- no step leads to a fault
 
 clear_failing : (stage : Stage) → IsClear stage → IsFailing stage → ⊥
-clear_failing ReadFailing clear is = clear
+clear_failing (ReadFailing page dirty) clear is = clear
+clear_failing (PieceFailing page next) clear is = clear
 clear_failing WriteFailing clear is = clear
 clear_failing stage clear is = is
 
@@ -40,7 +41,8 @@ none_fails sizes values pass found Grows may = clear_failing _ (clear_to sizes v
 none_fails sizes values pass found Stops may = stops pass.stage may
   where
     stops : (stage : Stage) → IsFailing stage → IsFailing (after_stop pass stage) → ⊥
-    stops ReadFailing is = clear_failing (leaving pass.hands) (clear_leaving pass.hands)
+    stops (ReadFailing page dirty) is = clear_failing (leaving pass.hands) (clear_leaving pass.hands)
+    stops (PieceFailing page next) is = λ z. z
     stops WriteFailing is = λ z. z
     stops stage is = absurd is
 none_fails sizes values pass found Draws may = if_both (λ s. IsFailing s → ⊥) (found == pass.head) (Seizing found) (leaving pass.hands) (λ _ z. z) (λ _. clear_failing (leaving pass.hands) (clear_leaving pass.hands))
@@ -49,6 +51,8 @@ none_fails sizes values pass found (Pledges page) may = if_both (λ s. IsFailing
 none_fails sizes values pass found (Readies next) may = if_both (λ s. IsFailing s → ⊥) (next == pass.first) Placing (Readying (if next + 1 == pass.first + pass.entries then pass.first else next + 1)) (λ _ z. z) (λ _ z. z)
 none_fails sizes values pass found (Breaks next) may = if_both (λ s. IsFailing s → ⊥) (next + 1 == pass.first + pass.entries) (leaving (without (ENTRY (slot_of sizes next)) pass.hands)) (Breaking (next + 1))
     (λ _. clear_failing (leaving (without (ENTRY (slot_of sizes next)) pass.hands)) (clear_leaving (without (ENTRY (slot_of sizes next)) pass.hands))) (λ _ z. z)
+none_fails sizes values pass found (Holds next) may = clear_failing _ (clear_to sizes values pass (Holds next) found tt may)
+none_fails sizes values pass found (Returns next) may = clear_failing _ (clear_to sizes values pass (Returns next) found tt may)
 none_fails sizes values pass found deed may = absurd may
 
 -- ---- counts
@@ -149,7 +153,8 @@ worked_fails sizes values pass work due is = go work.ending refl pass.stage due 
     go : (how : Ending) → work.ending ≡ how → (stage : Stage) → IsDue sizes values pass work stage → IsFailing (stage_worked sizes pass how stage) → (came : Bool) × (faults : ℕ) × (work.ending ≡ Failed came faults)
     go (Failed came faults) e stage due is = (came, faults, e)
     go Made e (Committing calls) due is = absurd (if_both (λ s. IsFailing s → ⊥) (calls + 1 == length (commit_steps sizes pass pass.call)) (Pledging (first_page sizes pass.call)) (Committing (calls + 1)) (λ _ z. z) (λ _ z. z) is)
-    go Made e (Copying page) due is = absurd is
+    go Made e (Copying page dirty) due is = absurd is
+    go Made e (Patching page number) due is = absurd is
     go Made e stage due is = absurd due
 
 pub stop_work : (sizes : Sizes) (first : Values) (by : ℕ) (core : Core) (work : Work) → Sound sizes first core → MayWork sizes core.values (core.passes by) work → Stop first (after_work sizes by work core)

@@ -1,16 +1,18 @@
 -- Each event keeps what the stores tell.
-use Rattle.std.proofs.Common.{◌≡◌, ℕ, refl, ap, ◌∙◌}
+use Rattle.std.proofs.Common.{◌≡◌, ℕ, refl, ap, ◌∙◌, false}
 use Rattle.nv_core.specs.Words.{Sizes, STORE, PAGE}
 use Rattle.nv_core.specs.Values.{Value, Bare, APart, AStore, ABuffer, Job, Reads, Ending, Made, called, filled}
 use Rattle.nv_core.specs.Passes.{Stage, Copying, Pass}
-use Rattle.nv_core.specs.Deeds.{Deed, Pledges, patched_by}
+use Rattle.nv_core.specs.Deeds.{Deed, Pledges, patched_by, Gives}
 use Rattle.nv_core.specs.Order.{Values, Work}
 use Rattle.nv_core.specs.Core.{with_word, values_read, values_worked, values_stepped}
 use Rattle.nv_core.specs.StorePages.{store_of, StoresKept}
 use Rattle.nv_core.proofs.Changes.{by_word, word_else, differ}
+use Rattle.nv_core.proofs.WrittenLaws.{given_else}
 
 pub step_store : (sizes : Sizes) (pass : Pass) (deed : Deed) (values : Values) (file : ℕ) → values_stepped sizes pass deed values (STORE file) ≡ values (STORE file)
 step_store sizes pass (Pledges page) values file = word_else values (PAGE page) (patched_by sizes pass.call page (values (PAGE page))) (STORE file) (differ (STORE file) (PAGE page) refl)
+step_store sizes pass (Gives cell) values file = given_else pass pass.stage values (STORE file) (λ page. differ (STORE file) (PAGE page) refl)
 step_store sizes pass deed values file = refl
 
 called_store : (job : Job) (how : Ending) (value : Value) → store_of (called job how value) ≡ store_of value
@@ -20,7 +22,7 @@ called_store job how (AStore device) = refl
 called_store job how (ABuffer buffer) = refl
 
 pub read_store : (job : Job) (how : Ending) (stage : Stage) (values : Values) (file : ℕ) → values_read job how stage values (STORE file) ≡ values (STORE file)
-read_store (Reads at bytes) Made (Copying page) values file = word_else values (PAGE page) (filled bytes (values (PAGE page))) (STORE file) (differ (STORE file) (PAGE page) refl)
+read_store (Reads at bytes) Made (Copying page false) values file = word_else values (PAGE page) (filled bytes (values (PAGE page))) (STORE file) (differ (STORE file) (PAGE page) refl)
 read_store job how stage values file = refl
 
 pub stores_step : (sizes : Sizes) (first : Values) (pass : Pass) (deed : Deed) (values : Values) → StoresKept first values → StoresKept first (values_stepped sizes pass deed values)

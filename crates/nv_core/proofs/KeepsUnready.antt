@@ -5,8 +5,8 @@ use Rattle.nv_plain.specs.declared.call.FileCall.{FileCall}
 use Rattle.nv_plain.specs.declared.call.Reply.{Reply}
 use Rattle.nv_core.specs.Words.{Sizes, Word, HEAD, TAIL, PAGE, ENTRY, kind_of, free, filling, broken, index, was_readied}
 use Rattle.nv_core.specs.Values.{Ending, Made, Failed}
-use Rattle.nv_core.specs.Passes.{Stage, Locking, Checking, Copying, Drawing, Seizing, Committing, Pledging, Readying, Placing, Reading, WriteFailing, Breaking, Fault, Pass, IsOneOf, IsUnseized, IsFilling, IsAmong, is_write, page_count, first_page, end_page, times}
-use Rattle.nv_core.specs.Deeds.{Deed, slot_of, page_at, ready_word, Loads, Takes, Gives, Places, Stops, Draws, Seizes, Pledges, Readies, Grows, Breaks, Splits, Leaves, Joins}
+use Rattle.nv_core.specs.Passes.{Stage, Locking, Checking, Copying, Drawing, Seizing, Committing, Pledging, Readying, Placing, Reading, WriteFailing, Breaking, Fault, Pass, IsOneOf, IsUnseized, IsFilling, IsAmong, is_write, page_count, first_page, end_page, times, Patching}
+use Rattle.nv_core.specs.Deeds.{Deed, slot_of, page_at, ready_word, Loads, Takes, Gives, Places, Stops, Draws, Seizes, Pledges, Readies, Grows, Breaks, Splits, Leaves, Joins, Holds, Returns}
 use Rattle.nv_core.specs.Stages.{leaving}
 use Rattle.nv_core.specs.Stepped.{begun, fault_of}
 use Rattle.nv_core.specs.Order.{Values, Work, MayWork, IsDue, commit_steps, MayPlace}
@@ -33,6 +33,7 @@ use Rattle.nv_core.proofs.KeepsWindow.{window_step}
 use Rattle.nv_core.proofs.KeepsInFlight.{no_reading}
 use Rattle.nv_core.proofs.KeepsGroups.{group_new, group_old, which, log_group}
 use Rattle.nv_core.proofs.WindowLaws.{apart_within}
+use Rattle.nv_core.proofs.Rekinded.{holds_rekind, returns_rekind, rekind_broken}
 
 -- ---- passes that break
 
@@ -68,6 +69,8 @@ breaking_now sizes by core found (Pledges page) may old number e = absurd (if_bo
     (λ _. elsewhere _ _ refl refl number) (λ _. elsewhere _ _ refl refl number) e)
 breaking_now sizes by core found (Readies next) may old number e = absurd (if_both (λ s. s ≡ Breaking number → ⊥) (next == (core.passes by).first) Placing (Readying (if next + 1 == (core.passes by).first + (core.passes by).entries then (core.passes by).first else next + 1))
     (λ _. elsewhere _ _ refl refl number) (λ _. elsewhere _ _ refl refl number) e)
+breaking_now sizes by core found (Holds next) may old number e = absurd (clear_breaking _ number (clear_to sizes core.values (core.passes by) (Holds next) found tt may) e)
+breaking_now sizes by core found (Returns next) may old number e = absurd (clear_breaking _ number (clear_to sizes core.values (core.passes by) (Returns next) found tt may) e)
 breaking_now sizes by core found Splits may old number e = absurd (elsewhere _ _ refl refl number e)
 breaking_now sizes by core found (Leaves cell) may old number e = old by number e
 breaking_now sizes by core found (Joins other) may old number e = old by number e
@@ -351,6 +354,12 @@ unready_step sizes first log placed by core (Breaks next) found sound groups fli
     (λ _. still_of core (after_step sizes by (Breaks next) found core) (log.group next) (faults_after sizes first log placed by core (Breaks next) found sound unready may)
     record { by = by; fault = fault_of (core.passes by); ended = unready.breaking by next may.may; is = own.group })
     (λ e. absurd (not_both (ap was_readied (sym old) ∙ e) refl))
+unready_step sizes first log placed by core (Holds next) found sound groups flight unready may =
+    let rekinded = holds_rekind sizes first by core found next sound may in
+    entry_unready sizes first log placed by core (Holds next) found sound unready may next (found + 1) refl rekinded.within (λ e. absurd (rekind_broken sizes core next (found + 1) rekinded e)) (λ _. rekinded.now)
+unready_step sizes first log placed by core (Returns next) found sound groups flight unready may =
+    let rekinded = returns_rekind sizes first by core found next sound may in
+    entry_unready sizes first log placed by core (Returns next) found sound unready may next (found - 1) refl rekinded.within (λ e. absurd (rekind_broken sizes core next (found - 1) rekinded e)) (λ _. rekinded.now)
 unready_step sizes first log placed by core (Loads word) found sound groups flight unready may = plain_unready sizes first log placed by core (Loads word) found sound unready may placed
     (untouched sizes by core (Loads word) found may HEAD refl) (untouched sizes by core (Loads word) found may TAIL refl) (λ slot. untouched sizes by core (Loads word) found may (ENTRY slot) refl) (λ n is none. none)
 unready_step sizes first log placed by core (Takes cell) found sound groups flight unready may = plain_unready sizes first log placed by core (Takes cell) found sound unready may placed
@@ -383,8 +392,10 @@ unready_begin sizes log placed by core call unready = unready_kept sizes log pla
 worked_breaking : (sizes : Sizes) (values : Values) (pass : Pass) (work : Work) (stage : Stage) (how : Ending) → IsDue sizes values pass work stage → (number : ℕ) → stage_worked sizes pass how stage ≡ Breaking number → ⊥
 worked_breaking sizes values pass work (Committing calls) Made due number = if_both (λ s. s ≡ Breaking number → ⊥) (calls + 1 == length (commit_steps sizes pass pass.call)) (Pledging (first_page sizes pass.call)) (Committing (calls + 1)) (λ _. elsewhere _ _ refl refl number) (λ _. elsewhere _ _ refl refl number)
 worked_breaking sizes values pass work (Committing calls) (Failed came faults) due number = elsewhere _ _ refl refl number
-worked_breaking sizes values pass work (Copying page) Made due number = elsewhere _ _ refl refl number
-worked_breaking sizes values pass work (Copying page) (Failed came faults) due number = elsewhere _ _ refl refl number
+worked_breaking sizes values pass work (Copying page dirty) Made due number = elsewhere _ _ refl refl number
+worked_breaking sizes values pass work (Copying page dirty) (Failed came faults) due number = elsewhere _ _ refl refl number
+worked_breaking sizes values pass work (Patching page one) Made due number = elsewhere _ _ refl refl number
+worked_breaking sizes values pass work (Patching page one) (Failed came faults) due number = elsewhere _ _ refl refl number
 worked_breaking sizes values pass work stage how due number = absurd due
 
 pub unready_work : (sizes : Sizes) (log : Log) (placed : ℕ → Bool) (by : ℕ) (core : Core) (work : Work) → Unready sizes log placed core → MayWork sizes core.values (core.passes by) work

@@ -1,26 +1,26 @@
 -- Each event keeps the valid buffers.
-use Rattle.std.proofs.Common.{◌≡◌, ◌≢◌, ℕ, ◌+◌, ◌*◌, ◌<◌, ◌≤◌, ◌==◌, nat_lt, ◌&&◌, Bool, true, false, if◌then◌else◌, List, [], ◌∷◌, length, Some, None, inl, inr, refl, sym, ap, subst, ◌∙◌, arith}
+use Rattle.std.proofs.Common.{◌≡◌, ◌≢◌, ℕ, ◌+◌, ◌*◌, ◌%◌, ◌<◌, ◌≤◌, ◌==◌, nat_lt, ◌&&◌, Bool, true, false, if◌then◌else◌, List, [], ◌∷◌, length, Some, None, inl, inr, refl, sym, ap, subst, ◌∙◌, arith}
 use Rattle.std.proofs.lemmas.Bool.{eqb-true, eq-eqb, ne_eqb, cases_eq, cases_lt, cases_Bool, lt-ltb, le-ltb, true≢false}
-use Rattle.nv_plain.specs.Files.{Files}
+use Rattle.nv_plain.specs.Files.{Files, overwritten}
 use Rattle.nv_plain.specs.declared.call.FileCall.{FileCall}
 use Rattle.nv_plain.specs.declared.call.FileCall.TheVariants.{Read, Write, Sync}
 use Rattle.nv_plain.specs.declared.call.Reply.{Reply}
 use Rattle.nv_store.specs.Store.{Store}
-use Rattle.nv_core.specs.Words.{Sizes, PAGE, DIRTY, ENTRY, STORE, same, index}
-use Rattle.nv_core.specs.Values.{Value, AStore, ABuffer, Job, Writes, Reads, Ending, Made, Failed, called, filled, is_valid, bytes_in}
-use Rattle.nv_core.specs.Passes.{Stage, Idle, Locking, Checking, Ordering, Reading, Copying, Returning, Committing, Pledging, Readying, Placing, Growing, Giving, Pass, IsAllowed, is_write, is_read, file_of, times, page_count, first_page, end_page}
+use Rattle.nv_core.specs.Words.{Sizes, Word, PAGE, CLEANUP, DIRTY, ENTRY, STORE, same, index}
+use Rattle.nv_core.specs.Values.{Value, AStore, ABuffer, Job, Writes, Reads, Peeks, Ending, Made, Failed, called, filled, is_valid, bytes_in}
+use Rattle.nv_core.specs.Passes.{Stage, Idle, Locking, Checking, Ordering, Reading, Copying, Returning, Patching, Unlocking, Committing, Pledging, Readying, Placing, Growing, Giving, Pass, fetched_bytes, IsAllowed, is_write, is_read, file_of, times, page_count, first_page, end_page}
 use Rattle.nv_core.specs.Deeds.{Deed, Takes, Gives, Places, Pledges, Splits, Leaves, Joins, moved, Comes, Stays, patched_by, slot_of}
-use Rattle.nv_core.specs.Stages.{exceeds, ending}
+use Rattle.nv_core.specs.Stages.{exceeds, ending, after_give}
 use Rattle.nv_core.specs.Stepped.{begun}
 use Rattle.nv_core.specs.Order.{Values, Work, MayWork, MayGive, MayPlace, IsDue, IsPageRead, SaysOf, SaysPage, page_start, page_bytes, commit_steps}
-use Rattle.nv_core.specs.Core.{Core, changes, changed, with_word, after_step, after_begin, after_work, worked, stage_worked, fetched_worked, values_stepped, values_read, values_worked}
+use Rattle.nv_core.specs.Core.{Core, changes, changed, with_word, after_step, after_begin, after_work, worked, stage_worked, fetched_worked, values_given, values_stepped, values_read, values_worked}
 use Rattle.nv_core.specs.Events.{MayFind, MayBegin}
 use Rattle.nv_core.specs.Standing.{StandsAt}
 use Rattle.nv_core.specs.Holding.{HoldsLocks}
 use Rattle.nv_core.specs.Loaded.{SawClean}
 use Rattle.nv_core.specs.StorePages.{store_of, StoresTell, StoresKept, StorePages}
 use Rattle.nv_core.specs.PagesAfter.{page_from, files_now, page_now, page_in}
-use Rattle.nv_core.specs.ValidBuffers.{patched_page, with_own, Gathered, GatheredAt, ValidBuffers}
+use Rattle.nv_core.specs.ValidBuffers.{patched_page, with_own, Gathered, GatheredBut, HasFetched, Halfway, GatheredAt, ValidBuffers}
 use Rattle.nv_core.specs.Sound.{Sound}
 use Rattle.nv_core.proofs.PlainLaws.{PlainLaws}
 use Rattle.nv_core.proofs.Changes.{by_number, by_word, word_here, word_else, same_true, differ}
@@ -31,7 +31,7 @@ use Rattle.nv_core.proofs.KeepsLoaded.{pledged_page}
 use Rattle.nv_core.proofs.KeepsLengths.{known_file, files_placed}
 use Rattle.nv_core.proofs.FileLaws.{own_none, page_placed, page_else, page_place}
 use Rattle.nv_core.proofs.Placed.{IsUnplaced, same_history}
-use Rattle.nv_core.proofs.BufferLaws.{IsWhole, whole_holds, whole_page, page_given, no_more, IsUnpatched, unpatched, giving_back, IsKeeping, plain_after, patch_stays, old_ending}
+use Rattle.nv_core.proofs.BufferLaws.{IsWhole, whole_holds, whole_page, page_given, no_more, IsUnpatched, unpatched, giving_back, IsKeeping, IsUnfilling, plain_after, patch_stays, old_ending}
 use Rattle.nv_core.proofs.GatheredLaws.{gathered_same, gathered_on, AreRight, at_ending, page_bytes_same}
 
 -- ---- a step that neither places nor pledges
@@ -45,16 +45,21 @@ unheld : (sizes : Sizes) (first : Values) (core : Core) → Sound sizes first co
 unheld sizes first core sound page none number = (sound.locks.keyed (PAGE page)).free (ne_eqb (core.words (PAGE page)) 1 (λ e. omega (arith, none, e))) number
 
 -- and a page that one pass holds in no others
-others_none : (sizes : Sizes) (first : Values) (core : Core) → Sound sizes first core → (page one other : ℕ) → times (PAGE page) (core.passes one).hands ≡ 1 → other ≢ one → times (PAGE page) (core.passes other).hands ≡ 0
+pub others_none : (sizes : Sizes) (first : Values) (core : Core) → Sound sizes first core → (page one other : ℕ) → times (PAGE page) (core.passes one).hands ≡ 1 → other ≢ one → times (PAGE page) (core.passes other).hands ≡ 0
 others_none sizes first core sound page one other has ne = (only_holder (sound.locks.keyed (PAGE page)) one (omega (arith, has))).2 other ne
 
 kept_history : (deed : Deed) → IsKeeping deed → IsUnplaced deed
 kept_history (Places reply) keeping = keeping
 kept_history deed keeping = tt
 
-same_values : (sizes : Sizes) (pass : Pass) (deed : Deed) (values : Values) → IsKeeping deed → values_stepped sizes pass deed values ≡ values
-same_values sizes pass (Pledges page) values keeping = absurd keeping
-same_values sizes pass deed values keeping = refl
+given_same : (pass : Pass) (stage : Stage) (values : Values) → ((page : ℕ) → stage ≡ Unlocking page → ⊥) → values_given pass stage values ≡ values
+given_same pass (Unlocking page) values other = absurd (other page refl)
+given_same pass stage values other = refl
+
+same_values : (sizes : Sizes) (pass : Pass) (deed : Deed) (values : Values) → IsKeeping deed → IsUnfilling deed pass.stage → values_stepped sizes pass deed values ≡ values
+same_values sizes pass (Pledges page) values keeping other = absurd keeping
+same_values sizes pass (Gives cell) values keeping other = given_same pass pass.stage values other
+same_values sizes pass deed values keeping other = refl
 
 -- what a buffer has where it counts
 abbrev HasNow : Sizes → Files → Core → (page : ℕ) → Type 0
@@ -116,30 +121,30 @@ ordering_right sizes first opening by core sound was stage whole un at page is v
 abbrev HasGathered : Sizes → Files → Core → Pass → Type 0
 HasGathered sizes opening core pass = GatheredAt sizes (page_now sizes opening core) core.values pass.call pass.fetched pass.stage
 
-gathered_after : (sizes : Sizes) (first : Values) (opening : Files) (by : ℕ) (core : Core) (found : ℕ) (deed : Deed) → IsKeeping deed → Sound sizes first core → MayFind sizes by core deed found → ValidBuffers sizes opening core
+gathered_after : (sizes : Sizes) (first : Values) (opening : Files) (by : ℕ) (core : Core) (found : ℕ) (deed : Deed) → IsKeeping deed → IsUnfilling deed (core.passes by).stage → Sound sizes first core → MayFind sizes by core deed found → ValidBuffers sizes opening core
     → HasGathered sizes opening core (changed sizes by core deed found)
-gathered_after sizes first opening by core found Splits keeping sound may was = tt
-gathered_after sizes first opening by core found (Leaves cell) keeping sound may was = was.gathered by
-gathered_after sizes first opening by core found (Joins number) keeping sound may was = was.gathered by
-gathered_after sizes first opening by core found deed keeping sound may was =
-    gathered_on sizes (page_now sizes opening core) core.values (core.passes by) deed found may.may (sound.standing by).at (ordering_right sizes first opening by core sound was Ordering tt tt) (was.gathered by)
+gathered_after sizes first opening by core found Splits keeping other sound may was = tt
+gathered_after sizes first opening by core found (Leaves cell) keeping other sound may was = was.gathered by
+gathered_after sizes first opening by core found (Joins number) keeping other sound may was = was.gathered by
+gathered_after sizes first opening by core found deed keeping other sound may was =
+    gathered_on sizes (page_now sizes opening core) core.values (core.passes by) deed found other may.may (sound.standing by).at (ordering_right sizes first opening by core sound was Ordering tt tt) (was.gathered by)
 
-buffers_keep : (sizes : Sizes) (first : Values) (opening : Files) (by : ℕ) (core : Core) (found : ℕ) (deed : Deed) → IsKeeping deed → Sound sizes first core → MayFind sizes by core deed found → ValidBuffers sizes opening core
+buffers_keep : (sizes : Sizes) (first : Values) (opening : Files) (by : ℕ) (core : Core) (found : ℕ) (deed : Deed) → IsKeeping deed → IsUnfilling deed (core.passes by).stage → Sound sizes first core → MayFind sizes by core deed found → ValidBuffers sizes opening core
     → ValidBuffers sizes opening (after_step sizes by deed found core)
-buffers_keep sizes first opening by core found deed keeping sound may was =
+buffers_keep sizes first opening by core found deed keeping other sound may was =
     subst (λ h. ValidBuffers sizes opening (record (after_step sizes by deed found core) { history = h })) (sym (same_history by core deed (kept_history deed keeping)))
-    (subst (λ v. ValidBuffers sizes opening (record (after_step sizes by deed found core) { history = core.history; values = v })) (sym (same_values sizes (core.passes by) deed core.values keeping))
+    (subst (λ v. ValidBuffers sizes opening (record (after_step sizes by deed found core) { history = core.history; values = v })) (sym (same_values sizes (core.passes by) deed core.values keeping other))
     record {
       free = free_after sizes first opening by core found deed keeping sound may was;
       held = λ n page. by_number (λ n (p : Pass). HasHeld sizes opening core page p) core.passes (changes by core.made deed) (changed sizes by core deed found)
           (held_after sizes first opening by core found deed keeping sound may was page) (λ n ne. was.held n page) n;
       gathered = by_number (λ n (p : Pass). HasGathered sizes opening core p) core.passes (changes by core.made deed) (changed sizes by core deed found)
-          (gathered_after sizes first opening by core found deed keeping sound may was) (λ n ne. was.gathered n);
+          (gathered_after sizes first opening by core found deed keeping other sound may was) (λ n ne. was.gathered n);
     })
 
 -- ---- a step that places a call
 
-place_whole : (sizes : Sizes) (values : Values) (pass : Pass) (reply : Reply) (stage : Stage) → MayPlace sizes values pass reply stage → IsWhole stage
+pub place_whole : (sizes : Sizes) (values : Values) (pass : Pass) (reply : Reply) (stage : Stage) → MayPlace sizes values pass reply stage → IsWhole stage
 place_whole sizes values pass reply Placing may = tt
 place_whole sizes values pass reply (Reading page) may = tt
 place_whole sizes values pass reply stage may = absurd may
@@ -284,13 +289,117 @@ module _ (sizes : Sizes) (first : Values) (opening : Files) (by : ℕ) (core : C
         (λ page has. (value_else page (apart n page ne has), refl)) (was.gathered n));
   }
 
+-- ---- a step that gives back CLEANUP, and fills a buffer
+
+-- what a read has fetched of a page is what it has of it
+page_bytes_fetched : (fetched : List (ℕ × List ℕ)) (values : Values) (page : ℕ) → HasFetched fetched page → page_bytes fetched values page ≡ fetched_bytes fetched page
+page_bytes_fetched [] values page has = absurd has
+page_bytes_fetched (one ∷ rest) values page (inl is) =
+    when_true (one.0 == page) one.1 (page_bytes rest values page) (eq-eqb one.0 page is) ∙ sym (when_true (one.0 == page) one.1 (fetched_bytes rest page) (eq-eqb one.0 page is))
+page_bytes_fetched (one ∷ rest) values page (inr has) = ap (λ b. if one.0 == page then one.1 else b) (page_bytes_fetched rest values page has)
+
+filled_bytes : (bytes : List ℕ) (value : Value) → is_valid (filled bytes value) ≡ true → bytes_in (filled bytes value) ≡ bytes
+filled_bytes bytes (ABuffer (Some buffer)) valid = refl
+filled_bytes bytes (ABuffer None) valid = absurd (true≢false (sym valid))
+filled_bytes bytes value valid = absurd (true≢false (sym valid))
+
+unlock_cell : (pass : Pass) (cell : Word) (page : ℕ) → MayGive pass cell (Unlocking page) → cell ≡ CLEANUP page
+unlock_cell pass (CLEANUP other) page may = ap CLEANUP may
+unlock_cell pass cell page may = absurd may
+
+module _ (sizes : Sizes) (first : Values) (opening : Files) (by : ℕ) (core : Core) (cell : Word) (own : ℕ) (found : ℕ) (at : (core.passes by).stage ≡ Unlocking own)
+    (sound : Sound sizes first core) (may : MayFind sizes by core (Gives cell) found) (all : fetched_bytes (core.passes by).fetched own ≡ page_now sizes opening core own) (was : ValidBuffers sizes opening core) where
+  locks_unlock : HoldsLocks sizes (core.passes by) (Unlocking own)
+  locks_unlock = subst (HoldsLocks sizes (core.passes by)) at (sound.holding by).locks
+
+  has_unlock : times (PAGE own) (core.passes by).hands ≡ 1
+  has_unlock = whole_holds sizes (core.passes by) (Unlocking own) tt locks_unlock own (subst (StandsAt sizes (core.passes by)) at (sound.standing by).at).1
+
+  cell_is : cell ≡ CLEANUP own
+  cell_is = unlock_cell (core.passes by) cell own (subst (MayGive (core.passes by) cell) at may.may)
+
+  word_page : (page : ℕ) → (after_step sizes by (Gives cell) found core).words (PAGE page) ≡ core.words (PAGE page)
+  word_page page = word_else core.words cell 0 (PAGE page) (λ e. differ (PAGE page) (CLEANUP own) refl (e ∙ cell_is))
+
+  values_unlock : values_stepped sizes (core.passes by) (Gives cell) core.values ≡ with_word core.values (PAGE own) (filled (fetched_bytes (core.passes by).fetched own) (core.values (PAGE own)))
+  values_unlock = ap (λ s. values_given (core.passes by) s core.values) at
+
+  filled_own : values_stepped sizes (core.passes by) (Gives cell) core.values (PAGE own) ≡ filled (fetched_bytes (core.passes by).fetched own) (core.values (PAGE own))
+  filled_own = ap (λ (v : Values). v (PAGE own)) values_unlock ∙ word_here core.values (PAGE own) (filled (fetched_bytes (core.passes by).fetched own) (core.values (PAGE own)))
+
+  filled_else : (page : ℕ) → page ≢ own → values_stepped sizes (core.passes by) (Gives cell) core.values (PAGE page) ≡ core.values (PAGE page)
+  filled_else page ne = ap (λ (v : Values). v (PAGE page)) values_unlock
+      ∙ word_else core.values (PAGE own) (filled (fetched_bytes (core.passes by).fetched own) (core.values (PAGE own))) (PAGE page) (λ e. ne (ap index e))
+
+  stage_unlock : (changed sizes by core (Gives cell) found).stage ≡ Reading (own + 1)
+  stage_unlock = ap (after_give sizes (core.passes by) cell) at
+
+  off_unlock : (number page : ℕ) → number ≢ by → times (PAGE page) (core.passes number).hands ≡ 1 → page ≢ own
+  off_unlock number page ne has e = let z = others_none sizes first core sound page number by has (λ is. ne (sym is)) in let h = subst (λ p. times (PAGE p) (core.passes by).hands ≡ 1) (sym e) has_unlock in omega (arith, z, h)
+
+  held_unlock : (page : ℕ) → times (PAGE page) (changed sizes by core (Gives cell) found).hands ≡ 1 → is_valid (values_stepped sizes (core.passes by) (Gives cell) core.values (PAGE page)) ≡ true
+      → bytes_in (values_stepped sizes (core.passes by) (Gives cell) core.values (PAGE page)) ≡ patched_page sizes (core.passes by).call (changed sizes by core (Gives cell) found).stage page (page_now sizes opening core page)
+  held_unlock page has valid =
+      elim (cases_eq page own) [
+        | inl e ↦ subst (λ p. is_valid (values_stepped sizes (core.passes by) (Gives cell) core.values (PAGE p)) ≡ true → bytes_in (values_stepped sizes (core.passes by) (Gives cell) core.values (PAGE p)) ≡ page_now sizes opening core p) (sym e)
+            (λ fits. ap bytes_in filled_own ∙ filled_bytes (fetched_bytes (core.passes by).fetched own) (core.values (PAGE own)) (sym (ap is_valid filled_own) ∙ fits) ∙ all) valid
+        | inr ne ↦
+            let less = no_more sizes (Gives cell) found page (core.passes by).hands tt in
+            ap bytes_in (filled_else page ne)
+            ∙ was.held by page (once sizes first core sound by page (omega (arith, less, has))) (sym (ap is_valid (filled_else page ne)) ∙ valid)
+            ∙ ap (λ s. patched_page sizes (core.passes by).call s page (page_now sizes opening core page)) at
+      ]
+      ∙ sym (ap (λ s. patched_page sizes (core.passes by).call s page (page_now sizes opening core page)) stage_unlock)
+
+  gathered_unlock : Gathered sizes (page_now sizes opening core) (values_stepped sizes (core.passes by) (Gives cell) core.values) (core.passes by).call (core.passes by).fetched (own + 1)
+  gathered_unlock page is passed = elim (cases_eq page own) [
+    | inl e ↦ subst (λ p. page_bytes (core.passes by).fetched (values_stepped sizes (core.passes by) (Gives cell) core.values) p ≡ page_now sizes opening core p) (sym e)
+        (page_bytes_fetched (core.passes by).fetched (values_stepped sizes (core.passes by) (Gives cell) core.values) own before.1 ∙ all)
+    | inr ne ↦ page_bytes_same (core.passes by).fetched core.values (values_stepped sizes (core.passes by) (Gives cell) core.values) page (filled_else page ne)
+        ∙ before.0 page is ne (elim passed [ inl low ↦ inl (omega (arith, low, ne)) | inr valid ↦ inr (sym (ap is_valid (filled_else page ne)) ∙ valid) ])
+  ]
+    where
+      before : Halfway sizes (page_now sizes opening core) core.values (core.passes by).call (core.passes by).fetched own
+      before = subst (GatheredAt sizes (page_now sizes opening core) core.values (core.passes by).call (core.passes by).fetched) at (was.gathered by)
+
+  buffers_unlock : ValidBuffers sizes opening (after_step sizes by (Gives cell) found core)
+  buffers_unlock = subst (λ h. ValidBuffers sizes opening (record (after_step sizes by (Gives cell) found core) { history = h })) (sym (same_history by core (Gives cell) tt)) record {
+    free = λ page free valid.
+        let none : core.words (PAGE page) ≡ 0 = sym (word_page page) ∙ free in
+        let ne : page ≢ own = λ e. (let z = unheld sizes first core sound page none by in let h = subst (λ p. times (PAGE p) (core.passes by).hands ≡ 1) (sym e) has_unlock in omega (arith, z, h)) in
+        ap bytes_in (filled_else page ne) ∙ was.free page none (sym (ap is_valid (filled_else page ne)) ∙ valid);
+    held = λ n page. by_number (λ n (p : Pass). times (PAGE page) p.hands ≡ 1 → is_valid (values_stepped sizes (core.passes by) (Gives cell) core.values (PAGE page)) ≡ true
+        → bytes_in (values_stepped sizes (core.passes by) (Gives cell) core.values (PAGE page)) ≡ patched_page sizes p.call p.stage page (page_now sizes opening core page)) core.passes by (changed sizes by core (Gives cell) found)
+        (held_unlock page)
+        (λ n ne has valid. let far = filled_else page (off_unlock n page ne has) in ap bytes_in far ∙ was.held n page has (sym (ap is_valid far) ∙ valid)) n;
+    gathered = by_number (λ n (p : Pass). GatheredAt sizes (page_now sizes opening core) (values_stepped sizes (core.passes by) (Gives cell) core.values) p.call p.fetched p.stage) core.passes by (changed sizes by core (Gives cell) found)
+        (subst (GatheredAt sizes (page_now sizes opening core) (values_stepped sizes (core.passes by) (Gives cell) core.values) (core.passes by).call (core.passes by).fetched) (sym stage_unlock) gathered_unlock)
+        (λ n ne. gathered_same sizes (page_now sizes opening core) (page_now sizes opening core) core.values (values_stepped sizes (core.passes by) (Gives cell) core.values) (core.passes n) (core.passes n).stage (sound.holding n).locks
+        (λ page has. (filled_else page (off_unlock n page ne has), refl)) (was.gathered n));
+  }
+
 -- ---- each step
 
+-- a pass that gives back CLEANUP after the pieces of a page has the page as it is now
+abbrev pub HasUnlocked : Sizes → Files → Core → Pass → Stage → Type 0
+HasUnlocked sizes opening core pass (Unlocking page) = fetched_bytes pass.fetched page ≡ page_now sizes opening core page
+HasUnlocked sizes opening core pass stage = Unit {0}
+
+abbrev is_unlocking : Stage → Bool
+is_unlocking (Unlocking page) = true
+is_unlocking stage = false
+
+give_valid : (sizes : Sizes) (first : Values) (opening : Files) (by : ℕ) (core : Core) (cell : Word) (found : ℕ) → Sound sizes first core → MayFind sizes by core (Gives cell) found → (stage : Stage) → (core.passes by).stage ≡ stage
+    → HasUnlocked sizes opening core (core.passes by) stage → ValidBuffers sizes opening core → ValidBuffers sizes opening (after_step sizes by (Gives cell) found core)
+give_valid sizes first opening by core cell found sound may (Unlocking page) at all was = buffers_unlock sizes first opening by core cell page found at sound may all was
+give_valid sizes first opening by core cell found sound may stage at all was = buffers_keep sizes first opening by core found (Gives cell) tt (λ page is. true≢false (sym (ap is_unlocking (sym at ∙ is)))) sound may was
+
 pub valid_step : (plain : PlainLaws) (sizes : Sizes) (first : Values) (opening : Files) (by : ℕ) (core : Core) (deed : Deed) (found : ℕ) → length opening.contents ≡ sizes.files
-    → Sound sizes first core → MayFind sizes by core deed found → ValidBuffers sizes opening core → ValidBuffers sizes opening (after_step sizes by deed found core)
-valid_step plain sizes first opening by core (Places reply) found count sound may was = buffers_place plain sizes first opening by core reply found count sound may was
-valid_step plain sizes first opening by core (Pledges page) found count sound may was = buffers_pledge sizes first opening by core page found sound may was
-valid_step plain sizes first opening by core deed found count sound may was = buffers_keep sizes first opening by core found deed tt sound may was
+    → Sound sizes first core → MayFind sizes by core deed found → HasUnlocked sizes opening core (core.passes by) (core.passes by).stage → ValidBuffers sizes opening core → ValidBuffers sizes opening (after_step sizes by deed found core)
+valid_step plain sizes first opening by core (Places reply) found count sound may all was = buffers_place plain sizes first opening by core reply found count sound may was
+valid_step plain sizes first opening by core (Pledges page) found count sound may all was = buffers_pledge sizes first opening by core page found sound may was
+valid_step plain sizes first opening by core (Gives cell) found count sound may all was = give_valid sizes first opening by core cell found sound may (core.passes by).stage refl all was
+valid_step plain sizes first opening by core deed found count sound may all was = buffers_keep sizes first opening by core found deed tt tt sound may was
 
 -- ---- a device call, and the beginning of a call
 
@@ -319,16 +428,18 @@ valid_begin sizes first opening by core call sound may was =
 -- the cell of a device call is no page
 work_cell : (sizes : Sizes) (values : Values) (pass : Pass) (work : Work) (stage : Stage) → IsDue sizes values pass work stage → (page : ℕ) → PAGE page ≢ work.cell
 work_cell sizes values pass work (Committing calls) due page e = differ (PAGE page) (ENTRY (slot_of sizes (pass.first + due.row.part))) refl (e ∙ due.cell)
-work_cell sizes values pass work (Copying next) due page e = differ (PAGE page) (STORE (file_of pass.call)) refl (e ∙ due.cell)
+work_cell sizes values pass work (Patching next number) due page e = differ (PAGE page) (ENTRY (slot_of sizes number)) refl (e ∙ due.cell)
+work_cell sizes values pass work (Copying next dirty) due page e = differ (PAGE page) (STORE (file_of pass.call)) refl (e ∙ due.cell)
 work_cell sizes values pass work stage due page e = due
 
-read_else : (job : Job) (how : Ending) (stage : Stage) (values : Values) (page : ℕ) → (stage ≡ Copying page → ⊥) → values_read job how stage values (PAGE page) ≡ values (PAGE page)
-read_else (Reads at bytes) Made (Copying other) values page ne = word_else values (PAGE other) (filled bytes (values (PAGE other))) (PAGE page) (λ e. ne (ap Copying (sym (ap index e))))
+read_else : (job : Job) (how : Ending) (stage : Stage) (values : Values) (page : ℕ) → (stage ≡ Copying page false → ⊥) → values_read job how stage values (PAGE page) ≡ values (PAGE page)
+read_else (Reads at bytes) Made (Copying other false) values page ne = word_else values (PAGE other) (filled bytes (values (PAGE other))) (PAGE page) (λ e. ne (ap (λ p. Copying p false) (sym (ap index e))))
 read_else job how stage values page ne = refl
 
 read_failed : (job : Job) (came : Bool) (faults : ℕ) (stage : Stage) (values : Values) → values_read job (Failed came faults) stage values ≡ values
 read_failed (Reads at bytes) came faults stage values = refl
 read_failed (Writes step room) came faults stage values = refl
+read_failed (Peeks at bytes) came faults stage values = refl
 
 -- what stands patched stays so
 work_patched : (sizes : Sizes) (values : Values) (pass : Pass) (work : Work) (how : Ending) (stage : Stage) (page : ℕ) (old : List ℕ) → HoldsLocks sizes pass stage → IsDue sizes values pass work stage → times (PAGE page) pass.hands ≡ 1
@@ -336,20 +447,17 @@ work_patched : (sizes : Sizes) (values : Values) (pass : Pass) (work : Work) (ho
 work_patched sizes values pass work Made (Committing calls) page old held due has =
     if_both (λ s. old ≡ patched_page sizes pass.call s page old) (calls + 1 == length (commit_steps sizes pass pass.call)) (Pledging (first_page sizes pass.call)) (Committing (calls + 1))
     (λ _. sym (when_false (nat_lt page (first_page sizes pass.call)) (with_own sizes pass.call page old) old (le-ltb page (first_page sizes pass.call) (whole_page sizes pass (Committing calls) tt held page has).0))) (λ _. refl)
-work_patched sizes values pass work Made (Copying next) page old held due has = refl
+work_patched sizes values pass work Made (Copying next dirty) page old held due has = refl
+work_patched sizes values pass work Made (Patching next number) page old held due has = refl
 work_patched sizes values pass work (Failed came faults) (Committing calls) page old held due has = refl
-work_patched sizes values pass work (Failed came faults) (Copying next) page old held due has = refl
+work_patched sizes values pass work (Failed came faults) (Copying next dirty) page old held due has = refl
+work_patched sizes values pass work (Failed came faults) (Patching next number) page old held due has = refl
 work_patched sizes values pass work how stage page old held due has = absurd due
 
 -- a store's page that was read
-says_is : (sizes : Sizes) (at : ℕ) (bytes : List ℕ) (store : Store) (value : Value) → store_of value ≡ Some store → SaysOf sizes at bytes value → bytes ≡ page_from store.seen at sizes.page
+pub says_is : (sizes : Sizes) (at : ℕ) (bytes : List ℕ) (store : Store) (value : Value) → store_of value ≡ Some store → SaysOf sizes at bytes value → bytes ≡ page_from store.seen at sizes.page
 says_is sizes at bytes store (AStore device) is says = subst (SaysPage sizes at bytes) is says
 says_is sizes at bytes store value is says = absurd says
-
-filled_bytes : (bytes : List ℕ) (value : Value) → is_valid (filled bytes value) ≡ true → bytes_in (filled bytes value) ≡ bytes
-filled_bytes bytes (ABuffer (Some buffer)) valid = refl
-filled_bytes bytes (ABuffer None) valid = absurd (true≢false (sym valid))
-filled_bytes bytes value valid = absurd (true≢false (sym valid))
 
 -- a call that fills no buffer
 module _ (sizes : Sizes) (first : Values) (opening : Files) (by : ℕ) (core : Core) (work : Work)
@@ -378,7 +486,9 @@ module _ (sizes : Sizes) (first : Values) (opening : Files) (by : ℕ) (core : C
       ends : (stage : Stage) → IsDue sizes core.values (core.passes by) work stage
           → GatheredAt sizes (page_now sizes opening core) (values_worked (core.passes by) work core.values) (core.passes by).call (worked sizes work (core.passes by)).fetched (stage_worked sizes (core.passes by) (Failed came faults) stage)
       ends (Committing calls) due = tt
-      ends stage due = tt
+      ends (Copying page dirty) due = tt
+      ends (Patching page number) due = tt
+      ends stage due = absurd due
 
   committed : (calls : ℕ) → (core.passes by).stage ≡ Committing calls → work.ending ≡ Made → ValidBuffers sizes opening (after_work sizes by work core)
   committed calls at how = buffers_unread
@@ -389,28 +499,55 @@ module _ (sizes : Sizes) (first : Values) (opening : Files) (by : ℕ) (core : C
       (calls + 1 == length (commit_steps sizes (core.passes by) (core.passes by).call)) (Pledging (first_page sizes (core.passes by).call)) (Committing (calls + 1)) (λ _. tt) (λ _. tt))))
     where
       is_copying : Stage → Bool
-      is_copying (Copying page) = true
+      is_copying (Copying page dirty) = true
       is_copying stage = false
 
-      apart : {page : ℕ} → Committing calls ≡ Copying page → ⊥
+      apart : {page : ℕ} → Committing calls ≡ Copying page false → ⊥
       apart e = true≢false (sym (ap is_copying e))
 
--- a call that reads a page from its store
+-- a call by which a read has more of a page with entries
+module _ (sizes : Sizes) (first : Values) (opening : Files) (by : ℕ) (core : Core) (work : Work)
+    (sound : Sound sizes first core) (may : MayWork sizes core.values (core.passes by) work) (was : ValidBuffers sizes opening core) where
+  buffers_fetch : (own : ℕ) (stage : Stage) → (core.passes by).stage ≡ stage → work.ending ≡ Made → ((page : ℕ) → stage ≡ Copying page false → ⊥)
+      → GatheredAt sizes (page_now sizes opening core) (values_worked (core.passes by) work core.values) (core.passes by).call (worked sizes work (core.passes by)).fetched (stage_worked sizes (core.passes by) Made stage)
+      ≡ Halfway sizes (page_now sizes opening core) (values_worked (core.passes by) work core.values) (core.passes by).call (worked sizes work (core.passes by)).fetched own
+      → (GatheredAt sizes (page_now sizes opening core) core.values (core.passes by).call (core.passes by).fetched stage → GatheredBut sizes (page_now sizes opening core) core.values (core.passes by).call (core.passes by).fetched own)
+      → (bytes : List ℕ) → (worked sizes work (core.passes by)).fetched ≡ (own, bytes) ∷ (core.passes by).fetched
+      → ValidBuffers sizes opening (after_work sizes by work core)
+  buffers_fetch own stage at how other half before bytes fetched = buffers_unread sizes first opening by core work sound may was same
+      (subst (λ h. GatheredAt sizes (page_now sizes opening core) (values_worked (core.passes by) work core.values) (core.passes by).call (worked sizes work (core.passes by)).fetched (stage_worked sizes (core.passes by) h (core.passes by).stage)) (sym how)
+      (subst (λ s. GatheredAt sizes (page_now sizes opening core) (values_worked (core.passes by) work core.values) (core.passes by).call (worked sizes work (core.passes by)).fetched (stage_worked sizes (core.passes by) Made s)) (sym at)
+      (subst (λ T. T) (sym half)
+      (subst (λ f. Halfway sizes (page_now sizes opening core) (values_worked (core.passes by) work core.values) (core.passes by).call f own) (sym fetched) (but, inl refl)))))
+    where
+      same : (page : ℕ) → values_worked (core.passes by) work core.values (PAGE page) ≡ core.values (PAGE page)
+      same page =
+          read_else work.job work.ending (core.passes by).stage (with_word core.values work.cell (called work.job work.ending (core.values work.cell))) page (λ e. other page (sym at ∙ e))
+          ∙ called_else sizes first opening by core work sound may was page
+
+      but : GatheredBut sizes (page_now sizes opening core) (values_worked (core.passes by) work core.values) (core.passes by).call ((own, bytes) ∷ (core.passes by).fetched) own
+      but page is ne passed =
+          when_false (own == page) bytes (page_bytes (core.passes by).fetched (values_worked (core.passes by) work core.values) page) (ne_eqb own page (λ e. ne (sym e)))
+          ∙ page_bytes_same (core.passes by).fetched core.values (values_worked (core.passes by) work core.values) page (same page)
+          ∙ before (subst (GatheredAt sizes (page_now sizes opening core) core.values (core.passes by).call (core.passes by).fetched) at (was.gathered by)) page is ne
+          (elim passed [ inl low ↦ inl low | inr valid ↦ inr (sym (ap is_valid (same page)) ∙ valid) ])
+
+-- a call that reads a page without entries from its store
 module _ (sizes : Sizes) (first : Values) (opening : Files) (by : ℕ) (core : Core) (work : Work) (own : ℕ)
     (sound : Sound sizes first core) (tells : StoresTell sizes first) (kept : StoresKept first core.values) (clean : StorePages sizes first opening core)
-    (at : (core.passes by).stage ≡ Copying own) (how : work.ending ≡ Made) (due : IsPageRead sizes core.values (core.passes by) own work)
+    (at : (core.passes by).stage ≡ Copying own false) (how : work.ending ≡ Made) (due : IsPageRead sizes core.values (core.passes by) own work)
     (may : MayWork sizes core.values (core.passes by) work) (was : ValidBuffers sizes opening core) where
-  stands : StandsAt sizes (core.passes by) (Copying own)
+  stands : StandsAt sizes (core.passes by) (Copying own false)
   stands = subst (StandsAt sizes (core.passes by)) at (sound.standing by).at
 
-  locks_read : HoldsLocks sizes (core.passes by) (Copying own)
+  locks_read : HoldsLocks sizes (core.passes by) (Copying own false)
   locks_read = subst (HoldsLocks sizes (core.passes by)) at (sound.holding by).locks
 
   has_read : times (PAGE own) (core.passes by).hands ≡ 1
-  has_read = whole_holds sizes (core.passes by) (Copying own) tt locks_read own stands.1
+  has_read = whole_holds sizes (core.passes by) (Copying own false) tt locks_read own stands.1
 
   allowed_read : IsAllowed sizes (core.passes by).call
-  allowed_read = (sound.standing by).allowed (busy (core.passes by).stage (Copying own) at refl)
+  allowed_read = (sound.standing by).allowed (busy (core.passes by).stage (Copying own false) at refl)
 
   -- the bytes are the page as it is now
   read_now : due.bytes ≡ page_now sizes opening core own
@@ -420,7 +557,7 @@ module _ (sizes : Sizes) (first : Values) (opening : Files) (by : ℕ) (core : C
       let clear : core.words (DIRTY own) ≡ 0 = sound.loaded.clean by own (subst (λ s. SawClean s own) (sym at) refl) in
       says_is sizes (page_start sizes (core.passes by).call own) due.bytes told.0 (core.values (STORE (file_of (core.passes by).call))) (kept.each (file_of (core.passes by).call) ∙ told.1) due.says
       ∙ ap (λ n. page_from told.0.seen (n * sizes.page) sizes.page) (sym place.1)
-      ∙ sym (clean.clean by own told.0 stands.0 has_read clear (ap (λ f. store_of (first (STORE f))) place.0 ∙ told.1))
+      ∙ sym (clean.clean by own told.0 stands.0 has_read clear (subst (λ f. f < sizes.files) (sym place.0) allowed_read.known) (ap (λ f. store_of (first (STORE f))) place.0 ∙ told.1))
 
   value_read : values_worked (core.passes by) work core.values (PAGE own) ≡ filled due.bytes (core.values (PAGE own))
   value_read =
@@ -437,19 +574,19 @@ module _ (sizes : Sizes) (first : Values) (opening : Files) (by : ℕ) (core : C
       ∙ called_else sizes first opening by core work sound may was page
     where
       page_of_copy : Stage → ℕ
-      page_of_copy (Copying next) = next
+      page_of_copy (Copying next dirty) = next
       page_of_copy stage = 0
 
-      copied : {one other : ℕ} → Copying one ≡ Copying other → one ≡ other
+      copied : {one other : ℕ} → Copying one false ≡ Copying other false → one ≡ other
       copied e = ap page_of_copy e
 
   fetched_read : (worked sizes work (core.passes by)).fetched ≡ (own, due.bytes) ∷ (core.passes by).fetched
   fetched_read =
-      ap (λ j. fetched_worked (core.passes by) j work.ending (core.passes by).stage) due.job
-      ∙ ap (λ h. fetched_worked (core.passes by) (Reads (page_start sizes (core.passes by).call own) due.bytes) h (core.passes by).stage) how
-      ∙ ap (λ s. fetched_worked (core.passes by) (Reads (page_start sizes (core.passes by).call own) due.bytes) Made s) at
+      ap (λ j. fetched_worked sizes (core.passes by) j work.ending (core.passes by).stage) due.job
+      ∙ ap (λ h. fetched_worked sizes (core.passes by) (Reads (page_start sizes (core.passes by).call own) due.bytes) h (core.passes by).stage) how
+      ∙ ap (λ s. fetched_worked sizes (core.passes by) (Reads (page_start sizes (core.passes by).call own) due.bytes) Made s) at
 
-  stage_read : (worked sizes work (core.passes by)).stage ≡ Returning own
+  stage_read : (worked sizes work (core.passes by)).stage ≡ Returning own false
   stage_read = ap (λ h. stage_worked sizes (core.passes by) h (core.passes by).stage) how ∙ ap (λ s. stage_worked sizes (core.passes by) Made s) at
 
   far : (number page : ℕ) → number ≢ by → times (PAGE page) (core.passes number).hands ≡ 1 → page ≢ own
@@ -494,6 +631,14 @@ module _ (sizes : Sizes) (first : Values) (opening : Files) (by : ℕ) (core : C
         (λ page has. (value_apart page (far n page ne has), refl)) (was.gathered n));
   }
 
+abbrev is_dirty : Stage → Bool
+is_dirty (Copying page dirty) = dirty
+is_dirty stage = false
+
+abbrev is_copy : Stage → Bool
+is_copy (Copying page dirty) = true
+is_copy stage = false
+
 pub valid_work : (sizes : Sizes) (first : Values) (opening : Files) (by : ℕ) (core : Core) (work : Work) → Sound sizes first core → StoresTell sizes first → StoresKept first core.values → StorePages sizes first opening core
     → MayWork sizes core.values (core.passes by) work → ValidBuffers sizes opening core → ValidBuffers sizes opening (after_work sizes by work core)
 valid_work sizes first opening by core work sound tells kept clean may was = go work.ending refl (core.passes by).stage refl may.due
@@ -501,5 +646,15 @@ valid_work sizes first opening by core work sound tells kept clean may was = go 
     go : (how : Ending) → work.ending ≡ how → (stage : Stage) → (core.passes by).stage ≡ stage → IsDue sizes core.values (core.passes by) work stage → ValidBuffers sizes opening (after_work sizes by work core)
     go (Failed came faults) how stage at due = failed sizes first opening by core work sound may was came faults how
     go Made how (Committing calls) at due = committed sizes first opening by core work sound may was calls at how
-    go Made how (Copying page) at due = buffers_read sizes first opening by core work page sound tells kept clean at how due may was
+    go Made how (Copying page false) at due = buffers_read sizes first opening by core work page sound tells kept clean at how due may was
+    go Made how (Copying page true) at due = buffers_fetch sizes first opening by core work sound may was page (Copying page true) at how (λ other e. true≢false (ap is_dirty e)) refl
+        (λ at other is ne passed. at other is passed) due.bytes
+        (ap (λ j. fetched_worked sizes (core.passes by) j work.ending (core.passes by).stage) due.job
+        ∙ ap (λ h. fetched_worked sizes (core.passes by) (Reads (page_start sizes (core.passes by).call page) due.bytes) h (core.passes by).stage) how
+        ∙ ap (λ s. fetched_worked sizes (core.passes by) (Reads (page_start sizes (core.passes by).call page) due.bytes) Made s) at)
+    go Made how (Patching page number) at due = buffers_fetch sizes first opening by core work sound may was page (Patching page number) at how (λ other e. true≢false (sym (ap is_copy e))) refl
+        (λ at. at.0) (overwritten (fetched_bytes (core.passes by).fetched page) (due.at % sizes.page) due.bytes)
+        (ap (λ j. fetched_worked sizes (core.passes by) j work.ending (core.passes by).stage) due.job
+        ∙ ap (λ h. fetched_worked sizes (core.passes by) (Peeks due.at due.bytes) h (core.passes by).stage) how
+        ∙ ap (λ s. fetched_worked sizes (core.passes by) (Peeks due.at due.bytes) Made s) at)
     go Made how stage at due = absurd due

@@ -1,18 +1,18 @@
 -- Each event keeps the log's window.
-use Rattle.std.proofs.Common.{◌≡◌, ◌≢◌, ◌⊎◌, ◌↔◌, ℕ, ◌+◌, ◌^◌, ◌<◌, ◌≤◌, ◌==◌, Bool, true, false, if◌then◌else◌, [], ◌++◌, length, inl, inr, refl, sym, ap, subst, ◌∙◌, arith, le_trans}
+use Rattle.std.proofs.Common.{◌≡◌, ◌≢◌, ◌⊎◌, ◌↔◌, ℕ, ◌+◌, ◌^◌, ◌<◌, ◌≤◌, ◌==◌, Bool, true, false, if◌then◌else◌, [], ◌++◌, length, inl, inr, refl, sym, ap, subst, ◌∙◌, arith, le_trans, ◌-◌}
 use Rattle.std.proofs.lemmas.Bool.{eqb-true, eqb-false, cases_eq}
 use Rattle.nv_plain.specs.declared.call.FileCall.{FileCall}
-use Rattle.nv_core.specs.Words.{Sizes, HEAD, TAIL, ENTRY, filling, broken}
+use Rattle.nv_core.specs.Words.{Sizes, HEAD, TAIL, ENTRY, filling, broken, ready, held, is_entry_of, kind_of}
 use Rattle.nv_core.specs.Values.{Ending, Made, Failed}
-use Rattle.nv_core.specs.Passes.{Stage, Locking, Checking, Copying, Seizing, Committing, Pledging, Readying, Placing, ReadFailing, WriteFailing, Breaking, Pass, IsUnseized, IsFilling, IsAmong, is_write, page_count, first_page, end_page, without}
-use Rattle.nv_core.specs.Deeds.{Deed, slot_of, page_at, ready_word, Loads, Takes, Gives, Places, Stops, Draws, Seizes, Pledges, Readies, Grows, Breaks, Splits, Leaves, Joins, value_after}
+use Rattle.nv_core.specs.Passes.{Stage, Locking, Checking, Copying, Seizing, Committing, Pledging, Readying, Placing, ReadFailing, WriteFailing, Breaking, Pass, IsUnseized, IsFilling, IsAmong, is_write, page_count, first_page, end_page, without, Patching, Restoring, PieceFailing}
+use Rattle.nv_core.specs.Deeds.{Deed, slot_of, page_at, ready_word, Loads, Takes, Gives, Places, Stops, Draws, Seizes, Pledges, Readies, Grows, Breaks, Splits, Leaves, Joins, value_after, Holds, Returns}
 use Rattle.nv_core.specs.Stages.{stage_after, after_stop, leaving}
 use Rattle.nv_core.specs.Stepped.{stepped, begun}
 use Rattle.nv_core.specs.Order.{Values, Work, MayWork, IsDue, IsFailing, commit_steps, MayStep}
 use Rattle.nv_core.specs.Core.{Core, changes, changed, with_word, with_number, after_step, after_begin, after_work, worked, stage_worked}
 use Rattle.nv_core.specs.Events.{MayFind, MayBegin}
 use Rattle.nv_core.specs.Standing.{StandsAt, HasDrawn, IsPage, IsSmall, HasRoom}
-use Rattle.nv_core.specs.LogWindow.{HasUnseized, Fills, LogWindow}
+use Rattle.nv_core.specs.LogWindow.{HasUnseized, Fills, LogWindow, InWindow, entry_at}
 use Rattle.nv_core.specs.Sound.{Sound}
 use Rattle.nv_core.proofs.Changes.{word_here}
 use Rattle.nv_core.proofs.Choices.{if_both, when_true, when_false, busy}
@@ -20,8 +20,9 @@ use Rattle.nv_core.proofs.ClearLaws.{IsClear, IsPlain, clear_unseized, clear_fil
 use Rattle.nv_core.proofs.PageLaws.{write_pages}
 use Rattle.nv_core.proofs.LockLaws.{only_holder}
 use Rattle.nv_core.proofs.WordLaws.{untouched, touches}
-use Rattle.nv_core.proofs.KeepsLocks.{kind_is, readying_next}
+use Rattle.nv_core.proofs.KeepsLocks.{kind_is, readying_next, entry_is, hold_is, return_is}
 use Rattle.nv_core.proofs.WindowLaws.{Alike, alike_self, alike_all, window_same, window_drawn, OneEntry, window_entry}
+use Rattle.nv_core.specs.Loaded.{Looks}
 
 -- two passes that have drawn nothing
 clear_alike : (old new : Pass) → IsClear old.stage → IsClear new.stage → Alike old new
@@ -80,12 +81,14 @@ plain : (sizes : Sizes) (by : ℕ) (core : Core) (deed : Deed) (found number : �
 plain sizes by core deed found number is may = clear_alike (core.passes by) (stepped sizes number core.history deed found (core.passes by)) (clear_from sizes core.values (core.passes by) deed is may) (clear_to sizes core.values (core.passes by) deed found is may)
 
 stopped : (sizes : Sizes) (pass : Pass) (number : ℕ) (history : _) (found : ℕ) (stage : Stage) → pass.stage ≡ stage → IsFailing stage → Alike pass (stepped sizes number history Stops found pass)
-stopped sizes pass number history found ReadFailing at is =
-    at_alike pass (stepped sizes number history Stops found pass) ReadFailing (leaving pass.hands) at (ap (after_stop pass) at)
+stopped sizes pass number history found (ReadFailing page dirty) at is =
+    at_alike pass (stepped sizes number history Stops found pass) (ReadFailing page dirty) (leaving pass.hands) at (ap (after_stop pass) at)
     (λ n. (λ u. absurd (clear_unseized (leaving pass.hands) pass.first pass.entries n (clear_leaving pass.hands) u), λ z. absurd z))
     (λ n. (λ u. absurd (clear_filling (leaving pass.hands) pass.first pass.entries n (clear_leaving pass.hands) u), λ z. absurd z))
 stopped sizes pass number history found WriteFailing at is =
     at_alike pass (stepped sizes number history Stops found pass) WriteFailing (Breaking pass.first) at (ap (after_stop pass) at) (λ n. self) (λ n. self)
+stopped sizes pass number history found (PieceFailing page next) at is =
+    at_alike pass (stepped sizes number history Stops found pass) (PieceFailing page next) (Restoring page next true) at (ap (after_stop pass) at) (λ n. self) (λ n. self)
 stopped sizes pass number history found stage at is = absurd is
 
 -- ---- numbers are drawn
@@ -271,6 +274,20 @@ breaks_one sizes first by core found next sound may = record {
         (λ e. absurd (let last = eqb-true (next + 1) ((core.passes by).first + (core.passes by).entries) e in let x = u.0 in let y = u.1 in omega (arith, x, y, ne, last)))
         (λ _. let x = u.0 in (omega (arith, x, ne), u.1))
 
+-- an entry that was made ready is held, or returned
+reads_one : (sizes : Sizes) (core : Core) (by next value : ℕ) (pass : Pass) → LogWindow sizes core → InWindow core next → IsClear (core.passes by).stage → IsClear pass.stage
+    → 2 ≤ kind_of (entry_at sizes core next) → 2 ≤ kind_of value → OneEntry sizes core by next value pass
+reads_one sizes core by next value pass window within was clear old new = record {
+  within = within;
+  unseized = λ s u. absurd (clear_unseized pass.stage pass.first pass.entries s clear u);
+  fills = λ s u. absurd (clear_filling pass.stage pass.first pass.entries s clear u);
+  unseized_still = λ s u ne. absurd (clear_unseized (core.passes by).stage (core.passes by).first (core.passes by).entries s was u);
+  fills_still = λ s u ne. absurd (clear_filling (core.passes by).stage (core.passes by).first (core.passes by).entries s was u);
+  no_other_unseized = λ n ne u. let zero = ap kind_of (window.unseized_is n next u) in omega (arith, zero, old);
+  no_other_filling = λ n ne u. let one = ap kind_of (window.filling_is n next u) in omega (arith, one, old);
+  is = inr (λ e. omega (arith, e, new), λ e. omega (arith, e, new));
+}
+
 -- ---- all steps
 
 pub window_step : (sizes : Sizes) (first : Values) (by : ℕ) (core : Core) (deed : Deed) (found : ℕ) → Sound sizes first core → MayFind sizes by core deed found → LogWindow sizes (after_step sizes by deed found core)
@@ -287,6 +304,20 @@ window_step sizes first by core (Pledges page) found sound may = stays sizes fir
 window_step sizes first by core (Readies next) found sound may = window_entry sizes core by next _ (changed sizes by core (Readies next) found) _ _ _ _ sound.window (readies_one sizes first by core found next sound may)
 window_step sizes first by core Grows found sound may = stays sizes first by core Grows found sound may refl refl (λ slot. refl) (plain sizes by core Grows found by tt may.may)
 window_step sizes first by core (Breaks next) found sound may = window_entry sizes core by next broken (changed sizes by core (Breaks next) found) _ _ _ _ sound.window (breaks_one sizes first by core found next sound may)
+window_step sizes first by core (Holds next) found sound may =
+    let looks : InWindow core next × (is_entry_of ready may.may.0 (entry_at sizes core next) ≡ true) = subst (Looks sizes core) may.may.1 (sound.loaded.looks by) in
+    let old = (entry_is ready may.may.0 (entry_at sizes core next) looks.1).0 in
+    let new = (entry_is held may.may.0 (found + 1) (hold_is may.may.0 found (subst (λ w. is_entry_of ready may.may.0 w ≡ true) may.is looks.1))).0 in
+    window_entry sizes core by next (found + 1) (changed sizes by core (Holds next) found) _ _ _ _ sound.window
+    (reads_one sizes core by next (found + 1) (changed sizes by core (Holds next) found) sound.window looks.0
+    (clear_from sizes core.values (core.passes by) (Holds next) tt may.may) (clear_to sizes core.values (core.passes by) (Holds next) found tt may.may) (omega (arith, old)) (omega (arith, new)))
+window_step sizes first by core (Returns next) found sound may =
+    let looks : InWindow core next × (is_entry_of held may.may.0 (entry_at sizes core next) ≡ true) = subst (Looks sizes core) may.may.2 (sound.loaded.looks by) in
+    let old = (entry_is held may.may.0 (entry_at sizes core next) looks.1).0 in
+    let new = (entry_is ready may.may.0 (found - 1) (return_is may.may.0 found (subst (λ w. is_entry_of held may.may.0 w ≡ true) may.is looks.1))).0 in
+    window_entry sizes core by next (found - 1) (changed sizes by core (Returns next) found) _ _ _ _ sound.window
+    (reads_one sizes core by next (found - 1) (changed sizes by core (Returns next) found) sound.window looks.0
+    (clear_from sizes core.values (core.passes by) (Returns next) tt may.may) (clear_to sizes core.values (core.passes by) (Returns next) found tt may.may) (omega (arith, old)) (omega (arith, new)))
 window_step sizes first by core Splits found sound may = stays sizes first by core Splits found sound may refl refl (λ slot. refl)
     (clear_alike (core.passes (core.made + 1)) (changed sizes by core Splits found) (subst IsClear (sym (sound.numbers.unborn (core.made + 1) (omega arith)).idle) tt) tt)
 window_step sizes first by core (Leaves cell) found sound may = stays sizes first by core (Leaves cell) found sound may refl refl (λ slot. refl) record { unseized = λ n. self; filling = λ n. self }
@@ -306,8 +337,10 @@ worked_alike sizes values pass work (Committing calls) Made due n =
     if_both (λ g. (IsUnseized g pass.first pass.entries n ↔ ⊥) × (IsFilling g pass.first pass.entries n ↔ IsAmong pass.first pass.entries n))
     (calls + 1 == length (commit_steps sizes pass pass.call)) (Pledging (first_page sizes pass.call)) (Committing (calls + 1)) (λ _. (self, self)) (λ _. (self, self))
 worked_alike sizes values pass work (Committing calls) (Failed came faults) due n = (self, self)
-worked_alike sizes values pass work (Copying page) Made due n = (self, self)
-worked_alike sizes values pass work (Copying page) (Failed came faults) due n = (self, self)
+worked_alike sizes values pass work (Copying page dirty) Made due n = (self, self)
+worked_alike sizes values pass work (Copying page dirty) (Failed came faults) due n = (self, self)
+worked_alike sizes values pass work (Patching page number) Made due n = (self, self)
+worked_alike sizes values pass work (Patching page number) (Failed came faults) due n = (self, self)
 worked_alike sizes values pass work stage how due n = absurd due
 
 pub window_work : (sizes : Sizes) (first : Values) (by : ℕ) (core : Core) (work : Work) → Sound sizes first core → MayWork sizes core.values (core.passes by) work → LogWindow sizes (after_work sizes by work core)

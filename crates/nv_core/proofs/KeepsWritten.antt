@@ -1,5 +1,5 @@
 -- Each event keeps the groups written, and the free entries blank.
-use Rattle.std.proofs.Common.{◌≡◌, ◌≢◌, ◌⊎◌, ℕ, zero, suc, ◌+◌, ◌<◌, ◌≤◌, ◌==◌, Bool, true, false, if◌then◌else◌, List, [], ◌∷◌, length, inl, inr, refl, sym, ap, ap₂, subst, ◌∙◌, arith}
+use Rattle.std.proofs.Common.{◌≡◌, ◌≢◌, ◌⊎◌, ℕ, zero, suc, ◌+◌, ◌<◌, ◌≤◌, ◌==◌, Bool, true, false, if◌then◌else◌, List, [], ◌∷◌, length, inl, inr, refl, sym, ap, ap₂, subst, ◌∙◌, arith, ◌-◌}
 use Rattle.std.specs.Prelude.{slice_index_or}
 use Rattle.std.proofs.lemmas.Bool.{eqb-true, cases_eq, cases_lt}
 use Rattle.std.proofs.lemmas.Nat.{mod_below}
@@ -14,11 +14,11 @@ use Rattle.nv_pmem.specs.Runs.{run}
 use Rattle.nv_entry.specs.Commits.{after_some}
 use Rattle.nv_core.specs.Words.{Sizes, Word, HEAD, TAIL, STORE, ENTRY, kind_of, free, filling, broken, index, was_readied}
 use Rattle.nv_core.specs.Values.{Ending, Made, Failed, Writes, called}
-use Rattle.nv_core.specs.Passes.{Stage, Locking, Checking, Copying, Seizing, Committing, Pledging, Readying, Placing, ReadFailing, WriteFailing, Breaking, Pass, IsUnseized, IsFilling, IsAmong, AreBytes, IsAllowed, file_of, is_write, page_count, first_page, end_page, without}
-use Rattle.nv_core.specs.Deeds.{Deed, slot_of, page_at, ready_word, Loads, Takes, Gives, Places, Stops, Draws, Seizes, Pledges, Readies, Grows, Breaks, Splits, Leaves, Joins}
+use Rattle.nv_core.specs.Passes.{Stage, Locking, Checking, Copying, Seizing, Committing, Pledging, Readying, Placing, ReadFailing, WriteFailing, Breaking, Pass, IsUnseized, IsFilling, IsAmong, AreBytes, IsAllowed, file_of, is_write, page_count, first_page, end_page, without, PieceFailing, Patching}
+use Rattle.nv_core.specs.Deeds.{Deed, slot_of, page_at, ready_word, Loads, Takes, Gives, Places, Stops, Draws, Seizes, Pledges, Readies, Grows, Breaks, Splits, Leaves, Joins, Holds, Returns}
 use Rattle.nv_core.specs.Stages.{stage_after, after_stop, leaving}
 use Rattle.nv_core.specs.Stepped.{stepped, begun}
-use Rattle.nv_core.specs.Order.{Values, Work, MayWork, IsDue, IsNextCall, IsPageRead, IsFailing, commit_steps, MayStep}
+use Rattle.nv_core.specs.Order.{Values, Work, MayWork, IsDue, IsNextCall, IsPageRead, IsFailing, commit_steps, MayStep, IsPieceRead}
 use Rattle.nv_core.specs.Core.{Core, changes, changed, with_word, with_number, after_step, after_begin, after_work, worked, stage_worked, values_worked}
 use Rattle.nv_core.specs.Events.{MayFind}
 use Rattle.nv_core.specs.Standing.{StandsAt, HasDrawn, IsSmall, HasRoom}
@@ -38,7 +38,8 @@ use Rattle.nv_core.proofs.WindowLaws.{apart_within}
 use Rattle.nv_core.proofs.KeepsWindow.{window_step}
 use Rattle.nv_core.proofs.KeepsGroups.{is_draw, group_new, group_old, which}
 use Rattle.nv_core.proofs.RowParts.{row_within}
-use Rattle.nv_core.proofs.WrittenLaws.{part_now, part_stepped, part_worked, part_called, value_called, value_not_called, steps_of, written_same, written_more}
+use Rattle.nv_core.proofs.WrittenLaws.{part_now, part_stepped, part_worked, part_called, value_called, value_not_called, steps_of, written_same, written_more, told_on}
+use Rattle.nv_core.proofs.Rekinded.{IsRekinded, holds_rekind, returns_rekind, rekind_free, rekind_before}
 
 -- ---- whose a leader is
 
@@ -178,6 +179,19 @@ entry_step sizes tail log by core deed found slot value written words not_free n
     readies : (word : Word) → was_readied (with_word core.words (ENTRY slot) value word) ≡ true → was_readied (core.words word) ≡ true
     readies = by_word (λ word v. was_readied v ≡ true → was_readied (core.words word) ≡ true) core.words (ENTRY slot) value (λ e. absurd (not_ready e)) (λ word ne e. e)
 
+-- an entry is held or returned
+rekind_step : (sizes : Sizes) (tail : ℕ) (log : Log) (by : ℕ) (core : Core) (deed : Deed) (found next value : ℕ) → Written sizes tail log core
+    → (after_step sizes by deed found core).words ≡ with_word core.words (ENTRY (slot_of sizes next)) value → IsRekinded sizes core next value
+    → HasCalls sizes log (changed sizes by core deed found) (changed sizes by core deed found).stage → Written sizes tail log (after_step sizes by deed found core)
+rekind_step sizes tail log by core deed found next value written words rekinded here =
+    written_kept sizes tail log core (after_step sizes by deed found core)
+    (ap (λ w. w HEAD) words ∙ word_else core.words (ENTRY (slot_of sizes next)) value HEAD (differ HEAD (ENTRY (slot_of sizes next)) refl))
+    (ap (λ w. w TAIL) words ∙ word_else core.words (ENTRY (slot_of sizes next)) value TAIL (differ TAIL (ENTRY (slot_of sizes next)) refl))
+    (part_stepped sizes (core.passes by) deed core.values)
+    (λ other is. rekind_free sizes core next value rekinded (ENTRY other) (sym (ap (λ w. w (ENTRY other)) words) ∙ is))
+    (λ n is leads kind. inl (rekind_before sizes core next value rekinded (ENTRY (slot_of sizes n)) (ap (λ w. was_readied (w (ENTRY (slot_of sizes n)))) (sym words) ∙ kind)))
+    (calls_now sizes log tail by core deed found written here) written
+
 -- an entry is made ready: a leader only when all device calls of its group's commit have come
 ready_step : (sizes : Sizes) (first : Values) (tail : ℕ) (log : Log) (by : ℕ) (core : Core) (found next : ℕ) → Sound sizes first core → Groups sizes core log → Written sizes tail log core → MayFind sizes by core (Readies next) found
     → Written sizes tail log (after_step sizes by (Readies next) found core)
@@ -223,7 +237,8 @@ same_stage : (sizes : Sizes) (tail : ℕ) (log : Log) (by : ℕ) (core : Core) (
 same_stage sizes tail log by core pass written first call = calls_as sizes log log (core.passes by) pass first call (core.passes by).stage (λ _. refl) (written.calls by)
 
 stop_calls : (sizes : Sizes) (log : Log) (pass now : Pass) (stage : Stage) → IsFailing stage → HasCalls sizes log now (after_stop pass stage)
-stop_calls sizes log pass now ReadFailing is = clear_calls sizes log now (leaving pass.hands) (clear_leaving pass.hands)
+stop_calls sizes log pass now (PieceFailing page next) is = tt
+stop_calls sizes log pass now (ReadFailing page dirty) is = clear_calls sizes log now (leaving pass.hands) (clear_leaving pass.hands)
 stop_calls sizes log pass now WriteFailing is = tt
 stop_calls sizes log pass now stage is = absurd is
 
@@ -250,6 +265,10 @@ other_step sizes first tail log by core (Breaks next) found sound groups written
     (if_both (HasCalls sizes log (changed sizes by core (Breaks next) found)) (next + 1 == (core.passes by).first + (core.passes by).entries)
     (leaving (without (ENTRY (slot_of sizes next)) (core.passes by).hands)) (Breaking (next + 1))
     (λ _. clear_calls sizes log (changed sizes by core (Breaks next) found) (leaving (without (ENTRY (slot_of sizes next)) (core.passes by).hands)) (clear_leaving (without (ENTRY (slot_of sizes next)) (core.passes by).hands))) (λ _. tt))
+other_step sizes first tail log by core (Holds next) found sound groups written may ne =
+    rekind_step sizes tail log by core (Holds next) found next (found + 1) written refl (holds_rekind sizes first by core found next sound may) (clear_step sizes tail log by core (Holds next) found by tt may.may)
+other_step sizes first tail log by core (Returns next) found sound groups written may ne =
+    rekind_step sizes tail log by core (Returns next) found next (found - 1) written refl (returns_rekind sizes first by core found next sound may) (clear_step sizes tail log by core (Returns next) found by tt may.may)
 other_step sizes first tail log by core Splits found sound groups written may ne = plain_step sizes tail log by core Splits found written may refl refl (λ slot. refl) tt
 other_step sizes first tail log by core (Leaves cell) found sound groups written may ne = plain_step sizes tail log by core (Leaves cell) found written may refl refl (λ slot. refl) (same_stage sizes tail log by core (changed sizes by core (Leaves cell) found) written refl refl)
 other_step sizes first tail log by core (Joins number) found sound groups written may ne = plain_step sizes tail log by core (Joins number) found written may refl refl (λ slot. refl) (same_stage sizes tail log by core (changed sizes by core (Joins number) found) written refl refl)
@@ -380,9 +399,9 @@ module _ (sizes : Sizes) (first : Values) (tail : ℕ) (log : Log) (by : ℕ) (c
       goes (Failed came faults) e = tt
 
 -- a page is read from a store
-read_work : (sizes : Sizes) (tail : ℕ) (log : Log) (by : ℕ) (core : Core) (work : Work) (page : ℕ) → Written sizes tail log core → (core.passes by).stage ≡ Copying page → IsPageRead sizes core.values (core.passes by) page work
+read_work : (sizes : Sizes) (tail : ℕ) (log : Log) (by : ℕ) (core : Core) (work : Work) (page : ℕ) (dirty : Bool) → Written sizes tail log core → (core.passes by).stage ≡ Copying page dirty → IsPageRead sizes core.values (core.passes by) page work
     → Written sizes tail log (after_work sizes by work core)
-read_work sizes tail log by core work page written at due = written_kept sizes tail log core (after_work sizes by work core) refl refl
+read_work sizes tail log by core work page dirty written at due = written_kept sizes tail log core (after_work sizes by work core) refl refl
     (λ slot. part_worked (core.passes by) work core.values slot
     ∙ ap (λ c. with_word core.values c (called work.job work.ending (core.values c)) (ENTRY slot)) due.cell
     ∙ word_else core.values (STORE (file_of (core.passes by).call)) (called work.job work.ending (core.values (STORE (file_of (core.passes by).call)))) (ENTRY slot) (differ (ENTRY slot) (STORE (file_of (core.passes by).call)) refl))
@@ -390,7 +409,25 @@ read_work sizes tail log by core work page written at due = written_kept sizes t
     (by_number (λ n (p : Pass). HasCalls sizes log p p.stage) core.passes by (worked sizes work (core.passes by))
     (subst (λ s. HasCalls sizes log (worked sizes work (core.passes by)) (stage_worked sizes (core.passes by) work.ending s)) (sym at) (goes work.ending)) (λ n ne. written.calls n)) written
   where
-    goes : (how : Ending) → HasCalls sizes log (worked sizes work (core.passes by)) (stage_worked sizes (core.passes by) how (Copying page))
+    goes : (how : Ending) → HasCalls sizes log (worked sizes work (core.passes by)) (stage_worked sizes (core.passes by) how (Copying page dirty))
+    goes Made = tt
+    goes (Failed came faults) = tt
+
+-- and a piece, from a part, which tells what it told
+peek_work : (sizes : Sizes) (tail : ℕ) (log : Log) (by : ℕ) (core : Core) (work : Work) (page number : ℕ) → Written sizes tail log core → (core.passes by).stage ≡ Patching page number → IsPieceRead sizes core.values number work
+    → Written sizes tail log (after_work sizes by work core)
+peek_work sizes tail log by core work page number written at due = record {
+  groups = λ n is leads. written_same sizes core.values (values_worked (core.passes by) work core.values) tail (log.group n).call n (log.calls n)
+      (λ i less part is. told_on sizes core.values (core.passes by) work number due (slot_of sizes (n + i)) part is) (written.groups n is leads);
+  calls = by_number (λ n (p : Pass). HasCalls sizes log p p.stage) core.passes by (worked sizes work (core.passes by))
+      (subst (λ s. HasCalls sizes log (worked sizes work (core.passes by)) (stage_worked sizes (core.passes by) work.ending s)) (sym at) (goes work.ending)) (λ n ne. written.calls n);
+  ready = written.ready;
+  free = λ slot less is. let blank = written.free slot less is in
+      record { part = blank.part; is = told_on sizes core.values (core.passes by) work number due slot blank.part blank.is; lines = blank.lines; quiet = blank.quiet; stale = blank.stale };
+  low = written.low;
+}
+  where
+    goes : (how : Ending) → HasCalls sizes log (worked sizes work (core.passes by)) (stage_worked sizes (core.passes by) how (Patching page number))
     goes Made = tt
     goes (Failed came faults) = tt
 
@@ -400,7 +437,8 @@ written_work sizes first tail log by core work sound groups written may = go (co
   where
     go : (stage : Stage) → (core.passes by).stage ≡ stage → IsDue sizes core.values (core.passes by) work stage → Written sizes tail (log_worked (core.passes by) work.ending stage log) (after_work sizes by work core)
     go (Committing calls) at due = commit_work sizes first tail log by core work calls sound groups written at due
-    go (Copying page) at due = read_work sizes tail log by core work page written at due
+    go (Copying page dirty) at due = read_work sizes tail log by core work page dirty written at due
+    go (Patching page number) at due = peek_work sizes tail log by core work page number written at due
     go stage at due = absurd due
 
 -- ---- numbers are drawn

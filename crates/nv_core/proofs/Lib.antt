@@ -19,6 +19,8 @@ pub mod KeepsStop
 pub mod KeepsRooms
 pub mod KeepsNumbers
 pub mod KeepsLoaded
+pub mod KeepsLooks
+pub mod Rekinded
 pub mod Reach
 pub mod BarredLaws
 pub mod KeepsBroken
@@ -28,6 +30,7 @@ pub mod KeepsDirty
 pub mod Nevers
 pub mod Places
 pub mod Walked
+pub mod DirtyWalked
 pub mod Placed
 pub mod PlainLaws
 pub mod PlainPages
@@ -38,7 +41,6 @@ pub mod GatheredLaws
 pub mod KeepsStores
 pub mod KeepsValidBuffers
 pub mod KeepsLegal
-pub mod KeepsCleanPages
 pub mod KeepsContent
 pub mod KeepsGroups
 pub mod ApartLaws
@@ -55,6 +57,8 @@ pub mod KeepsLive
 pub mod KeepsLeaders
 pub mod PatchLaws
 pub mod PatchSteps
+pub mod StorePageLaws
+pub mod KeepsPatchedReads
 pub mod OpeningLogContent
 pub mod KeepsLogContent
 pub mod KeepsEntryWords

@@ -1,17 +1,20 @@
 -- What no sound state allows.
-use Rattle.std.proofs.Common.{◌≡◌, ◌≢◌, ℕ, inl, inr, refl, sym, subst, arith}
+use Rattle.std.proofs.Common.{◌≡◌, ◌≢◌, ℕ, inl, inr, refl, sym, subst, arith, true, ◌∙◌}
 use Rattle.std.proofs.lemmas.Bool.{cases_eq}
-use Rattle.nv_core.specs.Words.{Word, PAGE, ENTRY}
-use Rattle.nv_core.specs.Passes.{Stage, Seizing, Committing, Pledging, Readying, Placing, WriteFailing, IsUnseized, IsFilling, IsAmong, times}
-use Rattle.nv_core.specs.Deeds.{Draws}
+use Rattle.nv_core.specs.Words.{Word, PAGE, ENTRY, CLEANUP, ready, is_entry_of}
+use Rattle.nv_core.specs.Passes.{Stage, Seizing, Committing, Pledging, Readying, Placing, WriteFailing, IsUnseized, IsFilling, IsAmong, times, Leaving}
+use Rattle.nv_core.specs.Deeds.{Draws, slot_of}
 use Rattle.nv_core.specs.Order.{MayPlace}
 use Rattle.nv_core.specs.Standing.{StandsAt, HasDrawn, IsPage}
-use Rattle.nv_core.specs.Holding.{HoldsLocks, lock_held}
-use Rattle.nv_core.specs.Never.{IsCommitting, IsInFlight, NoPlaceBeforeTheFence, NoPageBeforeThePlace, StoppedAfterAFault, NoLeaderBeforeAFollower, NoGrowthBeforeThePlace, NoTwoWritesOfAPage, NoStopWithoutAFault, NoSeizureOfAHeldEntry, NoDrawPastTheEnd}
+use Rattle.nv_core.specs.Holding.{HoldsLocks, lock_held, cleanup_held}
+use Rattle.nv_core.specs.Never.{IsCommitting, IsInFlight, NoPlaceBeforeTheFence, NoPageBeforeThePlace, StoppedAfterAFault, NoLeaderBeforeAFollower, NoGrowthBeforeThePlace, NoTwoWritesOfAPage, NoStopWithoutAFault, NoSeizureOfAHeldEntry, NoHoldOfAnUnreadyEntry, NoEntryHeldTwice, NoOtherCleanup, NoDrawPastTheEnd}
 use Rattle.nv_core.proofs.Changes.{differ}
 use Rattle.nv_core.proofs.Choices.{gives_back, IsGivingBack}
 use Rattle.nv_core.proofs.KeepsLoaded.{held_by_one, holds_page}
 use Rattle.nv_core.proofs.KeepsWindow.{window_step}
+use Rattle.nv_core.specs.LogWindow.{InWindow, entry_at}
+use Rattle.nv_core.specs.Loaded.{Looks}
+use Rattle.nv_core.proofs.KeepsLocks.{entry_is}
 
 pub no_place_before_the_fence : NoPlaceBeforeTheFence
 no_place_before_the_fence sizes values pass reply committing may = go pass.stage committing may
@@ -73,6 +76,27 @@ pub no_seizure_of_a_held_entry : NoSeizureOfAHeldEntry
 no_seizure_of_a_held_entry sizes first core by number sound may =
     let at : HasDrawn sizes (core.passes by).call (core.passes by).entries × IsAmong (core.passes by).first (core.passes by).entries number = subst (StandsAt sizes (core.passes by)) may (sound.standing by).at in
     sound.window.unseized_is by number (subst (λ s. IsUnseized s (core.passes by).first (core.passes by).entries number) (sym may) (omega arith, at.1.1))
+
+pub no_hold_of_an_unready_entry : NoHoldOfAnUnreadyEntry
+no_hold_of_an_unready_entry sizes first core by number sound may =
+    let looks : InWindow core number × (is_entry_of ready may.0 (entry_at sizes core number) ≡ true) = subst (Looks sizes core) may.1 (sound.loaded.looks by) in
+    (entry_is ready may.0 (entry_at sizes core number) looks.1).0
+
+pub no_entry_held_twice : NoEntryHeldTwice
+no_entry_held_twice sizes first core one other number sound here there = elim (cases_eq other one) [
+  | inl same ↦ sym same
+  | inr ne ↦ absurd (held_by_one sizes first core sound (ENTRY (slot_of sizes number)) one other ((sound.holding one).held number here) ((sound.holding other).held number there) ne)
+]
+
+pub no_other_cleanup : NoOtherCleanup
+no_other_cleanup sizes first core by other page sound owes held = elim (cases_eq other by) [
+  | inl same ↦ same
+  | inr ne ↦ absurd (held_by_one sizes first core sound (CLEANUP page) by other (has (core.passes by).stage owes (sound.holding by).locks) held ne)
+]
+  where
+    has : (stage : Stage) → cleanup_held stage page ≡ 1 → HoldsLocks sizes (core.passes by) stage → times (CLEANUP page) (core.passes by).hands ≡ 1
+    has Leaving owes locks = absurd (omega (arith, owes))
+    has stage owes locks = locks (CLEANUP page) (λ slot. differ (CLEANUP page) (ENTRY slot) refl) ∙ owes
 
 pub no_draw_past_the_end : NoDrawPastTheEnd
 no_draw_past_the_end sizes first core by found sound may = (window_step sizes first by core Draws found sound may).room

@@ -10,8 +10,7 @@ use Rattle.nv_core.specs.Words.{Sizes, HEAD, TAIL, HEADER, STORE, ENTRY}
 use Rattle.nv_core.specs.Values.{Value, Bare, APart, AStore, ABuffer}
 use Rattle.nv_core.specs.Order.{Values}
 use Rattle.nv_core.specs.Opening.{opening}
-use Rattle.nv_core.specs.StorePages.{store_of}
-use Rattle.nv_core.specs.Content.{HasFiles}
+use Rattle.nv_core.specs.StorePages.{store_of, HasFiles}
 use Rattle.nv_core.specs.HeaderStays.{HeaderStays}
 use Rattle.nv_core.specs.LogContent.{HasTail, OpeningHasTheLog}
 use Rattle.nv_core.specs.Passes.{Idle}

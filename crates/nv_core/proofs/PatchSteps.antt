@@ -14,7 +14,7 @@ use Rattle.nv_entry.specs.Group.{HoldsEntry}
 use Rattle.nv_core.specs.Words.{Sizes, HEAD, TAIL, HEADER, ENTRY, PAGE, kind_of, was_readied, page_of, free, filling, broken, entry_word, index}
 use Rattle.nv_core.specs.Values.{Value, Bare, APart, AStore, ABuffer}
 use Rattle.nv_core.specs.Passes.{Drawing, Pass, IsUnseized, IsFilling, IsAmong, is_write, first_page, page_count, end_page, times}
-use Rattle.nv_core.specs.Deeds.{Deed, slot_of, ready_word, Takes, Gives, Draws, Seizes, Readies, Breaks}
+use Rattle.nv_core.specs.Deeds.{Deed, slot_of, ready_word, Takes, Gives, Draws, Seizes, Readies, Breaks, Holds, Returns}
 use Rattle.nv_core.specs.Order.{Values}
 use Rattle.nv_core.specs.Standing.{StandsAt, HasDrawn, IsSmall, HasRoom, IsPage}
 use Rattle.nv_core.specs.Holding.{HoldsLocks}
@@ -38,6 +38,8 @@ use Rattle.nv_core.proofs.WordLaws.{untouched, touches}
 use Rattle.nv_core.proofs.WindowLaws.{apart_within}
 use Rattle.nv_core.proofs.KeepsGroups.{group_old, group_new, which}
 use Rattle.nv_core.proofs.KeepsLive.{and_false}
+use Rattle.nv_core.proofs.Rekinded.{holds_rekind, returns_rekind}
+use Rattle.nv_core.proofs.KeepsLeaders.{still_readied}
 use Rattle.nv_core.proofs.PatchLaws.{on_call, leader_in, leader_group}
 
 -- ---- number by number
@@ -273,6 +275,10 @@ module _ (sizes : Sizes) (first : Values) (log : Log) (by : ℕ) (core : Core) (
   step_on (Seizes next) may n within = seize_on next may n within
   step_on (Readies next) may n within = ready_on next may n within
   step_on (Breaks next) may n within = break_on next may n within
+  step_on (Holds next) may n within =
+      let re = holds_rekind sizes first by core found next sound may in (ap (λ b. b && on_test n) (still_readied core (slot_of sizes next) (found + 1) re.now re.was (slot_of sizes n)), refl)
+  step_on (Returns next) may n within =
+      let re = returns_rekind sizes first by core found next sound may in (ap (λ b. b && on_test n) (still_readied core (slot_of sizes next) (found - 1) re.now re.was (slot_of sizes n)), refl)
   step_on (Takes cell) may n within = (plain_on (Takes cell) may (λ slot. refl) n, refl)
   step_on (Gives cell) may n within = (plain_on (Gives cell) may (λ slot. refl) n, refl)
   step_on deed may n within = (plain_on deed may (λ slot. refl) n, refl)

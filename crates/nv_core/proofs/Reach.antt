@@ -28,6 +28,7 @@ use Rattle.nv_core.specs.EntryWords.{IsFree}
 use Rattle.nv_core.proofs.KeepsEntryWords.{words_step}
 use Rattle.nv_core.proofs.KeepsDirty.{dirty_step, dirty_begin, dirty_work}
 use Rattle.nv_core.proofs.KeepsStop.{stop_step, stop_begin, stop_work, buffers_step, buffers_work, devices_step, devices_work}
+use Rattle.nv_core.proofs.KeepsLooks.{looks_step, looks_begin, looks_work}
 
 sound_step : (sizes : Sizes) (first : Values) (by : ℕ) (core : Core) (deed : Deed) (found : ℕ) → Sound sizes first core → by ≤ core.made → MayFind sizes by core deed found → Sound sizes first (after_step sizes by deed found core)
 sound_step sizes first by core deed found sound made may = record {
@@ -38,7 +39,7 @@ sound_step sizes first by core deed found sound made may = record {
   window = window_step sizes first by core deed found sound may;
   entries = words_step sizes first by core deed found sound sound.entries may;
   dirty = dirty_step sizes first by core deed found sound sound.dirty may;
-  loaded = loaded_step sizes first by core deed found sound made may;
+  loaded = loaded_step sizes first by core deed found sound made may (looks_step sizes first by core deed found sound may);
   stop = stop_step sizes first by core deed found sound may;
   broken = broken_step sizes first by core deed found sound sound.broken may;
   broken_lengths = broken_lengths_step sizes first by core deed found sound may;
@@ -58,7 +59,7 @@ sound_begin sizes first by core call sound made may = record {
   window = window_begin sizes first by core call sound may;
   entries = sound.entries;
   dirty = dirty_begin sizes first by core call sound.dirty may;
-  loaded = loaded_begin sizes first by core call sound may;
+  loaded = loaded_begin sizes first by core call sound may (looks_begin sizes first by core call sound);
   stop = stop_begin sizes first by core call sound may;
   broken = broken_begin sizes first by core call sound sound.broken may;
   broken_lengths = broken_lengths_begin sizes by core call sound.broken_lengths;
@@ -77,7 +78,7 @@ sound_work ends sizes first by core work sound made may = record {
   window = window_work sizes first by core work sound may;
   entries = sound.entries;
   dirty = dirty_work sizes first by core work sound.dirty may;
-  loaded = loaded_work sizes first by core work sound may;
+  loaded = loaded_work sizes first by core work sound may (looks_work sizes first by core work sound may);
   stop = stop_work sizes first by core work sound may;
   broken = broken_work sizes first by core work sound sound.broken may;
   broken_lengths = broken_lengths_work sizes by core work sound.broken_lengths may;
@@ -126,7 +127,7 @@ pub opening_is_sound : OpeningIsSound
 opening_is_sound mount is_mount = record {
   numbers = record { unborn = λ n less. record { idle = refl; hands = refl; mine = refl; faulted = refl; left = refl }; ended = λ n ended. absurd ended };
   standing = λ n. record { at = tt; allowed = λ ne. absurd (ne refl) };
-  holding = λ n. record { locks = λ cell lock. sym (nothing mount.sizes (opening_pass mount) cell); filling = λ s fills. absurd fills; none = λ slot off. refl };
+  holding = λ n. record { locks = λ cell lock. sym (nothing mount.sizes (opening_pass mount) cell); filling = λ s fills. absurd fills; held = λ s holds. absurd holds; none = λ slot off away. refl };
   locks = record { bit = lock_word mount; keyed = λ cell. record { free = λ unshut n. refl; held = λ shut. absurd (not_both shut (open_cell mount cell)) } };
   window = record {
     order = omega arith;
@@ -151,6 +152,7 @@ opening_is_sound mount is_mount = record {
     sized = λ n measured more. absurd measured;
     length_is = λ n measured sized. absurd measured;
     clean = λ n page saw. absurd saw;
+    looks = λ n. tt;
   };
   stop = record { bit = omega arith; stopped = λ one. absurd (omega arith); failing = λ n fails. absurd fails; never_fell = λ cell. omega arith; stays = λ n stopped. absurd (not_both stopped refl) };
   broken = record { stopped = λ n some. absurd (some refl); once = λ n. omega arith; passed = λ n checked. absurd checked; pages = λ n m page fault is at checked. absurd is };

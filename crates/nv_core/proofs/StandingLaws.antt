@@ -1,17 +1,17 @@
 -- Standing: each step and each device call leaves its pass where it may stand.
-use Rattle.std.proofs.Common.{◌≡◌, ◌≢◌, ℕ, ◌+◌, ◌≤◌, ◌==◌, nat_lt, nat_le, ◌^◌, true, false, not, ◌&&◌, if◌then◌else◌, List, length, refl, sym, ap, subst, ◌∙◌, arith}
-use Rattle.std.proofs.lemmas.Bool.{and_parts, not-true, eqb-false, leb-true}
+use Rattle.std.proofs.Common.{◌≡◌, ◌≢◌, ℕ, ◌+◌, ◌≤◌, ◌==◌, nat_lt, nat_le, ◌^◌, true, false, not, ◌&&◌, if◌then◌else◌, List, length, refl, sym, ap, subst, ◌∙◌, arith, ◌<◌, inl, inr}
+use Rattle.std.proofs.lemmas.Bool.{and_parts, not-true, eqb-false, leb-true, ltb-true}
 use Rattle.nv_plain.specs.Histories.{Answered}
 use Rattle.nv_plain.specs.declared.call.FileCall.{FileCall}
-use Rattle.nv_core.specs.Words.{Sizes, Word, STOP, ORDER, HEAD, TAIL, SIZE, LENGTH, STORE, ENTRY, PAGE, DIRTY}
-use Rattle.nv_core.specs.Passes.{Stage, Idle, Locking, Measuring, Sizing, Checking, Ordering, Reading, Fetching, Copying, Returning, Waiting, Heading, Tailing, Drawing, Seizing, Committing, Pledging, Readying, Placing, Growing, Releasing, Giving, Leaving, ReadFailing, WriteFailing, Breaking, Pass, is_read, is_write, page_count, first_page, end_page, without, IsAmong, IsAllowed}
-use Rattle.nv_core.specs.Deeds.{Deed, Stays, Comes, moved, slot_of, Loads, Takes, Gives, Places, Stops, Draws, Seizes, Pledges, Readies, Grows, Breaks}
-use Rattle.nv_core.specs.Stages.{copying, stage_after, after_load, after_take, after_give, after_stop, leaving, giving, ending, ordered, exceeds}
+use Rattle.nv_core.specs.Words.{Sizes, Word, STOP, ORDER, HEAD, TAIL, SIZE, LENGTH, STORE, ENTRY, PAGE, DIRTY, CLEANUP, ready, is_entry_of}
+use Rattle.nv_core.specs.Passes.{Stage, Idle, Locking, Measuring, Sizing, Checking, Ordering, Reading, Fetching, Copying, Returning, Waiting, Heading, Tailing, Drawing, Seizing, Committing, Pledging, Readying, Placing, Growing, Releasing, Giving, Leaving, ReadFailing, WriteFailing, Breaking, Pass, is_read, is_write, page_count, first_page, end_page, without, IsAmong, IsAllowed, Bounding, Scanning, Grasping, Patching, Unlocking, PieceFailing}
+use Rattle.nv_core.specs.Deeds.{Deed, Stays, Comes, moved, slot_of, Loads, Takes, Gives, Places, Stops, Draws, Seizes, Pledges, Readies, Grows, Breaks, Holds, Returns}
+use Rattle.nv_core.specs.Stages.{copying, stage_after, after_load, after_take, after_give, after_stop, leaving, giving, ending, ordered, exceeds, scanning, after_head, after_tail, after_look, after_hold, after_return}
 use Rattle.nv_core.specs.Stepped.{stepped, begun}
 use Rattle.nv_core.specs.Values.{Ending, Made, Failed}
 use Rattle.nv_core.specs.Core.{worked, stage_worked}
 use Rattle.nv_core.specs.Order.{Values, Work, MayWork, IsDue, commit_steps, MayStep, MayLoad, MayTake, IsFailing}
-use Rattle.nv_core.specs.Standing.{IsPage, HasDrawn, IsSmall, HasRoom, StandsAt, Standing}
+use Rattle.nv_core.specs.Standing.{IsPage, HasDrawn, IsSmall, HasRoom, StandsAt, Standing, ReadsPage}
 use Rattle.nv_core.proofs.Choices.{if_both, when_true, leaving_both, step_idle, IsGivingBack, gives_back}
 use Rattle.nv_core.proofs.PageLaws.{write_pages, read_within}
 
@@ -27,6 +27,10 @@ gives sizes pass = if_both (StandsAt sizes pass) (page_count sizes pass.call == 
 ends : (sizes : Sizes) (pass now : Pass) → now.sized ≡ pass.sized → now.call ≡ pass.call → StandsAt sizes now (ending sizes pass)
 ends sizes pass now sized call = if_both (StandsAt sizes now) pass.sized Releasing (giving sizes pass.call) (λ e. sized ∙ e)
     (λ e. subst (λ c. StandsAt sizes now (giving sizes c)) call (gives sizes now))
+
+-- a read of a page with entries looks at a number below HEAD as it loaded it
+scans : (sizes : Sizes) (pass now : Pass) (page number : ℕ) → now.head ≡ pass.head → ReadsPage sizes now page → StandsAt sizes now (scanning pass page number)
+scans sizes pass now page number head at = if_both (StandsAt sizes now) (nat_lt number pass.head) (Scanning page number) (Unlocking page) (λ e. (at, subst (λ h. number < h) (sym head) (ltb-true number pass.head e))) (λ _. at)
 
 -- ---- the steps
 
@@ -44,20 +48,39 @@ loads sizes values pass ORDER found number history stands may =
     (λ e. if_both (StandsAt sizes now) (is_write pass.call) Heading (if is_read pass.call then Reading (first_page sizes pass.call) else Placing) (λ w. w)
     (λ _. if_both (StandsAt sizes now) (is_read pass.call) (Reading (first_page sizes pass.call)) Placing (λ r. (r, omega arith)) (λ _. tt)))
     (λ e. out sizes now pass.hands refl)
-loads sizes values pass HEAD found number history stands may =
-    let now = stepped sizes number history (Loads HEAD) found pass in
-    if_both (StandsAt sizes now) (nat_le (found + page_count sizes pass.call) (2 ^ 60)) Tailing (leaving pass.hands)
-    (λ e. (subst (StandsAt sizes pass) may stands.at, leb-true _ _ e)) (λ e. out sizes now pass.hands refl)
-loads sizes values pass TAIL found number history stands may =
-    let now = stepped sizes number history (Loads TAIL) found pass in
-    if_both (StandsAt sizes now) (nat_le (pass.head + page_count sizes pass.call) (found + sizes.entries)) Drawing (leaving pass.hands)
-    (λ e. let at : (is_write pass.call ≡ true) × IsSmall sizes pass = subst (StandsAt sizes pass) may stands.at in (at.0, at.1, leb-true _ _ e)) (λ e. out sizes now pass.hands refl)
+loads sizes values pass HEAD found number history stands may = elim may [
+  | inl here ↦ subst (λ s. StandsAt sizes now (after_head sizes pass found s)) (sym here)
+      (if_both (StandsAt sizes now) (nat_le (found + page_count sizes pass.call) (2 ^ 60)) Tailing (leaving pass.hands)
+      (λ e. (subst (StandsAt sizes pass) here stands.at, leb-true _ _ e)) (λ e. out sizes now pass.hands refl))
+  | inr here ↦ subst (λ s. StandsAt sizes now (after_head sizes pass found s)) (sym here.1) (subst (StandsAt sizes pass) here.1 stands.at)
+]
+  where
+    now : Pass
+    now = stepped sizes number history (Loads HEAD) found pass
+loads sizes values pass TAIL found number history stands may = elim may [
+  | inl here ↦ subst (λ s. StandsAt sizes now (after_tail sizes pass found s)) (sym here)
+      (if_both (StandsAt sizes now) (nat_le (pass.head + page_count sizes pass.call) (found + sizes.entries)) Drawing (leaving pass.hands)
+      (λ e. let at : (is_write pass.call ≡ true) × IsSmall sizes pass = subst (StandsAt sizes pass) here stands.at in (at.0, at.1, leb-true _ _ e)) (λ e. out sizes now pass.hands refl))
+  | inr here ↦ subst (λ s. StandsAt sizes now (after_tail sizes pass found s)) (sym here.1) (scans sizes pass now here.0 found refl (subst (StandsAt sizes pass) here.1 stands.at))
+]
+  where
+    now : Pass
+    now = stepped sizes number history (Loads TAIL) found pass
+loads sizes values pass (ENTRY slot) found number history stands may =
+    let now = stepped sizes number history (Loads (ENTRY slot)) found pass in
+    let at : ReadsPage sizes pass may.0 × (may.1 < pass.head) = subst (StandsAt sizes pass) may.2 stands.at in
+    subst (λ s. StandsAt sizes now (after_look pass found s)) (sym may.2)
+    (if_both (StandsAt sizes now) (is_entry_of ready may.0 found) (Grasping may.0 may.1) (scanning pass may.0 (may.1 + 1)) (λ _. at) (λ _. scans sizes pass now may.0 (may.1 + 1) refl at.0))
 loads sizes values pass (DIRTY page) found number history stands may =
-    let now = stepped sizes number history (Loads (DIRTY page)) found pass in
-    if_both (StandsAt sizes now) (found == 0) (Fetching page) (Waiting page) (λ e. let at : (is_read pass.call ≡ true) × (first_page sizes pass.call ≤ may.0) = subst (StandsAt sizes pass) may.1.stage stands.at in
-    let low = at.1 in let later = may.1.later in let within = may.1.within in let less = read_within sizes pass.call pass.length in
-    let page_is : IsPage sizes pass.call page = (omega (arith, low, later), omega (arith, within, less)) in (at.0, page_is))
-    (λ e. tt)
+    if_both (StandsAt sizes (stepped sizes number history (Loads (DIRTY page)) found pass)) (found == 0) (Fetching page false) (Waiting page) (λ _. here) (λ _. here)
+  where
+    at : (is_read pass.call ≡ true) × (first_page sizes pass.call ≤ may.0)
+    at = subst (StandsAt sizes pass) may.1.stage stands.at
+
+    here : ReadsPage sizes pass page
+    here =
+        let low = at.1 in let later = may.1.later in let within = may.1.within in let less = read_within sizes pass.call pass.length in
+        let page_is : IsPage sizes pass.call page = (omega (arith, low, later), omega (arith, within, less)) in (at.0, page_is)
 loads sizes values pass word found number history stands may = absurd may
 
 -- a lock that was found shut leaves the hands
@@ -80,10 +103,13 @@ takes sizes pass (SIZE file) found number history stands may =
     if_both (StandsAt sizes (stepped sizes number history (Takes (SIZE file)) found pass)) (found == 0) Measuring (leaving pass.hands) (λ e. tt) (missed sizes pass (SIZE file) found number history)
 takes sizes pass (STORE file) found number history stands may =
     let now = stepped sizes number history (Takes (STORE file)) found pass in
-    let at : (is_read pass.call ≡ true) × IsPage sizes pass.call may.0 = subst (StandsAt sizes pass) may.1 stands.at in
+    let at : ReadsPage sizes pass may.0 = subst (StandsAt sizes pass) may.2 stands.at in
     if_both (StandsAt sizes now) (found == 0) (copying pass.stage) (leaving pass.hands)
-    (λ e. subst (λ s. StandsAt sizes now (copying s)) (sym may.1) at)
+    (λ e. subst (λ s. StandsAt sizes now (copying s)) (sym may.2) at)
     (missed sizes pass (STORE file) found number history)
+takes sizes pass (CLEANUP page) found number history stands may =
+    if_both (StandsAt sizes (stepped sizes number history (Takes (CLEANUP page)) found pass)) (found == 0) (Fetching page true) (leaving pass.hands)
+    (λ _. subst (StandsAt sizes pass) may stands.at) (missed sizes pass (CLEANUP page) found number history)
 takes sizes pass cell found number history stands may = absurd may
 
 gives_at : (sizes : Sizes) (pass : Pass) (cell : Word) (found number : ℕ) (history : List Answered) (stage : Stage) → StandsAt sizes pass stage → IsGivingBack stage
@@ -93,7 +119,9 @@ gives_at sizes pass cell found number history Releasing at may = gives sizes (st
 gives_at sizes pass cell found number history (Giving page) at may =
     if_both (StandsAt sizes (stepped sizes number history (Gives cell) found pass)) (page + 1 == end_page sizes pass.call) Idle (Giving (page + 1)) (λ _. tt)
     (λ last. let ne = eqb-false (page + 1) (end_page sizes pass.call) last in let from = at.0 in let to = at.1 in (omega arith, omega arith))
-gives_at sizes pass cell found number history (Returning page) at may = (at.0, let low = at.1.0 in omega (arith, low))
+gives_at sizes pass cell found number history (Returning page dirty) at may =
+    if_both (StandsAt sizes (stepped sizes number history (Gives cell) found pass)) dirty (Bounding page) (Reading (page + 1)) (λ _. at) (λ _. (at.0, let low = at.1.0 in omega (arith, low)))
+gives_at sizes pass cell found number history (Unlocking page) at may = (at.0, let low = at.1.0 in omega (arith, low))
 gives_at sizes pass cell found number history stage at may = absurd may
 
 -- the first and the next of some in a row
@@ -131,7 +159,8 @@ steps sizes values pass Stops found number history stands may = stops pass.stage
     now = stepped sizes number history Stops found pass
 
     stops : (stage : Stage) → IsFailing stage → StandsAt sizes pass stage → StandsAt sizes (stepped sizes number history Stops found pass) (after_stop pass stage)
-    stops ReadFailing is at = out sizes (stepped sizes number history Stops found pass) pass.hands refl
+    stops (ReadFailing page dirty) is at = out sizes (stepped sizes number history Stops found pass) pass.hands refl
+    stops (PieceFailing page next) is at = at
     stops WriteFailing is at = (at, first_among pass.first pass.entries at.some)
     stops stage is at = absurd is
 steps sizes values pass Draws found number history stands may = draws sizes pass found number history stands may
@@ -170,6 +199,14 @@ steps sizes values pass (Breaks next) found number history stands may =
     let now = stepped sizes number history (Breaks next) found pass in
     if_both (StandsAt sizes now) (next + 1 == pass.first + pass.entries) (leaving (without (ENTRY (slot_of sizes next)) pass.hands)) (Breaking (next + 1))
     (λ e. out sizes now (without (ENTRY (slot_of sizes next)) pass.hands) refl) (λ e. (drawn, next_among pass.first pass.entries next at.1 e))
+steps sizes values pass (Holds next) found number history stands may =
+    subst (λ s. StandsAt sizes (stepped sizes number history (Holds next) found pass) (after_hold s)) (sym may.1) (subst (StandsAt sizes pass) may.1 stands.at)
+steps sizes values pass (Returns next) found number history stands may =
+    let now = stepped sizes number history (Returns next) found pass in
+    let at : ReadsPage sizes pass may.0 × (next < pass.head) = subst (StandsAt sizes pass) may.2 stands.at in
+    subst (λ s. StandsAt sizes now (after_return sizes pass s)) (sym may.2)
+    (if_both (StandsAt sizes now) may.1 (leaving (without (ENTRY (slot_of sizes next)) pass.hands)) (scanning pass may.0 (next + 1))
+    (λ _. out sizes now (without (ENTRY (slot_of sizes next)) pass.hands) refl) (λ _. scans sizes pass now may.0 (next + 1) refl at.0))
 steps sizes values pass deed found number history stands may = absurd may
 
 pub standing_steps : (sizes : Sizes) (values : Values) (pass : Pass) (deed : Deed) (found number : ℕ) (history : List Answered) → Standing sizes pass → MayStep sizes values pass deed
@@ -198,8 +235,10 @@ works sizes values pass work (Committing calls) Made at due =
     (λ e. let m = at.many in let s = at.some in let within : IsPage sizes pass.call (first_page sizes pass.call) = (omega arith, omega arith) in (drawn, within))
     (λ e. drawn)
 works sizes values pass work (Committing calls) (Failed came faults) at due = at
-works sizes values pass work (Copying page) Made at due = at
-works sizes values pass work (Copying page) (Failed came faults) at due = at.0
+works sizes values pass work (Copying page dirty) Made at due = at
+works sizes values pass work (Copying page dirty) (Failed came faults) at due = at
+works sizes values pass work (Patching page number) Made at due = at
+works sizes values pass work (Patching page number) (Failed came faults) at due = at
 works sizes values pass work stage how at due = absurd due
 
 due_idle : (sizes : Sizes) (values : Values) (pass : Pass) (work : Work) → IsDue sizes values pass work pass.stage → pass.stage ≢ Idle

@@ -26,3 +26,12 @@ total_more count value = subst (λ n. total n value ≡ total count value + valu
   where
     suc_is : (n : ℕ) → suc n ≡ n + 1
     suc_is n = omega arith
+
+-- where the total is 0, so is each value
+pub total_none : (count : ℕ) (value : ℕ → ℕ) → total count value ≡ 0 → (n : ℕ) → n < count → value n ≡ 0
+unfolding total
+total_none zero value none n less = absurd (omega (arith, less))
+total_none (suc count) value none n less = elim (cases_eq n count) [
+  | inl e ↦ subst (λ m. value m ≡ 0) (sym e) (omega (arith, none))
+  | inr ne ↦ total_none count value (omega (arith, none)) n (omega (arith, less, ne))
+]

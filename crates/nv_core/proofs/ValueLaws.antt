@@ -1,14 +1,14 @@
 -- Values: what steps and device calls leave of them.
-use Rattle.std.proofs.Common.{◌≡◌, ℕ, ◌≤◌, Bool, List, Some, refl, sym, subst, ◌∙◌, arith}
+use Rattle.std.proofs.Common.{◌≡◌, ℕ, ◌≤◌, Bool, List, Some, refl, sym, subst, ◌∙◌, arith, false}
 use Rattle.nv_plain.specs.Faults.{Rose}
 use Rattle.nv_plain.specs.declared.call.FileCall.{FileCall}
 use Rattle.nv_plain.specs.declared.call.FileCall.TheVariants.{Write}
 use Rattle.nv_core.specs.Words.{Sizes, Word, PAGE}
 use Rattle.nv_core.specs.Values.{Value, Bare, APart, AStore, ABuffer, Job, Reads, Ending, Made, Failed, called, faults_of, identity_of, buffers_in, filled, patched}
-use Rattle.nv_core.specs.Passes.{Stage, Copying, Pass}
-use Rattle.nv_core.specs.Deeds.{Deed, Pledges, patched_by}
+use Rattle.nv_core.specs.Passes.{Stage, Copying, Pass, Unlocking, fetched_bytes}
+use Rattle.nv_core.specs.Deeds.{Deed, Pledges, patched_by, Gives}
 use Rattle.nv_core.specs.Order.{Values, Work, MayEnd}
-use Rattle.nv_core.specs.Core.{with_word, values_read, values_worked, values_stepped}
+use Rattle.nv_core.specs.Core.{with_word, values_read, values_worked, values_stepped, values_given}
 use Rattle.nv_core.proofs.Changes.{by_word}
 
 -- what a measure of values sees of a change in one place
@@ -40,16 +40,22 @@ identity_steady = steady identity_of 0 (λ buffer. refl)
 pub buffers_steady : Steady buffers_in
 buffers_steady = steady buffers_in 1 (λ buffer. refl)
 
+steady_given : (measure : Value → ℕ) → Steady measure → (pass : Pass) (stage : Stage) (values : Values) (cell : Word) → measure (values_given pass stage values cell) ≡ measure (values cell)
+steady_given measure is pass (Unlocking page) values cell =
+    one_place measure values (PAGE page) (filled (fetched_bytes pass.fetched page) (values (PAGE page))) (is.filled_is (fetched_bytes pass.fetched page) (values (PAGE page))) cell
+steady_given measure is pass stage values cell = refl
+
 pub steady_stepped : (measure : Value → ℕ) → Steady measure → (sizes : Sizes) (pass : Pass) (deed : Deed) (values : Values) (cell : Word) → measure (values_stepped sizes pass deed values cell) ≡ measure (values cell)
 steady_stepped measure is sizes pass (Pledges page) values cell = one_place measure values (PAGE page) (patched_by sizes pass.call page (values (PAGE page))) (patched_same pass.call (values (PAGE page))) cell
   where
     patched_same : (call : FileCall) (value : Value) → measure (patched_by sizes call page value) ≡ measure value
     patched_same (Write file at bytes) value = is.patched_is _ _ value
     patched_same call value = refl
+steady_stepped measure is sizes pass (Gives other) values cell = steady_given measure is pass pass.stage values cell
 steady_stepped measure is sizes pass deed values cell = refl
 
 steady_read : (measure : Value → ℕ) → Steady measure → (job : Job) (how : Ending) (stage : Stage) (values : Values) (cell : Word) → measure (values_read job how stage values cell) ≡ measure (values cell)
-steady_read measure is (Reads at bytes) Made (Copying page) values cell = one_place measure values (PAGE page) (filled bytes (values (PAGE page))) (is.filled_is bytes (values (PAGE page))) cell
+steady_read measure is (Reads at bytes) Made (Copying page false) values cell = one_place measure values (PAGE page) (filled bytes (values (PAGE page))) (is.filled_is bytes (values (PAGE page))) cell
 steady_read measure is job how stage values cell = refl
 
 -- what a device call leaves, of each cell but its own

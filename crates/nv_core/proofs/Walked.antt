@@ -1,5 +1,5 @@
 -- The walks are runs.
-use Rattle.std.proofs.Common.{ℕ, zero, suc, ◌≤◌, replicate, refl, arith}
+use Rattle.std.proofs.Common.{ℕ, zero, suc, ◌≤◌, replicate, refl, arith, inl, false}
 use Rattle.nv_plain.specs.declared.call.FileCall.TheVariants.{Write}
 use Rattle.nv_core.specs.Passes.{IsOneOf, AreBytes}
 use Rattle.nv_core.specs.Core.{Core}
@@ -12,11 +12,11 @@ use Rattle.nv_core.specs.Walks.{acts, walk_sizes, walk_bytes, walk_room, walk_ca
 use Rattle.nv_core.specs.Totals.{total}
 
 -- an act of a pass that is there
-comes : (core : Core) (by : ℕ) (act : Act) → by ≤ core.made → (IsOneOf core.ended by → ⊥) → IsStaying act (core.passes by) → MayAct walk_sizes by core act → MayCome walk_sizes (acts by act) core
+pub comes : (core : Core) (by : ℕ) (act : Act) → by ≤ core.made → (IsOneOf core.ended by → ⊥) → IsStaying act (core.passes by) → MayAct walk_sizes by core act → MayCome walk_sizes (acts by act) core
 comes core by act made there staying may = record { made = made; there = there; staying = staying; act = may }
 
 -- what the walks write are bytes
-are_bytes : AreBytes (Write 0 0 walk_bytes)
+pub are_bytes : AreBytes (Write 0 0 walk_bytes)
 are_bytes zero = omega arith
 are_bytes (suc zero) = omega arith
 are_bytes (suc (suc zero)) = omega arith
@@ -31,7 +31,7 @@ keeps = record { lines = refl; spare = λ line. omega arith; after_fence = λ li
 takes : (count line : ℕ) → Takes count line (walk_room 2) (walk_room 2)
 takes count line = record { lines = refl; spare = omega arith; after_fence = omega arith; other_spare = λ other ne. omega arith; other_after_fence = λ other ne. omega arith }
 
-room_stays : (step : Step) → RoomAfter step (walk_room 2) (walk_room 2)
+pub room_stays : (step : Step) → RoomAfter step (walk_room 2) (walk_room 2)
 room_stays (Store line word value) = takes 1 line
 room_stays (Flush line) = (keeps, omega arith)
 room_stays Fence = (keeps, record { spare = λ line. omega arith })
@@ -54,7 +54,7 @@ read_is_walked = record {
           (
             comes _ 0 _ (omega arith) (λ z. z) refl record { may = (0, record { stage = refl; later = omega arith; within = omega arith; passed = λ page low high. absurd (omega (arith, low, high)); missed = refl }); is = refl },
             (
-              comes _ 0 _ (omega arith) (λ z. z) refl record { may = (0, refl, refl); is = refl },
+              comes _ 0 _ (omega arith) (λ z. z) refl record { may = (0, false, refl, refl); is = refl },
               (
                 comes _ 0 _ (omega arith) (λ z. z) refl record { due = record { bytes = replicate 64 97; cell = refl; job = refl; says = refl }; ends = tt; leaves = tt; here = refl },
                 (
@@ -91,9 +91,9 @@ write_is_walked = record {
           (
             comes _ 1 _ (omega arith) (λ z. z) refl record { may = refl; is = refl },
             (
-              comes _ 1 _ (omega arith) (λ z. z) refl record { may = refl; is = refl },
+              comes _ 1 _ (omega arith) (λ z. z) refl record { may = inl refl; is = refl },
               (
-                comes _ 1 _ (omega arith) (λ z. z) refl record { may = refl; is = refl },
+                comes _ 1 _ (omega arith) (λ z. z) refl record { may = inl refl; is = refl },
                 (
                   comes _ 1 _ (omega arith) (λ z. z) refl record { may = refl; is = refl },
                   (
@@ -194,9 +194,9 @@ fault_is_walked = record {
           (
             comes _ 1 _ (omega arith) (λ z. z) refl record { may = refl; is = refl },
             (
-              comes _ 1 _ (omega arith) (λ z. z) refl record { may = refl; is = refl },
+              comes _ 1 _ (omega arith) (λ z. z) refl record { may = inl refl; is = refl },
               (
-                comes _ 1 _ (omega arith) (λ z. z) refl record { may = refl; is = refl },
+                comes _ 1 _ (omega arith) (λ z. z) refl record { may = inl refl; is = refl },
                 (
                   comes _ 1 _ (omega arith) (λ z. z) refl record { may = refl; is = refl },
                   (

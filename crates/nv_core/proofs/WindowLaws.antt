@@ -102,6 +102,10 @@ window_drawn sizes core by count pass values history made ended window some smal
     numbered s (Filling n is) = Filling n (still n (λ p. Fills p s) (none_filling s) is)
     numbered s (Kept not_free not_filling) = Kept not_free not_filling
 
+-- a number of the window has a slot of the log
+pub slot_within : (sizes : Sizes) (core : Core) (number : ℕ) → LogWindow sizes core → InWindow core number → slot_of sizes number < sizes.entries
+slot_within sizes core number window is = mod_below number sizes.entries (let r = window.room in let l = is.0 in let h = is.1 in omega (arith, r, l, h))
+
 -- ---- one entry changes
 
 -- how the entry of a number changes: what its pass has drawn before and after, and what its word is then

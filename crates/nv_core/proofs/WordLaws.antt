@@ -1,8 +1,8 @@
 -- Words: which of them a step may change.
 use Rattle.std.proofs.Common.{◌≡◌, ◌≢◌, ℕ, ◌==◌, Bool, true, false, refl, sym, ap, ◌∙◌}
-use Rattle.nv_core.specs.Words.{Sizes, Word, STOP, ORDER, HEAD, SIZE, STORE, PAGE, DIRTY, family, is_lock}
+use Rattle.nv_core.specs.Words.{Sizes, Word, STOP, ORDER, HEAD, SIZE, STORE, PAGE, DIRTY, family, is_lock, CLEANUP}
 use Rattle.nv_core.specs.Passes.{Stage, Pass}
-use Rattle.nv_core.specs.Deeds.{Deed, Loads, Takes, Gives, Places, Stops, Draws, Seizes, Pledges, Readies, Grows, Breaks, Splits, Leaves, Joins, word_of, value_after}
+use Rattle.nv_core.specs.Deeds.{Deed, Loads, Takes, Gives, Places, Stops, Draws, Seizes, Pledges, Readies, Grows, Breaks, Splits, Leaves, Joins, word_of, value_after, Holds, Returns}
 use Rattle.nv_core.specs.Order.{MayTake, MayGive}
 use Rattle.nv_core.specs.Core.{Core, with_word}
 use Rattle.nv_core.specs.Events.{MayFind}
@@ -19,6 +19,8 @@ touches Draws word = family word == 2
 touches (Seizes number) word = family word == 10
 touches (Readies number) word = family word == 10
 touches (Breaks number) word = family word == 10
+touches (Holds number) word = family word == 10
+touches (Returns number) word = family word == 10
 touches (Pledges page) word = family word == 14
 touches Grows word = family word == 8
 touches deed word = false
@@ -31,12 +33,14 @@ taken_lock : (pass : Pass) (cell : Word) → MayTake pass cell → is_lock cell 
 taken_lock pass (PAGE page) may = refl
 taken_lock pass (SIZE file) may = refl
 taken_lock pass (STORE file) may = refl
+taken_lock pass (CLEANUP page) may = refl
 taken_lock pass cell may = absurd may
 
 pub given_lock : (pass : Pass) (cell : Word) (stage : Stage) → MayGive pass cell stage → is_lock cell ≡ true
 given_lock pass (SIZE file) stage may = refl
 given_lock pass (PAGE page) stage may = refl
 given_lock pass (STORE file) stage may = refl
+given_lock pass (CLEANUP page) stage may = refl
 given_lock pass cell stage may = absurd may
 
 other_family : (word target : Word) → (family word == family target) ≡ false → word ≢ target
@@ -55,6 +59,8 @@ untouched sizes by core (Pledges page) found may word not_so = word_else core.wo
 untouched sizes by core (Readies number) found may word not_so = word_else core.words _ _ word (other_family word (word_of sizes (core.passes by) (Readies number)) not_so)
 untouched sizes by core Grows found may word not_so = word_else core.words _ _ word (other_family word (word_of sizes (core.passes by) Grows) not_so)
 untouched sizes by core (Breaks number) found may word not_so = word_else core.words _ _ word (other_family word (word_of sizes (core.passes by) (Breaks number)) not_so)
+untouched sizes by core (Holds number) found may word not_so = word_else core.words _ _ word (other_family word (word_of sizes (core.passes by) (Holds number)) not_so)
+untouched sizes by core (Returns number) found may word not_so = word_else core.words _ _ word (other_family word (word_of sizes (core.passes by) (Returns number)) not_so)
 untouched sizes by core Splits found may word not_so = same_value core.words STOP found may.is word
 untouched sizes by core (Leaves cell) found may word not_so = same_value core.words STOP found may.is word
 untouched sizes by core (Joins number) found may word not_so = same_value core.words STOP found may.is word

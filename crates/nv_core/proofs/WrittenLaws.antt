@@ -14,11 +14,11 @@ use Rattle.nv_pmem.specs.Steps.{Step, after_step as after_line_step}
 use Rattle.nv_entry.specs.Group.{group_steps}
 use Rattle.nv_entry.specs.Commits.{after_some}
 use Rattle.nv_core.specs.Words.{Sizes, Word, ENTRY, PAGE, index}
-use Rattle.nv_core.specs.Values.{Value, Bare, APart, AStore, ABuffer, Job, Writes, Reads, Ending, Made, Failed, called, has_come, filled}
-use Rattle.nv_core.specs.Passes.{Stage, Copying, Pass, page_count}
-use Rattle.nv_core.specs.Deeds.{Deed, Pledges, slot_of, patched_by}
-use Rattle.nv_core.specs.Order.{Values, Work, IsNextCall}
-use Rattle.nv_core.specs.Core.{with_word, values_read, values_worked, values_stepped}
+use Rattle.nv_core.specs.Values.{Value, Bare, APart, AStore, ABuffer, Job, Writes, Reads, Ending, Made, Failed, called, has_come, filled, Peeks}
+use Rattle.nv_core.specs.Passes.{Stage, Copying, Pass, page_count, Unlocking, fetched_bytes}
+use Rattle.nv_core.specs.Deeds.{Deed, Pledges, slot_of, patched_by, Gives}
+use Rattle.nv_core.specs.Order.{Values, Work, IsNextCall, IsPieceRead}
+use Rattle.nv_core.specs.Core.{with_word, values_read, values_worked, values_stepped, values_given}
 use Rattle.nv_core.specs.Groups.{calls_after}
 use Rattle.nv_core.specs.Written.{IsPart, AreParts, IsWritten}
 use Rattle.nv_core.proofs.Changes.{word_here, word_else, differ}
@@ -30,12 +30,18 @@ steps_of sizes call first = []
 
 -- ---- what an ENTRY cell keeps after a step, and after a device call
 
+-- what is given back changes a page's buffer alone
+pub given_else : (pass : Pass) (stage : Stage) (values : Values) (cell : Word) → ((page : ℕ) → cell ≢ PAGE page) → values_given pass stage values cell ≡ values cell
+given_else pass (Unlocking page) values cell ne = word_else values (PAGE page) (filled (fetched_bytes pass.fetched page) (values (PAGE page))) cell (ne page)
+given_else pass stage values cell ne = refl
+
 pub part_stepped : (sizes : Sizes) (pass : Pass) (deed : Deed) (values : Values) (slot : ℕ) → values_stepped sizes pass deed values (ENTRY slot) ≡ values (ENTRY slot)
 part_stepped sizes pass (Pledges page) values slot = word_else values (PAGE page) (patched_by sizes pass.call page (values (PAGE page))) (ENTRY slot) (differ (ENTRY slot) (PAGE page) refl)
+part_stepped sizes pass (Gives cell) values slot = given_else pass pass.stage values (ENTRY slot) (λ page. differ (ENTRY slot) (PAGE page) refl)
 part_stepped sizes pass deed values slot = refl
 
 part_read : (job : Job) (how : Ending) (stage : Stage) (values : Values) (slot : ℕ) → values_read job how stage values (ENTRY slot) ≡ values (ENTRY slot)
-part_read (Reads at bytes) Made (Copying page) values slot = word_else values (PAGE page) (filled bytes (values (PAGE page))) (ENTRY slot) (differ (ENTRY slot) (PAGE page) refl)
+part_read (Reads at bytes) Made (Copying page false) values slot = word_else values (PAGE page) (filled bytes (values (PAGE page))) (ENTRY slot) (differ (ENTRY slot) (PAGE page) refl)
 part_read job how stage values slot = refl
 
 pub part_worked : (pass : Pass) (work : Work) (values : Values) (slot : ℕ) → values_worked pass work values (ENTRY slot) ≡ with_word values work.cell (called work.job work.ending (values work.cell)) (ENTRY slot)
@@ -70,6 +76,49 @@ module _ (sizes : Sizes) (pass : Pass) (work : Work) (values : Values) (calls : 
       part_worked pass work values slot
       ∙ ap (λ c. with_word values c (called work.job work.ending (values c)) (ENTRY slot)) due.cell
       ∙ word_else values cell_due (called work.job work.ending (values cell_due)) (ENTRY slot) (λ e. ne (ap index e))
+
+-- a read of a piece changes nothing that a part tells
+peek_tells : (at : ℕ) (bytes : List ℕ) (how : Ending) (value : Value) (part : Part) → IsPart (called (Peeks at bytes) how value) part → IsPart value part
+peek_tells at bytes Made (APart device room) part is = is
+peek_tells at bytes (Failed true faults) (APart device room) part is = is
+peek_tells at bytes (Failed false faults) (APart device room) part is = is
+peek_tells at bytes how Bare part is = is
+peek_tells at bytes how (AStore device) part is = is
+peek_tells at bytes how (ABuffer buffer) part is = is
+
+peek_told : (at : ℕ) (bytes : List ℕ) (how : Ending) (value : Value) (part : Part) → IsPart value part → IsPart (called (Peeks at bytes) how value) part
+peek_told at bytes Made (APart device room) part is = is
+peek_told at bytes (Failed true faults) (APart device room) part is = is
+peek_told at bytes (Failed false faults) (APart device room) part is = is
+peek_told at bytes how Bare part is = is
+peek_told at bytes how (AStore device) part is = is
+peek_told at bytes how (ABuffer buffer) part is = is
+
+module _ (sizes : Sizes) (values : Values) (pass : Pass) (work : Work) (number : ℕ) (due : IsPieceRead sizes values number work) where
+  pub value_peeked : (slot : ℕ) → slot ≡ slot_of sizes number → values_worked pass work values (ENTRY slot) ≡ called (Peeks due.at due.bytes) work.ending (values (ENTRY slot))
+  value_peeked slot same =
+      part_worked pass work values slot
+      ∙ ap (λ c. with_word values c (called work.job work.ending (values c)) (ENTRY slot)) (due.cell ∙ ap ENTRY (sym same))
+      ∙ word_here values (ENTRY slot) (called work.job work.ending (values (ENTRY slot)))
+      ∙ ap (λ j. called j work.ending (values (ENTRY slot))) due.job
+
+  pub value_not_peeked : (slot : ℕ) → slot ≢ slot_of sizes number → values_worked pass work values (ENTRY slot) ≡ values (ENTRY slot)
+  value_not_peeked slot ne =
+      part_worked pass work values slot
+      ∙ ap (λ c. with_word values c (called work.job work.ending (values c)) (ENTRY slot)) due.cell
+      ∙ word_else values (ENTRY (slot_of sizes number)) (called work.job work.ending (values (ENTRY (slot_of sizes number)))) (ENTRY slot) (λ e. ne (ap index e))
+
+  pub told_still : (slot : ℕ) (part : Part) → IsPart (values_worked pass work values (ENTRY slot)) part → IsPart (values (ENTRY slot)) part
+  told_still slot part is = elim (cases_eq slot (slot_of sizes number)) [
+    | inl same ↦ peek_tells due.at due.bytes work.ending (values (ENTRY slot)) part (subst (λ v. IsPart v part) (value_peeked slot same) is)
+    | inr ne ↦ subst (λ v. IsPart v part) (value_not_peeked slot ne) is
+  ]
+
+  pub told_on : (slot : ℕ) (part : Part) → IsPart (values (ENTRY slot)) part → IsPart (values_worked pass work values (ENTRY slot)) part
+  told_on slot part is = elim (cases_eq slot (slot_of sizes number)) [
+    | inl same ↦ subst (λ v. IsPart v part) (sym (value_peeked slot same)) (peek_told due.at due.bytes work.ending (values (ENTRY slot)) part is)
+    | inr ne ↦ subst (λ v. IsPart v part) (sym (value_not_peeked slot ne)) is
+  ]
 
 -- ---- one more step of a run
 

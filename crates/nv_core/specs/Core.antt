@@ -1,11 +1,12 @@
 -- The core's state, and what a step, a device call and the beginning of a call do to it.
-use Rattle.std.specs.Prelude.{ℕ, ◌+◌, ◌==◌, nat_lt, false, ◌||◌, if◌then◌else◌, max, List, [], ◌∷◌, ◌++◌, length, fold}
+use Rattle.std.specs.Prelude.{ℕ, ◌+◌, ◌%◌, ◌==◌, nat_lt, false, ◌||◌, if◌then◌else◌, max, List, [], ◌∷◌, ◌++◌, length, fold}
+use Rattle.nv_plain.specs.Files.{overwritten}
 use Rattle.nv_plain.specs.Histories.{Answered}
 use Rattle.nv_plain.specs.declared.call.FileCall.{FileCall}
 use Rattle.nv_core.specs.Words.{Sizes, Word, PAGE, same}
-use Rattle.nv_core.specs.Values.{Job, Reads, Ending, Made, Failed, called, filled}
-use Rattle.nv_core.specs.Passes.{Stage, Idle, Copying, Returning, Committing, Pledging, ReadFailing, WriteFailing, Pass, first_page}
-use Rattle.nv_core.specs.Deeds.{Deed, Pledges, Splits, Joins, word_of, value_after, patched_by}
+use Rattle.nv_core.specs.Values.{Job, Reads, Peeks, Ending, Made, Failed, called, filled}
+use Rattle.nv_core.specs.Passes.{Stage, Idle, Copying, Returning, Patching, Restoring, Unlocking, Committing, Pledging, ReadFailing, PieceFailing, WriteFailing, Pass, first_page, fetched_bytes}
+use Rattle.nv_core.specs.Deeds.{Deed, Gives, Pledges, Splits, Joins, word_of, value_after, patched_by}
 use Rattle.nv_core.specs.Stepped.{added, stepped, begun}
 use Rattle.nv_core.specs.Order.{Values, Work, commit_steps}
 
@@ -35,25 +36,30 @@ with_number f number value = λ other. if other == number then value else f othe
 abbrev pub stage_worked : Sizes → Pass → Ending → Stage → Stage
 stage_worked sizes pass Made (Committing calls) =
     if calls + 1 == length (commit_steps sizes pass pass.call) then Pledging (first_page sizes pass.call) else Committing (calls + 1)
-stage_worked sizes pass Made (Copying page) = Returning page
+stage_worked sizes pass Made (Copying page dirty) = Returning page dirty
+stage_worked sizes pass Made (Patching page number) = Restoring page number false
 stage_worked sizes pass Made stage = stage
 stage_worked sizes pass (Failed came faults) (Committing calls) = WriteFailing
-stage_worked sizes pass (Failed came faults) stage = ReadFailing
+stage_worked sizes pass (Failed came faults) (Copying page dirty) = ReadFailing page dirty
+stage_worked sizes pass (Failed came faults) (Patching page number) = PieceFailing page number
+stage_worked sizes pass (Failed came faults) stage = stage
 
--- the pages that a read has fetched then
-abbrev pub fetched_worked : Pass → Job → Ending → Stage → List (ℕ × List ℕ)
-fetched_worked pass (Reads at bytes) Made (Copying page) = (page, bytes) ∷ pass.fetched
-fetched_worked pass job ending stage = pass.fetched
+-- the pages that a read has fetched then: one more, or one with one more of its pieces
+abbrev pub fetched_worked : Sizes → Pass → Job → Ending → Stage → List (ℕ × List ℕ)
+fetched_worked sizes pass (Reads at bytes) Made (Copying page dirty) = (page, bytes) ∷ pass.fetched
+fetched_worked sizes pass (Peeks at bytes) Made (Patching page number) =
+    (page, overwritten (fetched_bytes pass.fetched page) (at % sizes.page) bytes) ∷ pass.fetched
+fetched_worked sizes pass job ending stage = pass.fetched
 
 abbrev pub worked : Sizes → Work → Pass → Pass
 worked sizes work pass = record pass {
   stage = stage_worked sizes pass work.ending pass.stage;
-  fetched = fetched_worked pass work.job work.ending pass.stage;
+  fetched = fetched_worked sizes pass work.job work.ending pass.stage;
 }
 
--- a page that was read comes into its buffer
+-- a page that was read and has no entries comes into its buffer
 abbrev pub values_read : Job → Ending → Stage → Values → Values
-values_read (Reads at bytes) Made (Copying page) values = with_word values (PAGE page) (filled bytes (values (PAGE page)))
+values_read (Reads at bytes) Made (Copying page false) values = with_word values (PAGE page) (filled bytes (values (PAGE page)))
 values_read job ending stage values = values
 
 -- what the cells keep after a device call
@@ -63,9 +69,15 @@ values_worked pass work values =
 
 -- ---- steps
 
+-- a page with entries comes into its buffer when all its pieces are read, and CLEANUP is given back
+abbrev pub values_given : Pass → Stage → Values → Values
+values_given pass (Unlocking page) values = with_word values (PAGE page) (filled (fetched_bytes pass.fetched page) (values (PAGE page)))
+values_given pass stage values = values
+
 -- what the cells keep after a step: a pledge patches the page's buffer
 abbrev pub values_stepped : Sizes → Pass → Deed → Values → Values
 values_stepped sizes pass (Pledges page) values = with_word values (PAGE page) (patched_by sizes pass.call page (values (PAGE page)))
+values_stepped sizes pass (Gives cell) values = values_given pass pass.stage values
 values_stepped sizes pass deed values = values
 
 -- the longer of two histories

@@ -18,14 +18,13 @@ use Rattle.nv_core.specs.Core.{Core}
 use Rattle.nv_core.specs.Events.{Event, MayCome, after_event, after, IsRun}
 use Rattle.nv_core.specs.Opening.{Mount, IsMount, opening}
 use Rattle.nv_core.specs.Sound.{Sound}
-use Rattle.nv_core.specs.StorePages.{store_of, StoresTell}
+use Rattle.nv_core.specs.StorePages.{store_of, StoresTell, HasFiles}
 use Rattle.nv_core.specs.LogWindow.{InWindow}
 use Rattle.nv_core.specs.Groups.{Log}
 use Rattle.nv_core.specs.Written.{IsPart}
 use Rattle.nv_core.specs.EntryImages.{IsRegionImage, InEachImageOf}
 use Rattle.nv_core.specs.LivePieces.{rising, call_if, calls_of, is_ready}
 use Rattle.nv_core.specs.Apart.{after_calls}
-use Rattle.nv_core.specs.Content.{HasFiles}
 use Rattle.nv_core.specs.LogContent.{LogContent, OpensLog, log_after_run, placed_after_run}
 
 -- ---- what a power failure may leave of the stores

@@ -33,6 +33,10 @@ pub data Deed : Type 0 where
   Grows : Deed
   -- the entry is broken, and its part is back
   Breaks : (number : ℕ) → Deed
+  -- the entry is held, and its part comes into the hands
+  Holds : (number : ℕ) → Deed
+  -- it is ready again, and its part is back
+  Returns : (number : ℕ) → Deed
   -- a new pass is made, with what pass 0 and the passes that it took in have seen
   Splits : Deed
   -- a pass on its way into pass 0 puts back what a cell keeps, and the lock stays shut
@@ -60,6 +64,8 @@ word_of sizes pass (Pledges page) = DIRTY page
 word_of sizes pass (Readies number) = ENTRY (slot_of sizes number)
 word_of sizes pass Grows = LENGTH (file_of pass.call)
 word_of sizes pass (Breaks number) = ENTRY (slot_of sizes number)
+word_of sizes pass (Holds number) = ENTRY (slot_of sizes number)
+word_of sizes pass (Returns number) = ENTRY (slot_of sizes number)
 word_of sizes pass deed = STOP
 
 -- the ENTRY word of an entry that its pass makes ready
@@ -78,6 +84,8 @@ value_after sizes pass (Pledges page) found = found + 1
 value_after sizes pass (Readies number) found = ready_word sizes pass number
 value_after sizes pass Grows found = at_of pass.call + len_of pass.call
 value_after sizes pass (Breaks number) found = broken
+value_after sizes pass (Holds number) found = found + 1
+value_after sizes pass (Returns number) found = found - 1
 value_after sizes pass deed found = found
 
 -- What moves: nothing, or what a cell keeps comes into the hands, or goes back.
@@ -92,6 +100,8 @@ move_of sizes (Gives cell) found = Goes cell
 move_of sizes (Seizes number) found = Comes (ENTRY (slot_of sizes number))
 move_of sizes (Readies number) found = Goes (ENTRY (slot_of sizes number))
 move_of sizes (Breaks number) found = Goes (ENTRY (slot_of sizes number))
+move_of sizes (Holds number) found = Comes (ENTRY (slot_of sizes number))
+move_of sizes (Returns number) found = Goes (ENTRY (slot_of sizes number))
 move_of sizes deed found = Stays
 
 -- the hands after it

@@ -1,7 +1,7 @@
 -- Holding: which cells a pass's hands hold, by where it stands.
 use Rattle.std.specs.Prelude.{◌≡◌, ◌≢◌, ℕ, ◌==◌, ◌&&◌, nat_le, nat_lt, Bool, if◌then◌else◌}
-use Rattle.nv_core.specs.Words.{Sizes, Word, SIZE, STORE, ENTRY, PAGE}
-use Rattle.nv_core.specs.Passes.{Stage, Idle, Locking, Copying, Returning, Giving, Leaving, ReadFailing, Pass, IsFilling, file_of, first_page, end_page, times}
+use Rattle.nv_core.specs.Words.{Sizes, Word, SIZE, STORE, ENTRY, PAGE, CLEANUP}
+use Rattle.nv_core.specs.Passes.{Stage, Idle, Locking, Fetching, Copying, Returning, Bounding, Starting, Scanning, Grasping, Patching, Restoring, Unlocking, Giving, Leaving, ReadFailing, PieceFailing, Pass, IsFilling, IsHeld, file_of, first_page, end_page, times}
 use Rattle.nv_core.specs.Deeds.{slot_of}
 
 -- 1 where a test holds, and else 0
@@ -27,16 +27,33 @@ size_held pass stage = one_if pass.sized
 
 -- STORE while it reads it
 abbrev pub store_held : Stage → ℕ
-store_held (Copying page) = 1
-store_held (Returning page) = 1
-store_held ReadFailing = 1
+store_held (Copying page dirty) = 1
+store_held (Returning page dirty) = 1
+store_held (ReadFailing page dirty) = 1
 store_held stage = 0
+
+-- CLEANUP of a page with entries while it reads the store and the pieces
+abbrev pub cleanup_held : Stage → (page : ℕ) → ℕ
+cleanup_held (Fetching next dirty) page = one_if (dirty && page == next)
+cleanup_held (Copying next dirty) page = one_if (dirty && page == next)
+cleanup_held (Returning next dirty) page = one_if (dirty && page == next)
+cleanup_held (ReadFailing next dirty) page = one_if (dirty && page == next)
+cleanup_held (Bounding next) page = one_if (page == next)
+cleanup_held (Starting next) page = one_if (page == next)
+cleanup_held (Scanning next number) page = one_if (page == next)
+cleanup_held (Grasping next number) page = one_if (page == next)
+cleanup_held (Patching next number) page = one_if (page == next)
+cleanup_held (Restoring next number failed) page = one_if (page == next)
+cleanup_held (PieceFailing next number) page = one_if (page == next)
+cleanup_held (Unlocking next) page = one_if (page == next)
+cleanup_held stage page = 0
 
 -- how often its hands hold a lock
 abbrev pub lock_held : Sizes → Pass → Stage → Word → ℕ
 lock_held sizes pass stage (PAGE page) = page_held sizes pass stage page
 lock_held sizes pass stage (SIZE file) = if file == file_of pass.call then size_held pass stage else 0
 lock_held sizes pass stage (STORE file) = if file == file_of pass.call then store_held stage else 0
+lock_held sizes pass stage (CLEANUP page) = cleanup_held stage page
 lock_held sizes pass stage cell = 0
 
 -- its locks are those, but for a call on its way out, which gives them back one by one
@@ -44,9 +61,10 @@ abbrev pub HoldsLocks : Sizes → Pass → Stage → Type 0
 HoldsLocks sizes pass Leaving = Unit {0}
 HoldsLocks sizes pass stage = (cell : Word) → ((slot : ℕ) → cell ≢ ENTRY slot) → times cell pass.hands ≡ lock_held sizes pass stage cell
 
--- A pass holds its locks, and the entries that it is filling.
+-- A pass holds its locks, the entries that it is filling, and the one that it reads.
 pub record Holding (sizes : Sizes) (pass : Pass) : Type 0 where
   pub locks : HoldsLocks sizes pass pass.stage
   pub filling : (number : ℕ) → IsFilling pass.stage pass.first pass.entries number → times (ENTRY (slot_of sizes number)) pass.hands ≡ 1
+  pub held : (number : ℕ) → IsHeld pass.stage number → times (ENTRY (slot_of sizes number)) pass.hands ≡ 1
   pub none : (slot : ℕ) → ((number : ℕ) → IsFilling pass.stage pass.first pass.entries number → slot_of sizes number ≢ slot)
-      → times (ENTRY slot) pass.hands ≡ 0
+      → ((number : ℕ) → IsHeld pass.stage number → slot_of sizes number ≢ slot) → times (ENTRY slot) pass.hands ≡ 0

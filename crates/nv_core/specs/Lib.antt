@@ -33,8 +33,6 @@ pub mod StorePages
 pub mod Legal
 pub mod Lengths
 pub mod ValidBuffers
-pub mod CleanPages
-pub mod Content
 pub mod Groups
 pub mod Apart
 pub mod Written
@@ -48,7 +46,10 @@ pub mod LivePieces
 pub mod Leaders
 pub mod LogContent
 pub mod PatchedPages
+pub mod PatchedReads
+pub mod Content
 pub mod Crash
 pub mod AtRest
 pub mod WalkOpens
 pub mod CrashWalks
+pub mod DirtyWalks

@@ -11,7 +11,7 @@ use Rattle.nv_core.specs.Core.{Core}
 use Rattle.nv_core.specs.Events.{Event, MayCome, after_event, after, IsRun}
 use Rattle.nv_core.specs.Opening.{Mount, IsMount, opening}
 use Rattle.nv_core.specs.Sound.{Sound}
-use Rattle.nv_core.specs.Content.{HasFiles}
+use Rattle.nv_core.specs.StorePages.{HasFiles}
 use Rattle.nv_core.specs.Groups.{Log, log_after, Groups}
 use Rattle.nv_core.specs.Written.{IsPart, IsBlank, Written}
 use Rattle.nv_core.specs.EntryImages.{EntryImages}
@@ -24,7 +24,6 @@ use Rattle.nv_core.specs.LivePieces.{LivePieces}
 use Rattle.nv_core.specs.Leaders.{Leaders}
 
 -- These parts, over the cells' values and the files at opening, the tail that the header has, the log, and which writes are placed.
--- That a page with no entries is its store's page after the history is a part of Content: CleanPages.
 pub record LogContent (sizes : Sizes) (first : Values) (opened : Files) (tail : ℕ) (log : Log) (placed : ℕ → Bool) (core : Core) : Type 0 where
   pub groups : Groups sizes core log
   pub written : Written sizes tail log core

@@ -1,13 +1,14 @@
 -- Never: steps that no sound state allows, and what a step that is allowed has before it.
 use Rattle.std.specs.Prelude.{◌≡◌, ◌≢◌, ℕ, ◌+◌, ◌≤◌, []}
 use Rattle.nv_plain.specs.declared.call.Reply.{Reply}
-use Rattle.nv_core.specs.Words.{Sizes, Word, STOP, HEAD, TAIL, ENTRY, free}
-use Rattle.nv_core.specs.Passes.{Stage, Seizing, Committing, Pledging, Readying, Placing, WriteFailing, Pass}
-use Rattle.nv_core.specs.Deeds.{Gives, Places, Stops, Draws, Seizes, Readies, Grows, slot_of}
+use Rattle.nv_core.specs.Words.{Sizes, Word, STOP, HEAD, TAIL, ENTRY, CLEANUP, free, ready, kind_of}
+use Rattle.nv_core.specs.Passes.{Stage, Seizing, Committing, Pledging, Readying, Placing, WriteFailing, Pass, IsHeld, times}
+use Rattle.nv_core.specs.Deeds.{Gives, Places, Stops, Draws, Seizes, Readies, Grows, Holds, slot_of}
 use Rattle.nv_core.specs.Order.{Values, MayStep}
 use Rattle.nv_core.specs.Core.{Core, after_step}
 use Rattle.nv_core.specs.Events.{MayFind}
 use Rattle.nv_core.specs.Standing.{IsPage}
+use Rattle.nv_core.specs.Holding.{cleanup_held}
 use Rattle.nv_core.specs.LogWindow.{Fills}
 use Rattle.nv_core.specs.Stop.{HasFailed}
 use Rattle.nv_core.specs.Sound.{Sound}
@@ -67,6 +68,24 @@ abbrev pub NoSeizureOfAHeldEntry : Type 0
 NoSeizureOfAHeldEntry =
     (sizes : Sizes) (first : Values) (core : Core) (by number : ℕ) → Sound sizes first core
     → MayStep sizes core.values (core.passes by) (Seizes number) → core.words (ENTRY (slot_of sizes number)) ≡ free
+
+-- An entry is held where it is ready.
+abbrev pub NoHoldOfAnUnreadyEntry : Type 0
+NoHoldOfAnUnreadyEntry =
+    (sizes : Sizes) (first : Values) (core : Core) (by number : ℕ) → Sound sizes first core
+    → MayStep sizes core.values (core.passes by) (Holds number) → kind_of (core.words (ENTRY (slot_of sizes number))) ≡ ready
+
+-- No two reads hold one entry.
+abbrev pub NoEntryHeldTwice : Type 0
+NoEntryHeldTwice =
+    (sizes : Sizes) (first : Values) (core : Core) (one other number : ℕ) → Sound sizes first core
+    → IsHeld (core.passes one).stage number → IsHeld (core.passes other).stage number → one ≡ other
+
+-- While a read looks for the pieces of a page, no other pass has its CLEANUP.
+abbrev pub NoOtherCleanup : Type 0
+NoOtherCleanup =
+    (sizes : Sizes) (first : Values) (core : Core) (by other page : ℕ) → Sound sizes first core
+    → cleanup_held (core.passes by).stage page ≡ 1 → times (CLEANUP page) (core.passes other).hands ≡ 1 → other ≡ by
 
 -- No numbers are drawn past the log's end.
 abbrev pub NoDrawPastTheEnd : Type 0

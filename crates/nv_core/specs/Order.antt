@@ -1,22 +1,24 @@
 -- The order of steps: when a step or a device call of a pass may come.
-use Rattle.std.specs.Prelude.{◌≡◌, ℕ, ◌+◌, ◌-◌, ◌*◌, ◌%◌, ◌<◌, ◌≤◌, ◌==◌, true, false, if◌then◌else◌, List, [], ◌∷◌, length, slice_index_or, Option, Some, None}
+use Rattle.std.specs.Prelude.{◌≡◌, ◌⊎◌, ℕ, ◌+◌, ◌-◌, ◌*◌, ◌%◌, ◌<◌, ◌≤◌, ◌==◌, Bool, true, false, if◌then◌else◌, List, [], ◌∷◌, length, slice_index_or, Option, Some, None}
 use Rattle.std.specs.List.{flat_map, range_with_len}
 use Rattle.nv_plain.specs.Faults.{Rose}
 use Rattle.nv_plain.specs.Files.{bytes_at, padded}
+use Rattle.nv_plain.specs.Images.{entry_of, data_of}
 use Rattle.nv_plain.specs.Pieces.{piece_of}
 use Rattle.nv_plain.specs.declared.call.FileCall.{FileCall}
 use Rattle.nv_plain.specs.declared.call.FileCall.TheVariants.{Read, Write, Sync}
 use Rattle.nv_plain.specs.declared.call.Reply.{Reply}
 use Rattle.nv_plain.specs.declared.call.Reply.TheVariants.{Bytes, Count, Done}
+use Rattle.nv_pmem.specs.Part.{Part, word_of as word_of_part}
 use Rattle.nv_pmem.specs.Room.{Room}
 use Rattle.nv_pmem.specs.RoomSteps.{RoomAfter, RoomAfterFault}
 use Rattle.nv_pmem.specs.Rows.{RowStep}
 use Rattle.nv_store.specs.Store.{Store}
 use Rattle.nv_entry.specs.Group.{group_steps}
-use Rattle.nv_core.specs.Words.{Sizes, Word, STOP, ORDER, HEAD, TAIL, LENGTH, SIZE, STORE, ENTRY, PAGE, DIRTY}
-use Rattle.nv_core.specs.Values.{Value, APart, AStore, Job, Writes, Reads, Ending, Made, Failed, is_valid, bytes_in}
-use Rattle.nv_core.specs.Passes.{Stage, Locking, Measuring, Sizing, Checking, Ordering, Reading, Fetching, Copying, Returning, Heading, Tailing, Drawing, Seizing, Committing, Pledging, Readying, Placing, Growing, Releasing, Giving, Leaving, ReadFailing, WriteFailing, Breaking, Pass, file_of, at_of, covered, end_read, first_page, IsLastTaken, times}
-use Rattle.nv_core.specs.Deeds.{Deed, Loads, Takes, Gives, Places, Stops, Draws, Seizes, Pledges, Readies, Grows, Breaks, slot_of}
+use Rattle.nv_core.specs.Words.{Sizes, Word, STOP, ORDER, HEAD, TAIL, LENGTH, SIZE, STORE, ENTRY, PAGE, CLEANUP, DIRTY}
+use Rattle.nv_core.specs.Values.{Value, APart, AStore, Job, Writes, Reads, Peeks, Ending, Made, Failed, is_valid, bytes_in}
+use Rattle.nv_core.specs.Passes.{Stage, Locking, Measuring, Sizing, Checking, Ordering, Reading, Waiting, Fetching, Copying, Returning, Bounding, Starting, Scanning, Grasping, Patching, Restoring, Unlocking, Heading, Tailing, Drawing, Seizing, Committing, Pledging, Readying, Placing, Growing, Releasing, Giving, Leaving, ReadFailing, PieceFailing, WriteFailing, Breaking, Pass, file_of, at_of, covered, end_read, first_page, IsLastTaken, times}
+use Rattle.nv_core.specs.Deeds.{Deed, Loads, Takes, Gives, Places, Stops, Draws, Seizes, Pledges, Readies, Grows, Breaks, Holds, Returns, slot_of}
 
 -- what the cells keep, by their words
 abbrev pub Values : Type 0
@@ -69,8 +71,9 @@ abbrev pub MayLoad : Sizes → Values → Pass → Word → Type 0
 MayLoad sizes values pass (LENGTH file) = (pass.stage ≡ Measuring) × (file ≡ file_of pass.call)
 MayLoad sizes values pass STOP = pass.stage ≡ Checking
 MayLoad sizes values pass ORDER = pass.stage ≡ Ordering
-MayLoad sizes values pass HEAD = pass.stage ≡ Heading
-MayLoad sizes values pass TAIL = pass.stage ≡ Tailing
+MayLoad sizes values pass HEAD = (pass.stage ≡ Heading) ⊎ ((page : ℕ) × (pass.stage ≡ Bounding page))
+MayLoad sizes values pass TAIL = (pass.stage ≡ Tailing) ⊎ ((page : ℕ) × (pass.stage ≡ Starting page))
+MayLoad sizes values pass (ENTRY slot) = (page number : ℕ) × (pass.stage ≡ Scanning page number) × (slot ≡ slot_of sizes number)
 MayLoad sizes values pass (DIRTY page) = (from : ℕ) × IsMissed sizes values pass page from
 MayLoad sizes values pass word = ⊥
 
@@ -78,22 +81,27 @@ MayLoad sizes values pass word = ⊥
 abbrev pub MayTake : Pass → Word → Type 0
 MayTake pass (PAGE page) = pass.stage ≡ Locking page
 MayTake pass (SIZE file) = (pass.stage ≡ Sizing) × (file ≡ file_of pass.call)
-MayTake pass (STORE file) = (page : ℕ) × (pass.stage ≡ Fetching page) × (file ≡ file_of pass.call)
+MayTake pass (STORE file) = (page : ℕ) × (dirty : Bool) × (pass.stage ≡ Fetching page dirty) × (file ≡ file_of pass.call)
+MayTake pass (CLEANUP page) = pass.stage ≡ Waiting page
 MayTake pass word = ⊥
 
--- a lock may be given back: by a call that has its place, by one that has read its store, or else in the reverse order of taking
+-- a lock may be given back: by a call that has its place, by one that has read its store or all pieces of a page, or else in the reverse
+-- order of taking
 abbrev pub MayGive : Pass → Word → Stage → Type 0
 MayGive pass (SIZE file) Releasing = file ≡ file_of pass.call
 MayGive pass (PAGE page) (Giving next) = page ≡ next
-MayGive pass (STORE file) (Returning page) = file ≡ file_of pass.call
+MayGive pass (STORE file) (Returning page dirty) = file ≡ file_of pass.call
+MayGive pass (CLEANUP page) (Unlocking next) = page ≡ next
 MayGive pass (SIZE file) Leaving = IsLastTaken (SIZE file) pass.hands
 MayGive pass (PAGE page) Leaving = IsLastTaken (PAGE page) pass.hands
 MayGive pass (STORE file) Leaving = IsLastTaken (STORE file) pass.hands
+MayGive pass (CLEANUP page) Leaving = IsLastTaken (CLEANUP page) pass.hands
 MayGive pass word stage = ⊥
 
 -- a device has failed
 abbrev pub IsFailing : Stage → Type 0
-IsFailing ReadFailing = Unit {0}
+IsFailing (ReadFailing page dirty) = Unit {0}
+IsFailing (PieceFailing page number) = Unit {0}
 IsFailing WriteFailing = Unit {0}
 IsFailing stage = ⊥
 
@@ -110,6 +118,8 @@ MayStep sizes values pass (Pledges page) = pass.stage ≡ Pledging page
 MayStep sizes values pass (Readies number) = pass.stage ≡ Readying number
 MayStep sizes values pass Grows = pass.stage ≡ Growing
 MayStep sizes values pass (Breaks number) = pass.stage ≡ Breaking number
+MayStep sizes values pass (Holds number) = (page : ℕ) × (pass.stage ≡ Grasping page number)
+MayStep sizes values pass (Returns number) = (page : ℕ) × (failed : Bool) × (pass.stage ≡ Restoring page number failed)
 MayStep sizes values pass _ = ⊥
 
 -- ---- device calls
@@ -154,6 +164,24 @@ pub record IsPageRead (sizes : Sizes) (values : Values) (pass : Pass) (page : �
   pub job : work.job ≡ Reads (page_start sizes pass.call page) bytes
   pub says : SaysOf sizes (page_start sizes pass.call page) bytes (values (STORE (file_of pass.call)))
 
+-- What a part says of the entry that it holds: the offset of its piece in the file, and the piece. A part that tells nothing gives some
+-- bytes that fit into a page.
+abbrev pub SaysPiece : Sizes → (at : ℕ) → List ℕ → Option Part → Type 0
+SaysPiece sizes at bytes (Some part) = (at ≡ (entry_of (word_of_part part)).at) × (bytes ≡ data_of (word_of_part part) (entry_of (word_of_part part)).size)
+SaysPiece sizes at bytes None = at % sizes.page + length bytes ≤ sizes.page
+
+abbrev pub SaysPieceOf : Sizes → (at : ℕ) → List ℕ → Value → Type 0
+SaysPieceOf sizes at bytes (APart device room) = SaysPiece sizes at bytes device.told
+SaysPieceOf sizes at bytes value = ⊥
+
+-- a read of an entry's piece
+pub record IsPieceRead (sizes : Sizes) (values : Values) (number : ℕ) (work : Work) : Type 0 where
+  pub at : ℕ
+  pub bytes : List ℕ
+  pub cell : work.cell ≡ ENTRY (slot_of sizes number)
+  pub job : work.job ≡ Peeks at bytes
+  pub says : SaysPieceOf sizes at bytes (values (ENTRY (slot_of sizes number)))
+
 -- A device call ends by a fault only where the count rose.
 abbrev pub MayEnd : Value → Ending → Type 0
 MayEnd value Made = Unit {0}
@@ -170,7 +198,8 @@ MayLeave value job ending = Unit {0}
 -- a device call may come
 abbrev pub IsDue : Sizes → Values → Pass → Work → Stage → Type 0
 IsDue sizes values pass work (Committing calls) = IsNextCall sizes pass calls work
-IsDue sizes values pass work (Copying page) = IsPageRead sizes values pass page work
+IsDue sizes values pass work (Copying page dirty) = IsPageRead sizes values pass page work
+IsDue sizes values pass work (Patching page number) = IsPieceRead sizes values number work
 IsDue sizes values pass work stage = ⊥
 
 pub record MayWork (sizes : Sizes) (values : Values) (pass : Pass) (work : Work) : Type 0 where

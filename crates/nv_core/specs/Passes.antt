@@ -1,5 +1,5 @@
 -- Passes: a thread's view, its call at hand, and where in the order of steps it stands.
-use Rattle.std.specs.Prelude.{◌≡◌, ◌⊎◌, ℕ, ◌+◌, ◌-◌, ◌*◌, ◌/◌, ◌<◌, ◌≤◌, nat_lt, min, Bool, false, if◌then◌else◌, List, [], ◌∷◌, length, slice_index}
+use Rattle.std.specs.Prelude.{◌≡◌, ◌⊎◌, ℕ, ◌+◌, ◌-◌, ◌*◌, ◌/◌, ◌<◌, ◌≤◌, ◌==◌, nat_lt, min, Bool, false, if◌then◌else◌, List, [], ◌∷◌, length, slice_index}
 use Rattle.nv_plain.specs.Histories.{Answered}
 use Rattle.nv_plain.specs.Layouts.{version_1}
 use Rattle.nv_plain.specs.Pieces.{pages_touched}
@@ -17,13 +17,21 @@ pub data Stage : Type 0 where
   Sizing : Stage
   Checking : Stage
   Ordering : Stage
-  -- a read: this page is looked at next; DIRTY was 0 and STORE is next; the store is read; STORE is given back
+  -- a read: this page is looked at next; of one with entries, CLEANUP; STORE, the store itself, STORE again, be the page dirty or not
   Reading : (page : ℕ) → Stage
-  Fetching : (page : ℕ) → Stage
-  Copying : (page : ℕ) → Stage
-  Returning : (page : ℕ) → Stage
-  -- a read whose page has entries that its store lacks
   Waiting : (page : ℕ) → Stage
+  Fetching : (page : ℕ) (dirty : Bool) → Stage
+  Copying : (page : ℕ) (dirty : Bool) → Stage
+  Returning : (page : ℕ) (dirty : Bool) → Stage
+  -- then, of a page with entries: HEAD, TAIL, and each number's ENTRY between these; one that is ready and of the page is held, its piece
+  -- is read, and it is returned; CLEANUP is given back
+  Bounding : (page : ℕ) → Stage
+  Starting : (page : ℕ) → Stage
+  Scanning : (page number : ℕ) → Stage
+  Grasping : (page number : ℕ) → Stage
+  Patching : (page number : ℕ) → Stage
+  Restoring : (page number : ℕ) (failed : Bool) → Stage
+  Unlocking : (page : ℕ) → Stage
   -- a write: HEAD, TAIL, the numbers, their entries, the device calls of the commit, each page's DIRTY, the entries again
   Heading : Stage
   Tailing : Stage
@@ -37,9 +45,11 @@ pub data Stage : Type 0 where
   Growing : Stage
   Releasing : Stage
   Giving : (page : ℕ) → Stage
-  -- a refusal gives back in the reverse order of taking; a fault first sets STOP, and breaks the entries of a write
+  -- a refusal gives back in the reverse order of taking; a fault first sets STOP, and breaks the entries of a write, or returns the one
+  -- whose piece was read
   Leaving : Stage
-  ReadFailing : Stage
+  ReadFailing : (page : ℕ) (dirty : Bool) → Stage
+  PieceFailing : (page number : ℕ) → Stage
   WriteFailing : Stage
   Breaking : (number : ℕ) → Stage
 
@@ -66,7 +76,7 @@ pub record Pass : Type 0 where
   -- the first number that it drew in this call, and how many
   pub first : ℕ
   pub entries : ℕ
-  -- the pages that it read from a store in this call
+  -- the pages that it read from a store in this call, with the pieces that it read since, the last first
   pub fetched : List (ℕ × List ℕ)
   -- the calls that ended by a fault
   pub faulted : List Fault
@@ -75,6 +85,11 @@ pub record Pass : Type 0 where
   pub mine : List Answered
   -- what it has put back on its way into the pass that takes it in
   pub left : List Word
+
+-- what a read has fetched of a page
+abbrev pub fetched_bytes : List (ℕ × List ℕ) → (page : ℕ) → List ℕ
+fetched_bytes [] page = []
+fetched_bytes (one ∷ rest) page = if one.0 == page then one.1 else fetched_bytes rest page
 
 -- ---- a call's place among the pages
 
@@ -184,3 +199,10 @@ IsFilling (Readying next) first entries number = (number ≡ first) ⊎ ((first 
 IsFilling WriteFailing first entries number = IsAmong first entries number
 IsFilling (Breaking next) first entries number = (next ≤ number) × (number < first + entries)
 IsFilling _ first entries number = ⊥
+
+-- the number whose entry a read holds
+abbrev pub IsHeld : Stage → (number : ℕ) → Type 0
+IsHeld (Patching page next) number = number ≡ next
+IsHeld (Restoring page next failed) number = number ≡ next
+IsHeld (PieceFailing page next) number = number ≡ next
+IsHeld stage number = ⊥

@@ -28,7 +28,7 @@ pub record Sound (sizes : Sizes) (first : Values) (core : Core) : Type 0 where
   pub window : LogWindow sizes core
   pub entries : EntryWords sizes core.words
   pub dirty : DirtyCounters sizes core
-  pub loaded : Loaded core
+  pub loaded : Loaded sizes core
   pub stop : Stop first core
   pub broken : Broken sizes core
   pub broken_lengths : BrokenLengths core

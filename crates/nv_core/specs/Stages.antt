@@ -1,14 +1,14 @@
 -- Stages: where a pass stands after a step of each kind.
 use Rattle.std.specs.Prelude.{ℕ, ◌+◌, ◌^◌, ◌==◌, nat_lt, nat_le, Bool, true, false, not, ◌&&◌, if◌then◌else◌, List, [], ◌∷◌}
 use Rattle.nv_plain.specs.declared.call.FileCall.{FileCall}
-use Rattle.nv_core.specs.Words.{Sizes, Word, STOP, ORDER, HEAD, TAIL, LENGTH, SIZE, STORE, ENTRY, PAGE, DIRTY}
-use Rattle.nv_core.specs.Passes.{Stage, Idle, Locking, Measuring, Sizing, Checking, Ordering, Reading, Fetching, Copying, Returning, Waiting, Heading, Tailing, Drawing, Seizing, Committing, Pledging, Readying, Placing, Growing, Releasing, Giving, Leaving, WriteFailing, Breaking, Pass, at_of, len_of, is_write, is_read, page_count, first_page, end_page, without}
-use Rattle.nv_core.specs.Deeds.{Deed, slot_of, Loads, Takes, Gives, Places, Stops, Draws, Seizes, Pledges, Readies, Grows, Breaks}
+use Rattle.nv_core.specs.Words.{Sizes, Word, STOP, ORDER, HEAD, TAIL, LENGTH, SIZE, STORE, ENTRY, PAGE, CLEANUP, DIRTY, ready, is_entry_of}
+use Rattle.nv_core.specs.Passes.{Stage, Idle, Locking, Measuring, Sizing, Checking, Ordering, Reading, Waiting, Fetching, Copying, Returning, Bounding, Starting, Scanning, Grasping, Patching, Restoring, Unlocking, Heading, Tailing, Drawing, Seizing, Committing, Pledging, Readying, Placing, Growing, Releasing, Giving, Leaving, PieceFailing, WriteFailing, Breaking, Pass, at_of, len_of, is_write, is_read, page_count, first_page, end_page, without}
+use Rattle.nv_core.specs.Deeds.{Deed, slot_of, Loads, Takes, Gives, Places, Stops, Draws, Seizes, Pledges, Readies, Grows, Breaks, Holds, Returns}
 
 -- a test is true
-abbrev pub Holds : Bool → Type 0
-Holds true = Unit {0}
-Holds false = ⊥
+abbrev pub IsSo : Bool → Type 0
+IsSo true = Unit {0}
+IsSo false = ⊥
 
 -- How far a pass is in its call: 1 at its pages, 2 at LENGTH, 3 at STOP, 4 at ORDER, 5 from there to its place in the history, 6 at its
 -- new length, 7 at what it gives back then. It is 0 where no call is open, and where one goes back.
@@ -24,11 +24,12 @@ turn Releasing = 7
 turn (Giving page) = 7
 turn Leaving = 0
 turn (Breaking number) = 0
+turn (Restoring page number true) = 0
 turn stage = 5
 
 -- it is at one of these, both included
 abbrev pub IsBetween : (from to : ℕ) → Stage → Type 0
-IsBetween from to stage = Holds (nat_le from (turn stage) && nat_le (turn stage) to)
+IsBetween from to stage = IsSo (nat_le from (turn stage) && nat_le (turn stage) to)
 
 -- a refused call gives back what it holds, and is over where that is nothing
 abbrev pub leaving : List Word → Stage
@@ -55,19 +56,38 @@ abbrev pub ordered : Sizes → FileCall → Stage
 ordered sizes call =
     if is_write call then Heading else (if is_read call then Reading (first_page sizes call) else Placing)
 
+-- a read looks next at a number below HEAD as it loaded it, and past these it is done with the page
+abbrev pub scanning : Pass → (page number : ℕ) → Stage
+scanning pass page number = if nat_lt number pass.head then Scanning page number else Unlocking page
+
+-- after HEAD and TAIL: a read of a page with entries, or a write
+abbrev pub after_head : Sizes → Pass → (found : ℕ) → Stage → Stage
+after_head sizes pass found (Bounding page) = Starting page
+after_head sizes pass found stage = if nat_le (found + page_count sizes pass.call) (2 ^ 60) then Tailing else leaving pass.hands
+
+abbrev pub after_tail : Sizes → Pass → (found : ℕ) → Stage → Stage
+after_tail sizes pass found (Starting page) = scanning pass page found
+after_tail sizes pass found stage =
+    if nat_le (pass.head + page_count sizes pass.call) (found + sizes.entries) then Drawing else leaving pass.hands
+
+-- after a number's ENTRY: where it is ready and of the page it is held next
+abbrev pub after_look : Pass → (found : ℕ) → Stage → Stage
+after_look pass found (Scanning page number) = if is_entry_of ready page found then Grasping page number else scanning pass page (number + 1)
+after_look pass found stage = stage
+
 abbrev pub after_load : Sizes → Pass → Word → (found : ℕ) → Stage
 after_load sizes pass (LENGTH file) found = if exceeds pass found && not pass.sized then Sizing else Checking
 after_load sizes pass STOP found = if found == 0 then Ordering else leaving pass.hands
 after_load sizes pass ORDER found = if nat_lt found (2 ^ 60) then ordered sizes pass.call else leaving pass.hands
-after_load sizes pass HEAD found = if nat_le (found + page_count sizes pass.call) (2 ^ 60) then Tailing else leaving pass.hands
-after_load sizes pass TAIL found =
-    if nat_le (pass.head + page_count sizes pass.call) (found + sizes.entries) then Drawing else leaving pass.hands
-after_load sizes pass (DIRTY page) found = if found == 0 then Fetching page else Waiting page
+after_load sizes pass HEAD found = after_head sizes pass found pass.stage
+after_load sizes pass TAIL found = after_tail sizes pass found pass.stage
+after_load sizes pass (ENTRY slot) found = after_look pass found pass.stage
+after_load sizes pass (DIRTY page) found = if found == 0 then Fetching page false else Waiting page
 after_load sizes pass word found = pass.stage
 
 -- the store is read next
 abbrev pub copying : Stage → Stage
-copying (Fetching page) = Copying page
+copying (Fetching page dirty) = Copying page dirty
 copying stage = stage
 
 -- a page that was taken is followed by the next one, or by LENGTH
@@ -75,6 +95,7 @@ abbrev pub after_take : Sizes → Pass → Word → Stage
 after_take sizes pass (PAGE page) = if page + 1 == end_page sizes pass.call then Measuring else Locking (page + 1)
 after_take sizes pass (SIZE file) = Measuring
 after_take sizes pass (STORE file) = copying pass.stage
+after_take sizes pass (CLEANUP page) = Fetching page true
 after_take sizes pass word = pass.stage
 
 -- what a call that gives back stands at next
@@ -82,13 +103,26 @@ abbrev pub after_give : Sizes → Pass → Word → Stage → Stage
 after_give sizes pass cell Leaving = leaving (without cell pass.hands)
 after_give sizes pass cell Releasing = giving sizes pass.call
 after_give sizes pass cell (Giving page) = if page + 1 == end_page sizes pass.call then Idle else Giving (page + 1)
-after_give sizes pass cell (Returning page) = Reading (page + 1)
+after_give sizes pass cell (Returning page dirty) = if dirty then Bounding page else Reading (page + 1)
+after_give sizes pass cell (Unlocking page) = Reading (page + 1)
 after_give sizes pass cell stage = stage
 
--- a fault's STOP is followed by the entries of a write, or by what is held
+-- a fault's STOP is followed by the entries of a write, by the entry that a read holds, or by what else is held
 abbrev pub after_stop : Pass → Stage → Stage
 after_stop pass WriteFailing = Breaking pass.first
+after_stop pass (PieceFailing page number) = Restoring page number true
 after_stop pass stage = leaving pass.hands
+
+-- an entry that is held is read next
+abbrev pub after_hold : Stage → Stage
+after_hold (Grasping page number) = Patching page number
+after_hold stage = stage
+
+-- and one that was returned is followed by the next number, or by what is held where the read of its piece failed
+abbrev pub after_return : Sizes → Pass → Stage → Stage
+after_return sizes pass (Restoring page number failed) =
+    if failed then leaving (without (ENTRY (slot_of sizes number)) pass.hands) else scanning pass page (number + 1)
+after_return sizes pass stage = stage
 
 abbrev pub stage_after : Sizes → Pass → Deed → (found : ℕ) → Stage
 stage_after sizes pass (Loads word) found = after_load sizes pass word found
@@ -105,4 +139,6 @@ stage_after sizes pass (Readies number) found =
 stage_after sizes pass Grows found = ending sizes pass
 stage_after sizes pass (Breaks number) found =
     if number + 1 == pass.first + pass.entries then leaving (without (ENTRY (slot_of sizes number)) pass.hands) else Breaking (number + 1)
+stage_after sizes pass (Holds number) found = after_hold pass.stage
+stage_after sizes pass (Returns number) found = after_return sizes pass pass.stage
 stage_after sizes pass _ found = pass.stage

@@ -3,7 +3,7 @@ use Rattle.std.specs.Prelude.{◌≡◌, ◌≢◌, ℕ, ◌+◌, ◌^◌, ◌<�
 use Rattle.nv_plain.specs.declared.call.FileCall.{FileCall}
 use Rattle.nv_core.specs.Words.{Sizes}
 use Rattle.nv_core.specs.Stages.{exceeds}
-use Rattle.nv_core.specs.Passes.{Stage, Idle, Locking, Sizing, Reading, Fetching, Copying, Returning, Heading, Tailing, Drawing, Seizing, Committing, Pledging, Readying, Growing, Releasing, Giving, Leaving, ReadFailing, WriteFailing, Breaking, Pass, IsAllowed, IsAmong, is_read, is_write, page_count, first_page, end_page}
+use Rattle.nv_core.specs.Passes.{Stage, Idle, Locking, Sizing, Reading, Waiting, Fetching, Copying, Returning, Bounding, Starting, Scanning, Grasping, Patching, Restoring, Unlocking, Heading, Tailing, Drawing, Seizing, Committing, Pledging, Readying, Growing, Releasing, Giving, Leaving, ReadFailing, PieceFailing, WriteFailing, Breaking, Pass, IsAllowed, IsAmong, is_read, is_write, page_count, first_page, end_page}
 
 -- a page of a call
 abbrev pub IsPage : Sizes → FileCall → (page : ℕ) → Type 0
@@ -23,14 +23,26 @@ IsSmall sizes pass = pass.head + page_count sizes pass.call ≤ 2 ^ 60
 abbrev pub HasRoom : Sizes → Pass → Type 0
 HasRoom sizes pass = pass.head + page_count sizes pass.call ≤ pass.tail + sizes.entries
 
+-- it reads a page of its call
+abbrev pub ReadsPage : Sizes → Pass → (page : ℕ) → Type 0
+ReadsPage sizes pass page = (is_read pass.call ≡ true) × IsPage sizes pass.call page
+
 -- what it needs to stand where it does
 abbrev pub StandsAt : Sizes → Pass → Stage → Type 0
 StandsAt sizes pass (Locking page) = IsPage sizes pass.call page × (pass.sized ≡ false)
 StandsAt sizes pass Sizing = pass.sized ≡ false
 StandsAt sizes pass (Reading page) = (is_read pass.call ≡ true) × (first_page sizes pass.call ≤ page)
-StandsAt sizes pass (Fetching page) = (is_read pass.call ≡ true) × IsPage sizes pass.call page
-StandsAt sizes pass (Copying page) = (is_read pass.call ≡ true) × IsPage sizes pass.call page
-StandsAt sizes pass (Returning page) = (is_read pass.call ≡ true) × IsPage sizes pass.call page
+StandsAt sizes pass (Waiting page) = ReadsPage sizes pass page
+StandsAt sizes pass (Fetching page dirty) = ReadsPage sizes pass page
+StandsAt sizes pass (Copying page dirty) = ReadsPage sizes pass page
+StandsAt sizes pass (Returning page dirty) = ReadsPage sizes pass page
+StandsAt sizes pass (Bounding page) = ReadsPage sizes pass page
+StandsAt sizes pass (Starting page) = ReadsPage sizes pass page
+StandsAt sizes pass (Scanning page number) = ReadsPage sizes pass page × (number < pass.head)
+StandsAt sizes pass (Grasping page number) = ReadsPage sizes pass page × (number < pass.head)
+StandsAt sizes pass (Patching page number) = ReadsPage sizes pass page × (number < pass.head)
+StandsAt sizes pass (Restoring page number failed) = ReadsPage sizes pass page × (number < pass.head)
+StandsAt sizes pass (Unlocking page) = ReadsPage sizes pass page
 StandsAt sizes pass Heading = is_write pass.call ≡ true
 StandsAt sizes pass Tailing = (is_write pass.call ≡ true) × IsSmall sizes pass
 StandsAt sizes pass Drawing = (is_write pass.call ≡ true) × IsSmall sizes pass × HasRoom sizes pass
@@ -42,7 +54,8 @@ StandsAt sizes pass Growing = exceeds pass pass.length ≡ true
 StandsAt sizes pass Releasing = pass.sized ≡ true
 StandsAt sizes pass (Giving page) = IsPage sizes pass.call page
 StandsAt sizes pass Leaving = pass.hands ≢ []
-StandsAt sizes pass ReadFailing = is_read pass.call ≡ true
+StandsAt sizes pass (ReadFailing page dirty) = ReadsPage sizes pass page
+StandsAt sizes pass (PieceFailing page number) = ReadsPage sizes pass page × (number < pass.head)
 StandsAt sizes pass WriteFailing = HasDrawn sizes pass.call pass.entries
 StandsAt sizes pass (Breaking number) = HasDrawn sizes pass.call pass.entries × IsAmong pass.first pass.entries number
 StandsAt sizes pass stage = Unit {0}

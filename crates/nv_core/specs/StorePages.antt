@@ -1,6 +1,6 @@
 -- Store pages: what the stores tell, and where that is the page after the history.
-use Rattle.std.specs.Prelude.{◌≡◌, ℕ, ◌<◌, true, Option, Some, None}
-use Rattle.nv_plain.specs.Files.{Files}
+use Rattle.std.specs.Prelude.{◌≡◌, ℕ, ◌<◌, true, Option, Some, None, length}
+use Rattle.nv_plain.specs.Files.{Files, contents_of}
 use Rattle.nv_store.specs.Store.{Store}
 use Rattle.nv_core.specs.Words.{Sizes, STORE, PAGE, DIRTY}
 use Rattle.nv_core.specs.Values.{Value, AStore}
@@ -18,12 +18,22 @@ store_of value = None
 pub record StoresTell (sizes : Sizes) (first : Values) : Type 0 where
   pub each : (file : ℕ) → file < sizes.files → (store : Store) × (store_of (first (STORE file)) ≡ Some store)
 
+-- each store that tells reads as its file at opening
+pub record StoresSeen (first : Values) (opening : Files) : Type 0 where
+  pub seen : (file : ℕ) (store : Store) → store_of (first (STORE file)) ≡ Some store → store.seen ≡ contents_of opening file
+
+-- The stores of a mount have some files: as many as it has, and each store tells, and reads as its file.
+pub record HasFiles (sizes : Sizes) (first : Values) (files : Files) : Type 0 where
+  pub count : length files.contents ≡ sizes.files
+  pub tell : StoresTell sizes first
+  pub seen : StoresSeen first files
+
 -- each store tells what it told at opening
 pub record StoresKept (first now : Values) : Type 0 where
   pub each : (file : ℕ) → store_of (now (STORE file)) ≡ store_of (first (STORE file))
 
--- A page that a read holds and that has no entries is its store's page at opening. (The part on clean pages gives it.)
+-- A page that a read holds and that has no entries is its store's page at opening. (The content of the log gives it.)
 pub record StorePages (sizes : Sizes) (first : Values) (opening : Files) (core : Core) : Type 0 where
   pub clean : (number page : ℕ) (store : Store) → is_read (core.passes number).call ≡ true → times (PAGE page) (core.passes number).hands ≡ 1
-      → core.words (DIRTY page) ≡ 0 → store_of (first (STORE (file_of_page sizes page))) ≡ Some store
+      → core.words (DIRTY page) ≡ 0 → file_of_page sizes page < sizes.files → store_of (first (STORE (file_of_page sizes page))) ≡ Some store
       → page_now sizes opening core page ≡ page_from store.seen (start_of_page sizes page) sizes.page

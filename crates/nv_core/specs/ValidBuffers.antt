@@ -1,12 +1,12 @@
 -- Valid buffers: what a page's buffer has where it counts, and what a read has gathered.
-use Rattle.std.specs.Prelude.{◌≡◌, ◌⊎◌, ℕ, ◌+◌, ◌-◌, ◌%◌, ◌<◌, nat_lt, true, false, if◌then◌else◌, List, [], length}
+use Rattle.std.specs.Prelude.{◌≡◌, ◌≢◌, ◌⊎◌, ℕ, ◌+◌, ◌-◌, ◌%◌, ◌<◌, nat_lt, true, false, if◌then◌else◌, List, [], ◌∷◌, length}
 use Rattle.nv_plain.specs.Files.{Files, overwritten}
 use Rattle.nv_plain.specs.Pieces.{piece_of, piece_bytes}
 use Rattle.nv_plain.specs.declared.call.FileCall.{FileCall}
 use Rattle.nv_plain.specs.declared.call.FileCall.TheVariants.{Write}
 use Rattle.nv_core.specs.Words.{Sizes, PAGE}
 use Rattle.nv_core.specs.Values.{is_valid, bytes_in}
-use Rattle.nv_core.specs.Passes.{Stage, Locking, Measuring, Sizing, Checking, Ordering, Reading, Fetching, Copying, Returning, Pledging, Readying, Placing, is_read, first_page, times}
+use Rattle.nv_core.specs.Passes.{Stage, Locking, Measuring, Sizing, Checking, Ordering, Reading, Waiting, Fetching, Copying, Returning, Bounding, Starting, Scanning, Grasping, Patching, Restoring, Unlocking, Pledging, Readying, Placing, is_read, first_page, times}
 use Rattle.nv_core.specs.Order.{Values, page_bytes}
 use Rattle.nv_core.specs.Standing.{IsPage}
 use Rattle.nv_core.specs.Core.{Core}
@@ -31,6 +31,20 @@ abbrev pub Gathered : Sizes → (now : ℕ → List ℕ) → Values → FileCall
 Gathered sizes now values call fetched next =
     (page : ℕ) → IsPage sizes call page → (page < next) ⊎ (is_valid (values (PAGE page)) ≡ true) → page_bytes fetched values page ≡ now page
 
+-- The same of each page but this one.
+abbrev pub GatheredBut : Sizes → (now : ℕ → List ℕ) → Values → FileCall → (fetched : List (ℕ × List ℕ)) → (next : ℕ) → Type 0
+GatheredBut sizes now values call fetched next =
+    (page : ℕ) → IsPage sizes call page → page ≢ next → (page < next) ⊎ (is_valid (values (PAGE page)) ≡ true) → page_bytes fetched values page ≡ now page
+
+-- a read has fetched a page
+abbrev pub HasFetched : (fetched : List (ℕ × List ℕ)) → (page : ℕ) → Type 0
+HasFetched [] page = ⊥
+HasFetched (one ∷ rest) page = (one.0 ≡ page) ⊎ HasFetched rest page
+
+-- A read has fetched a page that has entries, whose pieces it still lacks; what it has of the others is right.
+abbrev pub Halfway : Sizes → (now : ℕ → List ℕ) → Values → FileCall → (fetched : List (ℕ × List ℕ)) → (page : ℕ) → Type 0
+Halfway sizes now values call fetched page = GatheredBut sizes now values call fetched page × HasFetched fetched page
+
 -- By where a pass stands: it has fetched nothing yet, or what it has gathered is right, or its call reads no byte.
 abbrev pub GatheredAt : Sizes → (now : ℕ → List ℕ) → Values → FileCall → (fetched : List (ℕ × List ℕ)) → Stage → Type 0
 GatheredAt sizes now values call fetched (Locking page) = fetched ≡ []
@@ -39,9 +53,18 @@ GatheredAt sizes now values call fetched Sizing = fetched ≡ []
 GatheredAt sizes now values call fetched Checking = fetched ≡ []
 GatheredAt sizes now values call fetched Ordering = fetched ≡ []
 GatheredAt sizes now values call fetched (Reading next) = Gathered sizes now values call fetched next
-GatheredAt sizes now values call fetched (Fetching next) = Gathered sizes now values call fetched next
-GatheredAt sizes now values call fetched (Copying next) = Gathered sizes now values call fetched next
-GatheredAt sizes now values call fetched (Returning next) = Gathered sizes now values call fetched (next + 1)
+GatheredAt sizes now values call fetched (Waiting next) = Gathered sizes now values call fetched next
+GatheredAt sizes now values call fetched (Fetching next dirty) = Gathered sizes now values call fetched next
+GatheredAt sizes now values call fetched (Copying next dirty) = Gathered sizes now values call fetched next
+GatheredAt sizes now values call fetched (Returning next false) = Gathered sizes now values call fetched (next + 1)
+GatheredAt sizes now values call fetched (Returning next true) = Halfway sizes now values call fetched next
+GatheredAt sizes now values call fetched (Bounding next) = Halfway sizes now values call fetched next
+GatheredAt sizes now values call fetched (Starting next) = Halfway sizes now values call fetched next
+GatheredAt sizes now values call fetched (Scanning next number) = Halfway sizes now values call fetched next
+GatheredAt sizes now values call fetched (Grasping next number) = Halfway sizes now values call fetched next
+GatheredAt sizes now values call fetched (Patching next number) = Halfway sizes now values call fetched next
+GatheredAt sizes now values call fetched (Restoring next number false) = Halfway sizes now values call fetched next
+GatheredAt sizes now values call fetched (Unlocking next) = Halfway sizes now values call fetched next
 GatheredAt sizes now values call fetched Placing = is_read call ≡ false
 GatheredAt sizes now values call fetched stage = Unit {0}
 

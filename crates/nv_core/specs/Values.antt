@@ -26,10 +26,12 @@ pub data Value : Type 0 where
 
 -- ---- device calls
 
--- One call on a device: a step of a part, with the room that it leaves, or a read of a store, with the bytes that it gives.
+-- One call on a device: a step of a part, with the room that it leaves; or a read, with the offset in the file and the bytes that it gives:
+-- of a store, or of the piece of the entry that a part holds.
 pub data Job : Type 0 where
   Writes : LineStep → (room : Room) → Job
   Reads : (at : ℕ) (bytes : List ℕ) → Job
+  Peeks : (at : ℕ) (bytes : List ℕ) → Job
 
 -- How it ended: well; or failed, having done its work or not, with the count that it left.
 pub data Ending : Type 0 where
@@ -54,7 +56,7 @@ part_after _ _ told = told
 -- and the room that it has then
 abbrev pub room_after : Job → Room → Room
 room_after (Writes step room) before = room
-room_after (Reads at bytes) before = before
+room_after job before = before
 
 -- what a cell keeps after a call on its device
 abbrev pub called : Job → Ending → Value → Value

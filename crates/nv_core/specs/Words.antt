@@ -139,6 +139,10 @@ was_readied word = nat_le ready (kind_of word) && nat_le (kind_of word) cleaned
 abbrev pub page_of : ℕ → ℕ
 page_of word = word / 1024
 
+-- whether its entry is of a kind and of a page
+abbrev pub is_entry_of : (kind page word : ℕ) → Bool
+is_entry_of kind page word = kind_of word == kind && page_of word == page
+
 -- ---- cells
 
 -- whether a word is a lock, which is 0 or 1

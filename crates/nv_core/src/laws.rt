@@ -1,6 +1,7 @@
+ghost use Rattle.nv_core.specs.DirtyWalks.{DirtyReadIsWalked};
 ghost use Rattle.nv_core.specs.Laws.{OpeningIsSound, EventsKeepSound, RunsAreSound};
 ghost use Rattle.nv_core.specs.Lengths.{LengthsFollowTheHistory};
-ghost use Rattle.nv_core.specs.Never.{NoPlaceBeforeTheFence, NoPageBeforeThePlace, StoppedAfterAFault, NoLeaderBeforeAFollower, NoGrowthBeforeThePlace, NoTwoWritesOfAPage, NoStopWithoutAFault, NoSeizureOfAHeldEntry, NoDrawPastTheEnd};
+ghost use Rattle.nv_core.specs.Never.{NoPlaceBeforeTheFence, NoPageBeforeThePlace, StoppedAfterAFault, NoLeaderBeforeAFollower, NoGrowthBeforeThePlace, NoTwoWritesOfAPage, NoStopWithoutAFault, NoSeizureOfAHeldEntry, NoHoldOfAnUnreadyEntry, NoEntryHeldTwice, NoOtherCleanup, NoDrawPastTheEnd};
 ghost use Rattle.nv_core.specs.Walks.{WalkBegins, FirstPageIsWord30, ReadIsWalked, WriteIsWalked, FaultIsWalked};
 ghost use Rattle.nv_core.specs.Words.{PlacesDiffer};
 
@@ -19,8 +20,9 @@ pub fn runs_are_sound()
 
 /// What no sound state allows: a place before the fence of a write's commit, a page given back before the place is drawn or
 /// before STOP is set after a fault, a leader made ready before a follower, a length that grows before its write has its
-/// place, two writes of a page in flight, STOP without a count that rose, an entry seized that isn't free, and numbers drawn
-/// past the log's end.
+/// place, two writes of a page in flight, STOP without a count that rose, an entry seized that isn't free, an entry held that
+/// isn't ready, one held by two reads, CLEANUP of a page while a read looks for its pieces, and numbers drawn past the log's
+/// end.
 pub fn no_sound_state_allows()
     ensures fence { NoPlaceBeforeTheFence }
     ensures page { NoPageBeforeThePlace }
@@ -30,6 +32,9 @@ pub fn no_sound_state_allows()
     ensures writes { NoTwoWritesOfAPage }
     ensures stop { NoStopWithoutAFault }
     ensures seizure { NoSeizureOfAHeldEntry }
+    ensures hold { NoHoldOfAnUnreadyEntry }
+    ensures twice { NoEntryHeldTwice }
+    ensures cleanup { NoOtherCleanup }
     ensures end { NoDrawPastTheEnd }
 {}
 
@@ -47,6 +52,12 @@ pub fn walks_are_runs()
     ensures read { ReadIsWalked }
     ensures write { WriteIsWalked }
     ensures fault { FaultIsWalked }
+{}
+
+/// A read by hand of a page whose entry its store lacks, on the same mount, with the words after each of its events: it takes
+/// CLEANUP, reads the store, and lays the piece of the one entry of that page over it.
+pub fn a_dirty_read_is_a_run()
+    ensures { DirtyReadIsWalked }
 {}
 
 /// After every run from the opening each LENGTH is the length of its file after the history, over the files whose lengths the

@@ -11,7 +11,7 @@ mod log;
 pub use content::{pages_are_patched, runs_keep_content};
 pub use crash::{crashes_leave_whole_writes, regions_at_rest_open, walks_survive_crashes};
 pub use laws::{
-    lengths_follow_the_history, no_sound_state_allows, runs_are_sound, walks_are_runs,
-    words_have_places_of_their_own,
+    a_dirty_read_is_a_run, lengths_follow_the_history, no_sound_state_allows, runs_are_sound,
+    walks_are_runs, words_have_places_of_their_own,
 };
 pub use log::{a_mount_opens_a_file_and_a_log, runs_keep_the_log};

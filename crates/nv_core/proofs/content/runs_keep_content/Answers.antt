@@ -1,5 +1,5 @@
 use Rattle.nv_core.proofs.PlainLaws.{PlainLaws}
-use Rattle.nv_core.proofs.KeepsContent.{opening_has_content, events_keep_content, runs_keep_content as runs_keep_content_all}
+use Rattle.nv_core.proofs.KeepsContent.{PartLaws, opening_has_content, events_keep_content, runs_keep_content as runs_keep_content_all}
 use Rattle.nv_core.proofs.content.runs_keep_content.Goals as goal
 
 pub returns : goal.returns
@@ -13,4 +13,14 @@ returns c =
       legally = c.history_goes_on.ensures.legal;
       count = c.history_goes_on.ensures.count;
     } in
-    record { opening = opening_has_content; events = events_keep_content plain; runs = runs_keep_content_all plain c.groups_follow_steps.ensures.ready }
+    let parts : PartLaws = record {
+      loads = c.images_follow_calls.ensures.now;
+      atomic = c.groups_follow_steps.ensures.atomic;
+      becomes = c.groups_follow_steps.ensures.whole;
+      ends = c.groups_follow_steps.ensures.quiet;
+      blank = c.images_follow_calls.ensures.blank;
+      lines = c.loads_follow_calls.ensures.lines;
+      ready = c.groups_follow_steps.ensures.ready;
+      one_image = c.images_follow_calls.ensures.quiet;
+    } in
+    record { opening = opening_has_content; events = events_keep_content plain parts; runs = runs_keep_content_all plain parts }

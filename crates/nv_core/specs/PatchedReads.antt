@@ -1,0 +1,40 @@
+-- Patched reads: how far a read is with a page that has entries.
+use Rattle.std.specs.Prelude.{◌≡◌, ◌≢◌, ℕ, ◌+◌, ◌-◌, true, false, List}
+use Rattle.nv_plain.specs.Files.{Files}
+use Rattle.nv_core.specs.Words.{Sizes, TAIL, ENTRY, kind_of, cleaned}
+use Rattle.nv_core.specs.Passes.{Stage, Returning, Bounding, Starting, Scanning, Grasping, Patching, Restoring, Unlocking, fetched_bytes}
+use Rattle.nv_core.specs.Core.{Core}
+use Rattle.nv_core.specs.Groups.{Log}
+use Rattle.nv_core.specs.PagesAfter.{page_in, page_now}
+use Rattle.nv_core.specs.LivePieces.{store_files}
+use Rattle.nv_core.specs.PatchedPages.{patched_from}
+
+-- what a read has fetched of a page is its store's page
+abbrev pub HasStores : Sizes → Core → (fetched : List (ℕ × List ℕ)) → (page : ℕ) → Type 0
+HasStores sizes core fetched page = fetched_bytes fetched page ≡ page_in sizes (store_files sizes core.values) page
+
+-- it is the page after the history, once overwritten by the pieces of the numbers from one on, below HEAD as the read loaded it
+abbrev pub LacksFrom : Sizes → Log → Files → Core → (fetched : List (ℕ × List ℕ)) → (head page from : ℕ) → Type 0
+LacksFrom sizes log opening core fetched head page from =
+    patched_from sizes log core page from (head - from) (fetched_bytes fetched page) ≡ page_now sizes opening core page
+
+-- or it is that page
+abbrev pub HasAll : Sizes → Files → Core → (fetched : List (ℕ × List ℕ)) → (page : ℕ) → Type 0
+HasAll sizes opening core fetched page = fetched_bytes fetched page ≡ page_now sizes opening core page
+
+-- by where it stands
+abbrev pub PatchedAt : Sizes → Log → Files → Core → (fetched : List (ℕ × List ℕ)) → (head : ℕ) → Stage → Type 0
+PatchedAt sizes log opening core fetched head (Returning page true) = HasStores sizes core fetched page
+PatchedAt sizes log opening core fetched head (Bounding page) = HasStores sizes core fetched page
+PatchedAt sizes log opening core fetched head (Starting page) = LacksFrom sizes log opening core fetched head page (core.words TAIL)
+PatchedAt sizes log opening core fetched head (Scanning page number) = LacksFrom sizes log opening core fetched head page number
+PatchedAt sizes log opening core fetched head (Grasping page number) = LacksFrom sizes log opening core fetched head page number
+PatchedAt sizes log opening core fetched head (Patching page number) = LacksFrom sizes log opening core fetched head page number
+PatchedAt sizes log opening core fetched head (Restoring page number false) = LacksFrom sizes log opening core fetched head page (number + 1)
+PatchedAt sizes log opening core fetched head (Unlocking page) = HasAll sizes opening core fetched page
+PatchedAt sizes log opening core fetched head stage = Unit {0}
+
+-- Each read is so far with its page. No entry is cleaned: a read that passes one by would lack its piece.
+pub record PatchedReads (sizes : Sizes) (log : Log) (opening : Files) (core : Core) : Type 0 where
+  pub each : (number : ℕ) → PatchedAt sizes log opening core (core.passes number).fetched (core.passes number).head (core.passes number).stage
+  pub uncleaned : (slot : ℕ) → kind_of (core.words (ENTRY slot)) ≢ cleaned
