@@ -3,19 +3,24 @@ use Rattle.std.proofs.Common.{◌≡◌, ◌≢◌, ◌⊎◌, ℕ, ◌+◌, ◌
 use Rattle.std.proofs.lemmas.Bool.{eqb-true, true≢false}
 use Rattle.nv_plain.specs.declared.call.FileCall.{FileCall}
 use Rattle.nv_plain.specs.declared.call.Reply.{Reply}
-use Rattle.nv_core.specs.Words.{Sizes, Word, STOP, ORDER, HEAD, TAIL, SIZE, LENGTH, STORE, ENTRY, PAGE, DIRTY, same, CLEANUP}
-use Rattle.nv_core.specs.Passes.{Stage, Locking, Measuring, Sizing, Checking, Ordering, Reading, Fetching, Copying, Returning, Heading, Tailing, Drawing, Seizing, Committing, Pledging, Readying, Placing, Growing, Releasing, Giving, Leaving, ReadFailing, WriteFailing, Breaking, Fault, Pass, IsOneOf, page_count, first_page, end_page, without, times, Waiting, Bounding, Starting, Scanning, Grasping, Patching, Restoring, Unlocking, PieceFailing}
-use Rattle.nv_core.specs.Deeds.{Deed, moved, move_of, Comes, Stays, Loads, Takes, Gives, Places, Stops, Draws, Seizes, Pledges, Readies, Grows, Breaks, Splits, Leaves, Joins, slot_of, Holds, Returns}
-use Rattle.nv_core.specs.Stages.{stage_after, after_load, after_take, after_give, after_stop, leaving, exceeds, after_return}
+use Rattle.nv_core.specs.Words.{Sizes, Word, STOP, ORDER, HEAD, TAIL, SIZE, LENGTH, STORE, ENTRY, PAGE, DIRTY, same, HINT, CLEANUP}
+use Rattle.nv_core.specs.Passes.{Stage, Locking, Measuring, Sizing, Checking, Ordering, Reading, Fetching, Copying, Returning, Heading, Tailing, Drawing, Seizing, Committing, Pledging, Readying, Placing, Growing, Releasing, Giving, Leaving, ReadFailing, WriteFailing, Breaking, Fault, Pass, IsOneOf, page_count, first_page, end_page, without, times, Searching, Hinting, Seeking, Robbing, Robbed, Nothing, Found, Search, Waiting, Bounding, Starting, Scanning, Grasping, Patching, Restoring, Unlocking, PieceFailing}
+use Rattle.nv_core.specs.Deeds.{Deed, moved, move_of, Comes, Stays, Loads, Takes, Gives, Places, Stops, Draws, Seizes, Pledges, Readies, Grows, Breaks, Splits, Leaves, Joins, slot_of, Turns, Hints, Holds, Returns}
+use Rattle.nv_core.specs.Stages.{stage_after, after_load, after_give, after_stop, leaving, exceeds, after_return}
 use Rattle.nv_core.specs.Stepped.{fault_of, begun}
-use Rattle.nv_core.specs.Order.{Values, Work, MayWork, MayStep, MayLoad, MayTake, MayPlace, IsDue, IsFailing}
+use Rattle.nv_core.specs.Order.{Values, Work, MayWork, MayStep, MayLoad, MayTake, MayGive, MayPlace, IsDue, IsFailing, IsMiss, JustNow, AfterTries, IsOver}
 use Rattle.nv_core.specs.Core.{Core, changes, changed, after_step, after_begin, after_work, worked, values_worked}
 use Rattle.nv_core.specs.Events.{MayFind}
-use Rattle.nv_core.specs.Broken.{HasChecked}
+use Rattle.nv_core.specs.Broken.{HasChecked, victim_held}
 use Rattle.nv_core.specs.Sound.{Sound}
 use Rattle.nv_core.proofs.Changes.{by_number}
 use Rattle.nv_core.proofs.Choices.{if_both, leaving_both, IsGivingBack, gives_back}
 use Rattle.nv_core.proofs.LockLaws.{only_holder, times_else}
+use Rattle.nv_core.specs.Holding.{one_if}
+use Rattle.nv_core.proofs.HoldingLaws.{times_less}
+use Rattle.nv_core.proofs.KeepsLocks.{given_held}
+use Rattle.nv_core.proofs.SearchLaws.{turned_at, looked_at, hinting_at, tried_at, tried_next, hinted_at}
+use Rattle.nv_core.proofs.ValueLaws.{IsUnmoving}
 
 -- ---- stages behind the load of STOP
 
@@ -36,7 +41,8 @@ before_load sizes values pass ORDER found other may is = at Ordering may tt
 before_load sizes values pass HEAD found other may is = elim may [ inl here ↦ at Heading here tt | inr here ↦ at (Bounding here.0) here.1 tt ]
 before_load sizes values pass TAIL found other may is = elim may [ inl here ↦ at Tailing here tt | inr here ↦ at (Starting here.0) here.1 tt ]
 before_load sizes values pass (ENTRY slot) found other may is = at (Scanning may.0 may.1) may.2 tt
-before_load sizes values pass (DIRTY page) found other may is = at (Reading may.0) may.1.stage tt
+before_load sizes values pass (DIRTY page) found other may is = looked_at HasChecked sizes values pass page (λ _. tt) (λ _ _. tt) may
+before_load sizes values pass (HINT buffer) found other may is = hinting_at HasChecked pass buffer (λ _ _. tt) may
 before_load sizes values pass (LENGTH file) found other may is = absurd (if_both (λ s. HasChecked s → ⊥) (exceeds pass found && not pass.sized) Sizing Checking (λ _ z. z) (λ _ z. z) is)
 before_load sizes values pass word found other may is = absurd may
 
@@ -44,12 +50,20 @@ before_load sizes values pass word found other may is = absurd may
 abbrev IsLate : Word → Type 0
 IsLate cell = ((file : ℕ) × (cell ≡ STORE file)) ⊎ ((page : ℕ) × (cell ≡ CLEANUP page))
 
-before_take : (sizes : Sizes) (pass : Pass) (cell : Word) (found : ℕ) → MayTake pass cell → HasChecked (stage_after sizes pass (Takes cell) found) → IsLate cell × HasChecked pass.stage
-before_take sizes pass (PAGE page) found may is = absurd (if_both (λ s. HasChecked s → ⊥) (found == 0) (after_take sizes pass (PAGE page)) (leaving pass.hands)
-    (λ _. if_both (λ s. HasChecked s → ⊥) (page + 1 == end_page sizes pass.call) Measuring (Locking (page + 1)) (λ _ z. z) (λ _ z. z)) (λ _. unchecked pass.hands) is)
-before_take sizes pass (SIZE file) found may is = absurd (if_both (λ s. HasChecked s → ⊥) (found == 0) Measuring (leaving pass.hands) (λ _ z. z) (λ _. unchecked pass.hands) is)
-before_take sizes pass (STORE file) found may is = (inl (file, refl), at (Fetching may.0 may.1) may.2 tt)
-before_take sizes pass (CLEANUP page) found may is = (inr (page, refl), at (Waiting page) may tt)
+-- no page of a call's own is taken behind that load
+own_page : (sizes : Sizes) (pass : Pass) (page found : ℕ) → HasChecked (if found == 0 then (if page + 1 == end_page sizes pass.call then Measuring else Locking (page + 1)) else leaving pass.hands) → ⊥
+own_page sizes pass page found = if_both (λ s. HasChecked s → ⊥) (found == 0) (if page + 1 == end_page sizes pass.call then Measuring else Locking (page + 1)) (leaving pass.hands)
+    (λ _. if_both (λ s. HasChecked s → ⊥) (page + 1 == end_page sizes pass.call) Measuring (Locking (page + 1)) (λ _ z. z) (λ _ z. z)) (λ _. unchecked pass.hands)
+
+own_size : (pass : Pass) (found : ℕ) → HasChecked (if found == 0 then Measuring else leaving pass.hands) → ⊥
+own_size pass found = if_both (λ s. HasChecked s → ⊥) (found == 0) Measuring (leaving pass.hands) (λ _ z. z) (λ _. unchecked pass.hands)
+
+before_take : (sizes : Sizes) (pass : Pass) (cell : Word) (found : ℕ) → MayTake pass cell → HasChecked (stage_after sizes pass (Takes cell) found) → HasChecked pass.stage
+before_take sizes pass (PAGE page) found may is = tried_next (λ s. HasChecked s → HasChecked pass.stage) sizes pass page found
+    (λ _ is. absurd (own_page sizes pass page found is)) (λ s is. at (Searching s.page s.tries (Seeking s.buffer page)) s.is tt) may is
+before_take sizes pass (SIZE file) found may is = absurd (own_size pass found is)
+before_take sizes pass (STORE file) found may is = at (Fetching may.0 may.1) may.2 tt
+before_take sizes pass (CLEANUP page) found may is = at (Waiting page) may tt
 before_take sizes pass cell found may is = absurd may
 
 before_give : (sizes : Sizes) (pass : Pass) (cell : Word) (stage : Stage) → IsGivingBack stage → HasChecked (after_give sizes pass cell stage) → HasChecked stage
@@ -58,6 +72,7 @@ before_give sizes pass cell Releasing may is = tt
 before_give sizes pass cell (Giving page) may is = tt
 before_give sizes pass cell (Returning page dirty) may is = tt
 before_give sizes pass cell (Unlocking page) may is = tt
+before_give sizes pass cell (Searching page tries search) may is = tt
 before_give sizes pass cell stage may is = absurd may
 
 before_place : (sizes : Sizes) (values : Values) (pass : Pass) (reply : Reply) (stage : Stage) → MayPlace sizes values pass reply stage → HasChecked stage
@@ -73,7 +88,7 @@ unstopped pass stage may is = may
 
 pub before : (sizes : Sizes) (values : Values) (pass : Pass) (found : ℕ) (deed : Deed) → IsElse deed → MayStep sizes values pass deed → HasChecked (stage_after sizes pass deed found) → HasChecked pass.stage
 before sizes values pass found (Loads word) other may is = before_load sizes values pass word found other may is
-before sizes values pass found (Takes cell) other may is = (before_take sizes pass cell found may is).1
+before sizes values pass found (Takes cell) other may is = before_take sizes pass cell found may is
 before sizes values pass found (Gives cell) other may is = before_give sizes pass cell pass.stage (gives_back pass cell pass.stage may) is
 before sizes values pass found (Places reply) other may is = before_place sizes values pass reply pass.stage may
 before sizes values pass found Stops other may is = absurd (unstopped pass pass.stage may is)
@@ -90,6 +105,8 @@ before sizes values pass found (Returns next) other may is = go may.1 may.2 (sub
     go : (failed : Bool) → pass.stage ≡ Restoring may.0 next failed → HasChecked (after_return sizes pass (Restoring may.0 next failed)) → HasChecked pass.stage
     go true here is = absurd (unchecked (without (ENTRY (slot_of sizes next)) pass.hands) is)
     go false here is = at (Restoring may.0 next false) here tt
+before sizes values pass found (Turns page) other may is = turned_at HasChecked sizes values pass page (λ _. tt) (λ _ _. tt) may
+before sizes values pass found (Hints buffer page) other may is = hinted_at HasChecked values pass buffer page (λ _. tt) may
 before sizes values pass found deed other may is = absurd may
 
 -- a call that begins hasn't loaded STOP, and one that makes a device call has
@@ -104,6 +121,81 @@ worked_checked sizes values pass work due = go pass.stage due
     go (Copying page dirty) due = tt
     go (Patching page number) due = tt
     go stage due = absurd due
+
+-- ---- victims
+
+-- only a pass that gives a victim back holds one
+abbrev RobsNone : Stage → Type 0
+RobsNone stage = (page : ℕ) → victim_held stage page ≡ 0
+
+robs_none : (stage : Stage) {other : Stage} → other ≡ stage → RobsNone stage → RobsNone other
+robs_none stage e is = subst RobsNone (sym e) is
+
+missed_none : (sizes : Sizes) (values : Values) (pass : Pass) (page tries : ℕ) → IsMiss sizes values pass page tries → RobsNone pass.stage
+missed_none sizes values pass page tries (JustNow from miss none) = robs_none (Reading from) miss.stage (λ _. refl)
+missed_none sizes values pass page tries (AfterTries search is over) = robs_none (Searching page tries search) is (go search over)
+  where
+    go : (search : Search) → IsOver (values (PAGE page)) search → RobsNone (Searching page tries search)
+    go (Robbed buffer) over = λ _. refl
+    go Nothing over = λ _. refl
+    go Found over = λ _. refl
+    go search over = absurd over
+
+load_none : (sizes : Sizes) (values : Values) (pass : Pass) (word : Word) → MayLoad sizes values pass word → RobsNone pass.stage
+load_none sizes values pass (LENGTH file) may = robs_none Measuring may.0 (λ _. refl)
+load_none sizes values pass STOP may = robs_none Checking may (λ _. refl)
+load_none sizes values pass ORDER may = robs_none Ordering may (λ _. refl)
+load_none sizes values pass HEAD may = elim may [ inl here ↦ robs_none Heading here (λ _. refl) | inr here ↦ robs_none (Bounding here.0) here.1 (λ _. refl) ]
+load_none sizes values pass TAIL may = elim may [ inl here ↦ robs_none Tailing here (λ _. refl) | inr here ↦ robs_none (Starting here.0) here.1 (λ _. refl) ]
+load_none sizes values pass (ENTRY slot) may = robs_none (Scanning may.0 may.1) may.2 (λ _. refl)
+load_none sizes values pass (DIRTY page) may = missed_none sizes values pass page may.tries may.miss
+load_none sizes values pass (HINT buffer) may = robs_none (Searching may.page may.tries (Hinting buffer)) may.is (λ _. refl)
+load_none sizes values pass word may = absurd may
+
+take_none : (pass : Pass) (cell : Word) → MayTake pass cell → RobsNone pass.stage
+take_none pass (PAGE page) may = tried_at RobsNone pass page (λ _. refl) (λ _ _ _ _. refl) may
+take_none pass (SIZE file) may = robs_none Sizing may.0 (λ _. refl)
+take_none pass (STORE file) may = robs_none (Fetching may.0 may.1) may.2 (λ _. refl)
+take_none pass (CLEANUP page) may = robs_none (Waiting page) may (λ _. refl)
+take_none pass cell may = absurd may
+
+place_none : (sizes : Sizes) (values : Values) (pass : Pass) (reply : Reply) (stage : Stage) → MayPlace sizes values pass reply stage → RobsNone stage
+place_none sizes values pass reply Placing may = λ _. refl
+place_none sizes values pass reply (Reading page) may = λ _. refl
+place_none sizes values pass reply stage may = absurd may
+
+fail_none : (stage : Stage) → IsFailing stage → RobsNone stage
+fail_none (ReadFailing page dirty) may = λ _. refl
+fail_none (PieceFailing page next) may = λ _. refl
+fail_none WriteFailing may = λ _. refl
+fail_none stage may = absurd may
+
+step_none : (sizes : Sizes) (values : Values) (pass : Pass) (deed : Deed) → IsUnmoving deed → MayStep sizes values pass deed → RobsNone pass.stage
+step_none sizes values pass (Loads word) still may = load_none sizes values pass word may
+step_none sizes values pass (Takes cell) still may = take_none pass cell may
+step_none sizes values pass (Gives cell) still may = absurd still
+step_none sizes values pass (Places reply) still may = place_none sizes values pass reply pass.stage may
+step_none sizes values pass Stops still may = fail_none pass.stage may
+step_none sizes values pass Draws still may = robs_none Drawing may (λ _. refl)
+step_none sizes values pass (Seizes next) still may = robs_none (Seizing next) may (λ _. refl)
+step_none sizes values pass (Pledges page) still may = robs_none (Pledging page) may (λ _. refl)
+step_none sizes values pass (Readies next) still may = robs_none (Readying next) may (λ _. refl)
+step_none sizes values pass Grows still may = robs_none Growing may (λ _. refl)
+step_none sizes values pass (Breaks next) still may = robs_none (Breaking next) may (λ _. refl)
+step_none sizes values pass (Holds next) still may = robs_none (Grasping may.0 next) may.1 (λ _. refl)
+step_none sizes values pass (Returns next) still may = robs_none (Restoring may.0 next may.1) may.2 (λ _. refl)
+step_none sizes values pass (Turns page) still may = missed_none sizes values pass page may.tries may.miss
+step_none sizes values pass (Hints buffer page) still may = robs_none (Searching page may.tries (Robbed buffer)) may.is (λ _. refl)
+step_none sizes values pass deed still may = absurd may
+
+-- how often a pass holds a cell as a victim's
+abbrev pub lent : Stage → Word → ℕ
+lent stage (PAGE page) = victim_held stage page
+lent stage cell = 0
+
+lent_none : (stage : Stage) → RobsNone stage → (cell : Word) → lent stage cell ≡ 0
+lent_none stage none (PAGE page) = none page
+lent_none stage none cell = refl
 
 -- ---- cells that a pass takes before it loads STOP
 
@@ -122,17 +214,56 @@ taken_less : (pass : Pass) (cell other : Word) (found : ℕ) → IsTakenBefore c
 taken_less pass cell other found early is = if_both (λ m. times cell (moved m pass.hands) ≤ times cell pass.hands) (found == 0) (Comes other) Stays
     (λ _. let e = times_else cell other pass.hands (λ e. elim is [ inl late ↦ early.store late.0 (e ∙ late.1) | inr late ↦ early.cleanup late.0 (e ∙ late.1) ]) in omega (arith, e)) (λ _. omega arith)
 
--- behind that load it takes no more of them
-none_taken : (sizes : Sizes) (values : Values) (pass : Pass) (cell : Word) (found : ℕ) (deed : Deed) → IsTakenBefore cell → MayStep sizes values pass deed → HasChecked (stage_after sizes pass deed found)
-    → times cell (moved (move_of sizes deed found) pass.hands) ≤ times cell pass.hands
-none_taken sizes values pass cell found (Takes other) early may is = taken_less pass cell other found early (before_take sizes pass other found may is).0
-none_taken sizes values pass cell found (Gives other) early may is = fewer cell other pass.hands
-none_taken sizes values pass cell found (Seizes next) early may is = let e = times_else cell (ENTRY (slot_of sizes next)) pass.hands (early.entry (slot_of sizes next)) in omega (arith, e)
-none_taken sizes values pass cell found (Readies next) early may is = fewer cell (ENTRY (slot_of sizes next)) pass.hands
-none_taken sizes values pass cell found (Breaks next) early may is = fewer cell (ENTRY (slot_of sizes next)) pass.hands
-none_taken sizes values pass cell found (Holds next) early may is = let e = times_else cell (ENTRY (slot_of sizes next)) pass.hands (early.entry (slot_of sizes next)) in omega (arith, e)
-none_taken sizes values pass cell found (Returns next) early may is = fewer cell (ENTRY (slot_of sizes next)) pass.hands
-none_taken sizes values pass cell found deed early may is = omega arith
+-- behind that load it takes no more of them, but as a victim's
+taken_more : (sizes : Sizes) (pass : Pass) (cell other : Word) (found : ℕ) → IsTakenBefore cell → MayTake pass other → HasChecked (stage_after sizes pass (Takes other) found)
+    → times cell (moved (if found == 0 then Comes other else Stays) pass.hands) ≤ times cell pass.hands + lent (stage_after sizes pass (Takes other) found) cell
+taken_more sizes pass cell (PAGE page) found early may is =
+    tried_next (λ s. HasChecked s → times cell (moved (if found == 0 then Comes (PAGE page) else Stays) pass.hands) ≤ times cell pass.hands + lent s cell) sizes pass page found
+    (λ _ is. absurd (own_page sizes pass page found is)) (λ s _. victim s.page s.tries s.buffer (found == 0)) may is
+  where
+    one_more : (missed tries buffer : ℕ) (cell : Word) → times cell (PAGE page ∷ pass.hands) ≤ times cell pass.hands + lent (Searching missed tries (Robbing buffer page)) cell
+    one_more missed tries buffer (PAGE own) = omega arith
+    one_more missed tries buffer cell = omega arith
+
+    victim : (missed tries buffer : ℕ) (free : Bool) → times cell (moved (if free then Comes (PAGE page) else Stays) pass.hands)
+        ≤ times cell pass.hands + lent (if free then Searching missed tries (Robbing buffer page) else Searching missed tries Nothing) cell
+    victim missed tries buffer true = one_more missed tries buffer cell
+    victim missed tries buffer false = omega arith
+taken_more sizes pass cell (SIZE file) found early may is = absurd (own_size pass found is)
+taken_more sizes pass cell (STORE file) found early may is = let less = taken_less pass cell (STORE file) found early (inl (file, refl)) in omega (arith, less)
+taken_more sizes pass cell (CLEANUP page) found early may is = let less = taken_less pass cell (CLEANUP page) found early (inr (page, refl)) in omega (arith, less)
+taken_more sizes pass cell other found early may is = absurd may
+
+given_less : (sizes : Sizes) (pass : Pass) (cell other : Word) (stage : Stage) → 1 ≤ times other pass.hands → MayGive pass other stage
+    → times cell (without other pass.hands) + lent stage cell ≤ times cell pass.hands + lent (after_give sizes pass other stage) cell
+given_less sizes pass cell (PAGE page) (Searching missed tries (Robbing buffer victim)) some may =
+    subst (λ v. times cell (without (PAGE page) pass.hands) + lent (Searching missed tries (Robbing buffer v)) cell ≤ times cell pass.hands + lent (Searching missed tries (Robbed buffer)) cell) may
+    (one_less cell (times_less cell (PAGE page) pass.hands some))
+  where
+    one_less : (cell : Word) → times cell pass.hands ≡ one_if (same cell (PAGE page)) + times cell (without (PAGE page) pass.hands)
+        → times cell (without (PAGE page) pass.hands) + lent (Searching missed tries (Robbing buffer page)) cell ≤ times cell pass.hands + lent (Searching missed tries (Robbed buffer)) cell
+    one_less (PAGE own) e = omega (arith, e)
+    one_less cell e = omega (arith, e)
+given_less sizes pass cell other (Searching missed tries (Robbing buffer victim)) some may = absurd may
+given_less sizes pass cell other stage some may = let less = fewer cell other pass.hands in let none = lent_none stage (λ _. refl) cell in omega (arith, less, none)
+
+none_taken : (sizes : Sizes) (values : Values) (pass : Pass) (cell : Word) (found : ℕ) (deed : Deed) → IsTakenBefore cell → ((other : Word) → MayGive pass other pass.stage → 1 ≤ times other pass.hands)
+    → MayStep sizes values pass deed → HasChecked (stage_after sizes pass deed found)
+    → times cell (moved (move_of sizes deed found) pass.hands) + lent pass.stage cell ≤ times cell pass.hands + lent (stage_after sizes pass deed found) cell
+none_taken sizes values pass cell found (Takes other) early held may is =
+    let more = taken_more sizes pass cell other found early may is in let none = lent_none pass.stage (take_none pass other may) cell in omega (arith, more, none)
+none_taken sizes values pass cell found (Gives other) early held may is = given_less sizes pass cell other pass.stage (held other may) may
+none_taken sizes values pass cell found (Seizes next) early held may is =
+    let e = times_else cell (ENTRY (slot_of sizes next)) pass.hands (early.entry (slot_of sizes next)) in let none = lent_none pass.stage (step_none sizes values pass (Seizes next) tt may) cell in omega (arith, e, none)
+none_taken sizes values pass cell found (Readies next) early held may is =
+    let less = fewer cell (ENTRY (slot_of sizes next)) pass.hands in let none = lent_none pass.stage (step_none sizes values pass (Readies next) tt may) cell in omega (arith, less, none)
+none_taken sizes values pass cell found (Breaks next) early held may is =
+    let less = fewer cell (ENTRY (slot_of sizes next)) pass.hands in let none = lent_none pass.stage (step_none sizes values pass (Breaks next) tt may) cell in omega (arith, less, none)
+none_taken sizes values pass cell found (Holds next) early held may is =
+    let e = times_else cell (ENTRY (slot_of sizes next)) pass.hands (early.entry (slot_of sizes next)) in let none = lent_none pass.stage (step_none sizes values pass (Holds next) tt may) cell in omega (arith, e, none)
+none_taken sizes values pass cell found (Returns next) early held may is =
+    let less = fewer cell (ENTRY (slot_of sizes next)) pass.hands in let none = lent_none pass.stage (step_none sizes values pass (Returns next) tt may) cell in omega (arith, less, none)
+none_taken sizes values pass cell found deed early held may is = let none = lent_none pass.stage (step_none sizes values pass deed tt may) cell in omega (arith, none)
 
 -- a load of STOP that goes on found it 0
 pub found_open : (hands : List Word) (found : ℕ) → HasChecked (if found == 0 then Ordering else leaving hands) → found ≡ 0
@@ -153,18 +284,25 @@ some (one ∷ more) fault is = λ e. true≢false (ap is_cons e)
     is_cons [] = false
     is_cons (one ∷ more) = true
 
+-- a pass that makes a device call holds no victim
+worked_lent : (sizes : Sizes) (values : Values) (pass : Pass) (work : Work) (stage : Stage) → IsDue sizes values pass work stage → (cell : Word) → lent stage cell ≡ 0
+worked_lent sizes values pass work (Committing calls) due = lent_none (Committing calls) (λ _. refl)
+worked_lent sizes values pass work (Copying page dirty) due = lent_none (Copying page dirty) (λ _. refl)
+worked_lent sizes values pass work (Patching page next) due = lent_none (Patching page next) (λ _. refl)
+worked_lent sizes values pass work stage due = absurd due
+
 -- ---- cells that a fault bars
 
 -- a pass that has loaded STOP as 0 holds no cell that a fault bars
 module _ (Bars : Fault → Word → Type 0) (early : (fault : Fault) (cell : Word) → Bars fault cell → IsTakenBefore cell) where
   abbrev AreBarred : Core → Type 0
-  AreBarred core = (n m : ℕ) (cell : Word) (fault : Fault) → IsOneOf (core.passes n).faulted fault → Bars fault cell → HasChecked (core.passes m).stage → times cell (core.passes m).hands ≡ 0
+  AreBarred core = (n m : ℕ) (cell : Word) (fault : Fault) → IsOneOf (core.passes n).faulted fault → Bars fault cell → HasChecked (core.passes m).stage → times cell (core.passes m).hands ≤ lent (core.passes m).stage cell
 
   -- of a fault that there was before the step
   old_barred : (sizes : Sizes) (first : Values) (by : ℕ) (core : Core) (found : ℕ) (deed : Deed) → Sound sizes first core → AreBarred core → MayFind sizes by core deed found
       → (n : ℕ) (cell : Word) (fault : Fault) → IsOneOf (core.passes n).faulted fault → Bars fault cell
-      → HasChecked (changed sizes by core deed found).stage → times cell (changed sizes by core deed found).hands ≡ 0
-  old_barred sizes first by core found Splits sound was may n cell fault is at checked = refl
+      → HasChecked (changed sizes by core deed found).stage → times cell (changed sizes by core deed found).hands ≤ lent (changed sizes by core deed found).stage cell
+  old_barred sizes first by core found Splits sound was may n cell fault is at checked = omega arith
   old_barred sizes first by core found (Leaves other) sound was may n cell fault is at checked = was n by cell fault is at checked
   old_barred sizes first by core found (Joins number) sound was may n cell fault is at checked = was n by cell fault is at checked
   old_barred sizes first by core found (Loads STOP) sound was may n cell fault is at checked =
@@ -172,42 +310,42 @@ module _ (Bars : Fault → Word → Type 0) (early : (fault : Fault) (cell : Wor
   old_barred sizes first by core found Stops sound was may n cell fault is at checked = absurd (unstopped (core.passes by) (core.passes by).stage may.may checked)
   old_barred sizes first by core found deed sound was may n cell fault is at checked =
       let none = was n by cell fault is at (before sizes core.values (core.passes by) found deed tt may.may checked) in
-      let less = none_taken sizes core.values (core.passes by) cell found deed (early fault cell at) may.may checked in omega (arith, none, less)
+      let less = none_taken sizes core.values (core.passes by) cell found deed (early fault cell at) (λ other gives. given_held sizes (core.passes by) other (core.passes by).stage (sound.standing by).at (sound.holding by).locks gives) may.may checked in omega (arith, none, less)
 
   -- a pass that fails holds what its fault will bar
   pub barred_step : (sizes : Sizes) (first : Values) (by : ℕ) (core : Core) (deed : Deed) (found : ℕ) → Sound sizes first core → MayFind sizes by core deed found
       → (IsFailing (core.passes by).stage → (cell : Word) → Bars (fault_of (core.passes by)) cell → times cell (core.passes by).hands ≡ 1) → AreBarred core → AreBarred (after_step sizes by deed found core)
   barred_step sizes first by core deed found sound may holds was n m cell fault =
-      by_number (λ n (p : Pass). IsOneOf p.faulted fault → Bars fault cell → HasChecked ((after_step sizes by deed found core).passes m).stage → times cell ((after_step sizes by deed found core).passes m).hands ≡ 0)
+      by_number (λ n (p : Pass). IsOneOf p.faulted fault → Bars fault cell → HasChecked ((after_step sizes by deed found core).passes m).stage → times cell ((after_step sizes by deed found core).passes m).hands ≤ lent ((after_step sizes by deed found core).passes m).stage cell)
       core.passes (changes by core.made deed) (changed sizes by core deed found)
       (λ is at. elim (old_or_new sizes by core found deed fault is) [ inl old ↦ of_old by old at | inr new ↦ of_new deed may new.0 (subst (λ f. Bars f cell) new.1 at) ])
       (λ n ne is at. of_old n is at) n
     where
-      of_old : (n : ℕ) → IsOneOf (core.passes n).faulted fault → Bars fault cell → HasChecked ((after_step sizes by deed found core).passes m).stage → times cell ((after_step sizes by deed found core).passes m).hands ≡ 0
-      of_old n is at = by_number (λ m (p : Pass). HasChecked p.stage → times cell p.hands ≡ 0) core.passes (changes by core.made deed) (changed sizes by core deed found)
+      of_old : (n : ℕ) → IsOneOf (core.passes n).faulted fault → Bars fault cell → HasChecked ((after_step sizes by deed found core).passes m).stage → times cell ((after_step sizes by deed found core).passes m).hands ≤ lent ((after_step sizes by deed found core).passes m).stage cell
+      of_old n is at = by_number (λ m (p : Pass). HasChecked p.stage → times cell p.hands ≤ lent p.stage cell) core.passes (changes by core.made deed) (changed sizes by core deed found)
           (old_barred sizes first by core found deed sound was may n cell fault is at) (λ m ne. was n m cell fault is at) m
 
-      of_new : (deed : Deed) → MayFind sizes by core deed found → deed ≡ Stops → Bars (fault_of (core.passes by)) cell → HasChecked ((after_step sizes by deed found core).passes m).stage → times cell ((after_step sizes by deed found core).passes m).hands ≡ 0
-      of_new deed may is at = subst (λ d. MayFind sizes by core d found → HasChecked ((after_step sizes by d found core).passes m).stage → times cell ((after_step sizes by d found core).passes m).hands ≡ 0) (sym is) stops may
+      of_new : (deed : Deed) → MayFind sizes by core deed found → deed ≡ Stops → Bars (fault_of (core.passes by)) cell → HasChecked ((after_step sizes by deed found core).passes m).stage → times cell ((after_step sizes by deed found core).passes m).hands ≤ lent ((after_step sizes by deed found core).passes m).stage cell
+      of_new deed may is at = subst (λ d. MayFind sizes by core d found → HasChecked ((after_step sizes by d found core).passes m).stage → times cell ((after_step sizes by d found core).passes m).hands ≤ lent ((after_step sizes by d found core).passes m).stage cell) (sym is) stops may
         where
-          stops : MayFind sizes by core Stops found → HasChecked ((after_step sizes by Stops found core).passes m).stage → times cell ((after_step sizes by Stops found core).passes m).hands ≡ 0
-          stops may = by_number (λ m (p : Pass). HasChecked p.stage → times cell p.hands ≡ 0) core.passes by (changed sizes by core Stops found)
+          stops : MayFind sizes by core Stops found → HasChecked ((after_step sizes by Stops found core).passes m).stage → times cell ((after_step sizes by Stops found core).passes m).hands ≤ lent ((after_step sizes by Stops found core).passes m).stage cell
+          stops may = by_number (λ m (p : Pass). HasChecked p.stage → times cell p.hands ≤ lent p.stage cell) core.passes by (changed sizes by core Stops found)
               (λ checked. absurd (unstopped (core.passes by) (core.passes by).stage may.may checked))
-              (λ m ne _. (only_holder (sound.locks.keyed cell) by (let one = holds may.may cell at in omega (arith, one))).2 m ne) m
+              (λ m ne _. let none = (only_holder (sound.locks.keyed cell) by (let one = holds may.may cell at in omega (arith, one))).2 m ne in omega (arith, none)) m
 
   -- what gives a pass no fault, and hands and a stage behind that load only where it had them
-  barred_one : (core : Core) (by : ℕ) (pass : Pass) (values : Values) → pass.faulted ≡ (core.passes by).faulted → (HasChecked pass.stage → HasChecked (core.passes by).stage × (pass.hands ≡ (core.passes by).hands)) → AreBarred core
+  barred_one : (core : Core) (by : ℕ) (pass : Pass) (values : Values) → pass.faulted ≡ (core.passes by).faulted → (HasChecked pass.stage → HasChecked (core.passes by).stage × (pass.hands ≡ (core.passes by).hands) × ((cell : Word) → lent (core.passes by).stage cell ≡ 0)) → AreBarred core
       → AreBarred record core { values = values; passes = (λ n. if n == by then pass else core.passes n) }
   barred_one core by pass values faults stays was n m cell fault =
-      by_number (λ n (p : Pass). IsOneOf p.faulted fault → Bars fault cell → HasChecked (if m == by then pass else core.passes m).stage → times cell (if m == by then pass else core.passes m).hands ≡ 0)
+      by_number (λ n (p : Pass). IsOneOf p.faulted fault → Bars fault cell → HasChecked (if m == by then pass else core.passes m).stage → times cell (if m == by then pass else core.passes m).hands ≤ lent (if m == by then pass else core.passes m).stage cell)
       core.passes by pass (λ is. of_old by (subst (λ f. IsOneOf f fault) faults is)) (λ n ne. of_old n) n
     where
-      of_old : (n : ℕ) → IsOneOf (core.passes n).faulted fault → Bars fault cell → HasChecked (if m == by then pass else core.passes m).stage → times cell (if m == by then pass else core.passes m).hands ≡ 0
-      of_old n is at = by_number (λ m (p : Pass). HasChecked p.stage → times cell p.hands ≡ 0) core.passes by pass
-          (λ checked. ap (times cell) (stays checked).1 ∙ was n by cell fault is at (stays checked).0) (λ m ne. was n m cell fault is at) m
+      of_old : (n : ℕ) → IsOneOf (core.passes n).faulted fault → Bars fault cell → HasChecked (if m == by then pass else core.passes m).stage → times cell (if m == by then pass else core.passes m).hands ≤ lent (if m == by then pass else core.passes m).stage cell
+      of_old n is at = by_number (λ m (p : Pass). HasChecked p.stage → times cell p.hands ≤ lent p.stage cell) core.passes by pass
+          (λ checked. let same = ap (times cell) (stays checked).1 in let old = was n by cell fault is at (stays checked).0 in let none = (stays checked).2 cell in omega (arith, same, old, none)) (λ m ne. was n m cell fault is at) m
 
   pub barred_begin : (sizes : Sizes) (by : ℕ) (core : Core) (call : FileCall) → AreBarred core → AreBarred (after_begin sizes by call core)
   barred_begin sizes by core call = barred_one core by (begun sizes call (core.passes by)) core.values refl (λ checked. absurd (first_unchecked sizes call checked))
 
   pub barred_work : (sizes : Sizes) (by : ℕ) (core : Core) (work : Work) → MayWork sizes core.values (core.passes by) work → AreBarred core → AreBarred (after_work sizes by work core)
-  barred_work sizes by core work may = barred_one core by (worked sizes work (core.passes by)) (values_worked (core.passes by) work core.values) refl (λ checked. (worked_checked sizes core.values (core.passes by) work may.due, refl))
+  barred_work sizes by core work may = barred_one core by (worked sizes work (core.passes by)) (values_worked (core.passes by) work core.values) refl (λ checked. (worked_checked sizes core.values (core.passes by) work may.due, refl, worked_lent sizes core.values (core.passes by) work (core.passes by).stage may.due))

@@ -1,20 +1,21 @@
 -- Buffers: what a step leaves of what its pass's pages have, and of what a read has gathered.
-use Rattle.std.proofs.Common.{◌≡◌, ℕ, ◌+◌, ◌^◌, ◌<◌, ◌≤◌, ◌==◌, nat_lt, nat_le, not, ◌&&◌, true, false, if◌then◌else◌, List, [], ◌∷◌, inl, inr, refl, sym, ap, subst, ◌∙◌, arith}
-use Rattle.std.proofs.lemmas.Bool.{cases_lt}
+use Rattle.std.proofs.Common.{◌≡◌, ◌≢◌, ℕ, ◌+◌, ◌^◌, ◌<◌, ◌≤◌, ◌==◌, nat_lt, nat_le, not, ◌&&◌, true, false, if◌then◌else◌, List, [], ◌∷◌, inl, inr, refl, sym, ap, subst, ◌∙◌, arith}
+use Rattle.std.proofs.lemmas.Bool.{cases_lt, eq-eqb, ne_eqb}
 use Rattle.nv_plain.specs.declared.call.FileCall.{FileCall}
-use Rattle.nv_core.specs.Words.{Sizes, Word, STOP, ORDER, HEAD, TAIL, SIZE, LENGTH, STORE, ENTRY, PAGE, CLEANUP, DIRTY, ready, is_entry_of, same}
-use Rattle.nv_core.specs.Passes.{Stage, Idle, Locking, Measuring, Sizing, Checking, Ordering, Reading, Waiting, Fetching, Copying, Returning, Bounding, Starting, Scanning, Grasping, Patching, Restoring, Unlocking, Heading, Tailing, Drawing, Seizing, Committing, Pledging, Readying, Placing, Growing, Releasing, Giving, Leaving, ReadFailing, PieceFailing, WriteFailing, Breaking, Pass, IsLastTaken, is_write, is_read, page_count, first_page, end_page, without, times}
-use Rattle.nv_core.specs.Deeds.{Deed, Loads, Takes, Gives, Places, Stops, Draws, Seizes, Pledges, Readies, Grows, Breaks, Holds, Returns, slot_of, move_of, moved}
-use Rattle.nv_core.specs.Stages.{stage_after, after_load, after_take, after_give, after_stop, after_head, after_tail, after_look, after_hold, after_return, scanning, leaving, giving, ending, ordered, copying, exceeds}
+use Rattle.nv_core.specs.Words.{Sizes, Word, STOP, ORDER, HEAD, TAIL, SIZE, LENGTH, STORE, ENTRY, PAGE, CLEANUP, DIRTY, ready, is_entry_of, same, HINT}
+use Rattle.nv_core.specs.Passes.{Stage, Idle, Measuring, Sizing, Checking, Ordering, Reading, Waiting, Fetching, Copying, Returning, Bounding, Starting, Scanning, Grasping, Patching, Restoring, Unlocking, Heading, Tailing, Drawing, Seizing, Committing, Pledging, Readying, Placing, Growing, Releasing, Giving, Leaving, ReadFailing, PieceFailing, WriteFailing, Breaking, Pass, IsLastTaken, is_write, is_read, page_count, first_page, end_page, without, times, Searching, Robbing, Search}
+use Rattle.nv_core.specs.Deeds.{Deed, Loads, Takes, Gives, Places, Stops, Draws, Seizes, Pledges, Readies, Grows, Breaks, Holds, Returns, slot_of, move_of, moved, Turns, Hints}
+use Rattle.nv_core.specs.Stages.{stage_after, after_load, after_give, after_stop, after_head, after_tail, after_look, after_hold, after_return, scanning, leaving, giving, ending, ordered, copying, exceeds}
 use Rattle.nv_core.specs.Order.{Values, MayStep, MayLoad, MayTake, MayGive, IsFailing}
-use Rattle.nv_core.specs.Standing.{IsPage}
+use Rattle.nv_core.specs.Standing.{IsPage, StandsAt, IsElsewhere}
 use Rattle.nv_core.specs.Holding.{one_if, is_among, HoldsLocks}
 use Rattle.nv_core.specs.ValidBuffers.{patched_page, with_own}
 use Rattle.nv_core.proofs.Changes.{differ}
-use Rattle.nv_core.proofs.Choices.{if_both, leaving_both, IsGivingBack, gives_back}
+use Rattle.nv_core.proofs.Choices.{if_both, when_true, when_false, leaving_both, IsGivingBack, gives_back, page_tried}
 use Rattle.nv_core.proofs.LockLaws.{times_here, times_else}
 use Rattle.nv_core.proofs.HoldingLaws.{among_in, among_below, among_above}
 use Rattle.nv_core.proofs.FileLaws.{own_none}
+use Rattle.nv_core.proofs.SearchLaws.{turned_at, looked_at, hinting_at, hinting_next, tried_at, hinted_at}
 
 -- ---- which pages a pass holds
 
@@ -40,6 +41,13 @@ IsWhole (Readying number) = Unit {0}
 IsWhole Placing = Unit {0}
 IsWhole stage = ⊥
 
+-- the victim of a search is no page of the call
+pub not_own : (sizes : Sizes) (call : FileCall) (buffer victim page : ℕ) → IsElsewhere sizes call (Robbing buffer victim) → IsPage sizes call page → page ≢ victim
+not_own sizes call buffer victim page other is e =
+    let inside : one_if (is_among (first_page sizes call) (end_page sizes call) page) ≡ 1 = among_in (first_page sizes call) (end_page sizes call) page is.0 is.1 in
+    let outside : one_if (is_among (first_page sizes call) (end_page sizes call) victim) ≡ 0 = when_false (is_among (first_page sizes call) (end_page sizes call) victim) 1 0 other in
+    let same = ap (λ p. one_if (is_among (first_page sizes call) (end_page sizes call) p)) e in omega (arith, inside, outside, same)
+
 whole_pages : (sizes : Sizes) (pass : Pass) (stage : Stage) → IsWhole stage → HoldsLocks sizes pass stage → (page : ℕ) → times (PAGE page) pass.hands ≡ one_if (is_among (first_page sizes pass.call) (end_page sizes pass.call) page)
 whole_pages sizes pass Ordering whole held page = held (PAGE page) (λ slot. differ (PAGE page) (ENTRY slot) refl)
 whole_pages sizes pass (Reading next) whole held page = held (PAGE page) (λ slot. differ (PAGE page) (ENTRY slot) refl)
@@ -60,6 +68,13 @@ whole_pages sizes pass (Pledging next) whole held page = held (PAGE page) (λ sl
 whole_pages sizes pass (Readying number) whole held page = held (PAGE page) (λ slot. differ (PAGE page) (ENTRY slot) refl)
 whole_pages sizes pass Placing whole held page = held (PAGE page) (λ slot. differ (PAGE page) (ENTRY slot) refl)
 whole_pages sizes pass stage whole held page = absurd whole
+
+-- one in a search holds them too
+pub searching_holds : (sizes : Sizes) (pass : Pass) (missed tries : ℕ) (search : Search) → StandsAt sizes pass (Searching missed tries search) → HoldsLocks sizes pass (Searching missed tries search) → (page : ℕ) → IsPage sizes pass.call page → times (PAGE page) pass.hands ≡ 1
+searching_holds sizes pass missed tries (Robbing buffer victim) stands held page is =
+    let a = held (PAGE page) (λ slot. differ (PAGE page) (ENTRY slot) refl) in let b = among_in (first_page sizes pass.call) (end_page sizes pass.call) page is.0 is.1 in
+    let c : one_if (page == victim) ≡ 0 = when_false (page == victim) 1 0 (ne_eqb page victim (not_own sizes pass.call buffer victim page stands.2 is)) in omega (arith, a, b, c)
+searching_holds sizes pass missed tries search stands held page is = held (PAGE page) (λ slot. differ (PAGE page) (ENTRY slot) refl) ∙ among_in (first_page sizes pass.call) (end_page sizes pass.call) page is.0 is.1
 
 pub whole_holds : (sizes : Sizes) (pass : Pass) (stage : Stage) → IsWhole stage → HoldsLocks sizes pass stage → (page : ℕ) → IsPage sizes pass.call page → times (PAGE page) pass.hands ≡ 1
 whole_holds sizes pass stage whole held page is = whole_pages sizes pass stage whole held page ∙ among_in (first_page sizes pass.call) (end_page sizes pass.call) page is.0 is.1
@@ -84,6 +99,9 @@ pub page_given : (sizes : Sizes) (pass : Pass) (page : ℕ) (stage : Stage) → 
 page_given sizes pass page (Giving next) below held may =
     let a = held (PAGE page) (λ slot. differ (PAGE page) (ENTRY slot) refl) in
     let b = subst (λ p. one_if (is_among next (end_page sizes pass.call) p) ≡ 1) (sym may) (among_in next (end_page sizes pass.call) next (omega arith) (below next refl)) in omega (arith, a, b)
+page_given sizes pass page (Searching missed tries (Robbing buffer victim)) below held may =
+    let a = held (PAGE page) (λ slot. differ (PAGE page) (ENTRY slot) refl) in
+    let b : one_if (page == victim) ≡ 1 = when_true (page == victim) 1 0 (eq-eqb page victim may) in omega (arith, a, b)
 page_given sizes pass page Leaving below held may = last_held (PAGE page) pass.hands may
 page_given sizes pass page stage below held may = absurd may
 
@@ -127,6 +145,7 @@ giving_back Releasing back = tt
 giving_back (Giving page) back = tt
 giving_back (Returning page dirty) back = tt
 giving_back (Unlocking page) back = tt
+giving_back (Searching page tries search) back = tt
 giving_back stage back = absurd back
 
 -- the steps that neither place, pledge nor ready
@@ -157,11 +176,12 @@ load_before sizes values pass ORDER may = at Ordering may tt
 load_before sizes values pass HEAD may = elim may [ inl is ↦ at Heading is tt | inr is ↦ at (Bounding is.0) is.1 tt ]
 load_before sizes values pass TAIL may = elim may [ inl is ↦ at Tailing is tt | inr is ↦ at (Starting is.0) is.1 tt ]
 load_before sizes values pass (ENTRY slot) may = at (Scanning may.0 may.1) may.2 tt
-load_before sizes values pass (DIRTY page) may = at (Reading may.0) may.1.stage tt
+load_before sizes values pass (DIRTY page) may = looked_at IsUnpatched sizes values pass page (λ _. tt) (λ _ _. tt) may
+load_before sizes values pass (HINT buffer) may = hinting_at IsUnpatched pass buffer (λ _ _. tt) may
 load_before sizes values pass word may = absurd may
 
 take_before : (pass : Pass) (cell : Word) → MayTake pass cell → IsUnpatched pass.stage
-take_before pass (PAGE page) may = at (Locking page) may tt
+take_before pass (PAGE page) may = tried_at IsUnpatched pass page tt (λ _ _ _. tt) may
 take_before pass (SIZE file) may = at Sizing may.0 tt
 take_before pass (STORE file) may = at (Fetching may.0 may.1) may.2 tt
 take_before pass (CLEANUP page) may = at (Waiting page) may tt
@@ -187,6 +207,8 @@ plain_before sizes values pass (Returns number) mild may = at (Restoring may.0 n
 plain_before sizes values pass (Places reply) mild may = absurd mild
 plain_before sizes values pass (Pledges page) mild may = absurd mild
 plain_before sizes values pass (Readies number) mild may = absurd mild
+plain_before sizes values pass (Turns page) mild may = turned_at IsUnpatched sizes values pass page (λ _. tt) (λ _ _. tt) may
+plain_before sizes values pass (Hints buffer page) mild may = hinted_at IsUnpatched values pass buffer page (λ _. tt) may
 plain_before sizes values pass deed mild may = absurd may
 
 module _ (sizes : Sizes) (values : Values) (pass : Pass) (page : ℕ) (old : List ℕ) where
@@ -222,11 +244,11 @@ module _ (sizes : Sizes) (values : Values) (pass : Pass) (page : ℕ) (old : Lis
   old_load (ENTRY slot) found may = subst (λ s. patched_page sizes pass.call (after_look pass found s) page old ≡ old) (sym may.2)
       (if_both (λ s. patched_page sizes pass.call s page old ≡ old) (is_entry_of ready may.0 found) (Grasping may.0 may.1) (scanning pass may.0 (may.1 + 1)) (λ _. refl) (λ _. old_scanning may.0 (may.1 + 1)))
   old_load (DIRTY next) found may = if_both (λ s. patched_page sizes pass.call s page old ≡ old) (found == 0) (Fetching next false) (Waiting next) (λ _. refl) (λ _. refl)
+  old_load (HINT buffer) found may = hinting_next (λ s. patched_page sizes pass.call s page old ≡ old) sizes pass buffer found may refl
   old_load word found may = absurd may
 
   old_take : (cell : Word) (found : ℕ) → MayTake pass cell → patched_page sizes pass.call (stage_after sizes pass (Takes cell) found) page old ≡ old
-  old_take (PAGE next) found may = if_both (λ s. patched_page sizes pass.call s page old ≡ old) (found == 0) (after_take sizes pass (PAGE next)) (leaving pass.hands)
-      (λ _. if_both (λ s. patched_page sizes pass.call s page old ≡ old) (next + 1 == end_page sizes pass.call) Measuring (Locking (next + 1)) (λ _. refl) (λ _. refl)) (λ _. old_leaving pass.hands)
+  old_take (PAGE next) found may = page_tried (λ s. patched_page sizes pass.call s page old ≡ old) sizes pass next found refl refl (old_leaving pass.hands) (λ _ _ _. refl) may
   old_take (SIZE file) found may = if_both (λ s. patched_page sizes pass.call s page old ≡ old) (found == 0) Measuring (leaving pass.hands) (λ _. refl) (λ _. old_leaving pass.hands)
   old_take (STORE file) found may = if_both (λ s. patched_page sizes pass.call s page old ≡ old) (found == 0) (copying pass.stage) (leaving pass.hands)
       (λ _. subst (λ s. patched_page sizes pass.call (copying s) page old ≡ old) (sym may.2) refl) (λ _. old_leaving pass.hands)
@@ -239,6 +261,7 @@ module _ (sizes : Sizes) (values : Values) (pass : Pass) (page : ℕ) (old : Lis
   old_give cell (Giving next) back = if_both (λ s. patched_page sizes pass.call s page old ≡ old) (next + 1 == end_page sizes pass.call) Idle (Giving (next + 1)) (λ _. refl) (λ _. refl)
   old_give cell (Returning next dirty) back = if_both (λ s. patched_page sizes pass.call s page old ≡ old) dirty (Bounding next) (Reading (next + 1)) (λ _. refl) (λ _. refl)
   old_give cell (Unlocking next) back = refl
+  old_give cell (Searching next tries search) back = refl
   old_give cell stage back = absurd back
 
   old_stop : (stage : Stage) → IsFailing stage → patched_page sizes pass.call (after_stop pass stage) page old ≡ old
@@ -260,6 +283,8 @@ module _ (sizes : Sizes) (values : Values) (pass : Pass) (page : ℕ) (old : Lis
   plain_after (Holds number) found mild may = subst (λ s. patched_page sizes pass.call (after_hold s) page old ≡ old) (sym may.1) refl
   plain_after (Returns number) found mild may = subst (λ s. patched_page sizes pass.call (after_return sizes pass s) page old ≡ old) (sym may.2)
       (if_both (λ s. patched_page sizes pass.call s page old ≡ old) may.1 (leaving (without (ENTRY (slot_of sizes number)) pass.hands)) (scanning pass may.0 (number + 1)) (λ _. old_leaving (without (ENTRY (slot_of sizes number)) pass.hands)) (λ _. old_scanning may.0 (number + 1)))
+  plain_after (Turns next) found mild may = refl
+  plain_after (Hints buffer next) found mild may = refl
   plain_after (Places reply) found mild may = absurd mild
   plain_after (Pledges next) found mild may = absurd mild
   plain_after (Readies next) found mild may = absurd mild

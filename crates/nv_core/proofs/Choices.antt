@@ -1,11 +1,12 @@
 -- Choices: what holds of both branches holds of the choice; and a pass that may step is not idle.
-use Rattle.std.proofs.Common.{◌≡◌, ◌≢◌, Bool, true, false, if◌then◌else◌, List, [], ◌∷◌, refl, sym, ap, subst, ◌∙◌, inl, inr}
+use Rattle.std.proofs.Common.{◌≡◌, ◌≢◌, ℕ, ◌+◌, ◌==◌, Bool, true, false, if◌then◌else◌, List, [], ◌∷◌, refl, sym, ap, subst, ◌∙◌, inl, inr}
 use Rattle.std.proofs.lemmas.Bool.{true≢false}
-use Rattle.nv_core.specs.Words.{Sizes, Word, STOP, ORDER, HEAD, TAIL, SIZE, LENGTH, STORE, PAGE, DIRTY, ENTRY, CLEANUP}
-use Rattle.nv_core.specs.Passes.{Stage, Idle, Leaving, Releasing, Giving, Returning, Pass, Unlocking}
-use Rattle.nv_core.specs.Deeds.{Deed, Loads, Takes, Gives, Places, Stops, Draws, Seizes, Pledges, Readies, Grows, Breaks, Holds, Returns}
-use Rattle.nv_core.specs.Stages.{leaving}
+use Rattle.nv_core.specs.Words.{Sizes, Word, STOP, ORDER, HEAD, TAIL, SIZE, LENGTH, STORE, HINT, PAGE, DIRTY, ENTRY, CLEANUP}
+use Rattle.nv_core.specs.Passes.{Stage, Idle, Locking, Measuring, Leaving, Releasing, Giving, Returning, Robbing, Search, Nothing, Searching, Pass, end_page, Unlocking}
+use Rattle.nv_core.specs.Deeds.{Deed, Loads, Takes, Gives, Places, Stops, Draws, Seizes, Pledges, Readies, Grows, Breaks, Turns, Hints, Holds, Returns}
+use Rattle.nv_core.specs.Stages.{stage_after, leaving}
 use Rattle.nv_core.specs.Order.{Values, MayStep, MayLoad, MayTake, MayGive, MayPlace, IsFailing}
+use Rattle.nv_core.proofs.SearchLaws.{looked_at, turned_at, tried_at, tried_next}
 
 pub if_both : {T : Type 0} (P : T → Type 0) (b : Bool) (one other : T) → (b ≡ true → P one) → (b ≡ false → P other) → P (if b then one else other)
 if_both P true one other so not_so = so refl
@@ -33,6 +34,15 @@ leaving_both P (first ∷ rest) none some = some (λ e. true≢false (ap is_cons
     is_cons [] = false
     is_cons (one ∷ more) = true
 
+-- where a page's lock is tried: what holds of the next page and of the ends of it, and wherever a search stands
+pub page_tried : (P : Stage → Type 0) (sizes : Sizes) (pass : Pass) (page found : ℕ) → P Measuring → P (Locking (page + 1)) → P (leaving pass.hands)
+    → ((missed tries : ℕ) (search : Search) → P (Searching missed tries search)) → MayTake pass (PAGE page) → P (stage_after sizes pass (Takes (PAGE page)) found)
+page_tried P sizes pass page found last next out other = tried_next P sizes pass page found
+    (λ _. if_both P (found == 0) (if page + 1 == end_page sizes pass.call then Measuring else Locking (page + 1)) (leaving pass.hands)
+    (λ _. if_both P (page + 1 == end_page sizes pass.call) Measuring (Locking (page + 1)) (λ _. last) (λ _. next)) (λ _. out))
+    (λ s. if_both P (found == 0) (Searching s.page s.tries (Robbing s.buffer page)) (Searching s.page s.tries Nothing)
+    (λ _. other s.page s.tries (Robbing s.buffer page)) (λ _. other s.page s.tries Nothing))
+
 -- ---- a pass that may step is at no other place than its step says, and not idle
 
 abbrev is_idle : Stage → Bool
@@ -56,11 +66,12 @@ load_idle sizes values pass ORDER may = busy _ _ may refl
 load_idle sizes values pass HEAD may = elim may [ inl at ↦ busy _ _ at refl | inr at ↦ busy _ _ at.1 refl ]
 load_idle sizes values pass TAIL may = elim may [ inl at ↦ busy _ _ at refl | inr at ↦ busy _ _ at.1 refl ]
 load_idle sizes values pass (ENTRY slot) may = busy _ _ may.2 refl
-load_idle sizes values pass (DIRTY page) may = busy _ _ may.1.stage refl
+load_idle sizes values pass (DIRTY page) may = looked_at (λ s. s ≢ Idle) sizes values pass page (λ _. busy _ _ refl refl) (λ _ _. busy _ _ refl refl) may
+load_idle sizes values pass (HINT buffer) may = busy _ _ may.is refl
 load_idle sizes values pass word may = absurd may
 
 take_idle : (pass : Pass) (word : Word) → MayTake pass word → pass.stage ≢ Idle
-take_idle pass (PAGE page) may = busy _ _ may refl
+take_idle pass (PAGE page) may = tried_at (λ s. s ≢ Idle) pass page (busy _ _ refl refl) (λ _ _ _. busy _ _ refl refl) may
 take_idle pass (SIZE file) may = busy _ _ may.0 refl
 take_idle pass (STORE file) may = busy _ _ may.2 refl
 take_idle pass (CLEANUP page) may = busy _ _ may refl
@@ -80,6 +91,8 @@ step_idle sizes values pass Grows may = busy _ _ may refl
 step_idle sizes values pass (Breaks number) may = busy _ _ may refl
 step_idle sizes values pass (Holds number) may = busy _ _ may.1 refl
 step_idle sizes values pass (Returns number) may = busy _ _ may.2 refl
+step_idle sizes values pass (Turns page) may = turned_at (λ s. s ≢ Idle) sizes values pass page (λ _. busy _ _ refl refl) (λ _ _. busy _ _ refl refl) may
+step_idle sizes values pass (Hints buffer page) may = busy _ _ may.is refl
 step_idle sizes values pass deed may = absurd may
 
 -- the stages at which a lock is given back
@@ -89,6 +102,7 @@ IsGivingBack Releasing = Unit {0}
 IsGivingBack (Giving page) = Unit {0}
 IsGivingBack (Returning page dirty) = Unit {0}
 IsGivingBack (Unlocking page) = Unit {0}
+IsGivingBack (Searching page tries search) = Unit {0}
 IsGivingBack stage = ⊥
 
 pub gives_back : (pass : Pass) (word : Word) (stage : Stage) → MayGive pass word stage → IsGivingBack stage
@@ -96,8 +110,13 @@ gives_back pass (SIZE file) Releasing may = tt
 gives_back pass (PAGE page) (Giving next) may = tt
 gives_back pass (STORE file) (Returning page dirty) may = tt
 gives_back pass (CLEANUP page) (Unlocking next) may = tt
+gives_back pass (PAGE page) (Searching missed tries (Robbing buffer victim)) may = tt
 gives_back pass word Leaving may = tt
 gives_back pass word stage may = absurd may
+
+abbrev pub IsRobbing : Search → Type 0
+IsRobbing (Robbing buffer victim) = Unit {0}
+IsRobbing search = ⊥
 
 -- and which lock at which
 abbrev pub IsGiven : Stage → Word → Type 0
@@ -106,6 +125,7 @@ IsGiven Releasing (SIZE file) = Unit {0}
 IsGiven (Giving page) (PAGE other) = Unit {0}
 IsGiven (Returning page dirty) (STORE file) = Unit {0}
 IsGiven (Unlocking page) (CLEANUP other) = Unit {0}
+IsGiven (Searching missed tries search) (PAGE page) = IsRobbing search
 IsGiven stage word = ⊥
 
 pub gives_one : (pass : Pass) (word : Word) (stage : Stage) → MayGive pass word stage → IsGiven stage word
@@ -113,5 +133,6 @@ gives_one pass (SIZE file) Releasing may = tt
 gives_one pass (PAGE page) (Giving next) may = tt
 gives_one pass (STORE file) (Returning page dirty) may = tt
 gives_one pass (CLEANUP page) (Unlocking next) may = tt
+gives_one pass (PAGE page) (Searching missed tries (Robbing buffer victim)) may = tt
 gives_one pass word Leaving may = tt
 gives_one pass word stage may = absurd may

@@ -1,13 +1,14 @@
 -- Clear stages: those at which a pass has drawn no entry that is not yet ready or broken, and has met no fault. Plain steps go from clear to clear.
 use Rattle.std.proofs.Common.{◌≡◌, ◌≢◌, ℕ, ◌+◌, ◌==◌, nat_lt, nat_le, ◌^◌, not, ◌&&◌, if◌then◌else◌, List, refl, sym, subst, true, false, inl, inr}
 use Rattle.nv_plain.specs.declared.call.Reply.{Reply}
-use Rattle.nv_core.specs.Words.{Sizes, Word, STOP, ORDER, HEAD, TAIL, SIZE, LENGTH, STORE, ENTRY, PAGE, DIRTY, CLEANUP, ready, is_entry_of}
-use Rattle.nv_core.specs.Passes.{Stage, Idle, Locking, Measuring, Sizing, Checking, Ordering, Reading, Fetching, Returning, Waiting, Heading, Tailing, Drawing, Seizing, Committing, Pledging, Readying, Placing, Growing, Releasing, Giving, Leaving, ReadFailing, WriteFailing, Breaking, Pass, is_read, is_write, page_count, first_page, end_page, without, times, IsUnseized, IsFilling, Bounding, Scanning, Grasping, Patching, Restoring, Unlocking, PieceFailing, IsHeld}
-use Rattle.nv_core.specs.Deeds.{Deed, Loads, Takes, Gives, Places, Grows, Stays, Comes, moved, move_of, Holds, Returns, slot_of}
-use Rattle.nv_core.specs.Stages.{stage_after, after_load, after_take, after_give, leaving, giving, ending, ordered, copying, exceeds, scanning, after_head, after_tail, after_look, after_hold, after_return}
+use Rattle.nv_core.specs.Words.{Sizes, Word, STOP, ORDER, HEAD, TAIL, SIZE, LENGTH, STORE, ENTRY, HINT, PAGE, DIRTY, CLEANUP, ready, is_entry_of}
+use Rattle.nv_core.specs.Passes.{Stage, Idle, Measuring, Sizing, Checking, Ordering, Reading, Fetching, Returning, Waiting, Searching, Heading, Tailing, Drawing, Seizing, Committing, Pledging, Readying, Placing, Growing, Releasing, Giving, Leaving, ReadFailing, WriteFailing, Breaking, Pass, is_read, is_write, page_count, first_page, end_page, without, times, IsUnseized, IsFilling, Bounding, Scanning, Grasping, Patching, Restoring, Unlocking, PieceFailing, IsHeld}
+use Rattle.nv_core.specs.Deeds.{Deed, Loads, Takes, Gives, Places, Grows, Turns, Hints, Stays, Comes, moved, move_of, Holds, Returns, slot_of}
+use Rattle.nv_core.specs.Stages.{stage_after, after_load, after_give, leaving, giving, ending, ordered, copying, exceeds, scanning, after_head, after_tail, after_look, after_hold, after_return}
 use Rattle.nv_core.specs.Order.{Values, MayStep, MayLoad, MayTake, MayGive, MayPlace}
-use Rattle.nv_core.proofs.Choices.{if_both, leaving_both, IsGivingBack, gives_back}
+use Rattle.nv_core.proofs.Choices.{if_both, leaving_both, IsGivingBack, gives_back, page_tried}
 use Rattle.nv_core.proofs.Changes.{differ}
+use Rattle.nv_core.proofs.SearchLaws.{looked_at, turned_at, hinting_at, hinting_next, hinted_at, tried_at}
 use Rattle.nv_core.proofs.LockLaws.{times_else, times_without_else}
 
 abbrev pub IsClear : Stage → Type 0
@@ -60,6 +61,8 @@ IsStill (Takes cell) = Unit {0}
 IsStill (Gives cell) = Unit {0}
 IsStill (Places reply) = Unit {0}
 IsStill Grows = Unit {0}
+IsStill (Turns page) = Unit {0}
+IsStill (Hints buffer page) = Unit {0}
 IsStill deed = ⊥
 
 -- those that neither seize an entry, nor make one ready or break it
@@ -102,11 +105,11 @@ bare_loads sizes values pass TAIL found may = elim may [
 bare_loads sizes values pass (ENTRY slot) found may = subst (λ s. IsBare (after_look pass found s)) (sym may.2)
     (if_both IsBare (is_entry_of ready may.0 found) (Grasping may.0 may.1) (scanning pass may.0 (may.1 + 1)) (λ _. tt) (λ _. bare_scanning pass may.0 (may.1 + 1)))
 bare_loads sizes values pass (DIRTY page) found may = if_both IsBare (found == 0) (Fetching page false) (Waiting page) (λ _. tt) (λ _. tt)
+bare_loads sizes values pass (HINT buffer) found may = hinting_next IsBare sizes pass buffer found may tt
 bare_loads sizes values pass word found may = absurd may
 
 bare_takes : (sizes : Sizes) (pass : Pass) (cell : Word) (found : ℕ) → MayTake pass cell → IsBare (stage_after sizes pass (Takes cell) found)
-bare_takes sizes pass (PAGE page) found may = if_both IsBare (found == 0) (after_take sizes pass (PAGE page)) (leaving pass.hands)
-    (λ _. if_both IsBare (page + 1 == end_page sizes pass.call) Measuring (Locking (page + 1)) (λ _. tt) (λ _. tt)) (λ _. bare_leaving pass.hands)
+bare_takes sizes pass (PAGE page) found may = page_tried IsBare sizes pass page found tt tt (bare_leaving pass.hands) (λ _ _ _. tt) may
 bare_takes sizes pass (SIZE file) found may = if_both IsBare (found == 0) Measuring (leaving pass.hands) (λ _. tt) (λ _. bare_leaving pass.hands)
 bare_takes sizes pass (STORE file) found may = if_both IsBare (found == 0) (copying pass.stage) (leaving pass.hands)
     (λ _. subst (λ s. IsBare (copying s)) (sym may.2) tt) (λ _. bare_leaving pass.hands)
@@ -119,6 +122,7 @@ bare_gives sizes pass cell Releasing may = bare_giving sizes pass
 bare_gives sizes pass cell (Giving page) may = if_both IsBare (page + 1 == end_page sizes pass.call) Idle (Giving (page + 1)) (λ _. tt) (λ _. tt)
 bare_gives sizes pass cell (Returning page dirty) may = if_both IsBare dirty (Bounding page) (Reading (page + 1)) (λ _. tt) (λ _. tt)
 bare_gives sizes pass cell (Unlocking page) may = tt
+bare_gives sizes pass cell (Searching page tries search) may = tt
 bare_gives sizes pass cell stage may = absurd may
 
 pub bare_to : (sizes : Sizes) (values : Values) (pass : Pass) (deed : Deed) (found : ℕ) → IsStill deed → MayStep sizes values pass deed → IsBare (stage_after sizes pass deed found)
@@ -128,6 +132,8 @@ bare_to sizes values pass (Gives cell) found still may = bare_gives sizes pass c
 bare_to sizes values pass (Places reply) found still may =
     if_both IsBare (is_write pass.call && exceeds pass pass.length) Growing (ending sizes pass) (λ _. tt) (λ _. bare_ending sizes pass)
 bare_to sizes values pass Grows found still may = bare_ending sizes pass
+bare_to sizes values pass (Turns page) found still may = tt
+bare_to sizes values pass (Hints buffer page) found still may = tt
 bare_to sizes values pass deed found still may = absurd still
 
 -- and before
@@ -138,6 +144,7 @@ bare_give Releasing may = tt
 bare_give (Giving page) may = tt
 bare_give (Returning page dirty) may = tt
 bare_give (Unlocking page) may = tt
+bare_give (Searching page tries search) may = tt
 bare_give stage may = absurd may
 
 bare_place : (sizes : Sizes) (values : Values) (pass : Pass) (reply : Reply) (stage : Stage) → MayPlace sizes values pass reply stage → IsBare stage
@@ -152,11 +159,12 @@ bare_load sizes values pass ORDER may = subst IsBare (sym may) tt
 bare_load sizes values pass HEAD may = elim may [ inl at ↦ subst IsBare (sym at) tt | inr at ↦ subst IsBare (sym at.1) tt ]
 bare_load sizes values pass TAIL may = elim may [ inl at ↦ subst IsBare (sym at) tt | inr at ↦ subst IsBare (sym at.1) tt ]
 bare_load sizes values pass (ENTRY slot) may = subst IsBare (sym may.2) tt
-bare_load sizes values pass (DIRTY page) may = subst IsBare (sym may.1.stage) tt
+bare_load sizes values pass (DIRTY page) may = looked_at IsBare sizes values pass page (λ _. tt) (λ _ _. tt) may
+bare_load sizes values pass (HINT buffer) may = hinting_at IsBare pass buffer (λ _ _. tt) may
 bare_load sizes values pass word may = absurd may
 
 bare_take : (pass : Pass) (cell : Word) → MayTake pass cell → IsBare pass.stage
-bare_take pass (PAGE page) may = subst IsBare (sym may) tt
+bare_take pass (PAGE page) may = tried_at IsBare pass page tt (λ _ _ _. tt) may
 bare_take pass (SIZE file) may = subst IsBare (sym may.0) tt
 bare_take pass (STORE file) may = subst IsBare (sym may.2) tt
 bare_take pass (CLEANUP page) may = subst IsBare (sym may) tt
@@ -168,6 +176,8 @@ bare_from sizes values pass (Takes cell) still may = bare_take pass cell may
 bare_from sizes values pass (Gives cell) still may = bare_give pass.stage (gives_back pass cell pass.stage may)
 bare_from sizes values pass (Places reply) still may = bare_place sizes values pass reply pass.stage may
 bare_from sizes values pass Grows still may = subst IsBare (sym may) tt
+bare_from sizes values pass (Turns page) still may = turned_at IsBare sizes values pass page (λ _. tt) (λ _ _. tt) may
+bare_from sizes values pass (Hints buffer page) still may = hinted_at IsBare values pass buffer page (λ _. tt) may
 bare_from sizes values pass deed still may = absurd still
 
 -- so a plain step goes from clear to clear
@@ -215,4 +225,6 @@ entry_stays sizes values pass (Takes cell) found slot still may = entry_takes si
 entry_stays sizes values pass (Gives cell) found slot still may = times_without_else (ENTRY slot) cell pass.hands (given_not_entry pass cell pass.stage slot may)
 entry_stays sizes values pass (Places reply) found slot still may = refl
 entry_stays sizes values pass Grows found slot still may = refl
+entry_stays sizes values pass (Turns page) found slot still may = refl
+entry_stays sizes values pass (Hints buffer page) found slot still may = refl
 entry_stays sizes values pass deed found slot still may = absurd still

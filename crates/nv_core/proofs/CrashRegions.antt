@@ -10,7 +10,7 @@ use Rattle.nv_header.specs.Regions.{ReadsAs}
 use Rattle.nv_core.specs.Words.{Sizes, Word, TAIL, HEADER, STORE, ENTRY}
 use Rattle.nv_core.specs.Values.{Value, Bare, APart, AStore, ABuffer, called}
 use Rattle.nv_core.specs.Passes.{Stage, Committing, Copying, Pass, file_of, Patching}
-use Rattle.nv_core.specs.Deeds.{Deed, Loads, Takes, Gives, Places, Stops, Draws, Seizes, Pledges, Readies, Grows, Breaks, Splits, Leaves, Joins, slot_of, Holds, Returns}
+use Rattle.nv_core.specs.Deeds.{Deed, Loads, Takes, Gives, Places, Stops, Draws, Seizes, Pledges, Readies, Grows, Breaks, Splits, Leaves, Joins, slot_of, Turns, Hints, Holds, Returns}
 use Rattle.nv_core.specs.Order.{Values, Work, MayWork, IsDue}
 use Rattle.nv_core.specs.Core.{Core, with_word, after_step, after_begin, after_work, values_worked}
 use Rattle.nv_core.specs.Events.{Act, Begins, Does, Calls, after_act, MayFind, MayAct}
@@ -121,6 +121,8 @@ tail_stays sizes by core found Grows may = untouched sizes by core Grows found m
 tail_stays sizes by core found (Breaks next) may = untouched sizes by core (Breaks next) found may TAIL refl
 tail_stays sizes by core found (Holds next) may = untouched sizes by core (Holds next) found may TAIL refl
 tail_stays sizes by core found (Returns next) may = untouched sizes by core (Returns next) found may TAIL refl
+tail_stays sizes by core found (Turns page) may = untouched sizes by core (Turns page) found may TAIL refl
+tail_stays sizes by core found (Hints buffer page) may = untouched sizes by core (Hints buffer page) found may TAIL refl
 tail_stays sizes by core found Splits may = untouched sizes by core Splits found may TAIL refl
 tail_stays sizes by core found (Leaves cell) may = untouched sizes by core (Leaves cell) found may TAIL refl
 tail_stays sizes by core found (Joins number) may = untouched sizes by core (Joins number) found may TAIL refl

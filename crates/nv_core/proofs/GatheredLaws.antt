@@ -3,17 +3,18 @@ use Rattle.std.proofs.Common.{◌≡◌, ℕ, ◌+◌, ◌^◌, ◌==◌, nat_lt
 use Rattle.std.proofs.lemmas.Bool.{cases_lt, true≢false}
 use Rattle.nv_plain.specs.declared.call.FileCall.{FileCall}
 use Rattle.nv_plain.specs.declared.call.FileCall.TheVariants.{Read, Write, Sync}
-use Rattle.nv_core.specs.Words.{Sizes, Word, STOP, ORDER, HEAD, TAIL, SIZE, LENGTH, STORE, ENTRY, PAGE, CLEANUP, DIRTY, ready, is_entry_of}
+use Rattle.nv_core.specs.Words.{Sizes, Word, STOP, ORDER, HEAD, TAIL, SIZE, LENGTH, STORE, ENTRY, PAGE, CLEANUP, DIRTY, ready, is_entry_of, HINT}
 use Rattle.nv_core.specs.Values.{is_valid, bytes_in}
-use Rattle.nv_core.specs.Passes.{Stage, Idle, Locking, Measuring, Sizing, Checking, Ordering, Reading, Waiting, Fetching, Copying, Returning, Bounding, Starting, Scanning, Grasping, Patching, Restoring, Unlocking, Heading, Tailing, Drawing, Seizing, Committing, Pledging, Readying, Placing, Growing, Releasing, Giving, Leaving, ReadFailing, PieceFailing, WriteFailing, Breaking, Pass, is_write, is_read, page_count, first_page, end_page, without, times}
-use Rattle.nv_core.specs.Deeds.{Deed, Loads, Takes, Gives, Places, Stops, Draws, Seizes, Pledges, Readies, Grows, Breaks, Holds, Returns, slot_of}
-use Rattle.nv_core.specs.Stages.{stage_after, after_load, after_take, after_give, after_stop, after_head, after_tail, after_look, after_hold, after_return, scanning, leaving, giving, ending, ordered, copying, exceeds}
-use Rattle.nv_core.specs.Order.{Values, MayStep, MayLoad, MayTake, IsFailing, page_bytes}
+use Rattle.nv_core.specs.Passes.{Stage, Idle, Locking, Measuring, Sizing, Checking, Ordering, Reading, Fetching, Copying, Returning, Bounding, Starting, Scanning, Grasping, Patching, Restoring, Unlocking, Waiting, Heading, Tailing, Drawing, Seizing, Committing, Pledging, Readying, Placing, Growing, Releasing, Giving, Leaving, ReadFailing, PieceFailing, WriteFailing, Breaking, Pass, is_write, is_read, page_count, first_page, end_page, without, times, Searching, Hinting, Seeking, Robbing, Robbed, Nothing}
+use Rattle.nv_core.specs.Deeds.{Deed, Loads, Takes, Gives, Places, Stops, Draws, Seizes, Pledges, Readies, Grows, Breaks, Holds, Returns, slot_of, Turns, Hints}
+use Rattle.nv_core.specs.Stages.{stage_after, after_load, after_give, after_stop, after_head, after_tail, after_look, after_hold, after_return, scanning, leaving, giving, ending, ordered, copying, exceeds}
+use Rattle.nv_core.specs.Order.{Values, MayStep, MayLoad, MayTake, IsFailing, page_bytes, IsMiss, JustNow, AfterTries}
 use Rattle.nv_core.specs.Standing.{StandsAt, IsPage}
 use Rattle.nv_core.specs.Holding.{HoldsLocks}
 use Rattle.nv_core.specs.ValidBuffers.{Gathered, Halfway, GatheredAt}
 use Rattle.nv_core.proofs.Choices.{if_both, leaving_both, IsGivingBack, gives_back}
-use Rattle.nv_core.proofs.BufferLaws.{whole_holds, IsUnfilling}
+use Rattle.nv_core.proofs.BufferLaws.{whole_holds, IsUnfilling, searching_holds}
+use Rattle.nv_core.proofs.SearchLaws.{hinting_next, tried_next}
 
 -- ---- other values, other passes' events
 
@@ -39,28 +40,29 @@ module _ (sizes : Sizes) (now later : ℕ → List ℕ) (values others : Values)
   )
 
   -- where the pages that the pass holds and what they have stay the same
-  pub gathered_same : (stage : Stage) → HoldsLocks sizes pass stage → ((page : ℕ) → times (PAGE page) pass.hands ≡ 1 → (others (PAGE page) ≡ values (PAGE page)) × (later page ≡ now page))
+  pub gathered_same : (stage : Stage) → StandsAt sizes pass stage → HoldsLocks sizes pass stage → ((page : ℕ) → times (PAGE page) pass.hands ≡ 1 → (others (PAGE page) ≡ values (PAGE page)) × (later page ≡ now page))
       → GatheredAt sizes now values pass.call pass.fetched stage → GatheredAt sizes later others pass.call pass.fetched stage
-  gathered_same (Reading next) held same was = more next (whole_holds sizes pass (Reading next) tt held) same was
-  gathered_same (Waiting next) held same was = more next (whole_holds sizes pass (Waiting next) tt held) same was
-  gathered_same (Fetching next dirty) held same was = more next (whole_holds sizes pass (Fetching next dirty) tt held) same was
-  gathered_same (Copying next dirty) held same was = more next (whole_holds sizes pass (Copying next dirty) tt held) same was
-  gathered_same (Returning next false) held same was = more (next + 1) (whole_holds sizes pass (Returning next false) tt held) same was
-  gathered_same (Returning next true) held same was = half next (whole_holds sizes pass (Returning next true) tt held) same was
-  gathered_same (Bounding next) held same was = half next (whole_holds sizes pass (Bounding next) tt held) same was
-  gathered_same (Starting next) held same was = half next (whole_holds sizes pass (Starting next) tt held) same was
-  gathered_same (Scanning next number) held same was = half next (whole_holds sizes pass (Scanning next number) tt held) same was
-  gathered_same (Grasping next number) held same was = half next (whole_holds sizes pass (Grasping next number) tt held) same was
-  gathered_same (Patching next number) held same was = half next (whole_holds sizes pass (Patching next number) tt held) same was
-  gathered_same (Restoring next number false) held same was = half next (whole_holds sizes pass (Restoring next number false) tt held) same was
-  gathered_same (Unlocking next) held same was = half next (whole_holds sizes pass (Unlocking next) tt held) same was
-  gathered_same (Locking page) held same was = was
-  gathered_same Measuring held same was = was
-  gathered_same Sizing held same was = was
-  gathered_same Checking held same was = was
-  gathered_same Ordering held same was = was
-  gathered_same Placing held same was = was
-  gathered_same stage held same was = tt
+  gathered_same (Reading next) stands held same was = more next (whole_holds sizes pass (Reading next) tt held) same was
+  gathered_same (Waiting next) stands held same was = more next (whole_holds sizes pass (Waiting next) tt held) same was
+  gathered_same (Fetching next dirty) stands held same was = more next (whole_holds sizes pass (Fetching next dirty) tt held) same was
+  gathered_same (Copying next dirty) stands held same was = more next (whole_holds sizes pass (Copying next dirty) tt held) same was
+  gathered_same (Returning next false) stands held same was = more (next + 1) (whole_holds sizes pass (Returning next false) tt held) same was
+  gathered_same (Returning next true) stands held same was = half next (whole_holds sizes pass (Returning next true) tt held) same was
+  gathered_same (Bounding next) stands held same was = half next (whole_holds sizes pass (Bounding next) tt held) same was
+  gathered_same (Starting next) stands held same was = half next (whole_holds sizes pass (Starting next) tt held) same was
+  gathered_same (Scanning next number) stands held same was = half next (whole_holds sizes pass (Scanning next number) tt held) same was
+  gathered_same (Grasping next number) stands held same was = half next (whole_holds sizes pass (Grasping next number) tt held) same was
+  gathered_same (Patching next number) stands held same was = half next (whole_holds sizes pass (Patching next number) tt held) same was
+  gathered_same (Restoring next number false) stands held same was = half next (whole_holds sizes pass (Restoring next number false) tt held) same was
+  gathered_same (Unlocking next) stands held same was = half next (whole_holds sizes pass (Unlocking next) tt held) same was
+  gathered_same (Locking page) stands held same was = was
+  gathered_same Measuring stands held same was = was
+  gathered_same Sizing stands held same was = was
+  gathered_same Checking stands held same was = was
+  gathered_same Ordering stands held same was = was
+  gathered_same Placing stands held same was = was
+  gathered_same (Searching next tries search) stands held same was = more next (searching_holds sizes pass next tries search stands held) same was
+  gathered_same stage stands held same was = tt
 
 -- ---- the pass's own steps
 
@@ -96,6 +98,15 @@ module _ (sizes : Sizes) (now : ℕ → List ℕ) (values : Values) (pass : Pass
     | inr valid ↦ ap (λ f. page_bytes f values page) none ∙ right page is valid
   ]
 
+  missed_right : (page tries : ℕ) → IsMiss sizes values pass page tries → GatheredAt sizes now values pass.call pass.fetched pass.stage → Gathered sizes now values pass.call pass.fetched page
+  missed_right next tries (JustNow from miss none) was page is passed = let g : Gathered sizes now values pass.call pass.fetched from = old (Reading from) miss.stage was in
+      elim passed [
+        | inl low ↦ elim (cases_lt page from) [ inl before ↦ g page is (inl before) | inr past ↦ g page is (inr (miss.passed page past low)) ]
+        | inr valid ↦ g page is (inr valid)
+      ]
+  missed_right next tries (AfterTries search at over) was page is passed =
+      let g : Gathered sizes now values pass.call pass.fetched next = old (Searching next tries search) at was in g page is passed
+
   at_load : (word : Word) (found : ℕ) → MayLoad sizes values pass word → (pass.stage ≡ Ordering → AreRight sizes now values pass.call) → GatheredAt sizes now values pass.call pass.fetched pass.stage
       → GatheredAt sizes now values pass.call pass.fetched (after_load sizes pass word found)
   at_load (LENGTH file) found may right was = if_both (GatheredAt sizes now values pass.call pass.fetched) (exceeds pass found && not pass.sized) Sizing Checking (λ _. old Measuring may.0 was) (λ _. old Measuring may.0 was)
@@ -118,19 +129,17 @@ module _ (sizes : Sizes) (now : ℕ → List ℕ) (values : Values) (pass : Pass
       let was_half : Halfway sizes now values pass.call pass.fetched may.0 = old (Scanning may.0 may.1) may.2 was in
       subst (λ s. GatheredAt sizes now values pass.call pass.fetched (after_look pass found s)) (sym may.2)
       (if_both (GatheredAt sizes now values pass.call pass.fetched) (is_entry_of ready may.0 found) (Grasping may.0 may.1) (scanning pass may.0 (may.1 + 1)) (λ _. was_half) (λ _. at_scanning may.0 (may.1 + 1) was_half))
-  at_load (DIRTY next) found may right was =
-      let reached : Gathered sizes now values pass.call pass.fetched next = λ page is passed.
-      let g : Gathered sizes now values pass.call pass.fetched may.0 = old (Reading may.0) may.1.stage was in
-      elim passed [
-        | inl low ↦ elim (cases_lt page may.0) [ inl before ↦ g page is (inl before) | inr past ↦ g page is (inr (may.1.passed page past low)) ]
-        | inr valid ↦ g page is (inr valid)
-      ] in
-      if_both (GatheredAt sizes now values pass.call pass.fetched) (found == 0) (Fetching next false) (Waiting next) (λ _. reached) (λ _. reached)
+  at_load (DIRTY next) found may right was = if_both (GatheredAt sizes now values pass.call pass.fetched) (found == 0) (Fetching next false) (Waiting next)
+      (λ _. missed_right next may.tries may.miss was) (λ _. missed_right next may.tries may.miss was)
+  at_load (HINT buffer) found may right was = hinting_next (GatheredAt sizes now values pass.call pass.fetched) sizes pass buffer found may (old (Searching may.page may.tries (Hinting buffer)) may.is was)
   at_load word found may right was = absurd may
 
   at_take : (cell : Word) (found : ℕ) → MayTake pass cell → GatheredAt sizes now values pass.call pass.fetched pass.stage → GatheredAt sizes now values pass.call pass.fetched (stage_after sizes pass (Takes cell) found)
-  at_take (PAGE page) found may was = if_both (GatheredAt sizes now values pass.call pass.fetched) (found == 0) (after_take sizes pass (PAGE page)) (leaving pass.hands)
-      (λ _. if_both (GatheredAt sizes now values pass.call pass.fetched) (page + 1 == end_page sizes pass.call) Measuring (Locking (page + 1)) (λ _. old (Locking page) may was) (λ _. old (Locking page) may was)) (λ _. at_leaving pass.hands)
+  at_take (PAGE page) found may was = tried_next (GatheredAt sizes now values pass.call pass.fetched) sizes pass page found
+      (λ at. if_both (GatheredAt sizes now values pass.call pass.fetched) (found == 0) (if page + 1 == end_page sizes pass.call then Measuring else Locking (page + 1)) (leaving pass.hands)
+      (λ _. if_both (GatheredAt sizes now values pass.call pass.fetched) (page + 1 == end_page sizes pass.call) Measuring (Locking (page + 1)) (λ _. old (Locking page) at was) (λ _. old (Locking page) at was)) (λ _. at_leaving pass.hands))
+      (λ s. if_both (GatheredAt sizes now values pass.call pass.fetched) (found == 0) (Searching s.page s.tries (Robbing s.buffer page)) (Searching s.page s.tries Nothing)
+      (λ _. old (Searching s.page s.tries (Seeking s.buffer page)) s.is was) (λ _. old (Searching s.page s.tries (Seeking s.buffer page)) s.is was)) may
   at_take (SIZE file) found may was = if_both (GatheredAt sizes now values pass.call pass.fetched) (found == 0) Measuring (leaving pass.hands) (λ _. old Sizing may.0 was) (λ _. at_leaving pass.hands)
   at_take (STORE file) found may was = if_both (GatheredAt sizes now values pass.call pass.fetched) (found == 0) (copying pass.stage) (leaving pass.hands)
       (λ _. subst (λ s. GatheredAt sizes now values pass.call pass.fetched (copying s)) (sym may.2) (old (Fetching may.0 may.1) may.2 was)) (λ _. at_leaving pass.hands)
@@ -144,6 +153,7 @@ module _ (sizes : Sizes) (now : ℕ → List ℕ) (values : Values) (pass : Pass
   at_give cell (Returning page true) back other was = was
   at_give cell (Returning page false) back other was = was
   at_give cell (Unlocking page) back other was = absurd (other page refl)
+  at_give cell (Searching page tries search) back other was = was
   at_give cell stage back other was = absurd back
 
   at_stop : (stage : Stage) → IsFailing stage → GatheredAt sizes now values pass.call pass.fetched (after_stop pass stage)
@@ -171,6 +181,8 @@ module _ (sizes : Sizes) (now : ℕ → List ℕ) (values : Values) (pass : Pass
   gathered_on Grows found other may stands right was = at_ending
   gathered_on (Breaks next) found other may stands right was = if_both (GatheredAt sizes now values pass.call pass.fetched) (next + 1 == pass.first + pass.entries) (leaving (without (ENTRY (slot_of sizes next)) pass.hands)) (Breaking (next + 1))
       (λ _. at_leaving (without (ENTRY (slot_of sizes next)) pass.hands)) (λ _. tt)
+  gathered_on (Turns page) found other may stands right was = missed_right page may.tries may.miss was
+  gathered_on (Hints buffer page) found other may stands right was = old (Searching page may.tries (Robbed buffer)) may.is was
   gathered_on (Holds number) found other may stands right was = subst (λ s. GatheredAt sizes now values pass.call pass.fetched (after_hold s)) (sym may.1) (old (Grasping may.0 number) may.1 was)
   gathered_on (Returns number) found other may stands right was = subst (λ s. GatheredAt sizes now values pass.call pass.fetched (after_return sizes pass s)) (sym may.2) (at_return may.0 number may.1 (old (Restoring may.0 number may.1) may.2 was))
   gathered_on deed found other may stands right was = absurd may

@@ -2,16 +2,17 @@
 use Rattle.std.proofs.Common.{◌≡◌, ◌≢◌, ℕ, ◌+◌, ◌<◌, ◌≤◌, ◌==◌, nat_lt, nat_le, ◌^◌, Bool, true, false, not, ◌&&◌, if◌then◌else◌, List, ◌∷◌, inl, inr, refl, sym, ap, subst, ◌∙◌, arith}
 use Rattle.std.proofs.lemmas.Bool.{and_from, and_left, and_right, eqb-true, le-leb, lt-leb, lt-ltb, le-ltb, eq-eqb, ne_eqb, cases_eq, cases_lt}
 use Rattle.nv_plain.specs.Histories.{Answered}
-use Rattle.nv_core.specs.Words.{Sizes, Word, STOP, ORDER, HEAD, TAIL, SIZE, LENGTH, STORE, ENTRY, PAGE, DIRTY, same, CLEANUP, ready, is_entry_of}
-use Rattle.nv_core.specs.Passes.{Stage, Idle, Locking, Measuring, Sizing, Checking, Ordering, Reading, Fetching, Copying, Returning, Waiting, Heading, Tailing, Drawing, Seizing, Committing, Pledging, Readying, Placing, Growing, Releasing, Giving, Leaving, ReadFailing, WriteFailing, Breaking, Pass, file_of, is_read, is_write, page_count, first_page, end_page, without, times, Bounding, Starting, Scanning, Grasping, Restoring, Unlocking, PieceFailing}
-use Rattle.nv_core.specs.Deeds.{Deed, Stays, Comes, moved, slot_of, Loads, Takes, Gives, Places, Stops, Draws, Seizes, Pledges, Readies, Grows, Breaks, Holds, Returns}
-use Rattle.nv_core.specs.Stages.{copying, stage_after, after_load, after_take, after_give, after_stop, leaving, giving, ending, ordered, exceeds, scanning, after_head, after_tail, after_look, after_hold, after_return}
+use Rattle.nv_core.specs.Words.{Sizes, Word, STOP, ORDER, HEAD, TAIL, SIZE, LENGTH, STORE, ENTRY, HINT, PAGE, DIRTY, same, CLEANUP, ready, is_entry_of}
+use Rattle.nv_core.specs.Passes.{Stage, Idle, Locking, Measuring, Sizing, Checking, Ordering, Reading, Fetching, Copying, Returning, Waiting, Search, Hinting, Seeking, Robbing, Robbed, Nothing, Found, Searching, Heading, Tailing, Drawing, Seizing, Committing, Pledging, Readying, Placing, Growing, Releasing, Giving, Leaving, ReadFailing, WriteFailing, Breaking, Pass, file_of, is_read, is_write, page_count, first_page, end_page, without, times, Bounding, Starting, Scanning, Grasping, Restoring, Unlocking, PieceFailing}
+use Rattle.nv_core.specs.Deeds.{Deed, Stays, Comes, moved, slot_of, Loads, Takes, Gives, Places, Stops, Draws, Seizes, Pledges, Readies, Grows, Breaks, Turns, Hints, Holds, Returns}
+use Rattle.nv_core.specs.Stages.{copying, stage_after, after_load, after_give, after_stop, leaving, giving, ending, ordered, exceeds, scanning, after_head, after_tail, after_look, after_hold, after_return}
 use Rattle.nv_core.specs.Stepped.{stepped}
-use Rattle.nv_core.specs.Order.{Values, MayStep, MayLoad, MayTake, MayGive, MayPlace, IsFailing}
+use Rattle.nv_core.specs.Order.{Values, MayStep, MayLoad, MayTake, MayGive, MayPlace, IsFailing, IsOver, IsMiss, JustNow, AfterTries, IsSeeking}
 use Rattle.nv_core.specs.Standing.{IsPage, StandsAt, Standing}
 use Rattle.nv_core.specs.Holding.{one_if, is_among, page_held, size_held, store_held, lock_held, HoldsLocks, cleanup_held}
 use Rattle.nv_core.proofs.Changes.{differ, same_true}
 use Rattle.nv_core.proofs.Choices.{if_both, when_true, when_false, leaving_both, gives_one}
+use Rattle.nv_core.proofs.SearchLaws.{hinting_next, tried_next}
 use Rattle.nv_core.proofs.LockLaws.{times_else, times_without, times_without_else}
 
 -- ---- numbers
@@ -80,7 +81,7 @@ taken : (sizes : Sizes) (pass now : Pass) (old new : Stage) (cell : Word) → no
 taken sizes pass now old new cell hands owed held other lock =
     ap (times other) hands ∙ ap (λ t. one_if (same other cell) + t) (held other lock) ∙ sym (owed other)
 
-times_less : (other cell : Word) (hands : List Word) → 1 ≤ times cell hands → times other hands ≡ one_if (same other cell) + times other (without cell hands)
+pub times_less : (other cell : Word) (hands : List Word) → 1 ≤ times cell hands → times other hands ≡ one_if (same other cell) + times other (without cell hands)
 times_less other cell hands some = go (same other cell) refl
   where
     go : (b : Bool) → same other cell ≡ b → times other hands ≡ one_if b + times other (without cell hands)
@@ -135,6 +136,17 @@ scan_locks sizes pass now page number full = if_both (HoldsLocks sizes now) (nat
 at_stage : (sizes : Sizes) (pass : Pass) (stage : Stage) → pass.stage ≡ stage → HoldsLocks sizes pass pass.stage → HoldsLocks sizes pass stage
 at_stage sizes pass stage is held = subst (HoldsLocks sizes pass) is held
 
+-- a read that has missed a page holds what it holds while it reads
+missed_locks : (sizes : Sizes) (values : Values) (pass : Pass) (page tries : ℕ) → HoldsLocks sizes pass pass.stage → IsMiss sizes values pass page tries → HoldsAt sizes pass Checking pass.hands
+missed_locks sizes values pass page tries held (JustNow from miss none) = at_stage sizes pass (Reading from) miss.stage held
+missed_locks sizes values pass page tries held (AfterTries search is over) = go search over (at_stage sizes pass (Searching page tries search) is held)
+  where
+    go : (search : Search) → IsOver (values (PAGE page)) search → HoldsLocks sizes pass (Searching page tries search) → HoldsAt sizes pass Checking pass.hands
+    go (Robbed buffer) over held = held
+    go Nothing over held = held
+    go Found over held = held
+    go search over held = absurd over
+
 lock_loads : (sizes : Sizes) (values : Values) (pass : Pass) (word : Word) (found number : ℕ) (history : List Answered) → HoldsLocks sizes pass pass.stage → MayLoad sizes values pass word
     → HoldsLocks sizes (stepped sizes number history (Loads word) found pass) (after_load sizes pass word found)
 lock_loads sizes values pass (LENGTH file) found number history held may =
@@ -172,8 +184,13 @@ lock_loads sizes values pass (ENTRY slot) found number history held may =
     subst (λ s. HoldsLocks sizes now (after_look pass found s)) (sym may.2)
     (if_both (HoldsLocks sizes now) (is_entry_of ready may.0 found) (Grasping may.0 may.1) (scanning pass may.0 (may.1 + 1)) (λ _. full) (λ _. scan_locks sizes pass now may.0 (may.1 + 1) full))
 lock_loads sizes values pass (DIRTY page) found number history held may =
-    let full = at_stage sizes pass (Reading may.0) may.1.stage held in
+    let full = missed_locks sizes values pass page may.tries held may.miss in
     if_both (HoldsLocks sizes (stepped sizes number history (Loads (DIRTY page)) found pass)) (found == 0) (Fetching page false) (Waiting page) (λ _. full) (λ _. full)
+lock_loads sizes values pass (HINT buffer) found number history held may =
+    let now = stepped sizes number history (Loads (HINT buffer)) found pass in
+    let full = at_stage sizes pass (Searching may.page may.tries (Hinting buffer)) may.is held in
+    hinting_next (HoldsLocks sizes now) sizes pass buffer found may
+    (if_both (λ s. HoldsLocks sizes now (Searching may.page may.tries s)) (is_among (first_page sizes pass.call) (end_page sizes pass.call) found) Nothing (Seeking buffer found) (λ _. full) (λ _. full))
 lock_loads sizes values pass word found number history held may = absurd may
 
 -- a lock that is found shut
@@ -192,10 +209,11 @@ no_more n = omega arith
 more_none : (n : ℕ) → n ≡ n + 0
 more_none n = omega arith
 
-lock_takes : (sizes : Sizes) (pass : Pass) (cell : Word) (found number : ℕ) (history : List Answered) → Standing sizes pass → HoldsLocks sizes pass pass.stage → MayTake pass cell
-    → HoldsLocks sizes (stepped sizes number history (Takes cell) found pass) (stage_after sizes pass (Takes cell) found)
-lock_takes sizes pass (PAGE page) found number history stands held may =
-    if_both (HoldsLocks sizes now) (found == 0) (after_take sizes pass (PAGE page)) (leaving pass.hands)
+-- a page of the call
+lock_page : (sizes : Sizes) (pass : Pass) (page found number : ℕ) (history : List Answered) → Standing sizes pass → HoldsLocks sizes pass pass.stage → pass.stage ≡ Locking page
+    → HoldsLocks sizes (stepped sizes number history (Takes (PAGE page)) found pass) (if found == 0 then (if page + 1 == end_page sizes pass.call then Measuring else Locking (page + 1)) else leaving pass.hands)
+lock_page sizes pass page found number history stands held may =
+    if_both (HoldsLocks sizes now) (found == 0) (if page + 1 == end_page sizes pass.call then Measuring else Locking (page + 1)) (leaving pass.hands)
     (λ e. if_both (HoldsLocks sizes now) (page + 1 == end_page sizes pass.call) Measuring (Locking (page + 1))
     (λ last. taken sizes pass now (Locking page) Measuring (PAGE page) (took sizes pass (PAGE page) found number history e) (owed Measuring (λ p. ap (λ end. one_if (is_among (first_page sizes pass.call) end p)) (sym (eqb-true (page + 1) (end_page sizes pass.call) last)) ∙ more p) refl refl (λ p. refl)) before)
     (λ _. taken sizes pass now (Locking page) (Locking (page + 1)) (PAGE page) (took sizes pass (PAGE page) found number history e) (owed (Locking (page + 1)) more refl refl (λ p. refl)) before))
@@ -221,6 +239,33 @@ lock_takes sizes pass (PAGE page) found number history stands held may =
     owed stage pages size store none (STORE file) = ap (λ n. if file == file_of pass.call then n else 0) store ∙ no_more _
     owed stage pages size store none (CLEANUP p) = none p
     owed stage pages size store none other = refl
+
+-- a victim
+lock_victim : (sizes : Sizes) (pass : Pass) (victim found number : ℕ) (history : List Answered) → HoldsLocks sizes pass pass.stage → (may : IsSeeking pass.stage victim)
+    → HoldsLocks sizes (stepped sizes number history (Takes (PAGE victim)) found pass) (if found == 0 then Searching may.page may.tries (Robbing may.buffer victim) else Searching may.page may.tries Nothing)
+lock_victim sizes pass victim found number history held may =
+    if_both (HoldsLocks sizes now) (found == 0) (Searching may.page may.tries (Robbing may.buffer victim)) (Searching may.page may.tries Nothing)
+    (λ e. taken sizes pass now (Searching may.page may.tries (Seeking may.buffer victim)) (Searching may.page may.tries (Robbing may.buffer victim)) (PAGE victim) (took sizes pass (PAGE victim) found number history e) owed before)
+    (λ e cell lock. ap (λ b. times cell (moved (if b then Comes (PAGE victim) else Stays) pass.hands)) e ∙ before cell lock)
+  where
+    now : Pass
+    now = stepped sizes number history (Takes (PAGE victim)) found pass
+
+    before : HoldsLocks sizes pass (Searching may.page may.tries (Seeking may.buffer victim))
+    before = at_stage sizes pass (Searching may.page may.tries (Seeking may.buffer victim)) may.is held
+
+    owed : (other : Word) → lock_held sizes (stepped sizes number history (Takes (PAGE victim)) found pass) (Searching may.page may.tries (Robbing may.buffer victim)) other
+        ≡ one_if (same other (PAGE victim)) + lock_held sizes pass (Searching may.page may.tries (Seeking may.buffer victim)) other
+    owed (PAGE p) = refl
+    owed (SIZE file) = no_more _
+    owed (STORE file) = no_more _
+    owed other = refl
+
+lock_takes : (sizes : Sizes) (pass : Pass) (cell : Word) (found number : ℕ) (history : List Answered) → Standing sizes pass → HoldsLocks sizes pass pass.stage → MayTake pass cell
+    → HoldsLocks sizes (stepped sizes number history (Takes cell) found pass) (stage_after sizes pass (Takes cell) found)
+lock_takes sizes pass (PAGE page) found number history stands held may =
+    tried_next (HoldsLocks sizes (stepped sizes number history (Takes (PAGE page)) found pass)) sizes pass page found
+    (lock_page sizes pass page found number history stands held) (lock_victim sizes pass page found number history held) may
 lock_takes sizes pass (SIZE file) found number history stands held may =
     if_both (HoldsLocks sizes now) (found == 0) Measuring (leaving pass.hands)
     (λ e. taken sizes pass now Sizing Measuring (SIZE file) (took sizes pass (SIZE file) found number history e) (owed (when_true (found == 0) true pass.sized e)) (at_stage sizes pass Sizing may.0 held))
@@ -370,6 +415,21 @@ lock_gives sizes pass (CLEANUP page) found number history (Unlocking next) at he
     owed (SIZE file) = no_more _
     owed (STORE file) = no_more _
     owed other = refl
+lock_gives sizes pass (PAGE page) found number history (Searching missed_one tries (Robbing buffer victim)) at held may =
+    given sizes pass now (Searching missed_one tries (Robbing buffer victim)) (Searching missed_one tries (Robbed buffer)) (PAGE page) refl some owed held
+  where
+    now : Pass
+    now = stepped sizes number history (Gives (PAGE page)) found pass
+
+    some : 1 ≤ times (PAGE page) pass.hands
+    some = (let a = held (PAGE page) (λ slot. differ (PAGE page) (ENTRY slot) refl) in let b : one_if (page == victim) ≡ 1 = when_true (page == victim) 1 0 (eq-eqb page victim may) in omega (arith, a, b))
+
+    owed : (other : Word) → lock_held sizes pass (Searching missed_one tries (Robbing buffer victim)) other
+        ≡ one_if (same other (PAGE page)) + lock_held sizes (stepped sizes number history (Gives (PAGE page)) found pass) (Searching missed_one tries (Robbed buffer)) other
+    owed (PAGE p) = ap (λ q. one_if (p == q) + one_if (is_among (first_page sizes pass.call) (end_page sizes pass.call) p)) (sym may)
+    owed (SIZE file) = no_more _
+    owed (STORE file) = no_more _
+    owed other = refl
 lock_gives sizes pass cell found number history stage at held may = absurd (gives_one pass cell stage may)
 
 -- ---- all steps
@@ -430,4 +490,6 @@ lock_steps sizes values pass (Returns next) found number history stands held may
     (if_both (HoldsLocks sizes now) may.1 (leaving (without (ENTRY (slot_of sizes next)) pass.hands)) (scanning pass may.0 (next + 1))
     (λ _. out sizes now (without (ENTRY (slot_of sizes next)) pass.hands) refl)
     (λ _. scan_locks sizes pass now may.0 (next + 1) (entry_given sizes pass now (Restoring may.0 next may.1) (slot_of sizes next) refl (at_stage sizes pass (Restoring may.0 next may.1) may.2 held))))
+lock_steps sizes values pass (Turns page) found number history stands held may = missed_locks sizes values pass page may.tries held may.miss
+lock_steps sizes values pass (Hints buffer page) found number history stands held may = at_stage sizes pass (Searching page may.tries (Robbed buffer)) may.is held
 lock_steps sizes values pass deed found number history stands held may = absurd may

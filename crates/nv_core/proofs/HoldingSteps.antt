@@ -6,7 +6,7 @@ use Rattle.nv_plain.specs.declared.call.FileCall.{FileCall}
 use Rattle.nv_core.specs.Words.{Sizes, Word, SIZE, STORE, ENTRY, PAGE}
 use Rattle.nv_core.specs.Values.{Ending, Made, Failed}
 use Rattle.nv_core.specs.Passes.{Stage, Idle, Locking, Checking, Copying, Drawing, Seizing, Committing, Pledging, Readying, Placing, ReadFailing, WriteFailing, Breaking, Pass, IsFilling, IsAllowed, IsAmong, file_of, page_count, first_page, end_page, without, times, Grasping, Patching, Restoring, PieceFailing, IsHeld}
-use Rattle.nv_core.specs.Deeds.{Deed, moved, move_of, slot_of, Loads, Takes, Gives, Places, Stops, Draws, Seizes, Pledges, Readies, Grows, Breaks, Holds, Returns}
+use Rattle.nv_core.specs.Deeds.{Deed, moved, move_of, slot_of, Loads, Takes, Gives, Places, Stops, Draws, Seizes, Pledges, Readies, Grows, Breaks, Turns, Hints, Holds, Returns}
 use Rattle.nv_core.specs.Stages.{stage_after, after_stop, leaving, scanning, after_hold, after_return}
 use Rattle.nv_core.specs.Stepped.{stepped, begun, first_after, entries_after}
 use Rattle.nv_core.specs.Order.{Values, Work, MayWork, IsDue, commit_steps, MayStep, IsFailing}
@@ -185,6 +185,8 @@ entry_steps sizes values pass (Takes cell) found stands may held = still sizes v
 entry_steps sizes values pass (Gives cell) found stands may held = still sizes values pass (Gives cell) found pass.first pass.entries tt may held
 entry_steps sizes values pass (Places reply) found stands may held = still sizes values pass (Places reply) found pass.first pass.entries tt may held
 entry_steps sizes values pass Grows found stands may held = still sizes values pass Grows found pass.first pass.entries tt may held
+entry_steps sizes values pass (Turns page) found stands may held = still sizes values pass (Turns page) found pass.first pass.entries tt may held
+entry_steps sizes values pass (Hints buffer page) found stands may held = still sizes values pass (Hints buffer page) found pass.first pass.entries tt may held
 entry_steps sizes values pass Stops found stands may held = stops pass.stage may held
   where
     stops : (stage : Stage) → IsFailing stage → InHands sizes stage pass.first pass.entries pass.hands → InHands sizes (after_stop pass stage) pass.first pass.entries pass.hands

@@ -16,7 +16,7 @@ use Rattle.nv_core.specs.Sound.{Sound}
 use Rattle.nv_core.proofs.Changes.{by_number, differ}
 use Rattle.nv_core.proofs.Choices.{if_both}
 use Rattle.nv_core.proofs.KeepsLoaded.{holds_page}
-use Rattle.nv_core.proofs.BarredLaws.{IsTakenBefore, before, unstopped, found_open, first_unchecked, worked_checked, barred_step, barred_begin, barred_work}
+use Rattle.nv_core.proofs.BarredLaws.{lent, IsTakenBefore, before, unstopped, found_open, first_unchecked, worked_checked, barred_step, barred_begin, barred_work}
 
 -- ---- the parts
 
@@ -78,8 +78,8 @@ Bars sizes fault cell = (page : ℕ) × (cell ≡ PAGE page) × IsPage sizes fau
 early : (sizes : Sizes) (fault : Fault) (cell : Word) → Bars sizes fault cell → IsTakenBefore cell
 early sizes fault cell is = subst IsTakenBefore (sym is.1) record { store = λ file. differ (PAGE is.0) (STORE file) refl; cleanup = λ page. differ (PAGE is.0) (CLEANUP page) refl; entry = λ slot. differ (PAGE is.0) (ENTRY slot) refl }
 
-were_barred : (sizes : Sizes) (core : Core) → Broken sizes core → (n m : ℕ) (cell : Word) (fault : Fault) → IsOneOf (core.passes n).faulted fault → Bars sizes fault cell → HasChecked (core.passes m).stage → times cell (core.passes m).hands ≡ 0
-were_barred sizes core broken n m cell fault is at checked = subst (λ c. times c (core.passes m).hands ≡ 0) (sym at.1) (broken.pages n m at.0 fault is at.2 checked)
+were_barred : (sizes : Sizes) (core : Core) → Broken sizes core → (n m : ℕ) (cell : Word) (fault : Fault) → IsOneOf (core.passes n).faulted fault → Bars sizes fault cell → HasChecked (core.passes m).stage → times cell (core.passes m).hands ≤ lent (core.passes m).stage cell
+were_barred sizes core broken n m cell fault is at checked = subst (λ c. times c (core.passes m).hands ≤ lent (core.passes m).stage c) (sym at.1) (broken.pages n m at.0 fault is at.2 checked)
 
 pub broken_step : (sizes : Sizes) (first : Values) (by : ℕ) (core : Core) (deed : Deed) (found : ℕ) → Sound sizes first core → Broken sizes core → MayFind sizes by core deed found → Broken sizes (after_step sizes by deed found core)
 broken_step sizes first by core deed found sound broken may = record {

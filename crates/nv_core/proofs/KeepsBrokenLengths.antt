@@ -1,5 +1,5 @@
 -- Each event keeps what became of the lengths of broken writes.
-use Rattle.std.proofs.Common.{◌≡◌, ℕ, ◌+◌, nat_lt, true, refl, sym, subst}
+use Rattle.std.proofs.Common.{◌≡◌, ℕ, ◌+◌, ◌≤◌, nat_lt, true, refl, sym, subst, arith}
 use Rattle.std.proofs.lemmas.Bool.{and_from, lt-ltb, true≢false}
 use Rattle.nv_plain.specs.declared.call.FileCall.{FileCall}
 use Rattle.nv_plain.specs.declared.call.FileCall.TheVariants.{Read, Write, Sync}
@@ -16,7 +16,7 @@ use Rattle.nv_core.specs.Loaded.{HasMeasured}
 use Rattle.nv_core.specs.Sound.{Sound}
 use Rattle.nv_core.proofs.Changes.{differ}
 use Rattle.nv_core.proofs.KeepsLoaded.{holds_size}
-use Rattle.nv_core.proofs.BarredLaws.{IsTakenBefore, barred_step, barred_begin, barred_work}
+use Rattle.nv_core.proofs.BarredLaws.{lent, IsTakenBefore, barred_step, barred_begin, barred_work}
 
 -- the SIZE of its file, which the fault of an extending write bars
 abbrev Bars : Fault → Word → Type 0
@@ -25,8 +25,11 @@ Bars fault cell = (cell ≡ SIZE (file_of fault.call)) × IsExtending fault
 early : (fault : Fault) (cell : Word) → Bars fault cell → IsTakenBefore cell
 early fault cell is = subst IsTakenBefore (sym is.0) record { store = λ file. differ (SIZE (file_of fault.call)) (STORE file) refl; cleanup = λ page. differ (SIZE (file_of fault.call)) (CLEANUP page) refl; entry = λ slot. differ (SIZE (file_of fault.call)) (ENTRY slot) refl }
 
-were_barred : (core : Core) → BrokenLengths core → (n m : ℕ) (cell : Word) (fault : Fault) → IsOneOf (core.passes n).faulted fault → Bars fault cell → HasChecked (core.passes m).stage → times cell (core.passes m).hands ≡ 0
-were_barred core was n m cell fault is at checked = subst (λ c. times c (core.passes m).hands ≡ 0) (sym at.0) (was.files n m fault is at.1 checked)
+were_barred : (core : Core) → BrokenLengths core → (n m : ℕ) (cell : Word) (fault : Fault) → IsOneOf (core.passes n).faulted fault → Bars fault cell → HasChecked (core.passes m).stage → times cell (core.passes m).hands ≤ lent (core.passes m).stage cell
+were_barred core was n m cell fault is at checked = subst (λ c. times c (core.passes m).hands ≤ lent (core.passes m).stage c) (sym at.0) (let none = was.files n m fault is at.1 checked in omega (arith, none))
+
+none : (count : ℕ) → count ≤ 0 → count ≡ 0
+none count least = omega arith
 
 -- a pass whose extending write fails holds SIZE
 some_bytes : (call : FileCall) → is_write call ≡ true → nat_lt 0 (len_of call) ≡ true
@@ -50,13 +53,13 @@ failing_size sizes first core by sound fails extends =
 
 pub broken_lengths_step : (sizes : Sizes) (first : Values) (by : ℕ) (core : Core) (deed : Deed) (found : ℕ) → Sound sizes first core → MayFind sizes by core deed found → BrokenLengths (after_step sizes by deed found core)
 broken_lengths_step sizes first by core deed found sound may = record {
-  files = λ n m fault is at. barred_step Bars early sizes first by core deed found sound may
+  files = λ n m fault is at checked. none _ (barred_step Bars early sizes first by core deed found sound may
       (λ fails cell own. subst (λ c. times c (core.passes by).hands ≡ 1) (sym own.0) (failing_size sizes first core by sound fails own.1))
-      (were_barred core sound.broken_lengths) n m (SIZE (file_of fault.call)) fault is (refl, at);
+      (were_barred core sound.broken_lengths) n m (SIZE (file_of fault.call)) fault is (refl, at) checked);
 }
 
 pub broken_lengths_begin : (sizes : Sizes) (by : ℕ) (core : Core) (call : FileCall) → BrokenLengths core → BrokenLengths (after_begin sizes by call core)
-broken_lengths_begin sizes by core call was = record { files = λ n m fault is at. barred_begin Bars early sizes by core call (were_barred core was) n m (SIZE (file_of fault.call)) fault is (refl, at) }
+broken_lengths_begin sizes by core call was = record { files = λ n m fault is at checked. none _ (barred_begin Bars early sizes by core call (were_barred core was) n m (SIZE (file_of fault.call)) fault is (refl, at) checked) }
 
 pub broken_lengths_work : (sizes : Sizes) (by : ℕ) (core : Core) (work : Work) → BrokenLengths core → MayWork sizes core.values (core.passes by) work → BrokenLengths (after_work sizes by work core)
-broken_lengths_work sizes by core work was may = record { files = λ n m fault is at. barred_work Bars early sizes by core work may (were_barred core was) n m (SIZE (file_of fault.call)) fault is (refl, at) }
+broken_lengths_work sizes by core work was may = record { files = λ n m fault is at checked. none _ (barred_work Bars early sizes by core work may (were_barred core was) n m (SIZE (file_of fault.call)) fault is (refl, at) checked) }

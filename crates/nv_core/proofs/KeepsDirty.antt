@@ -4,7 +4,7 @@ use Rattle.std.proofs.lemmas.Bool.{eqb-true, eqb-false, eq-eqb, ne_eqb, le-leb, 
 use Rattle.nv_plain.specs.declared.call.FileCall.{FileCall}
 use Rattle.nv_core.specs.Words.{Sizes, Word, PAGE, ENTRY, DIRTY, index, kind_of, page_of, ready, held, filling, broken, entry_word, is_entry_of}
 use Rattle.nv_core.specs.Passes.{Stage, Locking, Checking, Copying, Seizing, Committing, Pledging, Readying, Placing, ReadFailing, WriteFailing, Breaking, Pass, without, IsUnseized, IsFilling, IsAmong, IsAllowed, page_count, first_page, end_page, times, Patching, PieceFailing}
-use Rattle.nv_core.specs.Deeds.{Deed, slot_of, page_at, ready_word, Loads, Takes, Gives, Places, Stops, Draws, Seizes, Pledges, Readies, Grows, Breaks, Splits, Leaves, Joins, Holds, Returns}
+use Rattle.nv_core.specs.Deeds.{Deed, slot_of, page_at, ready_word, Loads, Takes, Gives, Places, Stops, Draws, Seizes, Pledges, Readies, Grows, Breaks, Splits, Leaves, Joins, Turns, Hints, Holds, Returns}
 use Rattle.nv_core.specs.Values.{Ending, Made, Failed}
 use Rattle.nv_core.specs.Stages.{leaving, after_stop}
 use Rattle.nv_core.specs.Stepped.{stepped, begun}
@@ -423,6 +423,8 @@ dirty_step sizes first by core (Takes cell) found sound dirty may = plain_step s
 dirty_step sizes first by core (Gives cell) found sound dirty may = plain_step sizes first by core (Gives cell) found sound dirty may tt may.may refl refl (λ page. refl) (λ slot. refl)
 dirty_step sizes first by core (Places reply) found sound dirty may = plain_step sizes first by core (Places reply) found sound dirty may tt may.may refl refl (λ page. refl) (λ slot. refl)
 dirty_step sizes first by core Grows found sound dirty may = plain_step sizes first by core Grows found sound dirty may tt may.may refl refl (λ page. refl) (λ slot. refl)
+dirty_step sizes first by core (Turns page) found sound dirty may = plain_step sizes first by core (Turns page) found sound dirty may tt may.may refl refl (λ page. refl) (λ slot. refl)
+dirty_step sizes first by core (Hints buffer page) found sound dirty may = plain_step sizes first by core (Hints buffer page) found sound dirty may tt may.may refl refl (λ page. refl) (λ slot. refl)
 dirty_step sizes first by core Stops found sound dirty may = let un = stopped_unpledged (core.passes by) (core.passes by).stage may.may in
     silent_step sizes first by core Stops found sound dirty may (λ page. refl) (same_entries sizes by core Stops found may (λ slot. refl)) un.0 un.1
 dirty_step sizes first by core Draws found sound dirty may = silent_step sizes first by core Draws found sound dirty may (λ page. refl) (same_entries sizes by core Draws found may (λ slot. refl))

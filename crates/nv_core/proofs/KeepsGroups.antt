@@ -5,7 +5,7 @@ use Rattle.nv_plain.specs.declared.call.FileCall.{FileCall}
 use Rattle.nv_core.specs.Words.{Sizes, HEAD, TAIL}
 use Rattle.nv_core.specs.Values.{Ending, Made, Failed}
 use Rattle.nv_core.specs.Passes.{Stage, Locking, Checking, Copying, Seizing, Committing, Pledging, Readying, ReadFailing, WriteFailing, Breaking, Pass, IsAllowed, IsAmong, is_write, page_count, first_page, PieceFailing, Patching}
-use Rattle.nv_core.specs.Deeds.{Deed, Loads, Takes, Gives, Places, Stops, Draws, Seizes, Pledges, Readies, Grows, Breaks, Splits, Leaves, Joins, Holds, Returns}
+use Rattle.nv_core.specs.Deeds.{Deed, Loads, Takes, Gives, Places, Stops, Draws, Seizes, Pledges, Readies, Grows, Breaks, Splits, Leaves, Joins, Turns, Hints, Holds, Returns}
 use Rattle.nv_core.specs.Stages.{stage_after, after_stop, leaving}
 use Rattle.nv_core.specs.Stepped.{begun}
 use Rattle.nv_core.specs.Order.{Values, Work, MayWork, IsDue, IsFailing, MayStep}
@@ -43,6 +43,8 @@ had sizes values pass found (Takes cell) ne may is = absurd (clear_group _ (clea
 had sizes values pass found (Gives cell) ne may is = absurd (clear_group _ (clear_to sizes values pass (Gives cell) found tt may) is)
 had sizes values pass found (Places reply) ne may is = absurd (clear_group _ (clear_to sizes values pass (Places reply) found tt may) is)
 had sizes values pass found Grows ne may is = absurd (clear_group _ (clear_to sizes values pass Grows found tt may) is)
+had sizes values pass found (Turns page) ne may is = absurd is
+had sizes values pass found (Hints buffer page) ne may is = absurd is
 had sizes values pass found Stops ne may is = stops pass.stage may is
   where
     stops : (stage : Stage) → IsFailing stage → HasGroup (after_stop pass stage) → HasGroup stage
@@ -217,6 +219,8 @@ groups_step sizes first by core log (Loads word) found sound groups may = step_s
 groups_step sizes first by core log (Takes cell) found sound groups may = step_same sizes first by core log (Takes cell) found sound groups may refl refl (λ is. (had sizes core.values (core.passes by) found (Takes cell) refl may.may is, refl))
 groups_step sizes first by core log (Gives cell) found sound groups may = step_same sizes first by core log (Gives cell) found sound groups may refl refl (λ is. (had sizes core.values (core.passes by) found (Gives cell) refl may.may is, refl))
 groups_step sizes first by core log (Places reply) found sound groups may = step_same sizes first by core log (Places reply) found sound groups may refl refl (λ is. (had sizes core.values (core.passes by) found (Places reply) refl may.may is, refl))
+groups_step sizes first by core log (Turns page) found sound groups may = step_same sizes first by core log (Turns page) found sound groups may refl refl (λ is. absurd is)
+groups_step sizes first by core log (Hints buffer page) found sound groups may = step_same sizes first by core log (Hints buffer page) found sound groups may refl refl (λ is. absurd is)
 groups_step sizes first by core log Stops found sound groups may = step_same sizes first by core log Stops found sound groups may refl refl (λ is. (had sizes core.values (core.passes by) found Stops refl may.may is, refl))
 groups_step sizes first by core log (Seizes next) found sound groups may = step_same sizes first by core log (Seizes next) found sound groups may refl refl (λ is. (had sizes core.values (core.passes by) found (Seizes next) refl may.may is, refl))
 groups_step sizes first by core log (Pledges page) found sound groups may = step_same sizes first by core log (Pledges page) found sound groups may refl refl (λ is. (had sizes core.values (core.passes by) found (Pledges page) refl may.may is, refl))

@@ -6,10 +6,10 @@ use Rattle.nv_plain.specs.Histories.{Answered}
 use Rattle.nv_plain.specs.declared.call.FileCall.{FileCall}
 use Rattle.nv_plain.specs.declared.call.Reply.{Reply}
 use Rattle.nv_core.specs.Totals.{total}
-use Rattle.nv_core.specs.Words.{Sizes, Word, STOP, ORDER, HEAD, TAIL, SIZE, LENGTH, STORE, ENTRY, PAGE, DIRTY, CLEANUP}
-use Rattle.nv_core.specs.Passes.{Stage, Idle, Locking, Measuring, Sizing, Checking, Ordering, Reading, Fetching, Copying, Returning, Heading, Tailing, Drawing, Seizing, Committing, Pledging, Readying, Placing, Growing, Releasing, Giving, Leaving, ReadFailing, WriteFailing, Breaking, Pass, is_write, page_count, first_page, end_page, without, Waiting, Bounding, Starting, Scanning, Grasping, Patching, Restoring, Unlocking, PieceFailing}
-use Rattle.nv_core.specs.Deeds.{Deed, Loads, Takes, Gives, Places, Stops, Draws, Seizes, Pledges, Readies, Grows, Breaks, Splits, Leaves, Joins, slot_of, Holds, Returns}
-use Rattle.nv_core.specs.Stages.{stage_after, after_load, after_take, after_give, after_stop, leaving, giving, ending, exceeds, ordered, after_return}
+use Rattle.nv_core.specs.Words.{Sizes, Word, STOP, ORDER, HEAD, TAIL, SIZE, LENGTH, STORE, ENTRY, PAGE, DIRTY, HINT, CLEANUP}
+use Rattle.nv_core.specs.Passes.{Stage, Idle, Locking, Measuring, Sizing, Checking, Ordering, Reading, Fetching, Copying, Returning, Heading, Tailing, Drawing, Seizing, Committing, Pledging, Readying, Placing, Growing, Releasing, Giving, Leaving, ReadFailing, WriteFailing, Breaking, Pass, is_write, page_count, first_page, end_page, without, Searching, Hinting, Seeking, Waiting, Bounding, Starting, Scanning, Grasping, Patching, Restoring, Unlocking, PieceFailing}
+use Rattle.nv_core.specs.Deeds.{Deed, Loads, Takes, Gives, Places, Stops, Draws, Seizes, Pledges, Readies, Grows, Breaks, Splits, Leaves, Joins, slot_of, Turns, Hints, Holds, Returns}
+use Rattle.nv_core.specs.Stages.{stage_after, after_load, after_give, after_stop, leaving, giving, ending, exceeds, ordered, after_return}
 use Rattle.nv_core.specs.Stepped.{stepped, added, begun}
 use Rattle.nv_core.specs.Order.{Values, Work, MayWork, MayStep, MayLoad, MayTake, MayPlace, IsDue, IsFailing}
 use Rattle.nv_core.specs.Core.{Core, changes, changed, made_stepped, after_step, after_begin, after_work, worked, stage_worked, with_number}
@@ -23,6 +23,7 @@ use Rattle.nv_core.proofs.WordLaws.{untouched, touches}
 use Rattle.nv_core.proofs.TotalLaws.{total_same, total_at, total_more}
 use Rattle.nv_core.proofs.Inherits.{inherits}
 use Rattle.nv_core.proofs.KeepsLoaded.{more_made}
+use Rattle.nv_core.proofs.SearchLaws.{turned_at, looked_at, tried_next, hinted_at}
 
 -- ---- lists
 
@@ -91,12 +92,16 @@ quiet_load sizes values pass ORDER found quiet may = absurd quiet
 quiet_load sizes values pass HEAD found quiet may = elim may [ inl here ↦ from_open pass.stage _ Heading here refl | inr here ↦ from_open pass.stage _ (Bounding here.0) here.1 refl ]
 quiet_load sizes values pass TAIL found quiet may = elim may [ inl here ↦ from_open pass.stage _ Tailing here refl | inr here ↦ from_open pass.stage _ (Starting here.0) here.1 refl ]
 quiet_load sizes values pass (ENTRY slot) found quiet may = from_open pass.stage _ (Scanning may.0 may.1) may.2 refl
-quiet_load sizes values pass (DIRTY page) found quiet may = from_open pass.stage _ (Reading may.0) may.1.stage refl
+quiet_load sizes values pass (DIRTY page) found quiet may = looked_at (λ s. stage_open (after_load sizes pass (DIRTY page) found) ≤ stage_open s) sizes values pass page
+    (λ from. from_open (Reading from) _ (Reading from) refl refl) (λ tries search. from_open (Searching page tries search) _ (Searching page tries search) refl refl) may
+quiet_load sizes values pass (HINT buffer) found quiet may = from_open pass.stage _ (Searching may.page may.tries (Hinting buffer)) may.is refl
 quiet_load sizes values pass word found quiet may = absurd may
 
 quiet_take : (sizes : Sizes) (pass : Pass) (cell : Word) (found : ℕ) → MayTake pass cell → stage_open (stage_after sizes pass (Takes cell) found) ≤ stage_open pass.stage
-quiet_take sizes pass (PAGE page) found may = to_none pass.stage _ (if_both (λ s. stage_open s ≡ 0) (found == 0) (after_take sizes pass (PAGE page)) (leaving pass.hands)
-    (λ _. if_both (λ s. stage_open s ≡ 0) (page + 1 == end_page sizes pass.call) Measuring (Locking (page + 1)) (λ _. refl) (λ _. refl)) (λ _. none_leaving pass.hands))
+quiet_take sizes pass (PAGE page) found may = tried_next (λ s. stage_open s ≤ stage_open pass.stage) sizes pass page found
+    (λ _. to_none pass.stage _ (if_both (λ s. stage_open s ≡ 0) (found == 0) (if page + 1 == end_page sizes pass.call then Measuring else Locking (page + 1)) (leaving pass.hands)
+    (λ _. if_both (λ s. stage_open s ≡ 0) (page + 1 == end_page sizes pass.call) Measuring (Locking (page + 1)) (λ _. refl) (λ _. refl)) (λ _. none_leaving pass.hands)))
+    (λ s. from_open pass.stage _ (Searching s.page s.tries (Seeking s.buffer page)) s.is refl) may
 quiet_take sizes pass (SIZE file) found may = to_none pass.stage _ (if_both (λ s. stage_open s ≡ 0) (found == 0) Measuring (leaving pass.hands) (λ _. refl) (λ _. none_leaving pass.hands))
 quiet_take sizes pass (STORE file) found may = from_open pass.stage _ (Fetching may.0 may.1) may.2 refl
 quiet_take sizes pass (CLEANUP page) found may = from_open pass.stage _ (Waiting page) may refl
@@ -108,6 +113,7 @@ quiet_give sizes pass cell Releasing may = to_none Releasing _ (none_giving size
 quiet_give sizes pass cell (Giving page) may = to_none (Giving page) _ (if_both (λ s. stage_open s ≡ 0) (page + 1 == end_page sizes pass.call) Idle (Giving (page + 1)) (λ _. refl) (λ _. refl))
 quiet_give sizes pass cell (Returning page dirty) may = most_open (if dirty then Bounding page else Reading (page + 1))
 quiet_give sizes pass cell (Unlocking page) may = omega arith
+quiet_give sizes pass cell (Searching page tries search) may = omega arith
 quiet_give sizes pass cell stage may = absurd may
 
 -- what a quiet step leaves open of its pass
@@ -130,6 +136,8 @@ quiet sizes values pass found number history Grows is may = let a = none_ending 
 quiet sizes values pass found number history (Breaks next) is may =
     let a = if_both (λ s. stage_open s ≡ 0) (next + 1 == pass.first + pass.entries) (leaving (without (ENTRY (slot_of sizes next)) pass.hands)) (Breaking (next + 1)) (λ _. none_leaving (without (ENTRY (slot_of sizes next)) pass.hands)) (λ _. refl) in
     omega (arith, a)
+quiet sizes values pass found number history (Turns page) is may = let a = turned_at (λ s. 1 ≤ stage_open s) sizes values pass page (λ _. omega arith) (λ _ _. omega arith) may in omega (arith, a)
+quiet sizes values pass found number history (Hints buffer page) is may = let a = hinted_at (λ s. 1 ≤ stage_open s) values pass buffer page (λ _. omega arith) may in omega (arith, a)
 quiet sizes values pass found number history (Places reply) is may = absurd is
 quiet sizes values pass found number history (Holds next) is may = let a = from_open pass.stage (stage_after sizes pass (Holds next) found) (Grasping may.0 next) may.1 refl in omega (arith, a)
 quiet sizes values pass found number history (Returns next) is may = let a = go may.1 may.2 in omega (arith, a)

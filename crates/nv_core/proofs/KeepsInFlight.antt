@@ -4,11 +4,11 @@ use Rattle.std.proofs.lemmas.Bool.{eqb-true, eq-eqb, cases_eq, and_from, le-leb,
 use Rattle.nv_plain.specs.declared.call.FileCall.{FileCall}
 use Rattle.nv_plain.specs.declared.call.FileCall.TheVariants.{Read, Write, Sync}
 use Rattle.nv_plain.specs.declared.call.Reply.{Reply}
-use Rattle.nv_core.specs.Words.{Sizes, Word, STOP, ORDER, HEAD, TAIL, LENGTH, DIRTY, PAGE, SIZE, STORE, ENTRY, free, filling, broken, index, was_readied, CLEANUP, ready, is_entry_of}
+use Rattle.nv_core.specs.Words.{Sizes, Word, STOP, ORDER, HEAD, TAIL, LENGTH, DIRTY, PAGE, SIZE, STORE, ENTRY, free, filling, broken, index, HINT, was_readied, CLEANUP, ready, is_entry_of}
 use Rattle.nv_core.specs.Values.{Ending, Made, Failed}
-use Rattle.nv_core.specs.Passes.{Stage, Idle, Locking, Measuring, Sizing, Checking, Ordering, Reading, Heading, Tailing, Drawing, Fetching, Waiting, Copying, Seizing, Committing, Pledging, Readying, Placing, Growing, Releasing, Giving, Leaving, Returning, ReadFailing, WriteFailing, Breaking, Pass, IsUnseized, IsFilling, IsAmong, is_write, is_read, page_count, first_page, end_page, without, times, Bounding, Scanning, Grasping, Patching, Restoring, Unlocking, PieceFailing}
-use Rattle.nv_core.specs.Deeds.{Deed, slot_of, page_at, ready_word, Loads, Takes, Gives, Places, Stops, Draws, Seizes, Pledges, Readies, Grows, Breaks, Splits, Leaves, Joins, Holds, Returns}
-use Rattle.nv_core.specs.Stages.{stage_after, after_load, after_take, after_give, after_stop, leaving, giving, ending, ordered, copying, exceeds, scanning, after_head, after_tail, after_look, after_hold, after_return}
+use Rattle.nv_core.specs.Passes.{Stage, Idle, Locking, Measuring, Sizing, Checking, Ordering, Reading, Heading, Tailing, Drawing, Fetching, Waiting, Copying, Seizing, Committing, Pledging, Readying, Placing, Growing, Releasing, Giving, Leaving, Returning, ReadFailing, WriteFailing, Breaking, Pass, IsUnseized, IsFilling, IsAmong, is_write, is_read, page_count, first_page, end_page, without, times, Searching, Bounding, Scanning, Grasping, Patching, Restoring, Unlocking, PieceFailing}
+use Rattle.nv_core.specs.Deeds.{Deed, slot_of, page_at, ready_word, Loads, Takes, Gives, Places, Stops, Draws, Seizes, Pledges, Readies, Grows, Breaks, Splits, Leaves, Joins, Turns, Hints, Holds, Returns}
+use Rattle.nv_core.specs.Stages.{stage_after, after_load, after_give, after_stop, leaving, giving, ending, ordered, copying, exceeds, scanning, after_head, after_tail, after_look, after_hold, after_return}
 use Rattle.nv_core.specs.Stepped.{begun}
 use Rattle.nv_core.specs.Order.{Values, Work, MayWork, IsDue, IsFailing, commit_steps, MayStep, MayLoad, MayTake, MayPlace}
 use Rattle.nv_core.specs.Core.{Core, changes, changed, with_word, with_number, after_step, after_begin, after_work, worked, stage_worked}
@@ -21,7 +21,7 @@ use Rattle.nv_core.specs.Pieces.{page_of_number}
 use Rattle.nv_core.specs.InFlight.{placed_stepped, IsFlying, IsWaiting, InFlight}
 use Rattle.nv_core.specs.Sound.{Sound}
 use Rattle.nv_core.proofs.Changes.{by_number, by_word, number_here, number_else, word_here, word_else, differ}
-use Rattle.nv_core.proofs.Choices.{if_both, not_both, when_true, when_false, leaving_both, IsGivingBack, gives_back}
+use Rattle.nv_core.proofs.Choices.{if_both, not_both, when_true, when_false, leaving_both, IsGivingBack, gives_back, page_tried}
 use Rattle.nv_core.proofs.LockLaws.{only_holder}
 use Rattle.nv_core.proofs.PageLaws.{write_pages}
 use Rattle.nv_core.proofs.WordLaws.{untouched, touches}
@@ -30,6 +30,7 @@ use Rattle.nv_core.proofs.KeepsWindow.{window_step}
 use Rattle.nv_core.proofs.WindowLaws.{apart_within}
 use Rattle.nv_core.proofs.KeepsGroups.{is_draw, group_new, group_old, which, log_group}
 use Rattle.nv_core.proofs.Rekinded.{IsRekinded, holds_rekind, returns_rekind, rekind_still, rekind_before}
+use Rattle.nv_core.proofs.SearchLaws.{turned_at, looked_at, hinting_next, tried_at}
 
 -- ---- where a flight begins and ends
 
@@ -69,11 +70,11 @@ not_loaded sizes values pass TAIL found may = elim may [
 not_loaded sizes values pass (ENTRY slot) found may = subst (λ s. IsFlying pass (after_look pass found s) → ⊥) (sym may.2)
     (if_both (λ s. IsFlying pass s → ⊥) (is_entry_of ready may.0 found) (Grasping may.0 may.1) (scanning pass may.0 (may.1 + 1)) (λ _ z. z) (λ _. not_scanning pass pass may.0 (may.1 + 1)))
 not_loaded sizes values pass (DIRTY page) found may = if_both (λ s. IsFlying pass s → ⊥) (found == 0) (Fetching page false) (Waiting page) (λ _ z. z) (λ _ z. z)
+not_loaded sizes values pass (HINT buffer) found may = hinting_next (λ s. IsFlying pass s → ⊥) sizes pass buffer found may (λ z. z)
 not_loaded sizes values pass word found may = absurd may
 
 not_taken : (sizes : Sizes) (pass : Pass) (cell : Word) (found : ℕ) → MayTake pass cell → IsFlying pass (stage_after sizes pass (Takes cell) found) → ⊥
-not_taken sizes pass (PAGE page) found may = if_both (λ s. IsFlying pass s → ⊥) (found == 0) (after_take sizes pass (PAGE page)) (leaving pass.hands)
-    (λ _. if_both (λ s. IsFlying pass s → ⊥) (page + 1 == end_page sizes pass.call) Measuring (Locking (page + 1)) (λ _ z. z) (λ _ z. z)) (λ _. not_leaving pass pass.hands)
+not_taken sizes pass (PAGE page) found may = page_tried (λ s. IsFlying pass s → ⊥) sizes pass page found (λ z. z) (λ z. z) (not_leaving pass pass.hands) (λ _ _ _ z. z) may
 not_taken sizes pass (SIZE file) found may = if_both (λ s. IsFlying pass s → ⊥) (found == 0) Measuring (leaving pass.hands) (λ _ z. z) (λ _. not_leaving pass pass.hands)
 not_taken sizes pass (STORE file) found may = if_both (λ s. IsFlying pass s → ⊥) (found == 0) (copying pass.stage) (leaving pass.hands)
     (λ _. subst (λ s. IsFlying pass (copying s) → ⊥) (sym may.2) (λ z. z)) (λ _. not_leaving pass pass.hands)
@@ -86,6 +87,7 @@ not_given sizes pass cell Releasing may = not_giving sizes pass pass.call
 not_given sizes pass cell (Giving page) may = if_both (λ s. IsFlying pass s → ⊥) (page + 1 == end_page sizes pass.call) Idle (Giving (page + 1)) (λ _ z. z) (λ _ z. z)
 not_given sizes pass cell (Returning page dirty) may = if_both (λ s. IsFlying pass s → ⊥) dirty (Bounding page) (Reading (page + 1)) (λ _ z. z) (λ _ z. z)
 not_given sizes pass cell (Unlocking page) may = λ z. z
+not_given sizes pass cell (Searching page tries search) may = λ z. z
 not_given sizes pass cell stage may = absurd may
 
 flying_as : (old new : Pass) (stage : Stage) → new.call ≡ old.call → IsFlying new stage → IsFlying old stage
@@ -118,6 +120,8 @@ flew sizes values pass found (Breaks next) ne may is = absurd (if_both (λ s. Is
     (λ _. not_leaving pass (without (ENTRY (slot_of sizes next)) pass.hands)) (λ _ z. z) is)
 flew sizes values pass found (Holds next) ne may is = absurd (subst (λ s. IsFlying pass (after_hold s)) may.1 is)
 flew sizes values pass found (Returns next) ne may is = absurd (not_returned sizes pass pass may.0 next may.1 (subst (λ s. IsFlying pass (after_return sizes pass s)) may.2 is))
+flew sizes values pass found (Turns page) ne may is = absurd is
+flew sizes values pass found (Hints buffer page) ne may is = absurd is
 flew sizes values pass found deed ne may is = absurd may
 
 -- ---- a pass that is to take its place does nothing else
@@ -140,9 +144,10 @@ not_placing sizes values pass (Loads ORDER) ne may = elsewhere _ _ may refl
 not_placing sizes values pass (Loads HEAD) ne may = elim may [ inl here ↦ elsewhere _ _ here refl | inr here ↦ elsewhere _ _ here.1 refl ]
 not_placing sizes values pass (Loads TAIL) ne may = elim may [ inl here ↦ elsewhere _ _ here refl | inr here ↦ elsewhere _ _ here.1 refl ]
 not_placing sizes values pass (Loads (ENTRY slot)) ne may = elsewhere _ _ may.2 refl
-not_placing sizes values pass (Loads (DIRTY page)) ne may = elsewhere _ _ may.1.stage refl
+not_placing sizes values pass (Loads (DIRTY page)) ne may = looked_at (λ s. s ≡ Placing → ⊥) sizes values pass page (λ _. elsewhere _ _ refl refl) (λ _ _. elsewhere _ _ refl refl) may
+not_placing sizes values pass (Loads (HINT buffer)) ne may = elsewhere _ _ may.is refl
 not_placing sizes values pass (Loads word) ne may = absurd may
-not_placing sizes values pass (Takes (PAGE page)) ne may = elsewhere _ _ may refl
+not_placing sizes values pass (Takes (PAGE page)) ne may = tried_at (λ s. s ≡ Placing → ⊥) pass page (elsewhere _ _ refl refl) (λ _ _ _. elsewhere _ _ refl refl) may
 not_placing sizes values pass (Takes (SIZE file)) ne may = elsewhere _ _ may.0 refl
 not_placing sizes values pass (Takes (STORE file)) ne may = elsewhere _ _ may.2 refl
 not_placing sizes values pass (Takes (CLEANUP page)) ne may = elsewhere _ _ may refl
@@ -158,6 +163,8 @@ not_placing sizes values pass Grows ne may = elsewhere _ _ may refl
 not_placing sizes values pass (Breaks next) ne may = elsewhere _ _ may refl
 not_placing sizes values pass (Holds next) ne may = elsewhere _ _ may.1 refl
 not_placing sizes values pass (Returns next) ne may = elsewhere _ _ may.2 refl
+not_placing sizes values pass (Turns page) ne may = turned_at (λ s. s ≡ Placing → ⊥) sizes values pass page (λ _. elsewhere _ _ refl refl) (λ _ _. elsewhere _ _ refl refl) may
+not_placing sizes values pass (Hints buffer page) ne may = elsewhere _ _ may.is refl
 not_placing sizes values pass deed ne may = absurd may
 
 -- ---- passes in flight hold pages of their own
@@ -571,6 +578,8 @@ flight_step sizes first log placed by core (Pledges page) found sound groups fli
     (λ is. (subst (IsFlying (core.passes by)) (sym may.may) tt, refl))
     (λ _. if_both (λ s. s ≡ Placing → ⊥) (page + 1 == end_page sizes (core.passes by).call) (Readying (if (core.passes by).entries == 1 then (core.passes by).first else (core.passes by).first + 1)) (Pledging (page + 1)) (λ _. elsewhere _ _ refl refl) (λ _. elsewhere _ _ refl refl))
 flight_step sizes first log placed by core (Readies next) found sound groups flight may = ready_flight sizes first log placed by core found next sound groups flight may
+flight_step sizes first log placed by core (Turns page) found sound groups flight may = plain_flight sizes log placed by core (Turns page) found flight may refl refl (λ slot. refl) refl refl refl may.may (λ is. absurd is) (λ is _. is)
+flight_step sizes first log placed by core (Hints buffer page) found sound groups flight may = plain_flight sizes log placed by core (Hints buffer page) found flight may refl refl (λ slot. refl) refl refl refl may.may (λ is. absurd is) (λ is _. is)
 flight_step sizes first log placed by core Grows found sound groups flight may = plain_flight sizes log placed by core Grows found flight may refl refl (λ slot. refl) refl refl refl may.may
     (λ is. absurd (not_ending sizes (changed sizes by core Grows found) (core.passes by) is)) (λ is _. not_ending sizes (changed sizes by core Grows found) (core.passes by) is)
 flight_step sizes first log placed by core (Breaks next) found sound groups flight may =

@@ -7,11 +7,11 @@ use Rattle.nv_plain.specs.Calls.{files_after}
 use Rattle.nv_plain.specs.declared.call.FileCall.{FileCall}
 use Rattle.nv_plain.specs.declared.call.FileCall.TheVariants.{Read, Write, Sync}
 use Rattle.nv_plain.specs.declared.call.Reply.{Reply}
-use Rattle.nv_core.specs.Words.{Sizes, Word, STOP, ORDER, HEAD, TAIL, SIZE, LENGTH, STORE, ENTRY, PAGE, DIRTY, index, CLEANUP, ready, is_entry_of}
+use Rattle.nv_core.specs.Words.{Sizes, Word, STOP, ORDER, HEAD, TAIL, SIZE, LENGTH, STORE, ENTRY, PAGE, DIRTY, index, HINT, CLEANUP, ready, is_entry_of}
 use Rattle.nv_core.specs.Values.{Ending, Made, Failed}
-use Rattle.nv_core.specs.Passes.{Stage, Idle, Locking, Measuring, Sizing, Checking, Ordering, Reading, Fetching, Copying, Returning, Waiting, Heading, Tailing, Drawing, Seizing, Committing, Pledging, Readying, Placing, Growing, Releasing, Giving, Leaving, ReadFailing, WriteFailing, Breaking, Pass, file_of, at_of, len_of, is_write, is_read, page_count, first_page, end_page, without, times, Bounding, Scanning, Grasping, Patching, Unlocking, PieceFailing}
-use Rattle.nv_core.specs.Deeds.{Deed, Loads, Takes, Gives, Places, Stops, Draws, Seizes, Pledges, Readies, Grows, Breaks, Splits, Leaves, Joins, slot_of, Holds, Returns}
-use Rattle.nv_core.specs.Stages.{stage_after, after_load, after_take, after_give, after_stop, leaving, giving, ending, ordered, copying, exceeds, scanning, after_head, after_tail, after_look, after_hold, after_return}
+use Rattle.nv_core.specs.Passes.{Stage, Idle, Locking, Measuring, Sizing, Checking, Ordering, Reading, Fetching, Copying, Returning, Waiting, Heading, Tailing, Drawing, Seizing, Committing, Pledging, Readying, Placing, Growing, Releasing, Giving, Leaving, ReadFailing, WriteFailing, Breaking, Pass, file_of, at_of, len_of, is_write, is_read, page_count, first_page, end_page, without, times, Searching, Bounding, Scanning, Grasping, Patching, Unlocking, PieceFailing}
+use Rattle.nv_core.specs.Deeds.{Deed, Loads, Takes, Gives, Places, Stops, Draws, Seizes, Pledges, Readies, Grows, Breaks, Splits, Leaves, Joins, slot_of, Turns, Hints, Holds, Returns}
+use Rattle.nv_core.specs.Stages.{stage_after, after_load, after_give, after_stop, leaving, giving, ending, ordered, copying, exceeds, scanning, after_head, after_tail, after_look, after_hold, after_return}
 use Rattle.nv_core.specs.Stepped.{added}
 use Rattle.nv_core.specs.Order.{Values, Work, MayWork, MayStep, MayLoad, MayTake, MayPlace, IsDue, IsFailing, commit_steps}
 use Rattle.nv_core.specs.Core.{Core, changes, changed, after_step, after_begin, after_work, stage_worked}
@@ -22,11 +22,12 @@ use Rattle.nv_core.specs.Lengths.{length_now, IsGrowing, Extends, Lengths}
 use Rattle.nv_core.specs.Sound.{Sound}
 use Rattle.nv_core.proofs.PlainLaws.{PlainLaws}
 use Rattle.nv_core.proofs.Changes.{by_number, number_here, number_else, word_here, word_else}
-use Rattle.nv_core.proofs.Choices.{if_both, when_true, when_false, leaving_both, IsGivingBack, gives_back, step_idle}
+use Rattle.nv_core.proofs.Choices.{if_both, when_true, when_false, leaving_both, IsGivingBack, gives_back, step_idle, page_tried}
 use Rattle.nv_core.proofs.WordLaws.{untouched, touches}
 use Rattle.nv_core.proofs.KeepsLoaded.{holds_size, held_by_one}
 use Rattle.nv_core.proofs.Placed.{IsUnplaced, same_history}
 use Rattle.nv_core.proofs.FileLaws.{files_same, files_grow, files_written}
+use Rattle.nv_core.proofs.SearchLaws.{turned_at, looked_at, hinting_next, tried_at}
 
 -- ---- the stage Growing
 
@@ -45,11 +46,12 @@ load_growing sizes values pass ORDER may = unlike _ may (λ z. z)
 load_growing sizes values pass HEAD may = elim may [ inl here ↦ unlike _ here (λ z. z) | inr here ↦ unlike _ here.1 (λ z. z) ]
 load_growing sizes values pass TAIL may = elim may [ inl here ↦ unlike _ here (λ z. z) | inr here ↦ unlike _ here.1 (λ z. z) ]
 load_growing sizes values pass (ENTRY slot) may = unlike _ may.2 (λ z. z)
-load_growing sizes values pass (DIRTY page) may = unlike _ may.1.stage (λ z. z)
+load_growing sizes values pass (DIRTY page) may = looked_at (λ s. s ≡ Growing → ⊥) sizes values pass page (λ _. unlike _ refl (λ z. z)) (λ _ _. unlike _ refl (λ z. z)) may
+load_growing sizes values pass (HINT buffer) may = unlike _ may.is (λ z. z)
 load_growing sizes values pass word may = absurd may
 
 take_growing : (pass : Pass) (word : Word) → MayTake pass word → pass.stage ≡ Growing → ⊥
-take_growing pass (PAGE page) may = unlike _ may (λ z. z)
+take_growing pass (PAGE page) may = tried_at (λ s. s ≡ Growing → ⊥) pass page (unlike _ refl (λ z. z)) (λ _ _ _. unlike _ refl (λ z. z)) may
 take_growing pass (SIZE file) may = unlike _ may.0 (λ z. z)
 take_growing pass (STORE file) may = unlike _ may.2 (λ z. z)
 take_growing pass (CLEANUP page) may = unlike _ may (λ z. z)
@@ -76,6 +78,8 @@ step_growing sizes values pass Grows un may = absurd un
 step_growing sizes values pass (Breaks number) un may = unlike _ may (λ z. z)
 step_growing sizes values pass (Holds number) un may = unlike _ may.1 (λ z. z)
 step_growing sizes values pass (Returns number) un may = unlike _ may.2 (λ z. z)
+step_growing sizes values pass (Turns page) un may = turned_at (λ s. s ≡ Growing → ⊥) sizes values pass page (λ _. unlike _ refl (λ z. z)) (λ _ _. unlike _ refl (λ z. z)) may
+step_growing sizes values pass (Hints buffer page) un may = unlike _ may.is (λ z. z)
 step_growing sizes values pass deed un may = absurd may
 
 -- and only a step that places a call leads there
@@ -110,11 +114,11 @@ load_grows sizes values pass TAIL found may = elim may [
 load_grows sizes values pass (ENTRY slot) found may = subst (λ s. IsGrow (after_look pass found s) → ⊥) (sym may.2)
     (if_both (λ s. IsGrow s → ⊥) (is_entry_of ready may.0 found) (Grasping may.0 may.1) (scanning pass may.0 (may.1 + 1)) (λ _ z. z) (λ _. ungrown_scanning pass may.0 (may.1 + 1)))
 load_grows sizes values pass (DIRTY page) found may = if_both (λ s. IsGrow s → ⊥) (found == 0) (Fetching page false) (Waiting page) (λ _ z. z) (λ _ z. z)
+load_grows sizes values pass (HINT buffer) found may = hinting_next (λ s. IsGrow s → ⊥) sizes pass buffer found may (λ z. z)
 load_grows sizes values pass word found may = absurd may
 
 take_grows : (sizes : Sizes) (pass : Pass) (cell : Word) (found : ℕ) → MayTake pass cell → IsGrow (stage_after sizes pass (Takes cell) found) → ⊥
-take_grows sizes pass (PAGE page) found may = if_both (λ s. IsGrow s → ⊥) (found == 0) (after_take sizes pass (PAGE page)) (leaving pass.hands)
-    (λ _. if_both (λ s. IsGrow s → ⊥) (page + 1 == end_page sizes pass.call) Measuring (Locking (page + 1)) (λ _ z. z) (λ _ z. z)) (λ _. ungrown_leaving pass.hands)
+take_grows sizes pass (PAGE page) found may = page_tried (λ s. IsGrow s → ⊥) sizes pass page found (λ z. z) (λ z. z) (ungrown_leaving pass.hands) (λ _ _ _ z. z) may
 take_grows sizes pass (SIZE file) found may = if_both (λ s. IsGrow s → ⊥) (found == 0) Measuring (leaving pass.hands) (λ _ z. z) (λ _. ungrown_leaving pass.hands)
 take_grows sizes pass (STORE file) found may = if_both (λ s. IsGrow s → ⊥) (found == 0) (copying pass.stage) (leaving pass.hands)
     (λ _. subst (λ s. IsGrow (copying s) → ⊥) (sym may.2) (λ z. z)) (λ _. ungrown_leaving pass.hands)
@@ -127,6 +131,7 @@ give_grows sizes pass cell Releasing may = ungrown_giving sizes pass.call
 give_grows sizes pass cell (Giving page) may = if_both (λ s. IsGrow s → ⊥) (page + 1 == end_page sizes pass.call) Idle (Giving (page + 1)) (λ _ z. z) (λ _ z. z)
 give_grows sizes pass cell (Returning page dirty) may = if_both (λ s. IsGrow s → ⊥) dirty (Bounding page) (Reading (page + 1)) (λ _ z. z) (λ _ z. z)
 give_grows sizes pass cell (Unlocking page) may = λ z. z
+give_grows sizes pass cell (Searching page tries search) may = λ z. z
 give_grows sizes pass cell stage may = absurd may
 
 none_grows : (sizes : Sizes) (values : Values) (pass : Pass) (found : ℕ) (deed : Deed) → IsUnplaced deed → MayStep sizes values pass deed → IsGrow (stage_after sizes pass deed found) → ⊥
@@ -152,6 +157,8 @@ none_grows sizes values pass found (Holds next) un may = subst (λ s. IsGrow (af
 none_grows sizes values pass found (Returns next) un may = subst (λ s. IsGrow (after_return sizes pass s) → ⊥) (sym may.2)
     (if_both (λ s. IsGrow s → ⊥) may.1 (leaving (without (ENTRY (slot_of sizes next)) pass.hands)) (scanning pass may.0 (next + 1))
     (λ _. ungrown_leaving (without (ENTRY (slot_of sizes next)) pass.hands)) (λ _. ungrown_scanning pass may.0 (next + 1)))
+none_grows sizes values pass found (Turns page) un may = λ z. z
+none_grows sizes values pass found (Hints buffer page) un may = λ z. z
 none_grows sizes values pass found deed un may = absurd may
 
 -- ---- a step that places a call

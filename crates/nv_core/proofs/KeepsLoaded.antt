@@ -3,11 +3,11 @@ use Rattle.std.proofs.Common.{◌≡◌, ◌≢◌, ◌⊎◌, ℕ, ◌+◌, ◌
 use Rattle.std.proofs.lemmas.Bool.{eqb-true, eq-eqb, and_from, and_parts, ltb-true, le-ltb, cases_eq, cases_lt, cases_Bool}
 use Rattle.nv_plain.specs.declared.call.FileCall.{FileCall}
 use Rattle.nv_plain.specs.declared.call.Reply.{Reply}
-use Rattle.nv_core.specs.Words.{Sizes, Word, STOP, ORDER, HEAD, TAIL, SIZE, LENGTH, STORE, ENTRY, PAGE, DIRTY, index, CLEANUP, ready, is_entry_of}
+use Rattle.nv_core.specs.Words.{Sizes, Word, STOP, ORDER, HEAD, TAIL, SIZE, LENGTH, STORE, ENTRY, PAGE, DIRTY, index, HINT, CLEANUP, ready, is_entry_of}
 use Rattle.nv_core.specs.Values.{Ending, Made, Failed}
-use Rattle.nv_core.specs.Passes.{Stage, Idle, Locking, Measuring, Sizing, Checking, Ordering, Reading, Fetching, Copying, Returning, Waiting, Heading, Tailing, Drawing, Seizing, Committing, Pledging, Readying, Placing, Growing, Releasing, Giving, Leaving, ReadFailing, WriteFailing, Breaking, Pass, file_of, at_of, len_of, is_write, is_read, page_count, first_page, end_page, without, times, Bounding, Starting, Scanning, Grasping, Patching, Restoring, Unlocking, PieceFailing}
-use Rattle.nv_core.specs.Deeds.{Deed, Loads, Takes, Gives, Places, Stops, Draws, Seizes, Pledges, Readies, Grows, Breaks, Splits, Leaves, Joins, slot_of, value_after, Holds, Returns}
-use Rattle.nv_core.specs.Stages.{stage_after, after_load, after_take, after_give, after_stop, leaving, giving, ending, ordered, copying, exceeds, first_stage, scanning, after_head, after_tail, after_look, after_hold, after_return}
+use Rattle.nv_core.specs.Passes.{Stage, Idle, Locking, Measuring, Sizing, Checking, Ordering, Reading, Fetching, Copying, Returning, Waiting, Heading, Tailing, Drawing, Seizing, Committing, Pledging, Readying, Placing, Growing, Releasing, Giving, Leaving, ReadFailing, WriteFailing, Breaking, Pass, file_of, at_of, len_of, is_write, is_read, page_count, first_page, end_page, without, times, Searching, Seeking, Bounding, Starting, Scanning, Grasping, Patching, Restoring, Unlocking, PieceFailing}
+use Rattle.nv_core.specs.Deeds.{Deed, Loads, Takes, Gives, Places, Stops, Draws, Seizes, Pledges, Readies, Grows, Breaks, Splits, Leaves, Joins, slot_of, value_after, Turns, Hints, Holds, Returns}
+use Rattle.nv_core.specs.Stages.{stage_after, after_load, after_give, after_stop, leaving, giving, ending, ordered, copying, exceeds, first_stage, scanning, after_head, after_tail, after_look, after_hold, after_return}
 use Rattle.nv_core.specs.Stepped.{begun, length_after, sized_after}
 use Rattle.nv_core.specs.Order.{Values, Work, MayWork, MayStep, MayLoad, MayTake, MayGive, MayPlace, IsDue, IsFailing, commit_steps}
 use Rattle.nv_core.proofs.PageLaws.{some_pages}
@@ -18,11 +18,12 @@ use Rattle.nv_core.specs.Holding.{one_if, is_among, HoldsLocks}
 use Rattle.nv_core.specs.Loaded.{HasMeasured, SawClean, Loaded, Looks}
 use Rattle.nv_core.specs.Sound.{Sound}
 use Rattle.nv_core.proofs.Changes.{by_number, by_word, number_here, word_here, word_else, differ}
-use Rattle.nv_core.proofs.Choices.{if_both, not_both, when_true, leaving_both, IsGivingBack, gives_back}
+use Rattle.nv_core.proofs.Choices.{if_both, not_both, when_true, leaving_both, IsGivingBack, gives_back, page_tried}
 use Rattle.nv_core.proofs.LockLaws.{only_holder}
 use Rattle.nv_core.proofs.HoldingLaws.{among_in}
 use Rattle.nv_core.proofs.WordLaws.{untouched, touches}
 use Rattle.nv_core.proofs.Inherits.{inherits}
+use Rattle.nv_core.proofs.SearchLaws.{turned_at, looked_at, hinting_at, hinting_next, tried_next, hinted_at}
 
 -- ---- HEAD and TAIL
 
@@ -126,13 +127,16 @@ before_load sizes values pass ORDER other may = at Ordering may tt
 before_load sizes values pass HEAD other may = elim may [ inl here ↦ at Heading here tt | inr here ↦ at (Bounding here.0) here.1 tt ]
 before_load sizes values pass TAIL other may = elim may [ inl here ↦ at Tailing here tt | inr here ↦ at (Starting here.0) here.1 tt ]
 before_load sizes values pass (ENTRY slot) other may = at (Scanning may.0 may.1) may.2 tt
-before_load sizes values pass (DIRTY page) other may = at (Reading may.0) may.1.stage tt
+before_load sizes values pass (DIRTY page) other may = looked_at HasMeasured sizes values pass page (λ _. tt) (λ _ _. tt) may
+before_load sizes values pass (HINT buffer) other may = hinting_at HasMeasured pass buffer (λ _ _. tt) may
 before_load sizes values pass (LENGTH file) other may = absurd other
 before_load sizes values pass word other may = absurd may
 
 before_take : (sizes : Sizes) (pass : Pass) (cell : Word) (found : ℕ) → MayTake pass cell → HasMeasured (stage_after sizes pass (Takes cell) found) → HasMeasured pass.stage
-before_take sizes pass (PAGE page) found may is = absurd (if_both (λ s. HasMeasured s → ⊥) (found == 0) (after_take sizes pass (PAGE page)) (leaving pass.hands)
-    (λ _. if_both (λ s. HasMeasured s → ⊥) (page + 1 == end_page sizes pass.call) Measuring (Locking (page + 1)) (λ _ z. z) (λ _ z. z)) (λ _. unmeasured pass.hands) is)
+before_take sizes pass (PAGE page) found may is = tried_next (λ s. HasMeasured s → HasMeasured pass.stage) sizes pass page found
+    (λ _ is. absurd (if_both (λ s. HasMeasured s → ⊥) (found == 0) (if page + 1 == end_page sizes pass.call then Measuring else Locking (page + 1)) (leaving pass.hands)
+    (λ _. if_both (λ s. HasMeasured s → ⊥) (page + 1 == end_page sizes pass.call) Measuring (Locking (page + 1)) (λ _ z. z) (λ _ z. z)) (λ _. unmeasured pass.hands) is))
+    (λ s is. at (Searching s.page s.tries (Seeking s.buffer page)) s.is tt) may is
 before_take sizes pass (SIZE file) found may is = absurd (if_both (λ s. HasMeasured s → ⊥) (found == 0) Measuring (leaving pass.hands) (λ _ z. z) (λ _. unmeasured pass.hands) is)
 before_take sizes pass (STORE file) found may is = at (Fetching may.0 may.1) may.2 tt
 before_take sizes pass (CLEANUP page) found may is = at (Waiting page) may tt
@@ -144,6 +148,7 @@ before_give sizes pass cell Releasing may is = absurd (unmeasured_giving sizes p
 before_give sizes pass cell (Giving page) may is = absurd (if_both (λ s. HasMeasured s → ⊥) (page + 1 == end_page sizes pass.call) Idle (Giving (page + 1)) (λ _ z. z) (λ _ z. z) is)
 before_give sizes pass cell (Returning page dirty) may is = tt
 before_give sizes pass cell (Unlocking page) may is = tt
+before_give sizes pass cell (Searching page tries search) may is = tt
 before_give sizes pass cell stage may is = is
 
 before_place : (sizes : Sizes) (values : Values) (pass : Pass) (reply : Reply) (stage : Stage) → MayPlace sizes values pass reply stage → HasMeasured stage
@@ -176,6 +181,8 @@ before sizes values pass found (Returns next) other may is = go may.1 may.2 (sub
     go : (failed : Bool) → pass.stage ≡ Restoring may.0 next failed → HasMeasured (after_return sizes pass (Restoring may.0 next failed)) → HasMeasured pass.stage
     go true here is = absurd (unmeasured (without (ENTRY (slot_of sizes next)) pass.hands) is)
     go false here is = at (Restoring may.0 next false) here tt
+before sizes values pass found (Turns page) other may is = turned_at HasMeasured sizes values pass page (λ _. tt) (λ _ _. tt) may
+before sizes values pass found (Hints buffer page) other may is = hinted_at HasMeasured values pass buffer page (λ _. tt) may
 before sizes values pass found deed other may is = absurd may
 
 -- what the steps but that load leave of it
@@ -366,11 +373,11 @@ clean_load sizes values pass (ENTRY slot) found page may saw =
     absurd (if_both (λ s. SawClean s page → ⊥) (is_entry_of ready may.0 found) (Grasping may.0 may.1) (scanning pass may.0 (may.1 + 1)) (λ _ z. z) (λ _. unseen_scanning pass may.0 (may.1 + 1) page)
     (subst (λ s. SawClean (after_look pass found s) page) may.2 saw))
 clean_load sizes values pass (DIRTY next) found page may saw = if_both (λ s. SawClean s page → (DIRTY next ≡ DIRTY page) × (found ≡ 0)) (found == 0) (Fetching next false) (Waiting next) (λ e is. (ap DIRTY is, eqb-true found 0 e)) (λ _ z. absurd z) saw
+clean_load sizes values pass (HINT buffer) found page may saw = absurd (hinting_next (λ s. SawClean s page → ⊥) sizes pass buffer found may (λ z. z) saw)
 clean_load sizes values pass word found page may saw = absurd may
 
 clean_take : (sizes : Sizes) (pass : Pass) (cell : Word) (found page : ℕ) → MayTake pass cell → SawClean (stage_after sizes pass (Takes cell) found) page → SawClean pass.stage page
-clean_take sizes pass (PAGE next) found page may saw = absurd (if_both (λ s. SawClean s page → ⊥) (found == 0) (after_take sizes pass (PAGE next)) (leaving pass.hands)
-    (λ _. if_both (λ s. SawClean s page → ⊥) (next + 1 == end_page sizes pass.call) Measuring (Locking (next + 1)) (λ _ z. z) (λ _ z. z)) (λ _. unseen pass.hands page) saw)
+clean_take sizes pass (PAGE next) found page may saw = absurd (page_tried (λ s. SawClean s page → ⊥) sizes pass next found (λ z. z) (λ z. z) (unseen pass.hands page) (λ _ _ _ z. z) may saw)
 clean_take sizes pass (SIZE file) found page may saw = absurd (if_both (λ s. SawClean s page → ⊥) (found == 0) Measuring (leaving pass.hands) (λ _ z. z) (λ _. unseen pass.hands page) saw)
 clean_take sizes pass (STORE file) found page may saw = subst (λ s. SawClean s page) (sym may.2)
     (if_both (λ s. SawClean s page → SawClean (Fetching may.0 may.1) page) (found == 0) (copying pass.stage) (leaving pass.hands)
@@ -388,6 +395,7 @@ clean_give sizes pass cell page Releasing may saw = unseen_giving sizes pass.cal
 clean_give sizes pass cell page (Giving next) may saw = if_both (λ s. SawClean s page → ⊥) (next + 1 == end_page sizes pass.call) Idle (Giving (next + 1)) (λ _ z. z) (λ _ z. z) saw
 clean_give sizes pass cell page (Returning next dirty) may saw = if_both (λ s. SawClean s page → ⊥) dirty (Bounding next) (Reading (next + 1)) (λ _ z. z) (λ _ z. z) saw
 clean_give sizes pass cell page (Unlocking next) may saw = saw
+clean_give sizes pass cell page (Searching next tries search) may saw = saw
 clean_give sizes pass cell page stage may saw = may
 
 clean_here : (sizes : Sizes) (first : Values) (by : ℕ) (core : Core) (found : ℕ) (deed : Deed) → Sound sizes first core → MayFind sizes by core deed found
@@ -416,6 +424,8 @@ clean_here sizes first by core found (Returns next) sound may page saw =
     absurd (if_both (λ s. SawClean s page → ⊥) may.may.1 (leaving (without (ENTRY (slot_of sizes next)) (core.passes by).hands)) (scanning (core.passes by) may.may.0 (next + 1))
     (λ _. unseen (without (ENTRY (slot_of sizes next)) (core.passes by).hands) page) (λ _. unseen_scanning (core.passes by) may.may.0 (next + 1) page)
     (subst (λ s. SawClean (after_return sizes (core.passes by) s) page) may.may.2 saw))
+clean_here sizes first by core found (Turns next) sound may page saw = absurd saw
+clean_here sizes first by core found (Hints buffer next) sound may page saw = absurd saw
 clean_here sizes first by core found Splits sound may page saw = absurd saw
 clean_here sizes first by core found (Leaves cell) sound may page saw = untouched sizes by core (Leaves cell) found may (DIRTY page) refl ∙ sound.loaded.clean by page saw
 clean_here sizes first by core found (Joins number) sound may page saw = untouched sizes by core (Joins number) found may (DIRTY page) refl ∙ sound.loaded.clean by page saw

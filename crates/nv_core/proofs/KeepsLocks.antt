@@ -3,8 +3,8 @@ use Rattle.std.proofs.Common.{◌≡◌, ◌≢◌, ℕ, ◌+◌, ◌<◌, ◌�
 use Rattle.std.proofs.lemmas.Bool.{le-leb, and_from, eqb-true, eqb-false, eq-eqb, ne_eqb, cases_eq, and_parts}
 use Rattle.nv_plain.specs.declared.call.FileCall.{FileCall}
 use Rattle.nv_core.specs.Words.{Sizes, Word, PAGE, SIZE, STORE, ENTRY, is_shut, is_lock, kind_of, entry_word, ready, cleaned, was_readied, CLEANUP, held, page_of, is_entry_of}
-use Rattle.nv_core.specs.Passes.{Stage, Leaving, Releasing, Giving, Returning, Readying, Pass, IsUnseized, IsFilling, IsAmong, IsLastTaken, file_of, end_page, times, Unlocking, IsHeld}
-use Rattle.nv_core.specs.Deeds.{Deed, Stays, Comes, moved, move_of, slot_of, page_at, ready_word, Loads, Takes, Gives, Places, Stops, Draws, Seizes, Pledges, Readies, Grows, Breaks, Splits, Leaves, Joins, word_of, value_after, Holds, Returns}
+use Rattle.nv_core.specs.Passes.{Stage, Leaving, Releasing, Giving, Returning, Robbing, Searching, Readying, Pass, IsUnseized, IsFilling, IsAmong, IsLastTaken, file_of, end_page, times, Unlocking, IsHeld}
+use Rattle.nv_core.specs.Deeds.{Deed, Stays, Comes, moved, move_of, slot_of, page_at, ready_word, Loads, Takes, Gives, Places, Stops, Draws, Seizes, Pledges, Readies, Grows, Breaks, Turns, Hints, Splits, Leaves, Joins, word_of, value_after, Holds, Returns}
 use Rattle.nv_core.specs.Order.{Values, Work, MayTake, MayGive}
 use Rattle.nv_core.specs.Core.{Core, changes, changed, after_step, after_begin, after_work}
 use Rattle.nv_core.specs.Events.{MayFind}
@@ -29,7 +29,7 @@ last_held : (cell : Word) (hands : List Word) → IsLastTaken cell hands → 1 �
 last_held cell [] last = absurd last
 last_held cell (first ∷ rest) last = subst (λ w. 1 ≤ times cell (w ∷ rest)) (sym last) (let t = times_here cell rest in omega (arith, t))
 
-given_held : (sizes : Sizes) (pass : Pass) (cell : Word) (stage : Stage) → StandsAt sizes pass stage → HoldsLocks sizes pass stage → MayGive pass cell stage → 1 ≤ times cell pass.hands
+pub given_held : (sizes : Sizes) (pass : Pass) (cell : Word) (stage : Stage) → StandsAt sizes pass stage → HoldsLocks sizes pass stage → MayGive pass cell stage → 1 ≤ times cell pass.hands
 given_held sizes pass (SIZE file) Releasing at held may =
     let a = held (SIZE file) (λ slot. differ (SIZE file) (ENTRY slot) refl) in
     let b = when_true (file == file_of pass.call) (one_if pass.sized) 0 (eq-eqb file (file_of pass.call) may) in
@@ -43,6 +43,9 @@ given_held sizes pass (STORE file) (Returning page dirty) at held may =
 given_held sizes pass (CLEANUP page) (Unlocking next) at held may =
     let a = held (CLEANUP page) (λ slot. differ (CLEANUP page) (ENTRY slot) refl) in
     let b : one_if (page == next) ≡ 1 = when_true (page == next) 1 0 (eq-eqb page next may) in omega (arith, a, b)
+given_held sizes pass (PAGE page) (Searching missed tries (Robbing buffer victim)) at held may =
+    let a = held (PAGE page) (λ slot. differ (PAGE page) (ENTRY slot) refl) in
+    let b : one_if (page == victim) ≡ 1 = when_true (page == victim) 1 0 (eq-eqb page victim may) in omega (arith, a, b)
 given_held sizes pass (SIZE file) Leaving at held may = last_held (SIZE file) pass.hands may
 given_held sizes pass (PAGE page) Leaving at held may = last_held (PAGE page) pass.hands may
 given_held sizes pass (STORE file) Leaving at held may = last_held (STORE file) pass.hands may
@@ -168,6 +171,8 @@ fits sizes first by core found (Returns next) sound may =
     let kind = (entry_is held may.may.0 (entry_at sizes core next) looks.1).0 in let is = may.is in
     let one = (sound.holding by).held next (subst (λ s. IsHeld s next) (sym may.may.2) refl) in
     (refl, omega (arith, one), unshut_entry (slot_of sizes next) (found - 1) (λ e. omega (arith, e, kind, is)) (λ e. omega (arith, e, kind, is)))
+fits sizes first by core found (Turns page) sound may = refl
+fits sizes first by core found (Hints buffer page) sound may = refl
 fits sizes first by core found Splits sound may = refl
 fits sizes first by core found (Leaves cell) sound may = refl
 fits sizes first by core found (Joins number) sound may = refl

@@ -2,11 +2,11 @@
 use Rattle.std.proofs.Common.{◌≡◌, ◌≢◌, ℕ, ◌+◌, ◌^◌, ◌≤◌, ◌==◌, nat_lt, nat_le, not, ◌&&◌, true, false, if◌then◌else◌, List, length, inl, inr, refl, sym, ap, subst, ◌∙◌, arith, le_trans}
 use Rattle.std.proofs.lemmas.Bool.{ltb-true}
 use Rattle.nv_plain.specs.declared.call.FileCall.{FileCall}
-use Rattle.nv_core.specs.Words.{Sizes, Word, STOP, ORDER, HEAD, TAIL, SIZE, LENGTH, STORE, ENTRY, PAGE, CLEANUP, DIRTY, kind_of, page_of, ready, held, filling, is_entry_of}
+use Rattle.nv_core.specs.Words.{Sizes, Word, STOP, ORDER, HEAD, TAIL, SIZE, LENGTH, STORE, ENTRY, PAGE, CLEANUP, DIRTY, kind_of, page_of, ready, held, filling, is_entry_of, HINT}
 use Rattle.nv_core.specs.Values.{Ending, Made, Failed}
-use Rattle.nv_core.specs.Passes.{Stage, Idle, Locking, Measuring, Sizing, Checking, Ordering, Reading, Waiting, Fetching, Copying, Returning, Bounding, Scanning, Grasping, Patching, Restoring, Unlocking, Heading, Tailing, Drawing, Seizing, Committing, Pledging, Readying, Placing, Growing, Releasing, Giving, Leaving, ReadFailing, PieceFailing, WriteFailing, Breaking, Pass, IsUnseized, IsFilling, IsAmong, is_read, is_write, page_count, first_page, end_page, without, times}
-use Rattle.nv_core.specs.Deeds.{Deed, Loads, Takes, Gives, Places, Stops, Draws, Seizes, Pledges, Readies, Grows, Breaks, Holds, Returns, Splits, Leaves, Joins, slot_of, value_after}
-use Rattle.nv_core.specs.Stages.{stage_after, scanning, after_head, after_tail, after_look, after_load, after_take, after_give, after_stop, after_hold, after_return, leaving, giving, ending, ordered, copying, exceeds}
+use Rattle.nv_core.specs.Passes.{Stage, Idle, Locking, Measuring, Sizing, Checking, Ordering, Reading, Waiting, Fetching, Copying, Returning, Bounding, Scanning, Grasping, Patching, Restoring, Unlocking, Heading, Tailing, Drawing, Seizing, Committing, Pledging, Readying, Placing, Growing, Releasing, Giving, Leaving, ReadFailing, PieceFailing, WriteFailing, Breaking, Pass, IsUnseized, IsFilling, IsAmong, is_read, is_write, page_count, first_page, end_page, without, times, Searching}
+use Rattle.nv_core.specs.Deeds.{Deed, Loads, Takes, Gives, Places, Stops, Draws, Seizes, Pledges, Readies, Grows, Breaks, Holds, Returns, Splits, Leaves, Joins, slot_of, value_after, Turns, Hints}
+use Rattle.nv_core.specs.Stages.{stage_after, scanning, after_head, after_tail, after_look, after_load, after_give, after_stop, after_hold, after_return, leaving, giving, ending, ordered, copying, exceeds}
 use Rattle.nv_core.specs.Stepped.{begun}
 use Rattle.nv_core.specs.Order.{Values, Work, MayWork, MayTake, IsDue, IsFailing, commit_steps}
 use Rattle.nv_core.specs.Core.{Core, changes, changed, after_step, after_begin, after_work, worked, stage_worked}
@@ -17,10 +17,11 @@ use Rattle.nv_core.specs.LogWindow.{InWindow, entry_at}
 use Rattle.nv_core.specs.Loaded.{Looks}
 use Rattle.nv_core.specs.Sound.{Sound}
 use Rattle.nv_core.proofs.Changes.{by_number, word_here, word_else, differ}
-use Rattle.nv_core.proofs.Choices.{if_both, leaving_both, IsGivingBack, gives_back}
+use Rattle.nv_core.proofs.Choices.{if_both, leaving_both, IsGivingBack, gives_back, page_tried}
 use Rattle.nv_core.proofs.WordLaws.{untouched}
 use Rattle.nv_core.proofs.KeepsLocks.{entry_is, hold_is, readying_next}
 use Rattle.nv_core.proofs.KeepsLoaded.{head_up, tail_is, held_by_one, holds_page}
+use Rattle.nv_core.proofs.SearchLaws.{hinting_next}
 
 -- the page and the number whose entry a read knows
 abbrev Knows : Stage → (page number : ℕ) → Type 0
@@ -126,8 +127,7 @@ module _ (sizes : Sizes) (now : Core) where
   scans pass page number low high = if_both (Looks sizes now) (nat_lt number pass.head) (Scanning page number) (Unlocking page) (λ e. let less = ltb-true number pass.head e in (low, omega (arith, less, high))) (λ _. tt)
 
   takes : (pass : Pass) (cell : Word) (found : ℕ) → MayTake pass cell → Looks sizes now (stage_after sizes pass (Takes cell) found)
-  takes pass (PAGE page) found may = if_both (Looks sizes now) (found == 0) (after_take sizes pass (PAGE page)) (leaving pass.hands)
-      (λ _. if_both (Looks sizes now) (page + 1 == end_page sizes pass.call) Measuring (Locking (page + 1)) (λ _. tt) (λ _. tt)) (λ _. leaves pass.hands)
+  takes pass (PAGE page) found may = page_tried (Looks sizes now) sizes pass page found tt tt (leaves pass.hands) (λ _ _ _. tt) may
   takes pass (SIZE file) found may = if_both (Looks sizes now) (found == 0) Measuring (leaving pass.hands) (λ _. tt) (λ _. leaves pass.hands)
   takes pass (STORE file) found may = if_both (Looks sizes now) (found == 0) (copying pass.stage) (leaving pass.hands) (λ _. subst (λ s. Looks sizes now (copying s)) (sym may.2) tt) (λ _. leaves pass.hands)
   takes pass (CLEANUP page) found may = if_both (Looks sizes now) (found == 0) (Fetching page true) (leaving pass.hands) (λ _. tt) (λ _. leaves pass.hands)
@@ -139,6 +139,7 @@ module _ (sizes : Sizes) (now : Core) where
   gives_back_looks pass cell (Giving page) may = if_both (Looks sizes now) (page + 1 == end_page sizes pass.call) Idle (Giving (page + 1)) (λ _. tt) (λ _. tt)
   gives_back_looks pass cell (Returning page dirty) may = if_both (Looks sizes now) dirty (Bounding page) (Reading (page + 1)) (λ _. tt) (λ _. tt)
   gives_back_looks pass cell (Unlocking page) may = tt
+  gives_back_looks pass cell (Searching page tries search) may = tt
   gives_back_looks pass cell stage may = absurd may
 
 module _ (sizes : Sizes) (first : Values) (by : ℕ) (core : Core) (found : ℕ) (sound : Sound sizes first core) where
@@ -180,6 +181,7 @@ module _ (sizes : Sizes) (first : Values) (by : ℕ) (core : Core) (found : ℕ)
       (λ e. (window_on sizes core now tail head may.may.1 within, ap (is_entry_of ready may.may.0) entry ∙ e))
       (λ _. scans sizes now (core.passes by) may.may.0 (may.may.1 + 1) (let l = within.0 in omega (arith, l, tail)) (le_trans (sound.loaded.head by) head)))
   loads (DIRTY page) may = if_both (Looks sizes (after_step sizes by (Loads (DIRTY page)) found core)) (found == 0) (Fetching page false) (Waiting page) (λ _. tt) (λ _. tt)
+  loads (HINT buffer) may = hinting_next (Looks sizes (after_step sizes by (Loads (HINT buffer)) found core)) sizes (core.passes by) buffer found may.may tt
   loads word may = absurd may.may
 
   looks_here : (deed : Deed) → MayFind sizes by core deed found → Looks sizes (after_step sizes by deed found core) (changed sizes by core deed found).stage
@@ -228,6 +230,8 @@ module _ (sizes : Sizes) (first : Values) (by : ℕ) (core : Core) (found : ℕ)
       (if_both (Looks sizes now) may.may.1 (leaving (without (ENTRY (slot_of sizes next)) (core.passes by).hands)) (scanning (core.passes by) may.may.0 (next + 1))
       (λ _. leaves sizes now (without (ENTRY (slot_of sizes next)) (core.passes by).hands))
       (λ _. scans sizes now (core.passes by) may.may.0 (next + 1) (let l = looks.0.0 in omega (arith, l, tail)) (le_trans (sound.loaded.head by) (head_up sizes by core (Returns next) found may))))
+  looks_here (Turns page) may = tt
+  looks_here (Hints buffer page) may = tt
   looks_here Splits may = tt
   looks_here (Leaves cell) may = looks_kept sizes core (after_step sizes by (Leaves cell) found core) (tail_is sizes by core (Leaves cell) found may) (head_up sizes by core (Leaves cell) found may) (core.passes by).stage
       (λ page number knows. untouched sizes by core (Leaves cell) found may (ENTRY (slot_of sizes number)) refl) (sound.loaded.looks by)

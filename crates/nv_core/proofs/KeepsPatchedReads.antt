@@ -9,11 +9,11 @@ use Rattle.nv_plain.specs.declared.call.FileCall.TheVariants.{Read, Write, Sync}
 use Rattle.nv_pmem.specs.Part.{Part}
 use Rattle.nv_pmem.specs.Laws.{LoadsAreAnImage}
 use Rattle.nv_entry.specs.Commits.{after_some}
-use Rattle.nv_core.specs.Words.{Sizes, Word, STOP, ORDER, HEAD, TAIL, SIZE, LENGTH, STORE, ENTRY, PAGE, CLEANUP, DIRTY, kind_of, page_of, was_readied, filling, ready, held, cleaned, broken, is_entry_of, is_shut, same}
+use Rattle.nv_core.specs.Words.{Sizes, Word, STOP, ORDER, HEAD, TAIL, SIZE, LENGTH, STORE, ENTRY, PAGE, CLEANUP, DIRTY, kind_of, page_of, was_readied, filling, ready, held, cleaned, broken, is_entry_of, is_shut, same, HINT}
 use Rattle.nv_core.specs.Values.{Value, Bare, APart, AStore, ABuffer, Reads, Peeks, Ending, Made, Failed}
-use Rattle.nv_core.specs.Passes.{Stage, Idle, Locking, Measuring, Sizing, Checking, Ordering, Reading, Waiting, Fetching, Copying, Returning, Bounding, Starting, Scanning, Grasping, Patching, Restoring, Unlocking, Heading, Tailing, Drawing, Seizing, Committing, Pledging, Readying, Placing, Growing, Releasing, Giving, Leaving, ReadFailing, PieceFailing, WriteFailing, Breaking, Pass, fetched_bytes, IsHeld, file_of, is_write, is_read, page_count, first_page, end_page, without, times}
-use Rattle.nv_core.specs.Deeds.{Deed, Loads, Takes, Gives, Places, Stops, Draws, Seizes, Pledges, Readies, Grows, Breaks, Holds, Returns, Splits, Leaves, Joins, slot_of, page_at, ready_word}
-use Rattle.nv_core.specs.Stages.{stage_after, after_load, after_take, after_give, after_stop, after_head, after_tail, after_look, after_hold, after_return, scanning, leaving, giving, ending, ordered, copying, exceeds}
+use Rattle.nv_core.specs.Passes.{Stage, Idle, Locking, Measuring, Sizing, Checking, Ordering, Reading, Waiting, Fetching, Copying, Returning, Bounding, Starting, Scanning, Grasping, Patching, Restoring, Unlocking, Heading, Tailing, Drawing, Seizing, Committing, Pledging, Readying, Placing, Growing, Releasing, Giving, Leaving, ReadFailing, PieceFailing, WriteFailing, Breaking, Pass, fetched_bytes, IsHeld, file_of, is_write, is_read, page_count, first_page, end_page, without, times, Searching}
+use Rattle.nv_core.specs.Deeds.{Deed, Loads, Takes, Gives, Places, Stops, Draws, Seizes, Pledges, Readies, Grows, Breaks, Holds, Returns, Splits, Leaves, Joins, slot_of, page_at, ready_word, Turns, Hints}
+use Rattle.nv_core.specs.Stages.{stage_after, after_load, after_give, after_stop, after_head, after_tail, after_look, after_hold, after_return, scanning, leaving, giving, ending, ordered, copying, exceeds}
 use Rattle.nv_core.specs.Stepped.{head_after, begun}
 use Rattle.nv_core.specs.Order.{Values, Work, MayWork, MayStep, MayTake, IsFailing, IsDue, IsPageRead, IsPieceRead, SaysPiece, SaysPieceOf, page_start, commit_steps}
 use Rattle.nv_core.specs.Core.{Core, with_word, changes, changed, after_step, after_begin, after_work, worked, stage_worked, fetched_worked}
@@ -37,7 +37,7 @@ use Rattle.nv_core.specs.LogContent.{LogContent}
 use Rattle.nv_core.specs.Sound.{Sound}
 use Rattle.nv_core.proofs.PlainLaws.{PlainLaws}
 use Rattle.nv_core.proofs.Changes.{by_number}
-use Rattle.nv_core.proofs.Choices.{if_both, when_true, not_both, leaving_both, busy, IsGivingBack, gives_back, step_idle}
+use Rattle.nv_core.proofs.Choices.{if_both, when_true, not_both, leaving_both, busy, IsGivingBack, gives_back, step_idle, page_tried}
 use Rattle.nv_core.proofs.KeepsLoaded.{tail_is}
 use Rattle.nv_core.proofs.WordLaws.{untouched}
 use Rattle.nv_core.proofs.KeepsLocks.{entry_is, kind_is, held_was}
@@ -52,6 +52,7 @@ use Rattle.nv_core.proofs.KeepsGroups.{log_group}
 use Rattle.nv_core.proofs.WrittenLaws.{some_length}
 use Rattle.nv_core.proofs.PatchLaws.{page_is_patched, still_held, ready_leader, leader_in, leader_group, store_page}
 use Rattle.nv_core.proofs.PatchSteps.{patch_none, patch_one, patch_same, word_page, reads_piece, step_patches}
+use Rattle.nv_core.proofs.SearchLaws.{hinting_next}
 
 -- a step leaves a page that its pass doesn't hold
 page_stays : (plain : PlainLaws) (sizes : Sizes) (first : Values) (opening : Files) (core : Core) (by : ℕ) (deed : Deed) (found : ℕ) → length opening.contents ≡ sizes.files → Sound sizes first core → MayFind sizes by core deed found
@@ -262,11 +263,11 @@ module _ (plain : PlainLaws) (sizes : Sizes) (first : Values) (opening : Files) 
       ∙ ap (λ c. patched_from sizes log core page number c (fetched_bytes pass.fetched page)) all
       ∙ scans.2)))
   c_load (DIRTY next) found may before = if_both (At pass.head) (found == 0) (Fetching next false) (Waiting next) (λ _. tt) (λ _. tt)
+  c_load (HINT buffer) found may before = hinting_next (At pass.head) sizes pass buffer found may.may tt
   c_load word found may before = absurd may.may
 
   c_take : (cell : Word) (found : ℕ) → MayTake pass cell → At pass.head (stage_after sizes pass (Takes cell) found)
-  c_take (PAGE page) found may = if_both (At pass.head) (found == 0) (after_take sizes pass (PAGE page)) (leaving pass.hands)
-      (λ _. if_both (At pass.head) (page + 1 == end_page sizes pass.call) Measuring (Locking (page + 1)) (λ _. tt) (λ _. tt)) (λ _. c_leaving pass.head pass.hands)
+  c_take (PAGE page) found may = page_tried (At pass.head) sizes pass page found tt tt (c_leaving pass.head pass.hands) (λ _ _ _. tt) may
   c_take (SIZE file) found may = if_both (At pass.head) (found == 0) Measuring (leaving pass.hands) (λ _. tt) (λ _. c_leaving pass.head pass.hands)
   c_take (STORE file) found may = if_both (At pass.head) (found == 0) (copying pass.stage) (leaving pass.hands) (λ _. subst (λ s. At pass.head (copying s)) (sym may.2) tt) (λ _. c_leaving pass.head pass.hands)
   c_take (CLEANUP page) found may = if_both (At pass.head) (found == 0) (Fetching page true) (leaving pass.hands) (λ _. tt) (λ _. c_leaving pass.head pass.hands)
@@ -279,6 +280,7 @@ module _ (plain : PlainLaws) (sizes : Sizes) (first : Values) (opening : Files) 
   c_give cell (Returning page true) back before = before
   c_give cell (Returning page false) back before = tt
   c_give cell (Unlocking page) back before = tt
+  c_give cell (Searching page tries search) back before = tt
   c_give cell stage back before = absurd back
 
   c_stop : (stage : Stage) → IsFailing stage → At pass.head (after_stop pass stage)
@@ -305,6 +307,8 @@ module _ (plain : PlainLaws) (sizes : Sizes) (first : Values) (opening : Files) 
   c_step (Breaks next) found un may step before = if_both (At pass.head) (next + 1 == pass.first + pass.entries) (leaving (without (ENTRY (slot_of sizes next)) pass.hands)) (Breaking (next + 1)) (λ _. c_leaving pass.head (without (ENTRY (slot_of sizes next)) pass.hands)) (λ _. tt)
   c_step (Holds number) found un may step before = subst (λ s. At pass.head (after_hold s)) (sym step.1) (at_stage (Grasping step.0 number) step.1 before)
   c_step (Returns number) found un may step before = subst (λ s. At pass.head (after_return sizes pass s)) (sym step.2) (c_return step.0 number step.1 (at_stage (Restoring step.0 number step.1) step.2 before))
+  c_step (Turns page) found un may step before = tt
+  c_step (Hints buffer page) found un may step before = tt
   c_step deed found un may step before = absurd step
 
 -- ---- what a step leaves of that
@@ -415,6 +419,8 @@ patched_step plain sizes first opening tail log placed core by deed found count 
     here (Breaks next) may = own (Breaks next) tt may may.may
     here (Holds next) may = own (Holds next) tt may may.may
     here (Returns next) may = own (Returns next) tt may may.may
+    here (Turns page) may = own (Turns page) tt may may.may
+    here (Hints buffer page) may = own (Hints buffer page) tt may may.may
 
 -- ---- a call that begins, and a device call
 

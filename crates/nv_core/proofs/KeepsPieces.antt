@@ -5,7 +5,7 @@ use Rattle.nv_plain.specs.declared.call.FileCall.{FileCall}
 use Rattle.nv_core.specs.Words.{Sizes, Word, HEAD, TAIL, ENTRY, kind_of, free, filling, broken, index, was_readied}
 use Rattle.nv_core.specs.Values.{Ending, Made, Failed}
 use Rattle.nv_core.specs.Passes.{Stage, Locking, Checking, Copying, Seizing, Committing, Pledging, Readying, Placing, ReadFailing, WriteFailing, Breaking, Pass, IsUnseized, IsFilling, IsAmong, is_write, page_count, first_page, end_page, without, PieceFailing, Patching}
-use Rattle.nv_core.specs.Deeds.{Deed, slot_of, page_at, ready_word, Loads, Takes, Gives, Places, Stops, Draws, Seizes, Pledges, Readies, Grows, Breaks, Splits, Leaves, Joins, Holds, Returns}
+use Rattle.nv_core.specs.Deeds.{Deed, slot_of, page_at, ready_word, Loads, Takes, Gives, Places, Stops, Draws, Seizes, Pledges, Readies, Grows, Breaks, Splits, Leaves, Joins, Turns, Hints, Holds, Returns}
 use Rattle.nv_core.specs.Stages.{stage_after, after_stop, leaving}
 use Rattle.nv_core.specs.Stepped.{begun}
 use Rattle.nv_core.specs.Order.{Values, Work, MayWork, IsDue, IsFailing, commit_steps, MayStep}
@@ -312,6 +312,8 @@ pieces_step sizes first log by core (Takes cell) found sound groups pieces may =
 pieces_step sizes first log by core (Gives cell) found sound groups pieces may = plain_step sizes log by core (Gives cell) found pieces may refl refl (λ slot. refl) (none_readied sizes core by found by (Gives cell) tt may.may)
 pieces_step sizes first log by core (Places reply) found sound groups pieces may = plain_step sizes log by core (Places reply) found pieces may refl refl (λ slot. refl) (none_readied sizes core by found by (Places reply) tt may.may)
 pieces_step sizes first log by core Grows found sound groups pieces may = plain_step sizes log by core Grows found pieces may refl refl (λ slot. refl) (none_readied sizes core by found by Grows tt may.may)
+pieces_step sizes first log by core (Turns page) found sound groups pieces may = plain_step sizes log by core (Turns page) found pieces may refl refl (λ slot. refl) (none_readied sizes core by found by (Turns page) tt may.may)
+pieces_step sizes first log by core (Hints buffer page) found sound groups pieces may = plain_step sizes log by core (Hints buffer page) found pieces may refl refl (λ slot. refl) (none_readied sizes core by found by (Hints buffer page) tt may.may)
 pieces_step sizes first log by core Stops found sound groups pieces may = plain_step sizes log by core Stops found pieces may refl refl (λ slot. refl) (λ n is. absurd (stop_readied (core.passes by) (core.passes by).stage n may.may is))
 pieces_step sizes first log by core Draws found sound groups pieces may = draw_step sizes first log by core found sound groups pieces may
 pieces_step sizes first log by core (Seizes next) found sound groups pieces may =

@@ -14,7 +14,7 @@ use Rattle.nv_entry.specs.Commits.{GroupsEndReady}
 use Rattle.nv_core.specs.Words.{Sizes, Word, HEADER, STORE, ENTRY, kind_of, free, filling, broken, was_readied, held, is_entry_of, ready}
 use Rattle.nv_core.specs.Values.{Value, Bare, APart, AStore, ABuffer, Writes, Ending, Made, Failed, called, Peeks}
 use Rattle.nv_core.specs.Passes.{Stage, Locking, Checking, Copying, Seizing, Committing, Pledging, Readying, Placing, ReadFailing, WriteFailing, Breaking, Pass, IsUnseized, IsFilling, IsAmong, file_of, page_count, first_page, end_page, without, times, Patching, PieceFailing}
-use Rattle.nv_core.specs.Deeds.{Deed, slot_of, page_at, ready_word, Loads, Takes, Gives, Places, Stops, Draws, Seizes, Pledges, Readies, Grows, Breaks, Splits, Leaves, Joins, Holds, Returns}
+use Rattle.nv_core.specs.Deeds.{Deed, slot_of, page_at, ready_word, Loads, Takes, Gives, Places, Stops, Draws, Seizes, Pledges, Readies, Grows, Breaks, Splits, Leaves, Joins, Turns, Hints, Holds, Returns}
 use Rattle.nv_core.specs.Stages.{after_stop, leaving}
 use Rattle.nv_core.specs.Stepped.{begun}
 use Rattle.nv_core.specs.Order.{Values, Work, MayWork, MayLeave, IsDue, IsNextCall, IsPageRead, IsFailing, commit_steps, IsPieceRead}
@@ -106,6 +106,8 @@ module _ (sizes : Sizes) (first : Values) (by : ℕ) (core : Core) (found : ℕ)
   fills_here (Gives cell) may number is = none_here (Gives cell) number (clear_to sizes core.values (core.passes by) (Gives cell) found tt may.may) is
   fills_here (Places reply) may number is = none_here (Places reply) number (clear_to sizes core.values (core.passes by) (Places reply) found tt may.may) is
   fills_here Grows may number is = none_here Grows number (clear_to sizes core.values (core.passes by) Grows found tt may.may) is
+  fills_here (Turns page) may number is = none_here (Turns page) number (clear_to sizes core.values (core.passes by) (Turns page) found tt may.may) is
+  fills_here (Hints buffer page) may number is = none_here (Hints buffer page) number (clear_to sizes core.values (core.passes by) (Hints buffer page) found tt may.may) is
   fills_here Stops may number is = stops number (changed sizes by core Stops found) (core.passes by).stage may.may is
   fills_here Draws may number is = if_both (λ s. IsFilling s (changed sizes by core Draws found).first (changed sizes by core Draws found).entries number → FillsReady sizes (changed sizes by core Draws found) s number (core.values (ENTRY (slot_of sizes number))))
       (found == (core.passes by).head) (Seizing found) (leaving (core.passes by).hands)

@@ -6,7 +6,7 @@ use Rattle.nv_plain.specs.declared.call.FileCall.{FileCall}
 use Rattle.nv_core.specs.Words.{Sizes, Word, STOP, ENTRY, PAGE, page_total}
 use Rattle.nv_core.specs.Values.{Ending, Made, Failed, called, faults_of, identity_of, buffers_in}
 use Rattle.nv_core.specs.Passes.{Stage, Locking, Checking, Copying, Seizing, Committing, Pledging, Readying, Placing, ReadFailing, WriteFailing, Breaking, Pass, page_count, first_page, end_page, without, PieceFailing, Patching}
-use Rattle.nv_core.specs.Deeds.{Deed, Loads, Takes, Gives, Places, Stops, Draws, Seizes, Pledges, Readies, Grows, Breaks, Splits, Leaves, Joins, slot_of, Holds, Returns}
+use Rattle.nv_core.specs.Deeds.{Deed, Loads, Takes, Gives, Places, Stops, Draws, Seizes, Pledges, Readies, Grows, Breaks, Splits, Leaves, Joins, slot_of, Turns, Hints, Holds, Returns}
 use Rattle.nv_core.specs.Stages.{stage_after, after_stop, leaving}
 use Rattle.nv_core.specs.Stepped.{stopped_after}
 use Rattle.nv_core.specs.Order.{Values, Work, MayWork, MayStep, IsDue, IsFailing, MayEnd, commit_steps}
@@ -21,7 +21,7 @@ use Rattle.nv_core.proofs.Choices.{if_both, not_both}
 use Rattle.nv_core.proofs.ClearLaws.{IsClear, clear_to, clear_leaving}
 use Rattle.nv_core.proofs.WordLaws.{untouched, touches}
 use Rattle.nv_core.proofs.TotalLaws.{total_same}
-use Rattle.nv_core.proofs.ValueLaws.{faults_steady, identity_steady, buffers_steady, steady_stepped, steady_worked, identity_worked, buffers_worked, faults_rose, faults_worked}
+use Rattle.nv_core.proofs.ValueLaws.{faults_steady, identity_steady, steady_stepped, steady_worked, identity_worked, buffers_worked, faults_rose, faults_worked, faults_robbed, identity_robbed}
 use Rattle.nv_core.proofs.Inherits.{inherits}
 
 -- ---- no step leads to a fault
@@ -38,6 +38,8 @@ none_fails sizes values pass found (Takes cell) may = clear_failing _ (clear_to 
 none_fails sizes values pass found (Gives cell) may = clear_failing _ (clear_to sizes values pass (Gives cell) found tt may)
 none_fails sizes values pass found (Places reply) may = clear_failing _ (clear_to sizes values pass (Places reply) found tt may)
 none_fails sizes values pass found Grows may = clear_failing _ (clear_to sizes values pass Grows found tt may)
+none_fails sizes values pass found (Turns page) may = λ z. z
+none_fails sizes values pass found (Hints buffer page) may = λ z. z
 none_fails sizes values pass found Stops may = stops pass.stage may
   where
     stops : (stage : Stage) → IsFailing stage → IsFailing (after_stop pass stage) → ⊥
@@ -73,7 +75,7 @@ failed_on first old new up failed = record { cell = failed.cell; rose = rose_on 
 -- ---- a step
 
 same_faults : (sizes : Sizes) (pass : Pass) (deed : Deed) (values : Values) (cell : Word) → faults_of (values cell) ≤ faults_of (values_stepped sizes pass deed values cell)
-same_faults sizes pass deed values cell = let e = steady_stepped faults_of faults_steady sizes pass deed values cell in omega (arith, e)
+same_faults sizes pass deed values cell = let e = steady_stepped faults_of faults_steady faults_robbed sizes pass deed values cell in omega (arith, e)
 
 -- the pass that a step changes
 stop_fails : (sizes : Sizes) (first : Values) (by : ℕ) (core : Core) (found : ℕ) (deed : Deed) → MayDo sizes by core deed → Sound sizes first core → IsFailing (changed sizes by core deed found).stage → HasFailed first core.values
@@ -180,13 +182,6 @@ stop_work sizes first by core work sound may = record {
 
 -- ---- buffers and devices
 
-pub buffers_step : (sizes : Sizes) (first : Values) (by : ℕ) (core : Core) (deed : Deed) → Sound sizes first core → BuffersKept sizes (values_stepped sizes (core.passes by) deed core.values)
-buffers_step sizes first by core deed sound = record {
-  many =
-      total_same (page_total sizes) (λ page. buffers_in (core.values (PAGE page))) (λ page. buffers_in (values_stepped sizes (core.passes by) deed core.values (PAGE page)))
-      (λ page less. steady_stepped buffers_in buffers_steady sizes (core.passes by) deed core.values (PAGE page)) ∙ sound.buffers.many;
-}
-
 pub buffers_work : (sizes : Sizes) (first : Values) (by : ℕ) (core : Core) (work : Work) → Sound sizes first core → BuffersKept sizes (values_worked (core.passes by) work core.values)
 buffers_work sizes first by core work sound = record {
   many =
@@ -195,7 +190,7 @@ buffers_work sizes first by core work sound = record {
 }
 
 pub devices_step : (sizes : Sizes) (first : Values) (by : ℕ) (core : Core) (deed : Deed) → Sound sizes first core → Devices first (values_stepped sizes (core.passes by) deed core.values)
-devices_step sizes first by core deed sound = record { each = λ cell. steady_stepped identity_of identity_steady sizes (core.passes by) deed core.values cell ∙ sound.devices.each cell }
+devices_step sizes first by core deed sound = record { each = λ cell. steady_stepped identity_of identity_steady identity_robbed sizes (core.passes by) deed core.values cell ∙ sound.devices.each cell }
 
 pub devices_work : (sizes : Sizes) (first : Values) (by : ℕ) (core : Core) (work : Work) → Sound sizes first core → Devices first (values_worked (core.passes by) work core.values)
 devices_work sizes first by core work sound = record { each = λ cell. identity_worked (core.passes by) work core.values cell ∙ sound.devices.each cell }

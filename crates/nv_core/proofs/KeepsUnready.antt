@@ -6,7 +6,7 @@ use Rattle.nv_plain.specs.declared.call.Reply.{Reply}
 use Rattle.nv_core.specs.Words.{Sizes, Word, HEAD, TAIL, PAGE, ENTRY, kind_of, free, filling, broken, index, was_readied}
 use Rattle.nv_core.specs.Values.{Ending, Made, Failed}
 use Rattle.nv_core.specs.Passes.{Stage, Locking, Checking, Copying, Drawing, Seizing, Committing, Pledging, Readying, Placing, Reading, WriteFailing, Breaking, Fault, Pass, IsOneOf, IsUnseized, IsFilling, IsAmong, is_write, page_count, first_page, end_page, times, Patching}
-use Rattle.nv_core.specs.Deeds.{Deed, slot_of, page_at, ready_word, Loads, Takes, Gives, Places, Stops, Draws, Seizes, Pledges, Readies, Grows, Breaks, Splits, Leaves, Joins, Holds, Returns}
+use Rattle.nv_core.specs.Deeds.{Deed, slot_of, page_at, ready_word, Loads, Takes, Gives, Places, Stops, Draws, Seizes, Pledges, Readies, Grows, Breaks, Splits, Leaves, Joins, Turns, Hints, Holds, Returns}
 use Rattle.nv_core.specs.Stages.{leaving}
 use Rattle.nv_core.specs.Stepped.{begun, fault_of}
 use Rattle.nv_core.specs.Order.{Values, Work, MayWork, IsDue, commit_steps, MayPlace}
@@ -15,7 +15,7 @@ use Rattle.nv_core.specs.Events.{MayDo, MayFind}
 use Rattle.nv_core.specs.Standing.{StandsAt, HasDrawn, IsPage, IsSmall, HasRoom}
 use Rattle.nv_core.specs.Holding.{HoldsLocks}
 use Rattle.nv_core.specs.EntryWords.{IsEntryWord, IsFree, IsFilled, IsBroken, IsReady}
-use Rattle.nv_core.specs.Broken.{HasChecked}
+use Rattle.nv_core.specs.Broken.{HasChecked, victim_held}
 use Rattle.nv_core.specs.LogWindow.{HasUnseized, Fills, InWindow, entry_at, IsNumbered, Drawn, Filling, Kept}
 use Rattle.nv_core.specs.Groups.{Group, Log, with_group, log_stepped, log_worked, HasGroup, Groups}
 use Rattle.nv_core.specs.Pieces.{page_of_number}
@@ -61,6 +61,8 @@ breaking_now sizes by core found (Takes cell) may old number e = absurd (clear_b
 breaking_now sizes by core found (Gives cell) may old number e = absurd (clear_breaking _ number (clear_to sizes core.values (core.passes by) (Gives cell) found tt may) e)
 breaking_now sizes by core found (Places reply) may old number e = absurd (clear_breaking _ number (clear_to sizes core.values (core.passes by) (Places reply) found tt may) e)
 breaking_now sizes by core found Grows may old number e = absurd (clear_breaking _ number (clear_to sizes core.values (core.passes by) Grows found tt may) e)
+breaking_now sizes by core found (Turns page) may old number e = absurd (clear_breaking _ number (clear_to sizes core.values (core.passes by) (Turns page) found tt may) e)
+breaking_now sizes by core found (Hints buffer page) may old number e = absurd (clear_breaking _ number (clear_to sizes core.values (core.passes by) (Hints buffer page) found tt may) e)
 breaking_now sizes by core found Draws may old number e = absurd (if_both (λ s. s ≡ Breaking number → ⊥) (found == (core.passes by).head) (Seizing found) (leaving (core.passes by).hands)
     (λ _. elsewhere _ _ refl refl number) (λ _. clear_breaking (leaving (core.passes by).hands) number (clear_leaving (core.passes by).hands)) e)
 breaking_now sizes by core found (Seizes next) may old number e = absurd (if_both (λ s. s ≡ Breaking number → ⊥) (next + 1 == (core.passes by).first + (core.passes by).entries) (Committing 0) (Seizing (next + 1))
@@ -218,7 +220,7 @@ module _ (sizes : Sizes) (first : Values) (log : Log) (placed : ℕ → Bool) (b
   none_broken : (n page : ℕ) → IsOfFault core (log.group n) → IsPage sizes (log.group n).call page → IsPage sizes (core.passes by).call page → ⊥
   none_broken n page is on own =
       let none = sound.broken.pages is.by by page is.fault is.ended (subst (λ g. IsPage sizes g.call page) is.is on) (subst HasChecked (sym drawing) tt) in
-      let one = holds page own in omega (arith, none, one)
+      let one = holds page own in let no_victim = ap (λ s. victim_held s page) drawing in omega (arith, none, one, no_victim)
 
   -- so it draws for none of a write whose leader isn't ready
   pub none_unready : (n page : ℕ) → IsUnready sizes log core n → IsPage sizes (log.group n).call page → IsPage sizes (core.passes by).call page → ⊥
@@ -372,6 +374,10 @@ unready_step sizes first log placed by core (Pledges page) found sound groups fl
     (untouched sizes by core (Pledges page) found may HEAD refl) (untouched sizes by core (Pledges page) found may TAIL refl) (λ slot. untouched sizes by core (Pledges page) found may (ENTRY slot) refl) (λ n is none. none)
 unready_step sizes first log placed by core Grows found sound groups flight unready may = plain_unready sizes first log placed by core Grows found sound unready may placed
     (untouched sizes by core Grows found may HEAD refl) (untouched sizes by core Grows found may TAIL refl) (λ slot. untouched sizes by core Grows found may (ENTRY slot) refl) (λ n is none. none)
+unready_step sizes first log placed by core (Turns page) found sound groups flight unready may = plain_unready sizes first log placed by core (Turns page) found sound unready may placed
+    (untouched sizes by core (Turns page) found may HEAD refl) (untouched sizes by core (Turns page) found may TAIL refl) (λ slot. untouched sizes by core (Turns page) found may (ENTRY slot) refl) (λ n is none. none)
+unready_step sizes first log placed by core (Hints buffer page) found sound groups flight unready may = plain_unready sizes first log placed by core (Hints buffer page) found sound unready may placed
+    (untouched sizes by core (Hints buffer page) found may HEAD refl) (untouched sizes by core (Hints buffer page) found may TAIL refl) (λ slot. untouched sizes by core (Hints buffer page) found may (ENTRY slot) refl) (λ n is none. none)
 unready_step sizes first log placed by core Splits found sound groups flight unready may = plain_unready sizes first log placed by core Splits found sound unready may placed
     (untouched sizes by core Splits found may HEAD refl) (untouched sizes by core Splits found may TAIL refl) (λ slot. untouched sizes by core Splits found may (ENTRY slot) refl) (λ n is none. none)
 unready_step sizes first log placed by core (Leaves cell) found sound groups flight unready may = plain_unready sizes first log placed by core (Leaves cell) found sound unready may placed

@@ -8,12 +8,12 @@ use Rattle.nv_plain.specs.declared.call.Reply.{Reply}
 use Rattle.nv_store.specs.Store.{Store}
 use Rattle.nv_core.specs.Words.{Sizes, Word, PAGE, CLEANUP, DIRTY, ENTRY, STORE, same, index}
 use Rattle.nv_core.specs.Values.{Value, AStore, ABuffer, Job, Writes, Reads, Peeks, Ending, Made, Failed, called, filled, is_valid, bytes_in}
-use Rattle.nv_core.specs.Passes.{Stage, Idle, Locking, Checking, Ordering, Reading, Copying, Returning, Patching, Unlocking, Committing, Pledging, Readying, Placing, Growing, Giving, Pass, fetched_bytes, IsAllowed, is_write, is_read, file_of, times, page_count, first_page, end_page}
+use Rattle.nv_core.specs.Passes.{Stage, Idle, Locking, Checking, Ordering, Reading, Copying, Returning, Patching, Unlocking, Committing, Pledging, Readying, Placing, Growing, Giving, Pass, fetched_bytes, IsAllowed, is_write, is_read, file_of, times, page_count, first_page, end_page, Searching, Robbing}
 use Rattle.nv_core.specs.Deeds.{Deed, Takes, Gives, Places, Pledges, Splits, Leaves, Joins, moved, Comes, Stays, patched_by, slot_of}
-use Rattle.nv_core.specs.Stages.{exceeds, ending, after_give}
+use Rattle.nv_core.specs.Stages.{after_give, exceeds, ending}
 use Rattle.nv_core.specs.Stepped.{begun}
 use Rattle.nv_core.specs.Order.{Values, Work, MayWork, MayGive, MayPlace, IsDue, IsPageRead, SaysOf, SaysPage, page_start, page_bytes, commit_steps}
-use Rattle.nv_core.specs.Core.{Core, changes, changed, with_word, after_step, after_begin, after_work, worked, stage_worked, fetched_worked, values_given, values_stepped, values_read, values_worked}
+use Rattle.nv_core.specs.Core.{Core, changes, changed, with_word, after_step, after_begin, after_work, worked, stage_worked, fetched_worked, values_given, values_stepped, values_read, values_worked, values_robbed}
 use Rattle.nv_core.specs.Events.{MayFind, MayBegin}
 use Rattle.nv_core.specs.Standing.{StandsAt}
 use Rattle.nv_core.specs.Holding.{HoldsLocks}
@@ -31,7 +31,9 @@ use Rattle.nv_core.proofs.KeepsLoaded.{pledged_page}
 use Rattle.nv_core.proofs.KeepsLengths.{known_file, files_placed}
 use Rattle.nv_core.proofs.FileLaws.{own_none, page_placed, page_else, page_place}
 use Rattle.nv_core.proofs.Placed.{IsUnplaced, same_history}
-use Rattle.nv_core.proofs.BufferLaws.{IsWhole, whole_holds, whole_page, page_given, no_more, IsUnpatched, unpatched, giving_back, IsKeeping, IsUnfilling, plain_after, patch_stays, old_ending}
+use Rattle.nv_core.proofs.BufferLaws.{not_own, IsWhole, whole_holds, whole_page, page_given, no_more, IsUnpatched, unpatched, giving_back, IsKeeping, IsUnfilling, plain_after, patch_stays, old_ending}
+use Rattle.nv_core.proofs.ValueLaws.{robbed_valid, IsUnmoving}
+use Rattle.nv_core.proofs.KeepsSearches.{robbed_apart, rob_stands, rob_others}
 use Rattle.nv_core.proofs.GatheredLaws.{gathered_same, gathered_on, AreRight, at_ending, page_bytes_same}
 
 -- ---- a step that neither places nor pledges
@@ -52,14 +54,14 @@ kept_history : (deed : Deed) → IsKeeping deed → IsUnplaced deed
 kept_history (Places reply) keeping = keeping
 kept_history deed keeping = tt
 
-given_same : (pass : Pass) (stage : Stage) (values : Values) → ((page : ℕ) → stage ≡ Unlocking page → ⊥) → values_given pass stage values ≡ values
+same_values : (sizes : Sizes) (pass : Pass) (deed : Deed) (values : Values) → IsKeeping deed → IsUnmoving deed → values_stepped sizes pass deed values ≡ values
+same_values sizes pass (Pledges page) values keeping still = absurd keeping
+same_values sizes pass (Gives cell) values keeping still = absurd still
+same_values sizes pass deed values keeping still = refl
+
+given_same : (pass : Pass) (stage : Stage) (values : Values) → ((page : ℕ) → stage ≡ Unlocking page → ⊥) → values_given pass stage values ≡ values_robbed stage values
 given_same pass (Unlocking page) values other = absurd (other page refl)
 given_same pass stage values other = refl
-
-same_values : (sizes : Sizes) (pass : Pass) (deed : Deed) (values : Values) → IsKeeping deed → IsUnfilling deed pass.stage → values_stepped sizes pass deed values ≡ values
-same_values sizes pass (Pledges page) values keeping other = absurd keeping
-same_values sizes pass (Gives cell) values keeping other = given_same pass pass.stage values other
-same_values sizes pass deed values keeping other = refl
 
 -- what a buffer has where it counts
 abbrev HasNow : Sizes → Files → Core → (page : ℕ) → Type 0
@@ -129,18 +131,58 @@ gathered_after sizes first opening by core found (Joins number) keeping other so
 gathered_after sizes first opening by core found deed keeping other sound may was =
     gathered_on sizes (page_now sizes opening core) core.values (core.passes by) deed found other may.may (sound.standing by).at (ordering_right sizes first opening by core sound was Ordering tt tt) (was.gathered by)
 
+-- before a victim's buffer moves
+buffers_still : (sizes : Sizes) (first : Values) (opening : Files) (by : ℕ) (core : Core) (found : ℕ) (deed : Deed) → IsKeeping deed → IsUnfilling deed (core.passes by).stage → Sound sizes first core → MayFind sizes by core deed found → ValidBuffers sizes opening core
+    → ValidBuffers sizes opening (record (after_step sizes by deed found core) { history = core.history; values = core.values })
+buffers_still sizes first opening by core found deed keeping other sound may was = record {
+  free = free_after sizes first opening by core found deed keeping sound may was;
+  held = λ n page. by_number (λ n (p : Pass). HasHeld sizes opening core page p) core.passes (changes by core.made deed) (changed sizes by core deed found)
+      (held_after sizes first opening by core found deed keeping sound may was page) (λ n ne. was.held n page) n;
+  gathered = by_number (λ n (p : Pass). HasGathered sizes opening core p) core.passes (changes by core.made deed) (changed sizes by core deed found)
+      (gathered_after sizes first opening by core found deed keeping other sound may was) (λ n ne. was.gathered n);
+}
+
+-- and once it has
+buffers_robbed : (sizes : Sizes) (first : Values) (opening : Files) (by : ℕ) (core : Core) (found : ℕ) (cell : Word) → Sound sizes first core → ValidBuffers sizes opening core
+    → ValidBuffers sizes opening (record (after_step sizes by (Gives cell) found core) { history = core.history; values = core.values }) → (stage : Stage) → (core.passes by).stage ≡ stage
+    → ValidBuffers sizes opening (record (after_step sizes by (Gives cell) found core) { history = core.history; values = values_robbed stage core.values })
+buffers_robbed sizes first opening by core found cell sound was kept (Searching missed tries (Robbing buffer victim)) at = record {
+  free = λ page free valid. let same = robbed_valid (Searching missed tries (Robbing buffer victim)) core.values (PAGE page) valid in ap bytes_in same ∙ kept.free page free (sym (ap is_valid same) ∙ valid);
+  held = λ n page has valid. let same = robbed_valid (Searching missed tries (Robbing buffer victim)) core.values (PAGE page) valid in ap bytes_in same ∙ kept.held n page has (sym (ap is_valid same) ∙ valid);
+  gathered = by_number (λ n (p : Pass). GatheredAt sizes (page_now sizes opening core) later p.call p.fetched p.stage) core.passes by (changed sizes by core (Gives cell) found)
+      (subst (λ s. GatheredAt sizes (page_now sizes opening core) later (core.passes by).call (core.passes by).fetched (after_give sizes (core.passes by) cell s)) (sym at) own)
+      (λ n ne. gathered_same sizes (page_now sizes opening core) (page_now sizes opening core) core.values later (core.passes n) (core.passes n).stage (sound.standing n).at (sound.holding n).locks
+      (λ page has. (rob_others sizes first by core missed tries buffer victim sound at n page ne (omega (arith, has)), refl)) (was.gathered n));
+}
+  where
+    later : Values
+    later = values_robbed (Searching missed tries (Robbing buffer victim)) core.values
+
+    before : Gathered sizes (page_now sizes opening core) core.values (core.passes by).call (core.passes by).fetched missed
+    before = subst (GatheredAt sizes (page_now sizes opening core) core.values (core.passes by).call (core.passes by).fetched) at (was.gathered by)
+
+    own : Gathered sizes (page_now sizes opening core) (values_robbed (Searching missed tries (Robbing buffer victim)) core.values) (core.passes by).call (core.passes by).fetched missed
+    own page is passed = elim passed [
+      | inl low ↦
+          page_bytes_same (core.passes by).fetched core.values (values_robbed (Searching missed tries (Robbing buffer victim)) core.values) page
+          (robbed_apart missed tries buffer victim core.values page (λ e. omega (arith, e, low)) (not_own sizes (core.passes by).call buffer victim page (rob_stands sizes first by core missed tries buffer victim sound at).2 is))
+          ∙ before page is (inl low)
+      | inr valid ↦
+          let same = robbed_valid (Searching missed tries (Robbing buffer victim)) core.values (PAGE page) valid in
+          page_bytes_same (core.passes by).fetched core.values (values_robbed (Searching missed tries (Robbing buffer victim)) core.values) page same ∙ before page is (inr (sym (ap is_valid same) ∙ valid))
+    ]
+buffers_robbed sizes first opening by core found cell sound was kept stage at = kept
+
 buffers_keep : (sizes : Sizes) (first : Values) (opening : Files) (by : ℕ) (core : Core) (found : ℕ) (deed : Deed) → IsKeeping deed → IsUnfilling deed (core.passes by).stage → Sound sizes first core → MayFind sizes by core deed found → ValidBuffers sizes opening core
     → ValidBuffers sizes opening (after_step sizes by deed found core)
+buffers_keep sizes first opening by core found (Gives cell) keeping other sound may was =
+    subst (λ h. ValidBuffers sizes opening (record (after_step sizes by (Gives cell) found core) { history = h })) (sym (same_history by core (Gives cell) tt))
+    (subst (λ v. ValidBuffers sizes opening (record (after_step sizes by (Gives cell) found core) { history = core.history; values = v })) (sym (given_same (core.passes by) (core.passes by).stage core.values other))
+    (buffers_robbed sizes first opening by core found cell sound was (buffers_still sizes first opening by core found (Gives cell) keeping other sound may was) (core.passes by).stage refl))
 buffers_keep sizes first opening by core found deed keeping other sound may was =
     subst (λ h. ValidBuffers sizes opening (record (after_step sizes by deed found core) { history = h })) (sym (same_history by core deed (kept_history deed keeping)))
-    (subst (λ v. ValidBuffers sizes opening (record (after_step sizes by deed found core) { history = core.history; values = v })) (sym (same_values sizes (core.passes by) deed core.values keeping other))
-    record {
-      free = free_after sizes first opening by core found deed keeping sound may was;
-      held = λ n page. by_number (λ n (p : Pass). HasHeld sizes opening core page p) core.passes (changes by core.made deed) (changed sizes by core deed found)
-          (held_after sizes first opening by core found deed keeping sound may was page) (λ n ne. was.held n page) n;
-      gathered = by_number (λ n (p : Pass). HasGathered sizes opening core p) core.passes (changes by core.made deed) (changed sizes by core deed found)
-          (gathered_after sizes first opening by core found deed keeping other sound may was) (λ n ne. was.gathered n);
-    })
+    (subst (λ v. ValidBuffers sizes opening (record (after_step sizes by deed found core) { history = core.history; values = v })) (sym (same_values sizes (core.passes by) deed core.values keeping tt))
+    (buffers_still sizes first opening by core found deed keeping other sound may was))
 
 -- ---- a step that places a call
 
@@ -205,7 +247,7 @@ module _ (plain : PlainLaws) (sizes : Sizes) (first : Values) (opening : Files) 
     gathered = by_number (λ n (p : Pass). HasGathered sizes opening (after_step sizes by (Places reply) found core) p) core.passes by (changed sizes by core (Places reply) found)
         (if_both (GatheredAt sizes (page_now sizes opening (after_step sizes by (Places reply) found core)) core.values (core.passes by).call (core.passes by).fetched) (is_write (core.passes by).call && exceeds (core.passes by) (core.passes by).length)
         Growing (ending sizes (core.passes by)) (λ _. tt) (λ _. at_ending sizes (page_now sizes opening (after_step sizes by (Places reply) found core)) core.values (core.passes by)))
-        (λ n ne. gathered_same sizes (page_now sizes opening core) (page_now sizes opening (after_step sizes by (Places reply) found core)) core.values core.values (core.passes n) (core.passes n).stage (sound.holding n).locks
+        (λ n ne. gathered_same sizes (page_now sizes opening core) (page_now sizes opening (after_step sizes by (Places reply) found core)) core.values core.values (core.passes n) (core.passes n).stage (sound.standing n).at (sound.holding n).locks
         (λ page has. (refl, now_else page (others_none sizes first core sound page n by has (λ e. ne (sym e))))) (was.gathered n));
   }
 
@@ -285,7 +327,7 @@ module _ (sizes : Sizes) (first : Values) (opening : Files) (by : ℕ) (core : C
     gathered = by_number (λ n (p : Pass). GatheredAt sizes (page_now sizes opening core) (values_stepped sizes (core.passes by) (Pledges own) core.values) p.call p.fetched p.stage) core.passes by (changed sizes by core (Pledges own) found)
         (if_both (GatheredAt sizes (page_now sizes opening core) (values_stepped sizes (core.passes by) (Pledges own) core.values) (core.passes by).call (core.passes by).fetched) (own + 1 == end_page sizes (core.passes by).call)
         (Readying (if (core.passes by).entries == 1 then (core.passes by).first else (core.passes by).first + 1)) (Pledging (own + 1)) (λ _. tt) (λ _. tt))
-        (λ n ne. gathered_same sizes (page_now sizes opening core) (page_now sizes opening core) core.values (values_stepped sizes (core.passes by) (Pledges own) core.values) (core.passes n) (core.passes n).stage (sound.holding n).locks
+        (λ n ne. gathered_same sizes (page_now sizes opening core) (page_now sizes opening core) core.values (values_stepped sizes (core.passes by) (Pledges own) core.values) (core.passes n) (core.passes n).stage (sound.standing n).at (sound.holding n).locks
         (λ page has. (value_else page (apart n page ne has), refl)) (was.gathered n));
   }
 
@@ -374,7 +416,7 @@ module _ (sizes : Sizes) (first : Values) (opening : Files) (by : ℕ) (core : C
         (λ n ne has valid. let far = filled_else page (off_unlock n page ne has) in ap bytes_in far ∙ was.held n page has (sym (ap is_valid far) ∙ valid)) n;
     gathered = by_number (λ n (p : Pass). GatheredAt sizes (page_now sizes opening core) (values_stepped sizes (core.passes by) (Gives cell) core.values) p.call p.fetched p.stage) core.passes by (changed sizes by core (Gives cell) found)
         (subst (GatheredAt sizes (page_now sizes opening core) (values_stepped sizes (core.passes by) (Gives cell) core.values) (core.passes by).call (core.passes by).fetched) (sym stage_unlock) gathered_unlock)
-        (λ n ne. gathered_same sizes (page_now sizes opening core) (page_now sizes opening core) core.values (values_stepped sizes (core.passes by) (Gives cell) core.values) (core.passes n) (core.passes n).stage (sound.holding n).locks
+        (λ n ne. gathered_same sizes (page_now sizes opening core) (page_now sizes opening core) core.values (values_stepped sizes (core.passes by) (Gives cell) core.values) (core.passes n) (core.passes n).stage (sound.standing n).at (sound.holding n).locks
         (λ page has. (filled_else page (off_unlock n page ne has), refl)) (was.gathered n));
   }
 
@@ -413,7 +455,7 @@ buffers_one sizes first opening core by pass values same held gathered sound was
       (λ has valid. ap bytes_in (same page) ∙ held page has (sym (ap is_valid (same page)) ∙ valid))
       (λ n ne has valid. ap bytes_in (same page) ∙ was.held n page has (sym (ap is_valid (same page)) ∙ valid)) n;
   gathered = by_number (λ n (p : Pass). GatheredAt sizes (page_now sizes opening core) values p.call p.fetched p.stage) core.passes by pass gathered
-      (λ n ne. gathered_same sizes (page_now sizes opening core) (page_now sizes opening core) core.values values (core.passes n) (core.passes n).stage (sound.holding n).locks (λ page has. (same page, refl)) (was.gathered n));
+      (λ n ne. gathered_same sizes (page_now sizes opening core) (page_now sizes opening core) core.values values (core.passes n) (core.passes n).stage (sound.standing n).at (sound.holding n).locks (λ page has. (same page, refl)) (was.gathered n));
 }
 
 pub valid_begin : (sizes : Sizes) (first : Values) (opening : Files) (by : ℕ) (core : Core) (call : FileCall) → Sound sizes first core → MayBegin sizes call (core.passes by) → ValidBuffers sizes opening core
@@ -627,7 +669,7 @@ module _ (sizes : Sizes) (first : Values) (opening : Files) (by : ℕ) (core : C
     gathered = by_number (λ n (p : Pass). GatheredAt sizes (page_now sizes opening core) (values_worked (core.passes by) work core.values) p.call p.fetched p.stage) core.passes by (worked sizes work (core.passes by))
         (subst (λ s. GatheredAt sizes (page_now sizes opening core) (values_worked (core.passes by) work core.values) (core.passes by).call (worked sizes work (core.passes by)).fetched s) (sym stage_read)
         (subst (λ f. Gathered sizes (page_now sizes opening core) (values_worked (core.passes by) work core.values) (core.passes by).call f (own + 1)) (sym fetched_read) read_gathered))
-        (λ n ne. gathered_same sizes (page_now sizes opening core) (page_now sizes opening core) core.values (values_worked (core.passes by) work core.values) (core.passes n) (core.passes n).stage (sound.holding n).locks
+        (λ n ne. gathered_same sizes (page_now sizes opening core) (page_now sizes opening core) core.values (values_worked (core.passes by) work core.values) (core.passes n) (core.passes n).stage (sound.standing n).at (sound.holding n).locks
         (λ page has. (value_apart page (far n page ne has), refl)) (was.gathered n));
   }
 

@@ -5,7 +5,7 @@ use Rattle.nv_plain.specs.declared.call.FileCall.{FileCall}
 use Rattle.nv_core.specs.Words.{Sizes, HEAD, TAIL, ENTRY, filling, broken, ready, held, is_entry_of, kind_of}
 use Rattle.nv_core.specs.Values.{Ending, Made, Failed}
 use Rattle.nv_core.specs.Passes.{Stage, Locking, Checking, Copying, Seizing, Committing, Pledging, Readying, Placing, ReadFailing, WriteFailing, Breaking, Pass, IsUnseized, IsFilling, IsAmong, is_write, page_count, first_page, end_page, without, Patching, Restoring, PieceFailing}
-use Rattle.nv_core.specs.Deeds.{Deed, slot_of, page_at, ready_word, Loads, Takes, Gives, Places, Stops, Draws, Seizes, Pledges, Readies, Grows, Breaks, Splits, Leaves, Joins, value_after, Holds, Returns}
+use Rattle.nv_core.specs.Deeds.{Deed, slot_of, page_at, ready_word, Loads, Takes, Gives, Places, Stops, Draws, Seizes, Pledges, Readies, Grows, Breaks, Splits, Leaves, Joins, value_after, Turns, Hints, Holds, Returns}
 use Rattle.nv_core.specs.Stages.{stage_after, after_stop, leaving}
 use Rattle.nv_core.specs.Stepped.{stepped, begun}
 use Rattle.nv_core.specs.Order.{Values, Work, MayWork, IsDue, IsFailing, commit_steps, MayStep}
@@ -303,6 +303,8 @@ window_step sizes first by core (Pledges page) found sound may = stays sizes fir
     at_alike (core.passes by) (changed sizes by core (Pledges page) found) (Pledging page) _ may.may refl (λ n. (pledged_alike sizes (core.passes by) page n at.0.some).0) (λ n. (pledged_alike sizes (core.passes by) page n at.0.some).1))
 window_step sizes first by core (Readies next) found sound may = window_entry sizes core by next _ (changed sizes by core (Readies next) found) _ _ _ _ sound.window (readies_one sizes first by core found next sound may)
 window_step sizes first by core Grows found sound may = stays sizes first by core Grows found sound may refl refl (λ slot. refl) (plain sizes by core Grows found by tt may.may)
+window_step sizes first by core (Turns page) found sound may = stays sizes first by core (Turns page) found sound may refl refl (λ slot. refl) (plain sizes by core (Turns page) found by tt may.may)
+window_step sizes first by core (Hints buffer page) found sound may = stays sizes first by core (Hints buffer page) found sound may refl refl (λ slot. refl) (plain sizes by core (Hints buffer page) found by tt may.may)
 window_step sizes first by core (Breaks next) found sound may = window_entry sizes core by next broken (changed sizes by core (Breaks next) found) _ _ _ _ sound.window (breaks_one sizes first by core found next sound may)
 window_step sizes first by core (Holds next) found sound may =
     let looks : InWindow core next × (is_entry_of ready may.may.0 (entry_at sizes core next) ≡ true) = subst (Looks sizes core) may.may.1 (sound.loaded.looks by) in

@@ -15,7 +15,7 @@ use Rattle.nv_entry.specs.Commits.{after_some}
 use Rattle.nv_core.specs.Words.{Sizes, Word, HEAD, TAIL, STORE, ENTRY, kind_of, free, filling, broken, index, was_readied}
 use Rattle.nv_core.specs.Values.{Ending, Made, Failed, Writes, called}
 use Rattle.nv_core.specs.Passes.{Stage, Locking, Checking, Copying, Seizing, Committing, Pledging, Readying, Placing, ReadFailing, WriteFailing, Breaking, Pass, IsUnseized, IsFilling, IsAmong, AreBytes, IsAllowed, file_of, is_write, page_count, first_page, end_page, without, PieceFailing, Patching}
-use Rattle.nv_core.specs.Deeds.{Deed, slot_of, page_at, ready_word, Loads, Takes, Gives, Places, Stops, Draws, Seizes, Pledges, Readies, Grows, Breaks, Splits, Leaves, Joins, Holds, Returns}
+use Rattle.nv_core.specs.Deeds.{Deed, slot_of, page_at, ready_word, Loads, Takes, Gives, Places, Stops, Draws, Seizes, Pledges, Readies, Grows, Breaks, Splits, Leaves, Joins, Turns, Hints, Holds, Returns}
 use Rattle.nv_core.specs.Stages.{stage_after, after_stop, leaving}
 use Rattle.nv_core.specs.Stepped.{stepped, begun}
 use Rattle.nv_core.specs.Order.{Values, Work, MayWork, IsDue, IsNextCall, IsPageRead, IsFailing, commit_steps, MayStep, IsPieceRead}
@@ -249,6 +249,8 @@ other_step sizes first tail log by core (Takes cell) found sound groups written 
 other_step sizes first tail log by core (Gives cell) found sound groups written may ne = plain_step sizes tail log by core (Gives cell) found written may refl refl (λ slot. refl) (clear_step sizes tail log by core (Gives cell) found by tt may.may)
 other_step sizes first tail log by core (Places reply) found sound groups written may ne = plain_step sizes tail log by core (Places reply) found written may refl refl (λ slot. refl) (clear_step sizes tail log by core (Places reply) found by tt may.may)
 other_step sizes first tail log by core Grows found sound groups written may ne = plain_step sizes tail log by core Grows found written may refl refl (λ slot. refl) (clear_step sizes tail log by core Grows found by tt may.may)
+other_step sizes first tail log by core (Turns page) found sound groups written may ne = plain_step sizes tail log by core (Turns page) found written may refl refl (λ slot. refl) (clear_step sizes tail log by core (Turns page) found by tt may.may)
+other_step sizes first tail log by core (Hints buffer page) found sound groups written may ne = plain_step sizes tail log by core (Hints buffer page) found written may refl refl (λ slot. refl) (clear_step sizes tail log by core (Hints buffer page) found by tt may.may)
 other_step sizes first tail log by core Stops found sound groups written may ne = plain_step sizes tail log by core Stops found written may refl refl (λ slot. refl)
     (stop_calls sizes log (core.passes by) (changed sizes by core Stops found) (core.passes by).stage may.may)
 other_step sizes first tail log by core Draws found sound groups written may ne = absurd (not_both refl ne)

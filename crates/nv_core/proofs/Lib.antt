@@ -1,6 +1,7 @@
 pub mod Changes
 pub mod LockLaws
-pub mod Choices
+pub mod SearchLaws
+mod Choices
 pub mod StandingLaws
 pub mod PageLaws
 pub mod ClearLaws
@@ -16,6 +17,7 @@ pub mod KeepsLocks
 pub mod KeepsWindow
 pub mod Inherits
 pub mod KeepsStop
+pub mod KeepsSearches
 pub mod KeepsRooms
 pub mod KeepsNumbers
 pub mod KeepsLoaded

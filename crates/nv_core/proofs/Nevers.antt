@@ -2,15 +2,16 @@
 use Rattle.std.proofs.Common.{◌≡◌, ◌≢◌, ℕ, inl, inr, refl, sym, subst, arith, true, ◌∙◌}
 use Rattle.std.proofs.lemmas.Bool.{cases_eq}
 use Rattle.nv_core.specs.Words.{Word, PAGE, ENTRY, CLEANUP, ready, is_entry_of}
-use Rattle.nv_core.specs.Passes.{Stage, Seizing, Committing, Pledging, Readying, Placing, WriteFailing, IsUnseized, IsFilling, IsAmong, times, Leaving}
+use Rattle.nv_core.specs.Passes.{Stage, Seizing, Committing, Pledging, Readying, Placing, WriteFailing, IsUnseized, IsFilling, IsAmong, times, Leaving, Searching, Seeking, Robbing}
 use Rattle.nv_core.specs.Deeds.{Draws, slot_of}
 use Rattle.nv_core.specs.Order.{MayPlace}
 use Rattle.nv_core.specs.Standing.{StandsAt, HasDrawn, IsPage}
 use Rattle.nv_core.specs.Holding.{HoldsLocks, lock_held, cleanup_held}
-use Rattle.nv_core.specs.Never.{IsCommitting, IsInFlight, NoPlaceBeforeTheFence, NoPageBeforeThePlace, StoppedAfterAFault, NoLeaderBeforeAFollower, NoGrowthBeforeThePlace, NoTwoWritesOfAPage, NoStopWithoutAFault, NoSeizureOfAHeldEntry, NoHoldOfAnUnreadyEntry, NoEntryHeldTwice, NoOtherCleanup, NoDrawPastTheEnd}
+use Rattle.nv_core.specs.Never.{IsCommitting, IsInFlight, NoPlaceBeforeTheFence, NoPageBeforeThePlace, StoppedAfterAFault, NoLeaderBeforeAFollower, NoGrowthBeforeThePlace, NoTwoWritesOfAPage, NoStopWithoutAFault, NoSeizureOfAHeldEntry, NoHoldOfAnUnreadyEntry, NoEntryHeldTwice, NoOtherCleanup, NoDrawPastTheEnd, IsSought, NoVictimOfTheCall}
 use Rattle.nv_core.proofs.Changes.{differ}
 use Rattle.nv_core.proofs.Choices.{gives_back, IsGivingBack}
 use Rattle.nv_core.proofs.KeepsLoaded.{held_by_one, holds_page}
+use Rattle.nv_core.proofs.BufferLaws.{not_own}
 use Rattle.nv_core.proofs.KeepsWindow.{window_step}
 use Rattle.nv_core.specs.LogWindow.{InWindow, entry_at}
 use Rattle.nv_core.specs.Loaded.{Looks}
@@ -76,6 +77,14 @@ pub no_seizure_of_a_held_entry : NoSeizureOfAHeldEntry
 no_seizure_of_a_held_entry sizes first core by number sound may =
     let at : HasDrawn sizes (core.passes by).call (core.passes by).entries × IsAmong (core.passes by).first (core.passes by).entries number = subst (StandsAt sizes (core.passes by)) may (sound.standing by).at in
     sound.window.unseized_is by number (subst (λ s. IsUnseized s (core.passes by).first (core.passes by).entries number) (sym may) (omega arith, at.1.1))
+
+pub no_victim_of_the_call : NoVictimOfTheCall
+no_victim_of_the_call sizes first core by page sound = go (core.passes by).stage (sound.standing by).at
+  where
+    go : (stage : Stage) → StandsAt sizes (core.passes by) stage → IsSought stage page → IsPage sizes (core.passes by).call page → ⊥
+    go (Searching missed tries (Seeking buffer victim)) stands is own = not_own sizes (core.passes by).call buffer victim page stands.2 own is
+    go (Searching missed tries (Robbing buffer victim)) stands is own = not_own sizes (core.passes by).call buffer victim page stands.2 own is
+    go stage stands is own = is
 
 pub no_hold_of_an_unready_entry : NoHoldOfAnUnreadyEntry
 no_hold_of_an_unready_entry sizes first core by number sound may =

@@ -27,8 +27,9 @@ use Rattle.nv_core.specs.DirtyCounters.{is_of_page}
 use Rattle.nv_core.specs.EntryWords.{IsFree}
 use Rattle.nv_core.proofs.KeepsEntryWords.{words_step}
 use Rattle.nv_core.proofs.KeepsDirty.{dirty_step, dirty_begin, dirty_work}
-use Rattle.nv_core.proofs.KeepsStop.{stop_step, stop_begin, stop_work, buffers_step, buffers_work, devices_step, devices_work}
+use Rattle.nv_core.proofs.KeepsStop.{stop_step, stop_begin, stop_work, buffers_work, devices_step, devices_work}
 use Rattle.nv_core.proofs.KeepsLooks.{looks_step, looks_begin, looks_work}
+use Rattle.nv_core.proofs.KeepsSearches.{buffers_step, searches_step, searches_begin, searches_work, first_hints}
 
 sound_step : (sizes : Sizes) (first : Values) (by : ℕ) (core : Core) (deed : Deed) (found : ℕ) → Sound sizes first core → by ≤ core.made → MayFind sizes by core deed found → Sound sizes first (after_step sizes by deed found core)
 sound_step sizes first by core deed found sound made may = record {
@@ -45,6 +46,7 @@ sound_step sizes first by core deed found sound made may = record {
   broken_lengths = broken_lengths_step sizes first by core deed found sound may;
   history = history_step sizes first by core deed found sound sound.history (broken_step sizes first by core deed found sound sound.broken may) made may;
   buffers = buffers_step sizes first by core deed sound;
+  searches = searches_step sizes first by core deed found sound may;
   devices = devices_step sizes first by core deed sound;
   rooms = rooms_step sizes first by core deed found sound may;
 }
@@ -65,6 +67,7 @@ sound_begin sizes first by core call sound made may = record {
   broken_lengths = broken_lengths_begin sizes by core call sound.broken_lengths;
   history = history_begin sizes by core call sound.history made may;
   buffers = sound.buffers;
+  searches = searches_begin sizes by core call sound.searches;
   devices = sound.devices;
   rooms = rooms_begin sizes by core call sound.rooms;
 }
@@ -84,6 +87,7 @@ sound_work ends sizes first by core work sound made may = record {
   broken_lengths = broken_lengths_work sizes by core work sound.broken_lengths may;
   history = history_work sizes by core work sound.history made may;
   buffers = buffers_work sizes first by core work sound;
+  searches = searches_work sizes by core work may sound.searches;
   devices = devices_work sizes first by core work sound;
   rooms = rooms_work ends sizes first by core work sound may;
 }
@@ -165,6 +169,7 @@ opening_is_sound mount is_mount = record {
     mine = λ n. refl;
   };
   buffers = is_mount.buffers;
+  searches = record { hints = first_hints mount is_mount; each = λ n. tt };
   devices = record { each = λ cell. refl };
   rooms = record { free = λ slot less is. is_mount.ready slot less; ready = λ slot less kind. is_mount.ready slot less; filling = λ by number fills. absurd fills; header = is_mount.header };
 }

@@ -3,16 +3,18 @@ use Rattle.std.proofs.Common.{◌≡◌, ◌≢◌, ℕ, ◌+◌, ◌≤◌, ◌
 use Rattle.std.proofs.lemmas.Bool.{and_parts, not-true, eqb-false, leb-true, ltb-true}
 use Rattle.nv_plain.specs.Histories.{Answered}
 use Rattle.nv_plain.specs.declared.call.FileCall.{FileCall}
-use Rattle.nv_core.specs.Words.{Sizes, Word, STOP, ORDER, HEAD, TAIL, SIZE, LENGTH, STORE, ENTRY, PAGE, DIRTY, CLEANUP, ready, is_entry_of}
-use Rattle.nv_core.specs.Passes.{Stage, Idle, Locking, Measuring, Sizing, Checking, Ordering, Reading, Fetching, Copying, Returning, Waiting, Heading, Tailing, Drawing, Seizing, Committing, Pledging, Readying, Placing, Growing, Releasing, Giving, Leaving, ReadFailing, WriteFailing, Breaking, Pass, is_read, is_write, page_count, first_page, end_page, without, IsAmong, IsAllowed, Bounding, Scanning, Grasping, Patching, Unlocking, PieceFailing}
-use Rattle.nv_core.specs.Deeds.{Deed, Stays, Comes, moved, slot_of, Loads, Takes, Gives, Places, Stops, Draws, Seizes, Pledges, Readies, Grows, Breaks, Holds, Returns}
-use Rattle.nv_core.specs.Stages.{copying, stage_after, after_load, after_take, after_give, after_stop, leaving, giving, ending, ordered, exceeds, scanning, after_head, after_tail, after_look, after_hold, after_return}
+use Rattle.nv_core.specs.Words.{Sizes, Word, STOP, ORDER, HEAD, TAIL, SIZE, LENGTH, STORE, ENTRY, HINT, PAGE, DIRTY, CLEANUP, ready, is_entry_of}
+use Rattle.nv_core.specs.Passes.{Stage, Idle, Locking, Measuring, Sizing, Checking, Ordering, Reading, Fetching, Copying, Returning, Waiting, Search, Hinting, Seeking, Robbing, Robbed, Nothing, Searching, Heading, Tailing, Drawing, Seizing, Committing, Pledging, Readying, Placing, Growing, Releasing, Giving, Leaving, ReadFailing, WriteFailing, Breaking, Pass, is_read, is_write, page_count, first_page, end_page, without, IsAmong, IsAllowed, Bounding, Scanning, Grasping, Patching, Unlocking, PieceFailing}
+use Rattle.nv_core.specs.Deeds.{Deed, Stays, Comes, moved, slot_of, Loads, Takes, Gives, Places, Stops, Draws, Seizes, Pledges, Readies, Grows, Breaks, Turns, Hints, Holds, Returns}
+use Rattle.nv_core.specs.Stages.{copying, pursued, stage_after, after_load, after_give, after_stop, leaving, giving, ending, ordered, exceeds, scanning, after_head, after_tail, after_look, after_hold, after_return}
 use Rattle.nv_core.specs.Stepped.{stepped, begun}
 use Rattle.nv_core.specs.Values.{Ending, Made, Failed}
 use Rattle.nv_core.specs.Core.{worked, stage_worked}
-use Rattle.nv_core.specs.Order.{Values, Work, MayWork, IsDue, commit_steps, MayStep, MayLoad, MayTake, IsFailing}
-use Rattle.nv_core.specs.Standing.{IsPage, HasDrawn, IsSmall, HasRoom, StandsAt, Standing, ReadsPage}
+use Rattle.nv_core.specs.Order.{Values, Work, MayWork, IsDue, commit_steps, MayStep, MayLoad, MayTake, IsMiss, JustNow, AfterTries, IsFailing}
+use Rattle.nv_core.specs.Standing.{IsPage, HasDrawn, IsSmall, HasRoom, IsElsewhere, StandsAt, Standing, ReadsPage}
+use Rattle.nv_core.specs.Holding.{is_among}
 use Rattle.nv_core.proofs.Choices.{if_both, when_true, leaving_both, step_idle, IsGivingBack, gives_back}
+use Rattle.nv_core.proofs.SearchLaws.{hinting_next, tried_next}
 use Rattle.nv_core.proofs.PageLaws.{write_pages, read_within}
 
 -- a call on its way out
@@ -31,6 +33,19 @@ ends sizes pass now sized call = if_both (StandsAt sizes now) pass.sized Releasi
 -- a read of a page with entries looks at a number below HEAD as it loaded it
 scans : (sizes : Sizes) (pass now : Pass) (page number : ℕ) → now.head ≡ pass.head → ReadsPage sizes now page → StandsAt sizes now (scanning pass page number)
 scans sizes pass now page number head at = if_both (StandsAt sizes now) (nat_lt number pass.head) (Scanning page number) (Unlocking page) (λ e. (at, subst (λ h. number < h) (sym head) (ltb-true number pass.head e))) (λ _. at)
+
+-- ---- searches
+
+-- a read that has missed a page has it among its pages
+pub missed_page : (sizes : Sizes) (values : Values) (pass : Pass) (page tries : ℕ) → StandsAt sizes pass pass.stage → IsMiss sizes values pass page tries → (is_read pass.call ≡ true) × IsPage sizes pass.call page
+missed_page sizes values pass page tries stands (JustNow from miss none) =
+    let at : (is_read pass.call ≡ true) × (first_page sizes pass.call ≤ from) = subst (StandsAt sizes pass) miss.stage stands in
+    let low = at.1 in let later = miss.later in let within = miss.within in let less = read_within sizes pass.call pass.length in (at.0, (omega (arith, low, later), omega (arith, within, less)))
+missed_page sizes values pass page tries stands (AfterTries search is over) = let at : StandsAt sizes pass (Searching page tries search) = subst (StandsAt sizes pass) is stands in (at.0, at.1)
+
+pursued_elsewhere : (sizes : Sizes) (call : FileCall) (search : Search) → IsElsewhere sizes call search → IsElsewhere sizes call (pursued search)
+pursued_elsewhere sizes call (Robbing buffer victim) is = tt
+pursued_elsewhere sizes call search is = is
 
 -- ---- the steps
 
@@ -72,15 +87,15 @@ loads sizes values pass (ENTRY slot) found number history stands may =
     subst (λ s. StandsAt sizes now (after_look pass found s)) (sym may.2)
     (if_both (StandsAt sizes now) (is_entry_of ready may.0 found) (Grasping may.0 may.1) (scanning pass may.0 (may.1 + 1)) (λ _. at) (λ _. scans sizes pass now may.0 (may.1 + 1) refl at.0))
 loads sizes values pass (DIRTY page) found number history stands may =
+    let here = missed_page sizes values pass page may.tries stands.at may.miss in
     if_both (StandsAt sizes (stepped sizes number history (Loads (DIRTY page)) found pass)) (found == 0) (Fetching page false) (Waiting page) (λ _. here) (λ _. here)
-  where
-    at : (is_read pass.call ≡ true) × (first_page sizes pass.call ≤ may.0)
-    at = subst (StandsAt sizes pass) may.1.stage stands.at
-
-    here : ReadsPage sizes pass page
-    here =
-        let low = at.1 in let later = may.1.later in let within = may.1.within in let less = read_within sizes pass.call pass.length in
-        let page_is : IsPage sizes pass.call page = (omega (arith, low, later), omega (arith, within, less)) in (at.0, page_is)
+loads sizes values pass (HINT buffer) found number history stands may =
+    let at : StandsAt sizes pass (Searching may.page may.tries (Hinting buffer)) = subst (StandsAt sizes pass) may.is stands.at in
+    hinting_next (StandsAt sizes (stepped sizes number history (Loads (HINT buffer)) found pass)) sizes pass buffer found may (
+      at.0,
+      at.1,
+      if_both (IsElsewhere sizes pass.call) (is_among (first_page sizes pass.call) (end_page sizes pass.call) found) Nothing (Seeking buffer found) (λ _. tt) (λ none. none),
+    )
 loads sizes values pass word found number history stands may = absurd may
 
 -- a lock that was found shut leaves the hands
@@ -93,12 +108,16 @@ takes : (sizes : Sizes) (pass : Pass) (cell : Word) (found number : ℕ) (histor
     → StandsAt sizes (stepped sizes number history (Takes cell) found pass) (stage_after sizes pass (Takes cell) found)
 takes sizes pass (PAGE page) found number history stands may =
     let now = stepped sizes number history (Takes (PAGE page)) found pass in
-    let at : IsPage sizes pass.call page × (pass.sized ≡ false) = subst (StandsAt sizes pass) may stands.at in
-    if_both (StandsAt sizes now) (found == 0) (after_take sizes pass (PAGE page)) (leaving pass.hands)
+    tried_next (StandsAt sizes now) sizes pass page found
+    (λ is. let at : IsPage sizes pass.call page × (pass.sized ≡ false) = subst (StandsAt sizes pass) is stands.at in
+    if_both (StandsAt sizes now) (found == 0) (if page + 1 == end_page sizes pass.call then Measuring else Locking (page + 1)) (leaving pass.hands)
     (λ e. if_both (StandsAt sizes now) (page + 1 == end_page sizes pass.call) Measuring (Locking (page + 1)) (λ _. tt)
     (λ last. let ne = eqb-false (page + 1) (end_page sizes pass.call) last in let from = at.0.0 in let to = at.0.1 in
     let within : IsPage sizes pass.call (page + 1) = (omega arith, omega arith) in (within, at.1)))
-    (missed sizes pass (PAGE page) found number history)
+    (missed sizes pass (PAGE page) found number history))
+    (λ s. let at : StandsAt sizes pass (Searching s.page s.tries (Seeking s.buffer page)) = subst (StandsAt sizes pass) s.is stands.at in
+    if_both (StandsAt sizes now) (found == 0) (Searching s.page s.tries (Robbing s.buffer page)) (Searching s.page s.tries Nothing) (λ _. at) (λ _. (at.0, at.1, tt)))
+    may
 takes sizes pass (SIZE file) found number history stands may =
     if_both (StandsAt sizes (stepped sizes number history (Takes (SIZE file)) found pass)) (found == 0) Measuring (leaving pass.hands) (λ e. tt) (missed sizes pass (SIZE file) found number history)
 takes sizes pass (STORE file) found number history stands may =
@@ -122,6 +141,7 @@ gives_at sizes pass cell found number history (Giving page) at may =
 gives_at sizes pass cell found number history (Returning page dirty) at may =
     if_both (StandsAt sizes (stepped sizes number history (Gives cell) found pass)) dirty (Bounding page) (Reading (page + 1)) (λ _. at) (λ _. (at.0, let low = at.1.0 in omega (arith, low)))
 gives_at sizes pass cell found number history (Unlocking page) at may = (at.0, let low = at.1.0 in omega (arith, low))
+gives_at sizes pass cell found number history (Searching page tries search) at may = (at.0, at.1, pursued_elsewhere sizes pass.call search at.2)
 gives_at sizes pass cell found number history stage at may = absurd may
 
 -- the first and the next of some in a row
@@ -207,6 +227,9 @@ steps sizes values pass (Returns next) found number history stands may =
     subst (λ s. StandsAt sizes now (after_return sizes pass s)) (sym may.2)
     (if_both (StandsAt sizes now) may.1 (leaving (without (ENTRY (slot_of sizes next)) pass.hands)) (scanning pass may.0 (next + 1))
     (λ _. out sizes now (without (ENTRY (slot_of sizes next)) pass.hands) refl) (λ _. scans sizes pass now may.0 (next + 1) refl at.0))
+steps sizes values pass (Turns page) found number history stands may = let at = missed_page sizes values pass page may.tries stands.at may.miss in (at.0, at.1, tt)
+steps sizes values pass (Hints buffer page) found number history stands may =
+    let at : StandsAt sizes pass (Searching page may.tries (Robbed buffer)) = subst (StandsAt sizes pass) may.is stands.at in (at.0, at.1, tt)
 steps sizes values pass deed found number history stands may = absurd may
 
 pub standing_steps : (sizes : Sizes) (values : Values) (pass : Pass) (deed : Deed) (found number : ℕ) (history : List Answered) → Standing sizes pass → MayStep sizes values pass deed

@@ -1,15 +1,16 @@
 -- Values: what steps and device calls leave of them.
-use Rattle.std.proofs.Common.{◌≡◌, ℕ, ◌≤◌, Bool, List, Some, refl, sym, subst, ◌∙◌, arith, false}
+use Rattle.std.proofs.Common.{◌≡◌, ◌≢◌, ℕ, ◌≤◌, Bool, true, List, Some, None, refl, sym, subst, ◌∙◌, arith, false}
+use Rattle.std.proofs.lemmas.Bool.{true≢false}
 use Rattle.nv_plain.specs.Faults.{Rose}
 use Rattle.nv_plain.specs.declared.call.FileCall.{FileCall}
 use Rattle.nv_plain.specs.declared.call.FileCall.TheVariants.{Write}
 use Rattle.nv_core.specs.Words.{Sizes, Word, PAGE}
-use Rattle.nv_core.specs.Values.{Value, Bare, APart, AStore, ABuffer, Job, Reads, Ending, Made, Failed, called, faults_of, identity_of, buffers_in, filled, patched}
-use Rattle.nv_core.specs.Passes.{Stage, Copying, Pass, Unlocking, fetched_bytes}
+use Rattle.nv_core.specs.Values.{Value, Bare, APart, AStore, ABuffer, Job, Reads, Ending, Made, Failed, called, faults_of, identity_of, buffers_in, is_valid, emptied, received, filled, patched}
+use Rattle.nv_core.specs.Passes.{Stage, Copying, Robbing, Searching, Pass, Unlocking, fetched_bytes}
 use Rattle.nv_core.specs.Deeds.{Deed, Pledges, patched_by, Gives}
 use Rattle.nv_core.specs.Order.{Values, Work, MayEnd}
-use Rattle.nv_core.specs.Core.{with_word, values_read, values_worked, values_stepped, values_given}
-use Rattle.nv_core.proofs.Changes.{by_word}
+use Rattle.nv_core.specs.Core.{with_word, values_read, values_worked, values_robbed, values_stepped, values_given}
+use Rattle.nv_core.proofs.Changes.{by_word, word_else}
 
 -- what a measure of values sees of a change in one place
 one_place : (measure : Value → ℕ) (values : Values) (word : Word) (value : Value) → measure value ≡ measure (values word) → (other : Word) → measure (with_word values word value other) ≡ measure (values other)
@@ -40,19 +41,83 @@ identity_steady = steady identity_of 0 (λ buffer. refl)
 pub buffers_steady : Steady buffers_in
 buffers_steady = steady buffers_in 1 (λ buffer. refl)
 
-steady_given : (measure : Value → ℕ) → Steady measure → (pass : Pass) (stage : Stage) (values : Values) (cell : Word) → measure (values_given pass stage values cell) ≡ measure (values cell)
-steady_given measure is pass (Unlocking page) values cell =
-    one_place measure values (PAGE page) (filled (fetched_bytes pass.fetched page) (values (PAGE page))) (is.filled_is (fetched_bytes pass.fetched page) (values (PAGE page))) cell
-steady_given measure is pass stage values cell = refl
+-- a victim's buffer moves between the cells of pages alone
+pub robbed_else : (stage : Stage) (values : Values) (cell : Word) → ((page : ℕ) → cell ≢ PAGE page) → values_robbed stage values cell ≡ values cell
+robbed_else (Searching page tries (Robbing buffer victim)) values cell other =
+    word_else (with_word values (PAGE page) (received (values (PAGE victim)) (values (PAGE page)))) (PAGE victim) (emptied (values (PAGE victim))) cell (other victim)
+    ∙ word_else values (PAGE page) (received (values (PAGE victim)) (values (PAGE page))) cell (other page)
+robbed_else stage values cell other = refl
 
-pub steady_stepped : (measure : Value → ℕ) → Steady measure → (sizes : Sizes) (pass : Pass) (deed : Deed) (values : Values) (cell : Word) → measure (values_stepped sizes pass deed values cell) ≡ measure (values cell)
-steady_stepped measure is sizes pass (Pledges page) values cell = one_place measure values (PAGE page) (patched_by sizes pass.call page (values (PAGE page))) (patched_same pass.call (values (PAGE page))) cell
+-- and leaves a measure that doesn't see it come or go
+steady_robbed : (measure : Value → ℕ) → ((value : Value) → measure (emptied value) ≡ measure value) → ((other value : Value) → measure (received other value) ≡ measure value)
+    → (stage : Stage) (values : Values) (cell : Word) → measure (values_robbed stage values cell) ≡ measure (values cell)
+steady_robbed measure empties receives (Searching page tries (Robbing buffer victim)) values =
+    by_word (λ other v. measure v ≡ measure (values other)) (with_word values (PAGE page) (received (values (PAGE victim)) (values (PAGE page)))) (PAGE victim) (emptied (values (PAGE victim))) (empties (values (PAGE victim)))
+    (λ other ne. by_word (λ other v. measure v ≡ measure (values other)) values (PAGE page) (received (values (PAGE victim)) (values (PAGE page))) (receives (values (PAGE victim)) (values (PAGE page))) (λ other ne. refl) other)
+steady_robbed measure empties receives stage values = λ cell. refl
+
+pub faults_robbed : (stage : Stage) (values : Values) (cell : Word) → faults_of (values_robbed stage values cell) ≡ faults_of (values cell)
+faults_robbed = steady_robbed faults_of empties receives
+  where
+    empties : (value : Value) → faults_of (emptied value) ≡ faults_of value
+    empties (ABuffer buffer) = refl
+    empties value = refl
+
+    receives : (other value : Value) → faults_of (received other value) ≡ faults_of value
+    receives (ABuffer (Some buffer)) (ABuffer None) = refl
+    receives other value = refl
+
+pub identity_robbed : (stage : Stage) (values : Values) (cell : Word) → identity_of (values_robbed stage values cell) ≡ identity_of (values cell)
+identity_robbed = steady_robbed identity_of empties receives
+  where
+    empties : (value : Value) → identity_of (emptied value) ≡ identity_of value
+    empties (ABuffer buffer) = refl
+    empties value = refl
+
+    receives : (other value : Value) → identity_of (received other value) ≡ identity_of value
+    receives (ABuffer (Some buffer)) (ABuffer None) = refl
+    receives other value = refl
+
+-- a buffer that counts after it was there before
+pub robbed_valid : (stage : Stage) (values : Values) (cell : Word) → is_valid (values_robbed stage values cell) ≡ true → values_robbed stage values cell ≡ values cell
+robbed_valid (Searching page tries (Robbing buffer victim)) values =
+    by_word (λ other v. is_valid v ≡ true → v ≡ values other) (with_word values (PAGE page) (received (values (PAGE victim)) (values (PAGE page)))) (PAGE victim) (emptied (values (PAGE victim))) (empties (values (PAGE victim)))
+    (λ other ne. by_word (λ other v. is_valid v ≡ true → v ≡ values other) values (PAGE page) (received (values (PAGE victim)) (values (PAGE page))) (receives (values (PAGE victim)) (values (PAGE page))) (λ other ne valid. refl) other)
+  where
+    empties : (value : Value) → is_valid (emptied value) ≡ true → emptied value ≡ value
+    empties (ABuffer buffer) valid = absurd (true≢false (sym valid))
+    empties value valid = refl
+
+    receives : (other value : Value) → is_valid (received other value) ≡ true → received other value ≡ value
+    receives (ABuffer (Some buffer)) (ABuffer None) valid = absurd (true≢false (sym valid))
+    receives other value valid = refl
+robbed_valid stage values = λ cell valid. refl
+
+-- the steps that move no buffer
+abbrev pub IsUnmoving : Deed → Type 0
+IsUnmoving (Gives cell) = ⊥
+IsUnmoving deed = Unit {0}
+
+pub steady_unmoved : (measure : Value → ℕ) → Steady measure → (sizes : Sizes) (pass : Pass) (deed : Deed) (values : Values) → IsUnmoving deed → (cell : Word) → measure (values_stepped sizes pass deed values cell) ≡ measure (values cell)
+steady_unmoved measure is sizes pass (Pledges page) values still = one_place measure values (PAGE page) (patched_by sizes pass.call page (values (PAGE page))) (patched_same pass.call (values (PAGE page)))
   where
     patched_same : (call : FileCall) (value : Value) → measure (patched_by sizes call page value) ≡ measure value
     patched_same (Write file at bytes) value = is.patched_is _ _ value
     patched_same call value = refl
-steady_stepped measure is sizes pass (Gives other) values cell = steady_given measure is pass pass.stage values cell
-steady_stepped measure is sizes pass deed values cell = refl
+steady_unmoved measure is sizes pass (Gives given) values still = absurd still
+steady_unmoved measure is sizes pass deed values still = λ cell. refl
+
+-- what gives back fills the buffer of a page that was read, or moves a victim's
+steady_given : (measure : Value → ℕ) → Steady measure → ((stage : Stage) (values : Values) (cell : Word) → measure (values_robbed stage values cell) ≡ measure (values cell))
+    → (pass : Pass) (stage : Stage) (values : Values) (cell : Word) → measure (values_given pass stage values cell) ≡ measure (values cell)
+steady_given measure is robs pass (Unlocking page) values cell =
+    one_place measure values (PAGE page) (filled (fetched_bytes pass.fetched page) (values (PAGE page))) (is.filled_is (fetched_bytes pass.fetched page) (values (PAGE page))) cell
+steady_given measure is robs pass stage values cell = robs stage values cell
+
+pub steady_stepped : (measure : Value → ℕ) → Steady measure → ((stage : Stage) (values : Values) (cell : Word) → measure (values_robbed stage values cell) ≡ measure (values cell))
+    → (sizes : Sizes) (pass : Pass) (deed : Deed) (values : Values) (cell : Word) → measure (values_stepped sizes pass deed values cell) ≡ measure (values cell)
+steady_stepped measure is robs sizes pass (Gives given) values cell = steady_given measure is robs pass pass.stage values cell
+steady_stepped measure is robs sizes pass deed values cell = steady_unmoved measure is sizes pass deed values tt cell
 
 steady_read : (measure : Value → ℕ) → Steady measure → (job : Job) (how : Ending) (stage : Stage) (values : Values) (cell : Word) → measure (values_read job how stage values cell) ≡ measure (values cell)
 steady_read measure is (Reads at bytes) Made (Copying page false) values cell = one_place measure values (PAGE page) (filled bytes (values (PAGE page))) (is.filled_is bytes (values (PAGE page))) cell

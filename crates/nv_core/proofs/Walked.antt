@@ -1,15 +1,16 @@
 -- The walks are runs.
-use Rattle.std.proofs.Common.{ℕ, zero, suc, ◌≤◌, replicate, refl, arith, inl, false}
+use Rattle.std.proofs.Common.{ℕ, zero, suc, ◌≤◌, replicate, refl, arith, inl, inr, false}
 use Rattle.nv_plain.specs.declared.call.FileCall.TheVariants.{Write}
-use Rattle.nv_core.specs.Passes.{IsOneOf, AreBytes}
+use Rattle.nv_core.specs.Passes.{IsOneOf, AreBytes, Found, Nothing}
 use Rattle.nv_core.specs.Core.{Core}
 use Rattle.nv_core.specs.Events.{Act, MayAct, MayCome, IsStaying}
 use Rattle.nv_pmem.specs.Room.{Keeps, Takes}
 use Rattle.nv_pmem.specs.RoomSteps.{RoomAfter, RoomAfterFault}
 use Rattle.nv_pmem.specs.Steps.{Step, Store, Flush, Fence, line_stores, durable_store}
 use Rattle.nv_entry.specs.Group.{group_steps, pieces_steps, piece_steps, data_steps, field_steps}
-use Rattle.nv_core.specs.Walks.{acts, walk_sizes, walk_bytes, walk_room, walk_call, ReadIsWalked, WriteIsWalked, FaultIsWalked, WalkBegins}
+use Rattle.nv_core.specs.Walks.{acts, walk_sizes, walk_bytes, walk_room, walk_call, ReadIsWalked, WriteIsWalked, FaultIsWalked, SearchIsWalked, TriesAreWalked, WalkBegins}
 use Rattle.nv_core.specs.Totals.{total}
+use Rattle.nv_core.specs.Order.{JustNow, AfterTries}
 
 -- an act of a pass that is there
 pub comes : (core : Core) (by : ℕ) (act : Act) → by ≤ core.made → (IsOneOf core.ended by → ⊥) → IsStaying act (core.passes by) → MayAct walk_sizes by core act → MayCome walk_sizes (acts by act) core
@@ -44,7 +45,7 @@ fault_stays Fence = keeps
 pub read_is_walked : ReadIsWalked
 read_is_walked = record {
   is_run = (
-    comes _ 0 _ (omega arith) (λ z. z) refl (record { idle = refl; allowed = record { known = omega arith; near = omega arith; short = omega arith; bytes = tt } }, record { may = refl; is = refl }),
+    comes _ 0 _ (omega arith) (λ z. z) refl (record { idle = refl; allowed = record { known = omega arith; near = omega arith; short = omega arith; bytes = tt } }, record { may = inl refl; is = refl }),
     (
       comes _ 0 _ (omega arith) (λ z. z) refl record { may = (refl, refl); is = refl },
       (
@@ -52,7 +53,7 @@ read_is_walked = record {
         (
           comes _ 0 _ (omega arith) (λ z. z) refl record { may = refl; is = refl },
           (
-            comes _ 0 _ (omega arith) (λ z. z) refl record { may = (0, record { stage = refl; later = omega arith; within = omega arith; passed = λ page low high. absurd (omega (arith, low, high)); missed = refl }); is = refl },
+            comes _ 0 _ (omega arith) (λ z. z) refl record { may = record { tries = 0; miss = JustNow 0 record { stage = refl; later = omega arith; within = omega arith; passed = λ page low high. absurd (omega (arith, low, high)); missed = refl } refl; enough = inl refl }; is = refl },
             (
               comes _ 0 _ (omega arith) (λ z. z) refl record { may = (0, false, refl, refl); is = refl },
               (
@@ -83,7 +84,7 @@ write_is_walked = record {
   is_run = (
     comes _ 0 _ (omega arith) (λ z. z) refl record { may = refl; is = refl },
     (
-      comes _ 1 _ (omega arith) (λ z. z) refl (record { idle = refl; allowed = record { known = omega arith; near = omega arith; short = omega arith; bytes = are_bytes } }, record { may = refl; is = refl }),
+      comes _ 1 _ (omega arith) (λ z. z) refl (record { idle = refl; allowed = record { known = omega arith; near = omega arith; short = omega arith; bytes = are_bytes } }, record { may = inl refl; is = refl }),
       (
         comes _ 1 _ (omega arith) (λ z. z) refl record { may = (refl, refl); is = refl },
         (
@@ -184,9 +185,9 @@ pub fault_is_walked : FaultIsWalked
 unfolding group_steps pieces_steps piece_steps data_steps field_steps line_stores durable_store
 fault_is_walked = record {
   is_run = (
-    comes _ 1 _ (omega arith) (λ z. z) refl (record { idle = refl; allowed = record { known = omega arith; near = omega arith; short = omega arith; bytes = are_bytes } }, record { may = refl; is = refl }),
+    comes _ 1 _ (omega arith) (λ z. z) refl (record { idle = refl; allowed = record { known = omega arith; near = omega arith; short = omega arith; bytes = are_bytes } }, record { may = inl refl; is = refl }),
     (
-      comes _ 0 _ (omega arith) (λ z. z) refl (record { idle = refl; allowed = record { known = omega arith; near = omega arith; short = omega arith; bytes = tt } }, record { may = refl; is = refl }),
+      comes _ 0 _ (omega arith) (λ z. z) refl (record { idle = refl; allowed = record { known = omega arith; near = omega arith; short = omega arith; bytes = tt } }, record { may = inl refl; is = refl }),
       (
         comes _ 1 _ (omega arith) (λ z. z) refl record { may = (refl, refl); is = refl },
         (
@@ -251,6 +252,125 @@ fault_is_walked = record {
     ),
   );
   words = refl;
+}
+
+pub search_is_walked : SearchIsWalked
+unfolding total
+search_is_walked = record {
+  begins = record {
+    small = omega arith;
+    buffers = record { many = refl };
+    ready = λ slot less. record { lines = omega arith; spare = λ line below. omega arith };
+    header = record { there = omega arith; spare = λ line below. omega arith };
+  };
+  is_run = (
+    comes _ 0 _ (omega arith) (λ z. z) refl (record { idle = refl; allowed = record { known = omega arith; near = omega arith; short = omega arith; bytes = tt } }, record { may = inl refl; is = refl }),
+    (
+      comes _ 0 _ (omega arith) (λ z. z) refl record { may = (refl, refl); is = refl },
+      (
+        comes _ 0 _ (omega arith) (λ z. z) refl record { may = refl; is = refl },
+        (
+          comes _ 0 _ (omega arith) (λ z. z) refl record { may = refl; is = refl },
+          (
+            comes _ 0 _ (omega arith) (λ z. z) refl record { may = record { tries = 0; miss = JustNow 4 record { stage = refl; later = omega arith; within = omega arith; passed = λ page low high. absurd (omega (arith, low, high)); missed = refl } refl; lacks = refl; few = omega arith }; is = refl },
+            (
+              comes _ 0 _ (omega arith) (λ z. z) refl record { may = record { page = 4; tries = 1; is = refl }; is = refl },
+              (
+                comes _ 0 _ (omega arith) (λ z. z) refl record { may = inr record { page = 4; tries = 1; buffer = 0; is = refl }; is = refl },
+                (
+                  comes _ 0 _ (omega arith) (λ z. z) refl record { may = refl; is = refl },
+                  (
+                    comes _ 0 _ (omega arith) (λ z. z) refl record { may = record { tries = 1; is = refl; has = refl }; is = refl },
+                    (
+                      comes _ 0 _ (omega arith) (λ z. z) refl record { may = record { tries = 1; miss = AfterTries Found refl tt; enough = inl refl }; is = refl },
+                      (
+                        comes _ 0 _ (omega arith) (λ z. z) refl record { may = (4, false, refl, refl); is = refl },
+                        (
+                          comes _ 0 _ (omega arith) (λ z. z) refl record { due = record { bytes = replicate 64 97; cell = refl; job = refl; says = refl }; ends = tt; leaves = tt; here = refl },
+                          (
+                            comes _ 0 _ (omega arith) (λ z. z) refl record { may = refl; is = refl },
+                            (
+                              comes _ 0 _ (omega arith) (λ z. z) refl record { may = (λ page low high. absurd (omega (arith, low, high)), refl); is = refl },
+                              (
+                                comes _ 0 _ (omega arith) (λ z. z) refl record { may = refl; is = refl },
+                                tt,
+                              ),
+                            ),
+                          ),
+                        ),
+                      ),
+                    ),
+                  ),
+                ),
+              ),
+            ),
+          ),
+        ),
+      ),
+    ),
+  );
+  words = refl;
+  taken = refl;
+  given = refl;
+}
+
+pub tries_are_walked : TriesAreWalked
+tries_are_walked = record {
+  is_run = (
+    comes _ 0 _ (omega arith) (λ z. z) refl record { may = refl; is = refl },
+    (
+      comes _ 1 _ (omega arith) (λ z. z) refl (record { idle = refl; allowed = record { known = omega arith; near = omega arith; short = omega arith; bytes = tt } }, record { may = inl refl; is = refl }),
+      (
+        comes _ 0 _ (omega arith) (λ z. z) refl (record { idle = refl; allowed = record { known = omega arith; near = omega arith; short = omega arith; bytes = tt } }, record { may = inl refl; is = refl }),
+        (
+          comes _ 0 _ (omega arith) (λ z. z) refl record { may = inl refl; is = refl },
+          (
+            comes _ 0 _ (omega arith) (λ z. z) refl record { may = (refl, refl); is = refl },
+            (
+              comes _ 0 _ (omega arith) (λ z. z) refl record { may = refl; is = refl },
+              (
+                comes _ 0 _ (omega arith) (λ z. z) refl record { may = refl; is = refl },
+                (
+                  comes _ 0 _ (omega arith) (λ z. z) refl record { may = record { tries = 0; miss = JustNow 0 record { stage = refl; later = omega arith; within = omega arith; passed = λ page low high. absurd (omega (arith, low, high)); missed = refl } refl; lacks = refl; few = omega arith }; is = refl },
+                  (
+                    comes _ 0 _ (omega arith) (λ z. z) refl record { may = record { page = 0; tries = 1; is = refl }; is = refl },
+                    (
+                      comes _ 0 _ (omega arith) (λ z. z) refl record { may = record { tries = 1; miss = AfterTries Nothing refl tt; lacks = refl; few = omega arith }; is = refl },
+                      (
+                        comes _ 0 _ (omega arith) (λ z. z) refl record { may = record { page = 0; tries = 2; is = refl }; is = refl },
+                        (
+                          comes _ 0 _ (omega arith) (λ z. z) refl record { may = inr record { page = 0; tries = 2; buffer = 2; is = refl }; is = refl },
+                          (
+                            comes _ 0 _ (omega arith) (λ z. z) refl record { may = record { tries = 2; miss = AfterTries Nothing refl tt; lacks = refl; few = omega arith }; is = refl },
+                            (
+                              comes _ 0 _ (omega arith) (λ z. z) refl record { may = record { page = 0; tries = 3; is = refl }; is = refl },
+                              (
+                                comes _ 0 _ (omega arith) (λ z. z) refl record { may = inr record { page = 0; tries = 3; buffer = 3; is = refl }; is = refl },
+                                (
+                                  comes _ 0 _ (omega arith) (λ z. z) refl record { may = refl; is = refl },
+                                  (
+                                    comes _ 0 _ (omega arith) (λ z. z) refl record { may = record { tries = 3; is = refl; has = refl }; is = refl },
+                                    tt,
+                                  ),
+                                ),
+                              ),
+                            ),
+                          ),
+                        ),
+                      ),
+                    ),
+                  ),
+                ),
+              ),
+            ),
+          ),
+        ),
+      ),
+    ),
+  );
+  words = refl;
+  taken = refl;
+  given = refl;
 }
 
 pub walk_begins : WalkBegins

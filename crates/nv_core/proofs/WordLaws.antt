@@ -1,8 +1,8 @@
 -- Words: which of them a step may change.
 use Rattle.std.proofs.Common.{◌≡◌, ◌≢◌, ℕ, ◌==◌, Bool, true, false, refl, sym, ap, ◌∙◌}
-use Rattle.nv_core.specs.Words.{Sizes, Word, STOP, ORDER, HEAD, SIZE, STORE, PAGE, DIRTY, family, is_lock, CLEANUP}
+use Rattle.nv_core.specs.Words.{Sizes, Word, STOP, ORDER, HEAD, HAND, SIZE, STORE, HINT, PAGE, DIRTY, family, is_lock, CLEANUP}
 use Rattle.nv_core.specs.Passes.{Stage, Pass}
-use Rattle.nv_core.specs.Deeds.{Deed, Loads, Takes, Gives, Places, Stops, Draws, Seizes, Pledges, Readies, Grows, Breaks, Splits, Leaves, Joins, word_of, value_after, Holds, Returns}
+use Rattle.nv_core.specs.Deeds.{Deed, Loads, Takes, Gives, Places, Stops, Draws, Seizes, Pledges, Readies, Grows, Breaks, Turns, Hints, Splits, Leaves, Joins, word_of, value_after, Holds, Returns}
 use Rattle.nv_core.specs.Order.{MayTake, MayGive}
 use Rattle.nv_core.specs.Core.{Core, with_word}
 use Rattle.nv_core.specs.Events.{MayFind}
@@ -23,6 +23,8 @@ touches (Holds number) word = family word == 10
 touches (Returns number) word = family word == 10
 touches (Pledges page) word = family word == 14
 touches Grows word = family word == 8
+touches (Turns page) word = family word == 4
+touches (Hints buffer page) word = family word == 11
 touches deed word = false
 
 -- a word that is set to what it was
@@ -61,6 +63,8 @@ untouched sizes by core Grows found may word not_so = word_else core.words _ _ w
 untouched sizes by core (Breaks number) found may word not_so = word_else core.words _ _ word (other_family word (word_of sizes (core.passes by) (Breaks number)) not_so)
 untouched sizes by core (Holds number) found may word not_so = word_else core.words _ _ word (other_family word (word_of sizes (core.passes by) (Holds number)) not_so)
 untouched sizes by core (Returns number) found may word not_so = word_else core.words _ _ word (other_family word (word_of sizes (core.passes by) (Returns number)) not_so)
+untouched sizes by core (Turns page) found may word not_so = word_else core.words HAND _ word (other_family word HAND not_so)
+untouched sizes by core (Hints buffer page) found may word not_so = word_else core.words (HINT buffer) _ word (other_family word (HINT buffer) not_so)
 untouched sizes by core Splits found may word not_so = same_value core.words STOP found may.is word
 untouched sizes by core (Leaves cell) found may word not_so = same_value core.words STOP found may.is word
 untouched sizes by core (Joins number) found may word not_so = same_value core.words STOP found may.is word

@@ -22,6 +22,7 @@ use Rattle.nv_core.specs.Core.{with_word, values_read, values_worked, values_ste
 use Rattle.nv_core.specs.Groups.{calls_after}
 use Rattle.nv_core.specs.Written.{IsPart, AreParts, IsWritten}
 use Rattle.nv_core.proofs.Changes.{word_here, word_else, differ}
+use Rattle.nv_core.proofs.ValueLaws.{robbed_else}
 
 -- the device calls of a group's commit
 abbrev pub steps_of : Sizes → FileCall → (first : ℕ) → List RowStep
@@ -33,7 +34,7 @@ steps_of sizes call first = []
 -- what is given back changes a page's buffer alone
 pub given_else : (pass : Pass) (stage : Stage) (values : Values) (cell : Word) → ((page : ℕ) → cell ≢ PAGE page) → values_given pass stage values cell ≡ values cell
 given_else pass (Unlocking page) values cell ne = word_else values (PAGE page) (filled (fetched_bytes pass.fetched page) (values (PAGE page))) cell (ne page)
-given_else pass stage values cell ne = refl
+given_else pass stage values cell ne = robbed_else stage values cell ne
 
 pub part_stepped : (sizes : Sizes) (pass : Pass) (deed : Deed) (values : Values) (slot : ℕ) → values_stepped sizes pass deed values (ENTRY slot) ≡ values (ENTRY slot)
 part_stepped sizes pass (Pledges page) values slot = word_else values (PAGE page) (patched_by sizes pass.call page (values (PAGE page))) (ENTRY slot) (differ (ENTRY slot) (PAGE page) refl)

@@ -4,8 +4,8 @@ use Rattle.nv_plain.specs.Files.{overwritten}
 use Rattle.nv_plain.specs.Histories.{Answered}
 use Rattle.nv_plain.specs.declared.call.FileCall.{FileCall}
 use Rattle.nv_core.specs.Words.{Sizes, Word, PAGE, same}
-use Rattle.nv_core.specs.Values.{Job, Reads, Peeks, Ending, Made, Failed, called, filled}
-use Rattle.nv_core.specs.Passes.{Stage, Idle, Copying, Returning, Patching, Restoring, Unlocking, Committing, Pledging, ReadFailing, PieceFailing, WriteFailing, Pass, first_page, fetched_bytes}
+use Rattle.nv_core.specs.Values.{Job, Reads, Peeks, Ending, Made, Failed, called, emptied, received, filled}
+use Rattle.nv_core.specs.Passes.{Stage, Idle, Copying, Returning, Robbing, Searching, Patching, Restoring, Unlocking, Committing, Pledging, ReadFailing, PieceFailing, WriteFailing, Pass, first_page, fetched_bytes}
 use Rattle.nv_core.specs.Deeds.{Deed, Gives, Pledges, Splits, Joins, word_of, value_after, patched_by}
 use Rattle.nv_core.specs.Stepped.{added, stepped, begun}
 use Rattle.nv_core.specs.Order.{Values, Work, commit_steps}
@@ -69,12 +69,18 @@ values_worked pass work values =
 
 -- ---- steps
 
+-- a victim's buffer, if it has one, comes to the page that is missed
+abbrev pub values_robbed : Stage → Values → Values
+values_robbed (Searching page tries (Robbing buffer victim)) values =
+    with_word (with_word values (PAGE page) (received (values (PAGE victim)) (values (PAGE page)))) (PAGE victim) (emptied (values (PAGE victim)))
+values_robbed stage values = values
+
 -- a page with entries comes into its buffer when all its pieces are read, and CLEANUP is given back
 abbrev pub values_given : Pass → Stage → Values → Values
 values_given pass (Unlocking page) values = with_word values (PAGE page) (filled (fetched_bytes pass.fetched page) (values (PAGE page)))
-values_given pass stage values = values
+values_given pass stage values = values_robbed stage values
 
--- what the cells keep after a step: a pledge patches the page's buffer
+-- what the cells keep after a step: a pledge patches the page's buffer, and a victim is given back without its own
 abbrev pub values_stepped : Sizes → Pass → Deed → Values → Values
 values_stepped sizes pass (Pledges page) values = with_word values (PAGE page) (patched_by sizes pass.call page (values (PAGE page)))
 values_stepped sizes pass (Gives cell) values = values_given pass pass.stage values

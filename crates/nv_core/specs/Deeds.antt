@@ -1,11 +1,11 @@
 -- Deeds: the kinds of step. Each is one atomic step on one word, and a table says of each kind what the word is, its value after,
 -- what moves between the cells and the pass's hands, and where the pass stands then.
-use Rattle.std.specs.Prelude.{ℕ, ◌+◌, ◌-◌, ◌%◌, ◌==◌, if◌then◌else◌, List, ◌∷◌, length}
+use Rattle.std.specs.Prelude.{ℕ, ◌+◌, ◌-◌, ◌%◌, ◌^◌, ◌==◌, if◌then◌else◌, List, ◌∷◌, length}
 use Rattle.nv_plain.specs.Pieces.{piece_of, piece_bytes}
 use Rattle.nv_plain.specs.declared.call.FileCall.{FileCall}
 use Rattle.nv_plain.specs.declared.call.FileCall.TheVariants.{Write}
 use Rattle.nv_plain.specs.declared.call.Reply.{Reply}
-use Rattle.nv_core.specs.Words.{Sizes, Word, STOP, ORDER, HEAD, LENGTH, ENTRY, DIRTY, filling, ready, broken, entry_word}
+use Rattle.nv_core.specs.Words.{Sizes, Word, STOP, ORDER, HEAD, HAND, LENGTH, ENTRY, HINT, DIRTY, filling, ready, broken, entry_word}
 use Rattle.nv_core.specs.Values.{Value, patched}
 use Rattle.nv_core.specs.Passes.{Pass, file_of, at_of, len_of, page_count, first_page, without}
 
@@ -37,6 +37,10 @@ pub data Deed : Type 0 where
   Holds : (number : ℕ) → Deed
   -- it is ready again, and its part is back
   Returns : (number : ℕ) → Deed
+  -- HAND rises, modulo 2^64: a try of the search for a buffer for this page
+  Turns : (page : ℕ) → Deed
+  -- HINT of the buffer is the page that was given it
+  Hints : (buffer page : ℕ) → Deed
   -- a new pass is made, with what pass 0 and the passes that it took in have seen
   Splits : Deed
   -- a pass on its way into pass 0 puts back what a cell keeps, and the lock stays shut
@@ -66,6 +70,8 @@ word_of sizes pass Grows = LENGTH (file_of pass.call)
 word_of sizes pass (Breaks number) = ENTRY (slot_of sizes number)
 word_of sizes pass (Holds number) = ENTRY (slot_of sizes number)
 word_of sizes pass (Returns number) = ENTRY (slot_of sizes number)
+word_of sizes pass (Turns page) = HAND
+word_of sizes pass (Hints buffer page) = HINT buffer
 word_of sizes pass deed = STOP
 
 -- the ENTRY word of an entry that its pass makes ready
@@ -86,6 +92,8 @@ value_after sizes pass Grows found = at_of pass.call + len_of pass.call
 value_after sizes pass (Breaks number) found = broken
 value_after sizes pass (Holds number) found = found + 1
 value_after sizes pass (Returns number) found = found - 1
+value_after sizes pass (Turns page) found = (found + 1) % 2 ^ 64
+value_after sizes pass (Hints buffer page) found = page
 value_after sizes pass deed found = found
 
 -- What moves: nothing, or what a cell keeps comes into the hands, or goes back.

@@ -10,8 +10,8 @@ use Rattle.nv_core.specs.Words.{STOP, ORDER, HEAD, TAIL, LENGTH, STORE, ENTRY, P
 use Rattle.nv_core.specs.Values.{Writes, Reads, Peeks, Made, bytes_in}
 use Rattle.nv_core.specs.Deeds.{Loads, Takes, Gives, Places, Draws, Seizes, Pledges, Readies, Holds, Returns}
 use Rattle.nv_core.specs.Core.{Core}
-use Rattle.nv_core.specs.Events.{Begins, Does, Calls, Event, after_event, after, IsRun}
-use Rattle.nv_core.specs.Walks.{walk_sizes, walk_room, walk_bytes, acts, write_core}
+use Rattle.nv_core.specs.Events.{Begins, Does, Calls, Event, after, IsRun}
+use Rattle.nv_core.specs.Walks.{walk_sizes, walk_room, walk_bytes, rows_after, acts, write_core}
 
 -- one of the device calls of the write's commit as entry 1
 abbrev pub second_call : (call : ℕ) → RowStep
@@ -74,16 +74,11 @@ dirty_core = after walk_sizes second_core walk_dirty
 abbrev pub dirty_shown : Core → List ℕ
 dirty_shown core = map core.words (ORDER ∷ HEAD ∷ STORE 0 ∷ PAGE 1 ∷ CLEANUP 1 ∷ DIRTY 1 ∷ ENTRY 0 ∷ ENTRY 1 ∷ [])
 
--- the words after each event
-abbrev pub dirty_shown_after : Core → List Event → List (List ℕ)
-dirty_shown_after core [] = []
-dirty_shown_after core (event ∷ later) = dirty_shown (after_event walk_sizes event core) ∷ dirty_shown_after (after_event walk_sizes event core) later
-
 -- Both are runs; these are the words after each event of the read; and the page's buffer then has the piece over the store's bytes.
 pub record DirtyReadIsWalked : Type 0 where
   pub writes : IsRun walk_sizes write_core walk_second
   pub is_run : IsRun walk_sizes second_core walk_dirty
-  pub words : dirty_shown_after second_core walk_dirty
+  pub words : rows_after dirty_shown second_core walk_dirty
       ≡ replicate 5 (3 ∷ 2 ∷ 0 ∷ 1 ∷ 0 ∷ 1 ∷ 10 ∷ 1034 ∷ [])
       ++ (3 ∷ 2 ∷ 0 ∷ 1 ∷ 1 ∷ 1 ∷ 10 ∷ 1034 ∷ [])
       ∷ replicate 2 (3 ∷ 2 ∷ 1 ∷ 1 ∷ 1 ∷ 1 ∷ 10 ∷ 1034 ∷ [])

@@ -1,7 +1,7 @@
 -- Holding: which cells a pass's hands hold, by where it stands.
-use Rattle.std.specs.Prelude.{◌≡◌, ◌≢◌, ℕ, ◌==◌, ◌&&◌, nat_le, nat_lt, Bool, if◌then◌else◌}
+use Rattle.std.specs.Prelude.{◌≡◌, ◌≢◌, ℕ, ◌+◌, ◌==◌, ◌&&◌, nat_le, nat_lt, Bool, if◌then◌else◌}
 use Rattle.nv_core.specs.Words.{Sizes, Word, SIZE, STORE, ENTRY, PAGE, CLEANUP}
-use Rattle.nv_core.specs.Passes.{Stage, Idle, Locking, Fetching, Copying, Returning, Bounding, Starting, Scanning, Grasping, Patching, Restoring, Unlocking, Giving, Leaving, ReadFailing, PieceFailing, Pass, IsFilling, IsHeld, file_of, first_page, end_page, times}
+use Rattle.nv_core.specs.Passes.{Stage, Idle, Locking, Fetching, Copying, Returning, Search, Robbing, Searching, Bounding, Starting, Scanning, Grasping, Patching, Restoring, Unlocking, Giving, Leaving, ReadFailing, PieceFailing, Pass, IsFilling, IsHeld, file_of, first_page, end_page, times}
 use Rattle.nv_core.specs.Deeds.{slot_of}
 
 -- 1 where a test holds, and else 0
@@ -12,11 +12,17 @@ one_if test = if test then 1 else 0
 abbrev pub is_among : (from end page : ℕ) → Bool
 is_among from end page = nat_le from page && nat_lt page end
 
--- it holds the pages of its call, while it takes and gives them those up to or from the next
+-- how often a search holds a page, with its call's own: the victim too, while it is robbed
+abbrev pub with_victim : Search → (page own : ℕ) → ℕ
+with_victim (Robbing buffer victim) page own = one_if (page == victim) + own
+with_victim search page own = own
+
+-- it holds the pages of its call, while it takes and gives them those up to or from the next, and a victim
 abbrev pub page_held : Sizes → Pass → Stage → (page : ℕ) → ℕ
 page_held sizes pass Idle page = 0
 page_held sizes pass (Locking next) page = one_if (is_among (first_page sizes pass.call) next page)
 page_held sizes pass (Giving next) page = one_if (is_among next (end_page sizes pass.call) page)
+page_held sizes pass (Searching missed tries search) page = with_victim search page (one_if (is_among (first_page sizes pass.call) (end_page sizes pass.call) page))
 page_held sizes pass stage page = one_if (is_among (first_page sizes pass.call) (end_page sizes pass.call) page)
 
 -- SIZE where it has taken it and not given it back

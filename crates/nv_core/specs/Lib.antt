@@ -22,6 +22,7 @@ pub mod OneHistory
 pub mod Broken
 pub mod BrokenLengths
 pub mod Devices
+pub mod Searches
 pub mod Rooms
 pub mod Sound
 pub mod Opening

@@ -2,7 +2,7 @@
 use Rattle.std.specs.Prelude.{◌≡◌, ◌≢◌, ℕ, ◌+◌, ◌≤◌, []}
 use Rattle.nv_plain.specs.declared.call.Reply.{Reply}
 use Rattle.nv_core.specs.Words.{Sizes, Word, STOP, HEAD, TAIL, ENTRY, CLEANUP, free, ready, kind_of}
-use Rattle.nv_core.specs.Passes.{Stage, Seizing, Committing, Pledging, Readying, Placing, WriteFailing, Pass, IsHeld, times}
+use Rattle.nv_core.specs.Passes.{Stage, Seeking, Robbing, Searching, Seizing, Committing, Pledging, Readying, Placing, WriteFailing, Pass, IsHeld, times}
 use Rattle.nv_core.specs.Deeds.{Gives, Places, Stops, Draws, Seizes, Readies, Grows, Holds, slot_of}
 use Rattle.nv_core.specs.Order.{Values, MayStep}
 use Rattle.nv_core.specs.Core.{Core, after_step}
@@ -68,6 +68,18 @@ abbrev pub NoSeizureOfAHeldEntry : Type 0
 NoSeizureOfAHeldEntry =
     (sizes : Sizes) (first : Values) (core : Core) (by number : ℕ) → Sound sizes first core
     → MayStep sizes core.values (core.passes by) (Seizes number) → core.words (ENTRY (slot_of sizes number)) ≡ free
+
+-- a search tries a page as its victim, or holds it as that
+abbrev pub IsSought : Stage → (page : ℕ) → Type 0
+IsSought (Searching missed tries (Seeking buffer victim)) page = page ≡ victim
+IsSought (Searching missed tries (Robbing buffer victim)) page = page ≡ victim
+IsSought stage page = ⊥
+
+-- A search never tries a page of its own call, nor holds one as its victim.
+abbrev pub NoVictimOfTheCall : Type 0
+NoVictimOfTheCall =
+    (sizes : Sizes) (first : Values) (core : Core) (by page : ℕ) → Sound sizes first core
+    → IsSought (core.passes by).stage page → IsPage sizes (core.passes by).call page → ⊥
 
 -- An entry is held where it is ready.
 abbrev pub NoHoldOfAnUnreadyEntry : Type 0

@@ -15,10 +15,10 @@ use Rattle.nv_pmem.specs.RoomSteps.{RoomAfter, RoomAfterFault}
 use Rattle.nv_pmem.specs.Rows.{RowStep}
 use Rattle.nv_store.specs.Store.{Store}
 use Rattle.nv_entry.specs.Group.{group_steps}
-use Rattle.nv_core.specs.Words.{Sizes, Word, STOP, ORDER, HEAD, TAIL, LENGTH, SIZE, STORE, ENTRY, PAGE, CLEANUP, DIRTY}
-use Rattle.nv_core.specs.Values.{Value, APart, AStore, Job, Writes, Reads, Peeks, Ending, Made, Failed, is_valid, bytes_in}
-use Rattle.nv_core.specs.Passes.{Stage, Locking, Measuring, Sizing, Checking, Ordering, Reading, Waiting, Fetching, Copying, Returning, Bounding, Starting, Scanning, Grasping, Patching, Restoring, Unlocking, Heading, Tailing, Drawing, Seizing, Committing, Pledging, Readying, Placing, Growing, Releasing, Giving, Leaving, ReadFailing, PieceFailing, WriteFailing, Breaking, Pass, file_of, at_of, covered, end_read, first_page, IsLastTaken, times}
-use Rattle.nv_core.specs.Deeds.{Deed, Loads, Takes, Gives, Places, Stops, Draws, Seizes, Pledges, Readies, Grows, Breaks, Holds, Returns, slot_of}
+use Rattle.nv_core.specs.Words.{Sizes, Word, STOP, ORDER, HEAD, TAIL, LENGTH, SIZE, STORE, ENTRY, HINT, PAGE, CLEANUP, DIRTY}
+use Rattle.nv_core.specs.Values.{Value, APart, AStore, Job, Writes, Reads, Peeks, Ending, Made, Failed, lacks_buffer, is_valid, bytes_in}
+use Rattle.nv_core.specs.Passes.{Stage, Locking, Measuring, Sizing, Checking, Ordering, Reading, Waiting, Fetching, Copying, Returning, Search, Hinting, Seeking, Robbing, Robbed, Nothing, Found, Searching, Bounding, Starting, Scanning, Grasping, Patching, Restoring, Unlocking, Heading, Tailing, Drawing, Seizing, Committing, Pledging, Readying, Placing, Growing, Releasing, Giving, Leaving, ReadFailing, PieceFailing, WriteFailing, Breaking, Pass, file_of, at_of, covered, end_read, first_page, IsLastTaken, times}
+use Rattle.nv_core.specs.Deeds.{Deed, Loads, Takes, Gives, Places, Stops, Draws, Seizes, Pledges, Readies, Grows, Breaks, Turns, Hints, Holds, Returns, slot_of}
 
 -- what the cells keep, by their words
 abbrev pub Values : Type 0
@@ -66,6 +66,50 @@ pub record IsMissed (sizes : Sizes) (values : Values) (pass : Pass) (page from :
   pub passed : AreValid values from page
   pub missed : is_valid (values (PAGE page)) ≡ false
 
+-- a try of a search is over, and none is under way
+abbrev pub IsOver : Value → Search → Type 0
+IsOver value (Robbed buffer) = lacks_buffer value ≡ true
+IsOver value Nothing = Unit {0}
+IsOver value Found = Unit {0}
+IsOver value search = ⊥
+
+-- a read has missed a page: just now, or it has made so many tries of its search
+pub data IsMiss (sizes : Sizes) (values : Values) (pass : Pass) (page tries : ℕ) : Type 0 where
+  JustNow : (from : ℕ) → IsMissed sizes values pass page from → tries ≡ 0 → IsMiss sizes values pass page tries
+  AfterTries : (search : Search) → pass.stage ≡ Searching page tries search → IsOver (values (PAGE page)) search → IsMiss sizes values pass page tries
+
+-- A try may begin where the page has no buffer, and there were fewer than two for each buffer of the mount.
+pub record MayTurn (sizes : Sizes) (values : Values) (pass : Pass) (page : ℕ) : Type 0 where
+  pub tries : ℕ
+  pub miss : IsMiss sizes values pass page tries
+  pub lacks : lacks_buffer (values (PAGE page)) ≡ true
+  pub few : tries < 2 * sizes.buffers
+
+-- Else the page's DIRTY is loaded.
+pub record MayLookUp (sizes : Sizes) (values : Values) (pass : Pass) (page : ℕ) : Type 0 where
+  pub tries : ℕ
+  pub miss : IsMiss sizes values pass page tries
+  pub enough : (lacks_buffer (values (PAGE page)) ≡ false) ⊎ (2 * sizes.buffers ≤ tries)
+
+-- the HINT of a try's buffer is loaded next
+pub record IsHinting (stage : Stage) (buffer : ℕ) : Type 0 where
+  pub page : ℕ
+  pub tries : ℕ
+  pub is : stage ≡ Searching page tries (Hinting buffer)
+
+-- its victim is tried next
+pub record IsSeeking (stage : Stage) (victim : ℕ) : Type 0 where
+  pub page : ℕ
+  pub tries : ℕ
+  pub buffer : ℕ
+  pub is : stage ≡ Searching page tries (Seeking buffer victim)
+
+-- A HINT may be set where its page has just got the buffer.
+pub record MayHint (values : Values) (stage : Stage) (buffer page : ℕ) : Type 0 where
+  pub tries : ℕ
+  pub is : stage ≡ Searching page tries (Robbed buffer)
+  pub has : lacks_buffer (values (PAGE page)) ≡ false
+
 -- a word may be loaded
 abbrev pub MayLoad : Sizes → Values → Pass → Word → Type 0
 MayLoad sizes values pass (LENGTH file) = (pass.stage ≡ Measuring) × (file ≡ file_of pass.call)
@@ -74,24 +118,26 @@ MayLoad sizes values pass ORDER = pass.stage ≡ Ordering
 MayLoad sizes values pass HEAD = (pass.stage ≡ Heading) ⊎ ((page : ℕ) × (pass.stage ≡ Bounding page))
 MayLoad sizes values pass TAIL = (pass.stage ≡ Tailing) ⊎ ((page : ℕ) × (pass.stage ≡ Starting page))
 MayLoad sizes values pass (ENTRY slot) = (page number : ℕ) × (pass.stage ≡ Scanning page number) × (slot ≡ slot_of sizes number)
-MayLoad sizes values pass (DIRTY page) = (from : ℕ) × IsMissed sizes values pass page from
+MayLoad sizes values pass (DIRTY page) = MayLookUp sizes values pass page
+MayLoad sizes values pass (HINT buffer) = IsHinting pass.stage buffer
 MayLoad sizes values pass word = ⊥
 
--- a lock may be tried
+-- a lock may be tried: a page also as a victim
 abbrev pub MayTake : Pass → Word → Type 0
-MayTake pass (PAGE page) = pass.stage ≡ Locking page
+MayTake pass (PAGE page) = (pass.stage ≡ Locking page) ⊎ IsSeeking pass.stage page
 MayTake pass (SIZE file) = (pass.stage ≡ Sizing) × (file ≡ file_of pass.call)
 MayTake pass (STORE file) = (page : ℕ) × (dirty : Bool) × (pass.stage ≡ Fetching page dirty) × (file ≡ file_of pass.call)
 MayTake pass (CLEANUP page) = pass.stage ≡ Waiting page
 MayTake pass word = ⊥
 
--- a lock may be given back: by a call that has its place, by one that has read its store or all pieces of a page, or else in the reverse
--- order of taking
+-- a lock may be given back: by a call that has its place, by one that has read its store or all pieces of a page or robbed a victim, or else
+-- in the reverse order of taking
 abbrev pub MayGive : Pass → Word → Stage → Type 0
 MayGive pass (SIZE file) Releasing = file ≡ file_of pass.call
 MayGive pass (PAGE page) (Giving next) = page ≡ next
 MayGive pass (STORE file) (Returning page dirty) = file ≡ file_of pass.call
 MayGive pass (CLEANUP page) (Unlocking next) = page ≡ next
+MayGive pass (PAGE page) (Searching missed tries (Robbing buffer victim)) = page ≡ victim
 MayGive pass (SIZE file) Leaving = IsLastTaken (SIZE file) pass.hands
 MayGive pass (PAGE page) Leaving = IsLastTaken (PAGE page) pass.hands
 MayGive pass (STORE file) Leaving = IsLastTaken (STORE file) pass.hands
@@ -120,6 +166,8 @@ MayStep sizes values pass Grows = pass.stage ≡ Growing
 MayStep sizes values pass (Breaks number) = pass.stage ≡ Breaking number
 MayStep sizes values pass (Holds number) = (page : ℕ) × (pass.stage ≡ Grasping page number)
 MayStep sizes values pass (Returns number) = (page : ℕ) × (failed : Bool) × (pass.stage ≡ Restoring page number failed)
+MayStep sizes values pass (Turns page) = MayTurn sizes values pass page
+MayStep sizes values pass (Hints buffer page) = MayHint values pass.stage buffer page
 MayStep sizes values pass _ = ⊥
 
 -- ---- device calls

@@ -7,6 +7,16 @@ use Rattle.nv_plain.specs.declared.call.FileCall.{FileCall}
 use Rattle.nv_plain.specs.declared.call.FileCall.TheVariants.{Read, Write, Sync}
 use Rattle.nv_core.specs.Words.{Sizes, Word, same}
 
+-- A read's search for a buffer, in the try at hand: HINT of this buffer is loaded next; PAGE of the hinted page, the victim, is tried next;
+-- it is held, and given back next; it is given back; the try found nothing; HINT is set.
+pub data Search : Type 0 where
+  Hinting : (buffer : ℕ) → Search
+  Seeking : (buffer victim : ℕ) → Search
+  Robbing : (buffer victim : ℕ) → Search
+  Robbed : (buffer : ℕ) → Search
+  Nothing : Search
+  Found : Search
+
 -- Where a pass stands in the order of steps: what its next step is. A page is named by its number of all pages, an entry by its number.
 pub data Stage : Type 0 where
   -- no call is open
@@ -32,6 +42,8 @@ pub data Stage : Type 0 where
   Patching : (page number : ℕ) → Stage
   Restoring : (page number : ℕ) (failed : Bool) → Stage
   Unlocking : (page : ℕ) → Stage
+  -- a read that searches a buffer for this page, at so many tries
+  Searching : (page tries : ℕ) → Search → Stage
   -- a write: HEAD, TAIL, the numbers, their entries, the device calls of the commit, each page's DIRTY, the entries again
   Heading : Stage
   Tailing : Stage

@@ -16,6 +16,7 @@ use Rattle.nv_core.specs.Broken.{Broken}
 use Rattle.nv_core.specs.BrokenLengths.{BrokenLengths}
 use Rattle.nv_core.specs.OneHistory.{OneHistory}
 use Rattle.nv_core.specs.BuffersKept.{BuffersKept}
+use Rattle.nv_core.specs.Searches.{Searches}
 use Rattle.nv_core.specs.Devices.{Devices}
 use Rattle.nv_core.specs.Rooms.{Rooms}
 
@@ -34,5 +35,6 @@ pub record Sound (sizes : Sizes) (first : Values) (core : Core) : Type 0 where
   pub broken_lengths : BrokenLengths core
   pub history : OneHistory core
   pub buffers : BuffersKept sizes core.values
+  pub searches : Searches sizes core
   pub devices : Devices first core.values
   pub rooms : Rooms sizes core

@@ -1,9 +1,10 @@
 -- Stages: where a pass stands after a step of each kind.
-use Rattle.std.specs.Prelude.{ℕ, ◌+◌, ◌^◌, ◌==◌, nat_lt, nat_le, Bool, true, false, not, ◌&&◌, if◌then◌else◌, List, [], ◌∷◌}
+use Rattle.std.specs.Prelude.{ℕ, ◌+◌, ◌%◌, ◌^◌, ◌==◌, nat_lt, nat_le, Bool, true, false, not, ◌&&◌, if◌then◌else◌, List, [], ◌∷◌}
 use Rattle.nv_plain.specs.declared.call.FileCall.{FileCall}
-use Rattle.nv_core.specs.Words.{Sizes, Word, STOP, ORDER, HEAD, TAIL, LENGTH, SIZE, STORE, ENTRY, PAGE, CLEANUP, DIRTY, ready, is_entry_of}
-use Rattle.nv_core.specs.Passes.{Stage, Idle, Locking, Measuring, Sizing, Checking, Ordering, Reading, Waiting, Fetching, Copying, Returning, Bounding, Starting, Scanning, Grasping, Patching, Restoring, Unlocking, Heading, Tailing, Drawing, Seizing, Committing, Pledging, Readying, Placing, Growing, Releasing, Giving, Leaving, PieceFailing, WriteFailing, Breaking, Pass, at_of, len_of, is_write, is_read, page_count, first_page, end_page, without}
-use Rattle.nv_core.specs.Deeds.{Deed, slot_of, Loads, Takes, Gives, Places, Stops, Draws, Seizes, Pledges, Readies, Grows, Breaks, Holds, Returns}
+use Rattle.nv_core.specs.Words.{Sizes, Word, STOP, ORDER, HEAD, TAIL, LENGTH, SIZE, STORE, ENTRY, HINT, PAGE, CLEANUP, DIRTY, ready, is_entry_of}
+use Rattle.nv_core.specs.Passes.{Stage, Idle, Locking, Measuring, Sizing, Checking, Ordering, Reading, Waiting, Search, Hinting, Seeking, Robbing, Robbed, Nothing, Found, Searching, Fetching, Copying, Returning, Bounding, Starting, Scanning, Grasping, Patching, Restoring, Unlocking, Heading, Tailing, Drawing, Seizing, Committing, Pledging, Readying, Placing, Growing, Releasing, Giving, Leaving, PieceFailing, WriteFailing, Breaking, Pass, at_of, len_of, is_write, is_read, page_count, first_page, end_page, without}
+use Rattle.nv_core.specs.Deeds.{Deed, slot_of, Loads, Takes, Gives, Places, Stops, Draws, Seizes, Pledges, Readies, Grows, Breaks, Turns, Hints, Holds, Returns}
+use Rattle.nv_core.specs.Holding.{is_among}
 
 -- a test is true
 abbrev pub IsSo : Bool → Type 0
@@ -75,6 +76,12 @@ abbrev pub after_look : Pass → (found : ℕ) → Stage → Stage
 after_look pass found (Scanning page number) = if is_entry_of ready page found then Grasping page number else scanning pass page (number + 1)
 after_look pass found stage = stage
 
+-- a hinted page is tried next, unless it is one of the call's own
+abbrev pub hinted : Sizes → FileCall → (buffer victim : ℕ) → Stage → Stage
+hinted sizes call buffer victim (Searching page tries search) =
+    Searching page tries (if is_among (first_page sizes call) (end_page sizes call) victim then Nothing else Seeking buffer victim)
+hinted sizes call buffer victim stage = stage
+
 abbrev pub after_load : Sizes → Pass → Word → (found : ℕ) → Stage
 after_load sizes pass (LENGTH file) found = if exceeds pass found && not pass.sized then Sizing else Checking
 after_load sizes pass STOP found = if found == 0 then Ordering else leaving pass.hands
@@ -83,6 +90,7 @@ after_load sizes pass HEAD found = after_head sizes pass found pass.stage
 after_load sizes pass TAIL found = after_tail sizes pass found pass.stage
 after_load sizes pass (ENTRY slot) found = after_look pass found pass.stage
 after_load sizes pass (DIRTY page) found = if found == 0 then Fetching page false else Waiting page
+after_load sizes pass (HINT buffer) found = hinted sizes pass.call buffer found pass.stage
 after_load sizes pass word found = pass.stage
 
 -- the store is read next
@@ -90,13 +98,29 @@ abbrev pub copying : Stage → Stage
 copying (Fetching page dirty) = Copying page dirty
 copying stage = stage
 
--- a page that was taken is followed by the next one, or by LENGTH
+-- a victim that was tried is held, and one that is held is given back
+abbrev pub pursued : Search → Search
+pursued (Seeking buffer victim) = Robbing buffer victim
+pursued (Robbing buffer victim) = Robbed buffer
+pursued search = search
+
+-- a page of the call that was taken is followed by the next one, or by LENGTH
+abbrev pub after_page : Sizes → FileCall → (page : ℕ) → Stage → Stage
+after_page sizes call page (Searching missed tries search) = Searching missed tries (pursued search)
+after_page sizes call page stage = if page + 1 == end_page sizes call then Measuring else Locking (page + 1)
+
+-- what follows a lock that was taken
 abbrev pub after_take : Sizes → Pass → Word → Stage
-after_take sizes pass (PAGE page) = if page + 1 == end_page sizes pass.call then Measuring else Locking (page + 1)
+after_take sizes pass (PAGE page) = after_page sizes pass.call page pass.stage
 after_take sizes pass (SIZE file) = Measuring
 after_take sizes pass (STORE file) = copying pass.stage
 after_take sizes pass (CLEANUP page) = Fetching page true
 after_take sizes pass word = pass.stage
+
+-- a lock that is found shut ends the call, but a victim's the try alone
+abbrev pub refused : List Word → Word → Stage → Stage
+refused hands (PAGE page) (Searching missed tries search) = Searching missed tries Nothing
+refused hands cell stage = leaving hands
 
 -- what a call that gives back stands at next
 abbrev pub after_give : Sizes → Pass → Word → Stage → Stage
@@ -105,7 +129,13 @@ after_give sizes pass cell Releasing = giving sizes pass.call
 after_give sizes pass cell (Giving page) = if page + 1 == end_page sizes pass.call then Idle else Giving (page + 1)
 after_give sizes pass cell (Returning page dirty) = if dirty then Bounding page else Reading (page + 1)
 after_give sizes pass cell (Unlocking page) = Reading (page + 1)
+after_give sizes pass cell (Searching page tries search) = Searching page tries (pursued search)
 after_give sizes pass cell stage = stage
+
+-- how many tries a search has begun
+abbrev pub tries_of : Stage → ℕ
+tries_of (Searching page tries search) = tries
+tries_of stage = 0
 
 -- a fault's STOP is followed by the entries of a write, by the entry that a read holds, or by what else is held
 abbrev pub after_stop : Pass → Stage → Stage
@@ -126,7 +156,7 @@ after_return sizes pass stage = stage
 
 abbrev pub stage_after : Sizes → Pass → Deed → (found : ℕ) → Stage
 stage_after sizes pass (Loads word) found = after_load sizes pass word found
-stage_after sizes pass (Takes cell) found = if found == 0 then after_take sizes pass cell else leaving pass.hands
+stage_after sizes pass (Takes cell) found = if found == 0 then after_take sizes pass cell else refused pass.hands cell pass.stage
 stage_after sizes pass (Gives cell) found = after_give sizes pass cell pass.stage
 stage_after sizes pass (Places reply) found = if is_write pass.call && exceeds pass pass.length then Growing else ending sizes pass
 stage_after sizes pass Stops found = after_stop pass pass.stage
@@ -141,4 +171,6 @@ stage_after sizes pass (Breaks number) found =
     if number + 1 == pass.first + pass.entries then leaving (without (ENTRY (slot_of sizes number)) pass.hands) else Breaking (number + 1)
 stage_after sizes pass (Holds number) found = after_hold pass.stage
 stage_after sizes pass (Returns number) found = after_return sizes pass pass.stage
+stage_after sizes pass (Turns page) found = Searching page (tries_of pass.stage + 1) (Hinting (found % sizes.buffers))
+stage_after sizes pass (Hints buffer page) found = Searching page (tries_of pass.stage) Found
 stage_after sizes pass _ found = pass.stage

@@ -3,7 +3,8 @@ use Rattle.std.specs.Prelude.{◌≡◌, ◌≢◌, ℕ, ◌+◌, ◌^◌, ◌<�
 use Rattle.nv_plain.specs.declared.call.FileCall.{FileCall}
 use Rattle.nv_core.specs.Words.{Sizes}
 use Rattle.nv_core.specs.Stages.{exceeds}
-use Rattle.nv_core.specs.Passes.{Stage, Idle, Locking, Sizing, Reading, Waiting, Fetching, Copying, Returning, Bounding, Starting, Scanning, Grasping, Patching, Restoring, Unlocking, Heading, Tailing, Drawing, Seizing, Committing, Pledging, Readying, Growing, Releasing, Giving, Leaving, ReadFailing, PieceFailing, WriteFailing, Breaking, Pass, IsAllowed, IsAmong, is_read, is_write, page_count, first_page, end_page}
+use Rattle.nv_core.specs.Passes.{Stage, Idle, Locking, Sizing, Reading, Waiting, Fetching, Copying, Returning, Search, Seeking, Robbing, Searching, Bounding, Starting, Scanning, Grasping, Patching, Restoring, Unlocking, Heading, Tailing, Drawing, Seizing, Committing, Pledging, Readying, Growing, Releasing, Giving, Leaving, ReadFailing, PieceFailing, WriteFailing, Breaking, Pass, IsAllowed, IsAmong, is_read, is_write, page_count, first_page, end_page}
+use Rattle.nv_core.specs.Holding.{is_among}
 
 -- a page of a call
 abbrev pub IsPage : Sizes → FileCall → (page : ℕ) → Type 0
@@ -27,6 +28,12 @@ HasRoom sizes pass = pass.head + page_count sizes pass.call ≤ pass.tail + size
 abbrev pub ReadsPage : Sizes → Pass → (page : ℕ) → Type 0
 ReadsPage sizes pass page = (is_read pass.call ≡ true) × IsPage sizes pass.call page
 
+-- the victim of a search is no page of the call
+abbrev pub IsElsewhere : Sizes → FileCall → Search → Type 0
+IsElsewhere sizes call (Seeking buffer victim) = is_among (first_page sizes call) (end_page sizes call) victim ≡ false
+IsElsewhere sizes call (Robbing buffer victim) = is_among (first_page sizes call) (end_page sizes call) victim ≡ false
+IsElsewhere sizes call search = Unit {0}
+
 -- what it needs to stand where it does
 abbrev pub StandsAt : Sizes → Pass → Stage → Type 0
 StandsAt sizes pass (Locking page) = IsPage sizes pass.call page × (pass.sized ≡ false)
@@ -43,6 +50,7 @@ StandsAt sizes pass (Grasping page number) = ReadsPage sizes pass page × (numbe
 StandsAt sizes pass (Patching page number) = ReadsPage sizes pass page × (number < pass.head)
 StandsAt sizes pass (Restoring page number failed) = ReadsPage sizes pass page × (number < pass.head)
 StandsAt sizes pass (Unlocking page) = ReadsPage sizes pass page
+StandsAt sizes pass (Searching page tries search) = (is_read pass.call ≡ true) × IsPage sizes pass.call page × IsElsewhere sizes pass.call search
 StandsAt sizes pass Heading = is_write pass.call ≡ true
 StandsAt sizes pass Tailing = (is_write pass.call ≡ true) × IsSmall sizes pass
 StandsAt sizes pass Drawing = (is_write pass.call ≡ true) × IsSmall sizes pass × HasRoom sizes pass

@@ -6,7 +6,7 @@ use Rattle.nv_plain.specs.declared.call.FileCall.{FileCall}
 use Rattle.nv_plain.specs.declared.call.FileCall.TheVariants.{Write}
 use Rattle.nv_core.specs.Words.{Sizes, PAGE}
 use Rattle.nv_core.specs.Values.{is_valid, bytes_in}
-use Rattle.nv_core.specs.Passes.{Stage, Locking, Measuring, Sizing, Checking, Ordering, Reading, Waiting, Fetching, Copying, Returning, Bounding, Starting, Scanning, Grasping, Patching, Restoring, Unlocking, Pledging, Readying, Placing, is_read, first_page, times}
+use Rattle.nv_core.specs.Passes.{Stage, Locking, Measuring, Sizing, Checking, Ordering, Reading, Waiting, Fetching, Copying, Returning, Bounding, Starting, Scanning, Grasping, Patching, Restoring, Unlocking, Searching, Pledging, Readying, Placing, is_read, first_page, times}
 use Rattle.nv_core.specs.Order.{Values, page_bytes}
 use Rattle.nv_core.specs.Standing.{IsPage}
 use Rattle.nv_core.specs.Core.{Core}
@@ -65,6 +65,7 @@ GatheredAt sizes now values call fetched (Grasping next number) = Halfway sizes 
 GatheredAt sizes now values call fetched (Patching next number) = Halfway sizes now values call fetched next
 GatheredAt sizes now values call fetched (Restoring next number false) = Halfway sizes now values call fetched next
 GatheredAt sizes now values call fetched (Unlocking next) = Halfway sizes now values call fetched next
+GatheredAt sizes now values call fetched (Searching next tries search) = Gathered sizes now values call fetched next
 GatheredAt sizes now values call fetched Placing = is_read call ≡ false
 GatheredAt sizes now values call fetched stage = Unit {0}
 

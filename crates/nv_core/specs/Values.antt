@@ -1,5 +1,5 @@
 -- Values: what the cells keep. A cell is a lock or an entry, by its word.
-use Rattle.std.specs.Prelude.{ℕ, Bool, true, false, if◌then◌else◌, List, [], Option, Some, option_map}
+use Rattle.std.specs.Prelude.{ℕ, Bool, true, false, if◌then◌else◌, List, [], Option, Some, None, option_map}
 use Rattle.nv_plain.specs.Files.{overwritten}
 use Rattle.nv_pmem.specs.Part.{Part}
 use Rattle.nv_pmem.specs.Room.{Room}
@@ -94,6 +94,21 @@ is_valid _ = false
 abbrev pub bytes_in : Value → List ℕ
 bytes_in (ABuffer (Some buffer)) = buffer.bytes
 bytes_in _ = []
+
+-- whether a cell is one for a buffer, and keeps none
+abbrev pub lacks_buffer : Value → Bool
+lacks_buffer (ABuffer None) = true
+lacks_buffer value = false
+
+-- its buffer is taken out
+abbrev pub emptied : Value → Value
+emptied (ABuffer buffer) = ABuffer None
+emptied value = value
+
+-- the buffer of another cell comes into one that lacks one, and doesn't count there
+abbrev pub received : Value → Value → Value
+received (ABuffer (Some buffer)) (ABuffer None) = ABuffer (Some record { bytes = buffer.bytes; valid = false })
+received other value = value
 
 -- a page's bytes come into its buffer, if it has one
 abbrev pub filled : List ℕ → Value → Value

@@ -1,5 +1,5 @@
 -- Walks: a mount of one file, and runs of it, event by event, with the words after each.
-use Rattle.std.specs.Prelude.{◌≡◌, ℕ, zero, ◌+◌, false, List, [], ◌∷◌, ◌++◌, Some, None, map, replicate, nat_lt, if◌then◌else◌, slice_index_or}
+use Rattle.std.specs.Prelude.{◌≡◌, ℕ, zero, ◌+◌, true, false, List, [], ◌∷◌, ◌++◌, Some, None, map, replicate, nat_lt, if◌then◌else◌, slice_index_or}
 use Rattle.nv_plain.specs.declared.call.FileCall.TheVariants.{Read, Write}
 use Rattle.nv_plain.specs.declared.call.Reply.TheVariants.{Bytes, Count}
 use Rattle.nv_plain.specs.Images.{header_magic}
@@ -10,9 +10,9 @@ use Rattle.nv_pmem.specs.Steps.{Fence}
 use Rattle.nv_entry.specs.Group.{group_steps}
 use Rattle.std.specs.List.{range_with_len}
 use Rattle.nv_store.specs.Store.{quiet_store}
-use Rattle.nv_core.specs.Words.{Sizes, place, STOP, ORDER, HEAD, TAIL, LENGTH, HEADER, STORE, ENTRY, PAGE, DIRTY}
-use Rattle.nv_core.specs.Values.{Bare, APart, AStore, ABuffer, Writes, Reads, Ending, Made, Failed}
-use Rattle.nv_core.specs.Deeds.{Loads, Takes, Gives, Places, Splits, Draws, Seizes, Pledges, Readies, Stops, Breaks}
+use Rattle.nv_core.specs.Words.{Sizes, place, STOP, ORDER, HEAD, TAIL, HAND, LENGTH, HEADER, STORE, ENTRY, HINT, PAGE, DIRTY}
+use Rattle.nv_core.specs.Values.{Bare, APart, AStore, ABuffer, Writes, Reads, Ending, Made, Failed, is_valid, lacks_buffer}
+use Rattle.nv_core.specs.Deeds.{Loads, Takes, Gives, Places, Splits, Draws, Seizes, Pledges, Readies, Stops, Breaks, Turns, Hints}
 use Rattle.nv_core.specs.Order.{Values}
 use Rattle.nv_core.specs.Core.{Core}
 use Rattle.nv_core.specs.Events.{Act, Begins, Does, Calls, Event, after_event, after, IsRun}
@@ -51,10 +51,14 @@ walk_mount = record { sizes = walk_sizes; next = 0; lengths = λ file. 128; valu
 abbrev pub shown : Core → List ℕ
 shown core = map core.words (STOP ∷ ORDER ∷ HEAD ∷ LENGTH 0 ∷ STORE 0 ∷ PAGE 0 ∷ DIRTY 0 ∷ ENTRY 0 ∷ ENTRY 1 ∷ [])
 
--- the words after each event
+-- some words after each event
+abbrev pub rows_after : (Core → List ℕ) → Core → List Event → List (List ℕ)
+rows_after row core [] = []
+rows_after row core (event ∷ later) = row (after_event walk_sizes event core) ∷ rows_after row (after_event walk_sizes event core) later
+
+-- these words
 abbrev pub shown_after : Core → List Event → List (List ℕ)
-shown_after core [] = []
-shown_after core (event ∷ later) = shown (after_event walk_sizes event core) ∷ shown_after (after_event walk_sizes event core) later
+shown_after = rows_after shown
 
 -- a pass does something
 abbrev pub acts : (by : ℕ) → Act → Event
@@ -169,6 +173,106 @@ pub record FaultIsWalked : Type 0 where
       ∷ (1 ∷ 2 ∷ 2 ∷ 128 ∷ 0 ∷ 1 ∷ 1 ∷ 10 ∷ 5 ∷ [])
       ∷ (1 ∷ 2 ∷ 2 ∷ 128 ∷ 0 ∷ 0 ∷ 1 ∷ 10 ∷ 5 ∷ [])
       ∷ []
+
+-- ---- reads of pages without a buffer
+
+-- the same mount over a file of five pages: the first four have the buffers
+abbrev pub long_values : Values
+long_values (STORE zero) = AStore record { told = Some (quiet_store (replicate 320 97)); faults = 0; identity = 17 }
+long_values word = walk_values word
+
+abbrev pub long_mount : Mount
+long_mount = record walk_mount { lengths = λ file. 320; values = long_values }
+
+-- Pass 0 reads 16 bytes of page 4. Its search takes the buffer of page 0 at the first try, and says so in the buffer's hint.
+abbrev pub walk_search : List Event
+walk_search =
+    acts 0 (Begins (Read 0 256 16) (Takes (PAGE 4)) 0)
+    ∷ acts 0 (Does (Loads (LENGTH 0)) 320)
+    ∷ acts 0 (Does (Loads STOP) 0)
+    ∷ acts 0 (Does (Loads ORDER) 0)
+    ∷ acts 0 (Does (Turns 4) 0)
+    ∷ acts 0 (Does (Loads (HINT 0)) 0)
+    ∷ acts 0 (Does (Takes (PAGE 0)) 0)
+    ∷ acts 0 (Does (Gives (PAGE 0)) 1)
+    ∷ acts 0 (Does (Hints 0 4) 0)
+    ∷ acts 0 (Does (Loads (DIRTY 4)) 0)
+    ∷ acts 0 (Does (Takes (STORE 0)) 0)
+    ∷ acts 0 (Calls record { cell = STORE 0; job = Reads 256 (replicate 64 97); ending = Made })
+    ∷ acts 0 (Does (Gives (STORE 0)) 1)
+    ∷ acts 0 (Does (Places (Bytes (replicate 16 97))) 0)
+    ∷ acts 0 (Does (Gives (PAGE 4)) 1)
+    ∷ []
+
+-- the words that it shows: ORDER, HAND, HINT 0, STORE, and PAGE of pages 0 and 4
+abbrev pub searched : Core → List ℕ
+searched core = map core.words (ORDER ∷ HAND ∷ HINT 0 ∷ STORE 0 ∷ PAGE 0 ∷ PAGE 4 ∷ [])
+
+abbrev pub searched_core : Core
+searched_core = after walk_sizes (opening long_mount) walk_search
+
+-- It is a run. Page 0's buffer is page 4's then, and counts.
+pub record SearchIsWalked : Type 0 where
+  pub begins : IsMount long_mount
+  pub is_run : IsRun walk_sizes (opening long_mount) walk_search
+  pub words : rows_after searched (opening long_mount) walk_search
+      ≡ replicate 4 (0 ∷ 0 ∷ 0 ∷ 0 ∷ 0 ∷ 1 ∷ [])
+      ++ replicate 2 (0 ∷ 1 ∷ 0 ∷ 0 ∷ 0 ∷ 1 ∷ [])
+      ++ (0 ∷ 1 ∷ 0 ∷ 0 ∷ 1 ∷ 1 ∷ [])
+      ∷ (0 ∷ 1 ∷ 0 ∷ 0 ∷ 0 ∷ 1 ∷ [])
+      ∷ replicate 2 (0 ∷ 1 ∷ 4 ∷ 0 ∷ 0 ∷ 1 ∷ [])
+      ++ replicate 2 (0 ∷ 1 ∷ 4 ∷ 1 ∷ 0 ∷ 1 ∷ [])
+      ++ (0 ∷ 1 ∷ 4 ∷ 0 ∷ 0 ∷ 1 ∷ [])
+      ∷ (1 ∷ 1 ∷ 4 ∷ 0 ∷ 0 ∷ 1 ∷ [])
+      ∷ (1 ∷ 1 ∷ 4 ∷ 0 ∷ 0 ∷ 0 ∷ [])
+      ∷ []
+  pub taken : lacks_buffer (searched_core.values (PAGE 0)) ≡ true
+  pub given : is_valid (searched_core.values (PAGE 4)) ≡ true
+
+-- Pass 0 makes pass 1, which holds page 2, and reads 80 bytes of pages 0 and 1, of which the first has no buffer now. One try ends since its
+-- hinted page is the call's own, one since its victim is held, and the third one takes the buffer of page 3.
+abbrev pub walk_tries : List Event
+walk_tries =
+    acts 0 (Does Splits 0)
+    ∷ acts 1 (Begins (Read 0 128 16) (Takes (PAGE 2)) 0)
+    ∷ acts 0 (Begins (Read 0 0 80) (Takes (PAGE 0)) 0)
+    ∷ acts 0 (Does (Takes (PAGE 1)) 0)
+    ∷ acts 0 (Does (Loads (LENGTH 0)) 320)
+    ∷ acts 0 (Does (Loads STOP) 0)
+    ∷ acts 0 (Does (Loads ORDER) 1)
+    ∷ acts 0 (Does (Turns 0) 1)
+    ∷ acts 0 (Does (Loads (HINT 1)) 1)
+    ∷ acts 0 (Does (Turns 0) 2)
+    ∷ acts 0 (Does (Loads (HINT 2)) 2)
+    ∷ acts 0 (Does (Takes (PAGE 2)) 1)
+    ∷ acts 0 (Does (Turns 0) 3)
+    ∷ acts 0 (Does (Loads (HINT 3)) 3)
+    ∷ acts 0 (Does (Takes (PAGE 3)) 0)
+    ∷ acts 0 (Does (Gives (PAGE 3)) 1)
+    ∷ acts 0 (Does (Hints 3 0) 3)
+    ∷ []
+
+-- the words that it shows: HAND, HINT 3, and PAGE of pages 0 to 3
+abbrev pub tried : Core → List ℕ
+tried core = map core.words (HAND ∷ HINT 3 ∷ PAGE 0 ∷ PAGE 1 ∷ PAGE 2 ∷ PAGE 3 ∷ [])
+
+-- It is a run behind the first one.
+pub record TriesAreWalked : Type 0 where
+  pub is_run : IsRun walk_sizes searched_core walk_tries
+  pub words : rows_after tried searched_core walk_tries
+      ≡ (1 ∷ 3 ∷ 0 ∷ 0 ∷ 0 ∷ 0 ∷ [])
+      ∷ (1 ∷ 3 ∷ 0 ∷ 0 ∷ 1 ∷ 0 ∷ [])
+      ∷ (1 ∷ 3 ∷ 1 ∷ 0 ∷ 1 ∷ 0 ∷ [])
+      ∷ replicate 4 (1 ∷ 3 ∷ 1 ∷ 1 ∷ 1 ∷ 0 ∷ [])
+      ++ replicate 2 (2 ∷ 3 ∷ 1 ∷ 1 ∷ 1 ∷ 0 ∷ [])
+      ++ replicate 3 (3 ∷ 3 ∷ 1 ∷ 1 ∷ 1 ∷ 0 ∷ [])
+      ++ replicate 2 (4 ∷ 3 ∷ 1 ∷ 1 ∷ 1 ∷ 0 ∷ [])
+      ++ (4 ∷ 3 ∷ 1 ∷ 1 ∷ 1 ∷ 1 ∷ [])
+      ∷ (4 ∷ 3 ∷ 1 ∷ 1 ∷ 1 ∷ 0 ∷ [])
+      ∷ (4 ∷ 0 ∷ 1 ∷ 1 ∷ 1 ∷ 0 ∷ [])
+      ∷ []
+  pub taken : lacks_buffer ((after walk_sizes searched_core walk_tries).values (PAGE 3)) ≡ true
+  pub given : lacks_buffer ((after walk_sizes searched_core walk_tries).values (PAGE 0)) ≡ false
 
 -- ---- the layout
 

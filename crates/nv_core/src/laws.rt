@@ -1,8 +1,8 @@
 ghost use Rattle.nv_core.specs.DirtyWalks.{DirtyReadIsWalked};
 ghost use Rattle.nv_core.specs.Laws.{OpeningIsSound, EventsKeepSound, RunsAreSound};
 ghost use Rattle.nv_core.specs.Lengths.{LengthsFollowTheHistory};
-ghost use Rattle.nv_core.specs.Never.{NoPlaceBeforeTheFence, NoPageBeforeThePlace, StoppedAfterAFault, NoLeaderBeforeAFollower, NoGrowthBeforeThePlace, NoTwoWritesOfAPage, NoStopWithoutAFault, NoSeizureOfAHeldEntry, NoHoldOfAnUnreadyEntry, NoEntryHeldTwice, NoOtherCleanup, NoDrawPastTheEnd};
-ghost use Rattle.nv_core.specs.Walks.{WalkBegins, FirstPageIsWord30, ReadIsWalked, WriteIsWalked, FaultIsWalked};
+ghost use Rattle.nv_core.specs.Never.{NoPlaceBeforeTheFence, NoPageBeforeThePlace, StoppedAfterAFault, NoLeaderBeforeAFollower, NoGrowthBeforeThePlace, NoTwoWritesOfAPage, NoStopWithoutAFault, NoSeizureOfAHeldEntry, NoHoldOfAnUnreadyEntry, NoEntryHeldTwice, NoOtherCleanup, NoVictimOfTheCall, NoDrawPastTheEnd};
+ghost use Rattle.nv_core.specs.Walks.{WalkBegins, FirstPageIsWord30, ReadIsWalked, WriteIsWalked, FaultIsWalked, SearchIsWalked, TriesAreWalked};
 ghost use Rattle.nv_core.specs.Words.{PlacesDiffer};
 
 use nv_entry::groups_follow_steps;
@@ -21,8 +21,8 @@ pub fn runs_are_sound()
 /// What no sound state allows: a place before the fence of a write's commit, a page given back before the place is drawn or
 /// before STOP is set after a fault, a leader made ready before a follower, a length that grows before its write has its
 /// place, two writes of a page in flight, STOP without a count that rose, an entry seized that isn't free, an entry held that
-/// isn't ready, one held by two reads, CLEANUP of a page while a read looks for its pieces, and numbers drawn past the log's
-/// end.
+/// isn't ready, one held by two reads, CLEANUP of a page while a read looks for its pieces, a search whose victim is a page of
+/// its own call, and numbers drawn past the log's end.
 pub fn no_sound_state_allows()
     ensures fence { NoPlaceBeforeTheFence }
     ensures page { NoPageBeforeThePlace }
@@ -36,6 +36,7 @@ pub fn no_sound_state_allows()
     ensures twice { NoEntryHeldTwice }
     ensures cleanup { NoOtherCleanup }
     ensures end { NoDrawPastTheEnd }
+    ensures victim { NoVictimOfTheCall }
 {}
 
 /// Each word of a mount has a place of its own.
@@ -45,13 +46,16 @@ pub fn words_have_places_of_their_own()
 
 /// Three runs of one mount by hand, with the words after each event: a read whose page comes from the store; a write by
 /// another pass, whole; and a write whose commit fails at its third device call, to the end of its giving back, while a read
-/// finds the page's lock held.
+/// finds the page's lock held. And two of a mount with a longer file: a read of a page without a buffer, which takes that of
+/// another page; and another such read, whose first two tries end at a page of its own and at a page that is held.
 pub fn walks_are_runs()
     ensures mount { WalkBegins }
     ensures place { FirstPageIsWord30 }
     ensures read { ReadIsWalked }
     ensures write { WriteIsWalked }
     ensures fault { FaultIsWalked }
+    ensures search { SearchIsWalked }
+    ensures tries { TriesAreWalked }
 {}
 
 /// A read by hand of a page whose entry its store lacks, on the same mount, with the words after each of its events: it takes
