@@ -12,7 +12,7 @@ use Rattle.nv_core.proofs.PlainLaws.{PlainLaws}
 
 -- ---- two that don't meet, in either order
 
-in_or_out : (at len k : ℕ) → ((at ≤ k) × (k < at + len)) ⊎ ((k < at) ⊎ (at + len ≤ k))
+pub in_or_out : (at len k : ℕ) → ((at ≤ k) × (k < at + len)) ⊎ ((k < at) ⊎ (at + len ≤ k))
 in_or_out at len k = elim (cases_lt k at) [ inl less ↦ inr (inl less) | inr low ↦ elim (cases_lt k (at + len)) [ inl high ↦ inl (low, high) | inr more ↦ inr (inr more) ] ]
 
 other_out : (at len from count k : ℕ) → AreDisjoint at len from count → (at ≤ k) × (k < at + len) → (k < from) ⊎ (from + count ≤ k)

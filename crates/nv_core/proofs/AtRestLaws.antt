@@ -56,7 +56,7 @@ regions_at_rest_open loads mount names parts rest row files pages quiet = (
   record {
     page = page loads mount names parts rest row;
     low = omega arith;
-    header = record { part = slice_index_or parts 0 []; is = row.header; quiet = rest.quiet.each 0; tail_is = (reads loads mount names parts rest row).tail_is };
+    header = record { part = slice_index_or parts 0 []; is = row.header; quiet = rest.quiet.each 0; long = row.header_lines; tail_is = (reads loads mount names parts rest row).tail_is };
     blank = λ slot less. record {
       part = slice_index_or parts (1 + slot) [];
       is = row.entries slot less;

@@ -4,12 +4,13 @@ use Rattle.std.proofs.lemmas.Bool.{eqb-true, true≢false}
 use Rattle.nv_plain.specs.declared.call.FileCall.{FileCall}
 use Rattle.nv_plain.specs.declared.call.Reply.{Reply}
 use Rattle.nv_core.specs.Words.{Sizes, Word, STOP, ORDER, HEAD, TAIL, SIZE, LENGTH, STORE, ENTRY, PAGE, DIRTY, same, HINT, CLEANUP}
-use Rattle.nv_core.specs.Passes.{Stage, Locking, Measuring, Sizing, Checking, Ordering, Reading, Fetching, Copying, Returning, Heading, Tailing, Drawing, Seizing, Committing, Pledging, Readying, Placing, Growing, Releasing, Giving, Leaving, ReadFailing, WriteFailing, Breaking, Fault, Pass, IsOneOf, page_count, first_page, end_page, without, times, Searching, Hinting, Seeking, Robbing, Robbed, Nothing, Found, Search, Waiting, Bounding, Starting, Scanning, Grasping, Patching, Restoring, Unlocking, PieceFailing}
-use Rattle.nv_core.specs.Deeds.{Deed, moved, move_of, Comes, Stays, Loads, Takes, Gives, Places, Stops, Draws, Seizes, Pledges, Readies, Grows, Breaks, Splits, Leaves, Joins, slot_of, Turns, Hints, Holds, Returns}
+use Rattle.nv_core.specs.Sweeps.{Chore}
+use Rattle.nv_core.specs.Passes.{Stage, Locking, Measuring, Sizing, Checking, Ordering, Reading, Fetching, Copying, Returning, Heading, Tailing, Drawing, Seizing, Committing, Pledging, Readying, Placing, Growing, Releasing, Giving, Leaving, ReadFailing, WriteFailing, Breaking, Fault, Pass, IsOneOf, page_count, first_page, end_page, without, times, Searching, Hinting, Seeking, Robbing, Robbed, Nothing, Found, Search, Waiting, Bounding, Starting, Scanning, Grasping, Patching, Restoring, Unlocking, PieceFailing, Cleaning}
+use Rattle.nv_core.specs.Deeds.{Deed, moved, move_of, Comes, Stays, Loads, Takes, Gives, Places, Stops, Draws, Seizes, Pledges, Readies, Grows, Breaks, Splits, Leaves, Joins, slot_of, Turns, Hints, Holds, Returns, Tends, chore_move}
 use Rattle.nv_core.specs.Stages.{stage_after, after_load, after_give, after_stop, leaving, exceeds, after_return}
 use Rattle.nv_core.specs.Stepped.{fault_of, begun}
-use Rattle.nv_core.specs.Order.{Values, Work, MayWork, MayStep, MayLoad, MayTake, MayGive, MayPlace, IsDue, IsFailing, IsMiss, JustNow, AfterTries, IsOver}
-use Rattle.nv_core.specs.Core.{Core, changes, changed, after_step, after_begin, after_work, worked, values_worked}
+use Rattle.nv_core.specs.Order.{Values, Work, MayWork, MayStep, MayTend, MayLoad, MayTake, MayGive, MayPlace, IsDue, IsFailing, IsMiss, JustNow, AfterTries, IsOver}
+use Rattle.nv_core.specs.Core.{Core, changes, changed, after_step, after_begin, after_work, worked, stage_worked, values_worked}
 use Rattle.nv_core.specs.Events.{MayFind}
 use Rattle.nv_core.specs.Broken.{HasChecked, victim_held}
 use Rattle.nv_core.specs.Sound.{Sound}
@@ -21,6 +22,8 @@ use Rattle.nv_core.proofs.HoldingLaws.{times_less}
 use Rattle.nv_core.proofs.KeepsLocks.{given_held}
 use Rattle.nv_core.proofs.SearchLaws.{turned_at, looked_at, hinting_at, tried_at, tried_next, hinted_at}
 use Rattle.nv_core.proofs.ValueLaws.{IsUnmoving}
+use Rattle.nv_core.proofs.StandingLaws.{worked_stage}
+use Rattle.nv_core.proofs.SweepStages.{tended, tended_to, swept_worked}
 
 -- ---- stages behind the load of STOP
 
@@ -86,6 +89,10 @@ unstopped pass (PieceFailing page next) may is = is
 unstopped pass WriteFailing may is = is
 unstopped pass stage may is = may
 
+-- a cleaner has no call
+tended_unchecked : (sizes : Sizes) (pass : Pass) (chore : Chore) (found : ℕ) → MayTend sizes pass chore pass.stage → HasChecked (stage_after sizes pass (Tends chore) found) → ⊥
+tended_unchecked sizes pass chore found may = tended_to (λ s. HasChecked s → ⊥) (λ z. z) (λ b s z. z) sizes pass (moved (chore_move sizes chore found) pass.hands) chore found pass.stage may
+
 pub before : (sizes : Sizes) (values : Values) (pass : Pass) (found : ℕ) (deed : Deed) → IsElse deed → MayStep sizes values pass deed → HasChecked (stage_after sizes pass deed found) → HasChecked pass.stage
 before sizes values pass found (Loads word) other may is = before_load sizes values pass word found other may is
 before sizes values pass found (Takes cell) other may is = before_take sizes pass cell found may is
@@ -107,20 +114,22 @@ before sizes values pass found (Returns next) other may is = go may.1 may.2 (sub
     go false here is = at (Restoring may.0 next false) here tt
 before sizes values pass found (Turns page) other may is = turned_at HasChecked sizes values pass page (λ _. tt) (λ _ _. tt) may
 before sizes values pass found (Hints buffer page) other may is = hinted_at HasChecked values pass buffer page (λ _. tt) may
+before sizes values pass found (Tends chore) other may is = absurd (tended_unchecked sizes pass chore found may is)
 before sizes values pass found deed other may is = absurd may
 
--- a call that begins hasn't loaded STOP, and one that makes a device call has
+-- a call that begins hasn't loaded STOP, and one that has made a device call had
 pub first_unchecked : (sizes : Sizes) (call : FileCall) → HasChecked (if page_count sizes call == 0 then Checking else Locking (first_page sizes call)) → ⊥
 first_unchecked sizes call = if_both (λ s. HasChecked s → ⊥) (page_count sizes call == 0) Checking (Locking (first_page sizes call)) (λ _ z. z) (λ _ z. z)
 
-pub worked_checked : (sizes : Sizes) (values : Values) (pass : Pass) (work : Work) → IsDue sizes values pass work pass.stage → HasChecked pass.stage
-worked_checked sizes values pass work due = go pass.stage due
+pub worked_checked : (sizes : Sizes) (values : Values) (pass : Pass) (work : Work) → IsDue sizes values pass work pass.stage → HasChecked (stage_worked sizes pass work.ending pass.stage) → HasChecked pass.stage
+worked_checked sizes values pass work due is = go pass.stage due is
   where
-    go : (stage : Stage) → IsDue sizes values pass work stage → HasChecked stage
-    go (Committing calls) due = tt
-    go (Copying page dirty) due = tt
-    go (Patching page number) due = tt
-    go stage due = absurd due
+    go : (stage : Stage) → IsDue sizes values pass work stage → HasChecked (stage_worked sizes pass work.ending stage) → HasChecked stage
+    go (Committing calls) due is = tt
+    go (Copying page dirty) due is = tt
+    go (Patching page number) due is = tt
+    go (Cleaning batch sweep) due is = absurd (swept_worked (λ s. HasChecked s → ⊥) (λ z. z) (λ b s z. z) batch work.ending sweep (subst HasChecked (worked_stage sizes pass batch work.ending sweep) is))
+    go stage due is = absurd due
 
 -- ---- victims
 
@@ -186,6 +195,7 @@ step_none sizes values pass (Holds next) still may = robs_none (Grasping may.0 n
 step_none sizes values pass (Returns next) still may = robs_none (Restoring may.0 next may.1) may.2 (λ _. refl)
 step_none sizes values pass (Turns page) still may = missed_none sizes values pass page may.tries may.miss
 step_none sizes values pass (Hints buffer page) still may = robs_none (Searching page may.tries (Robbed buffer)) may.is (λ _. refl)
+step_none sizes values pass (Tends chore) still may = tended (λ _ s. RobsNone s) sizes pass chore pass.stage may (λ _ _. refl) (λ _ _ _ _. refl)
 step_none sizes values pass deed still may = absurd may
 
 -- how often a pass holds a cell as a victim's
@@ -263,6 +273,7 @@ none_taken sizes values pass cell found (Holds next) early held may is =
     let e = times_else cell (ENTRY (slot_of sizes next)) pass.hands (early.entry (slot_of sizes next)) in let none = lent_none pass.stage (step_none sizes values pass (Holds next) tt may) cell in omega (arith, e, none)
 none_taken sizes values pass cell found (Returns next) early held may is =
     let less = fewer cell (ENTRY (slot_of sizes next)) pass.hands in let none = lent_none pass.stage (step_none sizes values pass (Returns next) tt may) cell in omega (arith, less, none)
+none_taken sizes values pass cell found (Tends chore) early held may is = absurd (tended_unchecked sizes pass chore found may is)
 none_taken sizes values pass cell found deed early held may is = let none = lent_none pass.stage (step_none sizes values pass deed tt may) cell in omega (arith, none)
 
 -- a load of STOP that goes on found it 0
@@ -289,6 +300,7 @@ worked_lent : (sizes : Sizes) (values : Values) (pass : Pass) (work : Work) (sta
 worked_lent sizes values pass work (Committing calls) due = lent_none (Committing calls) (λ _. refl)
 worked_lent sizes values pass work (Copying page dirty) due = lent_none (Copying page dirty) (λ _. refl)
 worked_lent sizes values pass work (Patching page next) due = lent_none (Patching page next) (λ _. refl)
+worked_lent sizes values pass work (Cleaning batch sweep) due = lent_none (Cleaning batch sweep) (λ _. refl)
 worked_lent sizes values pass work stage due = absurd due
 
 -- ---- cells that a fault bars
@@ -348,4 +360,4 @@ module _ (Bars : Fault → Word → Type 0) (early : (fault : Fault) (cell : Wor
   barred_begin sizes by core call = barred_one core by (begun sizes call (core.passes by)) core.values refl (λ checked. absurd (first_unchecked sizes call checked))
 
   pub barred_work : (sizes : Sizes) (by : ℕ) (core : Core) (work : Work) → MayWork sizes core.values (core.passes by) work → AreBarred core → AreBarred (after_work sizes by work core)
-  barred_work sizes by core work may = barred_one core by (worked sizes work (core.passes by)) (values_worked (core.passes by) work core.values) refl (λ checked. (worked_checked sizes core.values (core.passes by) work may.due, refl, worked_lent sizes core.values (core.passes by) work (core.passes by).stage may.due))
+  barred_work sizes by core work may = barred_one core by (worked sizes work (core.passes by)) (values_worked (core.passes by) work core.values) refl (λ checked. (worked_checked sizes core.values (core.passes by) work may.due checked, refl, worked_lent sizes core.values (core.passes by) work (core.passes by).stage may.due))

@@ -1,17 +1,21 @@
 -- Buffers: what a step leaves of what its pass's pages have, and of what a read has gathered.
-use Rattle.std.proofs.Common.{◌≡◌, ◌≢◌, ℕ, ◌+◌, ◌^◌, ◌<◌, ◌≤◌, ◌==◌, nat_lt, nat_le, not, ◌&&◌, true, false, if◌then◌else◌, List, [], ◌∷◌, inl, inr, refl, sym, ap, subst, ◌∙◌, arith}
+use Rattle.std.proofs.Common.{◌≡◌, ◌≢◌, ℕ, ◌+◌, ◌^◌, ◌<◌, ◌≤◌, ◌==◌, nat_lt, nat_le, not, ◌&&◌, true, false, if◌then◌else◌, List, [], ◌∷◌, Option, inl, inr, refl, sym, ap, subst, ◌∙◌, arith}
+use Rattle.std.specs.Prelude.{Some, None}
 use Rattle.std.proofs.lemmas.Bool.{cases_lt, eq-eqb, ne_eqb}
 use Rattle.nv_plain.specs.declared.call.FileCall.{FileCall}
-use Rattle.nv_core.specs.Words.{Sizes, Word, STOP, ORDER, HEAD, TAIL, SIZE, LENGTH, STORE, ENTRY, PAGE, CLEANUP, DIRTY, ready, is_entry_of, same, HINT}
+use Rattle.nv_core.specs.Words.{Sizes, Word, STOP, ORDER, HEAD, TAIL, SIZE, LENGTH, STORE, ENTRY, PAGE, CLEANUP, DIRTY, ready, is_entry_of, same, HINT, CLEANER, HEADER, is_lock}
 use Rattle.nv_core.specs.Passes.{Stage, Idle, Measuring, Sizing, Checking, Ordering, Reading, Waiting, Fetching, Copying, Returning, Bounding, Starting, Scanning, Grasping, Patching, Restoring, Unlocking, Heading, Tailing, Drawing, Seizing, Committing, Pledging, Readying, Placing, Growing, Releasing, Giving, Leaving, ReadFailing, PieceFailing, WriteFailing, Breaking, Pass, IsLastTaken, is_write, is_read, page_count, first_page, end_page, without, times, Searching, Robbing, Search}
-use Rattle.nv_core.specs.Deeds.{Deed, Loads, Takes, Gives, Places, Stops, Draws, Seizes, Pledges, Readies, Grows, Breaks, Holds, Returns, slot_of, move_of, moved, Turns, Hints}
+use Rattle.nv_core.specs.Deeds.{Deed, Loads, Takes, Gives, Places, Stops, Draws, Seizes, Pledges, Readies, Grows, Breaks, Holds, Returns, slot_of, Stays, Comes, move_of, chore_move, moved, Turns, Hints, Tends}
+use Rattle.nv_core.specs.Sweeps.{Batch, Sweep, Barring, Claiming, Storing, Discharging, Withdrawing, Chore, Enters, Grabs, Yields, Lifts, Drops, Cleans}
+use Rattle.nv_core.specs.Chores.{next_chore, group_page, group_file}
 use Rattle.nv_core.specs.Stages.{stage_after, after_load, after_give, after_stop, after_head, after_tail, after_look, after_hold, after_return, scanning, leaving, giving, ending, ordered, copying, exceeds}
-use Rattle.nv_core.specs.Order.{Values, MayStep, MayLoad, MayTake, MayGive, IsFailing}
+use Rattle.nv_core.specs.Order.{Values, MayStep, MayLoad, MayTake, MayGive, MayTend, IsFailing}
 use Rattle.nv_core.specs.Standing.{IsPage, StandsAt, IsElsewhere}
 use Rattle.nv_core.specs.Holding.{one_if, is_among, HoldsLocks}
 use Rattle.nv_core.specs.ValidBuffers.{patched_page, with_own}
 use Rattle.nv_core.proofs.Changes.{differ}
 use Rattle.nv_core.proofs.Choices.{if_both, when_true, when_false, leaving_both, IsGivingBack, gives_back, page_tried}
+use Rattle.nv_core.proofs.SweepStages.{tended, tended_to}
 use Rattle.nv_core.proofs.LockLaws.{times_here, times_else}
 use Rattle.nv_core.proofs.HoldingLaws.{among_in, among_below, among_above}
 use Rattle.nv_core.proofs.FileLaws.{own_none}
@@ -110,13 +114,15 @@ less_times cell other [] = omega arith
 less_times cell other (first ∷ rest) = if_both (λ h. times cell h ≤ times cell (first ∷ rest)) (same other first) rest (first ∷ without other rest)
     (λ _. omega arith) (λ _. let l = less_times cell other rest in omega (arith, l))
 
--- the steps that take no lock
+-- the steps that take no lock, but a cleaner's
 abbrev pub IsUntaking : Deed → Type 0
 IsUntaking (Takes cell) = ⊥
+IsUntaking (Tends chore) = ⊥
 IsUntaking deed = Unit {0}
 
 pub no_more : (sizes : Sizes) (deed : Deed) (found page : ℕ) (hands : List Word) → IsUntaking deed → times (PAGE page) (moved (move_of sizes deed found) hands) ≤ times (PAGE page) hands
 no_more sizes (Takes cell) found page hands un = absurd un
+no_more sizes (Tends chore) found page hands un = absurd un
 no_more sizes (Gives cell) found page hands un = less_times (PAGE page) cell hands
 no_more sizes (Seizes number) found page hands un = let e = times_else (PAGE page) (ENTRY (slot_of sizes number)) hands (differ (PAGE page) (ENTRY (slot_of sizes number)) refl) in omega (arith, e)
 no_more sizes (Readies number) found page hands un = less_times (PAGE page) (ENTRY (slot_of sizes number)) hands
@@ -124,6 +130,41 @@ no_more sizes (Holds number) found page hands un = let e = times_else (PAGE page
 no_more sizes (Returns number) found page hands un = less_times (PAGE page) (ENTRY (slot_of sizes number)) hands
 no_more sizes (Breaks number) found page hands un = less_times (PAGE page) (ENTRY (slot_of sizes number)) hands
 no_more sizes deed found page hands un = omega arith
+
+-- a cleaner takes no page
+
+abbrev IsPageless : Chore → Type 0
+IsPageless (Grabs cell) = (page : ℕ) → PAGE page ≢ cell
+IsPageless chore = Unit {0}
+
+abbrev MayBePageless : Option Chore → Type 0
+MayBePageless (Some chore) = IsPageless chore
+MayBePageless None = Unit {0}
+
+next_pageless : (sizes : Sizes) (hands : List Word) (batch : Batch) (sweep : Sweep) → MayBePageless (next_chore sizes hands batch sweep)
+next_pageless sizes hands batch Barring = λ page. differ (PAGE page) HEADER refl
+next_pageless sizes hands batch (Claiming i) = λ page. differ (PAGE page) (CLEANUP (group_page batch i)) refl
+next_pageless sizes hands batch Storing = λ page. differ (PAGE page) (STORE (group_file sizes batch)) refl
+next_pageless sizes hands batch (Discharging []) = tt
+next_pageless sizes hands batch (Discharging (file ∷ rest)) = tt
+next_pageless sizes [] batch Withdrawing = tt
+next_pageless sizes (cell ∷ rest) batch Withdrawing = if_both MayBePageless (is_lock cell) (Some (Yields cell)) None (λ _. tt) (λ _. tt)
+next_pageless sizes hands batch sweep = tt
+
+chore_no_more : (sizes : Sizes) (chore : Chore) (found page : ℕ) (hands : List Word) → IsPageless chore → times (PAGE page) (moved (chore_move sizes chore found) hands) ≤ times (PAGE page) hands
+chore_no_more sizes (Enters most) found page hands un = if_both (λ m. times (PAGE page) (moved m hands) ≤ times (PAGE page) hands) (found == 0) (Comes CLEANER) Stays
+    (λ _. let e = times_else (PAGE page) CLEANER hands (differ (PAGE page) CLEANER refl) in omega (arith, e)) (λ _. omega arith)
+chore_no_more sizes (Grabs cell) found page hands un = if_both (λ m. times (PAGE page) (moved m hands) ≤ times (PAGE page) hands) (found == 0) (Comes cell) Stays
+    (λ _. let e = times_else (PAGE page) cell hands (un page) in omega (arith, e)) (λ _. omega arith)
+chore_no_more sizes (Yields cell) found page hands un = less_times (PAGE page) cell hands
+chore_no_more sizes (Lifts number) found page hands un = let e = times_else (PAGE page) (ENTRY (slot_of sizes number)) hands (differ (PAGE page) (ENTRY (slot_of sizes number)) refl) in omega (arith, e)
+chore_no_more sizes (Drops number) found page hands un = less_times (PAGE page) (ENTRY (slot_of sizes number)) hands
+chore_no_more sizes (Cleans number) found page hands un = less_times (PAGE page) (ENTRY (slot_of sizes number)) hands
+chore_no_more sizes chore found page hands un = omega arith
+
+pub tends_no_more : (sizes : Sizes) (pass : Pass) (chore : Chore) (found page : ℕ) → MayTend sizes pass chore pass.stage → times (PAGE page) (moved (chore_move sizes chore found) pass.hands) ≤ times (PAGE page) pass.hands
+tends_no_more sizes pass chore found page may =
+    chore_no_more sizes chore found page pass.hands (tended (λ c _. IsPageless c) sizes pass chore pass.stage may (λ _. tt) (λ batch sweep e. subst MayBePageless e (next_pageless sizes pass.hands batch sweep)))
 
 -- ---- stages at which no page is patched
 
@@ -209,6 +250,7 @@ plain_before sizes values pass (Pledges page) mild may = absurd mild
 plain_before sizes values pass (Readies number) mild may = absurd mild
 plain_before sizes values pass (Turns page) mild may = turned_at IsUnpatched sizes values pass page (λ _. tt) (λ _ _. tt) may
 plain_before sizes values pass (Hints buffer page) mild may = hinted_at IsUnpatched values pass buffer page (λ _. tt) may
+plain_before sizes values pass (Tends chore) mild may = tended (λ _ s. IsUnpatched s) sizes pass chore pass.stage may (λ _. tt) (λ _ _ _. tt)
 plain_before sizes values pass deed mild may = absurd may
 
 module _ (sizes : Sizes) (values : Values) (pass : Pass) (page : ℕ) (old : List ℕ) where
@@ -288,6 +330,7 @@ module _ (sizes : Sizes) (values : Values) (pass : Pass) (page : ℕ) (old : Lis
   plain_after (Places reply) found mild may = absurd mild
   plain_after (Pledges next) found mild may = absurd mild
   plain_after (Readies next) found mild may = absurd mild
+  plain_after (Tends chore) found mild may = tended_to (λ s. patched_page sizes pass.call s page old ≡ old) refl (λ _ _. refl) sizes pass (moved (chore_move sizes chore found) pass.hands) chore found pass.stage may
   plain_after deed found mild may = absurd may
 
   -- a step that neither places nor pledges leaves what is patched

@@ -1,12 +1,13 @@
--- Clear stages: those at which a pass has drawn no entry that is not yet ready or broken, and has met no fault. Plain steps go from clear to clear.
+-- Clear stages: those at which a pass has drawn no entry that is not yet ready or broken, and has met no fault. Steps that touch no entry go from clear to clear.
 use Rattle.std.proofs.Common.{◌≡◌, ◌≢◌, ℕ, ◌+◌, ◌==◌, nat_lt, nat_le, ◌^◌, not, ◌&&◌, if◌then◌else◌, List, refl, sym, subst, true, false, inl, inr}
 use Rattle.nv_plain.specs.declared.call.Reply.{Reply}
 use Rattle.nv_core.specs.Words.{Sizes, Word, STOP, ORDER, HEAD, TAIL, SIZE, LENGTH, STORE, ENTRY, HINT, PAGE, DIRTY, CLEANUP, ready, is_entry_of}
-use Rattle.nv_core.specs.Passes.{Stage, Idle, Measuring, Sizing, Checking, Ordering, Reading, Fetching, Returning, Waiting, Searching, Heading, Tailing, Drawing, Seizing, Committing, Pledging, Readying, Placing, Growing, Releasing, Giving, Leaving, ReadFailing, WriteFailing, Breaking, Pass, is_read, is_write, page_count, first_page, end_page, without, times, IsUnseized, IsFilling, Bounding, Scanning, Grasping, Patching, Restoring, Unlocking, PieceFailing, IsHeld}
-use Rattle.nv_core.specs.Deeds.{Deed, Loads, Takes, Gives, Places, Grows, Turns, Hints, Stays, Comes, moved, move_of, Holds, Returns, slot_of}
+use Rattle.nv_core.specs.Passes.{Stage, Idle, Measuring, Sizing, Checking, Ordering, Reading, Fetching, Returning, Waiting, Searching, Heading, Tailing, Drawing, Seizing, Committing, Pledging, Readying, Placing, Growing, Releasing, Giving, Leaving, ReadFailing, WriteFailing, Breaking, Pass, is_read, is_write, page_count, first_page, end_page, without, times, IsUnseized, IsFilling, Bounding, Scanning, Grasping, Patching, Restoring, Unlocking, PieceFailing, IsHeld, Cleaning}
+use Rattle.nv_core.specs.Deeds.{Deed, Loads, Takes, Gives, Places, Grows, Turns, Hints, Stays, Comes, moved, move_of, chore_move, Holds, Returns, slot_of, Tends}
 use Rattle.nv_core.specs.Stages.{stage_after, after_load, after_give, leaving, giving, ending, ordered, copying, exceeds, scanning, after_head, after_tail, after_look, after_hold, after_return}
 use Rattle.nv_core.specs.Order.{Values, MayStep, MayLoad, MayTake, MayGive, MayPlace}
 use Rattle.nv_core.proofs.Choices.{if_both, leaving_both, IsGivingBack, gives_back, page_tried}
+use Rattle.nv_core.proofs.SweepStages.{tended, tended_to}
 use Rattle.nv_core.proofs.Changes.{differ}
 use Rattle.nv_core.proofs.SearchLaws.{looked_at, turned_at, hinting_at, hinting_next, hinted_at, tried_at}
 use Rattle.nv_core.proofs.LockLaws.{times_else, times_without_else}
@@ -37,21 +38,24 @@ clear_filling WriteFailing first entries number clear is = clear
 clear_filling (Breaking next) first entries number clear is = clear
 clear_filling stage first entries number clear is = is
 
--- Bare stages: at these a pass holds no entry at all.
+-- Bare stages: at these a pass holds no entry at all; and is no cleaner, which may hold some.
 abbrev pub IsBare : Stage → Type 0
 IsBare (Patching page number) = ⊥
 IsBare (Restoring page number failed) = ⊥
+IsBare (Cleaning batch sweep) = ⊥
 IsBare stage = IsClear stage
 
 pub bare_clear : (stage : Stage) → IsBare stage → IsClear stage
 bare_clear (Patching page number) bare = tt
 bare_clear (Restoring page number failed) bare = tt
+bare_clear (Cleaning batch sweep) bare = tt
 bare_clear stage bare = bare
 
 pub bare_held : (stage : Stage) (number : ℕ) → IsBare stage → IsHeld stage number → ⊥
 bare_held (Patching page next) number bare is = bare
 bare_held (Restoring page next failed) number bare is = bare
 bare_held (PieceFailing page next) number bare is = bare
+bare_held (Cleaning batch sweep) number bare is = bare
 bare_held stage number bare is = is
 
 -- the steps that touch no entry
@@ -65,10 +69,11 @@ IsStill (Turns page) = Unit {0}
 IsStill (Hints buffer page) = Unit {0}
 IsStill deed = ⊥
 
--- those that neither seize an entry, nor make one ready or break it
+-- those that neither seize an entry, nor make one ready or break it; and a cleaner's
 abbrev pub IsPlain : Deed → Type 0
 IsPlain (Holds number) = Unit {0}
 IsPlain (Returns number) = Unit {0}
+IsPlain (Tends chore) = Unit {0}
 IsPlain deed = IsStill deed
 
 pub bare_leaving : (hands : List Word) → IsBare (leaving hands)
@@ -187,11 +192,13 @@ clear_to sizes values pass (Holds number) found plain may = subst (λ s. IsClear
 clear_to sizes values pass (Returns number) found plain may = subst (λ s. IsClear (after_return sizes pass s)) (sym may.2)
     (if_both IsClear may.1 (leaving (without (ENTRY (slot_of sizes number)) pass.hands)) (scanning pass may.0 (number + 1)) (λ _. clear_leaving (without (ENTRY (slot_of sizes number)) pass.hands))
     (λ _. bare_clear (scanning pass may.0 (number + 1)) (bare_scanning pass may.0 (number + 1))))
+clear_to sizes values pass (Tends chore) found plain may = tended_to IsClear tt (λ batch sweep. tt) sizes pass (moved (chore_move sizes chore found) pass.hands) chore found pass.stage may
 clear_to sizes values pass deed found plain may = bare_clear (stage_after sizes pass deed found) (bare_to sizes values pass deed found plain may)
 
 pub clear_from : (sizes : Sizes) (values : Values) (pass : Pass) (deed : Deed) → IsPlain deed → MayStep sizes values pass deed → IsClear pass.stage
 clear_from sizes values pass (Holds number) plain may = subst IsClear (sym may.1) tt
 clear_from sizes values pass (Returns number) plain may = subst IsClear (sym may.2) tt
+clear_from sizes values pass (Tends chore) plain may = tended (λ _ s. IsClear s) sizes pass chore pass.stage may (λ _. tt) (λ _ _ _. tt)
 clear_from sizes values pass deed plain may = bare_clear pass.stage (bare_from sizes values pass deed plain may)
 
 -- ---- still steps move no entry

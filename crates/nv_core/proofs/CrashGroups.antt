@@ -1,8 +1,8 @@
 -- Groups in an image: a committed number is that of a whole group of the log, and such an image fits and recovers to those groups' writes.
-use Rattle.std.proofs.Common.{◌≡◌, ℕ, zero, suc, ◌+◌, ◌-◌, ◌*◌, ◌%◌, ◌^◌, ◌<◌, ◌≤◌, ◌==◌, ◌&&◌, Bool, true, false, if◌then◌else◌, List, [], ◌∷◌, ◌++◌, length, inl, inr, refl, sym, ap, ap₂, subst, ◌∙◌, arith, add-zero, le_trans, mul-le-mul_right}
+use Rattle.std.proofs.Common.{◌≡◌, ◌⊎◌, ℕ, zero, suc, ◌+◌, ◌-◌, ◌*◌, ◌%◌, ◌^◌, ◌<◌, ◌≤◌, ◌==◌, ◌&&◌, nat_le, Bool, true, false, if◌then◌else◌, List, [], ◌∷◌, ◌++◌, length, inl, inr, refl, sym, ap, ap₂, subst, ◌∙◌, arith, add-zero, le_trans, mul-le-mul_right}
 use Rattle.std.specs.Prelude.{fold, filter, min}
 use Rattle.std.specs.List.{flat_map, range_with_len}
-use Rattle.std.proofs.lemmas.Bool.{eqb-true, eq-eqb, ne_eqb, ltb-true, lt-ltb, and_from}
+use Rattle.std.proofs.lemmas.Bool.{eqb-true, eq-eqb, ne_eqb, ltb-true, lt-ltb, leb-true, le-leb, and_from, and_parts}
 use Rattle.std.proofs.lemmas.Nat.{mod_below}
 use Rattle.std.proofs.lemmas.List.Sums.{fold-append}
 use Rattle.std.proofs.lemmas.List.FromFn.{length-map-range_with_len}
@@ -17,13 +17,14 @@ use Rattle.nv_plain.specs.declared.call.FileCall.TheVariants.{Read, Write, Sync}
 use Rattle.nv_header.specs.Heads.{first_names}
 use Rattle.nv_header.specs.Regions.{ReadsAs}
 use Rattle.nv_entry.specs.Group.{HoldsEntry, count_at}
-use Rattle.nv_core.specs.Words.{Sizes, HEAD, was_readied}
+use Rattle.nv_core.specs.Words.{Sizes, HEAD, TAIL, was_readied}
 use Rattle.nv_core.specs.Passes.{IsAllowed, is_write, file_of, page_count}
 use Rattle.nv_core.specs.Deeds.{slot_of}
 use Rattle.nv_core.specs.Order.{Values}
 use Rattle.nv_core.specs.Core.{Core}
 use Rattle.nv_core.specs.LogWindow.{InWindow, entry_at}
 use Rattle.nv_core.specs.Groups.{Log}
+use Rattle.nv_core.specs.Tails.{Tails}
 use Rattle.nv_core.specs.EntryImages.{IsRegionImage, ReadsWhole, ReadsOpenOrWhole, EntryImages}
 use Rattle.nv_core.specs.StaleWords.{LeadsGroup, StaleWords}
 use Rattle.nv_core.specs.LivePieces.{rising, call_if, piece_write}
@@ -169,19 +170,46 @@ module _ (sizes : Sizes) (names : List (List ℕ)) (tail : ℕ) (image : Image) 
 
 -- ---- an image of a state
 
-module _ (plain : PlainLaws) (sizes : Sizes) (first : Values) (opened : Files) (names : List (List ℕ)) (tail : ℕ) (log : Log) (placed : ℕ → Bool) (core : Core)
-    (sound : Sound sizes first core) (content : LogContent sizes first opened tail log placed core) (region : HasRegion sizes names tail core)
-    (images : EntryImages sizes log core) (stale : StaleWords sizes tail log core) (image : Image) (is : IsRegionImage sizes core.values image) where
-  reads : ReadsAs version_1 sizes.page sizes.entries names tail image
+module _ (plain : PlainLaws) (sizes : Sizes) (first : Values) (opened : Files) (names : List (List ℕ)) (tails : Tails) (log : Log) (placed : ℕ → Bool) (core : Core)
+    (sound : Sound sizes first core) (content : LogContent sizes first opened tails log placed core) (region : HasRegion sizes names tails log core)
+    (images : EntryImages sizes tails.least log core) (stale : StaleWords sizes tails.least log core) (image : Image) (is : IsRegionImage sizes core.values image)
+    (which : (image 0 1 0 ≡ tails.least) ⊎ (image 0 1 0 ≡ tails.next)) where
+  -- the tail that this image has
+  abbrev pub tail : ℕ
+  tail = image 0 1 0
+
+  pub least_low : tails.least ≤ tail
+  least_low = let o = content.retired.order in elim which [ inl e ↦ omega (arith, e) | inr e ↦ omega (arith, e, o) ]
+
+  pub next_high : tail ≤ tails.next
+  next_high = let o = content.retired.order in elim which [ inl e ↦ omega (arith, e, o) | inr e ↦ omega (arith, e) ]
+
+  pub tail_high : tail ≤ core.words HEAD
+  tail_high = let n = next_high in let h = content.retired.high in omega (arith, n, h)
+
+  pub tail_low : core.words TAIL ≤ tail
+  tail_low = let n = least_low in let l = region.low in omega (arith, n, l)
+
+  pub reads : ReadsAs version_1 sizes.page sizes.entries names tail image
   reads = region.header image is
 
+  -- a number that reads as committed is no lower than the tail, and its commit word is its own
+  pub low_if : (n : ℕ) → is_committed sizes image n ≡ true → tail ≤ n
+  low_if n committed = leb-true tail n (and_parts (nat_le tail n) ((entry_of (image (1 + slot_of sizes n))).commit == n + 1) committed).0
+
+  commits : (n : ℕ) → is_committed sizes image n ≡ true → (entry_of (image (1 + slot_of sizes n))).commit ≡ n + 1
+  commits n committed = eqb-true (entry_of (image (1 + slot_of sizes n))).commit (n + 1) (and_parts (nat_le tail n) ((entry_of (image (1 + slot_of sizes n))).commit == n + 1) committed).1
+
+  pub from_tail : (n : ℕ) → tail ≤ n → ((entry_of (image (1 + slot_of sizes n))).commit == n + 1) ≡ is_committed sizes image n
+  from_tail n low = sym (ap (λ b. b && (entry_of (image (1 + slot_of sizes n))).commit == n + 1) (le-leb tail n low))
+
   -- a commit word that counts is a leader's
-  pub leads_if : (n : ℕ) → tail ≤ n → is_committed sizes image n ≡ true → LeadsGroup sizes log core n
-  leads_if n low committed = stale.each image is (slot_of sizes n) n (mod_below n sizes.entries (some_entries sizes names tail image reads)) refl low (eqb-true (entry_of (image (1 + slot_of sizes n))).commit (n + 1) committed)
+  pub leads_if : (n : ℕ) → is_committed sizes image n ≡ true → LeadsGroup sizes log core n
+  leads_if n committed = stale.each image is (slot_of sizes n) n (mod_below n sizes.entries (some_entries sizes names tail image reads)) refl (le_trans least_low (low_if n committed)) (commits n committed)
 
   call_whole : (call : FileCall) (n : ℕ) → 1 ≤ page_count sizes call → is_committed sizes image n ≡ true → ReadsOpenOrWhole sizes call n image → ReadsWhole sizes call n image
   call_whole (Write file at bytes) n some committed (inl none) =
-      absurd (none 0 some (subst (λ m. (entry_of (image (1 + slot_of sizes m))).commit ≡ m + 1) (sym (add-zero n)) (eqb-true (entry_of (image (1 + slot_of sizes n))).commit (n + 1) committed)))
+      absurd (none 0 some (subst (λ m. (entry_of (image (1 + slot_of sizes m))).commit ≡ m + 1) (sym (add-zero n)) (commits n committed)))
   call_whole (Write file at bytes) n some committed (inr whole) = whole
   call_whole (Read file at len) n some committed reads = absurd reads
   call_whole (Sync file) n some committed reads = absurd reads
@@ -189,7 +217,7 @@ module _ (plain : PlainLaws) (sizes : Sizes) (first : Values) (opened : Files) (
   pub whole_if : (n : ℕ) → LeadsGroup sizes log core n → is_committed sizes image n ≡ true → ReadsWhole sizes (log.group n).call n image
   whole_if n leads committed =
       let drawn = (content.groups.each n leads.within).drawn in
-      call_whole (log.group n).call n (subst (λ c. 1 ≤ c) drawn.many drawn.some) committed (images.groups n leads.within leads.leads image is)
+      call_whole (log.group n).call n (subst (λ c. 1 ≤ c) drawn.many drawn.some) committed (images.groups n leads.within (le_trans least_low (low_if n committed)) leads.leads image is)
 
   group_of_call : (call : FileCall) (n : ℕ) → ReadsWhole sizes call n image → is_write call ≡ true → IsAllowed sizes call → n + page_count sizes call ≤ tail + sizes.entries → n + page_count sizes call ≤ 2 ^ 60 → IsGroup version_1 image n
   group_of_call (Write file at bytes) n whole write allowed within small =
@@ -209,36 +237,36 @@ module _ (plain : PlainLaws) (sizes : Sizes) (first : Values) (opened : Files) (
 
   -- the window lies in the image's
   pub end_low : core.words HEAD ≤ tail + sizes.entries
-  end_low = let r = sound.window.room in let l = region.low in omega (arith, r, l)
+  end_low = let r = sound.window.room in let l = tail_low in omega (arith, r, l)
 
   high : (n : ℕ) → LeadsGroup sizes log core n → n + page_count sizes (log.group n).call ≤ core.words HEAD
   high n leads = let g = content.groups.each n leads.within in let h = g.high in let m = g.drawn.many in let f = leads.leads in omega (arith, h, m, f)
 
   -- a committed number, as an image's own words say it
-  pub test_is : (n : ℕ) → ((image_entry image n).commit == n + 1) ≡ is_committed sizes image n
-  test_is n = ap (λ (e : Entry). e.commit == n + 1) (entry_is sizes names tail image reads n)
+  pub test_is : (n : ℕ) → tail ≤ n → ((image_entry image n).commit == n + 1) ≡ is_committed sizes image n
+  test_is n low = ap (λ (e : Entry). e.commit == n + 1) (entry_is sizes names tail image reads n) ∙ from_tail n low
 
-  pub number_high : (n : ℕ) → tail ≤ n → is_committed sizes image n ≡ true → n + (image_entry image n).count ≤ core.words HEAD
-  number_high n low committed =
-      let leads = leads_if n low committed in
+  pub number_high : (n : ℕ) → is_committed sizes image n ≡ true → n + (image_entry image n).count ≤ core.words HEAD
+  number_high n committed =
+      let leads = leads_if n committed in
       let h = high n leads in
       let c = call_count (log.group n).call n (whole_if n leads committed) (content.groups.each n leads.within).drawn.write in
       omega (arith, h, c)
 
-  committed_of : (call : FileCall) (n : ℕ) → ReadsWhole sizes call n image → is_committed sizes image n ≡ true
-  committed_of (Write file at bytes) n whole = eq-eqb (entry_of (image (1 + slot_of sizes n))).commit (n + 1) (subst (λ m. (entry_of (image (1 + slot_of sizes m))).commit ≡ n + 1) (add-zero n) whole.committed)
-  committed_of (Read file at len) n whole = absurd whole
-  committed_of (Sync file) n whole = absurd whole
+  committed_of : (call : FileCall) (n : ℕ) → tail ≤ n → ReadsWhole sizes call n image → is_committed sizes image n ≡ true
+  committed_of (Write file at bytes) n low whole = sym (from_tail n low) ∙ eq-eqb (entry_of (image (1 + slot_of sizes n))).commit (n + 1) (subst (λ m. (entry_of (image (1 + slot_of sizes m))).commit ≡ n + 1) (add-zero n) whole.committed)
+  committed_of (Read file at len) n low whole = absurd whole
+  committed_of (Sync file) n low whole = absurd whole
 
-  -- a leader that is ready reads as committed
-  pub ready_committed : (n : ℕ) → InWindow core n → (log.group n).first ≡ n → was_readied (entry_at sizes core n) ≡ true → is_committed sizes image n ≡ true
-  ready_committed n within leads kind = committed_of (log.group n).call n (images.whole n within leads kind image is)
+  -- a leader from the tail on that was made ready reads as committed
+  pub ready_committed : (n : ℕ) → InWindow core n → tail ≤ n → (log.group n).first ≡ n → was_readied (entry_at sizes core n) ≡ true → is_committed sizes image n ≡ true
+  ready_committed n within low leads kind = committed_of (log.group n).call n low (images.whole n within (le_trans least_low low) leads kind image is)
 
   pub image_fits : Fits version_1 image
   image_fits n commits =
       let low : tail ≤ n = let t = reads.tail_is in let f = commits.from_tail in omega (arith, t, f) in
-      let committed : is_committed sizes image n ≡ true = sym (test_is n) ∙ eq-eqb (image_entry image n).commit (n + 1) commits.commit in
-      let leads = leads_if n low committed in
+      let committed : is_committed sizes image n ≡ true = sym (test_is n low) ∙ eq-eqb (image_entry image n).commit (n + 1) commits.commit in
+      let leads = leads_if n committed in
       let g = content.groups.each n leads.within in
       let h = high n leads in
       group_of_call (log.group n).call n (whole_if n leads committed) g.drawn.write g.allowed (le_trans h end_low) (le_trans h sound.window.small)
@@ -256,7 +284,7 @@ module _ (plain : PlainLaws) (sizes : Sizes) (first : Values) (opened : Files) (
   kept_if n low = go (is_committed sizes image n) refl
     where
       go : (b : Bool) → is_committed sizes image n ≡ b → is_kept n ≡ is_committed sizes image n
-      go true e = and_from ((log.group n).first == n) (is_committed sizes image n) (eq-eqb (log.group n).first n (leads_if n low e).leads) e ∙ sym e
+      go true e = and_from ((log.group n).first == n) (is_committed sizes image n) (eq-eqb (log.group n).first n (leads_if n e).leads) e ∙ sym e
       go false e = ap (λ b. (log.group n).first == n && b) e ∙ none ((log.group n).first == n) ∙ sym e
         where
           none : (b : Bool) → (b && false) ≡ false
@@ -278,15 +306,15 @@ module _ (plain : PlainLaws) (sizes : Sizes) (first : Values) (opened : Files) (
           → (b : Bool) → is_committed sizes image from ≡ b
           → fold (with_entry image) files (flat_map (group_numbers image) (filter (λ n. (image_entry image n).commit == n + 1) (range_with_len from (suc count)))) ≡ after_calls (rising kept from (suc count)) files
       go again false e =
-          ap (λ b. fold (with_entry image) files (flat_map (group_numbers image) (if b then from ∷ rest else rest))) (test_is from ∙ e)
+          ap (λ b. fold (with_entry image) files (flat_map (group_numbers image) (if b then from ∷ rest else rest))) (test_is from low ∙ e)
           ∙ again files long
           ∙ ap (λ m. after_calls (rising kept m count) files) next
           ∙ ap (λ b. after_calls (call_if b (log.group from).call ++ rising kept (suc from) count) files) (sym (kept_if from low ∙ e))
       go again true e =
-          let leads = leads_if from low e in
+          let leads = leads_if from e in
           let g = content.groups.each from leads.within in
           let there : file_of (log.group from).call < length files.contents = let k = g.allowed.known in omega (arith, k, long) in
-          ap (λ b. fold (with_entry image) files (flat_map (group_numbers image) (if b then from ∷ rest else rest))) (test_is from ∙ e)
+          ap (λ b. fold (with_entry image) files (flat_map (group_numbers image) (if b then from ∷ rest else rest))) (test_is from low ∙ e)
           ∙ fold-append (with_entry image) files (group_numbers image from) (flat_map (group_numbers image) rest)
           ∙ ap (λ f. fold (with_entry image) f (flat_map (group_numbers image) rest)) (call_after (log.group from).call from files (whole_if from leads e) g.drawn.write there)
           ∙ again (files_after (log.group from).call files) (files_length (log.group from).call files ∙ long)

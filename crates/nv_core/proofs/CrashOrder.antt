@@ -1,21 +1,23 @@
 -- The order of writes: live pieces are the ready writes, and writes that are apart from those above them may as well come last.
 use Rattle.std.proofs.Common.{◌≡◌, ℕ, zero, suc, ◌+◌, ◌-◌, ◌<◌, ◌≤◌, ◌==◌, ◌&&◌, ◌||◌, not, Bool, true, false, if◌then◌else◌, List, [], ◌∷◌, ◌++◌, length, inl, inr, refl, sym, ap, ap₂, subst, ◌∙◌, arith}
-use Rattle.std.proofs.lemmas.Bool.{cases_lt, cases_eq, eq-eqb, ne_eqb}
+use Rattle.std.proofs.lemmas.Bool.{cases_lt, cases_eq, eqb-true, eq-eqb, ne_eqb}
 use Rattle.std.proofs.lemmas.List.{append-nil}
 use Rattle.nv_plain.specs.Files.{Files}
 use Rattle.nv_plain.specs.declared.call.FileCall.{FileCall}
-use Rattle.nv_core.specs.Words.{Sizes, HEAD, TAIL, was_readied}
+use Rattle.nv_core.specs.Words.{Sizes, HEAD, TAIL, kind_of, cleaned, was_readied}
 use Rattle.nv_core.specs.Passes.{IsAmong, first_page}
 use Rattle.nv_core.specs.Standing.{IsPage}
+use Rattle.nv_core.specs.SweepNumbers.{IsFreed}
 use Rattle.nv_core.specs.Core.{Core}
 use Rattle.nv_core.specs.LogWindow.{InWindow, entry_at}
 use Rattle.nv_core.specs.Groups.{Log, Groups}
 use Rattle.nv_core.specs.Pieces.{page_of_number, Pieces}
 use Rattle.nv_core.specs.Unready.{IsUnready, Unready}
 use Rattle.nv_core.specs.Apart.{AreApart, IsApartFrom, after_calls}
-use Rattle.nv_core.specs.LivePieces.{rising, call_if, piece_write, piece_call, is_ready, is_live}
+use Rattle.nv_core.specs.LivePieces.{rising, call_if, piece_write, piece_call, is_ready, is_cleaned, is_live}
 use Rattle.nv_core.proofs.PlainLaws.{PlainLaws}
 use Rattle.nv_core.proofs.ApartLaws.{after_both}
+use Rattle.nv_core.proofs.Choices.{not_both, unless_true}
 use Rattle.nv_core.proofs.LiveLaws.{rising_same, rising_none, rising_split, rising_apart, come_last, AllApart, pieces_after, writes_apart}
 use Rattle.nv_core.proofs.KeepsLive.{after_length, and_false}
 
@@ -58,18 +60,17 @@ split_kept true true committed call is = ap (λ c. call_if c call) (is refl refl
 split_kept true false true call is = refl
 split_kept true false false call is = refl
 
--- those that it adds are the ready ones that are to be placed, and the same others
-pub split_added : (leads is_ready committed placed : Bool) (call : FileCall) → (leads ≡ true → is_ready ≡ false → placed ≡ false)
-    → call_if ((leads && not placed) && (is_ready || committed)) call ≡ call_if ((leads && is_ready) && not placed) call ++ call_if ((leads && committed) && not is_ready) call
-split_added false ready_ committed placed call is = refl
-split_added true true committed true call is = ap (λ c. call_if c call) (sym (and_false committed))
-split_added true true committed false call is = ap (λ c. call ∷ call_if c call) (sym (and_false committed))
-split_added true false committed true call is = absurd (go (is refl refl))
-  where
-    go : true ≡ false → ⊥
-    go e = cc
-split_added true false true false call is = refl
-split_added true false false false call is = refl
+-- those of the others that it adds, in flight as they are
+pub same_added : (leads placed is_ready committed : Bool) → (leads ≡ true → is_ready ≡ false → placed ≡ false)
+    → (((leads && not placed) && (is_ready || committed)) && not is_ready) ≡ ((leads && committed) && not is_ready)
+same_added leads placed true committed is = and_false ((leads && not placed) && true) ∙ sym (and_false (leads && committed))
+same_added false placed false committed is = refl
+same_added true placed false committed is = ap (λ b. (not b && committed) && true) (is refl refl)
+
+-- and none is added that doesn't read as committed
+pub none_added : (flies is_ready committed : Bool) → committed ≡ false → ((flies && (is_ready || committed)) && not is_ready) ≡ false
+none_added flies true committed none = and_false (flies && true)
+none_added flies false committed none = ap (λ b. (flies && b) && true) none ∙ ap (λ b. b && true) (and_false flies)
 
 -- ---- live pieces, group by group
 
@@ -99,10 +100,6 @@ module _ (sizes : Sizes) (log : Log) (core : Core) (groups : Groups sizes core l
               omega (arith, s, c, high)
         ])
       ]
-
-  -- TAIL is a leader's number
-  pub leads_first : InWindow core (core.words TAIL) → (log.group (core.words TAIL)).first ≡ core.words TAIL
-  leads_first within = let g = groups.each (core.words TAIL) within in let a = g.among.0 in let l = g.low in omega (arith, a, l)
 
   -- a leader above another one is behind its group
   pub leads_behind : (n m : ℕ) → InWindow core n → (log.group n).first ≡ n → (log.group m).first ≡ m → n < m → n + (log.group n).entries ≤ m
@@ -139,7 +136,8 @@ module _ (sizes : Sizes) (log : Log) (core : Core) (groups : Groups sizes core l
     abbrev pub live_piece : ℕ → List FileCall
     live_piece n = call_if (is_live sizes log core n) (piece_call sizes (log.group n) n)
 
-    module _ (n : ℕ) (within : InWindow core n) (leads : (log.group n).first ≡ n) where
+    -- a group whose leader isn't freed
+    module _ (n : ℕ) (within : InWindow core n) (leads : (log.group n).first ≡ n) (unfreed : (by : ℕ) → IsFreed (core.passes by).stage n → ⊥) where
       of_group : (m : ℕ) → n ≤ m → m < n + (log.group n).entries → log.group m ≡ log.group n
       of_group m low high = (groups.each n within).same m (omega (arith, leads, low), omega (arith, leads, high))
 
@@ -160,11 +158,18 @@ module _ (sizes : Sizes) (log : Log) (core : Core) (groups : Groups sizes core l
       live_of true e m low high =
           let g = of_group m low high in
           let kind : was_readied (entry_at sizes core m) ≡ true = pieces.followers n m within leads e (low, high) in
-          ap₂ (λ a b. call_if (a && b) (piece_call sizes (log.group m) m)) kind (ap (is_ready sizes core) (leader_of m low high) ∙ e)
+          ap₂ (λ a b. call_if (a && (b || is_cleaned sizes core m)) (piece_call sizes (log.group m) m)) kind (ap (is_ready sizes core) (leader_of m low high) ∙ e)
           ∙ ap (λ x. piece_call sizes x m ∷ []) g ∙ ap (λ f. piece_write sizes (log.group n).call (m - f) ∷ []) leads
       live_of false e m low high =
-          ap (λ b. call_if (is_ready sizes core m && b) (piece_call sizes (log.group m) m)) (ap (is_ready sizes core) (leader_of m low high) ∙ e)
+          ap₂ (λ b c. call_if (is_ready sizes core m && (b || c)) (piece_call sizes (log.group m) m)) (ap (is_ready sizes core) (leader_of m low high) ∙ e)
+          (unless_true (is_cleaned sizes core m) (λ clean. elim (pieces.leaders m inside (eqb-true (kind_of (entry_at sizes core m)) cleaned clean)) [
+            | inl kind ↦ not_both (ap (is_ready sizes core) (sym (leader_of m low high)) ∙ kind) e
+            | inr freed ↦ unfreed freed.0 (subst (IsFreed (core.passes freed.0).stage) (leader_of m low high) freed.1)
+          ]))
           ∙ ap (λ b. call_if b (piece_call sizes (log.group m) m)) (and_false (is_ready sizes core m))
+        where
+          inside : InWindow core m
+          inside = let h = (groups.each n within).high in let l = within.0 in (omega (arith, l, low), omega (arith, h, high, leads))
 
       group_live : (files : Files) → length files.contents ≡ sizes.files → after_calls (rising live_piece n (log.group n).entries) files ≡ after_calls (rising ready_write n (log.group n).entries) files
       group_live files long = go (is_ready sizes core n) refl
@@ -180,12 +185,12 @@ module _ (sizes : Sizes) (log : Log) (core : Core) (groups : Groups sizes core l
               ap (λ c. after_calls c files) (rising_none live_piece n (log.group n).entries (live_of false e))
               ∙ sym (ap (λ c. after_calls c files) (first_alone ∙ ap (λ b. call_if ((log.group n).first == n && b) (log.group n).call) e ∙ ap (λ b. call_if b (log.group n).call) (and_false ((log.group n).first == n))))
 
-    walk : (fuel from : ℕ) → core.words HEAD ≤ from + fuel → core.words TAIL ≤ from → (from < core.words HEAD → (log.group from).first ≡ from) → (files : Files) → length files.contents ≡ sizes.files
+    walk : (fuel from : ℕ) → core.words HEAD ≤ from + fuel → core.words TAIL ≤ from → ((n by : ℕ) → from ≤ n → IsFreed (core.passes by).stage n → ⊥) → (from < core.words HEAD → (log.group from).first ≡ from) → (files : Files) → length files.contents ≡ sizes.files
         → after_calls (rising live_piece from (core.words HEAD - from)) files ≡ after_calls (rising ready_write from (core.words HEAD - from)) files
-    walk zero from enough low leads files long =
+    walk zero from enough low unfreed leads files long =
         let none : core.words HEAD - from ≡ 0 = omega (arith, enough) in
         ap (λ c. after_calls (rising live_piece from c) files) none ∙ sym (ap (λ c. after_calls (rising ready_write from c) files) none)
-    walk (suc fuel) from enough low leads files long = elim (cases_lt from (core.words HEAD)) [
+    walk (suc fuel) from enough low unfreed leads files long = elim (cases_lt from (core.words HEAD)) [
       | inr past ↦
           let none : core.words HEAD - from ≡ 0 = omega (arith, past) in
           ap (λ c. after_calls (rising live_piece from c) files) none ∙ sym (ap (λ c. after_calls (rising ready_write from c) files) none)
@@ -202,11 +207,13 @@ module _ (sizes : Sizes) (log : Log) (core : Core) (groups : Groups sizes core l
           let ready_ = ap (rising ready_write from) all ∙ rising_split ready_write from k rest in
           ap (λ c. after_calls c files) live_
           ∙ after_both (rising live_piece from k) (rising live_piece (from + k) rest) files
-          ∙ ap (after_calls (rising live_piece (from + k) rest)) (group_live from within is files long)
-          ∙ walk fuel (from + k) (omega (arith, enough, some)) (omega (arith, low)) (λ more. leads_next from within is (omega (arith, low), more)) (after_calls (rising ready_write from k) files) (after_length (rising ready_write from k) files ∙ long)
+          ∙ ap (after_calls (rising live_piece (from + k) rest)) (group_live from within is (λ by. unfreed from by (omega arith)) files long)
+          ∙ walk fuel (from + k) (omega (arith, enough, some)) (omega (arith, low)) (λ n by more. unfreed n by (omega (arith, more))) (λ more. leads_next from within is (omega (arith, low), more)) (after_calls (rising ready_write from k) files) (after_length (rising ready_write from k) files ∙ long)
           ∙ sym (ap (λ c. after_calls c files) ready_ ∙ after_both (rising ready_write from k) (rising ready_write (from + k) rest) files)
     ]
 
-    pub live_are_ready : core.words TAIL ≤ core.words HEAD → (files : Files) → length files.contents ≡ sizes.files
-        → after_calls (rising live_piece (core.words TAIL) (core.words HEAD - core.words TAIL)) files ≡ after_calls (rising ready_write (core.words TAIL) (core.words HEAD - core.words TAIL)) files
-    live_are_ready order files long = walk (core.words HEAD) (core.words TAIL) (omega arith) (omega arith) (λ less. leads_first (omega arith, less)) files long
+    -- from a leader's number on, behind all that is freed
+    pub live_are_ready : (from : ℕ) → core.words TAIL ≤ from → (from < core.words HEAD → (log.group from).first ≡ from) → ((n by : ℕ) → from ≤ n → IsFreed (core.passes by).stage n → ⊥)
+        → (files : Files) → length files.contents ≡ sizes.files
+        → after_calls (rising live_piece from (core.words HEAD - from)) files ≡ after_calls (rising ready_write from (core.words HEAD - from)) files
+    live_are_ready from low leads unfreed files long = walk (core.words HEAD) from (omega arith) low unfreed leads files long

@@ -1,27 +1,43 @@
 -- The region in images: what is read of its header is read of one part, and each event keeps it.
-use Rattle.std.proofs.Common.{◌≡◌, ◌≢◌, ℕ, zero, suc, ◌+◌, ◌≤◌, List, [], Option, Some, None, refl, sym, ap, subst, ◌∙◌, arith}
+use Rattle.std.proofs.Common.{◌≡◌, ℕ, zero, suc, ◌+◌, ◌==◌, ◌^◌, ◌≤◌, Bool, true, false, List, [], length, Option, Some, None, inl, inr, refl, sym, ap, subst, ◌∙◌, arith, le_trans}
+use Rattle.std.specs.Prelude.{option_map}
 use Rattle.nv_plain.specs.Images.{Image, PartImage}
 use Rattle.nv_plain.specs.Layouts.{version_1}
+use Rattle.nv_plain.specs.Files.{Files}
+use Rattle.nv_plain.specs.declared.call.FileCall.{FileCall}
 use Rattle.nv_pmem.specs.Part.{Part, word_of}
 use Rattle.nv_pmem.specs.Images.{IsImage}
-use Rattle.nv_pmem.specs.Laws.{LoadsAreAnImage}
+use Rattle.nv_pmem.specs.Steps.{after_step as after_line_step}
 use Rattle.nv_header.specs.Heads.{first_names}
+use Rattle.nv_header.specs.HeaderSteps.{tail_steps}
 use Rattle.nv_header.specs.Regions.{ReadsAs}
-use Rattle.nv_core.specs.Words.{Sizes, Word, TAIL, HEADER, STORE, ENTRY}
-use Rattle.nv_core.specs.Values.{Value, Bare, APart, AStore, ABuffer, called}
-use Rattle.nv_core.specs.Passes.{Stage, Committing, Copying, Pass, file_of, Patching}
-use Rattle.nv_core.specs.Deeds.{Deed, Loads, Takes, Gives, Places, Stops, Draws, Seizes, Pledges, Readies, Grows, Breaks, Splits, Leaves, Joins, slot_of, Turns, Hints, Holds, Returns}
-use Rattle.nv_core.specs.Order.{Values, Work, MayWork, IsDue}
-use Rattle.nv_core.specs.Core.{Core, with_word, after_step, after_begin, after_work, values_worked}
-use Rattle.nv_core.specs.Events.{Act, Begins, Does, Calls, after_act, MayFind, MayAct}
-use Rattle.nv_core.specs.StorePages.{StoresKept}
+use Rattle.nv_core.specs.Words.{Sizes, HEAD, TAIL, HEADER, ENTRY}
+use Rattle.nv_core.specs.Values.{Value, Bare, APart, AStore, ABuffer, Job, Writes, Ending, Made, Failed, called, has_come, part_after}
+use Rattle.nv_core.specs.Sweeps.{Batch, Moving, Retiring, Retires}
+use Rattle.nv_core.specs.Passes.{Stage, Locking, Checking, Cleaning, Pass, page_count, first_page}
+use Rattle.nv_core.specs.Deeds.{Deed, Tends}
+use Rattle.nv_core.specs.Stepped.{begun}
+use Rattle.nv_core.specs.Order.{Values}
+use Rattle.nv_core.specs.Core.{Core, with_word, after_step, after_begin, after_work, values_stepped, values_worked}
+use Rattle.nv_core.specs.Events.{Act, Begins, Does, Calls, Event, after_act, after_event, MayFind, MayAct, MayCome}
+use Rattle.nv_core.specs.Groups.{Log, log_acted, log_after}
 use Rattle.nv_core.specs.Written.{IsPart}
-use Rattle.nv_core.specs.EntryImages.{IsLeft, IsRegionImage}
+use Rattle.nv_core.specs.Tails.{Tails, still, tails_moved, tails_worked, tails_acted, tails_after}
+use Rattle.nv_core.specs.HeaderStays.{HeaderStays}
+use Rattle.nv_core.specs.Retiring.{TailsAt}
+use Rattle.nv_core.specs.PersistentTail.{PersistentTail}
+use Rattle.nv_core.specs.EntryImages.{IsLeft, IsRegionImage, InEachImageOf}
+use Rattle.nv_core.specs.LogContent.{LogContent}
 use Rattle.nv_core.specs.Crash.{HasRegion, EventsKeepRegion}
-use Rattle.nv_core.proofs.Changes.{word_else, differ}
-use Rattle.nv_core.proofs.KeepsHeader.{header_stepped, header_read}
-use Rattle.nv_core.proofs.KeepsStores.{stores_step, stores_work}
-use Rattle.nv_core.proofs.WordLaws.{untouched}
+use Rattle.nv_core.specs.Sound.{Sound}
+use Rattle.nv_core.proofs.Changes.{by_word, number_here, word_here}
+use Rattle.nv_core.proofs.Choices.{if_both}
+use Rattle.nv_core.proofs.LogLaws.{LogLaws}
+use Rattle.nv_core.proofs.KeepsHeader.{off_tail, header_stepped, header_step, header_read, header_work}
+use Rattle.nv_core.proofs.ImageLaws.{part_one}
+use Rattle.nv_core.proofs.SweepDeeds.{tending}
+use Rattle.nv_core.proofs.WordLaws.{untouched, touches}
+use Rattle.nv_core.proofs.CrashHeader.{header_tells, reads_but_tail}
 
 -- what is read of the header is read of part 0, word by word
 pub reads_alike : (sizes : Sizes) (names : List (List ℕ)) (tail : ℕ) (image other : Image) → ((line word : ℕ) → image 0 line word ≡ other 0 line word)
@@ -64,7 +80,7 @@ abbrev pub told_part : Value → Part
 told_part (APart device room) = told_or device.told
 told_part value = []
 
-told_is : (value : Value) (part : Part) → IsPart value part → told_part value ≡ part
+pub told_is : (value : Value) (part : Part) → IsPart value part → told_part value ≡ part
 told_is (APart device room) part is = ap told_or is
 told_is Bare part is = absurd is
 told_is (AStore device) part is = absurd is
@@ -88,71 +104,159 @@ entry_left leave each header values slot = let next : suc slot ≡ 1 + slot = om
 pub region_is : (sizes : Sizes) (leave : Part → PartImage) → ((part : Part) → IsImage part (leave part)) → (values : Values) → IsRegionImage sizes values (region_of leave values)
 region_is sizes leave each values = record { header = left_is leave each (values HEADER); entries = λ slot less. entry_left leave each (leave (told_part (values HEADER))) values slot }
 
--- ---- each event keeps the region
+-- ---- the header after an event
 
--- the header's cell keeps what it kept, and TAIL and the stores are as they were
-region_kept : LoadsAreAnImage → (sizes : Sizes) (names : List (List ℕ)) (tail : ℕ) (core now : Core) → now.values HEADER ≡ core.values HEADER → now.words TAIL ≡ core.words TAIL → StoresKept core.values now.values
-    → HasRegion sizes names tail core → HasRegion sizes names tail now
-region_kept loads sizes names tail core now header tail_is stores region = record {
-  header = λ image is. reads_alike sizes names tail image (joined word_of (image 0) core.values) (λ line word. refl)
-      (region.header (joined word_of (image 0) core.values) record {
-        header = subst (λ v. IsLeft v (image 0)) header is.header;
-        entries = λ slot less. entry_left word_of loads (image 0) core.values slot;
-      });
-  files = region.files;
-  pages = region.pages;
-  low = subst (λ t. t ≤ tail) (sym tail_is) region.low;
-  tell = record { each = λ file less. let told = region.tell.each file less in (told.0, stores.each file ∙ told.1) };
-  quiet = record { each = λ file store told. region.quiet.each file store (sym (stores.each file) ∙ told) };
+-- a part that told does after a device call, however that ended
+called_tells : (job : Job) (how : Ending) (value : Value) (part : Part) → IsPart value part → (now : Part) × IsPart (called job how value) now
+called_tells (Writes step room) how (APart device before) part is = go (has_come how)
+  where
+    go : (came : Bool) → (now : Part) × (part_after (Writes step room) came device.told ≡ Some now)
+    go true = (after_line_step step part, ap (option_map (after_line_step step)) is)
+    go false = (part, is)
+called_tells job how (APart device before) part is = (part, is)
+called_tells job how Bare part is = absurd is
+called_tells job how (AStore device) part is = absurd is
+called_tells job how (ABuffer buffer) part is = absurd is
+
+-- the header stays as it is, seen from where it stands
+stays_from_here : LogLaws → (first : Values) (tails : Tails) (values : Values) → HeaderStays first tails values → HeaderStays values tails values
+stays_from_here laws first tails values stays = record {
+  words = λ was part a b image is line word off.
+      let moved = stays.moved part b in
+      off_tail laws tails.next tails.calls moved.before moved.quiet image (subst (λ p. IsImage p image) moved.is is) line word off
+      ∙ sym (off_tail laws tails.next tails.calls moved.before moved.quiet (word_of part) (subst (λ p. IsImage p (word_of part)) moved.is (laws.now part)) line word off)
+      ∙ ap (λ p. word_of p line word) (part_one (values HEADER) part was b a);
+  tail_is = stays.tail_is;
+  moved = stays.moved;
+  header_lines = λ was part a b. ap length (part_one (values HEADER) part was b a);
+  entry_lines = λ slot was part a b. ap length (part_one (values (ENTRY slot)) part was b a);
 }
 
--- no step moves TAIL
-pub tail_stays : (sizes : Sizes) (by : ℕ) (core : Core) (found : ℕ) (deed : Deed) → MayFind sizes by core deed found → (after_step sizes by deed found core).words TAIL ≡ core.words TAIL
-tail_stays sizes by core found (Loads word) may = untouched sizes by core (Loads word) found may TAIL refl
-tail_stays sizes by core found (Takes cell) may = untouched sizes by core (Takes cell) found may TAIL refl
-tail_stays sizes by core found (Gives cell) may = untouched sizes by core (Gives cell) found may TAIL refl
-tail_stays sizes by core found (Places reply) may = untouched sizes by core (Places reply) found may TAIL refl
-tail_stays sizes by core found Stops may = untouched sizes by core Stops found may TAIL refl
-tail_stays sizes by core found Draws may = untouched sizes by core Draws found may TAIL refl
-tail_stays sizes by core found (Seizes next) may = untouched sizes by core (Seizes next) found may TAIL refl
-tail_stays sizes by core found (Pledges page) may = untouched sizes by core (Pledges page) found may TAIL refl
-tail_stays sizes by core found (Readies next) may = untouched sizes by core (Readies next) found may TAIL refl
-tail_stays sizes by core found Grows may = untouched sizes by core Grows found may TAIL refl
-tail_stays sizes by core found (Breaks next) may = untouched sizes by core (Breaks next) found may TAIL refl
-tail_stays sizes by core found (Holds next) may = untouched sizes by core (Holds next) found may TAIL refl
-tail_stays sizes by core found (Returns next) may = untouched sizes by core (Returns next) found may TAIL refl
-tail_stays sizes by core found (Turns page) may = untouched sizes by core (Turns page) found may TAIL refl
-tail_stays sizes by core found (Hints buffer page) may = untouched sizes by core (Hints buffer page) found may TAIL refl
-tail_stays sizes by core found Splits may = untouched sizes by core Splits found may TAIL refl
-tail_stays sizes by core found (Leaves cell) may = untouched sizes by core (Leaves cell) found may TAIL refl
-tail_stays sizes by core found (Joins number) may = untouched sizes by core (Joins number) found may TAIL refl
+-- ---- each event keeps the region
 
-region_step : LoadsAreAnImage → (sizes : Sizes) (names : List (List ℕ)) (tail by : ℕ) (core : Core) (deed : Deed) (found : ℕ) → HasRegion sizes names tail core → MayFind sizes by core deed found → HasRegion sizes names tail (after_step sizes by deed found core)
-region_step loads sizes names tail by core deed found region may =
-    region_kept loads sizes names tail core (after_step sizes by deed found core) (header_stepped sizes (core.passes by) deed core.values) (tail_stays sizes by core found deed may)
-    (stores_step sizes core.values (core.passes by) deed core.values record { each = λ file. refl }) region
+-- what is proved elsewhere of what isn't durable
+abbrev pub PersistentGoesOn : Type 0
+PersistentGoesOn =
+    (sizes : Sizes) (first : Values) (opened : Files) (names : List (List ℕ)) (tails : Tails) (log : Log) (placed : ℕ → Bool) (core : Core) (event : Event)
+    → Sound sizes first core → LogContent sizes first opened tails log placed core → HasRegion sizes names tails log core
+    → MayCome sizes event core → PersistentTail sizes (tails_after event core tails).next (log_after sizes event core log) (after_event sizes event core)
 
--- a device call is on an entry or on a store
-worked_header : (sizes : Sizes) (values : Values) (pass : Pass) (work : Work) → MayWork sizes values pass work → values_worked pass work values HEADER ≡ values HEADER
-worked_header sizes values pass work may = header_read work.job work.ending pass.stage (with_word values work.cell (called work.job work.ending (values work.cell))) ∙ at pass.stage may.due
+-- these tails lie between two words
+abbrev AreWithin : (low high : ℕ) → Tails → Type 0
+AreWithin low high tails = (low ≤ tails.least) × (tails.least ≤ high) × (tails.next ≤ high)
+
+-- TAIL after a step is as it was, or the tail that the header has
+pub tail_after : (sizes : Sizes) (by : ℕ) (core : Core) (found : ℕ) (deed : Deed) → MayFind sizes by core deed found → (least : ℕ) → core.words TAIL ≤ least
+    → ((batch : Batch) → (core.passes by).stage ≡ Cleaning batch Retiring → batch.reached ≤ least) → (after_step sizes by deed found core).words TAIL ≤ least
+tail_after sizes by core found deed may least low retiring = go deed may
   where
-    other : (cell : Word) → work.cell ≡ cell → HEADER ≢ cell → with_word values work.cell (called work.job work.ending (values work.cell)) HEADER ≡ values HEADER
-    other cell e ne = word_else values work.cell (called work.job work.ending (values work.cell)) HEADER (λ same. ne (same ∙ e))
+    same : (deed : Deed) → MayFind sizes by core deed found → touches deed TAIL ≡ false → (after_step sizes by deed found core).words TAIL ≤ least
+    same deed may not_so = subst (λ t. t ≤ least) (sym (untouched sizes by core deed found may TAIL not_so)) low
 
-    at : (stage : Stage) → IsDue sizes values pass work stage → with_word values work.cell (called work.job work.ending (values work.cell)) HEADER ≡ values HEADER
-    at (Committing calls) due = other (ENTRY (slot_of sizes (pass.first + due.row.part))) due.cell (differ HEADER (ENTRY (slot_of sizes (pass.first + due.row.part))) refl)
-    at (Patching page number) due = other (ENTRY (slot_of sizes number)) due.cell (differ HEADER (ENTRY (slot_of sizes number)) refl)
-    at (Copying page dirty) due = other (STORE (file_of pass.call)) due.cell (differ HEADER (STORE (file_of pass.call)) refl)
-    at stage due = absurd due
+    go : (deed : Deed) → MayFind sizes by core deed found → (after_step sizes by deed found core).words TAIL ≤ least
+    go (Tends (Retires tail)) may =
+        let at = tending sizes (core.passes by) (Retires tail) tt may.may in
+        let m = at.made in
+        let t = m.1 in
+        let r = retiring at.batch (at.stage ∙ ap (Cleaning at.batch) m.0) in
+        subst (λ t. t ≤ least) (sym (word_here core.words TAIL tail)) (omega (arith, t, r))
+    go (Tends chore) may = same (Tends chore) may refl
+    go deed may = same deed may refl
 
-region_act : LoadsAreAnImage → (sizes : Sizes) (names : List (List ℕ)) (tail by : ℕ) (core : Core) (act : Act) → HasRegion sizes names tail core → MayAct sizes by core act → HasRegion sizes names tail (after_act sizes by act core)
-region_act loads sizes names tail by core (Begins call deed found) region may =
-    region_step loads sizes names tail by (after_begin sizes by call core) deed found
-    (region_kept loads sizes names tail core (after_begin sizes by call core) refl refl record { each = λ file. refl } region) may.1
-region_act loads sizes names tail by core (Does deed found) region may = region_step loads sizes names tail by core deed found region may
-region_act loads sizes names tail by core (Calls work) region may =
-    region_kept loads sizes names tail core (after_work sizes by work core) (worked_header sizes core.values (core.passes by) work may) refl
-    (stores_work core.values (core.passes by) work core.values record { each = λ file. refl }) region
+-- a call that begins is no cleaner's
+abbrev pub IsNoBatch : Stage → Type 0
+IsNoBatch (Cleaning batch sweep) = ⊥
+IsNoBatch stage = Unit {0}
 
-pub events_keep_region : LoadsAreAnImage → EventsKeepRegion
-events_keep_region loads sizes names tail core event region may = region_act loads sizes names tail event.by core event.act region may.act
+pub begun_none : (sizes : Sizes) (call : FileCall) (pass : Pass) → IsNoBatch (begun sizes call pass).stage
+begun_none sizes call pass = if_both IsNoBatch (page_count sizes call == 0) Checking (Locking (first_page sizes call)) (λ _. tt) (λ _. tt)
+
+module _ (laws : LogLaws) (sizes : Sizes) (first : Values) (opened : Files) (names : List (List ℕ)) (tails : Tails) (log : Log) (placed : ℕ → Bool) (core : Core)
+    (sound : Sound sizes first core) (content : LogContent sizes first opened tails log placed core) (region : HasRegion sizes names tails log core) where
+  stays_here : HeaderStays core.values tails core.values
+  stays_here = stays_from_here laws first tails core.values content.header
+
+  now_told : (part : Part) × IsPart (core.values HEADER) part
+  now_told = header_tells sizes names tails log core region (region_of word_of core.values) (region_is sizes word_of laws.now core.values)
+
+  are_within : AreWithin (core.words TAIL) (core.words HEAD) tails
+  are_within = let l = region.low in let o = content.retired.order in let h = content.retired.high in (l, omega (arith, o, h), h)
+
+  -- the tails after a device call
+  worked_within : (by : ℕ) (ending : Ending) → AreWithin (core.words TAIL) (core.words HEAD) (tails_worked ending (core.passes by).stage tails)
+  worked_within by ending = go (core.passes by).stage refl
+    where
+      go : (stage : Stage) → (core.passes by).stage ≡ stage → AreWithin (core.words TAIL) (core.words HEAD) (tails_worked ending stage tails)
+      go (Cleaning batch (Moving calls)) at = moved ending
+        where
+          way : (batch.tail ≡ core.words TAIL) × (batch.tail ≤ batch.reached) × (batch.reached ≤ core.words HEAD)
+          way = let is = content.progress.each by batch (Moving calls) at tt in (is.tail, is.low, is.high)
+
+          next : AreWithin (core.words TAIL) (core.words HEAD) (record { least = tails.least; next = batch.reached; calls = calls + 1 })
+          next = (are_within.0, are_within.1, way.2)
+
+          moved : (how : Ending) → AreWithin (core.words TAIL) (core.words HEAD) (tails_moved how batch.reached (calls + 1) tails)
+          moved Made = if_both (AreWithin (core.words TAIL) (core.words HEAD)) (calls + 1 == length (tail_steps batch.reached)) (still batch.reached) (record { least = tails.least; next = batch.reached; calls = calls + 1 })
+              (λ _. (let t = way.0 in let l = way.1 in omega (arith, t, l), way.2, way.2)) (λ _. next)
+          moved (Failed true faults) = next
+          moved how = are_within
+      go stage at = are_within
+
+  -- a header that has no other tail than these, and else reads as it did
+  header_reads : (values : Values) (after : Tails) → HeaderStays core.values after values → AreWithin (core.words TAIL) (core.words HEAD) after → (part : Part) → IsPart (values HEADER) part
+      → InEachImageOf sizes values (λ image. ReadsAs version_1 sizes.page sizes.entries names (image 0 1 0) image)
+  header_reads values after stays within part told image is =
+      let small : (n : ℕ) → image 0 1 0 ≡ n → n ≤ core.words HEAD → image 0 1 0 ≤ 2 ^ 60 = λ n e high. subst (λ m. m ≤ 2 ^ 60) (sym e) (le_trans high sound.window.small) in
+      reads_but_tail image (region_of word_of core.values) (λ line word off. stays.words now_told.0 part now_told.1 told (image 0) (is.header part told) line word off ∙ sym (here line word))
+      sizes names (region_of word_of core.values 0 1 0)
+      (elim (stays.tail_is part told (image 0) (is.header part told)) [ inl e ↦ small after.least e within.1 | inr e ↦ small after.next e within.2 ])
+      (region.header (region_of word_of core.values) (region_is sizes word_of laws.now core.values))
+    where
+      here : (line word : ℕ) → region_of word_of core.values 0 line word ≡ word_of now_told.0 line word
+      here line word = ap (λ p. word_of p line word) (told_is (core.values HEADER) now_told.0 now_told.1)
+
+  -- a region after an event, by its parts
+  region_now : (now : Core) (after : Tails) (next : Log) → HeaderStays core.values after now.values → AreWithin (core.words TAIL) (core.words HEAD) after → (part : Part) → IsPart (now.values HEADER) part
+      → now.words TAIL ≤ after.least → PersistentTail sizes after.next next now → HasRegion sizes names after next now
+  region_now now after next stays within part told low persistent = record {
+    header = header_reads now.values after stays within part told;
+    files = region.files;
+    pages = region.pages;
+    low = low;
+    persistent = persistent;
+  }
+
+  -- after a step, be it the first of a call
+  region_step : (by : ℕ) (before : Core) (deed : Deed) (found : ℕ) (next : Log) → before.values ≡ core.values → before.words TAIL ≡ core.words TAIL
+      → ((batch : Batch) → (before.passes by).stage ≡ Cleaning batch Retiring → batch.reached ≤ tails.least) → MayFind sizes by before deed found
+      → PersistentTail sizes tails.next next (after_step sizes by deed found before) → HasRegion sizes names tails next (after_step sizes by deed found before)
+  region_step by before deed found next values tail retiring may persistent =
+      region_now (after_step sizes by deed found before) tails next
+      (subst (λ v. HeaderStays core.values tails (values_stepped sizes (before.passes by) deed v)) (sym values) (header_step sizes core.values tails (before.passes by) deed core.values stays_here))
+      are_within now_told.0
+      (subst (λ v. IsPart v now_told.0) (sym (header_stepped sizes (before.passes by) deed before.values ∙ ap (λ v. v HEADER) values)) now_told.1)
+      (tail_after sizes by before found deed may tails.least (let l = region.low in omega (arith, tail, l)) retiring)
+      persistent
+
+  region_act : (by : ℕ) (act : Act) → MayAct sizes by core act → PersistentTail sizes (tails_acted (core.passes by).stage act tails).next (log_acted sizes (core.passes by) act log) (after_act sizes by act core)
+      → HasRegion sizes names (tails_acted (core.passes by).stage act tails) (log_acted sizes (core.passes by) act log) (after_act sizes by act core)
+  region_act by (Begins call deed found) may persistent =
+      region_step by (after_begin sizes by call core) deed found (log_acted sizes (core.passes by) (Begins call deed found) log) refl refl
+      (λ batch at. absurd (subst IsNoBatch (ap (λ (p : Pass). p.stage) (sym (number_here core.passes by (begun sizes call (core.passes by)))) ∙ at) (begun_none sizes call (core.passes by)))) may.1 persistent
+  region_act by (Does deed found) may persistent =
+      region_step by core deed found (log_acted sizes (core.passes by) (Does deed found) log) refl refl
+      (λ batch at. let e : TailsAt tails (Cleaning batch Retiring) = subst (TailsAt tails) at (content.retired.at by) in let l = e.0 in omega (arith, l)) may persistent
+  region_act by (Calls work) may persistent =
+      region_now (after_work sizes by work core) (tails_worked work.ending (core.passes by).stage tails) (log_acted sizes (core.passes by) (Calls work) log)
+      (header_work laws sizes core.values tails (core.passes by) work core.values stays_here (content.retired.at by) may) (worked_within by work.ending) told.0 told.1
+      (worked_within by work.ending).0 persistent
+    where
+      told : (part : Part) × IsPart (values_worked (core.passes by) work core.values HEADER) part
+      told = subst (λ v. (part : Part) × IsPart v part) (sym (header_read work.job work.ending (core.passes by).stage (with_word core.values work.cell (called work.job work.ending (core.values work.cell)))))
+          (by_word (λ w v. (part : Part) × IsPart (core.values w) part → (now : Part) × IsPart v now) core.values work.cell (called work.job work.ending (core.values work.cell))
+          (λ was. called_tells work.job work.ending (core.values work.cell) was.0 was.1) (λ w ne was. was) HEADER now_told)
+
+pub events_keep_region : LogLaws → PersistentGoesOn → EventsKeepRegion
+events_keep_region laws goes_on sizes first opened names tails log placed core event sound content region may =
+    region_act laws sizes first opened names tails log placed core sound content region event.by event.act may.act
+    (goes_on sizes first opened names tails log placed core event sound content region may)

@@ -1,50 +1,89 @@
 -- Runs keep the region and the stores, so each state of a run survives a power failure.
-use Rattle.std.proofs.Common.{ℕ, List, [], ◌∷◌, arith}
+use Rattle.std.proofs.Common.{◌≡◌, ℕ, Bool, true, ◌&&◌, List, [], ◌∷◌, length, sym, ap, subst, arith}
+use Rattle.std.specs.Prelude.{slice_index}
+use Rattle.std.proofs.lemmas.Bool.{and_parts}
+use Rattle.nv_plain.specs.Files.{Files}
+use Rattle.nv_plain.specs.Layouts.{version_1}
+use Rattle.nv_pmem.specs.Limits.{IsPageSize}
+use Rattle.nv_pmem.specs.Part.{word_of}
 use Rattle.nv_pmem.specs.Laws.{QuietHasOneImage}
 use Rattle.nv_header.specs.Heads.{header_image}
+use Rattle.nv_header.specs.Regions.{ReadsAs}
+use Rattle.nv_store.specs.Store.{Store, IsQuiet}
 use Rattle.nv_core.specs.Words.{Sizes}
 use Rattle.nv_core.specs.Order.{Values}
 use Rattle.nv_core.specs.Core.{Core, after_begin}
 use Rattle.nv_core.specs.Events.{Act, Begins, Does, Calls, Event, after_act, after_event, after, IsRun}
 use Rattle.nv_core.specs.Opening.{opening}
 use Rattle.nv_core.specs.StorePages.{StoresKept}
-use Rattle.nv_core.specs.LogContent.{RunsKeepTheLog, log_after_run, placed_after_run}
+use Rattle.nv_core.specs.Groups.{Log, log_after}
+use Rattle.nv_core.specs.InFlight.{placed_after}
+use Rattle.nv_core.specs.Tails.{Tails, still, tails_after}
+use Rattle.nv_core.specs.PersistentTail.{LiesInPieces}
+use Rattle.nv_core.specs.LogContent.{LogContent, OpeningHasTheLog, EventsKeepTheLog, RunsKeepTheLog, tails_after_run, log_after_run, placed_after_run}
 use Rattle.nv_core.specs.Crash.{HasRegion, EventsKeepRegion, OpeningHasRegion, StatesSurviveCrashes, RunsSurviveCrashes}
-use Rattle.nv_core.specs.Laws.{RunsAreSound}
-use Rattle.nv_core.proofs.KeepsStores.{stores_step, stores_work}
+use Rattle.nv_core.specs.Sound.{Sound}
+use Rattle.nv_core.specs.Laws.{OpeningIsSound, EventsKeepSound, RunsAreSound}
+use Rattle.nv_core.proofs.Choices.{not_both}
+use Rattle.nv_core.proofs.KeepsStores.{keeps_stores, stores_step, stores_work}
 use Rattle.nv_core.proofs.CrashRegions.{reads_alike}
 
 -- ---- the region
 
+-- a durable store has nothing else
+pub lies_in_none : (sizes : Sizes) (tail : ℕ) (log : Log) (core : Core) (file : ℕ) (store : Store) → IsQuiet store → LiesInPieces sizes tail log core file store
+lies_in_none sizes tail log core file store quiet = record {
+  no_longer = let l = ap length quiet.durable in omega (arith, l);
+  synced = λ i none. ap (λ bytes. slice_index bytes i) (sym quiet.durable);
+  unsynced = λ i some. absurd (not_both some (quiet.none i));
+  longer = λ more. absurd (let l = ap length quiet.durable in omega (arith, l, more));
+}
+
 pub opening_has_region : QuietHasOneImage → OpeningHasRegion
-opening_has_region one_image mount files names opens has region = record {
-  header = λ image is. reads_alike mount.sizes names mount.next image (header_image opens.header.part)
-      (λ line word. one_image opens.header.part (image 0) line word (opens.header.quiet.lines line) (is.header opens.header.part opens.header.is))
-      (region.header opens.header.part opens.header.is);
+opening_has_region one_image mount files names log opens has region = record {
+  header = λ image is.
+      let same : (line word : ℕ) → image 0 line word ≡ word_of opens.header.part line word = λ line word. one_image opens.header.part (image 0) line word (opens.header.quiet.lines line) (is.header opens.header.part opens.header.is) in
+      let reads = reads_alike mount.sizes names mount.next image (header_image opens.header.part) same (region.header opens.header.part opens.header.is) in
+      subst (λ t. ReadsAs version_1 mount.sizes.page mount.sizes.entries names t image) (sym reads.tail_is) reads;
   files = region.files;
   pages = region.pages;
   low = omega arith;
-  tell = has.tell;
-  quiet = region.quiet;
+  persistent = record { stores = λ file store less told. lies_in_none mount.sizes mount.next log (opening mount) file store (region.quiet.each file store told) };
 }
 
-region_run : EventsKeepRegion → (sizes : Sizes) (names : List (List ℕ)) (tail : ℕ) (events : List Event) (core : Core) → HasRegion sizes names tail core → IsRun sizes core events → HasRegion sizes names tail (after sizes core events)
-region_run keeps sizes names tail [] core region run = region
-region_run keeps sizes names tail (event ∷ later) core region run = region_run keeps sizes names tail later (after_event sizes event core) (keeps sizes names tail core event region run.0) run.1
+region_run : EventsKeepSound → EventsKeepTheLog → EventsKeepRegion → (sizes : Sizes) → IsPageSize sizes.page → (first : Values) (opened : Files) (names : List (List ℕ)) (tails : Tails) (events : List Event) (log : Log) (placed : ℕ → Bool) (core : Core)
+    → Sound sizes first core → LogContent sizes first opened tails log placed core → HasRegion sizes names tails log core → IsRun sizes core events
+    → HasRegion sizes names (tails_after_run sizes core events tails) (log_after_run sizes core events log) (after sizes core events)
+region_run sounds logs keeps sizes page_is first opened names tails [] log placed core sound content region run = region
+region_run sounds logs keeps sizes page_is first opened names tails (event ∷ later) log placed core sound content region run =
+    region_run sounds logs keeps sizes page_is first opened names (tails_after event core tails) later (log_after sizes event core log) (placed_after sizes event core placed) (after_event sizes event core)
+    (sounds sizes first core event sound run.0) (logs sizes first opened tails log placed core event page_is sound content run.0)
+    (keeps sizes first opened names tails log placed core event sound content region run.0) run.1
 
-pub runs_survive : RunsAreSound → RunsKeepTheLog → OpeningHasRegion → EventsKeepRegion → StatesSurviveCrashes → RunsSurviveCrashes
-runs_survive sound keeps opened region_keeps survive mount files names log placed events is opens has region run =
-    survive mount.sizes mount.values files names mount.next (log_after_run mount.sizes (opening mount) events log) (placed_after_run mount.sizes (opening mount) events placed) (after mount.sizes (opening mount) events)
+pub runs_survive : OpeningIsSound → EventsKeepSound → OpeningHasTheLog → EventsKeepTheLog → RunsAreSound → RunsKeepTheLog → OpeningHasRegion → EventsKeepRegion → StatesSurviveCrashes → RunsSurviveCrashes
+runs_survive opens_sound sounds opens_log logs sound keeps opened region_keeps survive mount files names log placed events is opens has region run =
+    survive mount.sizes mount.values files names (tails_after_run mount.sizes (opening mount) events (still mount.next)) (log_after_run mount.sizes (opening mount) events log) (placed_after_run mount.sizes (opening mount) events placed) (after mount.sizes (opening mount) events)
     (sound mount events is run) (keeps mount files mount.next log placed events is opens has run)
-    (region_run region_keeps mount.sizes names mount.next events (opening mount) (opened mount files names opens has region) run)
+    (region_run sounds logs region_keeps mount.sizes opens.page mount.values files names (still mount.next) events log placed (opening mount) (opens_sound mount is)
+    (opens_log mount files mount.next log placed opens has) (opened mount files names log opens has region) run)
 
 -- ---- the stores
 
-stores_act : (sizes : Sizes) (first : Values) (by : ℕ) (core : Core) (act : Act) → StoresKept first core.values → StoresKept first (after_act sizes by act core).values
-stores_act sizes first by core (Begins call deed found) kept = stores_step sizes first ((after_begin sizes by call core).passes by) deed core.values kept
-stores_act sizes first by core (Does deed found) kept = stores_step sizes first (core.passes by) deed core.values kept
-stores_act sizes first by core (Calls work) kept = stores_work first (core.passes by) work core.values kept
+-- whether it is left what it tells: no cleaner writes to a store or syncs it
+abbrev pub leaves_stores : Act → Bool
+leaves_stores (Calls work) = keeps_stores work.job
+leaves_stores act = true
 
-pub stores_run : (sizes : Sizes) (first : Values) (events : List Event) (core : Core) → StoresKept first core.values → StoresKept first (after sizes core events).values
-stores_run sizes first [] core kept = kept
-stores_run sizes first (event ∷ later) core kept = stores_run sizes first later (after_event sizes event core) (stores_act sizes first event.by core event.act kept)
+abbrev pub all_leave_stores : List Event → Bool
+all_leave_stores [] = true
+all_leave_stores (event ∷ later) = leaves_stores event.act && all_leave_stores later
+
+stores_act : (sizes : Sizes) (first : Values) (by : ℕ) (core : Core) (act : Act) → leaves_stores act ≡ true → StoresKept first core.values → StoresKept first (after_act sizes by act core).values
+stores_act sizes first by core (Begins call deed found) leaves kept = stores_step sizes first ((after_begin sizes by call core).passes by) deed core.values kept
+stores_act sizes first by core (Does deed found) leaves kept = stores_step sizes first (core.passes by) deed core.values kept
+stores_act sizes first by core (Calls work) leaves kept = stores_work first (core.passes by) work core.values leaves kept
+
+pub stores_run : (sizes : Sizes) (first : Values) (events : List Event) (core : Core) → all_leave_stores events ≡ true → StoresKept first core.values → StoresKept first (after sizes core events).values
+stores_run sizes first [] core leave kept = kept
+stores_run sizes first (event ∷ later) core leave kept =
+    let both = and_parts (leaves_stores event.act) (all_leave_stores later) leave in stores_run sizes first later (after_event sizes event core) both.1 (stores_act sizes first event.by core event.act both.0 kept)

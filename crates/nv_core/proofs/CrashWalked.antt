@@ -1,5 +1,5 @@
 -- Crashes of the walks: what the crash law says of them, by computing the writes in flight.
-use Rattle.std.proofs.Common.{◌≡◌, ℕ, zero, suc, ◌<◌, Bool, false, List, [], ◌∷◌, ◌++◌, take, drop, replicate, Some, refl, sym, subst, ◌∙◌, arith, take-append-drop}
+use Rattle.std.proofs.Common.{◌≡◌, ℕ, zero, suc, ◌<◌, Bool, true, false, List, [], ◌∷◌, ◌++◌, take, drop, replicate, Some, refl, sym, subst, ◌∙◌, arith, take-append-drop}
 use Rattle.nv_plain.specs.Files.{contents_of}
 use Rattle.nv_plain.specs.Images.{Image, PartImage}
 use Rattle.nv_plain.specs.declared.call.FileCall.TheVariants.{Read, Sync}
@@ -28,11 +28,11 @@ use Rattle.nv_core.specs.CrashWalks.{written_files, walk_placed, walk_open, walk
 use Rattle.nv_core.proofs.Walked.{walk_begins, read_is_walked, write_is_walked}
 use Rattle.nv_core.proofs.WalkOpened.{walk_opens_files, walk_opens_region}
 use Rattle.nv_core.proofs.CrashRegions.{region_of, region_is}
-use Rattle.nv_core.proofs.CrashRuns.{stores_run}
+use Rattle.nv_core.proofs.CrashRuns.{all_leave_stores, stores_run}
 
 -- ---- runs, one behind another
 
-run_both : (sizes : Sizes) (core : Core) (one other : List Event) → IsRun sizes core one → IsRun sizes (after sizes core one) other → IsRun sizes core (one ++ other)
+pub run_both : (sizes : Sizes) (core : Core) (one other : List Event) → IsRun sizes core one → IsRun sizes (after sizes core one) other → IsRun sizes core (one ++ other)
 run_both sizes core [] other a b = b
 run_both sizes core (event ∷ one) other a b = (a.0, run_both sizes (after_event sizes event core) one other a.1 b)
 
@@ -40,7 +40,7 @@ run_first : (sizes : Sizes) (core : Core) (one other : List Event) → IsRun siz
 run_first sizes core [] other run = tt
 run_first sizes core (event ∷ one) other run = (run.0, run_first sizes (after_event sizes event core) one other run.1)
 
-placed_run : IsRun walk_sizes (opening walk_mount) walk_placed
+pub placed_run : IsRun walk_sizes (opening walk_mount) walk_placed
 placed_run = run_both walk_sizes (opening walk_mount) walk_read walk_write read_is_walked.is_run write_is_walked.is_run
 
 -- the read, and so many events of the write
@@ -56,36 +56,36 @@ ready_run : IsRun walk_sizes (opening walk_mount) walk_ready
 ready_run = part_run 30
 
 -- what was last made durable
-abbrev oldest_of : Part → PartImage
+abbrev pub oldest_of : Part → PartImage
 oldest_of part line word = word_at (line_of part line).oldest word
 
-oldest_is : (part : Part) → IsImage part (oldest_of part)
+pub oldest_is : (part : Part) → IsImage part (oldest_of part)
 unfolding MayLeave word_at
 oldest_is part = record { lines = λ line. (0, omega arith, λ word. refl) }
 
 -- ---- the law at the walks
 
 -- whatever log one begins with
-abbrev any_log : Log
+abbrev pub any_log : Log
 any_log = record { group = λ number. record { call = Sync 0; first = 0; entries = 0 }; calls = λ number. 0 }
 
-abbrev none_placed : ℕ → Bool
+abbrev pub none_placed : ℕ → Bool
 none_placed number = false
 
 module _ (one_image : stores.QuietHasOneImage) (survive : RunsSurviveCrashes) (opens : WalkOpensLog) where
-  stores_left : (events : List Event) → IsRun walk_sizes (opening walk_mount) events → AreStoreImages walk_sizes (after walk_sizes (opening walk_mount) events).values walk_files
-  stores_left events run = record { count = refl; each = each }
+  stores_left : (events : List Event) → all_leave_stores events ≡ true → IsRun walk_sizes (opening walk_mount) events → AreStoreImages walk_sizes (after walk_sizes (opening walk_mount) events).values walk_files
+  stores_left events leave run = record { count = refl; each = each }
     where
       kept : StoresKept walk_mount.values (after walk_sizes (opening walk_mount) events).values
-      kept = stores_run walk_sizes walk_mount.values events (opening walk_mount) record { each = λ file. refl }
+      kept = stores_run walk_sizes walk_mount.values events (opening walk_mount) leave record { each = λ file. refl }
 
       each : (file : ℕ) (store : Store) → file < 1 → store_of ((after walk_sizes (opening walk_mount) events).values (STORE file)) ≡ Some store → IsStoreImage store (contents_of walk_files file)
       each zero store low told = (one_image store (replicate 128 97) (walk_opens_region.quiet.each 0 store (sym (kept.each 0) ∙ told))).1 (sym (walk_opens_files.stores.seen.seen 0 store (sym (kept.each 0) ∙ told)))
       each (suc file) store low told = absurd (omega (arith, low))
 
-  survives : (events : List Event) → IsRun walk_sizes (opening walk_mount) events → (image : Image) → IsRegionImage walk_sizes (after walk_sizes (opening walk_mount) events).values image
+  survives : (events : List Event) → all_leave_stores events ≡ true → IsRun walk_sizes (opening walk_mount) events → (image : Image) → IsRegionImage walk_sizes (after walk_sizes (opening walk_mount) events).values image
       → Survives walk_sizes walk_files (log_after_run walk_sizes (opening walk_mount) events any_log) (placed_after_run walk_sizes (opening walk_mount) events none_placed) (after walk_sizes (opening walk_mount) events) image walk_files
-  survives events run image is = survive walk_mount walk_files ((97 ∷ []) ∷ []) any_log none_placed events walk_begins opens walk_opens_files.stores walk_opens_region run image walk_files is (stores_left events run)
+  survives events leave run image is = survive walk_mount walk_files ((97 ∷ []) ∷ []) any_log none_placed events walk_begins opens walk_opens_files.stores walk_opens_region run image walk_files is (stores_left events leave run)
 
   -- no write is in flight
   placed_after_it : (image : Image) → after_calls (calls_of placed_core.history ++ added walk_sizes (log_after_run walk_sizes (opening walk_mount) walk_placed any_log) (placed_after_run walk_sizes (opening walk_mount) walk_placed none_placed) placed_core image) walk_files ≡ written_files
@@ -95,7 +95,7 @@ module _ (one_image : stores.QuietHasOneImage) (survive : RunsSurviveCrashes) (o
   pub placed_write_stays : PlacedWriteStays
   placed_write_stays = record {
     is_run = placed_run;
-    whole = λ image is. (survives walk_placed placed_run image is).files ∙ placed_after_it image;
+    whole = λ image is. (survives walk_placed refl placed_run image is).files ∙ placed_after_it image;
   }
 
   -- the write is in flight, and its leader is ready
@@ -111,7 +111,7 @@ module _ (one_image : stores.QuietHasOneImage) (survive : RunsSurviveCrashes) (o
   ready_write_stays = record {
     is_run = ready_run;
     unplaced = no_write_yet;
-    whole = λ image is. (survives walk_ready ready_run image is).files ∙ ready_after_it image;
+    whole = λ image is. (survives walk_ready refl ready_run image is).files ∙ ready_after_it image;
   }
 
   -- the write's commit word is the newest content of its line, and not the oldest
@@ -129,6 +129,6 @@ module _ (one_image : stores.QuietHasOneImage) (survive : RunsSurviveCrashes) (o
       let oldest = region_is walk_sizes oldest_of oldest_is open_core.values in
       record {
         is_run = open_run;
-        kept = (region_of word_of open_core.values, newest_, (survives walk_open open_run (region_of word_of open_core.values) newest_).files ∙ kept_after_it);
-        lost = (region_of oldest_of open_core.values, oldest, (survives walk_open open_run (region_of oldest_of open_core.values) oldest).files ∙ lost_after_it);
+        kept = (region_of word_of open_core.values, newest_, (survives walk_open refl open_run (region_of word_of open_core.values) newest_).files ∙ kept_after_it);
+        lost = (region_of oldest_of open_core.values, oldest, (survives walk_open refl open_run (region_of oldest_of open_core.values) oldest).files ∙ lost_after_it);
       }

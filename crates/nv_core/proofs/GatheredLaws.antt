@@ -6,12 +6,13 @@ use Rattle.nv_plain.specs.declared.call.FileCall.TheVariants.{Read, Write, Sync}
 use Rattle.nv_core.specs.Words.{Sizes, Word, STOP, ORDER, HEAD, TAIL, SIZE, LENGTH, STORE, ENTRY, PAGE, CLEANUP, DIRTY, ready, is_entry_of, HINT}
 use Rattle.nv_core.specs.Values.{is_valid, bytes_in}
 use Rattle.nv_core.specs.Passes.{Stage, Idle, Locking, Measuring, Sizing, Checking, Ordering, Reading, Fetching, Copying, Returning, Bounding, Starting, Scanning, Grasping, Patching, Restoring, Unlocking, Waiting, Heading, Tailing, Drawing, Seizing, Committing, Pledging, Readying, Placing, Growing, Releasing, Giving, Leaving, ReadFailing, PieceFailing, WriteFailing, Breaking, Pass, is_write, is_read, page_count, first_page, end_page, without, times, Searching, Hinting, Seeking, Robbing, Robbed, Nothing}
-use Rattle.nv_core.specs.Deeds.{Deed, Loads, Takes, Gives, Places, Stops, Draws, Seizes, Pledges, Readies, Grows, Breaks, Holds, Returns, slot_of, Turns, Hints}
+use Rattle.nv_core.specs.Deeds.{Deed, Loads, Takes, Gives, Places, Stops, Draws, Seizes, Pledges, Readies, Grows, Breaks, Holds, Returns, slot_of, Turns, Hints, Tends, chore_move, moved}
 use Rattle.nv_core.specs.Stages.{stage_after, after_load, after_give, after_stop, after_head, after_tail, after_look, after_hold, after_return, scanning, leaving, giving, ending, ordered, copying, exceeds}
 use Rattle.nv_core.specs.Order.{Values, MayStep, MayLoad, MayTake, IsFailing, page_bytes, IsMiss, JustNow, AfterTries}
 use Rattle.nv_core.specs.Standing.{StandsAt, IsPage}
 use Rattle.nv_core.specs.Holding.{HoldsLocks}
 use Rattle.nv_core.specs.ValidBuffers.{Gathered, Halfway, GatheredAt}
+use Rattle.nv_core.proofs.SweepStages.{tended_to}
 use Rattle.nv_core.proofs.Choices.{if_both, leaving_both, IsGivingBack, gives_back}
 use Rattle.nv_core.proofs.BufferLaws.{whole_holds, IsUnfilling, searching_holds}
 use Rattle.nv_core.proofs.SearchLaws.{hinting_next, tried_next}
@@ -185,4 +186,5 @@ module _ (sizes : Sizes) (now : ℕ → List ℕ) (values : Values) (pass : Pass
   gathered_on (Hints buffer page) found other may stands right was = old (Searching page may.tries (Robbed buffer)) may.is was
   gathered_on (Holds number) found other may stands right was = subst (λ s. GatheredAt sizes now values pass.call pass.fetched (after_hold s)) (sym may.1) (old (Grasping may.0 number) may.1 was)
   gathered_on (Returns number) found other may stands right was = subst (λ s. GatheredAt sizes now values pass.call pass.fetched (after_return sizes pass s)) (sym may.2) (at_return may.0 number may.1 (old (Restoring may.0 number may.1) may.2 was))
+  gathered_on (Tends chore) found other may stands right was = tended_to (GatheredAt sizes now values pass.call pass.fetched) tt (λ batch sweep. tt) sizes pass (moved (chore_move sizes chore found) pass.hands) chore found pass.stage may
   gathered_on deed found other may stands right was = absurd may

@@ -2,14 +2,14 @@
 use Rattle.std.proofs.Common.{◌≡◌, ◌≢◌, ℕ, ◌+◌, ◌<◌, ◌≤◌, ◌==◌, nat_lt, nat_le, ◌^◌, Bool, true, false, not, ◌&&◌, if◌then◌else◌, List, ◌∷◌, inl, inr, refl, sym, ap, subst, ◌∙◌, arith}
 use Rattle.std.proofs.lemmas.Bool.{and_from, and_left, and_right, eqb-true, le-leb, lt-leb, lt-ltb, le-ltb, eq-eqb, ne_eqb, cases_eq, cases_lt}
 use Rattle.nv_plain.specs.Histories.{Answered}
-use Rattle.nv_core.specs.Words.{Sizes, Word, STOP, ORDER, HEAD, TAIL, SIZE, LENGTH, STORE, ENTRY, HINT, PAGE, DIRTY, same, CLEANUP, ready, is_entry_of}
+use Rattle.nv_core.specs.Words.{Sizes, Word, STOP, ORDER, HEAD, TAIL, SIZE, LENGTH, STORE, ENTRY, HINT, PAGE, DIRTY, same, CLEANUP, CLEANER, HEADER, ready, is_entry_of}
 use Rattle.nv_core.specs.Passes.{Stage, Idle, Locking, Measuring, Sizing, Checking, Ordering, Reading, Fetching, Copying, Returning, Waiting, Search, Hinting, Seeking, Robbing, Robbed, Nothing, Found, Searching, Heading, Tailing, Drawing, Seizing, Committing, Pledging, Readying, Placing, Growing, Releasing, Giving, Leaving, ReadFailing, WriteFailing, Breaking, Pass, file_of, is_read, is_write, page_count, first_page, end_page, without, times, Bounding, Starting, Scanning, Grasping, Restoring, Unlocking, PieceFailing}
-use Rattle.nv_core.specs.Deeds.{Deed, Stays, Comes, moved, slot_of, Loads, Takes, Gives, Places, Stops, Draws, Seizes, Pledges, Readies, Grows, Breaks, Turns, Hints, Holds, Returns}
+use Rattle.nv_core.specs.Deeds.{Deed, Stays, Comes, moved, slot_of, Loads, Takes, Gives, Places, Stops, Draws, Seizes, Pledges, Readies, Grows, Breaks, Turns, Hints, Holds, Returns, Tends}
 use Rattle.nv_core.specs.Stages.{copying, stage_after, after_load, after_give, after_stop, leaving, giving, ending, ordered, exceeds, scanning, after_head, after_tail, after_look, after_hold, after_return}
 use Rattle.nv_core.specs.Stepped.{stepped}
 use Rattle.nv_core.specs.Order.{Values, MayStep, MayLoad, MayTake, MayGive, MayPlace, IsFailing, IsOver, IsMiss, JustNow, AfterTries, IsSeeking}
 use Rattle.nv_core.specs.Standing.{IsPage, StandsAt, Standing}
-use Rattle.nv_core.specs.Holding.{one_if, is_among, page_held, size_held, store_held, lock_held, HoldsLocks, cleanup_held}
+use Rattle.nv_core.specs.Holding.{one_if, is_among, page_held, size_held, lock_held, HoldsLocks, cleanup_held, store_times, cleaner_held, header_held}
 use Rattle.nv_core.proofs.Changes.{differ, same_true}
 use Rattle.nv_core.proofs.Choices.{if_both, when_true, when_false, leaving_both, gives_one}
 use Rattle.nv_core.proofs.SearchLaws.{hinting_next, tried_next}
@@ -17,7 +17,7 @@ use Rattle.nv_core.proofs.LockLaws.{times_else, times_without, times_without_els
 
 -- ---- numbers
 
-both_same : {T : Type 0} (b : Bool) (x : T) → (if b then x else x) ≡ x
+pub both_same : {T : Type 0} (b : Bool) (x : T) → (if b then x else x) ≡ x
 both_same true x = refl
 both_same false x = refl
 
@@ -62,7 +62,7 @@ among_less from end page low = elim (cases_eq page from) [
 -- ---- locks in hands
 
 -- the locks of some hands, at a stage
-abbrev HoldsAt : Sizes → Pass → Stage → List Word → Type 0
+abbrev pub HoldsAt : Sizes → Pass → Stage → List Word → Type 0
 HoldsAt sizes pass stage hands = (cell : Word) → ((slot : ℕ) → cell ≢ ENTRY slot) → times cell hands ≡ lock_held sizes pass stage cell
 
 -- nothing is held, and nothing is owed
@@ -75,7 +75,7 @@ out : (sizes : Sizes) (now : Pass) (hands : List Word) → now.hands ≡ hands �
 out sizes now hands is = leaving_both (HoldsLocks sizes now) hands (λ e cell _. ap (times cell) (is ∙ e) ∙ sym (nothing sizes now cell)) (λ ne. tt)
 
 -- one lock more, and one less
-taken : (sizes : Sizes) (pass now : Pass) (old new : Stage) (cell : Word) → now.hands ≡ cell ∷ pass.hands
+pub taken : (sizes : Sizes) (pass now : Pass) (old new : Stage) (cell : Word) → now.hands ≡ cell ∷ pass.hands
     → ((other : Word) → lock_held sizes now new other ≡ one_if (same other cell) + lock_held sizes pass old other)
     → HoldsAt sizes pass old pass.hands → HoldsAt sizes now new now.hands
 taken sizes pass now old new cell hands owed held other lock =
@@ -88,7 +88,7 @@ times_less other cell hands some = go (same other cell) refl
     go true e = subst (λ w. times w hands ≡ 1 + times w (without cell hands)) (sym (same_true other cell e)) (let l = times_without cell hands some in omega (arith, l))
     go false e = let l = times_without_else other cell hands (differ other cell e) in omega (arith, l)
 
-given : (sizes : Sizes) (pass now : Pass) (old new : Stage) (cell : Word) → now.hands ≡ without cell pass.hands → 1 ≤ times cell pass.hands
+pub given : (sizes : Sizes) (pass now : Pass) (old new : Stage) (cell : Word) → now.hands ≡ without cell pass.hands → 1 ≤ times cell pass.hands
     → ((other : Word) → lock_held sizes pass old other ≡ one_if (same other cell) + lock_held sizes now new other)
     → HoldsAt sizes pass old pass.hands → HoldsAt sizes now new now.hands
 given sizes pass now old new cell hands some owed held other lock =
@@ -96,10 +96,10 @@ given sizes pass now old new cell hands some owed held other lock =
     omega (arith, a, b, c, d)
 
 -- what moves of entries leaves the locks
-entry_taken : (sizes : Sizes) (pass now : Pass) (stage : Stage) (slot : ℕ) → now.hands ≡ ENTRY slot ∷ pass.hands → HoldsAt sizes pass stage pass.hands → (cell : Word) → ((slot : ℕ) → cell ≢ ENTRY slot) → times cell now.hands ≡ lock_held sizes pass stage cell
+pub entry_taken : (sizes : Sizes) (pass now : Pass) (stage : Stage) (slot : ℕ) → now.hands ≡ ENTRY slot ∷ pass.hands → HoldsAt sizes pass stage pass.hands → (cell : Word) → ((slot : ℕ) → cell ≢ ENTRY slot) → times cell now.hands ≡ lock_held sizes pass stage cell
 entry_taken sizes pass now stage slot hands held cell lock = ap (times cell) hands ∙ times_else cell (ENTRY slot) pass.hands (lock slot) ∙ held cell lock
 
-entry_given : (sizes : Sizes) (pass now : Pass) (stage : Stage) (slot : ℕ) → now.hands ≡ without (ENTRY slot) pass.hands → HoldsAt sizes pass stage pass.hands → (cell : Word) → ((slot : ℕ) → cell ≢ ENTRY slot) → times cell now.hands ≡ lock_held sizes pass stage cell
+pub entry_given : (sizes : Sizes) (pass now : Pass) (stage : Stage) (slot : ℕ) → now.hands ≡ without (ENTRY slot) pass.hands → HoldsAt sizes pass stage pass.hands → (cell : Word) → ((slot : ℕ) → cell ≢ ENTRY slot) → times cell now.hands ≡ lock_held sizes pass stage cell
 entry_given sizes pass now stage slot hands held cell lock = ap (times cell) hands ∙ times_without_else cell (ENTRY slot) pass.hands (lock slot) ∙ held cell lock
 
 -- ---- the ends of a call
@@ -215,8 +215,8 @@ lock_page : (sizes : Sizes) (pass : Pass) (page found number : ℕ) (history : L
 lock_page sizes pass page found number history stands held may =
     if_both (HoldsLocks sizes now) (found == 0) (if page + 1 == end_page sizes pass.call then Measuring else Locking (page + 1)) (leaving pass.hands)
     (λ e. if_both (HoldsLocks sizes now) (page + 1 == end_page sizes pass.call) Measuring (Locking (page + 1))
-    (λ last. taken sizes pass now (Locking page) Measuring (PAGE page) (took sizes pass (PAGE page) found number history e) (owed Measuring (λ p. ap (λ end. one_if (is_among (first_page sizes pass.call) end p)) (sym (eqb-true (page + 1) (end_page sizes pass.call) last)) ∙ more p) refl refl (λ p. refl)) before)
-    (λ _. taken sizes pass now (Locking page) (Locking (page + 1)) (PAGE page) (took sizes pass (PAGE page) found number history e) (owed (Locking (page + 1)) more refl refl (λ p. refl)) before))
+    (λ last. taken sizes pass now (Locking page) Measuring (PAGE page) (took sizes pass (PAGE page) found number history e) (owed Measuring (λ p. ap (λ end. one_if (is_among (first_page sizes pass.call) end p)) (sym (eqb-true (page + 1) (end_page sizes pass.call) last)) ∙ more p) refl (λ f. refl) (λ p. refl) refl refl) before)
+    (λ _. taken sizes pass now (Locking page) (Locking (page + 1)) (PAGE page) (took sizes pass (PAGE page) found number history e) (owed (Locking (page + 1)) more refl (λ f. refl) (λ p. refl) refl refl) before))
     (missed sizes pass (PAGE page) found number history)
   where
     now : Pass
@@ -232,13 +232,15 @@ lock_page sizes pass page found number history stands held may =
     more p = among_more (first_page sizes pass.call) page p low
 
     owed : (stage : Stage) → ((p : ℕ) → page_held sizes (stepped sizes number history (Takes (PAGE page)) found pass) stage p ≡ one_if (p == page) + one_if (is_among (first_page sizes pass.call) page p))
-        → size_held (stepped sizes number history (Takes (PAGE page)) found pass) stage ≡ one_if pass.sized → store_held stage ≡ 0 → ((p : ℕ) → cleanup_held stage p ≡ 0)
+        → size_held (stepped sizes number history (Takes (PAGE page)) found pass) stage ≡ one_if pass.sized → ((f : ℕ) → store_times (stepped sizes number history (Takes (PAGE page)) found pass) stage f ≡ (if f == file_of pass.call then 0 else 0)) → ((p : ℕ) → cleanup_held stage p ≡ 0) → cleaner_held stage ≡ 0 → header_held stage ≡ 0
         → (other : Word) → lock_held sizes (stepped sizes number history (Takes (PAGE page)) found pass) stage other ≡ one_if (same other (PAGE page)) + lock_held sizes pass (Locking page) other
-    owed stage pages size store none (PAGE p) = pages p
-    owed stage pages size store none (SIZE file) = ap (λ n. if file == file_of pass.call then n else 0) size ∙ no_more _
-    owed stage pages size store none (STORE file) = ap (λ n. if file == file_of pass.call then n else 0) store ∙ no_more _
-    owed stage pages size store none (CLEANUP p) = none p
-    owed stage pages size store none other = refl
+    owed stage pages size store none cleaner header (PAGE p) = pages p
+    owed stage pages size store none cleaner header (SIZE file) = ap (λ n. if file == file_of pass.call then n else 0) size ∙ no_more _
+    owed stage pages size store none cleaner header (STORE file) = store file ∙ no_more _
+    owed stage pages size store none cleaner header (CLEANUP p) = none p
+    owed stage pages size store none cleaner header CLEANER = cleaner
+    owed stage pages size store none cleaner header HEADER = header
+    owed stage pages size store none cleaner header other = refl
 
 -- a victim
 lock_victim : (sizes : Sizes) (pass : Pass) (victim found number : ℕ) (history : List Answered) → HoldsLocks sizes pass pass.stage → (may : IsSeeking pass.stage victim)
@@ -350,8 +352,8 @@ lock_gives sizes pass (SIZE file) found number history Releasing at held may =
     owed other = refl
 lock_gives sizes pass (PAGE page) found number history (Giving next) at held may =
     if_both (HoldsLocks sizes now) (next + 1 == end_page sizes pass.call) Idle (Giving (next + 1))
-    (λ last. given sizes pass now (Giving next) Idle (PAGE page) refl some (owed Idle (λ p. less p ∙ ap (λ n. one_if (p == next) + n) (none p last)) refl refl (λ p. refl)) held)
-    (λ _. given sizes pass now (Giving next) (Giving (next + 1)) (PAGE page) refl some (owed (Giving (next + 1)) less refl refl (λ p. refl)) held)
+    (λ last. given sizes pass now (Giving next) Idle (PAGE page) refl some (owed Idle (λ p. less p ∙ ap (λ n. one_if (p == next) + n) (none p last)) refl (λ f. refl) (λ p. refl) refl refl) held)
+    (λ _. given sizes pass now (Giving next) (Giving (next + 1)) (PAGE page) refl some (owed (Giving (next + 1)) less refl (λ f. refl) (λ p. refl) refl refl) held)
   where
     now : Pass
     now = stepped sizes number history (Gives (PAGE page)) found pass
@@ -369,17 +371,19 @@ lock_gives sizes pass (PAGE page) found number history (Giving next) at held may
     some = (let a = held (PAGE page) (λ slot. differ (PAGE page) (ENTRY slot) refl) in let b = subst (λ p. one_if (is_among next (end_page sizes pass.call) p) ≡ 1) (sym may) (among_in next (end_page sizes pass.call) next (omega arith) at.1) in omega (arith, a, b))
 
     owed : (stage : Stage) → ((p : ℕ) → one_if (is_among next (end_page sizes pass.call) p) ≡ one_if (p == next) + page_held sizes (stepped sizes number history (Gives (PAGE page)) found pass) stage p)
-        → size_held (stepped sizes number history (Gives (PAGE page)) found pass) stage ≡ 0 → store_held stage ≡ 0 → ((p : ℕ) → cleanup_held stage p ≡ 0)
+        → size_held (stepped sizes number history (Gives (PAGE page)) found pass) stage ≡ 0 → ((f : ℕ) → (if f == file_of pass.call then 0 else 0) ≡ store_times (stepped sizes number history (Gives (PAGE page)) found pass) stage f) → ((p : ℕ) → cleanup_held stage p ≡ 0) → 0 ≡ cleaner_held stage → 0 ≡ header_held stage
         → (other : Word) → lock_held sizes pass (Giving next) other ≡ one_if (same other (PAGE page)) + lock_held sizes (stepped sizes number history (Gives (PAGE page)) found pass) stage other
-    owed stage pages size store clean (PAGE p) = subst (λ q. one_if (is_among next (end_page sizes pass.call) p) ≡ one_if (p == q) + page_held sizes (stepped sizes number history (Gives (PAGE page)) found pass) stage p) (sym may) (pages p)
-    owed stage pages size store clean (SIZE file) = ap (λ n. if file == file_of pass.call then n else 0) (sym size) ∙ no_more _
-    owed stage pages size store clean (STORE file) = ap (λ n. if file == file_of pass.call then n else 0) (sym store) ∙ no_more _
-    owed stage pages size store clean (CLEANUP p) = sym (clean p) ∙ no_more _
-    owed stage pages size store clean other = refl
+    owed stage pages size store clean cleaner header (PAGE p) = subst (λ q. one_if (is_among next (end_page sizes pass.call) p) ≡ one_if (p == q) + page_held sizes (stepped sizes number history (Gives (PAGE page)) found pass) stage p) (sym may) (pages p)
+    owed stage pages size store clean cleaner header (SIZE file) = ap (λ n. if file == file_of pass.call then n else 0) (sym size) ∙ no_more _
+    owed stage pages size store clean cleaner header (STORE file) = store file ∙ no_more _
+    owed stage pages size store clean cleaner header (CLEANUP p) = sym (clean p) ∙ no_more _
+    owed stage pages size store clean cleaner header CLEANER = cleaner ∙ no_more _
+    owed stage pages size store clean cleaner header HEADER = header ∙ no_more _
+    owed stage pages size store clean cleaner header other = refl
 lock_gives sizes pass (STORE file) found number history (Returning page dirty) at held may =
     if_both (HoldsLocks sizes now) dirty (Bounding page) (Reading (page + 1))
-    (λ e. given sizes pass now (Returning page dirty) (Bounding page) (STORE file) refl some (owed (Bounding page) (λ p. refl) refl refl (λ p. ap (λ b. one_if (b && p == page)) e)) held)
-    (λ e. given sizes pass now (Returning page dirty) (Reading (page + 1)) (STORE file) refl some (owed (Reading (page + 1)) (λ p. refl) refl refl (λ p. ap (λ b. one_if (b && p == page)) e)) held)
+    (λ e. given sizes pass now (Returning page dirty) (Bounding page) (STORE file) refl some (owed (Bounding page) (λ p. refl) refl (λ f. refl) (λ p. ap (λ b. one_if (b && p == page)) e) refl refl) held)
+    (λ e. given sizes pass now (Returning page dirty) (Reading (page + 1)) (STORE file) refl some (owed (Reading (page + 1)) (λ p. refl) refl (λ f. refl) (λ p. ap (λ b. one_if (b && p == page)) e) refl refl) held)
   where
     now : Pass
     now = stepped sizes number history (Gives (STORE file)) found pass
@@ -388,18 +392,20 @@ lock_gives sizes pass (STORE file) found number history (Returning page dirty) a
     some = (let a = held (STORE file) (λ slot. differ (STORE file) (ENTRY slot) refl) in let b : one_if (file == file_of pass.call) ≡ 1 = when_true (file == file_of pass.call) 1 0 (eq-eqb file (file_of pass.call) may) in omega (arith, a, b))
 
     owed : (next : Stage) → ((p : ℕ) → one_if (is_among (first_page sizes pass.call) (end_page sizes pass.call) p) ≡ page_held sizes (stepped sizes number history (Gives (STORE file)) found pass) next p)
-        → one_if pass.sized ≡ size_held (stepped sizes number history (Gives (STORE file)) found pass) next → 0 ≡ store_held next → ((p : ℕ) → one_if (dirty && p == page) ≡ cleanup_held next p)
+        → one_if pass.sized ≡ size_held (stepped sizes number history (Gives (STORE file)) found pass) next → ((f : ℕ) → (if f == file_of pass.call then 0 else 0) ≡ store_times (stepped sizes number history (Gives (STORE file)) found pass) next f) → ((p : ℕ) → one_if (dirty && p == page) ≡ cleanup_held next p) → 0 ≡ cleaner_held next → 0 ≡ header_held next
         → (other : Word) → lock_held sizes pass (Returning page dirty) other ≡ one_if (same other (STORE file)) + lock_held sizes (stepped sizes number history (Gives (STORE file)) found pass) next other
-    owed next pages size store clean (STORE other) = subst (λ n. (if other == file_of pass.call then 1 else 0) ≡ one_if (other == file) + (if other == file_of pass.call then n else 0)) store
+    owed next pages size store clean cleaner header (STORE other) = subst (λ n. (if other == file_of pass.call then 1 else 0) ≡ one_if (other == file) + n) (store other)
         (subst (λ f. (if other == file_of pass.call then 1 else 0) ≡ one_if (other == f) + (if other == file_of pass.call then 0 else 0)) (sym may) (choice (other == file_of pass.call)))
       where
         choice : (b : Bool) → one_if b ≡ one_if b + (if b then 0 else 0)
         choice true = refl
         choice false = refl
-    owed next pages size store clean (PAGE p) = pages p ∙ no_more _
-    owed next pages size store clean (SIZE other) = ap (λ n. if other == file_of pass.call then n else 0) size ∙ no_more _
-    owed next pages size store clean (CLEANUP p) = clean p ∙ no_more _
-    owed next pages size store clean other = refl
+    owed next pages size store clean cleaner header (PAGE p) = pages p ∙ no_more _
+    owed next pages size store clean cleaner header (SIZE other) = ap (λ n. if other == file_of pass.call then n else 0) size ∙ no_more _
+    owed next pages size store clean cleaner header (CLEANUP p) = clean p ∙ no_more _
+    owed next pages size store clean cleaner header CLEANER = cleaner ∙ no_more _
+    owed next pages size store clean cleaner header HEADER = header ∙ no_more _
+    owed next pages size store clean cleaner header other = refl
 lock_gives sizes pass (CLEANUP page) found number history (Unlocking next) at held may =
     given sizes pass now (Unlocking next) (Reading (next + 1)) (CLEANUP page) refl some owed held
   where
@@ -434,12 +440,17 @@ lock_gives sizes pass cell found number history stage at held may = absurd (give
 
 -- ---- all steps
 
-pub lock_steps : (sizes : Sizes) (values : Values) (pass : Pass) (deed : Deed) (found number : ℕ) (history : List Answered) → Standing sizes pass → HoldsLocks sizes pass pass.stage → MayStep sizes values pass deed
+-- the steps of calls: all but a cleaner's
+abbrev pub IsOfCall : Deed → Type 0
+IsOfCall (Tends chore) = ⊥
+IsOfCall deed = Unit {0}
+
+pub lock_steps : (sizes : Sizes) (values : Values) (pass : Pass) (deed : Deed) (found number : ℕ) (history : List Answered) → IsOfCall deed → Standing sizes pass → HoldsLocks sizes pass pass.stage → MayStep sizes values pass deed
     → HoldsLocks sizes (stepped sizes number history deed found pass) (stage_after sizes pass deed found)
-lock_steps sizes values pass (Loads word) found number history stands held may = lock_loads sizes values pass word found number history held may
-lock_steps sizes values pass (Takes cell) found number history stands held may = lock_takes sizes pass cell found number history stands held may
-lock_steps sizes values pass (Gives cell) found number history stands held may = lock_gives sizes pass cell found number history pass.stage stands.at held may
-lock_steps sizes values pass (Places reply) found number history stands held may =
+lock_steps sizes values pass (Loads word) found number history of_call stands held may = lock_loads sizes values pass word found number history held may
+lock_steps sizes values pass (Takes cell) found number history of_call stands held may = lock_takes sizes pass cell found number history stands held may
+lock_steps sizes values pass (Gives cell) found number history of_call stands held may = lock_gives sizes pass cell found number history pass.stage stands.at held may
+lock_steps sizes values pass (Places reply) found number history of_call stands held may =
     if_both (HoldsLocks sizes now) (is_write pass.call && exceeds pass pass.length) Growing (ending sizes pass) (λ _. full) (λ _. ending_locks sizes pass now refl refl refl full)
   where
     now : Pass
@@ -452,44 +463,45 @@ lock_steps sizes values pass (Places reply) found number history stands held may
 
     full : HoldsAt sizes pass Checking pass.hands
     full = from pass.stage may held
-lock_steps sizes values pass Stops found number history stands held may = stops pass.stage may held
+lock_steps sizes values pass Stops found number history of_call stands held may = stops pass.stage may held
   where
     stops : (stage : Stage) → IsFailing stage → HoldsLocks sizes pass stage → HoldsLocks sizes (stepped sizes number history Stops found pass) (after_stop pass stage)
     stops (ReadFailing page dirty) is held = out sizes (stepped sizes number history Stops found pass) pass.hands refl
     stops (PieceFailing page next) is held = held
     stops WriteFailing is held = held
     stops stage is held = absurd is
-lock_steps sizes values pass Draws found number history stands held may =
+lock_steps sizes values pass Draws found number history of_call stands held may =
     let now = stepped sizes number history Draws found pass in
     if_both (HoldsLocks sizes now) (found == pass.head) (Seizing found) (leaving pass.hands) (λ _. at_stage sizes pass Drawing may held) (λ _. out sizes now pass.hands refl)
-lock_steps sizes values pass (Seizes next) found number history stands held may =
+lock_steps sizes values pass (Seizes next) found number history of_call stands held may =
     let now = stepped sizes number history (Seizes next) found pass in
     let full = entry_taken sizes pass now Checking (slot_of sizes next) refl (at_stage sizes pass (Seizing next) may held) in
     if_both (HoldsLocks sizes now) (next + 1 == pass.first + pass.entries) (Committing 0) (Seizing (next + 1)) (λ _. full) (λ _. full)
-lock_steps sizes values pass (Pledges page) found number history stands held may =
+lock_steps sizes values pass (Pledges page) found number history of_call stands held may =
     let full = at_stage sizes pass (Pledging page) may held in
     if_both (HoldsLocks sizes (stepped sizes number history (Pledges page) found pass)) (page + 1 == end_page sizes pass.call)
     (Readying (if pass.entries == 1 then pass.first else pass.first + 1)) (Pledging (page + 1)) (λ _. full) (λ _. full)
-lock_steps sizes values pass (Readies next) found number history stands held may =
+lock_steps sizes values pass (Readies next) found number history of_call stands held may =
     let now = stepped sizes number history (Readies next) found pass in
     let full = entry_given sizes pass now Checking (slot_of sizes next) refl (at_stage sizes pass (Readying next) may held) in
     if_both (HoldsLocks sizes now) (next == pass.first) Placing (Readying (if next + 1 == pass.first + pass.entries then pass.first else next + 1)) (λ _. full) (λ _. full)
-lock_steps sizes values pass Grows found number history stands held may =
+lock_steps sizes values pass Grows found number history of_call stands held may =
     ending_locks sizes pass (stepped sizes number history Grows found pass) refl refl refl (at_stage sizes pass Growing may held)
-lock_steps sizes values pass (Breaks next) found number history stands held may =
+lock_steps sizes values pass (Breaks next) found number history of_call stands held may =
     let now = stepped sizes number history (Breaks next) found pass in
     let full = entry_given sizes pass now Checking (slot_of sizes next) refl (at_stage sizes pass (Breaking next) may held) in
     if_both (HoldsLocks sizes now) (next + 1 == pass.first + pass.entries) (leaving (without (ENTRY (slot_of sizes next)) pass.hands)) (Breaking (next + 1))
     (λ _. out sizes now (without (ENTRY (slot_of sizes next)) pass.hands) refl) (λ _. full)
-lock_steps sizes values pass (Holds next) found number history stands held may =
+lock_steps sizes values pass (Holds next) found number history of_call stands held may =
     let now = stepped sizes number history (Holds next) found pass in
     subst (λ s. HoldsLocks sizes now (after_hold s)) (sym may.1) (entry_taken sizes pass now (Grasping may.0 next) (slot_of sizes next) refl (at_stage sizes pass (Grasping may.0 next) may.1 held))
-lock_steps sizes values pass (Returns next) found number history stands held may =
+lock_steps sizes values pass (Returns next) found number history of_call stands held may =
     let now = stepped sizes number history (Returns next) found pass in
     subst (λ s. HoldsLocks sizes now (after_return sizes pass s)) (sym may.2)
     (if_both (HoldsLocks sizes now) may.1 (leaving (without (ENTRY (slot_of sizes next)) pass.hands)) (scanning pass may.0 (next + 1))
     (λ _. out sizes now (without (ENTRY (slot_of sizes next)) pass.hands) refl)
     (λ _. scan_locks sizes pass now may.0 (next + 1) (entry_given sizes pass now (Restoring may.0 next may.1) (slot_of sizes next) refl (at_stage sizes pass (Restoring may.0 next may.1) may.2 held))))
-lock_steps sizes values pass (Turns page) found number history stands held may = missed_locks sizes values pass page may.tries held may.miss
-lock_steps sizes values pass (Hints buffer page) found number history stands held may = at_stage sizes pass (Searching page may.tries (Robbed buffer)) may.is held
-lock_steps sizes values pass deed found number history stands held may = absurd may
+lock_steps sizes values pass (Turns page) found number history of_call stands held may = missed_locks sizes values pass page may.tries held may.miss
+lock_steps sizes values pass (Hints buffer page) found number history of_call stands held may = at_stage sizes pass (Searching page may.tries (Robbed buffer)) may.is held
+lock_steps sizes values pass (Tends chore) found number history of_call stands held may = absurd of_call
+lock_steps sizes values pass deed found number history of_call stands held may = absurd may

@@ -4,47 +4,52 @@ use Rattle.std.proofs.lemmas.Bool.{eqb-true, eqb-false, cases_eq, cases_lt, case
 use Rattle.nv_plain.specs.Histories.{Answered}
 use Rattle.nv_plain.specs.declared.call.FileCall.{FileCall}
 use Rattle.nv_core.specs.Words.{Sizes, Word, SIZE, STORE, ENTRY, PAGE}
-use Rattle.nv_core.specs.Values.{Ending, Made, Failed}
-use Rattle.nv_core.specs.Passes.{Stage, Idle, Locking, Checking, Copying, Drawing, Seizing, Committing, Pledging, Readying, Placing, ReadFailing, WriteFailing, Breaking, Pass, IsFilling, IsAllowed, IsAmong, file_of, page_count, first_page, end_page, without, times, Grasping, Patching, Restoring, PieceFailing, IsHeld}
-use Rattle.nv_core.specs.Deeds.{Deed, moved, move_of, slot_of, Loads, Takes, Gives, Places, Stops, Draws, Seizes, Pledges, Readies, Grows, Breaks, Turns, Hints, Holds, Returns}
+use Rattle.nv_core.specs.Values.{Ending, Made, Failed, Refused}
+use Rattle.nv_core.specs.Passes.{Stage, Idle, Locking, Checking, Copying, Drawing, Seizing, Committing, Pledging, Readying, Placing, ReadFailing, WriteFailing, Breaking, Pass, IsFilling, IsAllowed, IsAmong, file_of, page_count, first_page, end_page, without, times, Grasping, Patching, Restoring, PieceFailing, IsHeld, Cleaning, IsSwept}
+use Rattle.nv_core.specs.Sweeps.{Batch, Sweep}
+use Rattle.nv_core.specs.Deeds.{Deed, moved, move_of, slot_of, Loads, Takes, Gives, Places, Stops, Draws, Seizes, Pledges, Readies, Grows, Breaks, Turns, Hints, Holds, Returns, Tends}
 use Rattle.nv_core.specs.Stages.{stage_after, after_stop, leaving, scanning, after_hold, after_return}
 use Rattle.nv_core.specs.Stepped.{stepped, begun, first_after, entries_after}
 use Rattle.nv_core.specs.Order.{Values, Work, MayWork, IsDue, commit_steps, MayStep, IsFailing}
 use Rattle.nv_core.specs.Core.{worked, stage_worked}
-use Rattle.nv_core.specs.Standing.{IsPage, HasDrawn, StandsAt, Standing}
+use Rattle.nv_core.specs.Standing.{IsPage, HasDrawn, StandsAt, Standing, has_call}
 use Rattle.nv_core.specs.Holding.{one_if, is_among, lock_held, HoldsLocks, Holding}
-use Rattle.nv_core.proofs.Choices.{if_both, when_true, busy}
+use Rattle.nv_core.proofs.Choices.{if_both, when_true, not_both, busy}
 use Rattle.nv_core.proofs.ClearLaws.{IsClear, clear_filling, entry_stays, IsBare, IsStill, bare_clear, bare_held, bare_leaving, bare_scanning, bare_from, bare_to}
 use Rattle.nv_core.proofs.SlotLaws.{apart, Entries, entries_same, entries_more, entries_less}
-use Rattle.nv_core.proofs.HoldingLaws.{lock_steps, among_above, among_below}
+use Rattle.nv_core.proofs.HoldingLaws.{IsOfCall, lock_steps, among_above, among_below}
 
--- the numbers whose entries a pass has in its hands: those that it is filling, or the one that it reads
-abbrev HasEntry : Stage → (first entries number : ℕ) → Type 0
+-- the numbers whose entries a pass has in its hands: those that it is filling, the one that it reads, or those that a cleaner carries
+abbrev pub HasEntry : Stage → (first entries number : ℕ) → Type 0
 HasEntry (Patching page next) first entries number = number ≡ next
 HasEntry (Restoring page next failed) first entries number = number ≡ next
 HasEntry (PieceFailing page next) first entries number = number ≡ next
+HasEntry (Cleaning batch sweep) first entries number = IsSwept batch sweep number
 HasEntry stage first entries number = IsFilling stage first entries number
 
 -- the entries of a stage in some hands
-abbrev InHands : Sizes → Stage → (first entries : ℕ) → List Word → Type 0
+abbrev pub InHands : Sizes → Stage → (first entries : ℕ) → List Word → Type 0
 InHands sizes stage first entries hands = Entries sizes (HasEntry stage first entries) hands
 
 has_filling : (stage : Stage) (first entries number : ℕ) → IsFilling stage first entries number → HasEntry stage first entries number
 has_filling (Patching page next) first entries number is = absurd is
 has_filling (Restoring page next failed) first entries number is = absurd is
 has_filling (PieceFailing page next) first entries number is = absurd is
+has_filling (Cleaning batch sweep) first entries number is = absurd is
 has_filling stage first entries number is = is
 
 has_held : (stage : Stage) (first entries number : ℕ) → IsHeld stage number → HasEntry stage first entries number
 has_held (Patching page next) first entries number is = is
 has_held (Restoring page next failed) first entries number is = is
 has_held (PieceFailing page next) first entries number is = is
+has_held (Cleaning batch sweep) first entries number is = is
 has_held stage first entries number is = absurd is
 
 has_either : (stage : Stage) (first entries number : ℕ) → HasEntry stage first entries number → IsFilling stage first entries number ⊎ IsHeld stage number
 has_either (Patching page next) first entries number is = inr is
 has_either (Restoring page next failed) first entries number is = inr is
 has_either (PieceFailing page next) first entries number is = inr is
+has_either (Cleaning batch sweep) first entries number is = inr is
 has_either stage first entries number is = inl is
 
 bare_entry : (stage : Stage) (first entries number : ℕ) → IsBare stage → HasEntry stage first entries number → ⊥
@@ -53,13 +58,13 @@ bare_entry stage first entries number bare is = elim (has_either stage first ent
   | inr holds ↦ bare_held stage number bare holds
 ]
 
-in_hands : (sizes : Sizes) (pass : Pass) → Holding sizes pass → InHands sizes pass.stage pass.first pass.entries pass.hands
+pub in_hands : (sizes : Sizes) (pass : Pass) → Holding sizes pass → InHands sizes pass.stage pass.first pass.entries pass.hands
 in_hands sizes pass holding = record {
   filling = λ n is. elim (has_either pass.stage pass.first pass.entries n is) [ inl fills ↦ holding.filling n fills | inr holds ↦ holding.held n holds ];
   none = λ slot off. holding.none slot (λ n is. off n (has_filling pass.stage pass.first pass.entries n is)) (λ n is. off n (has_held pass.stage pass.first pass.entries n is));
 }
 
-from_hands : (sizes : Sizes) (pass : Pass) → HoldsLocks sizes pass pass.stage → InHands sizes pass.stage pass.first pass.entries pass.hands → Holding sizes pass
+pub from_hands : (sizes : Sizes) (pass : Pass) → HoldsLocks sizes pass pass.stage → InHands sizes pass.stage pass.first pass.entries pass.hands → Holding sizes pass
 from_hands sizes pass locks entries = record {
   locks = locks;
   filling = λ n is. entries.filling n (has_filling pass.stage pass.first pass.entries n is);
@@ -178,16 +183,16 @@ still sizes values pass deed found first entries is may held =
     (bare_from sizes values pass deed is may) (λ n at. bare_entry (stage_after sizes pass deed found) first entries n (bare_to sizes values pass deed found is may) at)
     (λ slot. entry_stays sizes values pass deed found slot is may) held
 
-entry_steps : (sizes : Sizes) (values : Values) (pass : Pass) (deed : Deed) (found : ℕ) → Standing sizes pass → MayStep sizes values pass deed → InHands sizes pass.stage pass.first pass.entries pass.hands
+entry_steps : (sizes : Sizes) (values : Values) (pass : Pass) (deed : Deed) (found : ℕ) → IsOfCall deed → Standing sizes pass → MayStep sizes values pass deed → InHands sizes pass.stage pass.first pass.entries pass.hands
     → InHands sizes (stage_after sizes pass deed found) (first_after pass deed found) (entries_after sizes pass deed found) (moved (move_of sizes deed found) pass.hands)
-entry_steps sizes values pass (Loads word) found stands may held = still sizes values pass (Loads word) found pass.first pass.entries tt may held
-entry_steps sizes values pass (Takes cell) found stands may held = still sizes values pass (Takes cell) found pass.first pass.entries tt may held
-entry_steps sizes values pass (Gives cell) found stands may held = still sizes values pass (Gives cell) found pass.first pass.entries tt may held
-entry_steps sizes values pass (Places reply) found stands may held = still sizes values pass (Places reply) found pass.first pass.entries tt may held
-entry_steps sizes values pass Grows found stands may held = still sizes values pass Grows found pass.first pass.entries tt may held
-entry_steps sizes values pass (Turns page) found stands may held = still sizes values pass (Turns page) found pass.first pass.entries tt may held
-entry_steps sizes values pass (Hints buffer page) found stands may held = still sizes values pass (Hints buffer page) found pass.first pass.entries tt may held
-entry_steps sizes values pass Stops found stands may held = stops pass.stage may held
+entry_steps sizes values pass (Loads word) found of_call stands may held = still sizes values pass (Loads word) found pass.first pass.entries tt may held
+entry_steps sizes values pass (Takes cell) found of_call stands may held = still sizes values pass (Takes cell) found pass.first pass.entries tt may held
+entry_steps sizes values pass (Gives cell) found of_call stands may held = still sizes values pass (Gives cell) found pass.first pass.entries tt may held
+entry_steps sizes values pass (Places reply) found of_call stands may held = still sizes values pass (Places reply) found pass.first pass.entries tt may held
+entry_steps sizes values pass Grows found of_call stands may held = still sizes values pass Grows found pass.first pass.entries tt may held
+entry_steps sizes values pass (Turns page) found of_call stands may held = still sizes values pass (Turns page) found pass.first pass.entries tt may held
+entry_steps sizes values pass (Hints buffer page) found of_call stands may held = still sizes values pass (Hints buffer page) found pass.first pass.entries tt may held
+entry_steps sizes values pass Stops found of_call stands may held = stops pass.stage may held
   where
     stops : (stage : Stage) → IsFailing stage → InHands sizes stage pass.first pass.entries pass.hands → InHands sizes (after_stop pass stage) pass.first pass.entries pass.hands
     stops (ReadFailing page dirty) is held = empty sizes Idle (leaving pass.hands) pass.first pass.entries pass.first pass.entries pass.hands pass.hands tt
@@ -195,30 +200,30 @@ entry_steps sizes values pass Stops found stands may held = stops pass.stage may
     stops (PieceFailing page next) is held = held
     stops WriteFailing is held = held
     stops stage is held = absurd is
-entry_steps sizes values pass Draws found stands may held =
+entry_steps sizes values pass Draws found of_call stands may held =
     empty sizes Drawing (if found == pass.head then Seizing found else leaving pass.hands) pass.first pass.entries _ _ pass.hands pass.hands tt
     (λ n. if_both (λ s. HasEntry s (if found == pass.head then found else pass.first) (if found == pass.head then page_count sizes pass.call else pass.entries) n → ⊥) (found == pass.head) (Seizing found) (leaving pass.hands)
     (λ e at. let first : (if found == pass.head then found else pass.first) ≡ found = when_true (found == pass.head) found pass.first e in let x = at.0 in let y = at.1 in omega (arith, first, x, y))
     (λ e at. bare_entry (leaving pass.hands) _ _ n (bare_leaving pass.hands) at))
     (λ slot. refl) (at_stage sizes pass Drawing may held)
-entry_steps sizes values pass (Seizes next) found stands may held =
+entry_steps sizes values pass (Seizes next) found of_call stands may held =
     let at : HasDrawn sizes pass.call pass.entries × IsAmong pass.first pass.entries next = subst (StandsAt sizes pass) may stands.at in
     seizes sizes pass next (few_entries sizes pass.call pass.entries at.0 (stands.allowed (busy _ _ may refl))) at.1 (at_stage sizes pass (Seizing next) may held)
-entry_steps sizes values pass (Pledges page) found stands may held =
+entry_steps sizes values pass (Pledges page) found of_call stands may held =
     let at : HasDrawn sizes pass.call pass.entries × IsPage sizes pass.call page = subst (StandsAt sizes pass) may stands.at in
     pledges sizes pass page at.0.some (at_stage sizes pass (Pledging page) may held)
-entry_steps sizes values pass (Readies next) found stands may held =
+entry_steps sizes values pass (Readies next) found of_call stands may held =
     let at : HasDrawn sizes pass.call pass.entries × IsAmong pass.first pass.entries next = subst (StandsAt sizes pass) may stands.at in
     readies sizes pass next (few_entries sizes pass.call pass.entries at.0 (stands.allowed (busy _ _ may refl))) at.1 (at_stage sizes pass (Readying next) may held)
-entry_steps sizes values pass (Breaks next) found stands may held =
+entry_steps sizes values pass (Breaks next) found of_call stands may held =
     let at : HasDrawn sizes pass.call pass.entries × IsAmong pass.first pass.entries next = subst (StandsAt sizes pass) may stands.at in
     breaks sizes pass next (leaving (without (ENTRY (slot_of sizes next)) pass.hands)) (bare_leaving (without (ENTRY (slot_of sizes next)) pass.hands))
     (few_entries sizes pass.call pass.entries at.0 (stands.allowed (busy _ _ may refl))) at.1 (at_stage sizes pass (Breaking next) may held)
-entry_steps sizes values pass (Holds next) found stands may held =
+entry_steps sizes values pass (Holds next) found of_call stands may held =
     subst (λ s. InHands sizes (after_hold s) pass.first pass.entries (ENTRY (slot_of sizes next) ∷ pass.hands)) (sym may.1)
     (entries_more sizes (HasEntry (Grasping may.0 next) pass.first pass.entries) (HasEntry (Patching may.0 next) pass.first pass.entries) pass.hands next
     (λ n is. inl is) refl (λ n is. absurd is) (at_stage sizes pass (Grasping may.0 next) may.1 held))
-entry_steps sizes values pass (Returns next) found stands may held =
+entry_steps sizes values pass (Returns next) found of_call stands may held =
     subst (λ s. InHands sizes (after_return sizes pass s) pass.first pass.entries (without (ENTRY (slot_of sizes next)) pass.hands)) (sym may.2)
     (if_both (λ s. InHands sizes s pass.first pass.entries (without (ENTRY (slot_of sizes next)) pass.hands)) may.1 (leaving (without (ENTRY (slot_of sizes next)) pass.hands)) (scanning pass may.0 (next + 1))
     (λ _. gone (leaving (without (ENTRY (slot_of sizes next)) pass.hands)) (bare_leaving (without (ENTRY (slot_of sizes next)) pass.hands)))
@@ -227,15 +232,16 @@ entry_steps sizes values pass (Returns next) found stands may held =
     gone : (after : Stage) → IsBare after → InHands sizes after pass.first pass.entries (without (ENTRY (slot_of sizes next)) pass.hands)
     gone after bare = entries_less sizes (HasEntry (Restoring may.0 next may.1) pass.first pass.entries) (HasEntry after pass.first pass.entries) pass.hands next
         (λ n is. inl is) refl (λ n is. absurd (bare_entry after pass.first pass.entries n bare is)) (at_stage sizes pass (Restoring may.0 next may.1) may.2 held)
-entry_steps sizes values pass deed found stands may held = absurd may
+entry_steps sizes values pass (Tends chore) found of_call stands may held = absurd of_call
+entry_steps sizes values pass deed found of_call stands may held = absurd may
 
 -- ---- steps, beginnings and device calls
 
-pub holding_steps : (sizes : Sizes) (values : Values) (pass : Pass) (deed : Deed) (found number : ℕ) (history : List Answered) → Standing sizes pass → Holding sizes pass → MayStep sizes values pass deed
+pub holding_steps : (sizes : Sizes) (values : Values) (pass : Pass) (deed : Deed) (found number : ℕ) (history : List Answered) → IsOfCall deed → Standing sizes pass → Holding sizes pass → MayStep sizes values pass deed
     → Holding sizes (stepped sizes number history deed found pass)
-holding_steps sizes values pass deed found number history stands holding may =
-    from_hands sizes (stepped sizes number history deed found pass) (lock_steps sizes values pass deed found number history stands holding.locks may)
-    (entry_steps sizes values pass deed found stands may (in_hands sizes pass holding))
+holding_steps sizes values pass deed found number history of_call stands holding may =
+    from_hands sizes (stepped sizes number history deed found pass) (lock_steps sizes values pass deed found number history of_call stands holding.locks may)
+    (entry_steps sizes values pass deed found of_call stands may (in_hands sizes pass holding))
 
 pub holding_begins : (sizes : Sizes) (call : FileCall) (pass : Pass) → pass.stage ≡ Idle → Holding sizes pass → Holding sizes (begun sizes call pass)
 holding_begins sizes call pass idle holding = record {
@@ -276,24 +282,41 @@ holding_begins sizes call pass idle holding = record {
     locking (STORE file) = file_zero (file == file_of pass.call) (file == file_of call)
     locking cell = refl
 
-pub holding_works : (sizes : Sizes) (values : Values) (pass : Pass) (work : Work) → Holding sizes pass → MayWork sizes values pass work → Holding sizes (worked sizes work pass)
-holding_works sizes values pass work holding may =
-    from_hands sizes (worked sizes work pass) (lock_works pass.stage work.ending may.due holding.locks) (entry_works pass.stage work.ending may.due (in_hands sizes pass holding))
+-- those of a cleaner are given
+pub holding_works : (sizes : Sizes) (values : Values) (pass : Pass) (work : Work) → Holding sizes pass → MayWork sizes values pass work
+    → ((batch : Batch) (sweep : Sweep) → pass.stage ≡ Cleaning batch sweep → Holding sizes (worked sizes work pass)) → Holding sizes (worked sizes work pass)
+holding_works sizes values pass work holding may sweeps = go pass.stage refl
   where
-    lock_works : (stage : Stage) (how : Ending) → IsDue sizes values pass work stage → HoldsLocks sizes pass stage → HoldsLocks sizes (worked sizes work pass) (stage_worked sizes pass how stage)
-    lock_works (Committing calls) Made due held = if_both (HoldsLocks sizes (worked sizes work pass)) (calls + 1 == length (commit_steps sizes pass pass.call)) (Pledging (first_page sizes pass.call)) (Committing (calls + 1)) (λ _. held) (λ _. held)
-    lock_works (Committing calls) (Failed came faults) due held = held
-    lock_works (Copying page dirty) Made due held = held
-    lock_works (Copying page dirty) (Failed came faults) due held = held
-    lock_works (Patching page number) Made due held = held
-    lock_works (Patching page number) (Failed came faults) due held = held
-    lock_works stage how due held = absurd due
+    lock_works : (stage : Stage) (how : Ending) → has_call stage ≡ true → IsDue sizes values pass work stage → HoldsLocks sizes pass stage → HoldsLocks sizes (worked sizes work pass) (stage_worked sizes pass how stage)
+    lock_works (Committing calls) Made has due held = if_both (HoldsLocks sizes (worked sizes work pass)) (calls + 1 == length (commit_steps sizes pass pass.call)) (Pledging (first_page sizes pass.call)) (Committing (calls + 1)) (λ _. held) (λ _. held)
+    lock_works (Committing calls) (Failed came faults) has due held = held
+    lock_works (Copying page dirty) Made has due held = held
+    lock_works (Copying page dirty) (Failed came faults) has due held = held
+    lock_works (Patching page number) Made has due held = held
+    lock_works (Patching page number) (Failed came faults) has due held = held
+    lock_works (Committing calls) Refused has due held = held
+    lock_works (Copying page dirty) Refused has due held = held
+    lock_works (Patching page number) Refused has due held = held
+    lock_works (Cleaning batch sweep) how has due held = absurd (not_both has refl)
+    lock_works stage how has due held = absurd due
 
-    entry_works : (stage : Stage) (how : Ending) → IsDue sizes values pass work stage → InHands sizes stage pass.first pass.entries pass.hands → InHands sizes (stage_worked sizes pass how stage) pass.first pass.entries pass.hands
-    entry_works (Committing calls) Made due held = if_both (λ s. InHands sizes s pass.first pass.entries pass.hands) (calls + 1 == length (commit_steps sizes pass pass.call)) (Pledging (first_page sizes pass.call)) (Committing (calls + 1)) (λ _. held) (λ _. held)
-    entry_works (Committing calls) (Failed came faults) due held = held
-    entry_works (Copying page dirty) Made due held = held
-    entry_works (Copying page dirty) (Failed came faults) due held = held
-    entry_works (Patching page number) Made due held = held
-    entry_works (Patching page number) (Failed came faults) due held = held
-    entry_works stage how due held = absurd due
+    entry_works : (stage : Stage) (how : Ending) → has_call stage ≡ true → IsDue sizes values pass work stage → InHands sizes stage pass.first pass.entries pass.hands → InHands sizes (stage_worked sizes pass how stage) pass.first pass.entries pass.hands
+    entry_works (Committing calls) Made has due held = if_both (λ s. InHands sizes s pass.first pass.entries pass.hands) (calls + 1 == length (commit_steps sizes pass pass.call)) (Pledging (first_page sizes pass.call)) (Committing (calls + 1)) (λ _. held) (λ _. held)
+    entry_works (Committing calls) (Failed came faults) has due held = held
+    entry_works (Copying page dirty) Made has due held = held
+    entry_works (Copying page dirty) (Failed came faults) has due held = held
+    entry_works (Patching page number) Made has due held = held
+    entry_works (Patching page number) (Failed came faults) has due held = held
+    entry_works (Committing calls) Refused has due held = held
+    entry_works (Copying page dirty) Refused has due held = held
+    entry_works (Patching page number) Refused has due held = held
+    entry_works (Cleaning batch sweep) how has due held = absurd (not_both has refl)
+    entry_works stage how has due held = absurd due
+
+    called : has_call pass.stage ≡ true → Holding sizes (worked sizes work pass)
+    called has = from_hands sizes (worked sizes work pass) (lock_works pass.stage work.ending has may.due holding.locks) (entry_works pass.stage work.ending has may.due (in_hands sizes pass holding))
+
+    go : (stage : Stage) → pass.stage ≡ stage → Holding sizes (worked sizes work pass)
+    go (Cleaning batch sweep) is = sweeps batch sweep is
+    go Idle is = absurd (subst (IsDue sizes values pass work) is may.due)
+    go stage is = called (busy pass.stage stage is refl)

@@ -15,14 +15,17 @@ use Rattle.nv_pmem.specs.Rows.{row_after, IsRowImage}
 use Rattle.nv_pmem.specs.Runs.{run}
 use Rattle.nv_entry.specs.Group.{group_steps, IsUncommitted, IsWhole, IsUncommittedOrWhole, HoldsEntry, StoresOnly}
 use Rattle.nv_entry.specs.Commits.{IsOpen, after_some, after_group, GroupsAreAtomic, GroupsBecomeWhole, GroupsEndQuiet, GroupsStoreNothingElse}
-use Rattle.nv_core.specs.Words.{Sizes, HEAD, TAIL, ENTRY, free}
+use Rattle.nv_core.specs.Words.{Sizes, HEAD, TAIL, ENTRY, kind_of, free, filling, cleaned}
 use Rattle.nv_core.specs.Values.{Value, Bare, APart, AStore, ABuffer}
-use Rattle.nv_core.specs.Passes.{Stage, Pledging, Readying, Pass, IsAmong, page_count}
+use Rattle.nv_core.specs.Passes.{Stage, Seizing, Committing, Pledging, Readying, Pass, IsAmong, IsUnseized, IsFilling, page_count}
 use Rattle.nv_core.specs.Deeds.{slot_of}
 use Rattle.nv_core.specs.Order.{Values}
+use Rattle.nv_core.specs.SweepNumbers.{IsFreed}
 use Rattle.nv_core.specs.Core.{Core}
-use Rattle.nv_core.specs.LogWindow.{InWindow}
+use Rattle.nv_core.specs.LogWindow.{InWindow, HasUnseized, Fills, entry_at}
 use Rattle.nv_core.specs.Groups.{Log, IsGrouped, IsOwn, Groups}
+use Rattle.nv_core.specs.Tails.{Tails}
+use Rattle.nv_core.specs.Retiring.{Retired}
 use Rattle.nv_core.specs.Written.{IsPart, AreParts, IsWrittenTo, IsWritten, commit_length, HasCalls, Written}
 use Rattle.nv_core.specs.EntryImages.{IsRegionImage, InEachImageOf, entries_from, ReadsOpen, ReadsWhole, ReadsOpenOrWhole, KeepsQuiet, HasPledged, EntryImages}
 use Rattle.nv_core.specs.StaleWords.{LeadsGroup, StaleWords}
@@ -89,30 +92,30 @@ module _ (loads : LoadsAreAnImage) (sizes : Sizes) (values : Values) (tail first
   some_pages : 1 ≤ pages_touched at (length bytes) sizes.page
   some_pages = let s = written.fit.some in let c = written.fit.count in omega (arith, s, c)
 
-  is_open : IsOpen sizes.page first at bytes written.before
-  is_open image is i less = written.stale image is i (let c = written.fit.count in omega (arith, c, less)) (first + i) refl (let l = written.low in omega (arith, l))
+  is_open : tail ≤ first → IsOpen sizes.page first at bytes written.before
+  is_open low image is i less = written.stale image is i (let c = written.fit.count in omega (arith, c, less)) (first + i) refl (omega (arith, low))
 
   same_row : (image : Image) (i : ℕ) → i < pages_touched at (length bytes) sizes.page → row_image (length now) (entries_from sizes image first) i ≡ entries_from sizes image first i
   same_row image i less = row_same (length now) (entries_from sizes image first) i (let c = count_now in omega (arith, c, less))
 
-  reads : GroupsAreAtomic → InEachImageOf sizes values (λ image. IsUncommittedOrWhole sizes.page first file at bytes (entries_from sizes image first))
-  reads atomic image region = elim (atomic sizes.page first file at bytes written.before calls written.fit is_open (row_image (length now) (entries_from sizes image first)) (is_row loads sizes values first now image some region written.now)) [
+  reads : GroupsAreAtomic → tail ≤ first → InEachImageOf sizes values (λ image. IsUncommittedOrWhole sizes.page first file at bytes (entries_from sizes image first))
+  reads atomic low image region = elim (atomic sizes.page first file at bytes written.before calls written.fit (is_open low) (row_image (length now) (entries_from sizes image first)) (is_row loads sizes values first now image some region written.now)) [
     | inl none ↦ inl (open_as first (pages_touched at (length bytes) sizes.page) (row_image (length now) (entries_from sizes image first)) (entries_from sizes image first) (same_row image) none)
     | inr whole ↦ inr (whole_as sizes.page first file at bytes (row_image (length now) (entries_from sizes image first)) (entries_from sizes image first) some_pages (same_row image) whole)
   ]
 
-  reads_open : calls ≡ 0 → InEachImageOf sizes values (λ image. IsUncommitted first (pages_touched at (length bytes) sizes.page) (entries_from sizes image first))
-  reads_open none image region = open_as first (pages_touched at (length bytes) sizes.page) (row_image (length now) (entries_from sizes image first)) (entries_from sizes image first) (same_row image)
-      (is_open (row_image (length now) (entries_from sizes image first))
+  reads_open : tail ≤ first → calls ≡ 0 → InEachImageOf sizes values (λ image. IsUncommitted first (pages_touched at (length bytes) sizes.page) (entries_from sizes image first))
+  reads_open low none image region = open_as first (pages_touched at (length bytes) sizes.page) (row_image (length now) (entries_from sizes image first)) (entries_from sizes image first) (same_row image)
+      (is_open low (row_image (length now) (entries_from sizes image first))
       (subst (λ parts. IsRowImage parts (row_image (length now) (entries_from sizes image first))) (ap (λ n. after_some sizes.page first file at bytes n written.before) none ∙ nothing_made sizes.page first file at bytes written.before)
       (is_row loads sizes values first now image some region written.now)))
 
   all_made : calls ≡ length (group_steps sizes.page first file at bytes) → after_some sizes.page first file at bytes calls written.before ≡ after_group sizes.page first file at bytes written.before
   all_made all = ap (λ steps. run row_after steps written.before) (ap (λ n. take n (group_steps sizes.page first file at bytes)) all ∙ take_all (length (group_steps sizes.page first file at bytes)) (group_steps sizes.page first file at bytes) (omega arith))
 
-  reads_whole : GroupsBecomeWhole → calls ≡ length (group_steps sizes.page first file at bytes) → InEachImageOf sizes values (λ image. IsWhole sizes.page first file at bytes (entries_from sizes image first))
-  reads_whole becomes all image region = whole_as sizes.page first file at bytes (row_image (length now) (entries_from sizes image first)) (entries_from sizes image first) some_pages (same_row image)
-      (becomes sizes.page first file at bytes written.before written.fit is_open (row_image (length now) (entries_from sizes image first))
+  reads_whole : GroupsBecomeWhole → tail ≤ first → calls ≡ length (group_steps sizes.page first file at bytes) → InEachImageOf sizes values (λ image. IsWhole sizes.page first file at bytes (entries_from sizes image first))
+  reads_whole becomes low all image region = whole_as sizes.page first file at bytes (row_image (length now) (entries_from sizes image first)) (entries_from sizes image first) some_pages (same_row image)
+      (becomes sizes.page first file at bytes written.before written.fit (is_open low) (row_image (length now) (entries_from sizes image first))
       (subst (λ parts. IsRowImage parts (row_image (length now) (entries_from sizes image first))) (all_made all) (is_row loads sizes values first now image some region written.now)))
 
   keeps_quiet : GroupsEndQuiet → calls ≡ length (group_steps sizes.page first file at bytes) → (i : ℕ) → i < pages_touched at (length bytes) sizes.page → KeepsQuiet (values (ENTRY (slot_of sizes (first + i))))
@@ -123,20 +126,20 @@ module _ (loads : LoadsAreAnImage) (sizes : Sizes) (values : Values) (tail first
 
 -- of whatever call the group is
 module _ (loads : LoadsAreAnImage) (sizes : Sizes) (values : Values) (tail : ℕ) (some : 1 ≤ sizes.entries) where
-  call_reads : GroupsAreAtomic → (call : FileCall) (first calls : ℕ) → IsWritten sizes values tail call first calls → InEachImageOf sizes values (ReadsOpenOrWhole sizes call first)
-  call_reads atomic (Write file at bytes) first calls written = reads loads sizes values tail first file at bytes calls some written atomic
-  call_reads atomic (Read file at len) first calls written = absurd written
-  call_reads atomic (Sync file) first calls written = absurd written
+  call_reads : GroupsAreAtomic → (call : FileCall) (first calls : ℕ) → IsWritten sizes values tail call first calls → tail ≤ first → InEachImageOf sizes values (ReadsOpenOrWhole sizes call first)
+  call_reads atomic (Write file at bytes) first calls written low = reads loads sizes values tail first file at bytes calls some written atomic low
+  call_reads atomic (Read file at len) first calls written low = absurd written
+  call_reads atomic (Sync file) first calls written low = absurd written
 
-  call_open : (call : FileCall) (first calls : ℕ) → IsWritten sizes values tail call first calls → calls ≡ 0 → InEachImageOf sizes values (ReadsOpen sizes call first)
-  call_open (Write file at bytes) first calls written none = reads_open loads sizes values tail first file at bytes calls some written none
-  call_open (Read file at len) first calls written none = absurd written
-  call_open (Sync file) first calls written none = absurd written
+  call_open : (call : FileCall) (first calls : ℕ) → IsWritten sizes values tail call first calls → tail ≤ first → calls ≡ 0 → InEachImageOf sizes values (ReadsOpen sizes call first)
+  call_open (Write file at bytes) first calls written low none = reads_open loads sizes values tail first file at bytes calls some written low none
+  call_open (Read file at len) first calls written low none = absurd written
+  call_open (Sync file) first calls written low none = absurd written
 
-  call_whole : GroupsBecomeWhole → (call : FileCall) (first calls : ℕ) → IsWritten sizes values tail call first calls → calls ≡ commit_length sizes call first → InEachImageOf sizes values (ReadsWhole sizes call first)
-  call_whole becomes (Write file at bytes) first calls written all = reads_whole loads sizes values tail first file at bytes calls some written becomes all
-  call_whole becomes (Read file at len) first calls written all = absurd written
-  call_whole becomes (Sync file) first calls written all = absurd written
+  pub call_whole : GroupsBecomeWhole → (call : FileCall) (first calls : ℕ) → IsWritten sizes values tail call first calls → tail ≤ first → calls ≡ commit_length sizes call first → InEachImageOf sizes values (ReadsWhole sizes call first)
+  call_whole becomes (Write file at bytes) first calls written low all = reads_whole loads sizes values tail first file at bytes calls some written becomes low all
+  call_whole becomes (Read file at len) first calls written low all = absurd written
+  call_whole becomes (Sync file) first calls written low all = absurd written
 
   call_quiet : GroupsEndQuiet → (call : FileCall) (first calls : ℕ) → IsWritten sizes values tail call first calls → calls ≡ commit_length sizes call first
       → (i : ℕ) → i < page_count sizes call → KeepsQuiet (values (ENTRY (slot_of sizes (first + i))))
@@ -145,7 +148,11 @@ module _ (loads : LoadsAreAnImage) (sizes : Sizes) (values : Values) (tail : ℕ
   call_quiet ends (Sync file) first calls written all = absurd written
 
 module _ (loads : LoadsAreAnImage) (atomic : GroupsAreAtomic) (becomes : GroupsBecomeWhole) (ends : GroupsEndQuiet)
-    (sizes : Sizes) (first : Values) (tail : ℕ) (log : Log) (core : Core) (some : 1 ≤ sizes.entries) (sound : Sound sizes first core) (groups : Groups sizes core log) (written : Written sizes tail log core) where
+    (sizes : Sizes) (first : Values) (tails : Tails) (log : Log) (core : Core) (some : 1 ≤ sizes.entries) (sound : Sound sizes first core) (groups : Groups sizes core log) (written : Written sizes tails.least log core)
+    (retired : Retired sizes tails log core) where
+  abbrev tail : ℕ
+  tail = tails.least
+
   -- the group that a pass has drawn
   own : (by : ℕ) → IsCounted (core.passes by).stage → IsOwn core log (core.passes by) (core.passes by).first
   own by counted = groups.own by (counted_group (core.passes by).stage counted) (core.passes by).first
@@ -154,6 +161,51 @@ module _ (loads : LoadsAreAnImage) (atomic : GroupsAreAtomic) (becomes : GroupsB
   own_written : (by : ℕ) → IsCounted (core.passes by).stage → IsWritten sizes core.values tail (core.passes by).call (core.passes by).first (log.calls (core.passes by).first)
   own_written by counted = subst (λ g. IsWritten sizes core.values tail g.call (core.passes by).first (log.calls (core.passes by).first)) (own by counted).group
       (written.groups (core.passes by).first (own by counted).within (ap (λ g. g.first) (own by counted).group))
+
+  -- what a pass has drawn, and filled or not, is neither cleaned nor freed, so no lower than the header's tails
+  counted_high : (by : ℕ) → IsCounted (core.passes by).stage → tails.least ≤ (core.passes by).first
+  counted_high by counted = elim (cases_lt (core.passes by).first tails.least) [
+    | inr more ↦ more
+    | inl less ↦ absurd (
+        let drawn = counted_drawn sizes (core.passes by) (core.passes by).stage counted (sound.standing by).at in
+        let order = retired.order in
+        let some_entries = drawn.some in
+        elim (retired.done (core.passes by).first (own by counted).within (omega (arith, less, order))) [
+          | inl kind ↦ not_done (core.passes by).stage refl counted some_entries (λ e. let z : kind_of free ≡ cleaned = ap kind_of (sym e) ∙ kind in omega (arith, z)) (λ e. let z : kind_of filling ≡ cleaned = ap kind_of (sym e) ∙ kind in omega (arith, z))
+          | inr freed ↦
+              let e = sound.window.freed_is freed.0 (core.passes by).first freed.1 in
+              is_freed freed.0 freed.1 (core.passes by).stage refl counted some_entries (λ f. let z : free ≡ filling = sym e ∙ f in omega (arith, z))
+        ])
+  ]
+    where
+      unseized : (stage : Stage) → (core.passes by).stage ≡ stage → IsUnseized stage (core.passes by).first (core.passes by).entries (core.passes by).first → HasUnseized (core.passes by) (core.passes by).first
+      unseized stage e is = subst (λ s. IsUnseized s (core.passes by).first (core.passes by).entries (core.passes by).first) (sym e) is
+
+      fills : (stage : Stage) → (core.passes by).stage ≡ stage → IsFilling stage (core.passes by).first (core.passes by).entries (core.passes by).first → Fills (core.passes by) (core.passes by).first
+      fills stage e is = subst (λ s. IsFilling s (core.passes by).first (core.passes by).entries (core.passes by).first) (sym e) is
+
+      -- the first number is drawn and not seized, or filled
+      which : (stage : Stage) → (core.passes by).stage ≡ stage → IsCounted stage → 1 ≤ (core.passes by).entries → HasUnseized (core.passes by) (core.passes by).first ⊎ Fills (core.passes by) (core.passes by).first
+      which (Seizing next) e counted some = elim (cases_lt (core.passes by).first next) [
+        | inl less ↦ inr (fills (Seizing next) e (omega arith, less))
+        | inr more ↦ inl (unseized (Seizing next) e (more, omega (arith, some)))
+      ]
+      which (Committing calls) e counted some = inr (fills (Committing calls) e (omega arith, omega (arith, some)))
+      which (Pledging page) e counted some = inr (fills (Pledging page) e (omega arith, omega (arith, some)))
+      which (Readying next) e counted some = inr (fills (Readying next) e (inl refl))
+      which stage e counted some = absurd counted
+
+      not_done : (stage : Stage) → (core.passes by).stage ≡ stage → IsCounted stage → 1 ≤ (core.passes by).entries → (entry_at sizes core (core.passes by).first ≡ free → ⊥) → (entry_at sizes core (core.passes by).first ≡ filling → ⊥) → ⊥
+      not_done stage e counted some not_free not_filling = elim (which stage e counted some) [
+        | inl drawn ↦ not_free (sound.window.unseized_is by (core.passes by).first drawn)
+        | inr filled ↦ not_filling (sound.window.filling_is by (core.passes by).first filled)
+      ]
+
+      is_freed : (m : ℕ) → IsFreed (core.passes m).stage (core.passes by).first → (stage : Stage) → (core.passes by).stage ≡ stage → IsCounted stage → 1 ≤ (core.passes by).entries → (entry_at sizes core (core.passes by).first ≡ filling → ⊥) → ⊥
+      is_freed m freed stage e counted some not_filling = elim (which stage e counted some) [
+        | inl drawn ↦ sound.window.freed_by_none by m (core.passes by).first drawn freed
+        | inr filled ↦ not_filling (sound.window.filling_is by (core.passes by).first filled)
+      ]
 
   pledged_counted : (stage : Stage) → HasPledged stage → IsCounted stage
   pledged_counted (Pledging page) is = tt
@@ -165,21 +217,21 @@ module _ (loads : LoadsAreAnImage) (atomic : GroupsAreAtomic) (becomes : GroupsB
   pledged_calls pass (Readying number) is all = all
   pledged_calls pass stage is all = absurd is
 
-  pub entry_images : EntryImages sizes log core
+  pub entry_images : EntryImages sizes tail log core
   entry_images = record {
-    groups = λ n is leads. call_reads loads sizes core.values tail some atomic (log.group n).call n (log.calls n) (written.groups n is leads);
+    groups = λ n is low leads. call_reads loads sizes core.values tail some atomic (log.group n).call n (log.calls n) (written.groups n is leads) low;
     drawn = λ by next at. call_open loads sizes core.values tail some (core.passes by).call (core.passes by).first (log.calls (core.passes by).first)
-        (own_written by (subst IsCounted (sym at) tt)) (subst (HasCalls sizes log (core.passes by)) at (written.calls by));
+        (own_written by (subst IsCounted (sym at) tt)) (counted_high by (subst IsCounted (sym at) tt)) (subst (HasCalls sizes log (core.passes by)) at (written.calls by));
     pledged = λ by has. call_whole loads sizes core.values tail some becomes (core.passes by).call (core.passes by).first (log.calls (core.passes by).first)
-        (own_written by (pledged_counted (core.passes by).stage has)) (pledged_calls (core.passes by) (core.passes by).stage has (written.calls by));
+        (own_written by (pledged_counted (core.passes by).stage has)) (counted_high by (pledged_counted (core.passes by).stage has)) (pledged_calls (core.passes by) (core.passes by).stage has (written.calls by));
     pledged_quiet = λ by n has among.
         let drawn = counted_drawn sizes (core.passes by) (core.passes by).stage (pledged_counted (core.passes by).stage has) (sound.standing by).at in
         at_number (core.passes by).first (core.passes by).entries n among
         (λ i less. call_quiet loads sizes core.values tail some ends (core.passes by).call (core.passes by).first (log.calls (core.passes by).first)
         (own_written by (pledged_counted (core.passes by).stage has)) (pledged_calls (core.passes by) (core.passes by).stage has (written.calls by)) i (subst (λ c. i < c) drawn.many less));
-    whole = λ n is leads kind. call_whole loads sizes core.values tail some becomes (log.group n).call n (log.calls n) (written.groups n is leads) (written.ready n is leads kind);
+    whole = λ n is low leads kind. call_whole loads sizes core.values tail some becomes (log.group n).call n (log.calls n) (written.groups n is leads) low (written.ready n is leads (inl kind));
     whole_quiet = λ n other is leads kind among. at_number n (log.group n).entries other among
-        (λ i less. call_quiet loads sizes core.values tail some ends (log.group n).call n (log.calls n) (written.groups n is leads) (written.ready n is leads kind) i (subst (λ c. i < c) (groups.each n is).drawn.many less));
+        (λ i less. call_quiet loads sizes core.values tail some ends (log.group n).call n (log.calls n) (written.groups n is leads) (written.ready n is leads (inl kind)) i (subst (λ c. i < c) (groups.each n is).drawn.many less));
     free_quiet = λ slot less is part told. let blank = written.free slot less is in subst IsQuiet (part_one (core.values (ENTRY slot)) blank.part part blank.is told) blank.quiet;
   }
     where

@@ -4,7 +4,8 @@ use Rattle.std.proofs.lemmas.Bool.{true≢false}
 use Rattle.nv_plain.specs.declared.call.FileCall.{FileCall}
 use Rattle.nv_core.specs.Words.{Sizes, Word, STOP, STORE, ENTRY, PAGE, CLEANUP}
 use Rattle.nv_core.specs.Passes.{Stage, ReadFailing, WriteFailing, Fault, Pass, IsOneOf, times, PieceFailing}
-use Rattle.nv_core.specs.Deeds.{Deed, Loads, Stops, Splits, Leaves, Joins}
+use Rattle.nv_core.specs.Deeds.{Deed, Loads, Stops, Splits, Leaves, Joins, Tends}
+use Rattle.nv_core.specs.Sweeps.{Looks, Halts}
 use Rattle.nv_core.specs.Stepped.{stopped_after, begun}
 use Rattle.nv_core.specs.Order.{Values, Work, MayWork, IsFailing}
 use Rattle.nv_core.specs.Core.{Core, changes, changed, after_step, after_begin, after_work, worked}
@@ -25,6 +26,9 @@ still_stopped : (pass : Pass) (deed : Deed) (found : ℕ) → pass.stopped ≡ t
 still_stopped pass (Loads STOP) found is = if_both (λ b. b ≡ true) (found == 0) pass.stopped true (λ _. is) (λ _. refl)
 still_stopped pass (Loads word) found is = is
 still_stopped pass Stops found is = refl
+still_stopped pass (Tends (Looks STOP)) found is = if_both (λ b. b ≡ true) (found == 0) pass.stopped true (λ _. is) (λ _. refl)
+still_stopped pass (Tends (Looks word)) found is = is
+still_stopped pass (Tends Halts) found is = refl
 still_stopped pass deed found is = is
 
 stopped_here : (sizes : Sizes) (by : ℕ) (core : Core) (found : ℕ) (deed : Deed) → Broken sizes core → (changed sizes by core deed found).faulted ≢ [] → (changed sizes by core deed found).stopped ≡ true
@@ -32,6 +36,7 @@ stopped_here sizes by core found Splits broken some = absurd (some refl)
 stopped_here sizes by core found Stops broken some = refl
 stopped_here sizes by core found (Loads STOP) broken some = still_stopped (core.passes by) (Loads STOP) found (broken.stopped by some)
 stopped_here sizes by core found (Loads word) broken some = broken.stopped by some
+stopped_here sizes by core found (Tends chore) broken some = still_stopped (core.passes by) (Tends chore) found (broken.stopped by some)
 stopped_here sizes by core found deed broken some = broken.stopped by some
 
 -- a list is empty where it isn't anything else
@@ -111,6 +116,6 @@ pub broken_work : (sizes : Sizes) (first : Values) (by : ℕ) (core : Core) (wor
 broken_work sizes first by core work sound broken may = record {
   stopped = by_number (λ n (p : Pass). p.faulted ≢ [] → p.stopped ≡ true) core.passes by (worked sizes work (core.passes by)) (broken.stopped by) (λ n ne. broken.stopped n);
   once = by_number (λ n (p : Pass). length p.faulted ≤ 1) core.passes by (worked sizes work (core.passes by)) (broken.once by) (λ n ne. broken.once n);
-  passed = by_number (λ n (p : Pass). HasChecked p.stage → p.faulted ≡ []) core.passes by (worked sizes work (core.passes by)) (λ is. broken.passed by (worked_checked sizes core.values (core.passes by) work may.due)) (λ n ne. broken.passed n);
+  passed = by_number (λ n (p : Pass). HasChecked p.stage → p.faulted ≡ []) core.passes by (worked sizes work (core.passes by)) (λ is. broken.passed by (worked_checked sizes core.values (core.passes by) work may.due is)) (λ n ne. broken.passed n);
   pages = λ n m page fault is at. barred_work (Bars sizes) (early sizes) sizes by core work may (were_barred sizes core broken) n m (PAGE page) fault is (page, refl, at);
 }

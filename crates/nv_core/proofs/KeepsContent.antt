@@ -2,9 +2,8 @@
 use Rattle.std.proofs.Common.{◌≡◌, ℕ, ◌≤◌, Bool, true, false, List, [], ◌∷◌, refl, ap, subst, arith}
 use Rattle.nv_plain.specs.Files.{Files}
 use Rattle.nv_plain.specs.declared.call.FileCall.{FileCall}
-use Rattle.nv_pmem.specs.Laws.{LoadsAreAnImage, BlankIsQuiet, StepsKeepLines, QuietHasOneImage}
 use Rattle.nv_pmem.specs.Limits.{IsPageSize}
-use Rattle.nv_entry.specs.Commits.{GroupsEndReady, GroupsAreAtomic, GroupsBecomeWhole, GroupsEndQuiet}
+use Rattle.nv_entry.specs.Commits.{GroupsEndReady, GroupsAreAtomic}
 use Rattle.nv_core.specs.Words.{Sizes}
 use Rattle.nv_core.specs.Passes.{Stage, Idle, Unlocking, Growing}
 use Rattle.nv_core.specs.Deeds.{Deed}
@@ -25,7 +24,8 @@ use Rattle.nv_core.proofs.PlainLaws.{PlainLaws}
 use Rattle.nv_core.proofs.Changes.{number_here}
 use Rattle.nv_core.proofs.Choices.{not_both}
 use Rattle.nv_core.proofs.Reach.{sound_begin, events_keep_sound, opening_is_sound}
-use Rattle.nv_core.proofs.KeepsStores.{stores_step, stores_work}
+use Rattle.nv_core.proofs.LogLaws.{LogLaws}
+use Rattle.nv_core.specs.Tails.{Tails, still, tails_after}
 use Rattle.nv_core.proofs.KeepsLengths.{lengths_step, lengths_begin, lengths_work}
 use Rattle.nv_core.proofs.KeepsValidBuffers.{HasUnlocked, valid_step, valid_begin, valid_work}
 use Rattle.nv_core.proofs.KeepsLegal.{legal_step}
@@ -34,66 +34,58 @@ use Rattle.nv_core.proofs.KeepsLogContent.{log_begin, events_keep_the_log, group
 use Rattle.nv_core.proofs.StorePageLaws.{store_pages}
 use Rattle.nv_core.proofs.KeepsPatchedReads.{patched_step, patched_begin, patched_work}
 
-content_step : (plain : PlainLaws) (sizes : Sizes) (first : Values) (files : Files) (tail : ℕ) (log : Log) (placed : ℕ → Bool) (by : ℕ) (core : Core) (deed : Deed) (found : ℕ) → HasFiles sizes first files → Sound sizes first core
-    → LogContent sizes first files tail log placed core → Content sizes first files log core → MayFind sizes by core deed found → Content sizes first files (log_stepped sizes (core.passes by) deed found log) (after_step sizes by deed found core)
-content_step plain sizes first files tail log placed by core deed found has sound logged was may = record {
+content_step : (plain : PlainLaws) (sizes : Sizes) (first : Values) (files : Files) (tails : Tails) (log : Log) (placed : ℕ → Bool) (by : ℕ) (core : Core) (deed : Deed) (found : ℕ) → HasFiles sizes first files → Sound sizes first core
+    → LogContent sizes first files tails log placed core → Content sizes files log core → MayFind sizes by core deed found → Content sizes files (log_stepped sizes (core.passes by) deed found log) (after_step sizes by deed found core)
+content_step plain sizes first files tails log placed by core deed found has sound logged was may = record {
   legal = legal_step plain sizes first files by core deed found sound was.lengths was.buffers may was.legal;
   lengths = lengths_step plain sizes first files by core deed found has.count sound may was.lengths;
   buffers = valid_step plain sizes first files by core deed found has.count sound may (unlocked (core.passes by).stage (was.patched.each by)) was.buffers;
-  stores = stores_step sizes first (core.passes by) deed core.values was.stores;
-  patched = patched_step plain sizes first files tail log placed core by deed found has.count sound logged was.patched may;
+  patched = patched_step plain sizes first files tails log placed core by deed found has.count sound logged was.patched may;
 }
   where
     unlocked : (stage : Stage) → PatchedAt sizes log files core (core.passes by).fetched (core.passes by).head stage → HasUnlocked sizes files core (core.passes by) stage
     unlocked (Unlocking page) is = is
     unlocked stage is = tt
 
-content_begin : (sizes : Sizes) (first : Values) (files : Files) (log : Log) (by : ℕ) (core : Core) (call : FileCall) → Sound sizes first core → Content sizes first files log core → MayBegin sizes call (core.passes by)
-    → Content sizes first files log (after_begin sizes by call core)
+content_begin : (sizes : Sizes) (first : Values) (files : Files) (log : Log) (by : ℕ) (core : Core) (call : FileCall) → Sound sizes first core → Content sizes files log core → MayBegin sizes call (core.passes by)
+    → Content sizes files log (after_begin sizes by call core)
 content_begin sizes first files log by core call sound was may = record {
   legal = record { legal = was.legal.legal };
   lengths = lengths_begin sizes files by core call may was.lengths;
   buffers = valid_begin sizes first files by core call sound may was.buffers;
-  stores = was.stores;
   patched = patched_begin sizes log files core by call was.patched;
 }
 
 -- what the proofs about content take of the laws of parts and of groups
 pub record PartLaws : Type 0 where
-  pub loads : LoadsAreAnImage
+  pub laws : LogLaws
   pub atomic : GroupsAreAtomic
-  pub becomes : GroupsBecomeWhole
-  pub ends : GroupsEndQuiet
-  pub blank : BlankIsQuiet
-  pub lines : StepsKeepLines
   pub ready : GroupsEndReady
-  pub one_image : QuietHasOneImage
 
-content_work : (plain : PlainLaws) (parts : PartLaws) (sizes : Sizes) (first : Values) (files : Files) (tail : ℕ) (log : Log) (placed : ℕ → Bool) (by : ℕ) (core : Core) (work : Work) → HasFiles sizes first files → Sound sizes first core
-    → LogContent sizes first files tail log placed core → Content sizes first files log core → MayWork sizes core.values (core.passes by) work
-    → Content sizes first files (log_worked (core.passes by) work.ending (core.passes by).stage log) (after_work sizes by work core)
-content_work plain parts sizes first files tail log placed by core work has sound logged was may = record {
+content_work : (plain : PlainLaws) (parts : PartLaws) (sizes : Sizes) (first : Values) (files : Files) (tails : Tails) (log : Log) (placed : ℕ → Bool) (by : ℕ) (core : Core) (work : Work) → HasFiles sizes first files → Sound sizes first core
+    → LogContent sizes first files tails log placed core → Content sizes files log core → MayWork sizes core.values (core.passes by) work
+    → Content sizes files (log_worked (core.passes by) work.ending (core.passes by).stage log) (after_work sizes by work core)
+content_work plain parts sizes first files tails log placed by core work has sound logged was may = record {
   legal = record { legal = was.legal.legal };
   lengths = lengths_work sizes files by core work may was.lengths;
-  buffers = valid_work sizes first files by core work sound has.tell was.stores (store_pages plain sizes first files tail log placed core sound logged was.stores was.patched) may was.buffers;
-  stores = stores_work first (core.passes by) work core.values was.stores;
-  patched = patched_work plain parts.loads sizes first files tail log placed core by work has sound logged images was.stores was.patched may;
+  buffers = valid_work sizes first files by core work sound logged.tell (store_pages plain sizes first files tails log placed core sound logged) may was.buffers;
+  patched = patched_work plain parts.laws.now parts.laws.group_whole sizes first files tails log placed core by work sound logged images logged.tell was.patched may;
 }
   where
-    images : 1 ≤ sizes.entries → EntryImages sizes log core
-    images some = groups_are_in_images parts.loads parts.atomic parts.becomes parts.ends sizes first files tail log placed core some sound logged
+    images : 1 ≤ sizes.entries → EntryImages sizes tails.least log core
+    images some = groups_are_in_images parts.laws.now parts.atomic parts.laws.group_whole parts.laws.group_quiet sizes first files tails log placed core some sound logged
 
-content_act : (plain : PlainLaws) (parts : PartLaws) (sizes : Sizes) (first : Values) (files : Files) (tail : ℕ) (log : Log) (placed : ℕ → Bool) (by : ℕ) (core : Core) (act : Act) → HasFiles sizes first files → Sound sizes first core
-    → LogContent sizes first files tail log placed core → Content sizes first files log core → by ≤ core.made → MayAct sizes by core act → Content sizes first files (log_acted sizes (core.passes by) act log) (after_act sizes by act core)
-content_act plain parts sizes first files tail log placed by core (Begins call deed found) has sound logged was made may =
-    subst (λ p. Content sizes first files (log_stepped sizes p deed found log) (after_step sizes by deed found (after_begin sizes by call core))) (number_here core.passes by (begun sizes call (core.passes by)))
-    (content_step plain sizes first files tail log placed by (after_begin sizes by call core) deed found has (sound_begin sizes first by core call sound made may.0)
-    (log_begin sizes first files tail log placed by core call sound logged may.0) (content_begin sizes first files log by core call sound was may.0) may.1)
-content_act plain parts sizes first files tail log placed by core (Does deed found) has sound logged was made may = content_step plain sizes first files tail log placed by core deed found has sound logged was may
-content_act plain parts sizes first files tail log placed by core (Calls work) has sound logged was made may = content_work plain parts sizes first files tail log placed by core work has sound logged was may
+content_act : (plain : PlainLaws) (parts : PartLaws) (sizes : Sizes) (first : Values) (files : Files) (tails : Tails) (log : Log) (placed : ℕ → Bool) (by : ℕ) (core : Core) (act : Act) → HasFiles sizes first files → Sound sizes first core
+    → LogContent sizes first files tails log placed core → Content sizes files log core → by ≤ core.made → MayAct sizes by core act → Content sizes files (log_acted sizes (core.passes by) act log) (after_act sizes by act core)
+content_act plain parts sizes first files tails log placed by core (Begins call deed found) has sound logged was made may =
+    subst (λ p. Content sizes files (log_stepped sizes p deed found log) (after_step sizes by deed found (after_begin sizes by call core))) (number_here core.passes by (begun sizes call (core.passes by)))
+    (content_step plain sizes first files tails log placed by (after_begin sizes by call core) deed found has (sound_begin sizes first by core call sound made may.0)
+    (log_begin sizes first files tails log placed by core call sound logged may.0) (content_begin sizes first files log by core call sound was may.0) may.1)
+content_act plain parts sizes first files tails log placed by core (Does deed found) has sound logged was made may = content_step plain sizes first files tails log placed by core deed found has sound logged was may
+content_act plain parts sizes first files tails log placed by core (Calls work) has sound logged was made may = content_work plain parts sizes first files tails log placed by core work has sound logged was may
 
 pub events_keep_content : PlainLaws → PartLaws → EventsKeepContent
-events_keep_content plain parts sizes first files tail log placed core event has sound logged was may = content_act plain parts sizes first files tail log placed event.by core event.act has sound logged was may.made may.act
+events_keep_content plain parts sizes first files tails log placed core event has sound logged was may = content_act plain parts sizes first files tails log placed event.by core event.act has sound logged was may.made may.act
 
 -- ---- at opening, and through runs
 
@@ -110,8 +102,7 @@ opening_has_content mount files log is = record {
     held = λ number page has valid. absurd (not_both valid (is.fresh page));
     gathered = λ number. tt;
   };
-  stores = record { each = λ file. refl };
-  patched = record { each = λ number. tt; uncleaned = λ slot e. omega (arith, e) };
+  patched = record { each = λ number. tt };
 }
   where
     is_idle : Stage → Bool
@@ -121,16 +112,16 @@ opening_has_content mount files log is = record {
     grows_not : Idle ≡ Growing → ⊥
     grows_not e = not_both {b = is_idle Idle} refl (ap is_idle e)
 
-run_keeps : (plain : PlainLaws) (parts : PartLaws) (sizes : Sizes) → IsPageSize sizes.page → (first : Values) (files : Files) (tail : ℕ) (events : List Event) (log : Log) (placed : ℕ → Bool) (core : Core) → HasFiles sizes first files
-    → Sound sizes first core → LogContent sizes first files tail log placed core → Content sizes first files log core → IsRun sizes core events → Content sizes first files (log_after_run sizes core events log) (after sizes core events)
-run_keeps plain parts sizes page_is first files tail [] log placed core has sound logged was run = was
-run_keeps plain parts sizes page_is first files tail (event ∷ later) log placed core has sound logged was run =
-    run_keeps plain parts sizes page_is first files tail later (log_after sizes event core log) (placed_after sizes event core placed) (after_event sizes event core) has
+run_keeps : (plain : PlainLaws) (parts : PartLaws) (sizes : Sizes) → IsPageSize sizes.page → (first : Values) (files : Files) (tails : Tails) (events : List Event) (log : Log) (placed : ℕ → Bool) (core : Core) → HasFiles sizes first files
+    → Sound sizes first core → LogContent sizes first files tails log placed core → Content sizes files log core → IsRun sizes core events → Content sizes files (log_after_run sizes core events log) (after sizes core events)
+run_keeps plain parts sizes page_is first files tails [] log placed core has sound logged was run = was
+run_keeps plain parts sizes page_is first files tails (event ∷ later) log placed core has sound logged was run =
+    run_keeps plain parts sizes page_is first files (tails_after event core tails) later (log_after sizes event core log) (placed_after sizes event core placed) (after_event sizes event core) has
     (events_keep_sound parts.ready sizes first core event sound run.0)
-    (events_keep_the_log parts.blank parts.lines plain sizes first files tail log placed core event page_is sound logged run.0)
-    (events_keep_content plain parts sizes first files tail log placed core event has sound logged was run.0) run.1
+    (events_keep_the_log parts.laws plain sizes first files tails log placed core event page_is sound logged run.0)
+    (events_keep_content plain parts sizes first files tails log placed core event has sound logged was run.0) run.1
 
 pub runs_keep_content : PlainLaws → PartLaws → RunsKeepContent
 runs_keep_content plain parts mount files tail log placed events is empty opens run =
-    run_keeps plain parts mount.sizes empty.page mount.values files tail events log placed (opening mount) opens.stores (opening_is_sound mount is)
-    (opening_has_the_log parts.one_image mount files tail log placed empty opens.stores) (opening_has_content mount files log opens) run
+    run_keeps plain parts mount.sizes empty.page mount.values files (still tail) events log placed (opening mount) opens.stores (opening_is_sound mount is)
+    (opening_has_the_log parts.laws.one_image mount files tail log placed empty opens.stores) (opening_has_content mount files log opens) run

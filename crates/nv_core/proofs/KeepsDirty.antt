@@ -1,36 +1,84 @@
 -- Each event keeps the dirty counters.
-use Rattle.std.proofs.Common.{◌≡◌, ◌≢◌, ◌⊎◌, ◌↔◌, ℕ, ◌+◌, ◌<◌, ◌≤◌, ◌==◌, nat_lt, nat_le, ◌&&◌, ◌||◌, Bool, true, false, if◌then◌else◌, List, ◌∷◌, length, inl, inr, refl, sym, ap, subst, ◌∙◌, arith, ◌-◌}
+use Rattle.std.proofs.Common.{◌≡◌, ◌≢◌, ◌⊎◌, ◌↔◌, ℕ, ◌+◌, ◌<◌, ◌≤◌, ◌==◌, nat_lt, nat_le, ◌&&◌, ◌||◌, Bool, true, false, if◌then◌else◌, List, [], ◌∷◌, length, take, inl, inr, refl, sym, ap, subst, ◌∙◌, arith, ◌-◌}
 use Rattle.std.proofs.lemmas.Bool.{eqb-true, eqb-false, eq-eqb, ne_eqb, le-leb, lt-ltb, leb-true, ltb-true, and_parts, and_from, and_left, or_cases, cases_eq, cases_lt, cases_Bool}
 use Rattle.nv_plain.specs.declared.call.FileCall.{FileCall}
 use Rattle.nv_core.specs.Words.{Sizes, Word, PAGE, ENTRY, DIRTY, index, kind_of, page_of, ready, held, filling, broken, entry_word, is_entry_of}
-use Rattle.nv_core.specs.Passes.{Stage, Locking, Checking, Copying, Seizing, Committing, Pledging, Readying, Placing, ReadFailing, WriteFailing, Breaking, Pass, without, IsUnseized, IsFilling, IsAmong, IsAllowed, page_count, first_page, end_page, times, Patching, PieceFailing}
-use Rattle.nv_core.specs.Deeds.{Deed, slot_of, page_at, ready_word, Loads, Takes, Gives, Places, Stops, Draws, Seizes, Pledges, Readies, Grows, Breaks, Splits, Leaves, Joins, Turns, Hints, Holds, Returns}
-use Rattle.nv_core.specs.Values.{Ending, Made, Failed}
-use Rattle.nv_core.specs.Stages.{leaving, after_stop}
+use Rattle.nv_core.specs.Passes.{Stage, Locking, Checking, Copying, Seizing, Committing, Pledging, Readying, Placing, ReadFailing, WriteFailing, Breaking, Pass, without, IsUnseized, IsFilling, IsAmong, IsAllowed, page_count, first_page, end_page, times, Patching, PieceFailing, Cleaning, Idle}
+use Rattle.nv_core.specs.Deeds.{Deed, slot_of, page_at, ready_word, Loads, Takes, Gives, Places, Stops, Draws, Seizes, Pledges, Readies, Grows, Breaks, Splits, Leaves, Joins, Turns, Hints, Holds, Returns, Tends, chore_move, moved}
+use Rattle.nv_core.specs.Values.{Ending, Made, Failed, Refused}
+use Rattle.nv_core.specs.Stages.{stage_after, after_tending, leaving, after_stop}
 use Rattle.nv_core.specs.Stepped.{stepped, begun}
-use Rattle.nv_core.specs.Order.{Values, Work, MayWork, MayStep, IsDue, IsFailing, commit_steps}
+use Rattle.nv_core.specs.Order.{Values, Work, MayWork, MayStep, IsDue, IsChoreDue, IsFailing, commit_steps}
 use Rattle.nv_core.proofs.ClearLaws.{IsClear, IsPlain, clear_from, clear_to, clear_leaving}
 use Rattle.nv_core.proofs.HoldingSteps.{few_entries}
 use Rattle.std.proofs.lemmas.Nat.{mod_below}
 use Rattle.nv_core.specs.Core.{Core, changes, changed, with_word, with_number, after_step, after_begin, after_work, worked, stage_worked}
 use Rattle.nv_core.specs.Events.{MayFind, MayBegin}
-use Rattle.nv_core.specs.Standing.{StandsAt, IsPage, HasDrawn}
+use Rattle.nv_core.specs.Standing.{StandsAt, IsPage, HasDrawn, has_call}
 use Rattle.nv_core.specs.Holding.{one_if, is_among, HoldsLocks}
 use Rattle.nv_core.specs.Locks.{Locks}
 use Rattle.nv_core.specs.LogWindow.{Fills, InWindow, entry_at}
-use Rattle.nv_core.specs.DirtyCounters.{is_of_page, entries_of, number_on, pledged, DirtyCounters}
+use Rattle.nv_core.specs.DirtyCounters.{is_of_page, entries_of, number_on, pledged, owed, owed_by_all, DirtyCounters}
 use Rattle.nv_core.specs.Sound.{Sound}
 use Rattle.nv_core.proofs.Changes.{by_number, differ, number_here, number_else, word_here, word_else}
-use Rattle.nv_core.proofs.Choices.{if_both, when_true, when_false, busy}
+use Rattle.nv_core.proofs.Choices.{if_both, when_true, when_false, busy, not_both, step_idle}
 use Rattle.nv_core.proofs.LockLaws.{only_holder, times_without_else}
 use Rattle.nv_core.proofs.WindowLaws.{OneEntry, slot_within}
 use Rattle.nv_core.proofs.HoldingLaws.{among_in, among_below, among_above, among_more}
 use Rattle.nv_core.proofs.WordLaws.{untouched, touches}
-use Rattle.nv_core.proofs.TotalLaws.{total_same, total_at}
+use Rattle.nv_core.proofs.TotalLaws.{total_same, total_at, total_more}
 use Rattle.nv_core.proofs.KeepsWindow.{readies_one, pledged_alike}
 use Rattle.nv_core.proofs.KeepsLocks.{kind_is, locks_step, readying_next, entry_is}
 use Rattle.nv_core.proofs.KeepsLoaded.{held_by_one, holds_page, pledged_page}
 use Rattle.nv_core.specs.Loaded.{Looks}
+use Rattle.nv_core.specs.Totals.{total}
+use Rattle.nv_core.specs.Sweeps.{Batch, Sweep, Lifting, Peeking, Carrying, Setting, Subtracting, Syncing, Moving, Freeing, Chore, Lifts, Drops, Cleans, Subtracts, Frees}
+use Rattle.nv_core.specs.Chores.{after_chore, after_chore_work, group_page}
+use Rattle.nv_core.specs.Progress.{IsLooked}
+use Rattle.nv_core.specs.SweepHolding.{count_in}
+use Rattle.nv_header.specs.HeaderSteps.{tail_steps}
+use Rattle.nv_core.proofs.KeepsProgress.{IsCall, IsTending as IsCleaners, step_call}
+use Rattle.nv_core.proofs.SweepDeeds.{IsTending, tending, IsAtHand, lifts_hand, drops_hand, cleans_hand, frees_hand}
+use Rattle.nv_core.proofs.SweepDirty.{IsUncounted, tends_owes, cleans_owes, subtracts_owes}
+use Rattle.nv_core.proofs.StandingLaws.{worked_stage}
+use Rattle.nv_core.proofs.SweepStages.{swept_worked}
+
+-- the entries of a page, and those for which a cleaner still owes its DIRTY
+abbrev pub counted : Sizes → Core → (page : ℕ) → ℕ
+counted sizes core page = entries_of sizes core.words page + owed_by_all core page
+
+-- ---- what cleaners owe, where a call makes a step
+
+owed_call : (stage : Stage) (page : ℕ) → IsCall stage → owed stage page ≡ 0
+owed_call (Cleaning batch sweep) page call = absurd call
+owed_call stage page call = refl
+
+has_call_call : (stage : Stage) → has_call stage ≡ true → IsCall stage
+has_call_call (Cleaning batch sweep) has = not_both has refl
+has_call_call stage has = tt
+
+pub owed_same : (core now : Core) (page : ℕ) → now.made ≡ core.made → ((n : ℕ) → owed (now.passes n).stage page ≡ owed (core.passes n).stage page) → owed_by_all now page ≡ owed_by_all core page
+owed_same core now page made same = ap (λ m. total (m + 1) (λ n. owed (now.passes n).stage page)) made ∙ total_same (core.made + 1) (λ n. owed (core.passes n).stage page) (λ n. owed (now.passes n).stage page) (λ n less. same n)
+
+owed_step : (sizes : Sizes) (first : Values) (by : ℕ) (core : Core) (deed : Deed) (found : ℕ) → Sound sizes first core → (IsCleaners deed → ⊥) → MayFind sizes by core deed found → (page : ℕ) → owed_by_all (after_step sizes by deed found core) page ≡ owed_by_all core page
+owed_step sizes first by core (Tends chore) found sound other may page = absurd (other tt)
+owed_step sizes first by core Splits found sound other may page =
+    let e = total_more (core.made + 1) (λ n. owed ((after_step sizes by Splits found core).passes n).stage page) in
+    let f = total_same (core.made + 1) (λ n. owed (core.passes n).stage page) (λ n. owed ((after_step sizes by Splits found core).passes n).stage page)
+    (λ n less. ap (λ (p : Pass). owed p.stage page) (number_else core.passes (core.made + 1) (changed sizes by core Splits found) n (λ is. omega (arith, is, less)))) in
+    let g : owed ((after_step sizes by Splits found core).passes (core.made + 1)).stage page ≡ 0 = ap (λ (p : Pass). owed p.stage page) (number_here core.passes (core.made + 1) (changed sizes by core Splits found)) in
+    omega (arith, e, f, g)
+owed_step sizes first by core (Leaves cell) found sound other may page = owed_same core (after_step sizes by (Leaves cell) found core) page refl
+    (by_number (λ n (p : Pass). owed p.stage page ≡ owed (core.passes n).stage page) core.passes by (changed sizes by core (Leaves cell) found) refl (λ n ne. refl))
+owed_step sizes first by core (Joins number) found sound other may page = owed_same core (after_step sizes by (Joins number) found core) page refl
+    (by_number (λ n (p : Pass). owed p.stage page ≡ owed (core.passes n).stage page) core.passes by (changed sizes by core (Joins number) found) refl (λ n ne. refl))
+owed_step sizes first by core deed found sound other may page = owed_same core (after_step sizes by deed found core) page refl
+    (by_number (λ n (p : Pass). owed p.stage page ≡ owed (core.passes n).stage page) core.passes by (changed sizes by core deed found)
+    (owed_call (stage_after sizes (core.passes by) deed found) page (step_call sizes core.values (core.passes by) deed found (λ f. f) may.may)
+    ∙ sym (owed_call (core.passes by).stage page (has_call_call (core.passes by).stage (step_idle sizes core.values (core.passes by) deed may.may)))) (λ n ne. refl))
+
+both_same : (sizes : Sizes) (core now : Core) (page : ℕ) → entries_of sizes now.words page ≡ entries_of sizes core.words page → owed_by_all now page ≡ owed_by_all core page → counted sizes now page ≡ counted sizes core page
+both_same sizes core now page e f = omega (arith, e, f)
 
 -- a page's lock is 0 or held by one pass
 page_held : (core : Core) → Locks core → (page : ℕ) → (core.words (PAGE page) ≡ 0) ⊎ ((n : ℕ) × (times (PAGE page) (core.passes n).hands ≡ 1))
@@ -49,7 +97,7 @@ not_free core locks page n held zero =
 
 -- what is counted stays, and the pass that changes has pledged nothing before or after
 silent : (sizes : Sizes) (core now : Core) (who : ℕ) (pass : Pass) → Locks core → Locks now → DirtyCounters sizes core
-    → ((page : ℕ) → now.words (DIRTY page) ≡ core.words (DIRTY page)) → ((page : ℕ) → entries_of sizes now.words page ≡ entries_of sizes core.words page)
+    → ((page : ℕ) → now.words (DIRTY page) ≡ core.words (DIRTY page)) → ((page : ℕ) → counted sizes now page ≡ counted sizes core page)
     → ((n : ℕ) → now.passes n ≡ with_number core.passes who pass n)
     → ((page : ℕ) → pledged sizes (core.passes who) (core.passes who).stage page ≡ 0) → ((page : ℕ) → pledged sizes pass pass.stage page ≡ 0)
     → DirtyCounters sizes now
@@ -59,27 +107,27 @@ silent sizes core now who pass locks after dirty same entries passes none_before
     | inl e ↦ let p = subst (λ (q : Pass). times (PAGE page) q.hands ≡ 1) (passes n ∙ ap (with_number core.passes who pass) e ∙ number_here core.passes who pass) here in
         same page ∙ clean page p (page_held core locks page) ∙ sym (entries page) ∙ none_more page n (subst (λ (q : Pass). pledged sizes q q.stage page ≡ 0) (sym (passes n ∙ ap (with_number core.passes who pass) e ∙ number_here core.passes who pass)) (none_after page))
     | inr ne ↦ let is : now.passes n ≡ core.passes n = passes n ∙ number_else core.passes who pass n ne in
-        same page ∙ dirty.held page n (subst (λ (q : Pass). times (PAGE page) q.hands ≡ 1) is here) ∙ ap (λ e. e + pledged sizes (core.passes n) (core.passes n).stage page) (sym (entries page)) ∙ ap (λ (q : Pass). entries_of sizes now.words page + pledged sizes q q.stage page) (sym is)
+        same page ∙ dirty.held page n (subst (λ (q : Pass). times (PAGE page) q.hands ≡ 1) is here) ∙ ap (λ e. e + pledged sizes (core.passes n) (core.passes n).stage page) (sym (entries page)) ∙ ap (λ (q : Pass). counted sizes now page + pledged sizes q q.stage page) (sym is)
   ];
 }
   where
-    none_more : (page n : ℕ) → pledged sizes (now.passes n) (now.passes n).stage page ≡ 0 → entries_of sizes now.words page ≡ entries_of sizes now.words page + pledged sizes (now.passes n) (now.passes n).stage page
+    none_more : (page n : ℕ) → pledged sizes (now.passes n) (now.passes n).stage page ≡ 0 → counted sizes now page ≡ counted sizes now page + pledged sizes (now.passes n) (now.passes n).stage page
     none_more page n z = omega (arith, z)
 
-    by_who : (page : ℕ) → times (PAGE page) (core.passes who).hands ≡ 1 → core.words (DIRTY page) ≡ entries_of sizes core.words page
+    by_who : (page : ℕ) → times (PAGE page) (core.passes who).hands ≡ 1 → core.words (DIRTY page) ≡ counted sizes core page
     by_who page here = let d = dirty.held page who here in let z = none_before page in omega (arith, d, z)
 
     still_held : (page n : ℕ) → n ≢ who → times (PAGE page) (core.passes n).hands ≡ 1 → times (PAGE page) (now.passes n).hands ≡ 1
     still_held page n ne here = subst (λ (q : Pass). times (PAGE page) q.hands ≡ 1) (sym (passes n ∙ number_else core.passes who pass n ne)) here
 
-    was_free : (page : ℕ) → now.words (PAGE page) ≡ 0 → (core.words (PAGE page) ≡ 0) ⊎ ((n : ℕ) × (times (PAGE page) (core.passes n).hands ≡ 1)) → core.words (DIRTY page) ≡ entries_of sizes core.words page
+    was_free : (page : ℕ) → now.words (PAGE page) ≡ 0 → (core.words (PAGE page) ≡ 0) ⊎ ((n : ℕ) × (times (PAGE page) (core.passes n).hands ≡ 1)) → core.words (DIRTY page) ≡ counted sizes core page
     was_free page zero (inl unheld) = dirty.free page unheld
     was_free page zero (inr holder) = elim (cases_eq holder.0 who) [
       | inl e ↦ by_who page (subst (λ n. times (PAGE page) (core.passes n).hands ≡ 1) e holder.1)
       | inr ne ↦ absurd (not_free now after page holder.0 (still_held page holder.0 ne holder.1) zero)
     ]
 
-    clean : (page : ℕ) → times (PAGE page) pass.hands ≡ 1 → (core.words (PAGE page) ≡ 0) ⊎ ((n : ℕ) × (times (PAGE page) (core.passes n).hands ≡ 1)) → core.words (DIRTY page) ≡ entries_of sizes core.words page
+    clean : (page : ℕ) → times (PAGE page) pass.hands ≡ 1 → (core.words (PAGE page) ≡ 0) ⊎ ((n : ℕ) × (times (PAGE page) (core.passes n).hands ≡ 1)) → core.words (DIRTY page) ≡ counted sizes core page
     clean page here (inl unheld) = dirty.free page unheld
     clean page here (inr holder) = elim (cases_eq holder.0 who) [
       | inl e ↦ by_who page (subst (λ n. times (PAGE page) (core.passes n).hands ≡ 1) e holder.1)
@@ -186,11 +234,12 @@ unpledged_leaving hands = clear_unpledged (leaving hands) (clear_leaving hands)
 
 -- a step between two such stages that leaves the counted words
 silent_step : (sizes : Sizes) (first : Values) (by : ℕ) (core : Core) (deed : Deed) (found : ℕ) → Sound sizes first core → DirtyCounters sizes core → MayFind sizes by core deed found
-    → ((page : ℕ) → touches deed (DIRTY page) ≡ false) → ((page : ℕ) → entries_of sizes (after_step sizes by deed found core).words page ≡ entries_of sizes core.words page)
+    → (IsCleaners deed → ⊥) → ((page : ℕ) → touches deed (DIRTY page) ≡ false) → ((page : ℕ) → entries_of sizes (after_step sizes by deed found core).words page ≡ entries_of sizes core.words page)
     → IsUnpledged (core.passes (changes by core.made deed)).stage → IsUnpledged (changed sizes by core deed found).stage → DirtyCounters sizes (after_step sizes by deed found core)
-silent_step sizes first by core deed found sound dirty may untouched_dirty entries before after =
+silent_step sizes first by core deed found sound dirty may other untouched_dirty entries before after =
     silent sizes core (after_step sizes by deed found core) (changes by core.made deed) (changed sizes by core deed found) sound.locks (locks_step sizes first by core deed found sound may) dirty
-    (λ page. untouched sizes by core deed found may (DIRTY page) (untouched_dirty page)) entries (λ n. refl)
+    (λ page. untouched sizes by core deed found may (DIRTY page) (untouched_dirty page))
+    (λ page. both_same sizes core (after_step sizes by deed found core) page (entries page) (owed_step sizes first by core deed found sound other may page)) (λ n. refl)
     (λ page. unpledged sizes (core.passes (changes by core.made deed)) page (core.passes (changes by core.made deed)).stage before)
     (λ page. unpledged sizes (changed sizes by core deed found) page (changed sizes by core deed found).stage after)
 
@@ -199,24 +248,28 @@ same_entries : (sizes : Sizes) (by : ℕ) (core : Core) (deed : Deed) (found : �
 same_entries sizes by core deed found may not_so page = total_same sizes.entries (λ slot. one_if (is_of_page page (core.words (ENTRY slot)))) (λ slot. one_if (is_of_page page ((after_step sizes by deed found core).words (ENTRY slot))))
     (λ slot less. ap (λ w. one_if (is_of_page page w)) (untouched sizes by core deed found may (ENTRY slot) (not_so slot)))
 
-plain_step : (sizes : Sizes) (first : Values) (by : ℕ) (core : Core) (deed : Deed) (found : ℕ) → Sound sizes first core → DirtyCounters sizes core → (may : MayFind sizes by core deed found) → IsPlain deed → MayStep sizes core.values (core.passes by) deed
+plain_step : (sizes : Sizes) (first : Values) (by : ℕ) (core : Core) (deed : Deed) (found : ℕ) → Sound sizes first core → DirtyCounters sizes core → (may : MayFind sizes by core deed found) → (IsCleaners deed → ⊥) → IsPlain deed → MayStep sizes core.values (core.passes by) deed
     → (changes by core.made deed ≡ by) → (changed sizes by core deed found ≡ stepped sizes by core.history deed found (core.passes by))
     → ((page : ℕ) → touches deed (DIRTY page) ≡ false) → ((slot : ℕ) → touches deed (ENTRY slot) ≡ false) → DirtyCounters sizes (after_step sizes by deed found core)
-plain_step sizes first by core deed found sound dirty may plain step who what untouched_dirty untouched_entry =
-    silent_step sizes first by core deed found sound dirty may untouched_dirty (same_entries sizes by core deed found may untouched_entry)
+plain_step sizes first by core deed found sound dirty may other plain step who what untouched_dirty untouched_entry =
+    silent_step sizes first by core deed found sound dirty may other untouched_dirty (same_entries sizes by core deed found may untouched_entry)
     (subst (λ n. IsUnpledged (core.passes n).stage) (sym who) (clear_unpledged _ (clear_from sizes core.values (core.passes by) deed plain step)))
     (subst (λ (p : Pass). IsUnpledged p.stage) (sym what) (clear_unpledged _ (clear_to sizes core.values (core.passes by) deed found plain step)))
 
 -- nothing changes that is counted, and the passes hold and have pledged what they did
 dirty_still : (sizes : Sizes) (core now : Core) → DirtyCounters sizes core → ((word : Word) → now.words word ≡ core.words word) → ((n : ℕ) → (now.passes n).hands ≡ (core.passes n).hands)
-    → ((n page : ℕ) → pledged sizes (now.passes n) (now.passes n).stage page ≡ pledged sizes (core.passes n) (core.passes n).stage page) → DirtyCounters sizes now
-dirty_still sizes core now dirty words hands same = record {
-  free = λ page zero. words (DIRTY page) ∙ dirty.free page (sym (words (PAGE page)) ∙ zero) ∙ sym (entries page);
-  held = λ page n here. words (DIRTY page) ∙ dirty.held page n (ap (times (PAGE page)) (sym (hands n)) ∙ here) ∙ ap (λ e. e + pledged sizes (core.passes n) (core.passes n).stage page) (sym (entries page)) ∙ ap (λ p. entries_of sizes now.words page + p) (sym (same n page));
+    → ((n page : ℕ) → pledged sizes (now.passes n) (now.passes n).stage page ≡ pledged sizes (core.passes n) (core.passes n).stage page)
+    → ((page : ℕ) → owed_by_all now page ≡ owed_by_all core page) → DirtyCounters sizes now
+dirty_still sizes core now dirty words hands same owes = record {
+  free = λ page zero. words (DIRTY page) ∙ dirty.free page (sym (words (PAGE page)) ∙ zero) ∙ sym (counts page);
+  held = λ page n here. words (DIRTY page) ∙ dirty.held page n (ap (times (PAGE page)) (sym (hands n)) ∙ here) ∙ ap (λ e. e + pledged sizes (core.passes n) (core.passes n).stage page) (sym (counts page)) ∙ ap (λ p. counted sizes now page + p) (sym (same n page));
 }
   where
     entries : (page : ℕ) → entries_of sizes now.words page ≡ entries_of sizes core.words page
     entries page = total_same sizes.entries (λ slot. one_if (is_of_page page (core.words (ENTRY slot)))) (λ slot. one_if (is_of_page page (now.words (ENTRY slot)))) (λ slot less. ap (λ w. one_if (is_of_page page w)) (words (ENTRY slot)))
+
+    counts : (page : ℕ) → counted sizes now page ≡ counted sizes core page
+    counts page = both_same sizes core now page (entries page) (owes page)
 
 left_pledged : (sizes : Sizes) (pass : Pass) (left : List Word) (page : ℕ) (stage : Stage) → pledged sizes record pass { left = left } stage page ≡ pledged sizes pass stage page
 left_pledged sizes pass left page stage = refl
@@ -258,14 +311,18 @@ pledges_step : (sizes : Sizes) (first : Values) (by : ℕ) (core : Core) (found 
 pledges_step sizes first by core found page sound dirty may = record {
   free = λ p zero. elim (cases_eq p page) [
     | inl e ↦ absurd (not_free core sound.locks page by mine (subst (λ q. core.words (PAGE q) ≡ 0) e (sym (untouched sizes by core (Pledges page) found may (PAGE p) refl) ∙ zero)))
-    | inr ne ↦ word_else core.words (DIRTY page) _ (DIRTY p) (λ e. ne (ap index e)) ∙ dirty.free p (sym (untouched sizes by core (Pledges page) found may (PAGE p) refl) ∙ zero) ∙ sym (same_entries sizes by core (Pledges page) found may (λ slot. refl) p)
+    | inr ne ↦ word_else core.words (DIRTY page) _ (DIRTY p) (λ e. ne (ap index e)) ∙ dirty.free p (sym (untouched sizes by core (Pledges page) found may (PAGE p) refl) ∙ zero)
+        ∙ sym (both_same sizes core (after_step sizes by (Pledges page) found core) p (same_entries sizes by core (Pledges page) found may (λ slot. refl) p) (owes p))
   ];
-  held = λ p. by_number (λ n (q : Pass). times (PAGE p) q.hands ≡ 1 → (after_step sizes by (Pledges page) found core).words (DIRTY p) ≡ entries_of sizes (after_step sizes by (Pledges page) found core).words p + pledged sizes q q.stage p) core.passes by (changed sizes by core (Pledges page) found)
-      (λ here. let old = dirty.held p by here in let e = same_entries sizes by core (Pledges page) found may (λ slot. refl) p in let m = more p in let s = was p in let d = dirty_now p in omega (arith, old, e, m, s, d))
+  held = λ p. by_number (λ n (q : Pass). times (PAGE p) q.hands ≡ 1 → (after_step sizes by (Pledges page) found core).words (DIRTY p) ≡ counted sizes (after_step sizes by (Pledges page) found core) p + pledged sizes q q.stage p) core.passes by (changed sizes by core (Pledges page) found)
+      (λ here. let old = dirty.held p by here in let e = same_entries sizes by core (Pledges page) found may (λ slot. refl) p in let m = more p in let s = was p in let d = dirty_now p in let w = owes p in omega (arith, old, e, m, s, d, w))
       (λ n ne here. let old = dirty.held p n here in let e = same_entries sizes by core (Pledges page) found may (λ slot. refl) p in
-      let d = word_else core.words (DIRTY page) (found + 1) (DIRTY p) (λ e. held_by_one sizes first core sound (PAGE page) by n mine (subst (λ q. times (PAGE q) (core.passes n).hands ≡ 1) (ap index e) here) ne) in omega (arith, old, e, d));
+      let d = word_else core.words (DIRTY page) (found + 1) (DIRTY p) (λ e. held_by_one sizes first core sound (PAGE page) by n mine (subst (λ q. times (PAGE q) (core.passes n).hands ≡ 1) (ap index e) here) ne) in let w = owes p in omega (arith, old, e, d, w));
 }
   where
+    owes : (p : ℕ) → owed_by_all (after_step sizes by (Pledges page) found core) p ≡ owed_by_all core p
+    owes = owed_step sizes first by core (Pledges page) found sound (λ f. f) may
+
     pass : Pass
     pass = core.passes by
 
@@ -331,14 +388,17 @@ readies_step sizes first by core found next sound dirty may = record {
   free = λ p zero. let z = sym (untouched sizes by core (Readies next) found may (PAGE p) refl) ∙ zero in
       let old = dirty.free p z in let d = untouched sizes by core (Readies next) found may (DIRTY p) refl in
       let e = entries_now p in
-      let o : one_if (here == p) ≡ 0 = when_false (here == p) 1 0 (ne_eqb here p (λ is. not_free core sound.locks here by mine (subst (λ q. core.words (PAGE q) ≡ 0) (sym is) z))) in omega (arith, old, d, e, o);
-  held = λ p. by_number (λ n (q : Pass). times (PAGE p) q.hands ≡ 1 → (after_step sizes by (Readies next) found core).words (DIRTY p) ≡ entries_of sizes (after_step sizes by (Readies next) found core).words p + pledged sizes q q.stage p) core.passes by (changed sizes by core (Readies next) found)
+      let o : one_if (here == p) ≡ 0 = when_false (here == p) 1 0 (ne_eqb here p (λ is. not_free core sound.locks here by mine (subst (λ q. core.words (PAGE q) ≡ 0) (sym is) z))) in let w = owes p in omega (arith, old, d, e, o, w);
+  held = λ p. by_number (λ n (q : Pass). times (PAGE p) q.hands ≡ 1 → (after_step sizes by (Readies next) found core).words (DIRTY p) ≡ counted sizes (after_step sizes by (Readies next) found core) p + pledged sizes q q.stage p) core.passes by (changed sizes by core (Readies next) found)
       (λ held_now. let old = dirty.held p by (sym (times_without_else (PAGE p) (ENTRY (slot_of sizes next)) (core.passes by).hands (differ (PAGE p) (ENTRY (slot_of sizes next)) refl)) ∙ held_now) in
-      let d = untouched sizes by core (Readies next) found may (DIRTY p) refl in let e = entries_now p in let m = less p in omega (arith, old, d, e, m))
+      let d = untouched sizes by core (Readies next) found may (DIRTY p) refl in let e = entries_now p in let m = less p in let w = owes p in omega (arith, old, d, e, m, w))
       (λ n ne held_now. let old = dirty.held p n held_now in let d = untouched sizes by core (Readies next) found may (DIRTY p) refl in let e = entries_now p in
-      let o : one_if (here == p) ≡ 0 = when_false (here == p) 1 0 (ne_eqb here p (λ is. held_by_one sizes first core sound (PAGE here) by n mine (subst (λ q. times (PAGE q) (core.passes n).hands ≡ 1) (sym is) held_now) ne)) in omega (arith, old, d, e, o));
+      let o : one_if (here == p) ≡ 0 = when_false (here == p) 1 0 (ne_eqb here p (λ is. held_by_one sizes first core sound (PAGE here) by n mine (subst (λ q. times (PAGE q) (core.passes n).hands ≡ 1) (sym is) held_now) ne)) in let w = owes p in omega (arith, old, d, e, o, w));
 }
   where
+    owes : (p : ℕ) → owed_by_all (after_step sizes by (Readies next) found core) p ≡ owed_by_all core p
+    owes = owed_step sizes first by core (Readies next) found sound (λ f. f) may
+
     here : ℕ
     here = page_at sizes (core.passes by) next
 
@@ -409,6 +469,165 @@ readies_step sizes first by core found next sound dirty may = record {
       ]
     ]
 
+-- ---- a cleaner's steps
+
+-- one that leaves DIRTY, and of each page as many that are counted or owed
+tend_silent : (sizes : Sizes) (first : Values) (by : ℕ) (core : Core) (chore : Chore) (found : ℕ) → Sound sizes first core → DirtyCounters sizes core → MayFind sizes by core (Tends chore) found → ((page : ℕ) → touches (Tends chore) (DIRTY page) ≡ false)
+    → ((page : ℕ) → counted sizes (after_step sizes by (Tends chore) found core) page ≡ counted sizes core page) → DirtyCounters sizes (after_step sizes by (Tends chore) found core)
+tend_silent sizes first by core chore found sound dirty may untouched_dirty same =
+    silent sizes core (after_step sizes by (Tends chore) found core) by (changed sizes by core (Tends chore) found) sound.locks (locks_step sizes first by core (Tends chore) found sound may) dirty
+    (λ page. untouched sizes by core (Tends chore) found may (DIRTY page) (untouched_dirty page)) same (λ n. refl)
+    (λ page. unpledged sizes (core.passes by) page (core.passes by).stage (clear_unpledged _ (clear_from sizes core.values (core.passes by) (Tends chore) tt may.may)))
+    (λ page. unpledged sizes (changed sizes by core (Tends chore) found) page (changed sizes by core (Tends chore) found).stage (clear_unpledged _ (clear_to sizes core.values (core.passes by) (Tends chore) found tt may.may)))
+
+-- one that neither cleans an entry nor takes from DIRTY owes what it did
+tend_owes : (sizes : Sizes) (by : ℕ) (core : Core) (chore : Chore) (found : ℕ) → IsUncounted chore → MayFind sizes by core (Tends chore) found → (page : ℕ) → owed_by_all (after_step sizes by (Tends chore) found core) page ≡ owed_by_all core page
+tend_owes sizes by core chore found un may page = owed_same core (after_step sizes by (Tends chore) found core) page refl
+    (by_number (λ n (p : Pass). owed p.stage page ≡ owed (core.passes n).stage page) core.passes by (changed sizes by core (Tends chore) found)
+    (tends_owes sizes (core.passes by) (moved (chore_move sizes chore found) (core.passes by).hands) chore found (core.passes by).stage un may.may page) (λ n ne. refl))
+
+eq_turned : (a b : ℕ) → one_if (a == b) ≡ one_if (b == a)
+eq_turned a b = elim (cases_eq a b) [
+  | inl same ↦ when_true (a == b) 1 0 (eq-eqb a b same) ∙ sym (when_true (b == a) 1 0 (eq-eqb b a (sym same)))
+  | inr ne ↦ when_false (a == b) 1 0 (ne_eqb a b ne) ∙ sym (when_false (b == a) 1 0 (ne_eqb b a (λ e. ne (sym e))))
+]
+
+-- the pass of a cleaner is made
+cleaner_made : (sizes : Sizes) (first : Values) (by : ℕ) (core : Core) (batch : Batch) (sweep : Sweep) → Sound sizes first core → (core.passes by).stage ≡ Cleaning batch sweep → by < core.made + 1
+cleaner_made sizes first by core batch sweep sound at = elim (cases_lt by (core.made + 1)) [
+  | inl less ↦ less
+  | inr more ↦ absurd (not_idle batch sweep (sym at ∙ (sound.numbers.unborn by (omega (arith, more))).idle))
+]
+  where
+    not_idle : (batch : Batch) (sweep : Sweep) → Cleaning batch sweep ≢ Idle
+    not_idle batch sweep e = cc
+
+-- what all owe changes by as much as what this one does
+owed_at : (sizes : Sizes) (first : Values) (by : ℕ) (core : Core) (chore : Chore) (found : ℕ) (batch : Batch) (sweep : Sweep) (page : ℕ) → Sound sizes first core → (core.passes by).stage ≡ Cleaning batch sweep
+    → owed_by_all (after_step sizes by (Tends chore) found core) page + owed (Cleaning batch sweep) page
+    ≡ owed_by_all core page + owed (after_chore sizes (moved (chore_move sizes chore found) (core.passes by).hands) batch sweep found) page
+owed_at sizes first by core chore found batch sweep page sound at =
+    let e = total_at (core.made + 1) by (λ n. owed (core.passes n).stage page) (λ n. owed ((after_step sizes by (Tends chore) found core).passes n).stage page) (cleaner_made sizes first by core batch sweep sound at)
+    (λ n ne. ap (λ (p : Pass). owed p.stage page) (number_else core.passes by (changed sizes by core (Tends chore) found) n ne)) in
+    let f : owed ((after_step sizes by (Tends chore) found core).passes by).stage page ≡ owed (after_chore sizes (moved (chore_move sizes chore found) (core.passes by).hands) batch sweep found) page =
+    ap (λ (p : Pass). owed p.stage page) (number_here core.passes by (changed sizes by core (Tends chore) found)) ∙ ap (λ s. owed (after_tending sizes (moved (chore_move sizes chore found) (core.passes by).hands) chore found s) page) at in
+    let g : owed (core.passes by).stage page ≡ owed (Cleaning batch sweep) page = ap (λ s. owed s page) at in
+    omega (arith, e, f, g)
+
+-- an entry is cleaned: its page has one less, and one more is owed
+cleans_dirty : (sizes : Sizes) (first : Values) (by : ℕ) (core : Core) (number found : ℕ) → Sound sizes first core → DirtyCounters sizes core → MayFind sizes by core (Tends (Cleans number)) found → DirtyCounters sizes (after_step sizes by (Tends (Cleans number)) found core)
+cleans_dirty sizes first by core number found sound dirty may = tend_silent sizes first by core (Cleans number) found sound dirty may (λ page. refl) same
+  where
+    t : IsTending (core.passes by) (Cleans number)
+    t = tending sizes (core.passes by) (Cleans number) tt may.may
+
+    i : ℕ
+    i = t.made.0
+
+    at : (core.passes by).stage ≡ Cleaning t.batch (Setting t.made.0)
+    at = t.stage ∙ ap (Cleaning t.batch) t.made.1
+
+    less : t.made.0 < length t.batch.pages
+    less = subst (StandsAt sizes (core.passes by)) at (sound.standing by).at
+
+    looked : IsLooked sizes core t.batch (Setting t.made.0) t.made.0
+    looked = (sound.grouped.progress.each by t.batch (Setting t.made.0) at tt).looked t.made.0 less
+
+    page_is : page_of (entry_at sizes core number) ≡ group_page t.batch t.made.0
+    page_is = ap (λ n. page_of (entry_at sizes core n)) t.made.2 ∙ looked.page
+
+    hand : IsAtHand sizes first core sound by number held
+    hand = cleans_hand sizes first core sound by found number may
+
+    same : (page : ℕ) → counted sizes (after_step sizes by (Tends (Cleans number)) found core) page ≡ counted sizes core page
+    same page =
+        let e = entries_at sizes core.words (slot_of sizes number) (found + 1) page (slot_within sizes core number sound.window hand.within) in
+        let k = hand.kind_is in let is : entry_at sizes core number ≡ found = may.is in
+        let was : one_if (is_of_page page (entry_at sizes core number)) ≡ one_if (page == group_page t.batch t.made.0) =
+        ap one_if (of_held page (entry_at sizes core number) k) ∙ ap (λ p. one_if (p == page)) page_is ∙ eq_turned (group_page t.batch t.made.0) page in
+        let up : kind_of (found + 1) ≡ 4 = omega (arith, k, is) in
+        let now : one_if (is_of_page page (found + 1)) ≡ 0 = when_false _ 1 0 (not_of_page page (found + 1) (λ z. omega (arith, z, up)) (λ z. omega (arith, z, up))) in
+        let o = owed_at sizes first by core (Cleans number) found t.batch (Setting t.made.0) page sound at in
+        let c = cleans_owes sizes (moved (chore_move sizes (Cleans number) found) (core.passes by).hands) t.batch t.made.0 found page less in
+        omega (arith, e, was, now, o, c)
+
+-- DIRTY of a page falls, and one less is owed
+subtracts_dirty : (sizes : Sizes) (first : Values) (by : ℕ) (core : Core) (page found : ℕ) → Sound sizes first core → DirtyCounters sizes core → MayFind sizes by core (Tends (Subtracts page)) found → DirtyCounters sizes (after_step sizes by (Tends (Subtracts page)) found core)
+subtracts_dirty sizes first by core page found sound dirty may = record {
+  free = λ p zero. let old = dirty.free p (sym (word_else core.words (DIRTY page) (found - 1) (PAGE p) (differ (PAGE p) (DIRTY page) refl)) ∙ zero) in let f = falls p in let c = less_counted p in omega (arith, old, f, c);
+  held = λ p. by_number (λ n (q : Pass). times (PAGE p) q.hands ≡ 1 → (after_step sizes by (Tends (Subtracts page)) found core).words (DIRTY p) ≡ counted sizes (after_step sizes by (Tends (Subtracts page)) found core) p + pledged sizes q q.stage p)
+      core.passes by (changed sizes by core (Tends (Subtracts page)) found)
+      (λ here. let old = dirty.held p by here in let f = falls p in let c = less_counted p in let a = before p in let b = after p in omega (arith, old, f, c, a, b))
+      (λ n ne here. let old = dirty.held p n here in let f = falls p in let c = less_counted p in omega (arith, old, f, c));
+}
+  where
+    t : IsTending (core.passes by) (Subtracts page)
+    t = tending sizes (core.passes by) (Subtracts page) tt may.may
+
+    at : (core.passes by).stage ≡ Cleaning t.batch (Subtracting t.made.0)
+    at = t.stage ∙ ap (Cleaning t.batch) t.made.1
+
+    less : t.made.0 < length t.batch.pages
+    less = subst (StandsAt sizes (core.passes by)) at (sound.standing by).at
+
+    before : (p : ℕ) → pledged sizes (core.passes by) (core.passes by).stage p ≡ 0
+    before p = unpledged sizes (core.passes by) p (core.passes by).stage (clear_unpledged _ (clear_from sizes core.values (core.passes by) (Tends (Subtracts page)) tt may.may))
+
+    after : (p : ℕ) → pledged sizes (changed sizes by core (Tends (Subtracts page)) found) (changed sizes by core (Tends (Subtracts page)) found).stage p ≡ 0
+    after p = unpledged sizes (changed sizes by core (Tends (Subtracts page)) found) p (changed sizes by core (Tends (Subtracts page)) found).stage (clear_unpledged _ (clear_to sizes core.values (core.passes by) (Tends (Subtracts page)) found tt may.may))
+
+    owes_less : (p : ℕ) → owed_by_all (after_step sizes by (Tends (Subtracts page)) found core) p + one_if (p == page) ≡ owed_by_all core p
+    owes_less p =
+        let o = owed_at sizes first by core (Subtracts page) found t.batch (Subtracting t.made.0) p sound at in
+        let c = subtracts_owes sizes (moved (chore_move sizes (Subtracts page) found) (core.passes by).hands) t.batch t.made.0 found p less in
+        let g : one_if (p == page) ≡ one_if (p == group_page t.batch t.made.0) = ap (λ q. one_if (p == q)) t.made.2 in
+        omega (arith, o, c, g)
+
+    less_counted : (p : ℕ) → counted sizes (after_step sizes by (Tends (Subtracts page)) found core) p + one_if (p == page) ≡ counted sizes core p
+    less_counted p = let e = same_entries sizes by core (Tends (Subtracts page)) found may (λ slot. refl) p in let o = owes_less p in omega (arith, e, o)
+
+    -- there is one to take
+    some : 1 ≤ core.words (DIRTY page)
+    some =
+        let o = owes_less page in let one : one_if (page == page) ≡ 1 = when_true (page == page) 1 0 (eq-eqb page page refl) in
+        elim (page_held core sound.locks page) [
+          | inl zero_ ↦ (let d = dirty.free page zero_ in omega (arith, d, o, one))
+          | inr holder ↦ (let d = dirty.held page holder.0 holder.1 in omega (arith, d, o, one))
+        ]
+
+    falls : (p : ℕ) → (after_step sizes by (Tends (Subtracts page)) found core).words (DIRTY p) + one_if (p == page) ≡ core.words (DIRTY p)
+    falls p = elim (cases_eq p page) [
+      | inl e ↦ subst (λ q. (after_step sizes by (Tends (Subtracts page)) found core).words (DIRTY q) + one_if (q == page) ≡ core.words (DIRTY q)) (sym e)
+          (let w : (after_step sizes by (Tends (Subtracts page)) found core).words (DIRTY page) ≡ found - 1 = word_here core.words (DIRTY page) (found - 1) in let f : core.words (DIRTY page) ≡ found = may.is in let s = some in
+          let o : one_if (page == page) ≡ 1 = when_true (page == page) 1 0 (eq-eqb page page refl) in omega (arith, w, f, o, s))
+      | inr ne ↦ (let w : (after_step sizes by (Tends (Subtracts page)) found core).words (DIRTY p) ≡ core.words (DIRTY p) = word_else core.words (DIRTY page) (found - 1) (DIRTY p) (λ e. ne (ap index e)) in
+          let o : one_if (p == page) ≡ 0 = when_false (p == page) 1 0 (ne_eqb p page ne) in omega (arith, w, o))
+    ]
+
+-- one entry changes, of its page before and after, or of none
+tend_entry : (sizes : Sizes) (first : Values) (by : ℕ) (core : Core) (chore : Chore) (found : ℕ) → Sound sizes first core → DirtyCounters sizes core → MayFind sizes by core (Tends chore) found → IsUncounted chore → ((page : ℕ) → touches (Tends chore) (DIRTY page) ≡ false)
+    → ((page : ℕ) → entries_of sizes (after_step sizes by (Tends chore) found core).words page ≡ entries_of sizes core.words page) → DirtyCounters sizes (after_step sizes by (Tends chore) found core)
+tend_entry sizes first by core chore found sound dirty may un untouched_dirty entries = tend_silent sizes first by core chore found sound dirty may untouched_dirty
+    (λ page. both_same sizes core (after_step sizes by (Tends chore) found core) page (entries page) (tend_owes sizes by core chore found un may page))
+
+dirty_tends : (sizes : Sizes) (first : Values) (by : ℕ) (core : Core) (chore : Chore) (found : ℕ) → Sound sizes first core → DirtyCounters sizes core → MayFind sizes by core (Tends chore) found → DirtyCounters sizes (after_step sizes by (Tends chore) found core)
+dirty_tends sizes first by core (Cleans number) found sound dirty may = cleans_dirty sizes first by core number found sound dirty may
+dirty_tends sizes first by core (Subtracts page) found sound dirty may = subtracts_dirty sizes first by core page found sound dirty may
+dirty_tends sizes first by core (Lifts number) found sound dirty may =
+    let hand = lifts_hand sizes first core sound by found number may in
+    tend_entry sizes first by core (Lifts number) found sound dirty may tt (λ page. refl)
+    (λ page. entry_same sizes core.words (slot_of sizes number) (found + 1) page (slot_within sizes core number sound.window hand.within) (ap (is_of_page page) may.is ∙ hold_same page found (ap kind_of (sym may.is) ∙ hand.kind_is)))
+dirty_tends sizes first by core (Drops number) found sound dirty may =
+    let hand = drops_hand sizes first core sound by found number may in
+    tend_entry sizes first by core (Drops number) found sound dirty may tt (λ page. refl)
+    (λ page. entry_same sizes core.words (slot_of sizes number) (found - 1) page (slot_within sizes core number sound.window hand.within) (ap (is_of_page page) may.is ∙ return_same page found (ap kind_of (sym may.is) ∙ hand.kind_is)))
+dirty_tends sizes first by core (Frees number) found sound dirty may =
+    let hand = frees_hand sizes first core sound by found number may in let k = hand.kind_is in
+    tend_entry sizes first by core (Frees number) found sound dirty may tt (λ page. refl)
+    (λ page. entry_of_none sizes core.words (slot_of sizes number) 0 page (slot_within sizes core number sound.window hand.within)
+    (not_of_page page (entry_at sizes core number) (λ e. omega (arith, e, k)) (λ e. omega (arith, e, k))) (not_of_page page 0 (λ e. omega (arith, e)) (λ e. omega (arith, e))))
+dirty_tends sizes first by core chore found sound dirty may = tend_entry sizes first by core chore found sound dirty may tt (λ page. refl) (same_entries sizes by core (Tends chore) found may (λ slot. refl))
+
 -- ---- all steps
 
 stopped_unpledged : (pass : Pass) (stage : Stage) → IsFailing stage → IsUnpledged stage × IsUnpledged (after_stop pass stage)
@@ -418,21 +637,21 @@ stopped_unpledged pass WriteFailing is = (tt, tt)
 stopped_unpledged pass stage is = absurd is
 
 pub dirty_step : (sizes : Sizes) (first : Values) (by : ℕ) (core : Core) (deed : Deed) (found : ℕ) → Sound sizes first core → DirtyCounters sizes core → MayFind sizes by core deed found → DirtyCounters sizes (after_step sizes by deed found core)
-dirty_step sizes first by core (Loads word) found sound dirty may = plain_step sizes first by core (Loads word) found sound dirty may tt may.may refl refl (λ page. refl) (λ slot. refl)
-dirty_step sizes first by core (Takes cell) found sound dirty may = plain_step sizes first by core (Takes cell) found sound dirty may tt may.may refl refl (λ page. refl) (λ slot. refl)
-dirty_step sizes first by core (Gives cell) found sound dirty may = plain_step sizes first by core (Gives cell) found sound dirty may tt may.may refl refl (λ page. refl) (λ slot. refl)
-dirty_step sizes first by core (Places reply) found sound dirty may = plain_step sizes first by core (Places reply) found sound dirty may tt may.may refl refl (λ page. refl) (λ slot. refl)
-dirty_step sizes first by core Grows found sound dirty may = plain_step sizes first by core Grows found sound dirty may tt may.may refl refl (λ page. refl) (λ slot. refl)
-dirty_step sizes first by core (Turns page) found sound dirty may = plain_step sizes first by core (Turns page) found sound dirty may tt may.may refl refl (λ page. refl) (λ slot. refl)
-dirty_step sizes first by core (Hints buffer page) found sound dirty may = plain_step sizes first by core (Hints buffer page) found sound dirty may tt may.may refl refl (λ page. refl) (λ slot. refl)
+dirty_step sizes first by core (Loads word) found sound dirty may = plain_step sizes first by core (Loads word) found sound dirty may (λ f. f) tt may.may refl refl (λ page. refl) (λ slot. refl)
+dirty_step sizes first by core (Takes cell) found sound dirty may = plain_step sizes first by core (Takes cell) found sound dirty may (λ f. f) tt may.may refl refl (λ page. refl) (λ slot. refl)
+dirty_step sizes first by core (Gives cell) found sound dirty may = plain_step sizes first by core (Gives cell) found sound dirty may (λ f. f) tt may.may refl refl (λ page. refl) (λ slot. refl)
+dirty_step sizes first by core (Places reply) found sound dirty may = plain_step sizes first by core (Places reply) found sound dirty may (λ f. f) tt may.may refl refl (λ page. refl) (λ slot. refl)
+dirty_step sizes first by core Grows found sound dirty may = plain_step sizes first by core Grows found sound dirty may (λ f. f) tt may.may refl refl (λ page. refl) (λ slot. refl)
+dirty_step sizes first by core (Turns page) found sound dirty may = plain_step sizes first by core (Turns page) found sound dirty may (λ f. f) tt may.may refl refl (λ page. refl) (λ slot. refl)
+dirty_step sizes first by core (Hints buffer page) found sound dirty may = plain_step sizes first by core (Hints buffer page) found sound dirty may (λ f. f) tt may.may refl refl (λ page. refl) (λ slot. refl)
 dirty_step sizes first by core Stops found sound dirty may = let un = stopped_unpledged (core.passes by) (core.passes by).stage may.may in
-    silent_step sizes first by core Stops found sound dirty may (λ page. refl) (same_entries sizes by core Stops found may (λ slot. refl)) un.0 un.1
-dirty_step sizes first by core Draws found sound dirty may = silent_step sizes first by core Draws found sound dirty may (λ page. refl) (same_entries sizes by core Draws found may (λ slot. refl))
+    silent_step sizes first by core Stops found sound dirty may (λ f. f) (λ page. refl) (same_entries sizes by core Stops found may (λ slot. refl)) un.0 un.1
+dirty_step sizes first by core Draws found sound dirty may = silent_step sizes first by core Draws found sound dirty may (λ f. f) (λ page. refl) (same_entries sizes by core Draws found may (λ slot. refl))
     (subst IsUnpledged (sym may.may) tt) (if_both IsUnpledged (found == (core.passes by).head) (Seizing found) (leaving (core.passes by).hands) (λ _. tt) (λ _. unpledged_leaving (core.passes by).hands))
 dirty_step sizes first by core (Seizes next) found sound dirty may =
     let at : HasDrawn sizes (core.passes by).call (core.passes by).entries × IsAmong (core.passes by).first (core.passes by).entries next = subst (StandsAt sizes (core.passes by)) may.may (sound.standing by).at in
     let unseized = subst (λ g. IsUnseized g (core.passes by).first (core.passes by).entries next) (sym may.may) (omega arith, at.1.1) in
-    silent_step sizes first by core (Seizes next) found sound dirty may (λ page. refl)
+    silent_step sizes first by core (Seizes next) found sound dirty may (λ f. f) (λ page. refl)
     (λ page. entry_of_none sizes core.words (slot_of sizes next) filling page (slot_less sizes (core.passes by) next at.0 ((sound.standing by).allowed (busy _ _ may.may refl)))
     (ap (is_of_page page) (sound.window.unseized_is by next unseized) ∙ not_of_page page 0 (λ e. omega (arith, e)) (λ e. omega (arith, e))) (not_of_page page 1 (λ e. omega (arith, e)) (λ e. omega (arith, e))))
     (subst IsUnpledged (sym may.may) tt) (if_both IsUnpledged (next + 1 == (core.passes by).first + (core.passes by).entries) (Committing 0) (Seizing (next + 1)) (λ _. tt) (λ _. tt))
@@ -441,7 +660,7 @@ dirty_step sizes first by core (Readies next) found sound dirty may = readies_st
 dirty_step sizes first by core (Breaks next) found sound dirty may =
     let at : HasDrawn sizes (core.passes by).call (core.passes by).entries × IsAmong (core.passes by).first (core.passes by).entries next = subst (StandsAt sizes (core.passes by)) may.may (sound.standing by).at in
     let fills = subst (λ g. IsFilling g (core.passes by).first (core.passes by).entries next) (sym may.may) (omega arith, at.1.1) in
-    silent_step sizes first by core (Breaks next) found sound dirty may (λ page. refl)
+    silent_step sizes first by core (Breaks next) found sound dirty may (λ f. f) (λ page. refl)
     (λ page. entry_of_none sizes core.words (slot_of sizes next) broken page (slot_less sizes (core.passes by) next at.0 ((sound.standing by).allowed (busy _ _ may.may refl)))
     (ap (is_of_page page) (sound.window.filling_is by next fills) ∙ not_of_page page 1 (λ e. omega (arith, e)) (λ e. omega (arith, e))) (not_of_page page 5 (λ e. omega (arith, e)) (λ e. omega (arith, e))))
     (subst IsUnpledged (sym may.may) tt) (if_both IsUnpledged (next + 1 == (core.passes by).first + (core.passes by).entries) (leaving (without (ENTRY (slot_of sizes next)) (core.passes by).hands)) (Breaking (next + 1))
@@ -449,24 +668,25 @@ dirty_step sizes first by core (Breaks next) found sound dirty may =
 dirty_step sizes first by core (Holds next) found sound dirty may =
     let looks : InWindow core next × (is_entry_of ready may.may.0 (entry_at sizes core next) ≡ true) = subst (Looks sizes core) may.may.1 (sound.loaded.looks by) in
     let kind = (entry_is ready may.may.0 (entry_at sizes core next) looks.1).0 in
-    silent_step sizes first by core (Holds next) found sound dirty may (λ page. refl)
+    silent_step sizes first by core (Holds next) found sound dirty may (λ f. f) (λ page. refl)
     (λ page. entry_same sizes core.words (slot_of sizes next) (found + 1) page (slot_within sizes core next sound.window looks.0) (ap (is_of_page page) may.is ∙ hold_same page found (ap kind_of (sym may.is) ∙ kind)))
     (clear_unpledged _ (clear_from sizes core.values (core.passes by) (Holds next) tt may.may)) (clear_unpledged _ (clear_to sizes core.values (core.passes by) (Holds next) found tt may.may))
 dirty_step sizes first by core (Returns next) found sound dirty may =
     let looks : InWindow core next × (is_entry_of held may.may.0 (entry_at sizes core next) ≡ true) = subst (Looks sizes core) may.may.2 (sound.loaded.looks by) in
     let kind = (entry_is held may.may.0 (entry_at sizes core next) looks.1).0 in
-    silent_step sizes first by core (Returns next) found sound dirty may (λ page. refl)
+    silent_step sizes first by core (Returns next) found sound dirty may (λ f. f) (λ page. refl)
     (λ page. entry_same sizes core.words (slot_of sizes next) (found - 1) page (slot_within sizes core next sound.window looks.0) (ap (is_of_page page) may.is ∙ return_same page found (ap kind_of (sym may.is) ∙ kind)))
     (clear_unpledged _ (clear_from sizes core.values (core.passes by) (Returns next) tt may.may)) (clear_unpledged _ (clear_to sizes core.values (core.passes by) (Returns next) found tt may.may))
-dirty_step sizes first by core Splits found sound dirty may = silent_step sizes first by core Splits found sound dirty may (λ page. refl) (same_entries sizes by core Splits found may (λ slot. refl))
+dirty_step sizes first by core (Tends chore) found sound dirty may = dirty_tends sizes first by core chore found sound dirty may
+dirty_step sizes first by core Splits found sound dirty may = silent_step sizes first by core Splits found sound dirty may (λ f. f) (λ page. refl) (same_entries sizes by core Splits found may (λ slot. refl))
     (subst IsUnpledged (sym (sound.numbers.unborn (core.made + 1) (omega arith)).idle) tt) tt
 dirty_step sizes first by core (Leaves cell) found sound dirty may = dirty_still sizes core (after_step sizes by (Leaves cell) found core) dirty (λ word. untouched sizes by core (Leaves cell) found may word refl)
     (by_number (λ n (p : Pass). p.hands ≡ (core.passes n).hands) core.passes by (changed sizes by core (Leaves cell) found) refl (λ n ne. refl))
     (λ n page. by_number (λ n (p : Pass). pledged sizes p p.stage page ≡ pledged sizes (core.passes n) (core.passes n).stage page) core.passes by (changed sizes by core (Leaves cell) found)
-    (left_pledged sizes (core.passes by) (cell ∷ (core.passes by).left) page (core.passes by).stage) (λ n ne. refl) n)
+    (left_pledged sizes (core.passes by) (cell ∷ (core.passes by).left) page (core.passes by).stage) (λ n ne. refl) n) (owed_step sizes first by core (Leaves cell) found sound (λ f. f) may)
 dirty_step sizes first by core (Joins number) found sound dirty may = dirty_still sizes core (after_step sizes by (Joins number) found core) dirty (λ word. untouched sizes by core (Joins number) found may word refl)
     (by_number (λ n (p : Pass). p.hands ≡ (core.passes n).hands) core.passes by (changed sizes by core (Joins number) found) refl (λ n ne. refl))
-    (λ n page. by_number (λ n (p : Pass). pledged sizes p p.stage page ≡ pledged sizes (core.passes n) (core.passes n).stage page) core.passes by (changed sizes by core (Joins number) found) refl (λ n ne. refl) n)
+    (λ n page. by_number (λ n (p : Pass). pledged sizes p p.stage page ≡ pledged sizes (core.passes n) (core.passes n).stage page) core.passes by (changed sizes by core (Joins number) found) refl (λ n ne. refl) n) (owed_step sizes first by core (Joins number) found sound (λ f. f) may)
 
 -- ---- a call that begins, and a device call
 
@@ -475,15 +695,55 @@ dirty_begin sizes first by core call dirty may = dirty_still sizes core (after_b
     (by_number (λ n (p : Pass). p.hands ≡ (core.passes n).hands) core.passes by (begun sizes call (core.passes by)) refl (λ n ne. refl))
     (λ n page. by_number (λ n (p : Pass). pledged sizes p p.stage page ≡ pledged sizes (core.passes n) (core.passes n).stage page) core.passes by (begun sizes call (core.passes by))
     (if_both (λ s. pledged sizes (begun sizes call (core.passes by)) s page ≡ pledged sizes (core.passes by) (core.passes by).stage page) (page_count sizes call == 0) Checking (Locking (first_page sizes call)) (λ _. idle page) (λ _. idle page)) (λ n ne. refl) n)
+    (λ page. owed_same core (after_begin sizes by call core) page refl (by_number (λ n (p : Pass). owed p.stage page ≡ owed (core.passes n).stage page) core.passes by (begun sizes call (core.passes by))
+    (if_both (λ s. owed s page ≡ owed (core.passes by).stage page) (page_count sizes call == 0) Checking (Locking (first_page sizes call)) (λ _. none_owed page) (λ _. none_owed page)) (λ n ne. refl)))
   where
+    none_owed : (page : ℕ) → 0 ≡ owed (core.passes by).stage page
+    none_owed page = sym (ap (λ s. owed s page) may.idle)
+
     idle : (page : ℕ) → 0 ≡ pledged sizes (core.passes by) (core.passes by).stage page
     idle page = sym (ap (λ s. pledged sizes (core.passes by) s page) may.idle)
+
+-- a cleaner's device call changes nothing of what it owes
+swept_owes : (sizes : Sizes) (values : Values) (work : Work) (batch : Batch) (how : Ending) (sweep : Sweep) (page : ℕ) → IsChoreDue sizes values batch work sweep → owed (after_chore_work batch how sweep) page ≡ owed (Cleaning batch sweep) page
+swept_owes sizes values work batch Made (Peeking i) page due = refl
+swept_owes sizes values work batch Made (Carrying i) page due = if_both (λ s. owed s page ≡ 0) (i + 1 == length batch.pages) (Cleaning batch (Setting 0)) (Cleaning batch (Lifting (i + 1))) (λ _. none_taken batch.pages) (λ _. refl)
+  where
+    none_taken : (pages : List ℕ) → count_in (take 0 pages) page ≡ 0
+    none_taken [] = refl
+    none_taken (one ∷ rest) = refl
+swept_owes sizes values work batch Made (Syncing (file ∷ [])) page due = refl
+swept_owes sizes values work batch Made (Syncing (file ∷ (next ∷ rest))) page due = refl
+swept_owes sizes values work batch Made (Moving calls) page due = if_both (λ s. owed s page ≡ 0) (calls + 1 == length (tail_steps batch.reached)) (Cleaning batch (Freeing batch.tail)) (Cleaning batch (Moving (calls + 1))) (λ _. refl) (λ _. refl)
+swept_owes sizes values work batch (Failed came faults) (Peeking i) page due = refl
+swept_owes sizes values work batch (Failed came faults) (Carrying i) page due = refl
+swept_owes sizes values work batch (Failed came faults) (Syncing (file ∷ rest)) page due = refl
+swept_owes sizes values work batch (Failed came faults) (Moving calls) page due = refl
+swept_owes sizes values work batch Refused (Peeking i) page due = refl
+swept_owes sizes values work batch Refused (Carrying i) page due = refl
+swept_owes sizes values work batch Refused (Syncing (file ∷ rest)) page due = refl
+swept_owes sizes values work batch Refused (Moving calls) page due = refl
+swept_owes sizes values work batch how sweep page due = absurd due
 
 pub dirty_work : (sizes : Sizes) (first : Values) (by : ℕ) (core : Core) (work : Work) → DirtyCounters sizes core → MayWork sizes core.values (core.passes by) work → DirtyCounters sizes (after_work sizes by work core)
 dirty_work sizes first by core work dirty may = dirty_still sizes core (after_work sizes by work core) dirty (λ word. refl)
     (by_number (λ n (p : Pass). p.hands ≡ (core.passes n).hands) core.passes by (worked sizes work (core.passes by)) refl (λ n ne. refl))
     (λ n page. by_number (λ n (p : Pass). pledged sizes p p.stage page ≡ pledged sizes (core.passes n) (core.passes n).stage page) core.passes by (worked sizes work (core.passes by)) (works page (core.passes by).stage work.ending may.due) (λ n ne. refl) n)
+    (λ page. owed_same core (after_work sizes by work core) page refl (by_number (λ n (p : Pass). owed p.stage page ≡ owed (core.passes n).stage page) core.passes by (worked sizes work (core.passes by)) (owes page (core.passes by).stage work.ending may.due) (λ n ne. refl)))
   where
+    owes : (page : ℕ) (stage : Stage) (how : Ending) → IsDue sizes core.values (core.passes by) work stage → owed (stage_worked sizes (core.passes by) how stage) page ≡ owed stage page
+    owes page (Committing calls) Made due = if_both (λ s. owed s page ≡ 0) (calls + 1 == length (commit_steps sizes (core.passes by) (core.passes by).call)) (Pledging (first_page sizes (core.passes by).call)) (Committing (calls + 1)) (λ _. refl) (λ _. refl)
+    owes page (Committing calls) (Failed came faults) due = refl
+    owes page (Committing calls) Refused due = refl
+    owes page (Copying next dirty) Made due = refl
+    owes page (Copying next dirty) (Failed came faults) due = refl
+    owes page (Copying next dirty) Refused due = refl
+    owes page (Patching next number) Made due = refl
+    owes page (Patching next number) (Failed came faults) due = refl
+    owes page (Patching next number) Refused due = refl
+    owes page (Cleaning batch sweep) how due = ap (λ s. owed s page) (worked_stage sizes (core.passes by) batch how sweep) ∙ swept_owes sizes core.values work batch how sweep page due
+    owes page stage how due = absurd due
+
     works : (page : ℕ) (stage : Stage) (how : Ending) → IsDue sizes core.values (core.passes by) work stage → pledged sizes (worked sizes work (core.passes by)) (stage_worked sizes (core.passes by) how stage) page ≡ pledged sizes (core.passes by) stage page
     works page (Committing calls) Made due = if_both (λ s. pledged sizes (worked sizes work (core.passes by)) s page ≡ 0) (calls + 1 == length (commit_steps sizes (core.passes by) (core.passes by).call)) (Pledging (first_page sizes (core.passes by).call)) (Committing (calls + 1))
         (λ _. elim (cases_lt page (first_page sizes (core.passes by).call)) [
@@ -495,4 +755,8 @@ dirty_work sizes first by core work dirty may = dirty_still sizes core (after_wo
     works page (Copying next dirty) (Failed came faults) due = refl
     works page (Patching next number) Made due = refl
     works page (Patching next number) (Failed came faults) due = refl
+    works page (Committing calls) Refused due = refl
+    works page (Copying next dirty) Refused due = refl
+    works page (Patching next number) Refused due = refl
+    works page (Cleaning batch sweep) how due = subst (λ s. pledged sizes (worked sizes work (core.passes by)) s page ≡ 0) (sym (worked_stage sizes (core.passes by) batch how sweep)) (swept_worked (λ s. pledged sizes (worked sizes work (core.passes by)) s page ≡ 0) refl (λ b s. refl) batch how sweep)
     works page stage how due = absurd due

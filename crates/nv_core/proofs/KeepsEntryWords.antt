@@ -4,9 +4,10 @@ use Rattle.std.proofs.lemmas.Bool.{ltb-true, eqb-true, true≢false}
 use Rattle.std.proofs.lemmas.Nat.{div_below}
 use Rattle.nv_plain.specs.declared.call.FileCall.{FileCall}
 use Rattle.nv_plain.specs.declared.call.FileCall.TheVariants.{Read, Write, Sync}
-use Rattle.nv_core.specs.Words.{Sizes, ENTRY, same, page_total, filling, broken, ready, held, kind_of, is_entry_of}
+use Rattle.nv_core.specs.Words.{Sizes, ENTRY, same, page_total, free, filling, broken, ready, held, cleaned, kind_of, is_entry_of}
+use Rattle.nv_core.specs.Sweeps.{Lifts, Drops, Cleans, Frees}
 use Rattle.nv_core.specs.Passes.{IsAmong, IsAllowed, is_write, at_of, len_of, file_of, page_count, end_page}
-use Rattle.nv_core.specs.Deeds.{Deed, slot_of, page_at, ready_word, Seizes, Readies, Breaks, Holds, Returns}
+use Rattle.nv_core.specs.Deeds.{Deed, slot_of, page_at, ready_word, Seizes, Readies, Breaks, Holds, Returns, Tends}
 use Rattle.nv_core.specs.Order.{Values}
 use Rattle.nv_core.specs.Core.{Core, with_word, after_step}
 use Rattle.nv_core.specs.Events.{MayFind}
@@ -14,6 +15,7 @@ use Rattle.nv_core.specs.Standing.{StandsAt, HasDrawn}
 use Rattle.nv_core.specs.EntryWords.{IsEntryWord, IsFilled, IsBroken, IsReady, EntryWords, IsFree}
 use Rattle.nv_core.specs.Sound.{Sound}
 use Rattle.nv_core.proofs.Choices.{if_both, busy}
+use Rattle.nv_core.proofs.SweepDeeds.{lifts_hand, cleans_hand, drops_hand}
 use Rattle.nv_core.proofs.SlotLaws.{more}
 use Rattle.nv_core.proofs.PageLaws.{div_more}
 use Rattle.nv_core.proofs.WordLaws.{untouched}
@@ -61,6 +63,12 @@ return_word sizes word (IsFilled e) is = absurd (omega (arith, e, is))
 return_word sizes word (IsBroken e) is = absurd (omega (arith, e, is))
 return_word sizes word (IsReady kind count page low high e few within) is = IsReady ready count page (omega arith) (omega arith) (omega (arith, e, is, low, high)) few within
 
+clean_word : (sizes : Sizes) (word : ℕ) → IsEntryWord sizes word → kind_of word ≡ held → IsEntryWord sizes (word + 1)
+clean_word sizes word (IsFree e) is = absurd (omega (arith, e, is))
+clean_word sizes word (IsFilled e) is = absurd (omega (arith, e, is))
+clean_word sizes word (IsBroken e) is = absurd (omega (arith, e, is))
+clean_word sizes word (IsReady kind count page low high e few within) is = IsReady cleaned count page (omega arith) (omega arith) (omega (arith, e, is, low, high)) few within
+
 pub words_step : (sizes : Sizes) (first : Values) (by : ℕ) (core : Core) (deed : Deed) (found : ℕ) → Sound sizes first core → EntryWords sizes core.words → MayFind sizes by core deed found → EntryWords sizes (after_step sizes by deed found core).words
 words_step sizes first by core (Seizes next) found sound words may = record { each = λ slot. changed_word sizes core (slot_of sizes next) filling words (IsFilled refl) slot }
 words_step sizes first by core (Breaks next) found sound words may = record { each = λ slot. changed_word sizes core (slot_of sizes next) broken words (IsBroken refl) slot }
@@ -86,4 +94,18 @@ words_step sizes first by core (Returns next) found sound words may =
       each = λ slot. changed_word sizes core (slot_of sizes next) (found - 1) words
           (return_word sizes found (subst (IsEntryWord sizes) may.is (words.each (slot_of sizes next))) (ap kind_of (sym may.is) ∙ (entry_is held may.may.0 (entry_at sizes core next) looks.1).0)) slot;
     }
+words_step sizes first by core (Tends (Lifts next)) found sound words may = record {
+  each = λ slot. changed_word sizes core (slot_of sizes next) (found + 1) words
+      (hold_word sizes found (subst (IsEntryWord sizes) may.is (words.each (slot_of sizes next))) (ap kind_of (sym may.is) ∙ (lifts_hand sizes first core sound by found next may).kind_is)) slot;
+}
+words_step sizes first by core (Tends (Drops next)) found sound words may = record {
+  each = λ slot. changed_word sizes core (slot_of sizes next) (found - 1) words
+      (return_word sizes found (subst (IsEntryWord sizes) may.is (words.each (slot_of sizes next))) (ap kind_of (sym may.is) ∙ (drops_hand sizes first core sound by found next may).kind_is)) slot;
+}
+words_step sizes first by core (Tends (Cleans next)) found sound words may = record {
+  each = λ slot. changed_word sizes core (slot_of sizes next) (found + 1) words
+      (clean_word sizes found (subst (IsEntryWord sizes) may.is (words.each (slot_of sizes next))) (ap kind_of (sym may.is) ∙ (cleans_hand sizes first core sound by found next may).kind_is)) slot;
+}
+words_step sizes first by core (Tends (Frees next)) found sound words may = record { each = λ slot. changed_word sizes core (slot_of sizes next) free words (IsFree refl) slot }
+words_step sizes first by core (Tends chore) found sound words may = record { each = λ slot. subst (IsEntryWord sizes) (sym (untouched sizes by core (Tends chore) found may (ENTRY slot) refl)) (words.each slot) }
 words_step sizes first by core deed found sound words may = record { each = λ slot. subst (IsEntryWord sizes) (sym (untouched sizes by core deed found may (ENTRY slot) refl)) (words.each slot) }

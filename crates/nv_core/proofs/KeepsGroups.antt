@@ -3,9 +3,9 @@ use Rattle.std.proofs.Common.{◌≡◌, ◌⊎◌, ℕ, ◌+◌, ◌<◌, ◌�
 use Rattle.std.proofs.lemmas.Bool.{cases_lt, leb-true, and_from, and_parts, le-leb, lt-ltb}
 use Rattle.nv_plain.specs.declared.call.FileCall.{FileCall}
 use Rattle.nv_core.specs.Words.{Sizes, HEAD, TAIL}
-use Rattle.nv_core.specs.Values.{Ending, Made, Failed}
-use Rattle.nv_core.specs.Passes.{Stage, Locking, Checking, Copying, Seizing, Committing, Pledging, Readying, ReadFailing, WriteFailing, Breaking, Pass, IsAllowed, IsAmong, is_write, page_count, first_page, PieceFailing, Patching}
-use Rattle.nv_core.specs.Deeds.{Deed, Loads, Takes, Gives, Places, Stops, Draws, Seizes, Pledges, Readies, Grows, Breaks, Splits, Leaves, Joins, Turns, Hints, Holds, Returns}
+use Rattle.nv_core.specs.Values.{Ending, Made, Failed, Refused}
+use Rattle.nv_core.specs.Passes.{Stage, Locking, Checking, Copying, Seizing, Committing, Pledging, Readying, ReadFailing, WriteFailing, Breaking, Pass, IsAllowed, IsAmong, is_write, page_count, first_page, PieceFailing, Patching, Cleaning, IsUnseized, IsFilling}
+use Rattle.nv_core.specs.Deeds.{Deed, Loads, Takes, Gives, Places, Stops, Draws, Seizes, Pledges, Readies, Grows, Breaks, Splits, Leaves, Joins, Turns, Hints, Holds, Returns, Tends}
 use Rattle.nv_core.specs.Stages.{stage_after, after_stop, leaving}
 use Rattle.nv_core.specs.Stepped.{begun}
 use Rattle.nv_core.specs.Order.{Values, Work, MayWork, IsDue, IsFailing, MayStep}
@@ -13,7 +13,10 @@ use Rattle.nv_core.specs.Core.{Core, changes, changed, after_step, after_begin, 
 use Rattle.nv_core.specs.Events.{MayFind}
 use Rattle.nv_core.specs.Standing.{StandsAt, HasDrawn, IsSmall, HasRoom}
 use Rattle.nv_core.specs.Holding.{is_among}
-use Rattle.nv_core.specs.LogWindow.{InWindow}
+use Rattle.nv_core.specs.Sweeps.{Retiring, Retires}
+use Rattle.nv_core.specs.SweepNumbers.{IsFreed}
+use Rattle.nv_core.specs.Progress.{IsUnderWay, Progress}
+use Rattle.nv_core.specs.LogWindow.{InWindow, HasUnseized, Fills}
 use Rattle.nv_core.specs.Groups.{Group, Log, group_of, with_group, log_stepped, log_worked, HasGroup, IsGrouped, IsOwn, Groups}
 use Rattle.nv_core.specs.Sound.{Sound}
 use Rattle.nv_core.proofs.Changes.{by_number, word_here}
@@ -21,6 +24,9 @@ use Rattle.nv_core.proofs.Choices.{if_both, not_both, when_true, when_false, bus
 use Rattle.nv_core.proofs.ClearLaws.{IsClear, clear_to, clear_leaving}
 use Rattle.nv_core.proofs.PageLaws.{write_pages}
 use Rattle.nv_core.proofs.WordLaws.{untouched, touches}
+use Rattle.nv_core.proofs.StandingLaws.{worked_stage}
+use Rattle.nv_core.proofs.SweepStages.{swept_worked}
+use Rattle.nv_core.proofs.SweepDeeds.{IsAtTail, retires_hand}
 
 pub clear_group : (stage : Stage) → IsClear stage → HasGroup stage → ⊥
 clear_group (Seizing next) clear is = clear
@@ -59,6 +65,7 @@ had sizes values pass found (Readies next) ne may is = subst HasGroup (sym may) 
 had sizes values pass found (Breaks next) ne may is = subst HasGroup (sym may) tt
 had sizes values pass found (Holds next) ne may is = absurd (clear_group _ (clear_to sizes values pass (Holds next) found tt may) is)
 had sizes values pass found (Returns next) ne may is = absurd (clear_group _ (clear_to sizes values pass (Returns next) found tt may) is)
+had sizes values pass found (Tends chore) ne may is = absurd (clear_group _ (clear_to sizes values pass (Tends chore) found tt may) is)
 had sizes values pass found deed ne may is = absurd may
 
 -- ---- the window stays
@@ -93,7 +100,7 @@ module _ (sizes : Sizes) (core now : Core) (log : Log) (head : now.words HEAD �
 among_true : (from end n : ℕ) → from ≤ n → n < end → is_among from end n ≡ true
 among_true from end n low high = and_from (nat_le from n) (nat_lt n end) (le-leb from n low) (lt-ltb n end high)
 
-among_below : (from end n : ℕ) → n < from → is_among from end n ≡ false
+pub among_below : (from end n : ℕ) → n < from → is_among from end n ≡ false
 among_below from end n less = go (is_among from end n) refl
   where
     go : (b : Bool) → is_among from end n ≡ b → is_among from end n ≡ false
@@ -207,26 +214,114 @@ draw_step sizes first by core log found sound groups may = go (found == (core.pa
         drew : (found == (core.passes by).head) ≡ true → group_of (changed sizes by core Draws found) ≡ group
         drew e = ap (λ b. record { call = (core.passes by).call; first = if b then found else (core.passes by).first; entries = if b then page_count sizes (core.passes by).call else (core.passes by).entries }) e
 
-pub groups_step : (sizes : Sizes) (first : Values) (by : ℕ) (core : Core) (log : Log) (deed : Deed) (found : ℕ) → Sound sizes first core → Groups sizes core log → MayFind sizes by core deed found
+-- a pass that has drawn a group fills one of its entries, or has one still to seize
+record IsOpen (core : Core) (by : ℕ) : Type 0 where
+  number : ℕ
+  among : IsAmong (core.passes by).first (core.passes by).entries number
+  open_ : HasUnseized (core.passes by) number ⊎ Fills (core.passes by) number
+
+is_open : (sizes : Sizes) (core : Core) (by : ℕ) (stage : Stage) → (core.passes by).stage ≡ stage → StandsAt sizes (core.passes by) stage → HasGroup stage → IsOpen core by
+is_open sizes core by (Seizing next) e at is = record { number = next; among = at.1; open_ = inl (subst (λ s. IsUnseized s (core.passes by).first (core.passes by).entries next) (sym e) (omega arith, at.1.1)) }
+is_open sizes core by (Committing calls) e at is = record {
+  number = (core.passes by).first;
+  among = (omega arith, let o = at.some in omega (arith, o));
+  open_ = inr (subst (λ s. IsFilling s (core.passes by).first (core.passes by).entries (core.passes by).first) (sym e) (omega arith, let o = at.some in omega (arith, o)));
+}
+is_open sizes core by (Pledging page) e at is = record {
+  number = (core.passes by).first;
+  among = (omega arith, let o = at.0.some in omega (arith, o));
+  open_ = inr (subst (λ s. IsFilling s (core.passes by).first (core.passes by).entries (core.passes by).first) (sym e) (omega arith, let o = at.0.some in omega (arith, o)));
+}
+is_open sizes core by (Readying next) e at is = record {
+  number = (core.passes by).first;
+  among = (omega arith, let o = at.0.some in omega (arith, o));
+  open_ = inr (subst (λ s. IsFilling s (core.passes by).first (core.passes by).entries (core.passes by).first) (sym e) (inl refl));
+}
+is_open sizes core by WriteFailing e at is = record {
+  number = (core.passes by).first;
+  among = (omega arith, let o = at.some in omega (arith, o));
+  open_ = inr (subst (λ s. IsFilling s (core.passes by).first (core.passes by).entries (core.passes by).first) (sym e) (omega arith, let o = at.some in omega (arith, o)));
+}
+is_open sizes core by (Breaking next) e at is = record { number = next; among = at.1; open_ = inr (subst (λ s. IsFilling s (core.passes by).first (core.passes by).entries next) (sym e) (omega arith, at.1.1)) }
+is_open sizes core by stage e at is = absurd is
+
+-- TAIL moves over whole groups, of which no pass has one
+module _ (sizes : Sizes) (first : Values) (by : ℕ) (core : Core) (log : Log) (tail found : ℕ) (sound : Sound sizes first core) (groups : Groups sizes core log) (progress : Progress sizes log core) (may : MayFind sizes by core (Tends (Retires tail)) found) where
+  hand : IsAtTail sizes first core sound by tail
+  hand = retires_hand sizes first core sound by found tail may
+
+  tail_now : (after_step sizes by (Tends (Retires tail)) found core).words TAIL ≡ tail
+  tail_now = word_here core.words TAIL tail
+
+  head_now : (after_step sizes by (Tends (Retires tail)) found core).words HEAD ≡ core.words HEAD
+  head_now = untouched sizes by core (Tends (Retires tail)) found may HEAD refl
+
+  way : IsUnderWay sizes log core hand.batch Retiring
+  way = progress.each by hand.batch Retiring hand.stage tt
+
+  -- a group that has a number at or above the new tail lies there as a whole
+  above : (n : ℕ) → InWindow core n → tail ≤ n → tail ≤ (log.group n).first
+  above n within low = elim (cases_lt (log.group n).first tail) [
+    | inr more ↦ more
+    | inl less ↦ absurd (
+        let g = groups.each n within in let a = g.among.1 in let h = within.1 in let l = hand.low in
+        let s : log.group tail ≡ log.group n = g.same tail (omega (arith, less), omega (arith, a, low)) in
+        let leads : (log.group tail).first ≡ tail = subst (λ m. InWindow core m → (log.group m).first ≡ m) (sym hand.is) way.leads (l, omega (arith, low, h)) in
+        let f = ap (λ g. g.first) s in omega (arith, f, leads, less))
+  ]
+
+  was_in : (n : ℕ) → InWindow (after_step sizes by (Tends (Retires tail)) found core) n → InWindow core n × (tail ≤ n)
+  was_in n is = let a = is.0 in let b = is.1 in let l = hand.low in ((omega (arith, a, tail_now, l), omega (arith, b, head_now)), omega (arith, a, tail_now))
+
+  -- what a pass has drawn is not freed
+  kept_above : (n : ℕ) → HasGroup (core.passes n).stage → tail ≤ (core.passes n).first
+  kept_above n has =
+      let o = is_open sizes core n (core.passes n).stage refl (sound.standing n).at has in
+      let own = groups.own n has o.number o.among in
+      let low : tail ≤ o.number = elim (cases_lt o.number tail) [
+        | inr more ↦ more
+        | inl less ↦ absurd (
+            let freed : IsFreed (core.passes by).stage o.number = subst (λ s. IsFreed s o.number) (sym hand.stage) (let w = hand.was in let l = own.within.0 in omega (arith, w, l), let i = hand.is in omega (arith, i, less)) in
+            elim o.open_ [
+              | inl unseized ↦ sound.window.freed_by_none n by o.number unseized freed
+              | inr fills ↦ (let a = sound.window.filling_is n o.number fills in let b = sound.window.freed_is by o.number freed in omega (arith, a, b))
+            ])
+      ] in
+      let a = above o.number own.within low in let g = ap (λ g. g.first) own.group in omega (arith, a, g)
+
+  retire_step : Groups sizes (after_step sizes by (Tends (Retires tail)) found core) log
+  retire_step = record {
+    each = λ n is.
+        let w = was_in n is in let g = groups.each n w.0 in let a = above n w.0 w.1 in let h = g.high in
+        record { among = g.among; low = omega (arith, a, tail_now); high = omega (arith, h, head_now); same = g.same; drawn = g.drawn; allowed = g.allowed };
+    own = by_number (λ n (p : Pass). HasGroup p.stage → (m : ℕ) → IsAmong p.first p.entries m → IsOwn (after_step sizes by (Tends (Retires tail)) found core) log p m) core.passes by (changed sizes by core (Tends (Retires tail)) found)
+        (λ has. absurd (clear_group _ (clear_to sizes core.values (core.passes by) (Tends (Retires tail)) found tt may.may) has))
+        (λ n ne has m among. let own = groups.own n has m among in let low = kept_above n has in let a = among.0 in let h = own.within.1 in
+        record { within = (omega (arith, low, a, tail_now), omega (arith, h, head_now)); group = own.group });
+  }
+
+pub groups_step : (sizes : Sizes) (first : Values) (by : ℕ) (core : Core) (log : Log) (deed : Deed) (found : ℕ) → Sound sizes first core → Groups sizes core log → Progress sizes log core → MayFind sizes by core deed found
     → Groups sizes (after_step sizes by deed found core) (log_stepped sizes (core.passes by) deed found log)
-groups_step sizes first by core log Draws found sound groups may = draw_step sizes first by core log found sound groups may
-groups_step sizes first by core log Splits found sound groups may = step_same sizes first by core log Splits found sound groups may refl refl (λ is. absurd is)
-groups_step sizes first by core log (Leaves cell) found sound groups may = step_same sizes first by core log (Leaves cell) found sound groups may refl refl (λ is. (is, refl))
-groups_step sizes first by core log (Joins number) found sound groups may = step_same sizes first by core log (Joins number) found sound groups may refl refl (λ is. (is, refl))
-groups_step sizes first by core log (Holds next) found sound groups may = step_same sizes first by core log (Holds next) found sound groups may refl refl (λ is. (had sizes core.values (core.passes by) found (Holds next) refl may.may is, refl))
-groups_step sizes first by core log (Returns next) found sound groups may = step_same sizes first by core log (Returns next) found sound groups may refl refl (λ is. (had sizes core.values (core.passes by) found (Returns next) refl may.may is, refl))
-groups_step sizes first by core log (Loads word) found sound groups may = step_same sizes first by core log (Loads word) found sound groups may refl refl (λ is. (had sizes core.values (core.passes by) found (Loads word) refl may.may is, refl))
-groups_step sizes first by core log (Takes cell) found sound groups may = step_same sizes first by core log (Takes cell) found sound groups may refl refl (λ is. (had sizes core.values (core.passes by) found (Takes cell) refl may.may is, refl))
-groups_step sizes first by core log (Gives cell) found sound groups may = step_same sizes first by core log (Gives cell) found sound groups may refl refl (λ is. (had sizes core.values (core.passes by) found (Gives cell) refl may.may is, refl))
-groups_step sizes first by core log (Places reply) found sound groups may = step_same sizes first by core log (Places reply) found sound groups may refl refl (λ is. (had sizes core.values (core.passes by) found (Places reply) refl may.may is, refl))
-groups_step sizes first by core log (Turns page) found sound groups may = step_same sizes first by core log (Turns page) found sound groups may refl refl (λ is. absurd is)
-groups_step sizes first by core log (Hints buffer page) found sound groups may = step_same sizes first by core log (Hints buffer page) found sound groups may refl refl (λ is. absurd is)
-groups_step sizes first by core log Stops found sound groups may = step_same sizes first by core log Stops found sound groups may refl refl (λ is. (had sizes core.values (core.passes by) found Stops refl may.may is, refl))
-groups_step sizes first by core log (Seizes next) found sound groups may = step_same sizes first by core log (Seizes next) found sound groups may refl refl (λ is. (had sizes core.values (core.passes by) found (Seizes next) refl may.may is, refl))
-groups_step sizes first by core log (Pledges page) found sound groups may = step_same sizes first by core log (Pledges page) found sound groups may refl refl (λ is. (had sizes core.values (core.passes by) found (Pledges page) refl may.may is, refl))
-groups_step sizes first by core log (Readies next) found sound groups may = step_same sizes first by core log (Readies next) found sound groups may refl refl (λ is. (had sizes core.values (core.passes by) found (Readies next) refl may.may is, refl))
-groups_step sizes first by core log Grows found sound groups may = step_same sizes first by core log Grows found sound groups may refl refl (λ is. (had sizes core.values (core.passes by) found Grows refl may.may is, refl))
-groups_step sizes first by core log (Breaks next) found sound groups may = step_same sizes first by core log (Breaks next) found sound groups may refl refl (λ is. (had sizes core.values (core.passes by) found (Breaks next) refl may.may is, refl))
+groups_step sizes first by core log Draws found sound groups progress may = draw_step sizes first by core log found sound groups may
+groups_step sizes first by core log (Tends (Retires tail)) found sound groups progress may = retire_step sizes first by core log tail found sound groups progress may
+groups_step sizes first by core log (Tends chore) found sound groups progress may = step_same sizes first by core log (Tends chore) found sound groups may refl refl (λ is. (had sizes core.values (core.passes by) found (Tends chore) refl may.may is, refl))
+groups_step sizes first by core log Splits found sound groups progress may = step_same sizes first by core log Splits found sound groups may refl refl (λ is. absurd is)
+groups_step sizes first by core log (Leaves cell) found sound groups progress may = step_same sizes first by core log (Leaves cell) found sound groups may refl refl (λ is. (is, refl))
+groups_step sizes first by core log (Joins number) found sound groups progress may = step_same sizes first by core log (Joins number) found sound groups may refl refl (λ is. (is, refl))
+groups_step sizes first by core log (Holds next) found sound groups progress may = step_same sizes first by core log (Holds next) found sound groups may refl refl (λ is. (had sizes core.values (core.passes by) found (Holds next) refl may.may is, refl))
+groups_step sizes first by core log (Returns next) found sound groups progress may = step_same sizes first by core log (Returns next) found sound groups may refl refl (λ is. (had sizes core.values (core.passes by) found (Returns next) refl may.may is, refl))
+groups_step sizes first by core log (Loads word) found sound groups progress may = step_same sizes first by core log (Loads word) found sound groups may refl refl (λ is. (had sizes core.values (core.passes by) found (Loads word) refl may.may is, refl))
+groups_step sizes first by core log (Takes cell) found sound groups progress may = step_same sizes first by core log (Takes cell) found sound groups may refl refl (λ is. (had sizes core.values (core.passes by) found (Takes cell) refl may.may is, refl))
+groups_step sizes first by core log (Gives cell) found sound groups progress may = step_same sizes first by core log (Gives cell) found sound groups may refl refl (λ is. (had sizes core.values (core.passes by) found (Gives cell) refl may.may is, refl))
+groups_step sizes first by core log (Places reply) found sound groups progress may = step_same sizes first by core log (Places reply) found sound groups may refl refl (λ is. (had sizes core.values (core.passes by) found (Places reply) refl may.may is, refl))
+groups_step sizes first by core log (Turns page) found sound groups progress may = step_same sizes first by core log (Turns page) found sound groups may refl refl (λ is. absurd is)
+groups_step sizes first by core log (Hints buffer page) found sound groups progress may = step_same sizes first by core log (Hints buffer page) found sound groups may refl refl (λ is. absurd is)
+groups_step sizes first by core log Stops found sound groups progress may = step_same sizes first by core log Stops found sound groups may refl refl (λ is. (had sizes core.values (core.passes by) found Stops refl may.may is, refl))
+groups_step sizes first by core log (Seizes next) found sound groups progress may = step_same sizes first by core log (Seizes next) found sound groups may refl refl (λ is. (had sizes core.values (core.passes by) found (Seizes next) refl may.may is, refl))
+groups_step sizes first by core log (Pledges page) found sound groups progress may = step_same sizes first by core log (Pledges page) found sound groups may refl refl (λ is. (had sizes core.values (core.passes by) found (Pledges page) refl may.may is, refl))
+groups_step sizes first by core log (Readies next) found sound groups progress may = step_same sizes first by core log (Readies next) found sound groups may refl refl (λ is. (had sizes core.values (core.passes by) found (Readies next) refl may.may is, refl))
+groups_step sizes first by core log Grows found sound groups progress may = step_same sizes first by core log Grows found sound groups may refl refl (λ is. (had sizes core.values (core.passes by) found Grows refl may.may is, refl))
+groups_step sizes first by core log (Breaks next) found sound groups progress may = step_same sizes first by core log (Breaks next) found sound groups may refl refl (λ is. (had sizes core.values (core.passes by) found (Breaks next) refl may.may is, refl))
 
 -- ---- a call that begins, and a device call
 
@@ -242,6 +337,9 @@ worked_had sizes values pass work (Copying page dirty) Made due is = absurd is
 worked_had sizes values pass work (Copying page dirty) (Failed came faults) due is = absurd is
 worked_had sizes values pass work (Patching page number) Made due is = absurd is
 worked_had sizes values pass work (Patching page number) (Failed came faults) due is = absurd is
+worked_had sizes values pass work (Copying page dirty) Refused due is = absurd is
+worked_had sizes values pass work (Patching page number) Refused due is = absurd is
+worked_had sizes values pass work (Cleaning batch sweep) how due is = absurd (swept_worked (λ s. HasGroup s → ⊥) (λ z. z) (λ b s z. z) batch how sweep (subst HasGroup (worked_stage sizes pass batch how sweep) is))
 worked_had sizes values pass work stage how due is = absurd due
 
 pub log_group : (pass : Pass) (how : Ending) (stage : Stage) (log : Log) → (log_worked pass how stage log).group ≡ log.group

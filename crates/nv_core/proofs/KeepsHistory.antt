@@ -7,8 +7,8 @@ use Rattle.nv_plain.specs.declared.call.FileCall.{FileCall}
 use Rattle.nv_plain.specs.declared.call.Reply.{Reply}
 use Rattle.nv_core.specs.Totals.{total}
 use Rattle.nv_core.specs.Words.{Sizes, Word, STOP, ORDER, HEAD, TAIL, SIZE, LENGTH, STORE, ENTRY, PAGE, DIRTY, HINT, CLEANUP}
-use Rattle.nv_core.specs.Passes.{Stage, Idle, Locking, Measuring, Sizing, Checking, Ordering, Reading, Fetching, Copying, Returning, Heading, Tailing, Drawing, Seizing, Committing, Pledging, Readying, Placing, Growing, Releasing, Giving, Leaving, ReadFailing, WriteFailing, Breaking, Pass, is_write, page_count, first_page, end_page, without, Searching, Hinting, Seeking, Waiting, Bounding, Starting, Scanning, Grasping, Patching, Restoring, Unlocking, PieceFailing}
-use Rattle.nv_core.specs.Deeds.{Deed, Loads, Takes, Gives, Places, Stops, Draws, Seizes, Pledges, Readies, Grows, Breaks, Splits, Leaves, Joins, slot_of, Turns, Hints, Holds, Returns}
+use Rattle.nv_core.specs.Passes.{Stage, Idle, Locking, Measuring, Sizing, Checking, Ordering, Reading, Fetching, Copying, Returning, Heading, Tailing, Drawing, Seizing, Committing, Pledging, Readying, Placing, Growing, Releasing, Giving, Leaving, ReadFailing, WriteFailing, Breaking, Pass, is_write, page_count, first_page, end_page, without, Searching, Hinting, Seeking, Waiting, Bounding, Starting, Scanning, Grasping, Patching, Restoring, Unlocking, PieceFailing, Cleaning}
+use Rattle.nv_core.specs.Deeds.{Deed, Loads, Takes, Gives, Places, Stops, Draws, Seizes, Pledges, Readies, Grows, Breaks, Splits, Leaves, Joins, slot_of, Turns, Hints, Holds, Returns, Tends, chore_move, moved}
 use Rattle.nv_core.specs.Stages.{stage_after, after_load, after_give, after_stop, leaving, giving, ending, exceeds, ordered, after_return}
 use Rattle.nv_core.specs.Stepped.{stepped, added, begun}
 use Rattle.nv_core.specs.Order.{Values, Work, MayWork, MayStep, MayLoad, MayTake, MayPlace, IsDue, IsFailing}
@@ -23,6 +23,8 @@ use Rattle.nv_core.proofs.WordLaws.{untouched, touches}
 use Rattle.nv_core.proofs.TotalLaws.{total_same, total_at, total_more}
 use Rattle.nv_core.proofs.Inherits.{inherits}
 use Rattle.nv_core.proofs.KeepsLoaded.{more_made}
+use Rattle.nv_core.proofs.StandingLaws.{worked_stage}
+use Rattle.nv_core.proofs.SweepStages.{tended_to, swept_worked}
 use Rattle.nv_core.proofs.SearchLaws.{turned_at, looked_at, tried_next, hinted_at}
 
 -- ---- lists
@@ -50,6 +52,7 @@ open_or_not Leaving = inr refl
 open_or_not (Breaking number) = inr refl
 open_or_not (Restoring page number true) = inr refl
 open_or_not (Restoring page number false) = inl tt
+open_or_not (Cleaning batch sweep) = inr refl
 open_or_not stage = inl tt
 
 one_open : (sizes : Sizes) (core : Core) → Broken sizes core → (n : ℕ) → open_calls (core.passes n) ≤ 1
@@ -145,6 +148,8 @@ quiet sizes values pass found number history (Returns next) is may = let a = go 
     go : (failed : Bool) → pass.stage ≡ Restoring may.0 next failed → stage_open (after_return sizes pass pass.stage) ≤ stage_open pass.stage
     go true here = to_none pass.stage _ (ap (λ s. stage_open (after_return sizes pass s)) here ∙ none_leaving (without (ENTRY (slot_of sizes next)) pass.hands))
     go false here = from_open pass.stage _ (Restoring may.0 next false) here refl
+quiet sizes values pass found number history (Tends chore) is may =
+    let a = tended_to (λ s. stage_open s ≡ 0) refl (λ b s. refl) sizes pass (moved (chore_move sizes chore found) pass.hands) chore found pass.stage may in omega (arith, a)
 quiet sizes values pass found number history deed is may = absurd may
 
 -- a pass's open calls change the count by as much
@@ -301,10 +306,11 @@ history_begin sizes by core call one made may = history_still core by (begun siz
 
 pub history_work : (sizes : Sizes) (by : ℕ) (core : Core) (work : Work) → OneHistory core → by ≤ core.made → MayWork sizes core.values (core.passes by) work → OneHistory (after_work sizes by work core)
 history_work sizes by core work one made may = history_still core by (worked sizes work (core.passes by)) _ one made refl refl
-    (let a = due_open (core.passes by).stage may.due in let b = most_open (stage_worked sizes (core.passes by) work.ending (core.passes by).stage) in omega (arith, a, b))
+    (let a = works (core.passes by).stage may.due in omega (arith, a))
   where
-    due_open : (stage : Stage) → IsDue sizes core.values (core.passes by) work stage → stage_open stage ≡ 1
-    due_open (Committing calls) due = refl
-    due_open (Copying page dirty) due = refl
-    due_open (Patching page number) due = refl
-    due_open stage due = absurd due
+    works : (stage : Stage) → IsDue sizes core.values (core.passes by) work stage → stage_open (stage_worked sizes (core.passes by) work.ending stage) ≤ stage_open stage
+    works (Committing calls) due = most_open (stage_worked sizes (core.passes by) work.ending (Committing calls))
+    works (Copying page dirty) due = most_open (stage_worked sizes (core.passes by) work.ending (Copying page dirty))
+    works (Patching page number) due = most_open (stage_worked sizes (core.passes by) work.ending (Patching page number))
+    works (Cleaning batch sweep) due = subst (λ s. stage_open s ≤ 0) (sym (worked_stage sizes (core.passes by) batch work.ending sweep)) (swept_worked (λ s. stage_open s ≤ 0) (omega arith) (λ b s. omega arith) batch work.ending sweep)
+    works stage due = absurd due

@@ -1,10 +1,14 @@
 -- Each event keeps what entries that were made ready say of their leaders.
-use Rattle.std.proofs.Common.{◌≡◌, ◌≢◌, ◌⊎◌, ℕ, ◌+◌, ◌-◌, ◌<◌, ◌≤◌, ◌==◌, Bool, true, false, if◌then◌else◌, inl, inr, refl, sym, ap, subst, ◌∙◌, arith}
-use Rattle.std.proofs.lemmas.Bool.{cases_eq}
+use Rattle.std.proofs.Common.{◌≡◌, ◌≢◌, ◌⊎◌, ℕ, ◌+◌, ◌-◌, ◌<◌, ◌≤◌, ◌==◌, Bool, true, false, if◌then◌else◌, inl, inr, refl, sym, ap, subst, ◌∙◌, arith, le_trans}
+use Rattle.std.proofs.lemmas.Bool.{cases_eq, cases_lt}
 use Rattle.nv_plain.specs.declared.call.FileCall.{FileCall}
-use Rattle.nv_core.specs.Words.{Sizes, Word, HEAD, TAIL, ENTRY, was_readied, free, filling, broken, index}
-use Rattle.nv_core.specs.Passes.{Seizing, IsUnseized, IsFilling, IsAmong, is_write, page_count}
-use Rattle.nv_core.specs.Deeds.{Deed, slot_of, page_at, ready_word, Takes, Gives, Draws, Seizes, Readies, Breaks, Holds, Returns}
+use Rattle.nv_core.specs.Words.{Sizes, Word, HEAD, TAIL, ENTRY, kind_of, was_readied, free, filling, ready, held, cleaned, broken, index}
+use Rattle.nv_core.specs.Sweeps.{Freeing, Lifts, Drops, Cleans, Frees}
+use Rattle.nv_core.specs.SweepNumbers.{IsCleaned}
+use Rattle.nv_core.specs.Progress.{Progress}
+use Rattle.nv_core.specs.Loaded.{Looks}
+use Rattle.nv_core.specs.Passes.{Grasping, Restoring, Seizing, IsUnseized, IsFilling, IsAmong, is_write, page_count}
+use Rattle.nv_core.specs.Deeds.{Deed, slot_of, page_at, ready_word, Takes, Gives, Draws, Seizes, Readies, Breaks, Holds, Returns, Tends}
 use Rattle.nv_core.specs.Stages.{leaving}
 use Rattle.nv_core.specs.Order.{Values, Work}
 use Rattle.nv_core.specs.Core.{Core, changed, with_word, after_step, after_begin, after_work}
@@ -12,18 +16,25 @@ use Rattle.nv_core.specs.Events.{MayFind}
 use Rattle.nv_core.specs.Standing.{StandsAt, HasDrawn, IsSmall, HasRoom}
 use Rattle.nv_core.specs.LogWindow.{HasUnseized, InWindow, entry_at}
 use Rattle.nv_core.specs.Groups.{Group, Log, group_of, with_group, log_stepped, log_worked, HasGroup, IsOwn, Groups}
-use Rattle.nv_core.specs.LivePieces.{is_ready}
+use Rattle.nv_core.specs.LivePieces.{is_ready, is_cleaned}
 use Rattle.nv_core.specs.Leaders.{Leaders}
 use Rattle.nv_core.specs.Sound.{Sound}
 use Rattle.nv_core.proofs.Changes.{by_word, number_here, word_here, word_else, differ}
 use Rattle.nv_core.proofs.Choices.{not_both, when_true, when_false}
 use Rattle.nv_core.proofs.PageLaws.{write_pages}
 use Rattle.nv_core.proofs.WordLaws.{untouched, touches}
-use Rattle.nv_core.proofs.KeepsLocks.{ready_is}
+use Rattle.nv_core.proofs.KeepsLocks.{ready_is, entry_is}
+use Rattle.nv_core.proofs.SweepDeeds.{IsAtFree, lifts_hand, drops_hand, cleans_hand, frees_hand}
+use Rattle.nv_core.proofs.SweepReadied.{lifts_rekind, drops_rekind, cleans_rekind}
+use Rattle.nv_core.proofs.KeepsLoaded.{tail_up}
 use Rattle.nv_core.proofs.Rekinded.{holds_rekind, returns_rekind}
 use Rattle.nv_core.proofs.WindowLaws.{apart_within}
 use Rattle.nv_core.proofs.KeepsWindow.{window_step}
 use Rattle.nv_core.proofs.KeepsGroups.{group_old, which, log_group}
+
+-- whether a word is that of a cleaned entry
+abbrev is_clean : (word : ℕ) → Bool
+is_clean word = kind_of word == cleaned
 
 -- ---- one word changes, or none
 
@@ -31,43 +42,44 @@ use Rattle.nv_core.proofs.KeepsGroups.{group_old, which, log_group}
 abbrev SameBut : Sizes → Core → Core → (next : ℕ) → Type 0
 SameBut sizes core now next = (n : ℕ) → InWindow core n → n ≢ next → entry_at sizes now n ≡ entry_at sizes core n
 
-module _ (sizes : Sizes) (log : Log) (core now : Core) (head : now.words HEAD ≡ core.words HEAD) (tail : now.words TAIL ≡ core.words TAIL) (groups : Groups sizes core log) (leaders : Leaders sizes log core) where
+module _ (sizes : Sizes) (log : Log) (core now : Core) (head : now.words HEAD ≡ core.words HEAD) (tail : core.words TAIL ≤ now.words TAIL) (groups : Groups sizes core log) (leaders : Leaders sizes log core) where
   was : (n : ℕ) → InWindow now n → InWindow core n
-  was n is = (subst (λ t. t ≤ n) tail is.0, subst (λ h. n < h) head is.1)
+  was n is = (le_trans tail is.0, subst (λ h. n < h) head is.1)
 
   leader : (n : ℕ) → InWindow core n → InWindow core (log.group n).first
   leader n within = let g = groups.each n within in let t = g.low in let h = g.high in let s = g.drawn.some in (t, omega (arith, h, s))
 
   same_leaders : ((slot : ℕ) → now.words (ENTRY slot) ≡ core.words (ENTRY slot)) → Leaders sizes log now
   same_leaders same = record {
-    each = λ n within ready_. elim (leaders.each n (was n within) (sym (ap was_readied (same (slot_of sizes n))) ∙ ready_)) [
+    each = λ n within ready_ fresh. elim (leaders.each n (was n within) (sym (ap was_readied (same (slot_of sizes n))) ∙ ready_) (sym (ap is_clean (same (slot_of sizes n))) ∙ fresh)) [
       | inl is ↦ inl (ap was_readied (same (slot_of sizes (log.group n).first)) ∙ is)
       | inr is ↦ inr (same (slot_of sizes (log.group n).first) ∙ is)
     ];
   }
 
   -- an entry becomes what is not ready, and its number's followers weren't ready, if it is a leader's
-  spoilt : (next : ℕ) → is_ready sizes now next ≡ false → ((n : ℕ) → InWindow core n → is_ready sizes core n ≡ true → (log.group n).first ≡ next → ⊥) → SameBut sizes core now next → Leaders sizes log now
+  spoilt : (next : ℕ) → is_ready sizes now next ≡ false → ((n : ℕ) → InWindow core n → is_ready sizes core n ≡ true → is_cleaned sizes core n ≡ false → (log.group n).first ≡ next → ⊥) → SameBut sizes core now next → Leaders sizes log now
   spoilt next not_now none same = record {
-    each = λ n within ready_. elim (cases_eq n next) [
+    each = λ n within ready_ fresh. elim (cases_eq n next) [
       | inl e ↦ absurd (not_both (ap (is_ready sizes now) (sym e) ∙ ready_) not_now)
       | inr ne ↦
           let before = sym (ap was_readied (same n (was n within) ne)) ∙ ready_ in
-          let kept = same (log.group n).first (leader n (was n within)) (none n (was n within) before) in
-          elim (leaders.each n (was n within) before) [ inl is ↦ inl (ap was_readied kept ∙ is) | inr is ↦ inr (kept ∙ is) ]
+          let still = sym (ap is_clean (same n (was n within) ne)) ∙ fresh in
+          let kept = same (log.group n).first (leader n (was n within)) (none n (was n within) before still) in
+          elim (leaders.each n (was n within) before still) [ inl is ↦ inl (ap was_readied kept ∙ is) | inr is ↦ inr (kept ∙ is) ]
     ];
   }
 
   -- an entry is made ready, and its leader is being filled, if it isn't its own
   readied : (next : ℕ) → is_ready sizes now next ≡ true → ((log.group next).first ≢ next → entry_at sizes core (log.group next).first ≡ filling) → InWindow core next → SameBut sizes core now next → Leaders sizes log now
   readied next is_now fills there same = record {
-    each = λ n within ready_. elim (cases_eq (log.group n).first next) [
+    each = λ n within ready_ fresh. elim (cases_eq (log.group n).first next) [
       | inl e ↦ inl (ap (is_ready sizes now) e ∙ is_now)
       | inr ne ↦
           let kept = same (log.group n).first (leader n (was n within)) ne in
           elim (cases_eq n next) [
             | inl e ↦ inr (kept ∙ subst (λ m. entry_at sizes core (log.group m).first ≡ filling) (sym e) (fills (λ is. ne (ap (λ m. (log.group m).first) e ∙ is))))
-            | inr other ↦ elim (leaders.each n (was n within) (sym (ap was_readied (same n (was n within) other)) ∙ ready_)) [ inl is ↦ inl (ap was_readied kept ∙ is) | inr is ↦ inr (kept ∙ is) ]
+            | inr other ↦ elim (leaders.each n (was n within) (sym (ap was_readied (same n (was n within) other)) ∙ ready_) (sym (ap is_clean (same n (was n within) other)) ∙ fresh)) [ inl is ↦ inl (ap was_readied kept ∙ is) | inr is ↦ inr (kept ∙ is) ]
           ]
     ];
   }
@@ -77,7 +89,7 @@ module _ (sizes : Sizes) (log : Log) (core now : Core) (head : now.words HEAD �
 plain_leaders : (sizes : Sizes) (log : Log) (by : ℕ) (core : Core) (deed : Deed) (found : ℕ) → Groups sizes core log → Leaders sizes log core → MayFind sizes by core deed found
     → touches deed HEAD ≡ false → touches deed TAIL ≡ false → ((slot : ℕ) → touches deed (ENTRY slot) ≡ false) → Leaders sizes log (after_step sizes by deed found core)
 plain_leaders sizes log by core deed found groups leaders may head tail entry =
-    same_leaders sizes log core (after_step sizes by deed found core) (untouched sizes by core deed found may HEAD head) (untouched sizes by core deed found may TAIL tail) groups leaders (λ slot. untouched sizes by core deed found may (ENTRY slot) (entry slot))
+    same_leaders sizes log core (after_step sizes by deed found core) (untouched sizes by core deed found may HEAD head) (let t = untouched sizes by core deed found may TAIL tail in omega (arith, t)) groups leaders (λ slot. untouched sizes by core deed found may (ENTRY slot) (entry slot))
 
 -- the word of an entry is set
 module _ (sizes : Sizes) (first : Values) (log : Log) (by : ℕ) (core : Core) (sound : Sound sizes first core) (groups : Groups sizes core log) (leaders : Leaders sizes log core) (next value : ℕ) (within : InWindow core next) where
@@ -87,8 +99,8 @@ module _ (sizes : Sizes) (first : Values) (log : Log) (by : ℕ) (core : Core) (
   set_head : set_words HEAD ≡ core.words HEAD
   set_head = word_else core.words (ENTRY (slot_of sizes next)) value HEAD (differ HEAD (ENTRY (slot_of sizes next)) refl)
 
-  set_tail : set_words TAIL ≡ core.words TAIL
-  set_tail = word_else core.words (ENTRY (slot_of sizes next)) value TAIL (differ TAIL (ENTRY (slot_of sizes next)) refl)
+  set_tail : core.words TAIL ≤ set_words TAIL
+  set_tail = let t = word_else core.words (ENTRY (slot_of sizes next)) value TAIL (differ TAIL (ENTRY (slot_of sizes next)) refl) in omega (arith, t)
 
   set_here : set_words (ENTRY (slot_of sizes next)) ≡ value
   set_here = word_here core.words (ENTRY (slot_of sizes next)) value
@@ -108,7 +120,7 @@ module _ (sizes : Sizes) (first : Values) (log : Log) (by : ℕ) (core : Core) (
       spoilt sizes log core (after_step sizes by (Seizes next) found core)
       (set_head sizes first log by core sound groups leaders next filling within) (set_tail sizes first log by core sound groups leaders next filling within) groups leaders next
       (ap was_readied (set_here sizes first log by core sound groups leaders next filling within))
-      (λ n is ready_ e. elim (leaders.each n is ready_) [
+      (λ n is ready_ fresh e. elim (leaders.each n is ready_ fresh) [
         | inl led ↦ not_both (sym (ap (is_ready sizes core) e) ∙ led) (ap was_readied old)
         | inr fills ↦ let z : free ≡ filling = sym old ∙ sym (ap (entry_at sizes core) e) ∙ fills in omega (arith, z)
       ])
@@ -121,7 +133,7 @@ module _ (sizes : Sizes) (first : Values) (log : Log) (by : ℕ) (core : Core) (
       spoilt sizes log core (after_step sizes by (Breaks next) found core)
       (set_head sizes first log by core sound groups leaders next broken mine.within) (set_tail sizes first log by core sound groups leaders next broken mine.within) groups leaders next
       (ap was_readied (set_here sizes first log by core sound groups leaders next broken mine.within))
-      (λ n is ready_ e.
+      (λ n is ready_ fresh e.
       let g = groups.each n is in
       let s = g.drawn.some in
       let same : log.group n ≡ group_of (core.passes by) = sym (g.same (log.group n).first (omega arith, omega (arith, s))) ∙ ap log.group e ∙ mine.group in
@@ -144,14 +156,46 @@ module _ (sizes : Sizes) (first : Values) (log : Log) (by : ℕ) (core : Core) (
       (λ ne. sound.window.filling_is by (log.group next).first (subst (λ s. IsFilling s (core.passes by).first (core.passes by).entries (log.group next).first) (sym may.may) (inl (ap (λ one. one.first) mine.group))))
       mine.within (set_else sizes first log by core sound groups leaders next value mine.within)
 
+  -- the numbers of the group of one that is freed, if it leads it, are cleaned
+  group_cleaned : Progress sizes log core → (next : ℕ) → MayFind sizes by core (Tends (Frees next)) found → (n : ℕ) → InWindow core n → (log.group n).first ≡ next → kind_of (entry_at sizes core n) ≡ cleaned
+  group_cleaned progress next may n within leads = sound.window.cleaned_is by n (subst (λ s. IsCleaned s n) (sym hand.stage) (omega (arith, low, leads), omega (arith, below)))
+    where
+      hand : IsAtFree sizes first core sound by next
+      hand = frees_hand sizes first core sound by found next may
+
+      low : (log.group n).first ≤ n
+      low = (groups.each n within).among.0
+
+      below : n < hand.batch.reached
+      below = elim (cases_lt n hand.batch.reached) [
+        | inl less ↦ less
+        | inr past ↦ absurd (
+            let h = hand.high in let w = hand.within.0 in let t = within.1 in let top = (groups.each n within).among.1 in
+            let inside : InWindow core hand.batch.reached = (omega (arith, h, w), omega (arith, past, t)) in
+            let same : log.group hand.batch.reached ≡ log.group n = (groups.each n within).same hand.batch.reached (omega (arith, leads, h), omega (arith, top, past)) in
+            let own : (log.group hand.batch.reached).first ≡ hand.batch.reached = (progress.each by hand.batch (Freeing next) hand.stage tt).leads inside in
+            let e : hand.batch.reached ≡ next = sym own ∙ ap (λ g. g.first) same ∙ leads in omega (arith, e, h))
+      ]
+
+  -- one that is freed is of a group that is cleaned as a whole, as far as it isn't freed
+  free_leaders : Progress sizes log core → (next : ℕ) → MayFind sizes by core (Tends (Frees next)) found → Leaders sizes log (after_step sizes by (Tends (Frees next)) found core)
+  free_leaders progress next may =
+      let hand = frees_hand sizes first core sound by found next may in
+      spoilt sizes log core (after_step sizes by (Tends (Frees next)) found core)
+      (set_head sizes first log by core sound groups leaders next free hand.within) (set_tail sizes first log by core sound groups leaders next free hand.within) groups leaders next
+      (ap was_readied (set_here sizes first log by core sound groups leaders next free hand.within))
+      (λ n is ready_ fresh e. not_both (ap (λ k. k == cleaned) (group_cleaned progress next may n is e)) fresh)
+      (set_else sizes first log by core sound groups leaders next free hand.within)
+
 -- a word of an entry that was made ready is set to another one of such an entry
 pub still_readied : (core : Core) (slot value : ℕ) → was_readied value ≡ true → was_readied (core.words (ENTRY slot)) ≡ true → (other : ℕ)
     → was_readied (with_word core.words (ENTRY slot) value (ENTRY other)) ≡ was_readied (core.words (ENTRY other))
 still_readied core slot value now before other = by_word (λ word v. was_readied v ≡ was_readied (core.words word)) core.words (ENTRY slot) value (now ∙ sym before) (λ word ne. refl) (ENTRY other)
 
-touch_leaders : (sizes : Sizes) (log : Log) (core now : Core) (slot value : ℕ) → now.words ≡ with_word core.words (ENTRY slot) value → was_readied value ≡ true → was_readied (core.words (ENTRY slot)) ≡ true → Leaders sizes log core → Leaders sizes log now
-touch_leaders sizes log core now slot value words is before leaders = record {
-  each = λ n within ready_. elim (leaders.each n (was n within) (sym (same n) ∙ ready_)) [
+touch_leaders : (sizes : Sizes) (log : Log) (core now : Core) (slot value : ℕ) → now.words ≡ with_word core.words (ENTRY slot) value → was_readied value ≡ true → was_readied (core.words (ENTRY slot)) ≡ true → is_clean (core.words (ENTRY slot)) ≡ false
+    → Leaders sizes log core → Leaders sizes log now
+touch_leaders sizes log core now slot value words is before unclean leaders = record {
+  each = λ n within ready_ fresh. elim (leaders.each n (was n within) (sym (same n) ∙ ready_) (still n fresh)) [
     | inl led ↦ inl (same (log.group n).first ∙ led)
     | inr fills ↦ inr (ap (λ w. w (ENTRY (slot_of sizes (log.group n).first))) words ∙ kept (ENTRY (slot_of sizes (log.group n).first)) fills)
   ];
@@ -166,6 +210,10 @@ touch_leaders sizes log core now slot value words is before leaders = record {
     same : (n : ℕ) → is_ready sizes now n ≡ is_ready sizes core n
     same n = ap (λ w. was_readied (w (ENTRY (slot_of sizes n)))) words ∙ still_readied core slot value is before (slot_of sizes n)
 
+    -- one that isn't cleaned then wasn't before
+    still : (n : ℕ) → is_cleaned sizes now n ≡ false → is_cleaned sizes core n ≡ false
+    still n fresh = by_word (λ word v. is_clean v ≡ false → is_clean (core.words word) ≡ false) core.words (ENTRY slot) value (λ _. unclean) (λ word ne f. f) (ENTRY (slot_of sizes n)) (sym (ap (λ w. is_clean (w (ENTRY (slot_of sizes n)))) words) ∙ fresh)
+
     kept : (word : Word) → core.words word ≡ filling → with_word core.words (ENTRY slot) value word ≡ filling
     kept = by_word (λ word v. core.words word ≡ filling → v ≡ filling) core.words (ENTRY slot) value (λ e. absurd (not_both before (ap was_readied e))) (λ word ne e. e)
 
@@ -179,10 +227,10 @@ draw_leaders sizes first log by core found sound groups leaders may = go (found 
 
     go : (b : Bool) → (found == (core.passes by).head) ≡ b → Leaders sizes (log_stepped sizes (core.passes by) Draws found log) (after_step sizes by Draws found core)
     go false e = subst (λ l. Leaders sizes l (after_step sizes by Draws found core)) (sym (when_false (found == (core.passes by).head) (with_group group log) log e))
-        (same_leaders sizes log core (after_step sizes by Draws found core) (word_here core.words HEAD _ ∙ when_false (found == (core.passes by).head) (found + page_count sizes (core.passes by).call) found e ∙ sym may.is) refl groups leaders (λ slot. refl))
+        (same_leaders sizes log core (after_step sizes by Draws found core) (word_here core.words HEAD _ ∙ when_false (found == (core.passes by).head) (found + page_count sizes (core.passes by).call) found e ∙ sym may.is) (omega arith) groups leaders (λ slot. refl))
     go true e = subst (λ l. Leaders sizes l (after_step sizes by Draws found core)) (sym (when_true (found == (core.passes by).head) (with_group group log) log e)) record {
-      each = λ n within ready_. elim (split n within) [
-        | inl was ↦ subst (λ g. (is_ready sizes core g.first ≡ true) ⊎ (entry_at sizes core g.first ≡ filling)) (sym (old n was.1)) (leaders.each n was ready_)
+      each = λ n within ready_ fresh. elim (split n within) [
+        | inl was ↦ subst (λ g. (is_ready sizes core g.first ≡ true) ⊎ (entry_at sizes core g.first ≡ filling)) (sym (old n was.1)) (leaders.each n was ready_ fresh)
         | inr new ↦ absurd (not_both ready_ (ap was_readied (none n new)))
       ];
     }
@@ -211,19 +259,35 @@ draw_leaders sizes first log by core found sound groups leaders may = go (found 
                   (subst (λ c. n < found + c) (sym (when_true (found == (core.passes by).head) (page_count sizes (core.passes by).call) (core.passes by).entries e)) is.1),
             )))
 
-pub leaders_step : (sizes : Sizes) (first : Values) (log : Log) (by : ℕ) (core : Core) (deed : Deed) (found : ℕ) → Sound sizes first core → Groups sizes core log → Leaders sizes log core → MayFind sizes by core deed found
+pub leaders_step : (sizes : Sizes) (first : Values) (log : Log) (by : ℕ) (core : Core) (deed : Deed) (found : ℕ) → Sound sizes first core → Groups sizes core log → Progress sizes log core → Leaders sizes log core → MayFind sizes by core deed found
     → Leaders sizes (log_stepped sizes (core.passes by) deed found log) (after_step sizes by deed found core)
-leaders_step sizes first log by core Draws found sound groups leaders may = draw_leaders sizes first log by core found sound groups leaders may
-leaders_step sizes first log by core (Seizes next) found sound groups leaders may = seize_leaders sizes first log by core found sound groups leaders next may
-leaders_step sizes first log by core (Readies next) found sound groups leaders may = ready_leaders sizes first log by core found sound groups leaders next may
-leaders_step sizes first log by core (Breaks next) found sound groups leaders may = break_leaders sizes first log by core found sound groups leaders next may
-leaders_step sizes first log by core (Holds next) found sound groups leaders may =
-    let re = holds_rekind sizes first by core found next sound may in touch_leaders sizes log core (after_step sizes by (Holds next) found core) (slot_of sizes next) (found + 1) refl re.now re.was leaders
-leaders_step sizes first log by core (Returns next) found sound groups leaders may =
-    let re = returns_rekind sizes first by core found next sound may in touch_leaders sizes log core (after_step sizes by (Returns next) found core) (slot_of sizes next) (found - 1) refl re.now re.was leaders
-leaders_step sizes first log by core (Takes cell) found sound groups leaders may = plain_leaders sizes log by core (Takes cell) found groups leaders may refl refl (λ slot. refl)
-leaders_step sizes first log by core (Gives cell) found sound groups leaders may = plain_leaders sizes log by core (Gives cell) found groups leaders may refl refl (λ slot. refl)
-leaders_step sizes first log by core deed found sound groups leaders may = plain_leaders sizes log by core deed found groups leaders may refl refl (λ slot. refl)
+leaders_step sizes first log by core Draws found sound groups progress leaders may = draw_leaders sizes first log by core found sound groups leaders may
+leaders_step sizes first log by core (Seizes next) found sound groups progress leaders may = seize_leaders sizes first log by core found sound groups leaders next may
+leaders_step sizes first log by core (Readies next) found sound groups progress leaders may = ready_leaders sizes first log by core found sound groups leaders next may
+leaders_step sizes first log by core (Breaks next) found sound groups progress leaders may = break_leaders sizes first log by core found sound groups leaders next may
+leaders_step sizes first log by core (Holds next) found sound groups progress leaders may =
+    let re = holds_rekind sizes first by core found next sound may in
+    let looks : Looks sizes core (Grasping may.may.0 next) = subst (Looks sizes core) may.may.1 (sound.loaded.looks by) in
+    touch_leaders sizes log core (after_step sizes by (Holds next) found core) (slot_of sizes next) (found + 1) refl re.now re.was (ap (λ k. k == cleaned) (entry_is ready may.may.0 (entry_at sizes core next) looks.1).0) leaders
+leaders_step sizes first log by core (Returns next) found sound groups progress leaders may =
+    let re = returns_rekind sizes first by core found next sound may in
+    let looks : Looks sizes core (Restoring may.may.0 next may.may.1) = subst (Looks sizes core) may.may.2 (sound.loaded.looks by) in
+    touch_leaders sizes log core (after_step sizes by (Returns next) found core) (slot_of sizes next) (found - 1) refl re.now re.was (ap (λ k. k == cleaned) (entry_is held may.may.0 (entry_at sizes core next) looks.1).0) leaders
+leaders_step sizes first log by core (Tends (Lifts next)) found sound groups progress leaders may =
+    let re = lifts_rekind sizes first by core found next sound may in
+    touch_leaders sizes log core (after_step sizes by (Tends (Lifts next)) found core) (slot_of sizes next) (found + 1) refl re.now re.was (ap (λ k. k == cleaned) (lifts_hand sizes first core sound by found next may).kind_is) leaders
+leaders_step sizes first log by core (Tends (Drops next)) found sound groups progress leaders may =
+    let re = drops_rekind sizes first by core found next sound may in
+    touch_leaders sizes log core (after_step sizes by (Tends (Drops next)) found core) (slot_of sizes next) (found - 1) refl re.now re.was (ap (λ k. k == cleaned) (drops_hand sizes first core sound by found next may).kind_is) leaders
+leaders_step sizes first log by core (Tends (Cleans next)) found sound groups progress leaders may =
+    let re = cleans_rekind sizes first by core found next sound may in
+    touch_leaders sizes log core (after_step sizes by (Tends (Cleans next)) found core) (slot_of sizes next) (found + 1) refl re.now re.was (ap (λ k. k == cleaned) (cleans_hand sizes first core sound by found next may).kind_is) leaders
+leaders_step sizes first log by core (Tends (Frees next)) found sound groups progress leaders may = free_leaders sizes first log by core found sound groups leaders progress next may
+leaders_step sizes first log by core (Tends chore) found sound groups progress leaders may =
+    same_leaders sizes log core (after_step sizes by (Tends chore) found core) (untouched sizes by core (Tends chore) found may HEAD refl) (tail_up sizes first by core found (Tends chore) sound may) groups leaders (λ slot. untouched sizes by core (Tends chore) found may (ENTRY slot) refl)
+leaders_step sizes first log by core (Takes cell) found sound groups progress leaders may = plain_leaders sizes log by core (Takes cell) found groups leaders may refl refl (λ slot. refl)
+leaders_step sizes first log by core (Gives cell) found sound groups progress leaders may = plain_leaders sizes log by core (Gives cell) found groups leaders may refl refl (λ slot. refl)
+leaders_step sizes first log by core deed found sound groups progress leaders may = plain_leaders sizes log by core deed found groups leaders may refl refl (λ slot. refl)
 
 -- ---- a call that begins, and a device call
 

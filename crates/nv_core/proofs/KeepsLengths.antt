@@ -8,14 +8,15 @@ use Rattle.nv_plain.specs.declared.call.FileCall.{FileCall}
 use Rattle.nv_plain.specs.declared.call.FileCall.TheVariants.{Read, Write, Sync}
 use Rattle.nv_plain.specs.declared.call.Reply.{Reply}
 use Rattle.nv_core.specs.Words.{Sizes, Word, STOP, ORDER, HEAD, TAIL, SIZE, LENGTH, STORE, ENTRY, PAGE, DIRTY, index, HINT, CLEANUP, ready, is_entry_of}
-use Rattle.nv_core.specs.Values.{Ending, Made, Failed}
-use Rattle.nv_core.specs.Passes.{Stage, Idle, Locking, Measuring, Sizing, Checking, Ordering, Reading, Fetching, Copying, Returning, Waiting, Heading, Tailing, Drawing, Seizing, Committing, Pledging, Readying, Placing, Growing, Releasing, Giving, Leaving, ReadFailing, WriteFailing, Breaking, Pass, file_of, at_of, len_of, is_write, is_read, page_count, first_page, end_page, without, times, Searching, Bounding, Scanning, Grasping, Patching, Unlocking, PieceFailing}
-use Rattle.nv_core.specs.Deeds.{Deed, Loads, Takes, Gives, Places, Stops, Draws, Seizes, Pledges, Readies, Grows, Breaks, Splits, Leaves, Joins, slot_of, Turns, Hints, Holds, Returns}
+use Rattle.nv_core.specs.Values.{Ending, Made, Failed, Refused}
+use Rattle.nv_core.specs.Passes.{Stage, Idle, Locking, Measuring, Sizing, Checking, Ordering, Reading, Fetching, Copying, Returning, Waiting, Heading, Tailing, Drawing, Seizing, Committing, Pledging, Readying, Placing, Growing, Releasing, Giving, Leaving, ReadFailing, WriteFailing, Breaking, Pass, file_of, at_of, len_of, is_write, is_read, page_count, first_page, end_page, without, times, Searching, Bounding, Scanning, Grasping, Patching, Unlocking, PieceFailing, Cleaning}
+use Rattle.nv_core.specs.Deeds.{Deed, Loads, Takes, Gives, Places, Stops, Draws, Seizes, Pledges, Readies, Grows, Breaks, Splits, Leaves, Joins, slot_of, Turns, Hints, Holds, Returns, Tends, chore_move, moved}
 use Rattle.nv_core.specs.Stages.{stage_after, after_load, after_give, after_stop, leaving, giving, ending, ordered, copying, exceeds, scanning, after_head, after_tail, after_look, after_hold, after_return}
 use Rattle.nv_core.specs.Stepped.{added}
 use Rattle.nv_core.specs.Order.{Values, Work, MayWork, MayStep, MayLoad, MayTake, MayPlace, IsDue, IsFailing, commit_steps}
 use Rattle.nv_core.specs.Core.{Core, changes, changed, after_step, after_begin, after_work, stage_worked}
 use Rattle.nv_core.specs.Events.{MayFind, MayBegin}
+use Rattle.nv_core.specs.Standing.{has_call}
 use Rattle.nv_core.specs.Loaded.{HasMeasured}
 use Rattle.nv_core.specs.PagesAfter.{files_now}
 use Rattle.nv_core.specs.Lengths.{length_now, IsGrowing, Extends, Lengths}
@@ -28,6 +29,8 @@ use Rattle.nv_core.proofs.KeepsLoaded.{holds_size, held_by_one}
 use Rattle.nv_core.proofs.Placed.{IsUnplaced, same_history}
 use Rattle.nv_core.proofs.FileLaws.{files_same, files_grow, files_written}
 use Rattle.nv_core.proofs.SearchLaws.{turned_at, looked_at, hinting_next, tried_at}
+use Rattle.nv_core.proofs.StandingLaws.{worked_stage}
+use Rattle.nv_core.proofs.SweepStages.{tended, tended_to, swept_worked}
 
 -- ---- the stage Growing
 
@@ -80,6 +83,7 @@ step_growing sizes values pass (Holds number) un may = unlike _ may.1 (λ z. z)
 step_growing sizes values pass (Returns number) un may = unlike _ may.2 (λ z. z)
 step_growing sizes values pass (Turns page) un may = turned_at (λ s. s ≡ Growing → ⊥) sizes values pass page (λ _. unlike _ refl (λ z. z)) (λ _ _. unlike _ refl (λ z. z)) may
 step_growing sizes values pass (Hints buffer page) un may = unlike _ may.is (λ z. z)
+step_growing sizes values pass (Tends chore) un may = tended (λ c s. s ≡ Growing → ⊥) sizes pass chore pass.stage may (λ most. unlike Idle refl (λ z. z)) (λ batch sweep e. unlike (Cleaning batch sweep) refl (λ z. z))
 step_growing sizes values pass deed un may = absurd may
 
 -- and only a step that places a call leads there
@@ -159,6 +163,7 @@ none_grows sizes values pass found (Returns next) un may = subst (λ s. IsGrow (
     (λ _. ungrown_leaving (without (ENTRY (slot_of sizes next)) pass.hands)) (λ _. ungrown_scanning pass may.0 (next + 1)))
 none_grows sizes values pass found (Turns page) un may = λ z. z
 none_grows sizes values pass found (Hints buffer page) un may = λ z. z
+none_grows sizes values pass found (Tends chore) un may = tended_to (λ s. IsGrow s → ⊥) (λ z. z) (λ batch sweep z. z) sizes pass (moved (chore_move sizes chore found) pass.hands) chore found pass.stage may
 none_grows sizes values pass found deed un may = absurd may
 
 -- ---- a step that places a call
@@ -168,11 +173,20 @@ place_measured sizes values pass reply Placing may = tt
 place_measured sizes values pass reply (Reading page) may = tt
 place_measured sizes values pass reply stage may = absurd may
 
--- the call of a pass that may step is one of a file that is there
+-- a step of a call may come
+abbrev pub MayCall : Sizes → Values → Pass → Deed → Type 0
+MayCall sizes values pass (Tends chore) = ⊥
+MayCall sizes values pass deed = MayStep sizes values pass deed
+
+called : (sizes : Sizes) (values : Values) (pass : Pass) (deed : Deed) → MayCall sizes values pass deed → has_call pass.stage ≡ true
+called sizes values pass (Tends chore) may = absurd may
+called sizes values pass deed may = step_idle sizes values pass deed may
+
+-- the call of a pass that may make a step of it is one of a file that is there
 pub known_file : (plain : PlainLaws) (sizes : Sizes) (first : Values) (opening : Files) (by : ℕ) (core : Core) (deed : Deed) → Sound sizes first core → length opening.contents ≡ sizes.files
-    → MayStep sizes core.values (core.passes by) deed → file_of (core.passes by).call < length (files_now opening core).contents
+    → MayCall sizes core.values (core.passes by) deed → file_of (core.passes by).call < length (files_now opening core).contents
 known_file plain sizes first opening by core deed sound count may =
-    let known = ((sound.standing by).allowed (step_idle sizes core.values (core.passes by) deed may)).known in
+    let known = ((sound.standing by).allowed (called sizes core.values (core.passes by) deed may)).known in
     let all = plain.count core.history opening in
     omega (arith, known, all, count)
 
@@ -427,6 +441,10 @@ worked_growing sizes values pass work Made (Patching page number) due = λ z. z
 worked_growing sizes values pass work (Failed came faults) (Committing calls) due = λ z. z
 worked_growing sizes values pass work (Failed came faults) (Copying page dirty) due = λ z. z
 worked_growing sizes values pass work (Failed came faults) (Patching page number) due = λ z. z
+worked_growing sizes values pass work Refused (Committing calls) due = λ z. z
+worked_growing sizes values pass work Refused (Copying page dirty) due = λ z. z
+worked_growing sizes values pass work Refused (Patching page number) due = λ z. z
+worked_growing sizes values pass work how (Cleaning batch sweep) due = subst (λ s. IsGrow s → ⊥) (sym (worked_stage sizes pass batch how sweep)) (swept_worked (λ s. IsGrow s → ⊥) (λ z. z) (λ b s z. z) batch how sweep)
 worked_growing sizes values pass work how stage due = absurd due
 
 pub lengths_work : (sizes : Sizes) (opening : Files) (by : ℕ) (core : Core) (work : Work) → MayWork sizes core.values (core.passes by) work → Lengths sizes opening core → Lengths sizes opening (after_work sizes by work core)

@@ -1,8 +1,8 @@
 -- Each event keeps the files that the live pieces make of the stores.
-use Rattle.std.proofs.Common.{◌≡◌, ◌≢◌, ◌⊎◌, ℕ, zero, suc, ◌+◌, ◌-◌, ◌<◌, ◌≤◌, ◌==◌, ◌&&◌, not, Bool, true, false, if◌then◌else◌, List, [], ◌∷◌, ◌++◌, length, inl, inr, refl, sym, ap, ap₂, subst, ◌∙◌, arith}
+use Rattle.std.proofs.Common.{◌≡◌, ◌≢◌, ◌⊎◌, ℕ, zero, suc, ◌+◌, ◌-◌, ◌<◌, ◌≤◌, ◌==◌, nat_le, ◌&&◌, ◌||◌, not, Bool, true, false, if◌then◌else◌, List, [], ◌∷◌, ◌++◌, length, inl, inr, refl, sym, ap, ap₂, subst, ◌∙◌, arith}
 use Rattle.std.specs.Prelude.{map}
 use Rattle.std.specs.List.{range_with_len}
-use Rattle.std.proofs.lemmas.Bool.{true≢false, eqb-true, eq-eqb, ne_eqb, cases_eq, cases_lt, and_parts, lt-ltb}
+use Rattle.std.proofs.lemmas.Bool.{true≢false, eqb-true, eq-eqb, ne_eqb, cases_eq, cases_lt, lt-ltb}
 use Rattle.std.proofs.lemmas.List.{append-nil, length-set, set-get_or}
 use Rattle.nv_plain.specs.Files.{Files}
 use Rattle.nv_plain.specs.Calls.{files_after}
@@ -10,37 +10,41 @@ use Rattle.nv_plain.specs.Histories.{Answered}
 use Rattle.nv_plain.specs.declared.call.FileCall.{FileCall}
 use Rattle.nv_plain.specs.declared.call.FileCall.TheVariants.{Read, Write, Sync}
 use Rattle.nv_plain.specs.declared.call.Reply.{Reply}
-use Rattle.nv_core.specs.Words.{Sizes, Word, HEAD, TAIL, STORE, ENTRY, free, filling, broken, index, was_readied}
+use Rattle.nv_core.specs.Words.{Sizes, Word, HEAD, TAIL, STORE, ENTRY, kind_of, free, filling, ready, cleaned, broken, index, was_readied}
 use Rattle.nv_core.specs.Values.{Value, Bare, APart, AStore, ABuffer, Job, Ending, called}
-use Rattle.nv_core.specs.Passes.{Stage, Reading, Seizing, Placing, Pass, IsAmong, IsUnseized, IsFilling, file_of, is_write, page_count, first_page}
-use Rattle.nv_core.specs.Deeds.{Deed, slot_of, page_at, ready_word, Places, Draws, Seizes, Readies, Breaks, Holds, Returns}
-use Rattle.nv_core.specs.Stages.{leaving}
-use Rattle.nv_core.specs.Stepped.{added}
-use Rattle.nv_core.specs.Order.{Values, Work, MayPlace}
-use Rattle.nv_core.specs.Core.{Core, changed, with_word, with_number, after_step, after_begin, after_work, values_worked}
-use Rattle.nv_core.specs.Events.{MayFind}
-use Rattle.nv_core.specs.Standing.{StandsAt, HasDrawn, IsPage, IsSmall, HasRoom}
-use Rattle.nv_core.specs.LogWindow.{HasUnseized, InWindow, entry_at}
-use Rattle.nv_core.specs.Groups.{Group, Log, group_of, with_group, log_stepped, log_worked, IsOwn, Groups}
+use Rattle.nv_core.specs.Passes.{Stage, Idle, Locking, Checking, Reading, Seizing, Committing, Pledging, Readying, Placing, ReadFailing, PieceFailing, WriteFailing, Pass, IsAmong, IsUnseized, IsFilling, file_of, is_write, page_count, first_page, end_page}
+use Rattle.nv_core.specs.Deeds.{Deed, slot_of, page_at, ready_word, Loads, Takes, Gives, Places, Stops, Draws, Seizes, Pledges, Readies, Grows, Breaks, Turns, Hints, Holds, Returns, Tends, Splits, Leaves, Joins, moved, chore_move}
+use Rattle.nv_core.specs.Stages.{stage_after, after_hold, after_return, leaving}
+use Rattle.nv_core.specs.Stepped.{added, begun}
+use Rattle.nv_core.specs.Order.{Values, Work, MayStep, MayPlace, IsFailing}
+use Rattle.nv_core.specs.Core.{Core, changes, changed, with_word, after_step, after_begin, values_worked}
+use Rattle.nv_core.specs.Events.{MayFind, MayBegin}
+use Rattle.nv_core.specs.Numbers.{Numbers}
+use Rattle.nv_core.specs.Standing.{StandsAt, HasDrawn, IsPage, IsSmall, HasRoom, has_call}
+use Rattle.nv_core.specs.LogWindow.{HasUnseized, InWindow, WasReadied, entry_at}
+use Rattle.nv_core.specs.Groups.{Group, Log, group_of, with_group, log_stepped, Groups}
 use Rattle.nv_core.specs.Pieces.{page_of_number, IsReadied, Pieces}
-use Rattle.nv_core.specs.InFlight.{placed_stepped, IsFlying, IsWaiting, InFlight}
+use Rattle.nv_core.specs.InFlight.{IsFlying, InFlight}
 use Rattle.nv_core.specs.Apart.{AreApart, IsApartFrom, after_calls}
-use Rattle.nv_core.specs.LivePieces.{rising, call_if, piece_write, piece_call, is_ready, is_live, live_pieces, is_to_place, to_place, calls_of, store_bytes, store_files, LivePieces}
+use Rattle.nv_core.specs.StorePages.{store_of}
+use Rattle.nv_core.specs.LivePieces.{rising, call_if, piece_write, piece_call, is_ready, is_cleaned, is_live, is_waiting, to_place, calls_of, told_bytes, store_bytes, store_files, LivePieces}
 use Rattle.nv_core.specs.Sound.{Sound}
 use Rattle.nv_core.proofs.PlainLaws.{PlainLaws}
-use Rattle.nv_core.proofs.Changes.{by_word, number_here, number_else, word_here, word_else, differ}
-use Rattle.nv_core.proofs.Choices.{when_true, when_false, busy, not_both, unless_true}
-use Rattle.nv_core.proofs.WordLaws.{untouched, touches}
-use Rattle.nv_core.proofs.KeepsLocks.{ready_is}
+use Rattle.nv_core.proofs.Changes.{by_number, by_word, number_here, number_else, word_here, word_else, differ}
+use Rattle.nv_core.proofs.Choices.{if_both, when_true, when_false, busy, not_both, unless_true, gives_back}
+use Rattle.nv_core.proofs.WordLaws.{untouched}
+use Rattle.nv_core.proofs.KeepsLocks.{ready_is, kind_is}
 use Rattle.nv_core.proofs.WindowLaws.{apart_within}
 use Rattle.nv_core.proofs.PageLaws.{write_pages}
 use Rattle.nv_core.proofs.KeepsWindow.{window_step}
-use Rattle.nv_core.proofs.KeepsInFlight.{no_reading}
-use Rattle.nv_core.proofs.KeepsGroups.{group_old, log_group}
-use Rattle.nv_core.proofs.KeepsStores.{step_store, read_store}
+use Rattle.nv_core.proofs.SweepStages.{tended_to}
+use Rattle.nv_core.proofs.ReadiedLaws.{seized, broke, ready_fills, said_before, says_still}
+use Rattle.nv_core.proofs.KeepsInFlight.{not_leaving, not_ending, not_returned, not_loaded, not_taken, not_given, not_placed, not_placing, flew, elsewhere, is_place, is_made, not_made, made_number, place_other, filled_in, flying_pages, one_pass, no_reading}
+use Rattle.nv_core.proofs.KeepsGroups.{group_old}
+use Rattle.nv_core.proofs.KeepsStores.{step_store, work_store, keeps_stores, called_store}
 use Rattle.nv_core.proofs.ApartLaws.{comes_first, after_both}
-use Rattle.nv_core.proofs.LiveLaws.{rising_same, rising_none, rising_split, rising_apart, all_apart, come_last, AllApart, pieces_after, pieces_apart, writes_apart, apart_turned}
-use Rattle.nv_core.proofs.Rekinded.{IsRekinded, holds_rekind, returns_rekind, rekind_still, rekind_before}
+use Rattle.nv_core.proofs.LiveLaws.{rising_same, rising_none, rising_split, rising_apart, all_apart, come_last, AllApart, pieces_after, pieces_apart, writes_apart}
+use Rattle.nv_core.proofs.Rekinded.{holds_kinds, returns_kinds}
 
 -- ---- the stores
 
@@ -51,97 +55,190 @@ map_same f g (x ∷ xs) same = ap₂ (λ a b. a ∷ b) (same x) (map_same f g xs
 pub stores_same : (sizes : Sizes) (old new : Values) → ((file : ℕ) → store_bytes (new (STORE file)) ≡ store_bytes (old (STORE file))) → store_files sizes new ≡ store_files sizes old
 stores_same sizes old new same = ap (λ c. record { contents = c }) (map_same (λ file. store_bytes (new (STORE file))) (λ file. store_bytes (old (STORE file))) (range_with_len 0 sizes.files) same)
 
-store_called : (job : Job) (how : Ending) (value : Value) → store_bytes (called job how value) ≡ store_bytes value
-store_called job how Bare = refl
-store_called job how (APart device room) = refl
-store_called job how (AStore device) = refl
-store_called job how (ABuffer buffer) = refl
+-- the bytes of a store by what it tells
+pub bytes_of : (value : Value) → store_bytes value ≡ told_bytes (store_of value)
+bytes_of Bare = refl
+bytes_of (APart device room) = refl
+bytes_of (AStore device) = refl
+bytes_of (ABuffer buffer) = refl
 
-pub store_worked : (pass : Pass) (work : Work) (values : Values) (file : ℕ) → store_bytes (values_worked pass work values (STORE file)) ≡ store_bytes (values (STORE file))
-store_worked pass work values file =
-    ap store_bytes (read_store work.job work.ending pass.stage (with_word values work.cell (called work.job work.ending (values work.cell))) file)
-    ∙ by_word (λ other v. store_bytes v ≡ store_bytes (values other)) values work.cell (called work.job work.ending (values work.cell)) (store_called work.job work.ending (values work.cell)) (λ other ne. refl) (STORE file)
+-- a device call that neither writes to a store nor syncs it
+store_called : (job : Job) (how : Ending) (value : Value) → keeps_stores job ≡ true → store_bytes (called job how value) ≡ store_bytes value
+store_called job how value keeps = bytes_as (called job how value) value (called_store job how value keeps)
+  where
+    bytes_as : (one other : Value) → store_of one ≡ store_of other → store_bytes one ≡ store_bytes other
+    bytes_as one other same = bytes_of one ∙ ap told_bytes same ∙ sym (bytes_of other)
+
+store_worked : (pass : Pass) (work : Work) (values : Values) (file : ℕ) → keeps_stores work.job ≡ true → store_bytes (values_worked pass work values (STORE file)) ≡ store_bytes (values (STORE file))
+store_worked pass work values file keeps =
+    ap store_bytes (work_store pass work values file)
+    ∙ by_word (λ other v. store_bytes v ≡ store_bytes (values other)) values work.cell (called work.job work.ending (values work.cell)) (store_called work.job work.ending (values work.cell) keeps) (λ other ne. refl) (STORE file)
+
+-- ---- the writes that are to be placed
+
+-- those of one pass
+abbrev pub waits_of : Pass → List FileCall
+waits_of pass = call_if (is_waiting pass pass.stage) pass.call
+
+pub none_of : (pass : Pass) → is_waiting pass pass.stage ≡ false → waits_of pass ≡ []
+none_of pass none = ap (λ b. call_if b pass.call) none
+
+-- where it isn't about to be placed, or isn't a write
+pub unwaiting : (pass : Pass) (stage : Stage) → (is_write pass.call ≡ true → stage ≡ Placing → ⊥) → is_waiting pass stage ≡ false
+unwaiting pass Placing never = unless_true (is_write pass.call) (λ write. never write refl)
+unwaiting pass stage never = refl
+
+pub waiting_is : (pass : Pass) (stage : Stage) → is_waiting pass stage ≡ true → (is_write pass.call ≡ true) × (stage ≡ Placing)
+waiting_is pass Placing is = (is, refl)
+waiting_is pass stage is = absurd (true≢false (sym is))
+
+pub idle_waits : (pass : Pass) → pass.stage ≡ Idle → waits_of pass ≡ []
+idle_waits pass idle = none_of pass (ap (is_waiting pass) idle)
+
+failing_flies : (pass : Pass) (stage : Stage) → IsFailing stage → IsFlying pass stage → ⊥
+failing_flies pass (PieceFailing page number) failing = λ z. z
+failing_flies pass (ReadFailing page dirty) failing = λ z. z
+failing_flies pass WriteFailing failing = λ z. z
+failing_flies pass stage failing = absurd failing
+
+-- no step but that which makes a leader ready leads to the place of a write
+unplaced_after : (sizes : Sizes) (values : Values) (pass : Pass) (found : ℕ) (deed : Deed) → ((next : ℕ) → deed ≡ Readies next → next ≢ pass.first) → MayStep sizes values pass deed
+    → is_write pass.call ≡ true → stage_after sizes pass deed found ≡ Placing → ⊥
+unplaced_after sizes values pass found (Loads word) other may write e = not_loaded sizes values pass word found may (subst (IsFlying pass) (sym e) write)
+unplaced_after sizes values pass found (Takes cell) other may write e = not_taken sizes pass cell found may (subst (IsFlying pass) (sym e) write)
+unplaced_after sizes values pass found (Gives cell) other may write e = not_given sizes pass cell pass.stage (gives_back pass cell pass.stage may) (subst (IsFlying pass) (sym e) write)
+unplaced_after sizes values pass found (Places reply) other may write e = not_placed sizes pass pass (subst (IsFlying pass) (sym e) write)
+unplaced_after sizes values pass found Stops other may write e = failing_flies pass pass.stage may (flew sizes values pass found Stops refl may (subst (IsFlying pass) (sym e) write))
+unplaced_after sizes values pass found Draws other may write e = if_both (λ s. s ≡ Placing → ⊥) (found == pass.head) (Seizing found) (leaving pass.hands) (λ _. elsewhere _ _ refl refl) (λ _ e. not_leaving pass pass.hands (subst (IsFlying pass) (sym e) write)) e
+unplaced_after sizes values pass found (Seizes next) other may write e = if_both (λ s. s ≡ Placing → ⊥) (next + 1 == pass.first + pass.entries) (Committing 0) (Seizing (next + 1)) (λ _. elsewhere _ _ refl refl) (λ _. elsewhere _ _ refl refl) e
+unplaced_after sizes values pass found (Pledges page) other may write e = if_both (λ s. s ≡ Placing → ⊥) (page + 1 == end_page sizes pass.call) (Readying (if pass.entries == 1 then pass.first else pass.first + 1)) (Pledging (page + 1)) (λ _. elsewhere _ _ refl refl) (λ _. elsewhere _ _ refl refl) e
+unplaced_after sizes values pass found (Readies next) other may write e = if_both (λ s. s ≡ Placing → ⊥) (next == pass.first) Placing (Readying (if next + 1 == pass.first + pass.entries then pass.first else next + 1))
+    (λ leads _. other next refl (eqb-true next pass.first leads)) (λ _. elsewhere _ _ refl refl) e
+unplaced_after sizes values pass found Grows other may write e = not_ending sizes pass pass (subst (IsFlying pass) (sym e) write)
+unplaced_after sizes values pass found (Breaks next) other may write e = subst (IsFlying pass) may (flew sizes values pass found (Breaks next) refl may (subst (IsFlying pass) (sym e) write))
+unplaced_after sizes values pass found (Holds next) other may write e = subst (λ s. IsFlying pass (after_hold s)) may.1 (subst (IsFlying pass) (sym e) write)
+unplaced_after sizes values pass found (Returns next) other may write e = not_returned sizes pass pass may.0 next may.1 (subst (λ s. IsFlying pass (after_return sizes pass s)) may.2 (subst (IsFlying pass) (sym e) write))
+unplaced_after sizes values pass found (Turns page) other may write e = subst (IsFlying pass) (sym e) write
+unplaced_after sizes values pass found (Hints buffer page) other may write e = subst (IsFlying pass) (sym e) write
+unplaced_after sizes values pass found (Tends chore) other may write e = tended_to (λ s. s ≡ Placing → ⊥) (elsewhere _ _ refl refl) (λ _ _. elsewhere _ _ refl refl) sizes pass (moved (chore_move sizes chore found) pass.hands) chore found pass.stage may e
+unplaced_after sizes values pass found deed other may write e = absurd may
+
+-- a step that makes no leader ready and places nothing leaves those of each pass
+pub waits_step : (sizes : Sizes) (by : ℕ) (core : Core) (deed : Deed) (found : ℕ) → Numbers core → MayFind sizes by core deed found → ((next : ℕ) → deed ≡ Readies next → next ≢ (core.passes by).first) → is_place deed ≡ false
+    → (n : ℕ) → waits_of ((after_step sizes by deed found core).passes n) ≡ waits_of (core.passes n)
+waits_step sizes by core deed found numbers may other not_so = by_number (λ m (p : Pass). waits_of p ≡ waits_of (core.passes m)) core.passes (changes by core.made deed) (changed sizes by core deed found) (here deed may other not_so) (λ m ne. refl)
+  where
+    here : (deed : Deed) → MayFind sizes by core deed found → ((next : ℕ) → deed ≡ Readies next → next ≢ (core.passes by).first) → is_place deed ≡ false
+        → waits_of (changed sizes by core deed found) ≡ waits_of (core.passes (changes by core.made deed))
+    here Splits may other not_so = sym (idle_waits (core.passes (core.made + 1)) (numbers.unborn (core.made + 1) (omega arith)).idle)
+    here (Leaves cell) may other not_so = refl
+    here (Joins number) may other not_so = refl
+    here deed may other not_so =
+        none_of (changed sizes by core deed found) (unwaiting (changed sizes by core deed found) (stage_after sizes (core.passes by) deed found) (unplaced_after sizes core.values (core.passes by) found deed other may.may))
+        ∙ sym (none_of (core.passes by) (unwaiting (core.passes by) (core.passes by).stage (λ write. not_placing sizes core.values (core.passes by) deed not_so may.may)))
+
+-- a pass that isn't made has none
+born : (core : Core) (by : ℕ) → Numbers core → (core.passes by).stage ≢ Idle → by ≤ core.made
+born core by numbers busy_ = elim (cases_lt core.made by) [
+  | inl unborn ↦ absurd (busy_ (numbers.unborn by unborn).idle)
+  | inr made ↦ made
+]
+
+pub places_same : (core now : Core) → Numbers core → core.made ≤ now.made → ((n : ℕ) → waits_of (now.passes n) ≡ waits_of (core.passes n)) → to_place now ≡ to_place core
+places_same core now numbers more same =
+    let count : now.made + 1 ≡ (core.made + 1) + (now.made - core.made) = omega (arith, more) in
+    rising_same (λ n. waits_of (now.passes n)) (λ n. waits_of (core.passes n)) 0 (now.made + 1) (λ n low high. same n)
+    ∙ ap (rising (λ n. waits_of (core.passes n)) 0) count
+    ∙ rising_split (λ n. waits_of (core.passes n)) 0 (core.made + 1) (now.made - core.made)
+    ∙ ap (λ r. to_place core ++ r) (rising_none (λ n. waits_of (core.passes n)) (0 + (core.made + 1)) (now.made - core.made) (λ n low high. idle_waits (core.passes n) (numbers.unborn n (omega (arith, low))).idle))
+    ∙ append-nil (to_place core)
 
 -- ---- what keeps the live pieces
 
-test_same : (one other : Bool) → (one ≡ true → other ≡ true) → (other ≡ true → one ≡ true) → one ≡ other
+-- the live pieces of those numbers that are kept
+abbrev pub kept_pieces : Sizes → Log → (ℕ → Bool) → Core → List FileCall
+kept_pieces sizes log keep core = rising (λ n. call_if (is_live sizes log core n && keep n) (piece_call sizes (log.group n) n)) (core.words TAIL) (core.words HEAD - core.words TAIL)
+
+-- they make the files of the stores
+pub record LiveBy (sizes : Sizes) (log : Log) (keep : ℕ → Bool) (opened : Files) (core : Core) : Type 0 where
+  pub files : after_calls (calls_of core.history ++ to_place core) opened ≡ after_calls (kept_pieces sizes log keep core) (store_files sizes core.values)
+
+-- whether an entry is live rests on its own kind and on its leader's
+pub live_is : (sizes : Sizes) (log : Log) (core now : Core) (n : ℕ) → is_ready sizes now n ≡ is_ready sizes core n → is_ready sizes now (log.group n).first ≡ is_ready sizes core (log.group n).first → is_cleaned sizes now n ≡ is_cleaned sizes core n
+    → is_live sizes log now n ≡ is_live sizes log core n
+live_is sizes log core now n own leader clean = ap₂ (λ a b. a && b) own (ap₂ (λ a b. a || b) leader clean)
+
+pub test_same : (one other : Bool) → (one ≡ true → other ≡ true) → (other ≡ true → one ≡ true) → one ≡ other
 test_same true other there back = sym (there refl)
 test_same false true there back = back refl
 test_same false false there back = refl
 
-module _ (sizes : Sizes) (log : Log) (placed : ℕ → Bool) (opened : Files) (core now : Core) (head : now.words HEAD ≡ core.words HEAD) (tail : now.words TAIL ≡ core.words TAIL) where
-  live_kept : calls_of now.history ≡ calls_of core.history → ((n : ℕ) → InWindow core n → is_live sizes log now n ≡ is_live sizes log core n)
-      → ((n : ℕ) → InWindow core n → is_to_place sizes log placed now n ≡ is_to_place sizes log placed core n)
+module _ (sizes : Sizes) (log : Log) (keep : ℕ → Bool) (opened : Files) (core now : Core) (head : now.words HEAD ≡ core.words HEAD) (tail : now.words TAIL ≡ core.words TAIL) where
+  pieces_kept : ((n : ℕ) → InWindow core n → is_live sizes log now n ≡ is_live sizes log core n) → core.words TAIL ≤ core.words HEAD → kept_pieces sizes log keep now ≡ kept_pieces sizes log keep core
+  pieces_kept live order = ap₂ (λ t h. rising (λ n. call_if (is_live sizes log now n && keep n) (piece_call sizes (log.group n) n)) t (h - t)) tail head
+      ∙ rising_same (λ n. call_if (is_live sizes log now n && keep n) (piece_call sizes (log.group n) n)) (λ n. call_if (is_live sizes log core n && keep n) (piece_call sizes (log.group n) n)) (core.words TAIL) (core.words HEAD - core.words TAIL)
+      (λ n low high. ap (λ b. call_if (b && keep n) (piece_call sizes (log.group n) n)) (live n (low, omega (arith, high, order))))
+
+  pub live_kept : calls_of now.history ≡ calls_of core.history → ((n : ℕ) → InWindow core n → is_live sizes log now n ≡ is_live sizes log core n) → to_place now ≡ to_place core
       → ((file : ℕ) → store_bytes (now.values (STORE file)) ≡ store_bytes (core.values (STORE file)))
-      → core.words TAIL ≤ core.words HEAD → LivePieces sizes log placed opened core → LivePieces sizes log placed opened now
-  live_kept history live waits stores order pieces = record {
-    files =
-        ap₂ (λ h p. after_calls (h ++ p) opened) history places
-        ∙ pieces.files
-        ∙ sym (ap₂ after_calls lives (stores_same sizes core.values now.values stores));
+      → core.words TAIL ≤ core.words HEAD → LiveBy sizes log keep opened core → LiveBy sizes log keep opened now
+  live_kept history live places stores order pieces = record {
+    files = ap₂ (λ h p. after_calls (h ++ p) opened) history places ∙ pieces.files ∙ sym (ap₂ after_calls (pieces_kept live order) (stores_same sizes core.values now.values stores));
   }
+
+-- an entry that was never made ready isn't cleaned
+pub not_cleaned : (word : ℕ) → was_readied word ≢ true → (kind_of word == cleaned) ≡ false
+not_cleaned word not_so = ne_eqb (kind_of word) cleaned (λ e. not_so (ap (λ k. nat_le ready k && nat_le k cleaned) e))
+
+-- a number's leader is in the window, and of its group
+module _ (sizes : Sizes) (core : Core) (log : Log) (groups : Groups sizes core log) where
+  pub leader_in : (n : ℕ) → InWindow core n → InWindow core (log.group n).first
+  leader_in n is = let g = groups.each n is in let t = g.low in let h = g.high in let s = g.drawn.some in (t, omega (arith, h, s))
+
+  pub leader_group : (n : ℕ) → InWindow core n → log.group (log.group n).first ≡ log.group n
+  leader_group n is = let g = groups.each n is in let s = g.drawn.some in g.same (log.group n).first (omega arith, omega (arith, s))
+
+-- whether a step is a cleaner's
+abbrev pub is_tend : Deed → Bool
+is_tend (Tends chore) = true
+is_tend deed = false
+
+module _ (sizes : Sizes) (first : Values) (by : ℕ) (core : Core) (found : ℕ) (sound : Sound sizes first core) where
+  -- no step but a cleaner's cleans an entry, or makes a cleaned one anything else
+  entry_clean : (slot value : ℕ) → (kind_of value == cleaned) ≡ (kind_of (core.words (ENTRY slot)) == cleaned) → (word : Word) → (kind_of (with_word core.words (ENTRY slot) value word) == cleaned) ≡ (kind_of (core.words word) == cleaned)
+  entry_clean slot value same_clean = by_word (λ word v. (kind_of v == cleaned) ≡ (kind_of (core.words word) == cleaned)) core.words (ENTRY slot) value same_clean (λ word ne. refl)
+
+  pub clean_step : (deed : Deed) → is_tend deed ≡ false → MayFind sizes by core deed found → (n : ℕ) → is_cleaned sizes (after_step sizes by deed found core) n ≡ is_cleaned sizes core n
+  clean_step (Seizes next) not_so may n = entry_clean (slot_of sizes next) filling (sym (not_cleaned (entry_at sizes core next) (λ e. not_both (ap was_readied (sym (seized sizes first by core found sound next may)) ∙ e) refl))) (ENTRY (slot_of sizes n))
+  clean_step (Breaks next) not_so may n = entry_clean (slot_of sizes next) broken (sym (not_cleaned (entry_at sizes core next) (λ e. not_both (ap was_readied (sym (broke sizes first by core found sound next may)) ∙ e) refl))) (ENTRY (slot_of sizes n))
+  clean_step (Readies next) not_so may n = entry_clean (slot_of sizes next) (ready_word sizes (core.passes by) next)
+      (ap (λ k. k == cleaned) (kind_is ready (if next == (core.passes by).first then (core.passes by).entries else 0) (page_at sizes (core.passes by) next) (omega arith))
+      ∙ sym (not_cleaned (entry_at sizes core next) (λ e. not_both (ap was_readied (sym (filled_was next may)) ∙ e) refl))) (ENTRY (slot_of sizes n))
     where
-      inside : (n : ℕ) → core.words TAIL ≤ n → n < core.words TAIL + (core.words HEAD - core.words TAIL) → InWindow core n
-      inside n low high = (low, omega (arith, high, order))
+      filled_was : (next : ℕ) → MayFind sizes by core (Readies next) found → entry_at sizes core next ≡ filling
+      filled_was next may = sound.window.filling_is by next (ready_fills sizes first by core found sound next may)
+  clean_step (Holds next) not_so may n = entry_clean (slot_of sizes next) (found + 1) (let k = holds_kinds sizes first by core found next sound may in ap (λ k. k == cleaned) k.1 ∙ sym (ap (λ k. k == cleaned) k.0)) (ENTRY (slot_of sizes n))
+  clean_step (Returns next) not_so may n = entry_clean (slot_of sizes next) (found - 1) (let k = returns_kinds sizes first by core found next sound may in ap (λ k. k == cleaned) k.1 ∙ sym (ap (λ k. k == cleaned) k.0)) (ENTRY (slot_of sizes n))
+  clean_step (Tends chore) not_so may n = absurd (not_both refl not_so)
+  clean_step deed not_so may n = ap (λ w. kind_of w == cleaned) (untouched sizes by core deed found may (ENTRY (slot_of sizes n)) refl)
 
-      places : to_place sizes log placed now ≡ to_place sizes log placed core
-      places = ap₂ (λ t h. rising (λ n. call_if (is_to_place sizes log placed now n) (log.group n).call) t (h - t)) tail head
-          ∙ rising_same (λ n. call_if (is_to_place sizes log placed now n) (log.group n).call) (λ n. call_if (is_to_place sizes log placed core n) (log.group n).call) (core.words TAIL) (core.words HEAD - core.words TAIL)
-          (λ n low high. ap (λ b. call_if b (log.group n).call) (waits n (inside n low high)))
-
-      lives : live_pieces sizes log now ≡ live_pieces sizes log core
-      lives = ap₂ (λ t h. rising (λ n. call_if (is_live sizes log now n) (piece_call sizes (log.group n) n)) t (h - t)) tail head
-          ∙ rising_same (λ n. call_if (is_live sizes log now n) (piece_call sizes (log.group n) n)) (λ n. call_if (is_live sizes log core n) (piece_call sizes (log.group n) n)) (core.words TAIL) (core.words HEAD - core.words TAIL)
-          (λ n low high. ap (λ b. call_if b (piece_call sizes (log.group n) n)) (live n (inside n low high)))
+  -- nor does one but that which makes it ready
+  ready_step : (deed : Deed) → is_tend deed ≡ false → is_made deed ≡ false → MayFind sizes by core deed found → (n : ℕ) → InWindow core n → is_ready sizes (after_step sizes by deed found core) n ≡ is_ready sizes core n
+  ready_step deed not_so none may n within = test_same (is_ready sizes (after_step sizes by deed found core) n) (is_ready sizes core n)
+      (λ is. elim (said_before sizes first by core found sound deed may n within is) [ inl old ↦ old | inr e ↦ absurd (not_made deed none n e) ])
+      (λ is. elim (says_still sizes first by core found sound deed may n within is) [ inl on ↦ on | inr e ↦ absurd (not_both (ap is_tend e) not_so) ])
 
 -- a step that makes no entry ready
-same_live : (sizes : Sizes) (first : Values) (log : Log) (placed : ℕ → Bool) (opened : Files) (by : ℕ) (core : Core) (deed : Deed) (found : ℕ) → Sound sizes first core → LivePieces sizes log placed opened core
-    → (after_step sizes by deed found core).words HEAD ≡ core.words HEAD → (after_step sizes by deed found core).words TAIL ≡ core.words TAIL
-    → ((slot : ℕ) → was_readied ((after_step sizes by deed found core).words (ENTRY slot)) ≡ true → was_readied (core.words (ENTRY slot)) ≡ true)
-    → ((slot : ℕ) → was_readied (core.words (ENTRY slot)) ≡ true → was_readied ((after_step sizes by deed found core).words (ENTRY slot)) ≡ true)
-    → added by (core.passes by) deed ≡ [] → LivePieces sizes log placed opened (after_step sizes by deed found core)
-same_live sizes first log placed opened by core deed found sound pieces head tail before still none =
-    live_kept sizes log placed opened core (after_step sizes by deed found core) head tail
+same_live : (sizes : Sizes) (first : Values) (log : Log) (keep : ℕ → Bool) (opened : Files) (by : ℕ) (core : Core) (deed : Deed) (found : ℕ) → Sound sizes first core → Groups sizes core log → LiveBy sizes log keep opened core → MayFind sizes by core deed found
+    → is_tend deed ≡ false → is_made deed ≡ false → is_place deed ≡ false → (after_step sizes by deed found core).words HEAD ≡ core.words HEAD → (after_step sizes by deed found core).words TAIL ≡ core.words TAIL
+    → core.made ≤ (after_step sizes by deed found core).made → added by (core.passes by) deed ≡ [] → LiveBy sizes log keep opened (after_step sizes by deed found core)
+same_live sizes first log keep opened by core deed found sound groups pieces may tend made place head tail born_ none =
+    live_kept sizes log keep opened core (after_step sizes by deed found core) head tail
     (ap (λ a. calls_of (core.history ++ a)) none ∙ ap calls_of (append-nil core.history))
-    (λ n is. ap₂ (λ a b. a && b) (tests n) (tests (log.group n).first))
-    (λ n is. ap (λ b. ((log.group n).first == n && b) && not (placed n)) (tests n))
+    (λ n is. live_is sizes log core (after_step sizes by deed found core) n (ready_step sizes first by core found sound deed tend made may n is)
+    (ready_step sizes first by core found sound deed tend made may (log.group n).first (leader_in sizes core log groups n is)) (clean_step sizes first by core found sound deed tend may n))
+    (places_same core (after_step sizes by deed found core) sound.numbers born_ (waits_step sizes by core deed found sound.numbers may (λ next e. absurd (not_made deed made next e)) place))
     (λ file. ap store_bytes (step_store sizes (core.passes by) deed core.values file)) sound.window.order pieces
-  where
-    tests : (n : ℕ) → is_ready sizes (after_step sizes by deed found core) n ≡ is_ready sizes core n
-    tests n = test_same (is_ready sizes (after_step sizes by deed found core) n) (is_ready sizes core n) (before (slot_of sizes n)) (still (slot_of sizes n))
-
-plain_live : (sizes : Sizes) (first : Values) (log : Log) (placed : ℕ → Bool) (opened : Files) (by : ℕ) (core : Core) (deed : Deed) (found : ℕ) → Sound sizes first core → LivePieces sizes log placed opened core → MayFind sizes by core deed found
-    → touches deed HEAD ≡ false → touches deed TAIL ≡ false → ((slot : ℕ) → touches deed (ENTRY slot) ≡ false) → added by (core.passes by) deed ≡ [] → LivePieces sizes log placed opened (after_step sizes by deed found core)
-plain_live sizes first log placed opened by core deed found sound pieces may head tail entry none =
-    same_live sizes first log placed opened by core deed found sound pieces (untouched sizes by core deed found may HEAD head) (untouched sizes by core deed found may TAIL tail)
-    (λ slot is. ap was_readied (sym (untouched sizes by core deed found may (ENTRY slot) (entry slot))) ∙ is) (λ slot is. ap was_readied (untouched sizes by core deed found may (ENTRY slot) (entry slot)) ∙ is) none
-
-entry_live : (sizes : Sizes) (first : Values) (log : Log) (placed : ℕ → Bool) (opened : Files) (by : ℕ) (core : Core) (deed : Deed) (found slot value : ℕ) → Sound sizes first core → LivePieces sizes log placed opened core
-    → (after_step sizes by deed found core).words ≡ with_word core.words (ENTRY slot) value → was_readied value ≢ true → was_readied (core.words (ENTRY slot)) ≢ true
-    → added by (core.passes by) deed ≡ [] → LivePieces sizes log placed opened (after_step sizes by deed found core)
-entry_live sizes first log placed opened by core deed found slot value sound pieces words not_now not_before none =
-    same_live sizes first log placed opened by core deed found sound pieces
-    (ap (λ w. w HEAD) words ∙ word_else core.words (ENTRY slot) value HEAD (differ HEAD (ENTRY slot) refl))
-    (ap (λ w. w TAIL) words ∙ word_else core.words (ENTRY slot) value TAIL (differ TAIL (ENTRY slot) refl))
-    (λ other is. now (ENTRY other) (ap (λ w. was_readied (w (ENTRY other))) (sym words) ∙ is))
-    (λ other is. ap (λ w. was_readied (w (ENTRY other))) words ∙ before (ENTRY other) is) none
-  where
-    now : (word : Word) → was_readied (with_word core.words (ENTRY slot) value word) ≡ true → was_readied (core.words word) ≡ true
-    now = by_word (λ word v. was_readied v ≡ true → was_readied (core.words word) ≡ true) core.words (ENTRY slot) value (λ e. absurd (not_now e)) (λ word ne e. e)
-
-    before : (word : Word) → was_readied (core.words word) ≡ true → was_readied (with_word core.words (ENTRY slot) value word) ≡ true
-    before = by_word (λ word v. was_readied (core.words word) ≡ true → was_readied v ≡ true) core.words (ENTRY slot) value (λ e. absurd (not_before e)) (λ word ne e. e)
-
--- an entry is held or returned
-rekind_live : (sizes : Sizes) (first : Values) (log : Log) (placed : ℕ → Bool) (opened : Files) (by : ℕ) (core : Core) (deed : Deed) (found next value : ℕ) → Sound sizes first core → LivePieces sizes log placed opened core
-    → (after_step sizes by deed found core).words ≡ with_word core.words (ENTRY (slot_of sizes next)) value → IsRekinded sizes core next value
-    → added by (core.passes by) deed ≡ [] → LivePieces sizes log placed opened (after_step sizes by deed found core)
-rekind_live sizes first log placed opened by core deed found next value sound pieces words rekinded none =
-    same_live sizes first log placed opened by core deed found sound pieces
-    (ap (λ w. w HEAD) words ∙ word_else core.words (ENTRY (slot_of sizes next)) value HEAD (differ HEAD (ENTRY (slot_of sizes next)) refl))
-    (ap (λ w. w TAIL) words ∙ word_else core.words (ENTRY (slot_of sizes next)) value TAIL (differ TAIL (ENTRY (slot_of sizes next)) refl))
-    (λ other is. rekind_before sizes core next value rekinded (ENTRY other) (ap (λ w. was_readied (w (ENTRY other))) (sym words) ∙ is))
-    (λ other is. ap (λ w. was_readied (w (ENTRY other))) words ∙ rekind_still sizes core next value rekinded (ENTRY other) is) none
 
 -- ---- the window in three parts
 
@@ -186,14 +283,51 @@ pub if_apart : (call : FileCall) (test : Bool) (other : FileCall) → (test ≡ 
 if_apart call true other is = (is refl, tt)
 if_apart call false other is = tt
 
+-- ---- the writes to be placed by passes
+
+-- those of the passes before one, and behind it
+abbrev before_by : Core → (by : ℕ) → List FileCall
+before_by core by = rising (λ n. waits_of (core.passes n)) 0 (by - 0)
+
+abbrev behind_by : Core → (by : ℕ) → List FileCall
+behind_by core by = rising (λ n. waits_of (core.passes n)) (by + 1) (core.made + 1 - (by + 1))
+
+-- all of them, where those of other passes are as they were
+split_places : (core now : Core) (by : ℕ) → ((n : ℕ) → n ≢ by → waits_of (now.passes n) ≡ waits_of (core.passes n)) → by ≤ core.made → now.made ≡ core.made
+    → to_place now ≡ before_by core by ++ (waits_of (now.passes by) ++ behind_by core by)
+split_places core now by same low made =
+    ap (rising (λ n. waits_of (now.passes n)) 0) (let e : now.made + 1 ≡ core.made + 1 - 0 = omega (arith, made) in e)
+    ∙ thirds (λ n. waits_of (now.passes n)) 0 (core.made + 1) by 1 (omega arith) (omega (arith, low))
+    ∙ ap₂ (λ a r. a ++ r)
+    (rising_same (λ n. waits_of (now.passes n)) (λ n. waits_of (core.passes n)) 0 (by - 0) (λ n l h. same n (λ e. omega (arith, e, h))))
+    (ap₂ (λ c r. c ++ r) (append-nil (waits_of (now.passes by))) (rising_same (λ n. waits_of (now.passes n)) (λ n. waits_of (core.passes n)) (by + 1) (core.made + 1 - (by + 1)) (λ n l h. same n (λ e. omega (arith, e, l)))))
+
+elsewhere_idle : (stage : Stage) → has_call stage ≡ true → stage ≡ Idle → ⊥
+elsewhere_idle stage has e = not_both (ap has_call (sym e) ∙ has) refl
+
+-- a write in flight is apart from all others that are to be placed, since each pass holds the pages of its own
+others_apart : (sizes : Sizes) (first : Values) (core : Core) → 1 ≤ sizes.page → Sound sizes first core → (by : ℕ) → IsFlying (core.passes by) (core.passes by).stage → HasDrawn sizes (core.passes by).call (core.passes by).entries
+    → (n : ℕ) → n ≢ by → IsApartFrom (core.passes by).call (waits_of (core.passes n))
+others_apart sizes first core page_is sound by flying drawn n ne = if_apart (core.passes by).call (is_waiting (core.passes n) (core.passes n).stage) (core.passes n).call (λ test.
+    let is = waiting_is (core.passes n) (core.passes n).stage test in
+    let flies : IsFlying (core.passes n) (core.passes n).stage = subst (IsFlying (core.passes n)) (sym is.1) is.0 in
+    writes_apart sizes (core.passes by).call (core.passes n).call page_is drawn.write is.0 (subst (λ c. 1 ≤ c) drawn.many drawn.some) (write_pages sizes (core.passes n).call is.0)
+    (λ j less on. ne (sym (one_pass sizes first core sound by n (flying_pages (core.passes by) (core.passes by).stage flying) (flying_pages (core.passes n) (core.passes n).stage flies)
+    (first_page sizes (core.passes n).call + j) on (omega arith, omega (arith, less))))))
+
 -- ---- an entry is made ready
+
+and_true : (b : Bool) → (b && true) ≡ b
+and_true true = refl
+and_true false = refl
 
 pub and_false : (b : Bool) → (b && false) ≡ false
 and_false true = refl
 and_false false = refl
 
-module _ (plain : PlainLaws) (sizes : Sizes) (first : Values) (log : Log) (placed : ℕ → Bool) (opened : Files) (by : ℕ) (core : Core) (found next : ℕ) (page_is : 1 ≤ sizes.page)
-    (sound : Sound sizes first core) (groups : Groups sizes core log) (pieces : Pieces sizes log core) (flight : InFlight sizes log placed core) (live : LivePieces sizes log placed opened core) (may : MayFind sizes by core (Readies next) found) where
+module _ (plain : PlainLaws) (sizes : Sizes) (first : Values) (log : Log) (keep : ℕ → Bool) (placed : ℕ → Bool) (opened : Files) (by : ℕ) (core : Core) (found next : ℕ) (page_is : 1 ≤ sizes.page)
+    (sound : Sound sizes first core) (groups : Groups sizes core log) (pieces : Pieces sizes log core) (flight : InFlight sizes log placed core) (live : LiveBy sizes log keep opened core) (may : MayFind sizes by core (Readies next) found)
+    (kept : (n : ℕ) → InWindow core n → is_cleaned sizes core n ≡ false → keep n ≡ true) where
   abbrev now : Core
   now = after_step sizes by (Readies next) found core
 
@@ -203,8 +337,11 @@ module _ (plain : PlainLaws) (sizes : Sizes) (first : Values) (log : Log) (place
   at_next : HasDrawn sizes (core.passes by).call (core.passes by).entries × IsAmong (core.passes by).first (core.passes by).entries next
   at_next = subst (StandsAt sizes (core.passes by)) may.may (sound.standing by).at
 
-  own : (n : ℕ) → IsAmong (core.passes by).first (core.passes by).entries n → IsOwn core log (core.passes by) n
-  own n is = flight.own by flying n is
+  group_own : (n : ℕ) → IsAmong (core.passes by).first (core.passes by).entries n → log.group n ≡ group_of (core.passes by)
+  group_own n is = (flight.own by flying n is).group
+
+  within_own : (n : ℕ) → IsAmong (core.passes by).first (core.passes by).entries n → InWindow core n
+  within_own = filled_in sizes first log placed by core found next sound groups flight may
 
   head_same : now.words HEAD ≡ core.words HEAD
   head_same = word_else core.words (ENTRY (slot_of sizes next)) (ready_word sizes (core.passes by) next) HEAD (differ HEAD (ENTRY (slot_of sizes next)) refl)
@@ -214,11 +351,14 @@ module _ (plain : PlainLaws) (sizes : Sizes) (first : Values) (log : Log) (place
 
   test_else : (n : ℕ) → InWindow core n → n ≢ next → is_ready sizes now n ≡ is_ready sizes core n
   test_else n is ne = ap was_readied (word_else core.words (ENTRY (slot_of sizes next)) (ready_word sizes (core.passes by) next) (ENTRY (slot_of sizes n))
-      (λ e. apart_within sizes core sound.window n next is (own next at_next.1).within ne (ap index e)))
+      (λ e. apart_within sizes core sound.window n next is (within_own next at_next.1) ne (ap index e)))
 
   test_next : is_ready sizes now next ≡ true
   test_next = ap was_readied (word_here core.words (ENTRY (slot_of sizes next)) (ready_word sizes (core.passes by) next))
       ∙ ready_is (if next == (core.passes by).first then (core.passes by).entries else 0) (page_at sizes (core.passes by) next)
+
+  clean_same : (n : ℕ) → InWindow core n → is_cleaned sizes now n ≡ is_cleaned sizes core n
+  clean_same n is = clean_step sizes first by core found sound (Readies next) refl may n
 
   -- the leader isn't ready before
   leader_not : is_ready sizes core (core.passes by).first ≡ false
@@ -226,36 +366,38 @@ module _ (plain : PlainLaws) (sizes : Sizes) (first : Values) (log : Log) (place
       (λ e. let f : entry_at sizes core (core.passes by).first ≡ filling = sound.window.filling_is by (core.passes by).first (subst (λ s. IsFilling s (core.passes by).first (core.passes by).entries (core.passes by).first) (sym may.may) (inl refl)) in
       not_both (ap was_readied (sym f) ∙ e) refl)
 
-  -- a number's leader is in the window, and of its group
-  leader_in : (n : ℕ) → InWindow core n → InWindow core (log.group n).first
-  leader_in n is = let g = groups.each n is in let t = g.low in let h = g.high in let s = g.drawn.some in (t, omega (arith, h, s))
+  -- so none of the group is cleaned
+  fresh : (n : ℕ) → IsAmong (core.passes by).first (core.passes by).entries n → is_cleaned sizes core n ≡ false
+  fresh n is = unless_true (is_cleaned sizes core n) (λ clean. none (pieces.leaders n (within_own n is) (eqb-true (kind_of (entry_at sizes core n)) cleaned clean)))
+    where
+      leader_is : (log.group n).first ≡ (core.passes by).first
+      leader_is = ap (λ g. g.first) (group_own n is)
 
-  leader_group : (n : ℕ) → InWindow core n → log.group (log.group n).first ≡ log.group n
-  leader_group n is = let g = groups.each n is in let s = g.drawn.some in g.same (log.group n).first (omega arith, omega (arith, s))
+      none : WasReadied sizes core (log.group n).first → ⊥
+      none (inl kind) = not_both (sym (ap (is_ready sizes core) leader_is) ∙ kind) leader_not
+      none (inr freed) =
+          let f : entry_at sizes core (core.passes by).first ≡ filling = sound.window.filling_is by (core.passes by).first (subst (λ s. IsFilling s (core.passes by).first (core.passes by).entries (core.passes by).first) (sym may.may) (inl refl)) in
+          let g : entry_at sizes core (log.group n).first ≡ free = sound.window.freed_is freed.0 (log.group n).first freed.1 in
+          let same : entry_at sizes core (log.group n).first ≡ entry_at sizes core (core.passes by).first = ap (entry_at sizes core) leader_is in
+          omega (arith, f, g, same)
 
-  follower_live : next ≢ (core.passes by).first → LivePieces sizes log placed opened now
-  follower_live ne = live_kept sizes log placed opened core now head_same tail_same (ap calls_of (append-nil core.history))
+  follower_live : next ≢ (core.passes by).first → LiveBy sizes log keep opened now
+  follower_live ne = live_kept sizes log keep opened core now head_same tail_same (ap calls_of (append-nil core.history))
       (λ n is. elim (cases_eq n next) [
         | inl same ↦ subst (λ m. is_live sizes log now m ≡ is_live sizes log core m) (sym same)
-            (ap (λ b. is_ready sizes now next && b) (leader_now next same_first) ∙ and_false (is_ready sizes now next) ∙ sym (ap (λ b. is_ready sizes core next && b) (ap (is_ready sizes core) same_first ∙ leader_not) ∙ and_false (is_ready sizes core next)))
-        | inr other ↦ ap₂ (λ a b. a && b) (test_else n is other) (test_else (log.group n).first (leader_in n is)
-            (λ e. ne (sym (sym (ap (λ g. g.first) (own next at_next.1).group) ∙ ap (λ m. (log.group m).first) (sym e) ∙ ap (λ g. g.first) (leader_group n is) ∙ e))))
+            (ap₂ (λ b c. is_ready sizes now next && (b || c)) leader_now (clean_same next (within_own next at_next.1) ∙ fresh next at_next.1) ∙ and_false (is_ready sizes now next)
+            ∙ sym (ap₂ (λ b c. is_ready sizes core next && (b || c)) (ap (is_ready sizes core) same_first ∙ leader_not) (fresh next at_next.1) ∙ and_false (is_ready sizes core next)))
+        | inr other ↦ live_is sizes log core now n (test_else n is other) (test_else (log.group n).first (leader_in sizes core log groups n is)
+            (λ e. ne (sym (sym (ap (λ g. g.first) (group_own next at_next.1)) ∙ ap (λ m. (log.group m).first) (sym e) ∙ ap (λ g. g.first) (leader_group sizes core log groups n is) ∙ e)))) (clean_same n is)
       ])
-      (λ n is. elim (cases_eq n next) [
-        | inl same ↦ subst (λ m. is_to_place sizes log placed now m ≡ is_to_place sizes log placed core m) (sym same)
-            (ap (λ b. (b && is_ready sizes now next) && not (placed next)) first_else ∙ sym (ap (λ b. (b && is_ready sizes core next) && not (placed next)) first_else))
-        | inr other ↦ ap (λ b. ((log.group n).first == n && b) && not (placed n)) (test_else n is other)
-      ])
+      (places_same core now sound.numbers (omega arith) (waits_step sizes by core (Readies next) found sound.numbers may (λ other e. subst (λ m. m ≢ (core.passes by).first) (made_number next other e) ne) refl))
       (λ file. refl) sound.window.order live
     where
       same_first : (log.group next).first ≡ (core.passes by).first
-      same_first = ap (λ g. g.first) (own next at_next.1).group
+      same_first = ap (λ g. g.first) (group_own next at_next.1)
 
-      first_else : ((log.group next).first == next) ≡ false
-      first_else = ne_eqb (log.group next).first next (λ e. ne (sym (sym same_first ∙ e)))
-
-      leader_now : (n : ℕ) → (log.group n).first ≡ (core.passes by).first → is_ready sizes now (log.group n).first ≡ false
-      leader_now n e = ap (is_ready sizes now) e ∙ test_else (core.passes by).first (own (core.passes by).first (let s = at_next.0.some in (omega arith, omega (arith, s)))).within (λ same. ne (sym same)) ∙ leader_not
+      leader_now : is_ready sizes now (log.group next).first ≡ false
+      leader_now = ap (is_ready sizes now) same_first ∙ test_else (core.passes by).first (within_own (core.passes by).first (let s = at_next.0.some in (omega arith, omega (arith, s)))) (λ same. ne (sym same)) ∙ leader_not
 
   -- the leader is made ready: the whole group is live, and its write is to be placed
   module _ (leader : next ≡ (core.passes by).first) where
@@ -263,18 +405,18 @@ module _ (plain : PlainLaws) (sizes : Sizes) (first : Values) (log : Log) (place
     among_write n low high = let m = at_next.0.many in (omega (arith, leader, low), omega (arith, leader, high, m))
 
     group_here : (n : ℕ) → next ≤ n → n < next + page_count sizes (core.passes by).call → log.group n ≡ group_of (core.passes by)
-    group_here n low high = (own n (among_write n low high)).group
+    group_here n low high = group_own n (among_write n low high)
 
     some_pages : 1 ≤ page_count sizes (core.passes by).call
     some_pages = subst (λ n. 1 ≤ n) at_next.0.many at_next.0.some
 
     low_end : core.words TAIL ≤ next
-    low_end = (own next at_next.1).within.0
+    low_end = (within_own next at_next.1).0
 
     high_end : next + page_count sizes (core.passes by).call ≤ core.words HEAD
     high_end =
-        let g = (groups.each next (own next at_next.1).within).high in
-        let h : (core.passes by).first + (core.passes by).entries ≤ core.words HEAD = subst (λ one. one.first + one.entries ≤ core.words HEAD) (own next at_next.1).group g in
+        let g = (groups.each next (within_own next at_next.1)).high in
+        let h : (core.passes by).first + (core.passes by).entries ≤ core.words HEAD = subst (λ one. one.first + one.entries ≤ core.words HEAD) (group_own next at_next.1) g in
         let m = at_next.0.many in omega (arith, h, m, leader)
 
     -- outside the group nothing changes
@@ -282,17 +424,14 @@ module _ (plain : PlainLaws) (sizes : Sizes) (first : Values) (log : Log) (place
     outside n is (inl less) = (λ e. omega (arith, e, less), λ e. let a = (groups.each n is).among.0 in omega (arith, e, a, less))
     outside n is (inr more) = (
       λ e. let s = some_pages in omega (arith, e, more, s),
-      λ e. let g : log.group n ≡ group_of (core.passes by) = sym (leader_group n is) ∙ ap log.group e ∙ (own next at_next.1).group in
+      λ e. let g : log.group n ≡ group_of (core.passes by) = sym (leader_group sizes core log groups n is) ∙ ap log.group e ∙ group_own next at_next.1 in
           let a = (groups.each n is).among.1 in
           let b : n < (core.passes by).first + (core.passes by).entries = subst (λ one. n < one.first + one.entries) g a in
           let m = at_next.0.many in omega (arith, b, more, m, leader),
     )
 
     live_same : (n : ℕ) → InWindow core n → (n < next) ⊎ (next + page_count sizes (core.passes by).call ≤ n) → is_live sizes log now n ≡ is_live sizes log core n
-    live_same n is out = ap₂ (λ a b. a && b) (test_else n is (outside n is out).0) (test_else (log.group n).first (leader_in n is) (outside n is out).1)
-
-    place_same : (n : ℕ) → InWindow core n → (n < next) ⊎ (next + page_count sizes (core.passes by).call ≤ n) → is_to_place sizes log placed now n ≡ is_to_place sizes log placed core n
-    place_same n is out = ap (λ b. ((log.group n).first == n && b) && not (placed n)) (test_else n is (outside n is out).0)
+    live_same n is out = live_is sizes log core now n (test_else n is (outside n is out).0) (test_else (log.group n).first (leader_in sizes core log groups n is) (outside n is out).1) (clean_same n is)
 
     in_low : (n : ℕ) → core.words TAIL ≤ n → n < core.words TAIL + (next - core.words TAIL) → InWindow core n × (n < next)
     in_low n low high = let l = low_end in let h = high_end in ((low, omega (arith, high, l, h)), omega (arith, high, l))
@@ -302,43 +441,46 @@ module _ (plain : PlainLaws) (sizes : Sizes) (first : Values) (log : Log) (place
 
     -- the group's entries, before and after
     was_live : (n : ℕ) → next ≤ n → n < next + page_count sizes (core.passes by).call → is_live sizes log core n ≡ false
-    was_live n low high = ap (λ b. is_ready sizes core n && b) (ap (λ g. is_ready sizes core g.first) (group_here n low high) ∙ leader_not) ∙ and_false (is_ready sizes core n)
+    was_live n low high = ap₂ (λ b c. is_ready sizes core n && (b || c)) (ap (λ g. is_ready sizes core g.first) (group_here n low high) ∙ leader_not) (fresh n (among_write n low high)) ∙ and_false (is_ready sizes core n)
 
     now_ready : (n : ℕ) → next ≤ n → n < next + page_count sizes (core.passes by).call → is_ready sizes now n ≡ true
     now_ready n low high = elim (cases_eq n next) [
       | inl same ↦ ap (is_ready sizes now) same ∙ test_next
-      | inr ne ↦ test_else n (own n (among_write n low high)).within ne ∙
+      | inr ne ↦ test_else n (within_own n (among_write n low high)) ne ∙
           (pieces.readied by n (subst (λ s. IsReadied s (core.passes by).first (core.passes by).entries n) (sym may.may) (among_write n low high, λ e. ne (e ∙ sym leader), inr leader)))
     ]
 
     now_live : (n : ℕ) → next ≤ n → n < next + page_count sizes (core.passes by).call → is_live sizes log now n ≡ true
-    now_live n low high = ap₂ (λ a b. a && b) (now_ready n low high) (ap (λ g. is_ready sizes now g.first) (group_here n low high) ∙ ap (is_ready sizes now) (sym leader) ∙ test_next)
+    now_live n low high = ap₂ (λ a b. a && (b || is_cleaned sizes now n)) (now_ready n low high) (ap (λ g. is_ready sizes now g.first) (group_here n low high) ∙ ap (is_ready sizes now) (sym leader) ∙ test_next)
+
+    keeps : (n : ℕ) → next ≤ n → n < next + page_count sizes (core.passes by).call → keep n ≡ true
+    keeps n low high = kept n (within_own n (among_write n low high)) (fresh n (among_write n low high))
 
     abbrev low_live : List FileCall
-    low_live = rising (λ n. call_if (is_live sizes log core n) (piece_call sizes (log.group n) n)) (core.words TAIL) (next - core.words TAIL)
+    low_live = rising (λ n. call_if (is_live sizes log core n && keep n) (piece_call sizes (log.group n) n)) (core.words TAIL) (next - core.words TAIL)
 
     abbrev high_live : List FileCall
-    high_live = rising (λ n. call_if (is_live sizes log core n) (piece_call sizes (log.group n) n)) (next + page_count sizes (core.passes by).call) (core.words HEAD - (next + page_count sizes (core.passes by).call))
+    high_live = rising (λ n. call_if (is_live sizes log core n && keep n) (piece_call sizes (log.group n) n)) (next + page_count sizes (core.passes by).call) (core.words HEAD - (next + page_count sizes (core.passes by).call))
 
     abbrev group_live : List FileCall
     group_live = rising (λ n. piece_write sizes (core.passes by).call (n - next) ∷ []) next (page_count sizes (core.passes by).call)
 
-    live_was : live_pieces sizes log core ≡ low_live ++ high_live
-    live_was = thirds (λ n. call_if (is_live sizes log core n) (piece_call sizes (log.group n) n)) (core.words TAIL) (core.words HEAD) next (page_count sizes (core.passes by).call) low_end high_end
-        ∙ ap (λ m. low_live ++ (m ++ high_live)) (rising_none (λ n. call_if (is_live sizes log core n) (piece_call sizes (log.group n) n)) next (page_count sizes (core.passes by).call)
-        (λ n low high. ap (λ b. call_if b (piece_call sizes (log.group n) n)) (was_live n low high)))
+    live_was : kept_pieces sizes log keep core ≡ low_live ++ high_live
+    live_was = thirds (λ n. call_if (is_live sizes log core n && keep n) (piece_call sizes (log.group n) n)) (core.words TAIL) (core.words HEAD) next (page_count sizes (core.passes by).call) low_end high_end
+        ∙ ap (λ m. low_live ++ (m ++ high_live)) (rising_none (λ n. call_if (is_live sizes log core n && keep n) (piece_call sizes (log.group n) n)) next (page_count sizes (core.passes by).call)
+        (λ n low high. ap (λ b. call_if (b && keep n) (piece_call sizes (log.group n) n)) (was_live n low high)))
 
-    live_now : live_pieces sizes log now ≡ low_live ++ (group_live ++ high_live)
-    live_now = ap₂ (λ t h. rising (λ n. call_if (is_live sizes log now n) (piece_call sizes (log.group n) n)) t (h - t)) tail_same head_same
-        ∙ thirds (λ n. call_if (is_live sizes log now n) (piece_call sizes (log.group n) n)) (core.words TAIL) (core.words HEAD) next (page_count sizes (core.passes by).call) low_end high_end
+    live_now : kept_pieces sizes log keep now ≡ low_live ++ (group_live ++ high_live)
+    live_now = ap₂ (λ t h. rising (λ n. call_if (is_live sizes log now n && keep n) (piece_call sizes (log.group n) n)) t (h - t)) tail_same head_same
+        ∙ thirds (λ n. call_if (is_live sizes log now n && keep n) (piece_call sizes (log.group n) n)) (core.words TAIL) (core.words HEAD) next (page_count sizes (core.passes by).call) low_end high_end
         ∙ ap₂ (λ a r. a ++ r)
-        (rising_same (λ n. call_if (is_live sizes log now n) (piece_call sizes (log.group n) n)) (λ n. call_if (is_live sizes log core n) (piece_call sizes (log.group n) n)) (core.words TAIL) (next - core.words TAIL)
-        (λ n low high. ap (λ b. call_if b (piece_call sizes (log.group n) n)) (live_same n (in_low n low high).0 (inl (in_low n low high).1))))
+        (rising_same (λ n. call_if (is_live sizes log now n && keep n) (piece_call sizes (log.group n) n)) (λ n. call_if (is_live sizes log core n && keep n) (piece_call sizes (log.group n) n)) (core.words TAIL) (next - core.words TAIL)
+        (λ n low high. ap (λ b. call_if (b && keep n) (piece_call sizes (log.group n) n)) (live_same n (in_low n low high).0 (inl (in_low n low high).1))))
         (ap₂ (λ m c. m ++ c)
-        (rising_same (λ n. call_if (is_live sizes log now n) (piece_call sizes (log.group n) n)) (λ n. piece_write sizes (core.passes by).call (n - next) ∷ []) next (page_count sizes (core.passes by).call)
-        (λ n low high. ap (λ b. call_if b (piece_call sizes (log.group n) n)) (now_live n low high) ∙ ap (λ g. piece_call sizes g n ∷ []) (group_here n low high) ∙ ap (λ f. piece_write sizes (core.passes by).call (n - f) ∷ []) (sym leader)))
-        (rising_same (λ n. call_if (is_live sizes log now n) (piece_call sizes (log.group n) n)) (λ n. call_if (is_live sizes log core n) (piece_call sizes (log.group n) n)) (next + page_count sizes (core.passes by).call) (core.words HEAD - (next + page_count sizes (core.passes by).call))
-        (λ n low high. ap (λ b. call_if b (piece_call sizes (log.group n) n)) (live_same n (in_high n low high) (inr low)))))
+        (rising_same (λ n. call_if (is_live sizes log now n && keep n) (piece_call sizes (log.group n) n)) (λ n. piece_write sizes (core.passes by).call (n - next) ∷ []) next (page_count sizes (core.passes by).call)
+        (λ n low high. ap₂ (λ a b. call_if (a && b) (piece_call sizes (log.group n) n)) (now_live n low high) (keeps n low high) ∙ ap (λ g. piece_call sizes g n ∷ []) (group_here n low high) ∙ ap (λ f. piece_write sizes (core.passes by).call (n - f) ∷ []) (sym leader)))
+        (rising_same (λ n. call_if (is_live sizes log now n && keep n) (piece_call sizes (log.group n) n)) (λ n. call_if (is_live sizes log core n && keep n) (piece_call sizes (log.group n) n)) (next + page_count sizes (core.passes by).call) (core.words HEAD - (next + page_count sizes (core.passes by).call))
+        (λ n low high. ap (λ b. call_if (b && keep n) (piece_call sizes (log.group n) n)) (live_same n (in_high n low high) (inr low)))))
 
     -- no number above is of a page of the write
     above : (n : ℕ) → next + page_count sizes (core.passes by).call ≤ n → InWindow core n → IsPage sizes (core.passes by).call (page_of_number sizes (log.group n) n) → ⊥
@@ -346,11 +488,11 @@ module _ (plain : PlainLaws) (sizes : Sizes) (first : Values) (log : Log) (place
 
     live_apart : AllApart group_live high_live
     live_apart = all_apart (λ n. piece_write sizes (core.passes by).call (n - next)) next (page_count sizes (core.passes by).call) high_live
-        (λ m low high. rising_apart (piece_write sizes (core.passes by).call (m - next)) (λ n. call_if (is_live sizes log core n) (piece_call sizes (log.group n) n)) (next + page_count sizes (core.passes by).call) (core.words HEAD - (next + page_count sizes (core.passes by).call))
-        (λ n more less. if_apart (piece_write sizes (core.passes by).call (m - next)) (is_live sizes log core n) (piece_call sizes (log.group n) n)
+        (λ m low high. rising_apart (piece_write sizes (core.passes by).call (m - next)) (λ n. call_if (is_live sizes log core n && keep n) (piece_call sizes (log.group n) n)) (next + page_count sizes (core.passes by).call) (core.words HEAD - (next + page_count sizes (core.passes by).call))
+        (λ n more less. if_apart (piece_write sizes (core.passes by).call (m - next)) (is_live sizes log core n && keep n) (piece_call sizes (log.group n) n)
         (λ _. pieces_apart sizes (core.passes by).call (log.group n).call (m - next) (n - (log.group n).first) page_is (omega (arith, low, high)) (above n more (in_high n more less)))))
 
-    live_files : after_calls (live_pieces sizes log now) (store_files sizes core.values) ≡ files_after (core.passes by).call (after_calls (live_pieces sizes log core) (store_files sizes core.values))
+    live_files : after_calls (kept_pieces sizes log keep now) (store_files sizes core.values) ≡ files_after (core.passes by).call (after_calls (kept_pieces sizes log keep core) (store_files sizes core.values))
     live_files =
         ap (λ c. after_calls c (store_files sizes core.values)) live_now
         ∙ after_both low_live (group_live ++ high_live) (store_files sizes core.values)
@@ -361,72 +503,29 @@ module _ (plain : PlainLaws) (sizes : Sizes) (first : Values) (log : Log) (place
         ((sound.standing by).allowed (busy _ _ may.may refl)).known)
         ∙ ap (files_after (core.passes by).call) (sym (ap (λ c. after_calls c (store_files sizes core.values)) live_was ∙ after_both low_live high_live (store_files sizes core.values)))
 
-    abbrev low_place : List FileCall
-    low_place = rising (λ n. call_if (is_to_place sizes log placed core n) (log.group n).call) (core.words TAIL) (next - core.words TAIL)
+    -- its write is to be placed then, beside those of other passes
+    call_here : waits_of (now.passes by) ≡ (core.passes by).call ∷ []
+    call_here = ap waits_of (number_here core.passes by (changed sizes by core (Readies next) found))
+        ∙ ap (λ s. call_if (is_waiting (changed sizes by core (Readies next) found) s) (core.passes by).call) (when_true (next == (core.passes by).first) Placing (Readying (if next + 1 == (core.passes by).first + (core.passes by).entries then (core.passes by).first else next + 1)) (eq-eqb next (core.passes by).first leader))
+        ∙ ap (λ b. call_if b (core.passes by).call) at_next.0.write
 
-    abbrev high_place : List FileCall
-    high_place = rising (λ n. call_if (is_to_place sizes log placed core n) (log.group n).call) (next + page_count sizes (core.passes by).call) (core.words HEAD - (next + page_count sizes (core.passes by).call))
-
-    -- only the leader has a write to place
-    follower_no : (core_ : Core) (n : ℕ) → next ≤ n → n < next + page_count sizes (core.passes by).call → n ≢ next → is_to_place sizes log placed core_ n ≡ false
-    follower_no core_ n low high ne = ap (λ b. (b && is_ready sizes core_ n) && not (placed n)) (ap (λ g. g.first == n) (group_here n low high) ∙ ne_eqb (core.passes by).first n (λ e. ne (sym e ∙ sym leader)))
-
-    leader_first : (log.group next).first ≡ next
-    leader_first = ap (λ g. g.first) (own next at_next.1).group ∙ sym leader
-
-    leader_was : is_to_place sizes log placed core next ≡ false
-    leader_was = ap₂ (λ a b. (a && b) && not (placed next)) (eq-eqb (log.group next).first next leader_first) (ap (is_ready sizes core) leader ∙ leader_not)
-
-    leader_now : is_to_place sizes log placed now next ≡ true
-    leader_now = ap₂ (λ a b. (a && b) && not (placed next)) (eq-eqb (log.group next).first next leader_first) test_next ∙ ap not (ap placed leader ∙ flight.unplaced by flying)
-
-    place_was : to_place sizes log placed core ≡ low_place ++ high_place
-    place_was = thirds (λ n. call_if (is_to_place sizes log placed core n) (log.group n).call) (core.words TAIL) (core.words HEAD) next (page_count sizes (core.passes by).call) low_end high_end
-        ∙ ap (λ m. low_place ++ (m ++ high_place)) (rising_none (λ n. call_if (is_to_place sizes log placed core n) (log.group n).call) next (page_count sizes (core.passes by).call)
-        (λ n low high. ap (λ b. call_if b (log.group n).call) (elim (cases_eq n next) [ inl same ↦ ap (is_to_place sizes log placed core) same ∙ leader_was | inr ne ↦ follower_no core n low high ne ])))
-
-    one_place : rising (λ n. call_if (is_to_place sizes log placed now n) (log.group n).call) next (page_count sizes (core.passes by).call) ≡ (core.passes by).call ∷ []
-    one_place =
-        let count : page_count sizes (core.passes by).call ≡ suc (page_count sizes (core.passes by).call - 1) = let s = some_pages in omega (arith, s) in
-        ap (rising (λ n. call_if (is_to_place sizes log placed now n) (log.group n).call) next) count
-        ∙ ap₂ (λ a b. a ++ b) (ap (λ b. call_if b (log.group next).call) leader_now ∙ ap (λ g. g.call ∷ []) (own next at_next.1).group)
-        (rising_none (λ n. call_if (is_to_place sizes log placed now n) (log.group n).call) (suc next) (page_count sizes (core.passes by).call - 1)
-        (λ n low high. ap (λ b. call_if b (log.group n).call) (follower_no now n (omega (arith, low)) (let s = some_pages in omega (arith, high, s)) (λ e. omega (arith, e, low)))))
-
-    place_now : to_place sizes log placed now ≡ low_place ++ ((core.passes by).call ∷ high_place)
-    place_now = ap₂ (λ t h. rising (λ n. call_if (is_to_place sizes log placed now n) (log.group n).call) t (h - t)) tail_same head_same
-        ∙ thirds (λ n. call_if (is_to_place sizes log placed now n) (log.group n).call) (core.words TAIL) (core.words HEAD) next (page_count sizes (core.passes by).call) low_end high_end
-        ∙ ap₂ (λ a r. a ++ r)
-        (rising_same (λ n. call_if (is_to_place sizes log placed now n) (log.group n).call) (λ n. call_if (is_to_place sizes log placed core n) (log.group n).call) (core.words TAIL) (next - core.words TAIL)
-        (λ n low high. ap (λ b. call_if b (log.group n).call) (place_same n (in_low n low high).0 (inl (in_low n low high).1))))
-        (ap₂ (λ m c. m ++ c) one_place
-        (rising_same (λ n. call_if (is_to_place sizes log placed now n) (log.group n).call) (λ n. call_if (is_to_place sizes log placed core n) (log.group n).call) (next + page_count sizes (core.passes by).call) (core.words HEAD - (next + page_count sizes (core.passes by).call))
-        (λ n low high. ap (λ b. call_if b (log.group n).call) (place_same n (in_high n low high) (inr low)))))
-
-    place_apart : IsApartFrom (core.passes by).call high_place
-    place_apart = rising_apart (core.passes by).call (λ n. call_if (is_to_place sizes log placed core n) (log.group n).call) (next + page_count sizes (core.passes by).call) (core.words HEAD - (next + page_count sizes (core.passes by).call))
-        (λ n more less. if_apart (core.passes by).call (is_to_place sizes log placed core n) (log.group n).call (λ test. apart_at n more (in_high n more less)
-        (eqb-true (log.group n).first n (and_parts ((log.group n).first == n) (is_ready sizes core n) (and_parts ((log.group n).first == n && is_ready sizes core n) (not (placed n)) test).0).0)))
-      where
-        apart_at : (n : ℕ) → next + page_count sizes (core.passes by).call ≤ n → InWindow core n → (log.group n).first ≡ n → AreApart (core.passes by).call (log.group n).call
-        apart_at n more is leads =
-            let g = groups.each n is in
-            writes_apart sizes (core.passes by).call (log.group n).call page_is at_next.0.write g.drawn.write some_pages (subst (λ c. 1 ≤ c) g.drawn.many g.drawn.some)
-            (λ j less on.
-            let many = g.drawn.many in let high = g.high in let low = is.0 in
-            let e : log.group (n + j) ≡ log.group n = g.same (n + j) (omega (arith, leads), omega (arith, leads, less, many)) in
-            above (n + j) (omega (arith, more)) (omega (arith, low), omega (arith, high, leads, less, many))
-            (subst (λ one. IsPage sizes (core.passes by).call (page_of_number sizes one (n + j))) (sym e)
-            (subst (λ k. IsPage sizes (core.passes by).call (first_page sizes (log.group n).call + k)) (let back : j ≡ n + j - (log.group n).first = omega (arith, leads) in back) on)))
-
-    leader_live : LivePieces sizes log placed opened now
+    leader_live : LiveBy sizes log keep opened now
     leader_live = record {
       files =
-          ap₂ (λ h p. after_calls (calls_of h ++ p) opened) (append-nil core.history) place_now
-          ∙ call_last plain (calls_of core.history) low_place high_place (core.passes by).call opened place_apart
-          ∙ ap (files_after (core.passes by).call) (ap (λ p. after_calls (calls_of core.history ++ p) opened) (sym place_was) ∙ live.files)
+          ap₂ (λ h p. after_calls (calls_of h ++ p) opened) (append-nil core.history) (split_places core now by (λ n ne. ap waits_of (number_else core.passes by (changed sizes by core (Readies next) found) n ne)) busy_by refl
+          ∙ ap (λ c. before_by core by ++ (c ++ behind_by core by)) call_here)
+          ∙ call_last plain (calls_of core.history) (before_by core by) (behind_by core by) (core.passes by).call opened
+          (rising_apart (core.passes by).call (λ n. waits_of (core.passes n)) (by + 1) (core.made + 1 - (by + 1)) (λ n low high. others_apart sizes first core page_is sound by flying at_next.0 n (λ e. omega (arith, e, low))))
+          ∙ ap (files_after (core.passes by).call) (ap (λ p. after_calls (calls_of core.history ++ p) opened) (sym was_places) ∙ live.files)
           ∙ sym live_files;
     }
+      where
+        busy_by : by ≤ core.made
+        busy_by = born core by sound.numbers (λ e. subst (λ s. s ≡ Idle → ⊥) (sym may.may) (elsewhere_idle (Readying next) refl) e)
+
+        was_places : to_place core ≡ before_by core by ++ behind_by core by
+        was_places = split_places core core by (λ n ne. refl) busy_by refl
+            ∙ ap (λ c. before_by core by ++ (c ++ behind_by core by)) (ap (λ s. call_if (is_waiting (core.passes by) s) (core.passes by).call) may.may)
 
 -- ---- a call is placed
 
@@ -441,148 +540,69 @@ none_written (Write file at []) files none = ap (λ c. record { contents = c }) 
 none_written (Write file at (first ∷ rest)) files none = absurd (true≢false (sym (lt-ltb 0 (length (first ∷ rest)) (omega arith)) ∙ none))
 none_written (Sync file) files none = refl
 
-module _ (plain : PlainLaws) (sizes : Sizes) (first : Values) (log : Log) (placed : ℕ → Bool) (opened : Files) (by : ℕ) (core : Core) (found : ℕ) (reply : Reply) (page_is : 1 ≤ sizes.page)
-    (sound : Sound sizes first core) (groups : Groups sizes core log) (flight : InFlight sizes log placed core) (live : LivePieces sizes log placed opened core) (may : MayFind sizes by core (Places reply) found) where
+module _ (plain : PlainLaws) (sizes : Sizes) (first : Values) (log : Log) (keep : ℕ → Bool) (opened : Files) (by : ℕ) (core : Core) (found : ℕ) (reply : Reply) (page_is : 1 ≤ sizes.page)
+    (sound : Sound sizes first core) (groups : Groups sizes core log) (live : LiveBy sizes log keep opened core) (may : MayFind sizes by core (Places reply) found) where
   abbrev placed_core : Core
   placed_core = after_step sizes by (Places reply) found core
 
-  place_head : placed_core.words HEAD ≡ core.words HEAD
-  place_head = untouched sizes by core (Places reply) found may HEAD refl
-
-  place_tail : placed_core.words TAIL ≡ core.words TAIL
-  place_tail = untouched sizes by core (Places reply) found may TAIL refl
-
-  place_test : (n : ℕ) → is_ready sizes placed_core n ≡ is_ready sizes core n
-  place_test n = ap was_readied (untouched sizes by core (Places reply) found may (ENTRY (slot_of sizes n)) refl)
-
-  place_live : live_pieces sizes log placed_core ≡ live_pieces sizes log core
-  place_live = ap₂ (λ t h. rising (λ n. call_if (is_live sizes log placed_core n) (piece_call sizes (log.group n) n)) t (h - t)) place_tail place_head
-      ∙ rising_same (λ n. call_if (is_live sizes log placed_core n) (piece_call sizes (log.group n) n)) (λ n. call_if (is_live sizes log core n) (piece_call sizes (log.group n) n)) (core.words TAIL) (core.words HEAD - core.words TAIL)
-      (λ n low high. ap (λ b. call_if b (piece_call sizes (log.group n) n)) (ap₂ (λ a b. a && b) (place_test n) (place_test (log.group n).first)))
+  place_live : kept_pieces sizes log keep placed_core ≡ kept_pieces sizes log keep core
+  place_live = pieces_kept sizes log keep opened core placed_core (untouched sizes by core (Places reply) found may HEAD refl) (untouched sizes by core (Places reply) found may TAIL refl)
+      (λ n is. live_is sizes log core placed_core n (place_test n) (place_test (log.group n).first) (clean_step sizes first by core found sound (Places reply) refl may n)) sound.window.order
+    where
+      place_test : (n : ℕ) → is_ready sizes placed_core n ≡ is_ready sizes core n
+      place_test n = ap was_readied (untouched sizes by core (Places reply) found may (ENTRY (slot_of sizes n)) refl)
 
   place_history : calls_of placed_core.history ≡ calls_of core.history ++ (core.passes by).call ∷ []
   place_history = calls_both core.history (added by (core.passes by) (Places reply))
 
+  -- its pass has nothing to place then
+  none_now : waits_of (placed_core.passes by) ≡ []
+  none_now = ap waits_of (number_here core.passes by (changed sizes by core (Places reply) found))
+      ∙ none_of (changed sizes by core (Places reply) found) (unwaiting (changed sizes by core (Places reply) found) (stage_after sizes (core.passes by) (Places reply) found)
+      (unplaced_after sizes core.values (core.passes by) found (Places reply) (λ next e. absurd (place_other reply next e)) may.may))
+
+  others_now : (n : ℕ) → n ≢ by → waits_of (placed_core.passes n) ≡ waits_of (core.passes n)
+  others_now n ne = ap waits_of (number_else core.passes by (changed sizes by core (Places reply) found) n ne)
+
   -- of a call with no write to place
-  plain_place : is_write (core.passes by).call ≡ false → LivePieces sizes log placed opened placed_core
+  plain_place : is_write (core.passes by).call ≡ false → LiveBy sizes log keep opened placed_core
   plain_place none = record {
     files =
         ap₂ (λ h p. after_calls (h ++ p) opened) place_history same
-        ∙ after_both (calls_of core.history ++ (core.passes by).call ∷ []) (to_place sizes log placed core) opened
-        ∙ ap (after_calls (to_place sizes log placed core)) (after_both (calls_of core.history) ((core.passes by).call ∷ []) opened ∙ none_written (core.passes by).call (after_calls (calls_of core.history) opened) none)
-        ∙ sym (after_both (calls_of core.history) (to_place sizes log placed core) opened)
+        ∙ after_both (calls_of core.history ++ (core.passes by).call ∷ []) (to_place core) opened
+        ∙ ap (after_calls (to_place core)) (after_both (calls_of core.history) ((core.passes by).call ∷ []) opened ∙ none_written (core.passes by).call (after_calls (calls_of core.history) opened) none)
+        ∙ sym (after_both (calls_of core.history) (to_place core) opened)
         ∙ live.files
         ∙ ap (λ c. after_calls c (store_files sizes core.values)) (sym place_live);
   }
     where
-      same : to_place sizes log placed placed_core ≡ to_place sizes log placed core
-      same = ap₂ (λ t h. rising (λ n. call_if (is_to_place sizes log placed placed_core n) (log.group n).call) t (h - t)) place_tail place_head
-          ∙ rising_same (λ n. call_if (is_to_place sizes log placed placed_core n) (log.group n).call) (λ n. call_if (is_to_place sizes log placed core n) (log.group n).call) (core.words TAIL) (core.words HEAD - core.words TAIL)
-          (λ n low high. ap (λ b. call_if (((log.group n).first == n && b) && not (placed n)) (log.group n).call) (place_test n))
+      here : waits_of (placed_core.passes by) ≡ waits_of (core.passes by)
+      here = none_now ∙ sym (none_of (core.passes by) (unwaiting (core.passes by) (core.passes by).stage (λ write. absurd (not_both write none))))
+
+      same : to_place placed_core ≡ to_place core
+      same = places_same core placed_core sound.numbers (omega arith) (λ n. elim (cases_eq n by) [ inl e ↦ subst (λ m. waits_of (placed_core.passes m) ≡ waits_of (core.passes m)) (sym e) here | inr ne ↦ others_now n ne ])
 
   -- of a write: it comes from among those to be placed to the end of the history
-  module _ (write : is_write (core.passes by).call ≡ true) (placing : (core.passes by).stage ≡ Placing) where
-    abbrev next_placed : ℕ → Bool
-    next_placed = with_number placed (core.passes by).first true
+  module _ (write : is_write (core.passes by).call ≡ true) (placing : (core.passes by).stage ≡ Placing) (drawn : HasDrawn sizes (core.passes by).call (core.passes by).entries) where
+    made_by : by ≤ core.made
+    made_by = born core by sound.numbers (λ e. subst (λ s. s ≡ Idle → ⊥) (sym placing) (elsewhere_idle Placing refl) e)
 
-    own_flight : IsFlying (core.passes by) (core.passes by).stage
-    own_flight = subst (IsFlying (core.passes by)) (sym placing) write
+    was_to_place : to_place core ≡ before_by core by ++ ((core.passes by).call ∷ behind_by core by)
+    was_to_place = split_places core core by (λ n ne. refl) made_by refl
+        ∙ ap (λ c. before_by core by ++ (c ++ behind_by core by)) (ap (λ s. call_if (is_waiting (core.passes by) s) (core.passes by).call) placing ∙ ap (λ b. call_if b (core.passes by).call) write)
 
-    own_drawn : HasDrawn sizes (core.passes by).call (core.passes by).entries
-    own_drawn = flight.drawn by own_flight
+    then_to_place : to_place placed_core ≡ before_by core by ++ behind_by core by
+    then_to_place = split_places core placed_core by others_now made_by refl ∙ ap (λ c. before_by core by ++ (c ++ behind_by core by)) none_now
 
-    own_number : (n : ℕ) → IsAmong (core.passes by).first (core.passes by).entries n → IsOwn core log (core.passes by) n
-    own_number n is = flight.own by own_flight n is
-
-    own_first : IsOwn core log (core.passes by) (core.passes by).first
-    own_first = own_number (core.passes by).first (let s = own_drawn.some in (omega arith, omega (arith, s)))
-
-    own_leads : (log.group (core.passes by).first).first ≡ (core.passes by).first
-    own_leads = ap (λ g. g.first) own_first.group
-
-    own_test : is_to_place sizes log placed core (core.passes by).first ≡ true
-    own_test = ap₂ (λ a b. (a && b) && not (placed (core.passes by).first)) (eq-eqb (log.group (core.passes by).first).first (core.passes by).first own_leads)
-        (flight.ready_first by own_flight placing) ∙ ap not (flight.unplaced by own_flight)
-
-    then_test : is_to_place sizes log next_placed placed_core (core.passes by).first ≡ false
-    then_test = ap (λ b. ((log.group (core.passes by).first).first == (core.passes by).first && is_ready sizes placed_core (core.passes by).first) && not b) (number_here placed (core.passes by).first true)
-        ∙ and_false ((log.group (core.passes by).first).first == (core.passes by).first && is_ready sizes placed_core (core.passes by).first)
-
-    other_test : (n : ℕ) → n ≢ (core.passes by).first → is_to_place sizes log next_placed placed_core n ≡ is_to_place sizes log placed core n
-    other_test n ne = ap₂ (λ a b. ((log.group n).first == n && a) && not b) (place_test n) (number_else placed (core.passes by).first true n ne)
-
-    abbrev before_it : List FileCall
-    before_it = rising (λ n. call_if (is_to_place sizes log placed core n) (log.group n).call) (core.words TAIL) ((core.passes by).first - core.words TAIL)
-
-    abbrev behind_it : List FileCall
-    behind_it = rising (λ n. call_if (is_to_place sizes log placed core n) (log.group n).call) ((core.passes by).first + 1) (core.words HEAD - ((core.passes by).first + 1))
-
-    first_low : core.words TAIL ≤ (core.passes by).first
-    first_low = own_first.within.0
-
-    first_high : (core.passes by).first + 1 ≤ core.words HEAD
-    first_high = let h = own_first.within.1 in omega (arith, h)
-
-    was_to_place : to_place sizes log placed core ≡ before_it ++ ((core.passes by).call ∷ behind_it)
-    was_to_place = thirds (λ n. call_if (is_to_place sizes log placed core n) (log.group n).call) (core.words TAIL) (core.words HEAD) (core.passes by).first 1 first_low first_high
-        ∙ ap (λ c. before_it ++ ((c ++ []) ++ behind_it)) (ap (λ b. call_if b (log.group (core.passes by).first).call) own_test ∙ ap (λ g. g.call ∷ []) own_first.group)
-
-    then_to_place : to_place sizes log next_placed placed_core ≡ before_it ++ behind_it
-    then_to_place = ap₂ (λ t h. rising (λ n. call_if (is_to_place sizes log next_placed placed_core n) (log.group n).call) t (h - t)) place_tail place_head
-        ∙ thirds (λ n. call_if (is_to_place sizes log next_placed placed_core n) (log.group n).call) (core.words TAIL) (core.words HEAD) (core.passes by).first 1 first_low first_high
-        ∙ ap₂ (λ a r. a ++ r)
-        (rising_same (λ n. call_if (is_to_place sizes log next_placed placed_core n) (log.group n).call) (λ n. call_if (is_to_place sizes log placed core n) (log.group n).call) (core.words TAIL) ((core.passes by).first - core.words TAIL)
-        (λ n low high. ap (λ b. call_if b (log.group n).call) (other_test n (λ e. let l = first_low in omega (arith, e, high, l)))))
-        (ap₂ (λ c r. (c ++ []) ++ r) (ap (λ b. call_if b (log.group (core.passes by).first).call) then_test)
-        (rising_same (λ n. call_if (is_to_place sizes log next_placed placed_core n) (log.group n).call) (λ n. call_if (is_to_place sizes log placed core n) (log.group n).call) ((core.passes by).first + 1) (core.words HEAD - ((core.passes by).first + 1))
-        (λ n low high. ap (λ b. call_if b (log.group n).call) (other_test n (λ e. omega (arith, e, low))))))
-
-    -- a write to be placed that was drawn before it is on other pages
-    earlier_apart : (n : ℕ) → InWindow core n → n < (core.passes by).first → (log.group n).first ≡ n → was_readied (entry_at sizes core n) ≡ true → placed n ≡ false → AreApart (core.passes by).call (log.group n).call
-    earlier_apart n is less leads kind none = apart_turned (log.group n).call (core.passes by).call (drawn_by (flight.waiting n is leads kind none).0 (flight.waiting n is leads kind none).1)
-      where
-        drawn_by : (w : ℕ) → IsWaiting (core.passes w) n → AreApart (log.group n).call (core.passes by).call
-        drawn_by w waiting =
-            let flies : IsFlying (core.passes w) (core.passes w).stage = subst (IsFlying (core.passes w)) (sym waiting.stage) waiting.write in
-            let drawn = flight.drawn w flies in
-            let some = drawn.some in
-            let mine : log.group n ≡ group_of (core.passes w) = subst (λ m. log.group m ≡ group_of (core.passes w)) waiting.first (flight.own w flies (core.passes w).first (omega arith, omega (arith, some))).group in
-            let f = waiting.first in
-            let ends : (core.passes w).first + (core.passes w).entries ≤ (core.passes by).first = elim (cases_lt (core.passes by).first ((core.passes w).first + (core.passes w).entries)) [
-              | inr more ↦ more
-              | inl within ↦ absurd (
-                  let g = (flight.own w flies (core.passes by).first (omega (arith, less, f), within)).group in
-                  let same : (core.passes by).first ≡ (core.passes w).first = ap (λ one. one.first) (sym own_first.group ∙ g) in omega (arith, same, less, f))
-            ] in
-            subst (λ one. AreApart one.call (core.passes by).call) (sym mine)
-            (writes_apart sizes (core.passes w).call (core.passes by).call page_is drawn.write own_drawn.write (subst (λ c. 1 ≤ c) drawn.many drawn.some) (subst (λ c. 1 ≤ c) own_drawn.many own_drawn.some)
-            (λ j below on.
-            let many = own_drawn.many in
-            let o = own_number ((core.passes by).first + j) (omega arith, omega (arith, below, many)) in
-            flight.apart w flies ((core.passes by).first + j) o.within (omega (arith, ends))
-            (subst (λ one. IsPage sizes (core.passes w).call (page_of_number sizes one ((core.passes by).first + j))) (sym o.group)
-            (subst (λ k. IsPage sizes (core.passes w).call (first_page sizes (core.passes by).call + k)) (let back : j ≡ (core.passes by).first + j - (core.passes by).first = omega arith in back) on))))
-
-    before_apart : IsApartFrom (core.passes by).call before_it
-    before_apart = rising_apart (core.passes by).call (λ n. call_if (is_to_place sizes log placed core n) (log.group n).call) (core.words TAIL) ((core.passes by).first - core.words TAIL)
-        (λ n low high. if_apart (core.passes by).call (is_to_place sizes log placed core n) (log.group n).call (λ test.
-        let both = and_parts ((log.group n).first == n && is_ready sizes core n) (not (placed n)) test in
-        let parts = and_parts ((log.group n).first == n) (is_ready sizes core n) both.0 in
-        let l = first_low in let h = first_high in
-        earlier_apart n (low, omega (arith, high, l, h)) (omega (arith, high, l)) (eqb-true (log.group n).first n parts.0) parts.1 (not_true (placed n) both.1)))
-      where
-        not_true : (b : Bool) → not b ≡ true → b ≡ false
-        not_true true e = absurd (true≢false (sym e))
-        not_true false e = refl
-
-    write_place : LivePieces sizes log next_placed opened placed_core
+    write_place : LiveBy sizes log keep opened placed_core
     write_place = record {
       files =
           ap₂ (λ h p. after_calls (h ++ p) opened) place_history then_to_place
-          ∙ after_both (calls_of core.history ++ (core.passes by).call ∷ []) (before_it ++ behind_it) opened
-          ∙ ap (after_calls (before_it ++ behind_it)) (after_both (calls_of core.history) ((core.passes by).call ∷ []) opened)
-          ∙ sym (comes_first plain before_it (core.passes by).call behind_it (after_calls (calls_of core.history) opened) before_apart)
-          ∙ sym (after_both (calls_of core.history) (before_it ++ ((core.passes by).call ∷ behind_it)) opened)
+          ∙ after_both (calls_of core.history ++ (core.passes by).call ∷ []) (before_by core by ++ behind_by core by) opened
+          ∙ ap (after_calls (before_by core by ++ behind_by core by)) (after_both (calls_of core.history) ((core.passes by).call ∷ []) opened)
+          ∙ sym (comes_first plain (before_by core by) (core.passes by).call (behind_by core by) (after_calls (calls_of core.history) opened)
+          (rising_apart (core.passes by).call (λ n. waits_of (core.passes n)) 0 (by - 0) (λ n low high. others_apart sizes first core page_is sound by (subst (IsFlying (core.passes by)) (sym placing) write) drawn n (λ e. omega (arith, e, high)))))
+          ∙ sym (after_both (calls_of core.history) (before_by core by ++ ((core.passes by).call ∷ behind_by core by)) opened)
           ∙ ap (λ p. after_calls (calls_of core.history ++ p) opened) (sym was_to_place)
           ∙ live.files
           ∙ ap (λ c. after_calls c (store_files sizes core.values)) (sym place_live);
@@ -594,20 +614,23 @@ place_stage sizes values pass reply Placing at may write = refl
 place_stage sizes values pass reply (Reading page) at may write = absurd (no_reading pass.call write at.0)
 place_stage sizes values pass reply stage at may write = absurd may
 
-place_step : (plain : PlainLaws) (sizes : Sizes) (first : Values) (log : Log) (placed : ℕ → Bool) (opened : Files) (by : ℕ) (core : Core) (found : ℕ) (reply : Reply) → 1 ≤ sizes.page → Sound sizes first core → Groups sizes core log → InFlight sizes log placed core
-    → LivePieces sizes log placed opened core → MayFind sizes by core (Places reply) found → LivePieces sizes log (placed_stepped (core.passes by) (Places reply) found placed) opened (after_step sizes by (Places reply) found core)
-place_step plain sizes first log placed opened by core found reply page_is sound groups flight live may = go (is_write (core.passes by).call) refl
+place_step : (plain : PlainLaws) (sizes : Sizes) (first : Values) (log : Log) (keep : ℕ → Bool) (placed : ℕ → Bool) (opened : Files) (by : ℕ) (core : Core) (found : ℕ) (reply : Reply) → 1 ≤ sizes.page → Sound sizes first core → Groups sizes core log → InFlight sizes log placed core
+    → LiveBy sizes log keep opened core → MayFind sizes by core (Places reply) found → LiveBy sizes log keep opened (after_step sizes by (Places reply) found core)
+place_step plain sizes first log keep placed opened by core found reply page_is sound groups flight live may = go (is_write (core.passes by).call) refl
   where
-    go : (b : Bool) → is_write (core.passes by).call ≡ b → LivePieces sizes log (placed_stepped (core.passes by) (Places reply) found placed) opened (after_step sizes by (Places reply) found core)
-    go true e = subst (λ p. LivePieces sizes log p opened (after_step sizes by (Places reply) found core)) (sym (when_true (is_write (core.passes by).call) (with_number placed (core.passes by).first true) placed e))
-        (write_place plain sizes first log placed opened by core found reply page_is sound groups flight live may e (place_stage sizes core.values (core.passes by) reply (core.passes by).stage (sound.standing by).at may.may e))
-    go false e = subst (λ p. LivePieces sizes log p opened (after_step sizes by (Places reply) found core)) (sym (when_false (is_write (core.passes by).call) (with_number placed (core.passes by).first true) placed e))
-        (plain_place plain sizes first log placed opened by core found reply page_is sound groups flight live may e)
+    go : (b : Bool) → is_write (core.passes by).call ≡ b → LiveBy sizes log keep opened (after_step sizes by (Places reply) found core)
+    go true e =
+        let at = place_stage sizes core.values (core.passes by) reply (core.passes by).stage (sound.standing by).at may.may e in
+        write_place plain sizes first log keep opened by core found reply page_is sound groups live may e at (flight.drawn by (subst (IsFlying (core.passes by)) (sym at) e))
+    go false e = plain_place plain sizes first log keep opened by core found reply page_is sound groups live may e
 
 -- ---- numbers are drawn
 
-module _ (sizes : Sizes) (first : Values) (log : Log) (placed : ℕ → Bool) (opened : Files) (by : ℕ) (core : Core) (found : ℕ) (sound : Sound sizes first core) (groups : Groups sizes core log)
-    (live : LivePieces sizes log placed opened core) (may : MayFind sizes by core Draws found) (drew : (found == (core.passes by).head) ≡ true) where
+draw_places : (sizes : Sizes) (by : ℕ) (core : Core) (found : ℕ) → Numbers core → MayFind sizes by core Draws found → to_place (after_step sizes by Draws found core) ≡ to_place core
+draw_places sizes by core found numbers may = places_same core (after_step sizes by Draws found core) numbers (omega arith) (waits_step sizes by core Draws found numbers may (λ next e. absurd (not_made Draws refl next e)) refl)
+
+module _ (sizes : Sizes) (first : Values) (log : Log) (keep : ℕ → Bool) (opened : Files) (by : ℕ) (core : Core) (found : ℕ) (sound : Sound sizes first core) (groups : Groups sizes core log)
+    (live : LiveBy sizes log keep opened core) (may : MayFind sizes by core Draws found) (drew : (found == (core.passes by).head) ≡ true) where
   abbrev drawn_group : Group
   drawn_group = record { call = (core.passes by).call; first = found; entries = page_count sizes (core.passes by).call }
 
@@ -616,9 +639,6 @@ module _ (sizes : Sizes) (first : Values) (log : Log) (placed : ℕ → Bool) (o
 
   abbrev drawn_log : Log
   drawn_log = with_group drawn_group log
-
-  abbrev drawn_placed : ℕ → Bool
-  drawn_placed = with_number placed found false
 
   drawn_head : drawn_core.words HEAD ≡ core.words HEAD + page_count sizes (core.passes by).call
   drawn_head = word_here core.words HEAD _ ∙ when_true (found == (core.passes by).head) (found + page_count sizes (core.passes by).call) found drew ∙ ap (λ f. f + page_count sizes (core.passes by).call) (sym may.is)
@@ -660,69 +680,90 @@ module _ (sizes : Sizes) (first : Values) (log : Log) (placed : ℕ → Bool) (o
       (ap (λ f. rising calls f (page_count sizes (core.passes by).call)) end ∙ rising_none calls (core.words HEAD) (page_count sizes (core.passes by).call) none)
       ∙ append-nil (rising was (core.words TAIL) (core.words HEAD - core.words TAIL))
 
-  draw_won : LivePieces sizes drawn_log drawn_placed opened drawn_core
+  draw_won : LiveBy sizes drawn_log keep opened drawn_core
   draw_won = record {
     files =
-        ap₂ (λ h p. after_calls (calls_of h ++ p) opened) (append-nil core.history)
-        (grown_window (λ n. call_if (is_to_place sizes drawn_log drawn_placed drawn_core n) (drawn_log.group n).call) (λ n. call_if (is_to_place sizes log placed core n) (log.group n).call)
-        (λ n is. ap₂ (λ g p. call_if ((g.first == n && is_ready sizes core n) && not p) g.call) (old_number n is.1) (number_else placed found false n (λ e. let l = is.1 in let f = may.is in omega (arith, e, l, f))))
-        (λ n low high. ap (λ b. call_if b (drawn_log.group n).call) (ap (λ r. ((drawn_log.group n).first == n && r) && not (drawn_placed n)) (not_ready n low high)
-        ∙ ap (λ b. b && not (drawn_placed n)) (and_false ((drawn_log.group n).first == n)))))
+        ap₂ (λ h p. after_calls (calls_of h ++ p) opened) (append-nil core.history) (draw_places sizes by core found sound.numbers may)
         ∙ live.files
         ∙ sym (ap (λ c. after_calls c (store_files sizes core.values))
-        (grown_window (λ n. call_if (is_live sizes drawn_log drawn_core n) (piece_call sizes (drawn_log.group n) n)) (λ n. call_if (is_live sizes log core n) (piece_call sizes (log.group n) n))
-        (λ n is. ap (λ g. call_if (is_ready sizes core n && is_ready sizes core g.first) (piece_call sizes g n)) (old_number n is.1))
-        (λ n low high. ap (λ b. call_if b (piece_call sizes (drawn_log.group n) n)) (ap (λ r. r && is_ready sizes core (drawn_log.group n).first) (not_ready n low high)))));
+        (grown_window (λ n. call_if (is_live sizes drawn_log drawn_core n && keep n) (piece_call sizes (drawn_log.group n) n)) (λ n. call_if (is_live sizes log core n && keep n) (piece_call sizes (log.group n) n))
+        (λ n is. ap (λ g. call_if ((is_ready sizes core n && (is_ready sizes core g.first || is_cleaned sizes core n)) && keep n) (piece_call sizes g n)) (old_number n is.1))
+        (λ n low high. ap (λ b. call_if (b && keep n) (piece_call sizes (drawn_log.group n) n)) (ap (λ r. r && (is_ready sizes core (drawn_log.group n).first || is_cleaned sizes core n)) (not_ready n low high)))));
   }
 
-draw_step : (sizes : Sizes) (first : Values) (log : Log) (placed : ℕ → Bool) (opened : Files) (by : ℕ) (core : Core) (found : ℕ) → Sound sizes first core → Groups sizes core log → LivePieces sizes log placed opened core → MayFind sizes by core Draws found
-    → LivePieces sizes (log_stepped sizes (core.passes by) Draws found log) (placed_stepped (core.passes by) Draws found placed) opened (after_step sizes by Draws found core)
-draw_step sizes first log placed opened by core found sound groups live may = go (found == (core.passes by).head) refl
+draw_step : (sizes : Sizes) (first : Values) (log : Log) (keep : ℕ → Bool) (opened : Files) (by : ℕ) (core : Core) (found : ℕ) → Sound sizes first core → Groups sizes core log → LiveBy sizes log keep opened core → MayFind sizes by core Draws found
+    → LiveBy sizes (log_stepped sizes (core.passes by) Draws found log) keep opened (after_step sizes by Draws found core)
+draw_step sizes first log keep opened by core found sound groups live may = go (found == (core.passes by).head) refl
   where
     group : Group
     group = record { call = (core.passes by).call; first = found; entries = page_count sizes (core.passes by).call }
 
-    go : (b : Bool) → (found == (core.passes by).head) ≡ b → LivePieces sizes (log_stepped sizes (core.passes by) Draws found log) (placed_stepped (core.passes by) Draws found placed) opened (after_step sizes by Draws found core)
-    go true e = subst (λ l. LivePieces sizes l (placed_stepped (core.passes by) Draws found placed) opened (after_step sizes by Draws found core)) (sym (when_true (found == (core.passes by).head) (with_group group log) log e))
-        (subst (λ p. LivePieces sizes (with_group group log) p opened (after_step sizes by Draws found core)) (sym (when_true (found == (core.passes by).head) (with_number placed found false) placed e))
-        (draw_won sizes first log placed opened by core found sound groups live may e))
-    go false e = subst (λ l. LivePieces sizes l (placed_stepped (core.passes by) Draws found placed) opened (after_step sizes by Draws found core)) (sym (when_false (found == (core.passes by).head) (with_group group log) log e))
-        (subst (λ p. LivePieces sizes log p opened (after_step sizes by Draws found core)) (sym (when_false (found == (core.passes by).head) (with_number placed found false) placed e))
-        (same_live sizes first log placed opened by core Draws found sound live
-        (word_here core.words HEAD _ ∙ when_false (found == (core.passes by).head) (found + page_count sizes (core.passes by).call) found e ∙ sym may.is) refl (λ slot is. is) (λ slot is. is) refl))
+    go : (b : Bool) → (found == (core.passes by).head) ≡ b → LiveBy sizes (log_stepped sizes (core.passes by) Draws found log) keep opened (after_step sizes by Draws found core)
+    go true e = subst (λ l. LiveBy sizes l keep opened (after_step sizes by Draws found core)) (sym (when_true (found == (core.passes by).head) (with_group group log) log e))
+        (draw_won sizes first log keep opened by core found sound groups live may e)
+    go false e = subst (λ l. LiveBy sizes l keep opened (after_step sizes by Draws found core)) (sym (when_false (found == (core.passes by).head) (with_group group log) log e))
+        (live_kept sizes log keep opened core (after_step sizes by Draws found core)
+        (word_here core.words HEAD _ ∙ when_false (found == (core.passes by).head) (found + page_count sizes (core.passes by).call) found e ∙ sym may.is) refl
+        (ap calls_of (append-nil core.history)) (λ n is. refl) (draw_places sizes by core found sound.numbers may) (λ file. refl) sound.window.order live)
 
 -- ---- all steps
 
-pub live_step : (sizes : Sizes) (first : Values) (log : Log) (placed : ℕ → Bool) (opened : Files) (by : ℕ) (core : Core) (deed : Deed) (found : ℕ) → PlainLaws → 1 ≤ sizes.page → Sound sizes first core → Groups sizes core log → Pieces sizes log core
-    → InFlight sizes log placed core → LivePieces sizes log placed opened core → MayFind sizes by core deed found
-    → LivePieces sizes (log_stepped sizes (core.passes by) deed found log) (placed_stepped (core.passes by) deed found placed) opened (after_step sizes by deed found core)
-live_step sizes first log placed opened by core (Places reply) found plain page_is sound groups pieces flight live may = place_step plain sizes first log placed opened by core found reply page_is sound groups flight live may
-live_step sizes first log placed opened by core Draws found plain page_is sound groups pieces flight live may = draw_step sizes first log placed opened by core found sound groups live may
-live_step sizes first log placed opened by core (Readies next) found plain page_is sound groups pieces flight live may = elim (cases_eq next (core.passes by).first) [
-  | inl leader ↦ leader_live plain sizes first log placed opened by core found next page_is sound groups pieces flight live may leader
-  | inr ne ↦ follower_live plain sizes first log placed opened by core found next page_is sound groups pieces flight live may ne
+-- A step of a call keeps the files that the pieces of some numbers make, where those that aren't cleaned are among these.
+live_step : (sizes : Sizes) (first : Values) (log : Log) (keep : ℕ → Bool) (placed : ℕ → Bool) (opened : Files) (by : ℕ) (core : Core) (deed : Deed) (found : ℕ) → PlainLaws → 1 ≤ sizes.page → Sound sizes first core → Groups sizes core log → Pieces sizes log core
+    → InFlight sizes log placed core → ((n : ℕ) → InWindow core n → is_cleaned sizes core n ≡ false → keep n ≡ true) → LiveBy sizes log keep opened core → is_tend deed ≡ false → MayFind sizes by core deed found
+    → LiveBy sizes (log_stepped sizes (core.passes by) deed found log) keep opened (after_step sizes by deed found core)
+live_step sizes first log keep placed opened by core (Places reply) found plain page_is sound groups pieces flight kept live tend may = place_step plain sizes first log keep placed opened by core found reply page_is sound groups flight live may
+live_step sizes first log keep placed opened by core Draws found plain page_is sound groups pieces flight kept live tend may = draw_step sizes first log keep opened by core found sound groups live may
+live_step sizes first log keep placed opened by core (Readies next) found plain page_is sound groups pieces flight kept live tend may = elim (cases_eq next (core.passes by).first) [
+  | inl leader ↦ leader_live plain sizes first log keep placed opened by core found next page_is sound groups pieces flight live may kept leader
+  | inr ne ↦ follower_live plain sizes first log keep placed opened by core found next page_is sound groups pieces flight live may kept ne
 ]
-live_step sizes first log placed opened by core (Seizes next) found plain page_is sound groups pieces flight live may =
-    let at : HasDrawn sizes (core.passes by).call (core.passes by).entries × IsAmong (core.passes by).first (core.passes by).entries next = subst (StandsAt sizes (core.passes by)) may.may (sound.standing by).at in
-    let old : entry_at sizes core next ≡ free = sound.window.unseized_is by next (subst (λ s. IsUnseized s (core.passes by).first (core.passes by).entries next) (sym may.may) (omega arith, at.1.1)) in
-    entry_live sizes first log placed opened by core (Seizes next) found (slot_of sizes next) filling sound live refl (λ e. not_both e refl) (λ e. not_both (ap was_readied (sym old) ∙ e) refl) refl
-live_step sizes first log placed opened by core (Breaks next) found plain page_is sound groups pieces flight live may =
-    let at : HasDrawn sizes (core.passes by).call (core.passes by).entries × IsAmong (core.passes by).first (core.passes by).entries next = subst (StandsAt sizes (core.passes by)) may.may (sound.standing by).at in
-    let old : entry_at sizes core next ≡ filling = sound.window.filling_is by next (subst (λ s. IsFilling s (core.passes by).first (core.passes by).entries next) (sym may.may) (omega arith, at.1.1)) in
-    entry_live sizes first log placed opened by core (Breaks next) found (slot_of sizes next) broken sound live refl (λ e. not_both e refl) (λ e. not_both (ap was_readied (sym old) ∙ e) refl) refl
-live_step sizes first log placed opened by core (Holds next) found plain page_is sound groups pieces flight live may =
-    rekind_live sizes first log placed opened by core (Holds next) found next (found + 1) sound live refl (holds_rekind sizes first by core found next sound may) refl
-live_step sizes first log placed opened by core (Returns next) found plain page_is sound groups pieces flight live may =
-    rekind_live sizes first log placed opened by core (Returns next) found next (found - 1) sound live refl (returns_rekind sizes first by core found next sound may) refl
-live_step sizes first log placed opened by core deed found plain page_is sound groups pieces flight live may = plain_live sizes first log placed opened by core deed found sound live may refl refl (λ slot. refl) refl
+live_step sizes first log keep placed opened by core Splits found plain page_is sound groups pieces flight kept live tend may =
+    same_live sizes first log keep opened by core Splits found sound groups live may refl refl refl (untouched sizes by core Splits found may HEAD refl) (untouched sizes by core Splits found may TAIL refl) (omega arith) refl
+live_step sizes first log keep placed opened by core (Tends chore) found plain page_is sound groups pieces flight kept live tend may = absurd (not_both refl tend)
+live_step sizes first log keep placed opened by core deed found plain page_is sound groups pieces flight kept live tend may =
+    same_live sizes first log keep opened by core deed found sound groups live may refl refl refl (untouched sizes by core deed found may HEAD refl) (untouched sizes by core deed found may TAIL refl) (omega arith) refl
 
--- ---- a call that begins, and a device call
+-- ---- both lists
 
-pub live_begin : (sizes : Sizes) (first : Values) (log : Log) (placed : ℕ → Bool) (opened : Files) (by : ℕ) (core : Core) (call : FileCall) → Sound sizes first core → LivePieces sizes log placed opened core → LivePieces sizes log placed opened (after_begin sizes by call core)
-live_begin sizes first log placed opened by core call sound live = live_kept sizes log placed opened core (after_begin sizes by call core) refl refl refl (λ n is. refl) (λ n is. refl) (λ file. refl) sound.window.order live
+pub live_both : (sizes : Sizes) (log : Log) (opened : Files) (core now : Core) → ((n : ℕ) → InWindow now n → is_cleaned sizes now n ≡ is_cleaned sizes core n) → now.words TAIL ≤ now.words HEAD
+    → LiveBy sizes log (λ n. true) opened now → LiveBy sizes log (λ n. not (is_cleaned sizes core n)) opened now → LivePieces sizes log opened now
+live_both sizes log opened core now clean order all few = record {
+  files = all.files ∙ ap (λ c. after_calls c (store_files sizes now.values)) (rising_same (λ n. call_if (is_live sizes log now n && true) (piece_call sizes (log.group n) n)) (λ n. call_if (is_live sizes log now n) (piece_call sizes (log.group n) n)) (now.words TAIL) (now.words HEAD - now.words TAIL)
+      (λ n low high. ap (λ b. call_if b (piece_call sizes (log.group n) n)) (and_true (is_live sizes log now n))));
+  uncleaned = few.files ∙ ap (λ c. after_calls c (store_files sizes now.values)) (rising_same (λ n. call_if (is_live sizes log now n && not (is_cleaned sizes core n)) (piece_call sizes (log.group n) n)) (λ n. call_if (is_live sizes log now n && not (is_cleaned sizes now n)) (piece_call sizes (log.group n) n)) (now.words TAIL) (now.words HEAD - now.words TAIL)
+      (λ n low high. ap (λ b. call_if (is_live sizes log now n && not b) (piece_call sizes (log.group n) n)) (sym (clean n (low, omega (arith, high, order))))));
+}
 
-pub live_work : (sizes : Sizes) (first : Values) (log : Log) (placed : ℕ → Bool) (opened : Files) (by : ℕ) (core : Core) (work : Work) → Sound sizes first core → LivePieces sizes log placed opened core
-    → LivePieces sizes (log_worked (core.passes by) work.ending (core.passes by).stage log) placed opened (after_work sizes by work core)
-live_work sizes first log placed opened by core work sound live =
-    subst (λ g. LivePieces sizes record { group = g; calls = (log_worked (core.passes by) work.ending (core.passes by).stage log).calls } placed opened (after_work sizes by work core)) (sym (log_group (core.passes by) work.ending (core.passes by).stage log))
-    record { files = (live_kept sizes log placed opened core (after_work sizes by work core) refl refl refl (λ n is. refl) (λ n is. refl) (store_worked (core.passes by) work core.values) sound.window.order live).files }
+pub all_live : (sizes : Sizes) (log : Log) (opened : Files) (core : Core) → LivePieces sizes log opened core → LiveBy sizes log (λ n. true) opened core
+all_live sizes log opened core live = record {
+  files = live.files ∙ ap (λ c. after_calls c (store_files sizes core.values)) (rising_same (λ n. call_if (is_live sizes log core n) (piece_call sizes (log.group n) n)) (λ n. call_if (is_live sizes log core n && true) (piece_call sizes (log.group n) n)) (core.words TAIL) (core.words HEAD - core.words TAIL)
+      (λ n low high. ap (λ b. call_if b (piece_call sizes (log.group n) n)) (sym (and_true (is_live sizes log core n)))));
+}
+
+pub few_live : (sizes : Sizes) (log : Log) (opened : Files) (core : Core) → LivePieces sizes log opened core → LiveBy sizes log (λ n. not (is_cleaned sizes core n)) opened core
+few_live sizes log opened core live = record { files = live.uncleaned }
+
+-- A step of a call keeps the live pieces.
+pub call_live : (sizes : Sizes) (first : Values) (log : Log) (placed : ℕ → Bool) (opened : Files) (by : ℕ) (core : Core) (deed : Deed) (found : ℕ) → PlainLaws → 1 ≤ sizes.page → Sound sizes first core → Groups sizes core log → Pieces sizes log core
+    → InFlight sizes log placed core → LivePieces sizes log opened core → is_tend deed ≡ false → MayFind sizes by core deed found
+    → LivePieces sizes (log_stepped sizes (core.passes by) deed found log) opened (after_step sizes by deed found core)
+call_live sizes first log placed opened by core deed found plain page_is sound groups pieces flight live tend may =
+    live_both sizes (log_stepped sizes (core.passes by) deed found log) opened core (after_step sizes by deed found core) (λ n _. clean_step sizes first by core found sound deed tend may n) (window_step sizes first by core deed found sound may).order
+    (live_step sizes first log (λ n. true) placed opened by core deed found plain page_is sound groups pieces flight (λ n _ _. refl) (all_live sizes log opened core live) tend may)
+    (live_step sizes first log (λ n. not (is_cleaned sizes core n)) placed opened by core deed found plain page_is sound groups pieces flight (λ n _. ap not) (few_live sizes log opened core live) tend may)
+
+-- ---- a call that begins
+
+pub live_begin : (sizes : Sizes) (log : Log) (opened : Files) (by : ℕ) (core : Core) (call : FileCall) → Numbers core → MayBegin sizes call (core.passes by) → LivePieces sizes log opened core → LivePieces sizes log opened (after_begin sizes by call core)
+live_begin sizes log opened by core call numbers may live = record {
+  files = ap (λ p. after_calls (calls_of core.history ++ p) opened) places ∙ live.files;
+  uncleaned = ap (λ p. after_calls (calls_of core.history ++ p) opened) places ∙ live.uncleaned;
+}
+  where
+    none : is_waiting (begun sizes call (core.passes by)) (begun sizes call (core.passes by)).stage ≡ false
+    none = if_both (λ s. is_waiting (begun sizes call (core.passes by)) s ≡ false) (page_count sizes call == 0) Checking (Locking (first_page sizes call)) (λ _. refl) (λ _. refl)
+
+    places : to_place (after_begin sizes by call core) ≡ to_place core
+    places = places_same core (after_begin sizes by call core) numbers (omega arith)
+        (by_number (λ m (p : Pass). waits_of p ≡ waits_of (core.passes m)) core.passes by (begun sizes call (core.passes by)) (none_of (begun sizes call (core.passes by)) none ∙ sym (idle_waits (core.passes by) may.idle)) (λ m ne. refl))

@@ -1,12 +1,13 @@
 -- Each event keeps what was loaded.
-use Rattle.std.proofs.Common.{◌≡◌, ◌≢◌, ◌⊎◌, ℕ, ◌+◌, ◌^◌, ◌<◌, ◌≤◌, ◌==◌, nat_lt, nat_le, not, ◌&&◌, Bool, true, false, if◌then◌else◌, List, length, inl, inr, refl, sym, ap, subst, ◌∙◌, arith, le_trans}
+use Rattle.std.proofs.Common.{◌≡◌, ◌≢◌, ◌⊎◌, ℕ, ◌+◌, ◌-◌, ◌^◌, ◌<◌, ◌≤◌, ◌==◌, nat_lt, nat_le, not, ◌&&◌, Bool, true, false, if◌then◌else◌, List, length, inl, inr, refl, sym, ap, subst, ◌∙◌, arith, le_trans}
 use Rattle.std.proofs.lemmas.Bool.{eqb-true, eq-eqb, and_from, and_parts, ltb-true, le-ltb, cases_eq, cases_lt, cases_Bool}
 use Rattle.nv_plain.specs.declared.call.FileCall.{FileCall}
 use Rattle.nv_plain.specs.declared.call.Reply.{Reply}
 use Rattle.nv_core.specs.Words.{Sizes, Word, STOP, ORDER, HEAD, TAIL, SIZE, LENGTH, STORE, ENTRY, PAGE, DIRTY, index, HINT, CLEANUP, ready, is_entry_of}
-use Rattle.nv_core.specs.Values.{Ending, Made, Failed}
-use Rattle.nv_core.specs.Passes.{Stage, Idle, Locking, Measuring, Sizing, Checking, Ordering, Reading, Fetching, Copying, Returning, Waiting, Heading, Tailing, Drawing, Seizing, Committing, Pledging, Readying, Placing, Growing, Releasing, Giving, Leaving, ReadFailing, WriteFailing, Breaking, Pass, file_of, at_of, len_of, is_write, is_read, page_count, first_page, end_page, without, times, Searching, Seeking, Bounding, Starting, Scanning, Grasping, Patching, Restoring, Unlocking, PieceFailing}
-use Rattle.nv_core.specs.Deeds.{Deed, Loads, Takes, Gives, Places, Stops, Draws, Seizes, Pledges, Readies, Grows, Breaks, Splits, Leaves, Joins, slot_of, value_after, Turns, Hints, Holds, Returns}
+use Rattle.nv_core.specs.Values.{Ending, Made, Failed, Refused}
+use Rattle.nv_core.specs.Sweeps.{Looks as Sees, Subtracts, Retires}
+use Rattle.nv_core.specs.Passes.{Stage, Idle, Locking, Measuring, Sizing, Checking, Ordering, Reading, Fetching, Copying, Returning, Waiting, Heading, Tailing, Drawing, Seizing, Committing, Pledging, Readying, Placing, Growing, Releasing, Giving, Leaving, ReadFailing, WriteFailing, Breaking, Cleaning, Pass, file_of, at_of, len_of, is_write, is_read, page_count, first_page, end_page, without, times, Searching, Seeking, Bounding, Starting, Scanning, Grasping, Patching, Restoring, Unlocking, PieceFailing}
+use Rattle.nv_core.specs.Deeds.{Deed, Loads, Takes, Gives, Places, Stops, Draws, Seizes, Pledges, Readies, Grows, Breaks, Splits, Leaves, Joins, slot_of, value_after, Turns, Hints, Holds, Returns, Tends, moved, chore_move}
 use Rattle.nv_core.specs.Stages.{stage_after, after_load, after_give, after_stop, leaving, giving, ending, ordered, copying, exceeds, first_stage, scanning, after_head, after_tail, after_look, after_hold, after_return}
 use Rattle.nv_core.specs.Stepped.{begun, length_after, sized_after}
 use Rattle.nv_core.specs.Order.{Values, Work, MayWork, MayStep, MayLoad, MayTake, MayGive, MayPlace, IsDue, IsFailing, commit_steps}
@@ -15,13 +16,15 @@ use Rattle.nv_core.specs.Core.{Core, changes, changed, made_stepped, after_step,
 use Rattle.nv_core.specs.Events.{MayDo, MayFind, MayBegin}
 use Rattle.nv_core.specs.Standing.{StandsAt, IsPage}
 use Rattle.nv_core.specs.Holding.{one_if, is_among, HoldsLocks}
-use Rattle.nv_core.specs.Loaded.{HasMeasured, SawClean, Loaded, Looks}
+use Rattle.nv_core.specs.Loaded.{HasMeasured, SawClean, Loaded, Bounds, Looks}
 use Rattle.nv_core.specs.Sound.{Sound}
 use Rattle.nv_core.proofs.Changes.{by_number, by_word, number_here, word_here, word_else, differ}
 use Rattle.nv_core.proofs.Choices.{if_both, not_both, when_true, leaving_both, IsGivingBack, gives_back, page_tried}
 use Rattle.nv_core.proofs.LockLaws.{only_holder}
 use Rattle.nv_core.proofs.HoldingLaws.{among_in}
 use Rattle.nv_core.proofs.WordLaws.{untouched, touches}
+use Rattle.nv_core.proofs.SweepStages.{tended_to, swept_worked}
+use Rattle.nv_core.proofs.SweepDeeds.{retires_hand}
 use Rattle.nv_core.proofs.Inherits.{inherits}
 use Rattle.nv_core.proofs.SearchLaws.{turned_at, looked_at, hinting_at, hinting_next, tried_next, hinted_at}
 
@@ -33,25 +36,35 @@ head_up sizes by core Draws found may = subst (λ v. core.words HEAD ≤ v) (sym
     (if_both (λ v. core.words HEAD ≤ v) (found == (core.passes by).head) _ found (λ _. let e = may.is in omega (arith, e)) (λ _. let e = may.is in omega (arith, e)))
 head_up sizes by core deed found may = let e = untouched sizes by core deed found may HEAD refl in omega (arith, e)
 
-tail_touch : (deed : Deed) → touches deed TAIL ≡ false
-tail_touch (Takes cell) = refl
-tail_touch deed = refl
+-- nor does TAIL, which only a cleaner moves
+pub tail_is : (sizes : Sizes) (by : ℕ) (core : Core) (deed : Deed) (found : ℕ) → MayFind sizes by core deed found → touches deed TAIL ≡ false → (after_step sizes by deed found core).words TAIL ≡ core.words TAIL
+tail_is sizes by core deed found may not_so = untouched sizes by core deed found may TAIL not_so
 
-pub tail_is : (sizes : Sizes) (by : ℕ) (core : Core) (deed : Deed) (found : ℕ) → MayFind sizes by core deed found → (after_step sizes by deed found core).words TAIL ≡ core.words TAIL
-tail_is sizes by core deed found may = untouched sizes by core deed found may TAIL (tail_touch deed)
+pub tail_up : (sizes : Sizes) (first : Values) (by : ℕ) (core : Core) (found : ℕ) (deed : Deed) → Sound sizes first core → MayFind sizes by core deed found → core.words TAIL ≤ (after_step sizes by deed found core).words TAIL
+tail_up sizes first by core found (Tends (Retires tail)) sound may = subst (λ v. core.words TAIL ≤ v) (sym (word_here core.words TAIL tail)) (retires_hand sizes first core sound by found tail may).low
+tail_up sizes first by core found (Tends chore) sound may = let e = tail_is sizes by core (Tends chore) found may refl in omega (arith, e)
+tail_up sizes first by core found (Takes cell) sound may = let e = tail_is sizes by core (Takes cell) found may refl in omega (arith, e)
+tail_up sizes first by core found deed sound may = let e = tail_is sizes by core deed found may refl in omega (arith, e)
 
 head_here : (sizes : Sizes) (first : Values) (by : ℕ) (core : Core) (found : ℕ) (deed : Deed) → Sound sizes first core → MayFind sizes by core deed found → (changed sizes by core deed found).head ≤ (after_step sizes by deed found core).words HEAD
 head_here sizes first by core found (Loads HEAD) sound may = let e = may.is in let f = untouched sizes by core (Loads HEAD) found may HEAD refl in omega (arith, e, f)
 head_here sizes first by core found Draws sound may = let e = word_here core.words HEAD (value_after sizes (core.passes by) Draws found) in omega (arith, e)
 head_here sizes first by core found Splits sound may = le_trans (inherits (λ p. p.head ≤ core.words HEAD) core (λ one two a b. omega arith) sound.loaded.head (λ p is. is)) (head_up sizes by core Splits found may)
 head_here sizes first by core found (Loads word) sound may = le_trans (sound.loaded.head by) (head_up sizes by core (Loads word) found may)
+head_here sizes first by core found (Tends (Sees HEAD)) sound may = let e = may.is in let f = untouched sizes by core (Tends (Sees HEAD)) found may HEAD refl in omega (arith, e, f)
+head_here sizes first by core found (Tends (Sees word)) sound may = le_trans (sound.loaded.head by) (head_up sizes by core (Tends (Sees word)) found may)
+head_here sizes first by core found (Tends chore) sound may = le_trans (sound.loaded.head by) (head_up sizes by core (Tends chore) found may)
 head_here sizes first by core found deed sound may = le_trans (sound.loaded.head by) (head_up sizes by core deed found may)
 
-tail_here : (sizes : Sizes) (first : Values) (by : ℕ) (core : Core) (found : ℕ) (deed : Deed) → Sound sizes first core → MayFind sizes by core deed found → (changed sizes by core deed found).tail ≤ core.words TAIL
-tail_here sizes first by core found (Loads TAIL) sound may = let e = may.is in omega (arith, e)
-tail_here sizes first by core found Splits sound may = inherits (λ p. p.tail ≤ core.words TAIL) core (λ one two a b. omega arith) sound.loaded.tail (λ p is. is)
-tail_here sizes first by core found (Loads word) sound may = sound.loaded.tail by
-tail_here sizes first by core found deed sound may = sound.loaded.tail by
+tail_here : (sizes : Sizes) (first : Values) (by : ℕ) (core : Core) (found : ℕ) (deed : Deed) → Sound sizes first core → MayFind sizes by core deed found → (changed sizes by core deed found).tail ≤ (after_step sizes by deed found core).words TAIL
+tail_here sizes first by core found (Loads TAIL) sound may = let e = may.is in let f = tail_is sizes by core (Loads TAIL) found may refl in omega (arith, e, f)
+tail_here sizes first by core found Splits sound may = le_trans (inherits (λ p. p.tail ≤ core.words TAIL) core (λ one two a b. omega arith) sound.loaded.tail (λ p is. is)) (tail_up sizes first by core found Splits sound may)
+tail_here sizes first by core found (Loads word) sound may = le_trans (sound.loaded.tail by) (tail_up sizes first by core found (Loads word) sound may)
+tail_here sizes first by core found (Tends (Sees TAIL)) sound may = let e = may.is in let f = tail_is sizes by core (Tends (Sees TAIL)) found may refl in omega (arith, e, f)
+tail_here sizes first by core found (Tends (Sees word)) sound may = le_trans (sound.loaded.tail by) (tail_up sizes first by core found (Tends (Sees word)) sound may)
+tail_here sizes first by core found (Tends (Retires tail)) sound may = let e = word_here core.words TAIL tail in omega (arith, e)
+tail_here sizes first by core found (Tends chore) sound may = le_trans (sound.loaded.tail by) (tail_up sizes first by core found (Tends chore) sound may)
+tail_here sizes first by core found deed sound may = le_trans (sound.loaded.tail by) (tail_up sizes first by core found deed sound may)
 
 -- some pass has seen HEAD as it is: the one that drew, or the one that had seen it before
 same_head : (sizes : Sizes) (by : ℕ) (core : Core) (found : ℕ) (deed : Deed) → MayFind sizes by core deed found → touches deed HEAD ≡ false → changes by core.made deed ≤ core.made
@@ -60,14 +73,21 @@ same_head sizes by core found (Loads HEAD) may not_so made was = sym may.is
 same_head sizes by core found Draws may not_so made was = absurd (not_both refl not_so)
 same_head sizes by core found Splits may not_so made was = absurd (omega arith)
 same_head sizes by core found (Loads word) may not_so made was = was
+same_head sizes by core found (Tends (Sees HEAD)) may not_so made was = sym may.is
+same_head sizes by core found (Tends (Sees word)) may not_so made was = was
+same_head sizes by core found (Tends chore) may not_so made was = was
 same_head sizes by core found deed may not_so made was = was
 
-same_tail : (sizes : Sizes) (by : ℕ) (core : Core) (found : ℕ) (deed : Deed) → MayFind sizes by core deed found → changes by core.made deed ≤ core.made
+same_tail : (sizes : Sizes) (by : ℕ) (core : Core) (found : ℕ) (deed : Deed) → MayFind sizes by core deed found → touches deed TAIL ≡ false → changes by core.made deed ≤ core.made
     → (core.passes (changes by core.made deed)).tail ≡ core.words TAIL → (changed sizes by core deed found).tail ≡ core.words TAIL
-same_tail sizes by core found (Loads TAIL) may made was = sym may.is
-same_tail sizes by core found Splits may made was = absurd (omega arith)
-same_tail sizes by core found (Loads word) may made was = was
-same_tail sizes by core found deed may made was = was
+same_tail sizes by core found (Loads TAIL) may not_so made was = sym may.is
+same_tail sizes by core found Splits may not_so made was = absurd (omega arith)
+same_tail sizes by core found (Loads word) may not_so made was = was
+same_tail sizes by core found (Tends (Sees TAIL)) may not_so made was = sym may.is
+same_tail sizes by core found (Tends (Sees word)) may not_so made was = was
+same_tail sizes by core found (Tends (Retires tail)) may not_so made was = absurd (not_both refl not_so)
+same_tail sizes by core found (Tends chore) may not_so made was = was
+same_tail sizes by core found deed may not_so made was = was
 
 pub more_made : (deed : Deed) (made : ℕ) → made ≤ made_stepped deed made
 more_made Splits made = omega arith
@@ -91,15 +111,24 @@ head_saw : (sizes : Sizes) (first : Values) (by : ℕ) (core : Core) (found : �
 head_saw sizes first by core found Draws sound here may = (by, here, ap (λ (p : Pass). p.head) (number_here core.passes by (changed sizes by core Draws found)) ∙ sym (word_here core.words HEAD _))
 head_saw sizes first by core found deed sound here may = head_else sizes first by core deed found sound may refl
 
-tail_saw : (sizes : Sizes) (first : Values) (by : ℕ) (core : Core) (deed : Deed) (found : ℕ) → Sound sizes first core → MayFind sizes by core deed found
+tail_else : (sizes : Sizes) (first : Values) (by : ℕ) (core : Core) (deed : Deed) (found : ℕ) → Sound sizes first core → MayFind sizes by core deed found → touches deed TAIL ≡ false
     → (number : ℕ) × (number ≤ made_stepped deed core.made) × (((after_step sizes by deed found core).passes number).tail ≡ (after_step sizes by deed found core).words TAIL)
-tail_saw sizes first by core deed found sound may =
+tail_else sizes first by core deed found sound may not_so =
     let saw = sound.loaded.tail_is in (
       saw.0,
       le_trans saw.1 (more_made deed core.made),
       by_number (λ n (p : Pass). n ≤ core.made → (core.passes n).tail ≡ core.words TAIL → p.tail ≡ core.words TAIL) core.passes (changes by core.made deed) (changed sizes by core deed found)
-          (same_tail sizes by core found deed may) (λ n ne _ is. is) saw.0 saw.1 saw.2 ∙ sym (tail_is sizes by core deed found may),
+          (same_tail sizes by core found deed may not_so) (λ n ne _ is. is) saw.0 saw.1 saw.2 ∙ sym (tail_is sizes by core deed found may not_so),
     )
+
+-- and so it is of TAIL, which the pass that moved it has seen
+tail_saw : (sizes : Sizes) (first : Values) (by : ℕ) (core : Core) (found : ℕ) (deed : Deed) → Sound sizes first core → by ≤ core.made → MayFind sizes by core deed found
+    → (number : ℕ) × (number ≤ made_stepped deed core.made) × (((after_step sizes by deed found core).passes number).tail ≡ (after_step sizes by deed found core).words TAIL)
+tail_saw sizes first by core found (Tends (Retires tail)) sound here may =
+    (by, here, ap (λ (p : Pass). p.tail) (number_here core.passes by (changed sizes by core (Tends (Retires tail)) found)) ∙ sym (word_here core.words TAIL tail))
+tail_saw sizes first by core found (Tends chore) sound here may = tail_else sizes first by core (Tends chore) found sound may refl
+tail_saw sizes first by core found (Takes cell) sound here may = tail_else sizes first by core (Takes cell) found sound may refl
+tail_saw sizes first by core found deed sound here may = tail_else sizes first by core deed found sound may refl
 
 -- ---- LENGTH
 
@@ -181,6 +210,7 @@ before sizes values pass found (Returns next) other may is = go may.1 may.2 (sub
     go : (failed : Bool) → pass.stage ≡ Restoring may.0 next failed → HasMeasured (after_return sizes pass (Restoring may.0 next failed)) → HasMeasured pass.stage
     go true here is = absurd (unmeasured (without (ENTRY (slot_of sizes next)) pass.hands) is)
     go false here is = at (Restoring may.0 next false) here tt
+before sizes values pass found (Tends chore) other may is = absurd (tended_to (λ s. HasMeasured s → ⊥) (λ z. z) (λ _ _ z. z) sizes pass (moved (chore_move sizes chore found) pass.hands) chore found pass.stage may is)
 before sizes values pass found (Turns page) other may is = turned_at HasMeasured sizes values pass page (λ _. tt) (λ _ _. tt) may
 before sizes values pass found (Hints buffer page) other may is = hinted_at HasMeasured values pass buffer page (λ _. tt) may
 before sizes values pass found deed other may is = absurd may
@@ -216,6 +246,7 @@ holds_size sizes pass stage measured held sized = go stage measured held
     go Releasing measured held = absurd measured
     go (Giving page) measured held = absurd measured
     go Leaving measured held = absurd measured
+    go (Cleaning batch sweep) measured held = absurd measured
     go (Breaking number) measured held = absurd measured
     go (Restoring page number true) measured held = absurd measured
     go stage measured held = one (held (SIZE (file_of pass.call)) (λ slot. differ (SIZE (file_of pass.call)) (ENTRY slot) refl))
@@ -320,14 +351,18 @@ clean_page sizes pass page stage stands held saw = absurd saw
 pub pledged_page : (sizes : Sizes) (pass : Pass) (page : ℕ) → StandsAt sizes pass (Pledging page) → HoldsLocks sizes pass (Pledging page) → times (PAGE page) pass.hands ≡ 1
 pledged_page sizes pass page stands held = holds_page sizes pass page stands.1 (held (PAGE page) (λ slot. differ (PAGE page) (ENTRY slot) refl))
 
-dirty_stays : (sizes : Sizes) (by : ℕ) (core : Core) (found : ℕ) (deed : Deed) → MayFind sizes by core deed found → (page : ℕ) → (deed ≡ Pledges page → ⊥) → (after_step sizes by deed found core).words (DIRTY page) ≡ core.words (DIRTY page)
-dirty_stays sizes by core found (Pledges other) may page ne = word_else core.words (DIRTY other) _ (DIRTY page) (λ e. ne (ap Pledges (sym (ap index e))))
-dirty_stays sizes by core found (Takes cell) may page ne = untouched sizes by core (Takes cell) found may (DIRTY page) refl
-dirty_stays sizes by core found deed may page ne = untouched sizes by core deed found may (DIRTY page) refl
+-- a DIRTY that is 0 stays so but where a pass pledges the page
+dirty_stays : (sizes : Sizes) (by : ℕ) (core : Core) (found : ℕ) (deed : Deed) → MayFind sizes by core deed found → (page : ℕ) → (deed ≡ Pledges page → ⊥) → core.words (DIRTY page) ≡ 0 → (after_step sizes by deed found core).words (DIRTY page) ≡ 0
+dirty_stays sizes by core found (Pledges other) may page ne zero_is = word_else core.words (DIRTY other) _ (DIRTY page) (λ e. ne (ap Pledges (sym (ap index e)))) ∙ zero_is
+dirty_stays sizes by core found (Tends (Subtracts other)) may page ne zero_is =
+    by_word (λ w v. core.words w ≡ 0 → v ≡ 0) core.words (DIRTY other) (found - 1) (λ z. let e = may.is in omega (arith, z, e)) (λ w other z. z) (DIRTY page) zero_is
+dirty_stays sizes by core found (Tends chore) may page ne zero_is = untouched sizes by core (Tends chore) found may (DIRTY page) refl ∙ zero_is
+dirty_stays sizes by core found (Takes cell) may page ne zero_is = untouched sizes by core (Takes cell) found may (DIRTY page) refl ∙ zero_is
+dirty_stays sizes by core found deed may page ne zero_is = untouched sizes by core deed found may (DIRTY page) refl ∙ zero_is
 
 clean_else : (sizes : Sizes) (first : Values) (by : ℕ) (core : Core) (found : ℕ) (deed : Deed) → Sound sizes first core → MayFind sizes by core deed found → (n : ℕ) → n ≢ by
     → (page : ℕ) → SawClean (core.passes n).stage page → (after_step sizes by deed found core).words (DIRTY page) ≡ 0
-clean_else sizes first by core found deed sound may n ne page saw = dirty_stays sizes by core found deed may page (pledger deed may.may) ∙ sound.loaded.clean n page saw
+clean_else sizes first by core found deed sound may n ne page saw = dirty_stays sizes by core found deed may page (pledger deed may.may) (sound.loaded.clean n page saw)
   where
     pledger : (deed : Deed) → MayDo sizes by core deed → deed ≡ Pledges page → ⊥
     pledger deed may e =
@@ -424,6 +459,8 @@ clean_here sizes first by core found (Returns next) sound may page saw =
     absurd (if_both (λ s. SawClean s page → ⊥) may.may.1 (leaving (without (ENTRY (slot_of sizes next)) (core.passes by).hands)) (scanning (core.passes by) may.may.0 (next + 1))
     (λ _. unseen (without (ENTRY (slot_of sizes next)) (core.passes by).hands) page) (λ _. unseen_scanning (core.passes by) may.may.0 (next + 1) page)
     (subst (λ s. SawClean (after_return sizes (core.passes by) s) page) may.may.2 saw))
+clean_here sizes first by core found (Tends chore) sound may page saw =
+    absurd (tended_to (λ s. SawClean s page → ⊥) (λ z. z) (λ _ _ z. z) sizes (core.passes by) (moved (chore_move sizes chore found) (core.passes by).hands) chore found (core.passes by).stage may.may saw)
 clean_here sizes first by core found (Turns next) sound may page saw = absurd saw
 clean_here sizes first by core found (Hints buffer next) sound may page saw = absurd saw
 clean_here sizes first by core found Splits sound may page saw = absurd saw
@@ -434,23 +471,24 @@ clean_here sizes first by core found (Joins number) sound may page saw = untouch
 
 -- a pass that a step leaves, at a word that it leaves
 pub loaded_step : (sizes : Sizes) (first : Values) (by : ℕ) (core : Core) (deed : Deed) (found : ℕ) → Sound sizes first core → by ≤ core.made → MayFind sizes by core deed found
+    → ((n : ℕ) → Bounds sizes (after_step sizes by deed found core) ((after_step sizes by deed found core).passes n) ((after_step sizes by deed found core).passes n).stage)
     → ((n : ℕ) → Looks sizes (after_step sizes by deed found core) ((after_step sizes by deed found core).passes n).stage) → Loaded sizes (after_step sizes by deed found core)
-loaded_step sizes first by core deed found sound made may looks = record {
+loaded_step sizes first by core deed found sound made may bounds looks = record {
   head = by_number (λ n (p : Pass). p.head ≤ (after_step sizes by deed found core).words HEAD) core.passes (changes by core.made deed) (changed sizes by core deed found)
       (head_here sizes first by core found deed sound may) (λ n ne. le_trans (sound.loaded.head n) (head_up sizes by core deed found may));
   tail = by_number (λ n (p : Pass). p.tail ≤ (after_step sizes by deed found core).words TAIL) core.passes (changes by core.made deed) (changed sizes by core deed found)
-      (let a = tail_here sizes first by core found deed sound may in let b = tail_is sizes by core deed found may in omega (arith, a, b))
-      (λ n ne. let a = sound.loaded.tail n in let b = tail_is sizes by core deed found may in omega (arith, a, b));
+      (tail_here sizes first by core found deed sound may) (λ n ne. le_trans (sound.loaded.tail n) (tail_up sizes first by core found deed sound may));
   length = by_number (λ n (p : Pass). p.length ≤ (after_step sizes by deed found core).words (LENGTH (file_of p.call))) core.passes (changes by core.made deed) (changed sizes by core deed found)
       (length_here sizes first by core found deed sound may) (λ n ne. le_trans (sound.loaded.length n) (length_up sizes first by core found deed sound may (file_of (core.passes n).call)));
   head_is = head_saw sizes first by core found deed sound made may;
-  tail_is = tail_saw sizes first by core deed found sound may;
+  tail_is = tail_saw sizes first by core found deed sound made may;
   sized = by_number (λ n (p : Pass). HasMeasured p.stage → exceeds p p.length ≡ true → p.sized ≡ true) core.passes (changes by core.made deed) (changed sizes by core deed found)
       (sized_here sizes first by core found deed sound may) (λ n ne. sound.loaded.sized n);
   length_is = by_number (λ n (p : Pass). HasMeasured p.stage → p.sized ≡ true → p.length ≡ (after_step sizes by deed found core).words (LENGTH (file_of p.call))) core.passes (changes by core.made deed) (changed sizes by core deed found)
       (length_is_here sizes first by core found deed sound may) (λ n ne. elim (cases_eq n by) [ inl same ↦ length_is_same n deed may ne same | inr other ↦ length_is_else sizes first by core found deed sound may n other ]);
   clean = by_number (λ n (p : Pass). (page : ℕ) → SawClean p.stage page → (after_step sizes by deed found core).words (DIRTY page) ≡ 0) core.passes (changes by core.made deed) (changed sizes by core deed found)
       (clean_here sizes first by core found deed sound may) (λ n ne. elim (cases_eq n by) [ inl same ↦ clean_same n deed may ne same | inr other ↦ clean_else sizes first by core found deed sound may n other ]);
+  bounds = bounds;
   looks = looks;
 }
   where
@@ -478,8 +516,9 @@ first_measured : (sizes : Sizes) (call : FileCall) → HasMeasured (first_stage 
 first_measured sizes call = if_both (λ s. HasMeasured s → (page_count sizes call == 0) ≡ true) (page_count sizes call == 0) Checking (Locking (first_page sizes call)) (λ e _. e) (λ _ z. absurd z)
 
 pub loaded_begin : (sizes : Sizes) (first : Values) (by : ℕ) (core : Core) (call : FileCall) → Sound sizes first core → MayBegin sizes call (core.passes by)
+    → ((n : ℕ) → Bounds sizes (after_begin sizes by call core) ((after_begin sizes by call core).passes n) ((after_begin sizes by call core).passes n).stage)
     → ((n : ℕ) → Looks sizes (after_begin sizes by call core) ((after_begin sizes by call core).passes n).stage) → Loaded sizes (after_begin sizes by call core)
-loaded_begin sizes first by core call sound may looks = record {
+loaded_begin sizes first by core call sound may bounds looks = record {
   head = by_number (λ n (p : Pass). p.head ≤ core.words HEAD) core.passes by _ (sound.loaded.head by) (λ n ne. sound.loaded.head n);
   tail = by_number (λ n (p : Pass). p.tail ≤ core.words TAIL) core.passes by _ (sound.loaded.tail by) (λ n ne. sound.loaded.tail n);
   length = by_number (λ n (p : Pass). p.length ≤ core.words (LENGTH (file_of p.call))) core.passes by _ (omega arith) (λ n ne. sound.loaded.length n);
@@ -491,6 +530,7 @@ loaded_begin sizes first by core call sound may looks = record {
       (λ measured sized. absurd (not_both sized refl)) (λ n ne. sound.loaded.length_is n);
   clean = by_number (λ n (p : Pass). (page : ℕ) → SawClean p.stage page → core.words (DIRTY page) ≡ 0) core.passes by (begun sizes call (core.passes by))
       (λ page. if_both (λ s. SawClean s page → core.words (DIRTY page) ≡ 0) (page_count sizes call == 0) Checking (Locking (first_page sizes call)) (λ _ z. absurd z) (λ _ z. absurd z)) (λ n ne. sound.loaded.clean n);
+  bounds = bounds;
   looks = looks;
 }
 
@@ -498,6 +538,9 @@ worked_measured : (sizes : Sizes) (values : Values) (pass : Pass) (work : Work) 
 worked_measured sizes values pass work (Committing calls) how due is = tt
 worked_measured sizes values pass work (Copying page dirty) how due is = tt
 worked_measured sizes values pass work (Patching page number) how due is = tt
+worked_measured sizes values pass work (Cleaning batch sweep) Made due is = absurd (swept_worked (λ s. HasMeasured s → ⊥) (λ z. z) (λ _ _ z. z) batch Made sweep is)
+worked_measured sizes values pass work (Cleaning batch sweep) (Failed came faults) due is = absurd (swept_worked (λ s. HasMeasured s → ⊥) (λ z. z) (λ _ _ z. z) batch (Failed came faults) sweep is)
+worked_measured sizes values pass work (Cleaning batch sweep) Refused due is = absurd (swept_worked (λ s. HasMeasured s → ⊥) (λ z. z) (λ _ _ z. z) batch Refused sweep is)
 worked_measured sizes values pass work stage how due is = absurd due
 
 worked_clean : (sizes : Sizes) (values : Values) (pass : Pass) (work : Work) (page : ℕ) (stage : Stage) (how : Ending) → IsDue sizes values pass work stage → SawClean (stage_worked sizes pass how stage) page → SawClean stage page
@@ -509,11 +552,16 @@ worked_clean sizes values pass work page (Copying next false) Made due is = is
 worked_clean sizes values pass work page (Copying next dirty) (Failed came faults) due is = absurd is
 worked_clean sizes values pass work page (Patching next number) Made due is = absurd is
 worked_clean sizes values pass work page (Patching next number) (Failed came faults) due is = absurd is
+worked_clean sizes values pass work page (Cleaning batch sweep) Made due is = absurd (swept_worked (λ s. SawClean s page → ⊥) (λ z. z) (λ _ _ z. z) batch Made sweep is)
+worked_clean sizes values pass work page (Cleaning batch sweep) (Failed came faults) due is = absurd (swept_worked (λ s. SawClean s page → ⊥) (λ z. z) (λ _ _ z. z) batch (Failed came faults) sweep is)
+worked_clean sizes values pass work page (Cleaning batch sweep) Refused due is = absurd (swept_worked (λ s. SawClean s page → ⊥) (λ z. z) (λ _ _ z. z) batch Refused sweep is)
+worked_clean sizes values pass work page stage Refused due is = is
 worked_clean sizes values pass work page stage how due is = absurd due
 
 pub loaded_work : (sizes : Sizes) (first : Values) (by : ℕ) (core : Core) (work : Work) → Sound sizes first core → MayWork sizes core.values (core.passes by) work
+    → ((n : ℕ) → Bounds sizes (after_work sizes by work core) ((after_work sizes by work core).passes n) ((after_work sizes by work core).passes n).stage)
     → ((n : ℕ) → Looks sizes (after_work sizes by work core) ((after_work sizes by work core).passes n).stage) → Loaded sizes (after_work sizes by work core)
-loaded_work sizes first by core work sound may looks = record {
+loaded_work sizes first by core work sound may bounds looks = record {
   head = by_number (λ n (p : Pass). p.head ≤ core.words HEAD) core.passes by _ (sound.loaded.head by) (λ n ne. sound.loaded.head n);
   tail = by_number (λ n (p : Pass). p.tail ≤ core.words TAIL) core.passes by _ (sound.loaded.tail by) (λ n ne. sound.loaded.tail n);
   length = by_number (λ n (p : Pass). p.length ≤ core.words (LENGTH (file_of p.call))) core.passes by _ (sound.loaded.length by) (λ n ne. sound.loaded.length n);
@@ -525,5 +573,6 @@ loaded_work sizes first by core work sound may looks = record {
       (λ measured sized. sound.loaded.length_is by (worked_measured sizes core.values (core.passes by) work (core.passes by).stage work.ending may.due measured) sized) (λ n ne. sound.loaded.length_is n);
   clean = by_number (λ n (p : Pass). (page : ℕ) → SawClean p.stage page → core.words (DIRTY page) ≡ 0) core.passes by (worked sizes work (core.passes by))
       (λ page saw. sound.loaded.clean by page (worked_clean sizes core.values (core.passes by) work page (core.passes by).stage work.ending may.due saw)) (λ n ne. sound.loaded.clean n);
+  bounds = bounds;
   looks = looks;
 }

@@ -1,11 +1,13 @@
 -- Each event keeps the locks.
-use Rattle.std.proofs.Common.{◌≡◌, ◌≢◌, ℕ, ◌+◌, ◌<◌, ◌≤◌, ◌==◌, ◌&&◌, nat_le, true, false, if◌then◌else◌, List, [], ◌∷◌, inl, inr, refl, sym, ap, subst, ◌∙◌, arith, ◌-◌}
+use Rattle.std.proofs.Common.{◌≡◌, ◌≢◌, ℕ, ◌+◌, ◌<◌, ◌≤◌, ◌==◌, ◌&&◌, nat_le, true, false, if◌then◌else◌, List, [], ◌∷◌, length, inl, inr, refl, sym, ap, subst, ◌∙◌, arith, ◌-◌}
 use Rattle.std.proofs.lemmas.Bool.{le-leb, and_from, eqb-true, eqb-false, eq-eqb, ne_eqb, cases_eq, and_parts}
 use Rattle.nv_plain.specs.declared.call.FileCall.{FileCall}
-use Rattle.nv_core.specs.Words.{Sizes, Word, PAGE, SIZE, STORE, ENTRY, is_shut, is_lock, kind_of, entry_word, ready, cleaned, was_readied, CLEANUP, held, page_of, is_entry_of}
-use Rattle.nv_core.specs.Passes.{Stage, Leaving, Releasing, Giving, Returning, Robbing, Searching, Readying, Pass, IsUnseized, IsFilling, IsAmong, IsLastTaken, file_of, end_page, times, Unlocking, IsHeld}
-use Rattle.nv_core.specs.Deeds.{Deed, Stays, Comes, moved, move_of, slot_of, page_at, ready_word, Loads, Takes, Gives, Places, Stops, Draws, Seizes, Pledges, Readies, Grows, Breaks, Turns, Hints, Splits, Leaves, Joins, word_of, value_after, Holds, Returns}
-use Rattle.nv_core.specs.Order.{Values, Work, MayTake, MayGive}
+use Rattle.nv_core.specs.Words.{Sizes, Word, CLEANER, PAGE, SIZE, STORE, ENTRY, is_shut, is_lock, kind_of, entry_word, ready, cleaned, was_readied, CLEANUP, held, page_of, is_entry_of}
+use Rattle.nv_core.specs.Passes.{Stage, Leaving, Releasing, Giving, Returning, Robbing, Searching, Readying, Pass, IsUnseized, IsFilling, IsAmong, IsLastTaken, file_of, end_page, times, Unlocking, IsHeld, Cleaning}
+use Rattle.nv_core.specs.Deeds.{Deed, Stays, Comes, moved, move_of, slot_of, page_at, ready_word, Loads, Takes, Gives, Places, Stops, Draws, Seizes, Pledges, Readies, Grows, Breaks, Turns, Hints, Splits, Leaves, Joins, word_of, value_after, Holds, Returns, Tends, chore_move}
+use Rattle.nv_core.specs.Sweeps.{Setting, Dropping, Undoing, Chore, Enters, Looks as LooksAt, Grabs, Yields, Lifts, Drops, Cleans, Subtracts, Frees, Retires, Halts}
+use Rattle.nv_core.specs.Chores.{chore_word, chore_value}
+use Rattle.nv_core.specs.Order.{Values, Work, MayTake, MayGive, MayTend}
 use Rattle.nv_core.specs.Core.{Core, changes, changed, after_step, after_begin, after_work}
 use Rattle.nv_core.specs.Events.{MayFind}
 use Rattle.nv_core.specs.Standing.{StandsAt}
@@ -16,7 +18,9 @@ use Rattle.nv_core.proofs.Changes.{differ, by_number}
 use Rattle.nv_core.proofs.Choices.{if_both, not_both, when_true, when_false}
 use Rattle.nv_core.proofs.LockLaws.{IsFit, locks_move, keyed_same, times_here}
 use Rattle.nv_core.proofs.HoldingLaws.{among_in}
-use Rattle.nv_core.proofs.WordLaws.{given_lock}
+use Rattle.nv_core.proofs.WordLaws.{given_lock, unshut_lock, chore_locks}
+use Rattle.nv_core.proofs.SweepLocks.{yields_held}
+use Rattle.nv_core.proofs.SweepDeeds.{IsTending, IsDropping, Drops_it, Undoes_it, tending, lifts_hand, drops_hand, cleans_hand, frees_hand}
 use Rattle.nv_core.specs.LogWindow.{InWindow, entry_at}
 use Rattle.nv_core.specs.Loaded.{Looks}
 
@@ -59,31 +63,16 @@ one value small some = let ne = eqb-false value 0 some in eq-eqb value 1 (omega 
 zero_shut : (value : ℕ) → (value == 0) ≡ true → (value == 1) ≡ false
 zero_shut value none = let e = eqb-true value 0 none in ne_eqb value 1 (λ is. omega (arith, e, is))
 
-take_fit : (pass : Pass) (cell : Word) (value found : ℕ) → MayTake pass cell → value ≡ found → value ≤ 1
-    → IsFit cell value 1 (if found == 0 then Comes cell else Stays) pass.hands
-take_fit pass cell value found may is small = if_both (λ m. IsFit cell value 1 m pass.hands) (found == 0) (Comes cell) Stays
-    (λ e. (refl, unshut cell may (subst (λ n. (n == 0) ≡ true) (sym is) e), shut cell may)) (λ e. still cell may (subst (λ n. (n == 0) ≡ false) (sym is) e))
-  where
-    unshut : (cell : Word) → MayTake pass cell → (value == 0) ≡ true → is_shut cell value ≡ false
-    unshut (PAGE page) may e = zero_shut value e
-    unshut (SIZE file) may e = zero_shut value e
-    unshut (STORE file) may e = zero_shut value e
-    unshut (CLEANUP page) may e = zero_shut value e
-    unshut cell may e = absurd may
+-- a lock is shut at 1
+lock_shut : (cell : Word) (value : ℕ) → is_lock cell ≡ true → is_shut cell value ≡ (value == 1)
+lock_shut (ENTRY slot) value lock = absurd (not_both lock refl)
+lock_shut cell value lock = ap (λ b. b && value == 1) lock
 
-    shut : (cell : Word) → MayTake pass cell → is_shut cell 1 ≡ true
-    shut (PAGE page) may = refl
-    shut (SIZE file) may = refl
-    shut (STORE file) may = refl
-    shut (CLEANUP page) may = refl
-    shut cell may = absurd may
-
-    still : (cell : Word) → MayTake pass cell → (value == 0) ≡ false → is_shut cell 1 ≡ is_shut cell value
-    still (PAGE page) may e = sym (one value small e)
-    still (SIZE file) may e = sym (one value small e)
-    still (STORE file) may e = sym (one value small e)
-    still (CLEANUP page) may e = sym (one value small e)
-    still cell may e = absurd may
+-- one that is tried
+take_fit : (cell : Word) (value found : ℕ) (hands : List Word) → is_lock cell ≡ true → value ≡ found → value ≤ 1 → IsFit cell value 1 (if found == 0 then Comes cell else Stays) hands
+take_fit cell value found hands lock is small = if_both (λ m. IsFit cell value 1 m hands) (found == 0) (Comes cell) Stays
+    (λ e. (refl, lock_shut cell value lock ∙ zero_shut value (subst (λ n. (n == 0) ≡ true) (sym is) e), lock_shut cell 1 lock))
+    (λ e. lock_shut cell 1 lock ∙ sym (lock_shut cell value lock ∙ one value small (subst (λ n. (n == 0) ≡ false) (sym is) e)))
 
 taken_lock : (pass : Pass) (cell : Word) → MayTake pass cell → is_lock cell ≡ true
 taken_lock pass (PAGE page) may = refl
@@ -91,10 +80,6 @@ taken_lock pass (SIZE file) may = refl
 taken_lock pass (STORE file) may = refl
 taken_lock pass (CLEANUP page) may = refl
 taken_lock pass cell may = absurd may
-
-unshut_lock : (cell : Word) → is_lock cell ≡ true → is_shut cell 0 ≡ false
-unshut_lock (ENTRY slot) lock = refl
-unshut_lock cell lock = refl
 
 -- the kind of an ENTRY word
 pub kind_is : (kind count page : ℕ) → kind < 8 → kind_of (entry_word kind count page) ≡ kind
@@ -133,10 +118,80 @@ return_is page word is =
     let both = entry_is held page word is in let k = both.0 in let p = both.1 in
     and_from (kind_of (word - 1) == ready) (page_of (word - 1) == page) (eq-eqb (kind_of (word - 1)) ready (omega (arith, k))) (eq-eqb (page_of (word - 1)) page (omega (arith, k, p)))
 
+-- a cleaner's steps
+
+-- an entry that it cleans, and one that it makes ready again, are in its hands
+cleans_held : (sizes : Sizes) (first : Values) (by : ℕ) (core : Core) (number : ℕ) → Sound sizes first core → MayTend sizes (core.passes by) (Cleans number) (core.passes by).stage → IsHeld (core.passes by).stage number
+cleans_held sizes first by core number sound may = go t.stage t.made
+  where
+    t : IsTending (core.passes by) (Cleans number)
+    t = tending sizes (core.passes by) (Cleans number) tt may
+
+    go : (core.passes by).stage ≡ Cleaning t.batch t.sweep → (i : ℕ) × (t.sweep ≡ Setting i) × (number ≡ t.batch.reached + i) → IsHeld (core.passes by).stage number
+    go at made =
+        let here : (core.passes by).stage ≡ Cleaning t.batch (Setting made.0) = at ∙ ap (Cleaning t.batch) made.1 in
+        let stands : made.0 < length t.batch.pages = subst (StandsAt sizes (core.passes by)) here (sound.standing by).at in
+        let is = made.2 in subst (λ s. IsHeld s number) (sym here) (omega (arith, is), omega (arith, is, stands))
+
+drops_held : (sizes : Sizes) (first : Values) (by : ℕ) (core : Core) (number : ℕ) → Sound sizes first core → MayTend sizes (core.passes by) (Drops number) (core.passes by).stage → IsHeld (core.passes by).stage number
+drops_held sizes first by core number sound may = go t.stage t.made
+  where
+    t : IsTending (core.passes by) (Drops number)
+    t = tending sizes (core.passes by) (Drops number) tt may
+
+    go : (core.passes by).stage ≡ Cleaning t.batch t.sweep → IsDropping t.batch t.sweep number → IsHeld (core.passes by).stage number
+    go at (Drops_it i end e is) =
+        let here : (core.passes by).stage ≡ Cleaning t.batch (Dropping i end) = at ∙ ap (Cleaning t.batch) e in
+        let stands : (i < end) × (end ≤ length t.batch.pages) = subst (StandsAt sizes (core.passes by)) here (sound.standing by).at in
+        let less = stands.0 in subst (λ s. IsHeld s number) (sym here) (omega (arith, is), omega (arith, is, less))
+    go at (Undoes_it i end e is) =
+        let here : (core.passes by).stage ≡ Cleaning t.batch (Undoing i end) = at ∙ ap (Cleaning t.batch) e in
+        let stands : (i < end) × (end ≤ length t.batch.pages) = subst (StandsAt sizes (core.passes by)) here (sound.standing by).at in
+        let less = stands.0 in subst (λ s. IsHeld s number) (sym here) (omega (arith, is), omega (arith, is, less))
+
+-- and a lock that it gives back
+pub yields_one : (sizes : Sizes) (first : Values) (by : ℕ) (core : Core) (cell : Word) (stage : Stage) → Sound sizes first core → (core.passes by).stage ≡ stage → MayTend sizes (core.passes by) (Yields cell) stage → 1 ≤ times cell (core.passes by).hands
+yields_one sizes first by core cell (Cleaning batch sweep) sound at may =
+    yields_held sizes (core.passes by) batch sweep cell may (subst (StandsAt sizes (core.passes by)) at (sound.standing by).at) (subst (HoldsLocks sizes (core.passes by)) at (sound.holding by).locks)
+yields_one sizes first by core cell stage sound at may = absurd may
+
+chore_fits : (sizes : Sizes) (first : Values) (by : ℕ) (core : Core) (found : ℕ) (chore : Chore) → Sound sizes first core → MayFind sizes by core (Tends chore) found
+    → IsFit (chore_word sizes chore) (core.words (chore_word sizes chore)) (chore_value chore found) (chore_move sizes chore found) (core.passes by).hands
+chore_fits sizes first by core found (Enters most) sound may = take_fit CLEANER (core.words CLEANER) found (core.passes by).hands refl may.is (sound.locks.bit CLEANER refl)
+chore_fits sizes first by core found (LooksAt word) sound may = ap (is_shut word) (sym may.is)
+chore_fits sizes first by core found (Grabs cell) sound may =
+    let lock = chore_locks sizes (core.passes by) (Grabs cell) (core.passes by).stage may.may in take_fit cell (core.words cell) found (core.passes by).hands lock may.is (sound.locks.bit cell lock)
+chore_fits sizes first by core found (Yields cell) sound may =
+    (refl, yields_one sizes first by core cell (core.passes by).stage sound refl may.may, unshut_lock cell (chore_locks sizes (core.passes by) (Yields cell) (core.passes by).stage may.may))
+chore_fits sizes first by core found (Lifts number) sound may =
+    let kind = (lifts_hand sizes first core sound by found number may).kind_is in let is = may.is in
+    (refl, unshut_entry (slot_of sizes number) (entry_at sizes core number) (λ e. omega (arith, e, kind)) (λ e. omega (arith, e, kind)), shut_entry (slot_of sizes number) (found + 1) (omega (arith, kind, is)))
+chore_fits sizes first by core found (Drops number) sound may =
+    let kind = (drops_hand sizes first core sound by found number may).kind_is in let is = may.is in
+    let once = (sound.holding by).held number (drops_held sizes first by core number sound may.may) in
+    (refl, omega (arith, once), unshut_entry (slot_of sizes number) (found - 1) (λ e. omega (arith, e, kind, is)) (λ e. omega (arith, e, kind, is)))
+chore_fits sizes first by core found (Cleans number) sound may =
+    let kind = (cleans_hand sizes first core sound by found number may).kind_is in let is = may.is in
+    let once = (sound.holding by).held number (cleans_held sizes first by core number sound may.may) in
+    (refl, omega (arith, once), unshut_entry (slot_of sizes number) (found + 1) (λ e. omega (arith, e, kind, is)) (λ e. omega (arith, e, kind, is)))
+chore_fits sizes first by core found (Subtracts page) sound may = refl
+chore_fits sizes first by core found (Frees number) sound may =
+    let kind = (frees_hand sizes first core sound by found number may).kind_is in
+    sym (unshut_entry (slot_of sizes number) (entry_at sizes core number) (λ e. omega (arith, e, kind)) (λ e. omega (arith, e, kind)))
+chore_fits sizes first by core found (Retires tail) sound may = refl
+chore_fits sizes first by core found Halts sound may = refl
+
+chore_bits : (sizes : Sizes) (first : Values) (by : ℕ) (core : Core) (found : ℕ) (chore : Chore) → Sound sizes first core → MayFind sizes by core (Tends chore) found → is_lock (chore_word sizes chore) ≡ true → chore_value chore found ≤ 1
+chore_bits sizes first by core found (Enters most) sound may lock = omega arith
+chore_bits sizes first by core found (LooksAt word) sound may lock = subst (λ n. n ≤ 1) may.is (sound.locks.bit word lock)
+chore_bits sizes first by core found (Grabs cell) sound may lock = omega arith
+chore_bits sizes first by core found (Yields cell) sound may lock = omega arith
+chore_bits sizes first by core found chore sound may lock = absurd (not_both lock refl)
+
 fits : (sizes : Sizes) (first : Values) (by : ℕ) (core : Core) (found : ℕ) (deed : Deed) → Sound sizes first core → MayFind sizes by core deed found
     → IsFit (word_of sizes (core.passes by) deed) (core.words (word_of sizes (core.passes by) deed)) (value_after sizes (core.passes by) deed found) (move_of sizes deed found) (core.passes (changes by core.made deed)).hands
 fits sizes first by core found (Loads word) sound may = ap (is_shut word) (sym may.is)
-fits sizes first by core found (Takes cell) sound may = take_fit (core.passes by) cell (core.words cell) found may.may may.is (sound.locks.bit cell (taken_lock (core.passes by) cell may.may))
+fits sizes first by core found (Takes cell) sound may = take_fit cell (core.words cell) found (core.passes by).hands (taken_lock (core.passes by) cell may.may) may.is (sound.locks.bit cell (taken_lock (core.passes by) cell may.may))
 fits sizes first by core found (Gives cell) sound may =
     (refl, given_held sizes (core.passes by) cell (core.passes by).stage (sound.standing by).at (sound.holding by).locks may.may, unshut_lock cell (given_lock (core.passes by) cell (core.passes by).stage may.may))
 fits sizes first by core found (Places reply) sound may = refl
@@ -173,6 +228,7 @@ fits sizes first by core found (Returns next) sound may =
     (refl, omega (arith, one), unshut_entry (slot_of sizes next) (found - 1) (λ e. omega (arith, e, kind, is)) (λ e. omega (arith, e, kind, is)))
 fits sizes first by core found (Turns page) sound may = refl
 fits sizes first by core found (Hints buffer page) sound may = refl
+fits sizes first by core found (Tends chore) sound may = chore_fits sizes first by core found chore sound may
 fits sizes first by core found Splits sound may = refl
 fits sizes first by core found (Leaves cell) sound may = refl
 fits sizes first by core found (Joins number) sound may = refl
@@ -185,6 +241,7 @@ bits : (sizes : Sizes) (first : Values) (by : ℕ) (core : Core) (found : ℕ) (
 bits sizes first by core found (Loads word) sound may lock = subst (λ n. n ≤ 1) may.is (sound.locks.bit word lock)
 bits sizes first by core found (Takes cell) sound may lock = omega arith
 bits sizes first by core found (Gives cell) sound may lock = omega arith
+bits sizes first by core found (Tends chore) sound may lock = chore_bits sizes first by core found chore sound may lock
 bits sizes first by core found deed sound may lock = absurd (not_both lock refl)
 
 pub locks_step : (sizes : Sizes) (first : Values) (by : ℕ) (core : Core) (deed : Deed) (found : ℕ) → Sound sizes first core → MayFind sizes by core deed found → Locks (after_step sizes by deed found core)

@@ -1,18 +1,24 @@
 -- Each event keeps what the ENTRY words say.
 use Rattle.std.proofs.Common.{◌≡◌, ◌≢◌, ◌⊎◌, ℕ, ◌+◌, ◌<◌, ◌≤◌, ◌==◌, Bool, true, false, if◌then◌else◌, length, inl, inr, refl, sym, ap, subst, ◌∙◌, arith, ap₂, ◌-◌}
-use Rattle.std.proofs.lemmas.Bool.{eqb-true, eqb-false, cases_eq}
+use Rattle.std.proofs.lemmas.Bool.{eqb-true, eqb-false, cases_eq, cases_lt}
+use Rattle.std.proofs.lemmas.Nat.{mod_below}
 use Rattle.nv_plain.specs.declared.call.FileCall.{FileCall}
-use Rattle.nv_core.specs.Words.{Sizes, Word, HEAD, TAIL, ENTRY, kind_of, free, filling, broken, index, was_readied}
-use Rattle.nv_core.specs.Values.{Ending, Made, Failed}
-use Rattle.nv_core.specs.Passes.{Stage, Locking, Checking, Copying, Seizing, Committing, Pledging, Readying, Placing, ReadFailing, WriteFailing, Breaking, Pass, IsUnseized, IsFilling, IsAmong, is_write, page_count, first_page, end_page, without, PieceFailing, Patching}
-use Rattle.nv_core.specs.Deeds.{Deed, slot_of, page_at, ready_word, Loads, Takes, Gives, Places, Stops, Draws, Seizes, Pledges, Readies, Grows, Breaks, Splits, Leaves, Joins, Turns, Hints, Holds, Returns}
+use Rattle.nv_core.specs.Words.{Sizes, Word, HEAD, TAIL, ENTRY, kind_of, free, filling, ready, held, cleaned, broken, index, was_readied, is_entry_of}
+use Rattle.nv_core.specs.Values.{Ending, Made, Failed, Refused}
+use Rattle.nv_core.specs.Passes.{Stage, Locking, Checking, Copying, Seizing, Committing, Pledging, Readying, Placing, ReadFailing, WriteFailing, Breaking, Pass, IsUnseized, IsFilling, IsAmong, is_write, page_count, first_page, end_page, without, PieceFailing, Patching, Cleaning}
+use Rattle.nv_core.specs.Deeds.{Deed, slot_of, page_at, ready_word, Loads, Takes, Gives, Places, Stops, Draws, Seizes, Pledges, Readies, Grows, Breaks, Splits, Leaves, Joins, Turns, Hints, Holds, Returns, Tends}
 use Rattle.nv_core.specs.Stages.{stage_after, after_stop, leaving}
 use Rattle.nv_core.specs.Stepped.{begun}
 use Rattle.nv_core.specs.Order.{Values, Work, MayWork, IsDue, IsFailing, commit_steps, MayStep}
 use Rattle.nv_core.specs.Core.{Core, changes, changed, with_word, after_step, after_begin, after_work, worked, stage_worked}
-use Rattle.nv_core.specs.Events.{MayFind}
+use Rattle.nv_core.specs.Events.{MayFind, MayBegin}
 use Rattle.nv_core.specs.Standing.{StandsAt, HasDrawn, IsSmall, HasRoom}
-use Rattle.nv_core.specs.LogWindow.{HasUnseized, InWindow, entry_at}
+use Rattle.nv_core.specs.Sweeps.{Setting, Freeing, Lifts, Drops, Cleans, Frees, Retires}
+use Rattle.nv_core.specs.SweepNumbers.{IsFreed}
+use Rattle.nv_core.specs.Holding.{is_among}
+use Rattle.nv_core.specs.Loaded.{Looks}
+use Rattle.nv_core.specs.Progress.{Progress}
+use Rattle.nv_core.specs.LogWindow.{HasUnseized, InWindow, entry_at, WasReadied}
 use Rattle.nv_core.specs.Groups.{Group, Log, group_of, with_group, log_stepped, log_worked, HasGroup, IsOwn, Groups}
 use Rattle.nv_core.specs.Pieces.{word_of_number, IsReadied, Pieces, page_of_number}
 use Rattle.nv_core.specs.Sound.{Sound}
@@ -21,10 +27,16 @@ use Rattle.nv_core.proofs.Choices.{if_both, when_true, when_false, not_both}
 use Rattle.nv_core.proofs.ClearLaws.{IsClear, IsPlain, clear_to, clear_leaving}
 use Rattle.nv_core.proofs.PageLaws.{write_pages}
 use Rattle.nv_core.proofs.WordLaws.{untouched, touches}
-use Rattle.nv_core.proofs.KeepsLocks.{kind_is, ready_is}
+use Rattle.nv_core.proofs.KeepsLocks.{kind_is, ready_is, entry_is}
 use Rattle.nv_core.proofs.WindowLaws.{apart_within}
 use Rattle.nv_core.proofs.KeepsWindow.{window_step}
-use Rattle.nv_core.proofs.KeepsGroups.{group_old, which, log_group}
+use Rattle.nv_core.proofs.KeepsGroups.{group_old, which, log_group, among_below, groups_step}
+use Rattle.nv_core.proofs.SlotLaws.{apart}
+use Rattle.nv_core.proofs.StandingLaws.{worked_stage}
+use Rattle.nv_core.proofs.SweepStages.{swept_worked}
+use Rattle.nv_core.proofs.SweepDeeds.{IsAtFree, IsTending, tending, lifts_hand, drops_hand, cleans_hand, frees_hand, retires_hand}
+use Rattle.nv_core.proofs.SweepReadied.{lifts_rekind, drops_rekind, cleans_rekind}
+use Rattle.nv_core.proofs.ReadiedLaws.{readied_still, begun_still, worked_still}
 use Rattle.nv_core.proofs.Rekinded.{IsRekinded, holds_rekind, returns_rekind, rekind_still, rekind_before}
 
 clear_readied : (stage : Stage) (first entries n : ℕ) → IsClear stage → IsReadied stage first entries n → ⊥
@@ -35,13 +47,25 @@ clear_readied stage first entries n clear is = is
 same_says : (sizes : Sizes) {now was : ℕ} (group : Group) (number : ℕ) → now ≡ was → was ≡ word_of_number sizes group (kind_of was) number → now ≡ word_of_number sizes group (kind_of now) number
 same_says sizes group number e says = e ∙ says ∙ ap (λ w. word_of_number sizes group (kind_of w) number) (sym e)
 
+-- all of it but what it says of the leaders of cleaned entries
+record Said (sizes : Sizes) (log : Log) (core : Core) : Type 0 where
+  says : (number : ℕ) → InWindow core number → was_readied (entry_at sizes core number) ≡ true
+      → entry_at sizes core number ≡ word_of_number sizes (log.group number) (kind_of (entry_at sizes core number)) number
+  followers : (number other : ℕ) → InWindow core number → (log.group number).first ≡ number → was_readied (entry_at sizes core number) ≡ true
+      → IsAmong number (log.group number).entries other → was_readied (entry_at sizes core other) ≡ true
+  readied : (by number : ℕ) → IsReadied (core.passes by).stage (core.passes by).first (core.passes by).entries number
+      → was_readied (entry_at sizes core number) ≡ true
+
 -- ---- no entry becomes ready, and none ceases to be
 
-module _ (sizes : Sizes) (log : Log) (core now : Core) (head : now.words HEAD ≡ core.words HEAD) (tail : now.words TAIL ≡ core.words TAIL) where
+back : (core now : Core) → now.words HEAD ≡ core.words HEAD → now.words TAIL ≡ core.words TAIL → (n : ℕ) → InWindow now n → InWindow core n
+back core now head tail n is = (subst (λ t. t ≤ n) tail is.0, subst (λ h. n < h) head is.1)
+
+module _ (sizes : Sizes) (log : Log) (core now : Core) (was : (n : ℕ) → InWindow now n → InWindow core n) where
   pieces_kept : ((slot : ℕ) → was_readied (now.words (ENTRY slot)) ≡ true → now.words (ENTRY slot) ≡ core.words (ENTRY slot))
       → ((slot : ℕ) → was_readied (core.words (ENTRY slot)) ≡ true → now.words (ENTRY slot) ≡ core.words (ENTRY slot))
       → ((by n : ℕ) → IsReadied (now.passes by).stage (now.passes by).first (now.passes by).entries n → was_readied (entry_at sizes core n) ≡ true)
-      → Pieces sizes log core → Pieces sizes log now
+      → Pieces sizes log core → Said sizes log now
   pieces_kept same still readied pieces = record {
     says = λ n is kind. let e = same (slot_of sizes n) kind in same_says sizes (log.group n) n e (pieces.says n (was n is) (ap was_readied (sym e) ∙ kind));
     followers = λ n other is leads kind among. let e = same (slot_of sizes n) kind in
@@ -49,9 +73,6 @@ module _ (sizes : Sizes) (log : Log) (core now : Core) (head : now.words HEAD �
     readied = λ by n is. stays (slot_of sizes n) (readied by n is);
   }
     where
-      was : (n : ℕ) → InWindow now n → InWindow core n
-      was n is = (subst (λ t. t ≤ n) tail is.0, subst (λ h. n < h) head is.1)
-
       stays : (slot : ℕ) → was_readied (core.words (ENTRY slot)) ≡ true → was_readied (now.words (ENTRY slot)) ≡ true
       stays slot is = ap was_readied (still slot is) ∙ is
 
@@ -65,9 +86,9 @@ readied_now sizes log by core deed found pieces here = by_number (λ other (p : 
 plain_step : (sizes : Sizes) (log : Log) (by : ℕ) (core : Core) (deed : Deed) (found : ℕ) → Pieces sizes log core → MayFind sizes by core deed found
     → touches deed HEAD ≡ false → touches deed TAIL ≡ false → ((slot : ℕ) → touches deed (ENTRY slot) ≡ false)
     → ((n : ℕ) → IsReadied (changed sizes by core deed found).stage (changed sizes by core deed found).first (changed sizes by core deed found).entries n → was_readied (entry_at sizes core n) ≡ true)
-    → Pieces sizes log (after_step sizes by deed found core)
+    → Said sizes log (after_step sizes by deed found core)
 plain_step sizes log by core deed found pieces may head tail entry here =
-    pieces_kept sizes log core (after_step sizes by deed found core) (untouched sizes by core deed found may HEAD head) (untouched sizes by core deed found may TAIL tail)
+    pieces_kept sizes log core (after_step sizes by deed found core) (back core (after_step sizes by deed found core) (untouched sizes by core deed found may HEAD head) (untouched sizes by core deed found may TAIL tail))
     (λ slot _. untouched sizes by core deed found may (ENTRY slot) (entry slot)) (λ slot _. untouched sizes by core deed found may (ENTRY slot) (entry slot)) (readied_now sizes log by core deed found pieces here) pieces
 
 none_readied : (sizes : Sizes) (core : Core) (by found number : ℕ) (deed : Deed) → IsPlain deed → MayStep sizes core.values (core.passes by) deed
@@ -78,11 +99,11 @@ none_readied sizes core by found number deed plain may n is = absurd (clear_read
 entry_step : (sizes : Sizes) (log : Log) (by : ℕ) (core : Core) (deed : Deed) (found slot value : ℕ) → Pieces sizes log core
     → (after_step sizes by deed found core).words ≡ with_word core.words (ENTRY slot) value → was_readied value ≢ true → was_readied (core.words (ENTRY slot)) ≢ true
     → ((n : ℕ) → IsReadied (changed sizes by core deed found).stage (changed sizes by core deed found).first (changed sizes by core deed found).entries n → was_readied (entry_at sizes core n) ≡ true)
-    → Pieces sizes log (after_step sizes by deed found core)
+    → Said sizes log (after_step sizes by deed found core)
 entry_step sizes log by core deed found slot value pieces words not_now not_before here =
     pieces_kept sizes log core (after_step sizes by deed found core)
-    (ap (λ w. w HEAD) words ∙ word_else core.words (ENTRY slot) value HEAD (differ HEAD (ENTRY slot) refl))
-    (ap (λ w. w TAIL) words ∙ word_else core.words (ENTRY slot) value TAIL (differ TAIL (ENTRY slot) refl))
+    (back core (after_step sizes by deed found core) (ap (λ w. w HEAD) words ∙ word_else core.words (ENTRY slot) value HEAD (differ HEAD (ENTRY slot) refl))
+    (ap (λ w. w TAIL) words ∙ word_else core.words (ENTRY slot) value TAIL (differ TAIL (ENTRY slot) refl)))
     (λ other is. ap (λ w. w (ENTRY other)) words ∙ now (ENTRY other) (ap (λ w. was_readied (w (ENTRY other))) (sym words) ∙ is))
     (λ other is. ap (λ w. w (ENTRY other)) words ∙ before (ENTRY other) is)
     (readied_now sizes log by core deed found pieces here) pieces
@@ -97,7 +118,7 @@ entry_step sizes log by core deed found slot value pieces words not_now not_befo
 rekind_step : (sizes : Sizes) (first : Values) (log : Log) (by : ℕ) (core : Core) (deed : Deed) (found next value : ℕ) → Sound sizes first core → Pieces sizes log core
     → (after_step sizes by deed found core).words ≡ with_word core.words (ENTRY (slot_of sizes next)) value → IsRekinded sizes core next value
     → ((n : ℕ) → IsReadied (changed sizes by core deed found).stage (changed sizes by core deed found).first (changed sizes by core deed found).entries n → was_readied (entry_at sizes core n) ≡ true)
-    → Pieces sizes log (after_step sizes by deed found core)
+    → Said sizes log (after_step sizes by deed found core)
 rekind_step sizes first log by core deed found next value sound pieces words rekinded here = record {
   says = λ n is kind. elim (cases_eq n next) [
     | inl same ↦ subst (λ m. entry_at sizes now m ≡ word_of_number sizes (log.group m) (kind_of (entry_at sizes now m)) m) (sym same)
@@ -192,7 +213,7 @@ module _ (sizes : Sizes) (first : Values) (log : Log) (by : ℕ) (core : Core) (
     | inr ne ↦ stays_ready other (own other among).within (readied_was other (among, λ e. ne (e ∙ sym leader), inr leader))
   ]
 
-  ready_step : Pieces sizes log now
+  ready_step : Said sizes log now
   ready_step = record {
     says = λ n is kind. elim (cases_eq n next) [
       | inl same ↦ subst (λ m. entry_at sizes now m ≡ word_of_number sizes (log.group m) (kind_of (entry_at sizes now m)) m) (sym same)
@@ -235,7 +256,7 @@ module _ (sizes : Sizes) (first : Values) (log : Log) (by : ℕ) (core : Core) (
 -- ---- numbers are drawn
 
 draw_step : (sizes : Sizes) (first : Values) (log : Log) (by : ℕ) (core : Core) (found : ℕ) → Sound sizes first core → Groups sizes core log → Pieces sizes log core → MayFind sizes by core Draws found
-    → Pieces sizes (log_stepped sizes (core.passes by) Draws found log) (after_step sizes by Draws found core)
+    → Said sizes (log_stepped sizes (core.passes by) Draws found log) (after_step sizes by Draws found core)
 draw_step sizes first log by core found sound groups pieces may = go (found == (core.passes by).head) refl
   where
     group : Group
@@ -245,11 +266,11 @@ draw_step sizes first log by core found sound groups pieces may = go (found == (
     none n is = absurd (if_both (λ s. IsReadied s (changed sizes by core Draws found).first (changed sizes by core Draws found).entries n → ⊥) (found == (core.passes by).head) (Seizing found) (leaving (core.passes by).hands) (λ _ z. z)
         (λ _. clear_readied (leaving (core.passes by).hands) (changed sizes by core Draws found).first (changed sizes by core Draws found).entries n (clear_leaving (core.passes by).hands)) is)
 
-    go : (b : Bool) → (found == (core.passes by).head) ≡ b → Pieces sizes (log_stepped sizes (core.passes by) Draws found log) (after_step sizes by Draws found core)
-    go false e = subst (λ l. Pieces sizes l (after_step sizes by Draws found core)) (sym (when_false (found == (core.passes by).head) (with_group group log) log e))
-        (pieces_kept sizes log core (after_step sizes by Draws found core) (word_here core.words HEAD _ ∙ when_false (found == (core.passes by).head) (found + page_count sizes (core.passes by).call) found e ∙ sym may.is) refl
+    go : (b : Bool) → (found == (core.passes by).head) ≡ b → Said sizes (log_stepped sizes (core.passes by) Draws found log) (after_step sizes by Draws found core)
+    go false e = subst (λ l. Said sizes l (after_step sizes by Draws found core)) (sym (when_false (found == (core.passes by).head) (with_group group log) log e))
+        (pieces_kept sizes log core (after_step sizes by Draws found core) (back core (after_step sizes by Draws found core) (word_here core.words HEAD _ ∙ when_false (found == (core.passes by).head) (found + page_count sizes (core.passes by).call) found e ∙ sym may.is) refl)
         (λ slot _. refl) (λ slot _. refl) (readied_now sizes log by core Draws found pieces none) pieces)
-    go true e = subst (λ l. Pieces sizes l (after_step sizes by Draws found core)) (sym (when_true (found == (core.passes by).head) (with_group group log) log e)) won
+    go true e = subst (λ l. Said sizes l (after_step sizes by Draws found core)) (sym (when_true (found == (core.passes by).head) (with_group group log) log e)) won
       where
         head : (after_step sizes by Draws found core).words HEAD ≡ core.words HEAD + page_count sizes (core.passes by).call
         head = word_here core.words HEAD _ ∙ when_true (found == (core.passes by).head) (found + page_count sizes (core.passes by).call) found e ∙ ap (λ f. f + page_count sizes (core.passes by).call) (sym may.is)
@@ -284,7 +305,7 @@ draw_step sizes first log by core found sound groups pieces may = go (found == (
             (is.0, subst (λ f. n < f + (changed sizes by core Draws found).entries) (sym from) (subst (λ c. n < found + c) (sym many) is.1)))) in
             not_both (ap was_readied (sym none) ∙ kind) refl
 
-        won : Pieces sizes (with_group group log) (after_step sizes by Draws found core)
+        won : Said sizes (with_group group log) (after_step sizes by Draws found core)
         won = record {
           says = λ n is kind. elim (split n is) [
             | inl was ↦ pieces.says n was kind ∙ ap (λ g. word_of_number sizes g (kind_of (entry_at sizes core n)) n) (sym (old n was.1))
@@ -297,6 +318,77 @@ draw_step sizes first log by core found sound groups pieces may = go (found == (
           readied = readied_now sizes log by core Draws found pieces none;
         }
 
+-- ---- an entry is freed
+
+module _ (sizes : Sizes) (first : Values) (log : Log) (by : ℕ) (core : Core) (found next : ℕ) (sound : Sound sizes first core) (groups : Groups sizes core log) (pieces : Pieces sizes log core) (may : MayFind sizes by core (Tends (Frees next)) found) where
+  free_hand : IsAtFree sizes first core sound by next
+  free_hand = frees_hand sizes first core sound by found next may
+
+  free_tail : free_hand.batch.tail ≡ core.words TAIL
+  free_tail = (sound.grouped.progress.each by free_hand.batch (Freeing next) free_hand.stage tt).tail
+
+  abbrev freed_now : Core
+  freed_now = after_step sizes by (Tends (Frees next)) found core
+
+  free_back : (n : ℕ) → InWindow freed_now n → InWindow core n
+  free_back = back core freed_now (word_else core.words (ENTRY (slot_of sizes next)) free HEAD (differ HEAD (ENTRY (slot_of sizes next)) refl)) (word_else core.words (ENTRY (slot_of sizes next)) free TAIL (differ TAIL (ENTRY (slot_of sizes next)) refl))
+
+  free_here : entry_at sizes freed_now next ≡ free
+  free_here = word_here core.words (ENTRY (slot_of sizes next)) free
+
+  free_apart : (n : ℕ) → InWindow core n → n ≢ next → entry_at sizes freed_now n ≡ entry_at sizes core n
+  free_apart n is ne = word_else core.words (ENTRY (slot_of sizes next)) free (ENTRY (slot_of sizes n)) (λ e. apart_within sizes core sound.window n next is free_hand.within ne (ap index e))
+
+  -- one that is ready still is another
+  free_other : (n : ℕ) → was_readied (entry_at sizes freed_now n) ≡ true → n ≢ next
+  free_other n kind same = not_both (ap was_readied (sym (ap (entry_at sizes freed_now) same ∙ free_here)) ∙ kind) refl
+
+  -- the leader of the freed entry was freed before
+  free_leader : (n : ℕ) → InWindow core n → was_readied (entry_at sizes core n) ≡ true → n < next → ⊥
+  free_leader n is kind less =
+      let t = free_tail in let l = is.0 in
+      let freed : IsFreed (core.passes by).stage n = subst (λ s. IsFreed s n) (sym free_hand.stage) (omega (arith, t, l), less) in
+      not_both (ap was_readied (sym (sound.window.freed_is by n freed)) ∙ kind) refl
+
+  -- and no pass is still to make its leader ready
+  free_readied : (other n : ℕ) → IsReadied (core.passes other).stage (core.passes other).first (core.passes other).entries n → n ≢ next
+  free_readied other n is same =
+      let r = among_readied (core.passes other).stage (core.passes other).first (core.passes other).entries n is in
+      let own = groups.own other r.0 n r.1.0 in
+      let first_is : (log.group next).first ≡ (core.passes other).first = ap (λ m. (log.group m).first) (sym same) ∙ ap (λ g. g.first) own.group in
+      let fills = sound.window.filling_is other (core.passes other).first r.1.1 in
+      let e : entry_at sizes core (log.group next).first ≡ filling = ap (entry_at sizes core) first_is ∙ fills in
+      elim (pieces.leaders next free_hand.within free_hand.kind_is) [
+        | inl kind ↦ not_both (ap was_readied (sym e) ∙ kind) refl
+        | inr freed ↦ (let z = sound.window.freed_is freed.0 (log.group next).first freed.1 in omega (arith, z, e))
+      ]
+    where
+      among_readied : (stage : Stage) (from count n : ℕ) → IsReadied stage from count n → HasGroup stage × (IsAmong from count n × IsFilling stage from count from)
+      among_readied (Readying m) from count n is = (tt, (is.0, inl refl))
+      among_readied stage from count n is = absurd is
+
+  free_step : Said sizes log freed_now
+  free_step = record {
+    says = λ n is kind. let e = free_apart n (free_back n is) (free_other n kind) in same_says sizes (log.group n) n e (pieces.says n (free_back n is) (ap was_readied (sym e) ∙ kind));
+    followers = λ n other is leads kind among.
+        let w = free_back n is in let e = free_apart n w (free_other n kind) in let was = ap was_readied (sym e) ∙ kind in
+        let h = (groups.each n w).high in let t = w.0 in let a = among.0 in let b = among.1 in
+        elim (cases_eq other next) [
+          | inl same ↦ absurd (free_leader n w was (let ne = free_other n kind in omega (arith, a, same, ne)))
+          | inr ne ↦ ap was_readied (free_apart other (omega (arith, t, a), omega (arith, h, leads, b)) ne) ∙ pieces.followers n other w leads was among
+        ];
+    readied = by_number (λ other (p : Pass). (n : ℕ) → IsReadied p.stage p.first p.entries n → was_readied (entry_at sizes freed_now n) ≡ true) core.passes by (changed sizes by core (Tends (Frees next)) found)
+        (λ n is. absurd (clear_readied (stage_after sizes (core.passes by) (Tends (Frees next)) found) (core.passes by).first (core.passes by).entries n (clear_to sizes core.values (core.passes by) (Tends (Frees next)) found tt may.may) is))
+        (λ other ne n is. ap was_readied (free_apart n (within other n is) (free_readied other n is)) ∙ pieces.readied other n is);
+  }
+    where
+      within : (other n : ℕ) → IsReadied (core.passes other).stage (core.passes other).first (core.passes other).entries n → InWindow core n
+      within other n is = let r = has (core.passes other).stage (core.passes other).first (core.passes other).entries n is in (groups.own other r.0 n r.1).within
+        where
+          has : (stage : Stage) (from count n : ℕ) → IsReadied stage from count n → HasGroup stage × IsAmong from count n
+          has (Readying m) from count n is = (tt, is.0)
+          has stage from count n is = absurd is
+
 -- ---- all steps
 
 stop_readied : (pass : Pass) (stage : Stage) (n : ℕ) → IsFailing stage → IsReadied (after_stop pass stage) pass.first pass.entries n → ⊥
@@ -305,48 +397,188 @@ stop_readied one (ReadFailing page dirty) n is readied = clear_readied (leaving 
 stop_readied one WriteFailing n is readied = readied
 stop_readied one stage n is readied = is
 
-pub pieces_step : (sizes : Sizes) (first : Values) (log : Log) (by : ℕ) (core : Core) (deed : Deed) (found : ℕ) → Sound sizes first core → Groups sizes core log → Pieces sizes log core → MayFind sizes by core deed found
-    → Pieces sizes (log_stepped sizes (core.passes by) deed found log) (after_step sizes by deed found core)
-pieces_step sizes first log by core (Loads word) found sound groups pieces may = plain_step sizes log by core (Loads word) found pieces may refl refl (λ slot. refl) (none_readied sizes core by found by (Loads word) tt may.may)
-pieces_step sizes first log by core (Takes cell) found sound groups pieces may = plain_step sizes log by core (Takes cell) found pieces may refl refl (λ slot. refl) (none_readied sizes core by found by (Takes cell) tt may.may)
-pieces_step sizes first log by core (Gives cell) found sound groups pieces may = plain_step sizes log by core (Gives cell) found pieces may refl refl (λ slot. refl) (none_readied sizes core by found by (Gives cell) tt may.may)
-pieces_step sizes first log by core (Places reply) found sound groups pieces may = plain_step sizes log by core (Places reply) found pieces may refl refl (λ slot. refl) (none_readied sizes core by found by (Places reply) tt may.may)
-pieces_step sizes first log by core Grows found sound groups pieces may = plain_step sizes log by core Grows found pieces may refl refl (λ slot. refl) (none_readied sizes core by found by Grows tt may.may)
-pieces_step sizes first log by core (Turns page) found sound groups pieces may = plain_step sizes log by core (Turns page) found pieces may refl refl (λ slot. refl) (none_readied sizes core by found by (Turns page) tt may.may)
-pieces_step sizes first log by core (Hints buffer page) found sound groups pieces may = plain_step sizes log by core (Hints buffer page) found pieces may refl refl (λ slot. refl) (none_readied sizes core by found by (Hints buffer page) tt may.may)
-pieces_step sizes first log by core Stops found sound groups pieces may = plain_step sizes log by core Stops found pieces may refl refl (λ slot. refl) (λ n is. absurd (stop_readied (core.passes by) (core.passes by).stage n may.may is))
-pieces_step sizes first log by core Draws found sound groups pieces may = draw_step sizes first log by core found sound groups pieces may
-pieces_step sizes first log by core (Seizes next) found sound groups pieces may =
+said_step : (sizes : Sizes) (first : Values) (log : Log) (by : ℕ) (core : Core) (deed : Deed) (found : ℕ) → Sound sizes first core → Groups sizes core log → Pieces sizes log core → MayFind sizes by core deed found
+    → Said sizes (log_stepped sizes (core.passes by) deed found log) (after_step sizes by deed found core)
+said_step sizes first log by core (Loads word) found sound groups pieces may = plain_step sizes log by core (Loads word) found pieces may refl refl (λ slot. refl) (none_readied sizes core by found by (Loads word) tt may.may)
+said_step sizes first log by core (Takes cell) found sound groups pieces may = plain_step sizes log by core (Takes cell) found pieces may refl refl (λ slot. refl) (none_readied sizes core by found by (Takes cell) tt may.may)
+said_step sizes first log by core (Gives cell) found sound groups pieces may = plain_step sizes log by core (Gives cell) found pieces may refl refl (λ slot. refl) (none_readied sizes core by found by (Gives cell) tt may.may)
+said_step sizes first log by core (Places reply) found sound groups pieces may = plain_step sizes log by core (Places reply) found pieces may refl refl (λ slot. refl) (none_readied sizes core by found by (Places reply) tt may.may)
+said_step sizes first log by core Grows found sound groups pieces may = plain_step sizes log by core Grows found pieces may refl refl (λ slot. refl) (none_readied sizes core by found by Grows tt may.may)
+said_step sizes first log by core (Turns page) found sound groups pieces may = plain_step sizes log by core (Turns page) found pieces may refl refl (λ slot. refl) (none_readied sizes core by found by (Turns page) tt may.may)
+said_step sizes first log by core (Hints buffer page) found sound groups pieces may = plain_step sizes log by core (Hints buffer page) found pieces may refl refl (λ slot. refl) (none_readied sizes core by found by (Hints buffer page) tt may.may)
+said_step sizes first log by core Stops found sound groups pieces may = plain_step sizes log by core Stops found pieces may refl refl (λ slot. refl) (λ n is. absurd (stop_readied (core.passes by) (core.passes by).stage n may.may is))
+said_step sizes first log by core Draws found sound groups pieces may = draw_step sizes first log by core found sound groups pieces may
+said_step sizes first log by core (Seizes next) found sound groups pieces may =
     let at : HasDrawn sizes (core.passes by).call (core.passes by).entries × IsAmong (core.passes by).first (core.passes by).entries next = subst (StandsAt sizes (core.passes by)) may.may (sound.standing by).at in
     let old : entry_at sizes core next ≡ free = sound.window.unseized_is by next (subst (λ s. IsUnseized s (core.passes by).first (core.passes by).entries next) (sym may.may) (omega arith, at.1.1)) in
     entry_step sizes log by core (Seizes next) found (slot_of sizes next) filling pieces refl (λ e. not_both e refl) (λ e. not_both (ap was_readied (sym old) ∙ e) refl)
     (λ n. if_both (λ s. IsReadied s (core.passes by).first (core.passes by).entries n → was_readied (entry_at sizes core n) ≡ true) (next + 1 == (core.passes by).first + (core.passes by).entries) (Committing 0) (Seizing (next + 1)) (λ _ z. absurd z) (λ _ z. absurd z))
-pieces_step sizes first log by core (Pledges page) found sound groups pieces may = plain_step sizes log by core (Pledges page) found pieces may refl refl (λ slot. refl)
+said_step sizes first log by core (Pledges page) found sound groups pieces may = plain_step sizes log by core (Pledges page) found pieces may refl refl (λ slot. refl)
     (λ n. if_both (λ s. IsReadied s (core.passes by).first (core.passes by).entries n → was_readied (entry_at sizes core n) ≡ true) (page + 1 == end_page sizes (core.passes by).call) (Readying (if (core.passes by).entries == 1 then (core.passes by).first else (core.passes by).first + 1)) (Pledging (page + 1))
     (λ _ z. absurd (pledged_none (core.passes by).first (core.passes by).entries n z)) (λ _ z. absurd z))
-pieces_step sizes first log by core (Readies next) found sound groups pieces may = ready_step sizes first log by core found next sound groups pieces may
-pieces_step sizes first log by core (Breaks next) found sound groups pieces may =
+said_step sizes first log by core (Readies next) found sound groups pieces may = ready_step sizes first log by core found next sound groups pieces may
+said_step sizes first log by core (Breaks next) found sound groups pieces may =
     let at : HasDrawn sizes (core.passes by).call (core.passes by).entries × IsAmong (core.passes by).first (core.passes by).entries next = subst (StandsAt sizes (core.passes by)) may.may (sound.standing by).at in
     let old : entry_at sizes core next ≡ filling = sound.window.filling_is by next (subst (λ s. IsFilling s (core.passes by).first (core.passes by).entries next) (sym may.may) (omega arith, at.1.1)) in
     entry_step sizes log by core (Breaks next) found (slot_of sizes next) broken pieces refl (λ e. not_both e refl) (λ e. not_both (ap was_readied (sym old) ∙ e) refl)
     (λ n. if_both (λ s. IsReadied s (core.passes by).first (core.passes by).entries n → was_readied (entry_at sizes core n) ≡ true) (next + 1 == (core.passes by).first + (core.passes by).entries)
     (leaving (without (ENTRY (slot_of sizes next)) (core.passes by).hands)) (Breaking (next + 1))
     (λ _ z. absurd (clear_readied (leaving (without (ENTRY (slot_of sizes next)) (core.passes by).hands)) (core.passes by).first (core.passes by).entries n (clear_leaving (without (ENTRY (slot_of sizes next)) (core.passes by).hands)) z)) (λ _ z. absurd z))
-pieces_step sizes first log by core (Holds next) found sound groups pieces may =
+said_step sizes first log by core (Holds next) found sound groups pieces may =
     rekind_step sizes first log by core (Holds next) found next (found + 1) sound pieces refl (holds_rekind sizes first by core found next sound may) (none_readied sizes core by found by (Holds next) tt may.may)
-pieces_step sizes first log by core (Returns next) found sound groups pieces may =
+said_step sizes first log by core (Returns next) found sound groups pieces may =
     rekind_step sizes first log by core (Returns next) found next (found - 1) sound pieces refl (returns_rekind sizes first by core found next sound may) (none_readied sizes core by found by (Returns next) tt may.may)
-pieces_step sizes first log by core Splits found sound groups pieces may = plain_step sizes log by core Splits found pieces may refl refl (λ slot. refl) (λ n z. absurd z)
-pieces_step sizes first log by core (Leaves cell) found sound groups pieces may = plain_step sizes log by core (Leaves cell) found pieces may refl refl (λ slot. refl) (λ n is. pieces.readied by n is)
-pieces_step sizes first log by core (Joins number) found sound groups pieces may = plain_step sizes log by core (Joins number) found pieces may refl refl (λ slot. refl) (λ n is. pieces.readied by n is)
+said_step sizes first log by core (Tends (Lifts next)) found sound groups pieces may =
+    rekind_step sizes first log by core (Tends (Lifts next)) found next (found + 1) sound pieces refl (lifts_rekind sizes first by core found next sound may) (none_readied sizes core by found by (Tends (Lifts next)) tt may.may)
+said_step sizes first log by core (Tends (Drops next)) found sound groups pieces may =
+    rekind_step sizes first log by core (Tends (Drops next)) found next (found - 1) sound pieces refl (drops_rekind sizes first by core found next sound may) (none_readied sizes core by found by (Tends (Drops next)) tt may.may)
+said_step sizes first log by core (Tends (Cleans next)) found sound groups pieces may =
+    rekind_step sizes first log by core (Tends (Cleans next)) found next (found + 1) sound pieces refl (cleans_rekind sizes first by core found next sound may) (none_readied sizes core by found by (Tends (Cleans next)) tt may.may)
+said_step sizes first log by core (Tends (Frees next)) found sound groups pieces may = free_step sizes first log by core found next sound groups pieces may
+said_step sizes first log by core (Tends (Retires tail)) found sound groups pieces may = pieces_kept sizes log core (after_step sizes by (Tends (Retires tail)) found core)
+    (λ n is. let low = is.0 in let high = is.1 in let l = (retires_hand sizes first core sound by found tail may).low in let t : (after_step sizes by (Tends (Retires tail)) found core).words TAIL ≡ tail = word_here core.words TAIL tail in (omega (arith, low, l, t), high))
+    (λ slot _. untouched sizes by core (Tends (Retires tail)) found may (ENTRY slot) refl) (λ slot _. untouched sizes by core (Tends (Retires tail)) found may (ENTRY slot) refl)
+    (readied_now sizes log by core (Tends (Retires tail)) found pieces (none_readied sizes core by found by (Tends (Retires tail)) tt may.may)) pieces
+said_step sizes first log by core (Tends chore) found sound groups pieces may = plain_step sizes log by core (Tends chore) found pieces may refl refl (λ slot. refl) (none_readied sizes core by found by (Tends chore) tt may.may)
+said_step sizes first log by core Splits found sound groups pieces may = plain_step sizes log by core Splits found pieces may refl refl (λ slot. refl) (λ n z. absurd z)
+said_step sizes first log by core (Leaves cell) found sound groups pieces may = plain_step sizes log by core (Leaves cell) found pieces may refl refl (λ slot. refl) (λ n is. pieces.readied by n is)
+said_step sizes first log by core (Joins number) found sound groups pieces may = plain_step sizes log by core (Joins number) found pieces may refl refl (λ slot. refl) (λ n is. pieces.readied by n is)
+
+-- ---- leaders
+
+-- an entry that is cleaned was so before, or is cleaned by the step
+cleaned_before : (sizes : Sizes) (first : Values) (by : ℕ) (core : Core) (deed : Deed) (found n : ℕ) → Sound sizes first core → MayFind sizes by core deed found → InWindow core n
+    → kind_of (entry_at sizes (after_step sizes by deed found core) n) ≡ cleaned → (kind_of (entry_at sizes core n) ≡ cleaned) ⊎ (deed ≡ Tends (Cleans n))
+cleaned_before sizes first by core deed found n sound may within = go deed may
+  where
+    set : (next value : ℕ) → kind_of value ≢ cleaned → kind_of (with_word core.words (ENTRY (slot_of sizes next)) value (ENTRY (slot_of sizes n))) ≡ cleaned → kind_of (entry_at sizes core n) ≡ cleaned
+    set next value dirty = by_word (λ word v. kind_of v ≡ cleaned → kind_of (core.words word) ≡ cleaned) core.words (ENTRY (slot_of sizes next)) value (λ e. absurd (dirty e)) (λ word ne e. e) (ENTRY (slot_of sizes n))
+
+    go : (deed : Deed) → MayFind sizes by core deed found → kind_of (entry_at sizes (after_step sizes by deed found core) n) ≡ cleaned → (kind_of (entry_at sizes core n) ≡ cleaned) ⊎ (deed ≡ Tends (Cleans n))
+    go (Seizes next) may kind = inl (set next filling (λ e. omega (arith, e)) kind)
+    go (Readies next) may kind = inl (set next (ready_word sizes (core.passes by) next) (λ e. let k = kind_is 2 (if next == (core.passes by).first then (core.passes by).entries else 0) (page_at sizes (core.passes by) next) (omega arith) in omega (arith, e, k)) kind)
+    go (Breaks next) may kind = inl (set next broken (λ e. omega (arith, e)) kind)
+    go (Holds next) may kind =
+        let looks : InWindow core next × (is_entry_of ready may.may.0 (entry_at sizes core next) ≡ true) = subst (Looks sizes core) may.may.1 (sound.loaded.looks by) in
+        let k = (entry_is ready may.may.0 (entry_at sizes core next) looks.1).0 in let i : entry_at sizes core next ≡ found = may.is in inl (set next (found + 1) (λ e. omega (arith, e, k, i)) kind)
+    go (Returns next) may kind =
+        let looks : InWindow core next × (is_entry_of held may.may.0 (entry_at sizes core next) ≡ true) = subst (Looks sizes core) may.may.2 (sound.loaded.looks by) in
+        let k = (entry_is held may.may.0 (entry_at sizes core next) looks.1).0 in let i : entry_at sizes core next ≡ found = may.is in inl (set next (found - 1) (λ e. omega (arith, e, k, i)) kind)
+    go (Tends (Lifts next)) may kind = let k = (lifts_hand sizes first core sound by found next may).kind_is in let i : entry_at sizes core next ≡ found = may.is in inl (set next (found + 1) (λ e. omega (arith, e, k, i)) kind)
+    go (Tends (Drops next)) may kind = let k = (drops_hand sizes first core sound by found next may).kind_is in let i : entry_at sizes core next ≡ found = may.is in inl (set next (found - 1) (λ e. omega (arith, e, k, i)) kind)
+    go (Tends (Frees next)) may kind = inl (set next free (λ e. omega (arith, e)) kind)
+    go (Tends (Cleans next)) may kind = elim (cases_eq n next) [
+      | inl same ↦ inr (ap (λ m. Tends (Cleans m)) (sym same))
+      | inr ne ↦ inl (ap kind_of (sym (word_else core.words (ENTRY (slot_of sizes next)) (found + 1) (ENTRY (slot_of sizes n)) (λ e. apart_within sizes core sound.window n next within (cleans_hand sizes first core sound by found next may).within ne (ap index e)))) ∙ kind)
+    ]
+    go (Tends chore) may kind = inl (ap kind_of (sym (untouched sizes by core (Tends chore) found may (ENTRY (slot_of sizes n)) refl)) ∙ kind)
+    go deed may kind = inl (ap kind_of (sym (untouched sizes by core deed found may (ENTRY (slot_of sizes n)) refl)) ∙ kind)
+
+-- the leader of an entry that is cleaned next was made ready
+cleans_leader : (sizes : Sizes) (first : Values) (log : Log) (by : ℕ) (core : Core) (found n : ℕ) → Sound sizes first core → Groups sizes core log → Progress sizes log core → MayFind sizes by core (Tends (Cleans n)) found
+    → was_readied (entry_at sizes core (log.group n).first) ≡ true
+cleans_leader sizes first log by core found n sound groups progress may = go t.stage t.made
+  where
+    t : IsTending (core.passes by) (Cleans n)
+    t = tending sizes (core.passes by) (Cleans n) tt may.may
+
+    go : (core.passes by).stage ≡ Cleaning t.batch t.sweep → (i : ℕ) × (t.sweep ≡ Setting i) × (n ≡ t.batch.reached + i) → was_readied (entry_at sizes core (log.group n).first) ≡ true
+    go at made =
+        let here : (core.passes by).stage ≡ Cleaning t.batch (Setting made.0) = at ∙ ap (Cleaning t.batch) made.1 in
+        let way = progress.each by t.batch (Setting made.0) here tt in
+        let less : made.0 < length t.batch.pages = subst (StandsAt sizes (core.passes by)) here (sound.standing by).at in
+        let some : 0 < length t.batch.pages = omega (arith, less) in
+        let r : t.batch.reached + 0 ≡ t.batch.reached = omega arith in
+        let leader = way.looked 0 some in
+        let within : InWindow core t.batch.reached = subst (InWindow core) r leader.within in
+        let leads = way.leads within in let count = way.count some in let whole = way.whole tt in let is = made.2 in
+        let g : log.group n ≡ log.group t.batch.reached = (groups.each t.batch.reached within).same n (omega (arith, is, leads), omega (arith, is, leads, less, whole, count)) in
+        let f : (log.group n).first ≡ t.batch.reached = ap (λ g. g.first) g ∙ leads in
+        ap (λ m. was_readied (entry_at sizes core m)) (f ∙ sym r) ∙ leader.readied
+
+leaders_on : (sizes : Sizes) (first : Values) (log : Log) (by : ℕ) (core : Core) (deed : Deed) (found : ℕ) → Sound sizes first core → Groups sizes core log → Pieces sizes log core → Progress sizes log core → MayFind sizes by core deed found
+    → (n : ℕ) → InWindow core n → (after_step sizes by deed found core).words TAIL ≤ (log.group n).first → kind_of (entry_at sizes (after_step sizes by deed found core) n) ≡ cleaned
+    → WasReadied sizes (after_step sizes by deed found core) (log.group n).first
+leaders_on sizes first log by core deed found sound groups pieces progress may n within low kind =
+    let g = groups.each n within in let a = g.low in let b = g.among.0 in let c = within.1 in
+    readied_still sizes first by core found sound deed may (log.group n).first (a, omega (arith, b, c)) low
+    (elim (cleaned_before sizes first by core deed found n sound may within kind) [
+      | inl old ↦ pieces.leaders n within old
+      | inr now ↦ inl (cleans_leader sizes first log by core found n sound groups progress (subst (λ d. MayFind sizes by core d found) now may))
+    ])
+
+-- ---- all of it
+
+-- what is drawn is free
+drawn_free : (sizes : Sizes) (first : Values) (by : ℕ) (core : Core) (found : ℕ) → Sound sizes first core → MayFind sizes by core Draws found → (n : ℕ) → core.words HEAD ≤ n → n < (after_step sizes by Draws found core).words HEAD → entry_at sizes core n ≡ free
+drawn_free sizes first by core found sound may n low high = go (found == (core.passes by).head) refl
+  where
+    at : (is_write (core.passes by).call ≡ true) × IsSmall sizes (core.passes by) × HasRoom sizes (core.passes by)
+    at = subst (StandsAt sizes (core.passes by)) may.may (sound.standing by).at
+
+    go : (b : Bool) → (found == (core.passes by).head) ≡ b → entry_at sizes core n ≡ free
+    go false e = absurd (let h : (after_step sizes by Draws found core).words HEAD ≡ core.words HEAD = word_here core.words HEAD _ ∙ when_false (found == (core.passes by).head) (found + page_count sizes (core.passes by).call) found e ∙ sym may.is in omega (arith, h, low, high))
+    go true e =
+        let h : (after_step sizes by Draws found core).words HEAD ≡ core.words HEAD + page_count sizes (core.passes by).call =
+        word_here core.words HEAD _ ∙ when_true (found == (core.passes by).head) (found + page_count sizes (core.passes by).call) found e ∙ ap (λ f. f + page_count sizes (core.passes by).call) (sym may.is) in
+        let is : core.words HEAD ≡ (core.passes by).head = may.is ∙ eqb-true found (core.passes by).head e in
+        let room : core.words HEAD + page_count sizes (core.passes by).call ≤ core.words TAIL + sizes.entries = let t = sound.loaded.tail by in let r = at.2 in omega (arith, is, t, r) in
+        sound.window.others (slot_of sizes n) (mod_below n sizes.entries (let o = sound.window.order in omega (arith, o, room, low, high, h)))
+        (λ m within. let a = within.0 in let b = within.1 in apart sizes.entries m n (omega (arith, b, low)) (omega (arith, a, room, high, h)))
+
+-- below HEAD the log stays
+log_below : (sizes : Sizes) (first : Values) (by : ℕ) (core : Core) (found : ℕ) (log : Log) → Sound sizes first core → Groups sizes core log → MayFind sizes by core Draws found → (n : ℕ) → n < core.words HEAD
+    → (log_stepped sizes (core.passes by) Draws found log).group n ≡ log.group n
+log_below sizes first by core found log sound groups may n less = if_both (λ (l : Log). l.group n ≡ log.group n) (found == (core.passes by).head) (with_group group log) log
+    (λ e. let i = may.is in when_false (is_among found (found + page_count sizes (core.passes by).call) n) group (log.group n) (among_below found (found + page_count sizes (core.passes by).call) n (omega (arith, i, less)))) (λ _. refl)
+  where
+    group : Group
+    group = record { call = (core.passes by).call; first = found; entries = page_count sizes (core.passes by).call }
+
+pub pieces_step : (sizes : Sizes) (first : Values) (log : Log) (by : ℕ) (core : Core) (deed : Deed) (found : ℕ) → Sound sizes first core → Groups sizes core log → Pieces sizes log core → Progress sizes log core → MayFind sizes by core deed found
+    → Pieces sizes (log_stepped sizes (core.passes by) deed found log) (after_step sizes by deed found core)
+pieces_step sizes first log by core deed found sound groups pieces progress may =
+    let said = said_step sizes first log by core deed found sound groups pieces may in
+    record { says = said.says; followers = said.followers; leaders = leaders deed may (groups_step sizes first by core log deed found sound groups progress may); readied = said.readied }
+  where
+    -- where the log stays
+    still : (deed : Deed) → MayFind sizes by core deed found → ((n : ℕ) → InWindow (after_step sizes by deed found core) n → InWindow core n) → Groups sizes (after_step sizes by deed found core) log
+        → (n : ℕ) → InWindow (after_step sizes by deed found core) n → kind_of (entry_at sizes (after_step sizes by deed found core) n) ≡ cleaned → WasReadied sizes (after_step sizes by deed found core) (log.group n).first
+    still deed may was now n is kind = leaders_on sizes first log by core deed found sound groups pieces progress may n (was n is) (now.each n is).low kind
+
+    untouched_back : (deed : Deed) → MayFind sizes by core deed found → touches deed HEAD ≡ false → touches deed TAIL ≡ false → (n : ℕ) → InWindow (after_step sizes by deed found core) n → InWindow core n
+    untouched_back deed may head tail = back core (after_step sizes by deed found core) (untouched sizes by core deed found may HEAD head) (untouched sizes by core deed found may TAIL tail)
+
+    drawn : (now : Log) → Groups sizes (after_step sizes by Draws found core) now → MayFind sizes by core Draws found → ((n : ℕ) → n < core.words HEAD → now.group n ≡ log.group n)
+        → (n : ℕ) → InWindow (after_step sizes by Draws found core) n → kind_of (entry_at sizes core n) ≡ cleaned → WasReadied sizes (after_step sizes by Draws found core) (now.group n).first
+    drawn now after may same n is kind = elim (cases_lt n (core.words HEAD)) [
+      | inl less ↦ subst (λ g. WasReadied sizes (after_step sizes by Draws found core) g.first) (sym (same n less))
+          (leaders_on sizes first log by core Draws found sound groups pieces progress may n (is.0, less) (groups.each n (is.0, less)).low kind)
+      | inr more ↦ absurd (let z = new_free n more is.1 in let k = ap kind_of z in omega (arith, k, kind))
+    ]
+      where
+        new_free : (n : ℕ) → core.words HEAD ≤ n → n < (after_step sizes by Draws found core).words HEAD → entry_at sizes core n ≡ free
+        new_free n low high = drawn_free sizes first by core found sound may n low high
+
+    leaders : (deed : Deed) → MayFind sizes by core deed found → Groups sizes (after_step sizes by deed found core) (log_stepped sizes (core.passes by) deed found log)
+        → (n : ℕ) → InWindow (after_step sizes by deed found core) n → kind_of (entry_at sizes (after_step sizes by deed found core) n) ≡ cleaned → WasReadied sizes (after_step sizes by deed found core) ((log_stepped sizes (core.passes by) deed found log).group n).first
+    leaders Draws may now = drawn (log_stepped sizes (core.passes by) Draws found log) now may (log_below sizes first by core found log sound groups may)
+    leaders (Tends (Retires tail)) may now = still (Tends (Retires tail)) may
+        (λ n is. let low = is.0 in let high = is.1 in let l = (retires_hand sizes first core sound by found tail may).low in let t : (after_step sizes by (Tends (Retires tail)) found core).words TAIL ≡ tail = word_here core.words TAIL tail in (omega (arith, low, l, t), high)) now
+    leaders (Tends chore) may now = still (Tends chore) may (untouched_back (Tends chore) may refl refl) now
+    leaders deed may now = still deed may (untouched_back deed may refl refl) now
 
 -- ---- a call that begins, and a device call
 
-pub pieces_begin : (sizes : Sizes) (log : Log) (by : ℕ) (core : Core) (call : FileCall) → Pieces sizes log core → Pieces sizes log (after_begin sizes by call core)
-pieces_begin sizes log by core call pieces = pieces_kept sizes log core (after_begin sizes by call core) refl refl (λ slot _. refl) (λ slot _. refl)
-    (by_number (λ other (p : Pass). (n : ℕ) → IsReadied p.stage p.first p.entries n → was_readied (entry_at sizes core n) ≡ true) core.passes by (begun sizes call (core.passes by))
-    (λ n. if_both (λ s. IsReadied s 0 0 n → was_readied (entry_at sizes core n) ≡ true) (page_count sizes call == 0) Checking (Locking (first_page sizes call)) (λ _ z. absurd z) (λ _ z. absurd z))
-    (λ other ne n is. pieces.readied other n is)) pieces
+pub pieces_begin : (sizes : Sizes) (log : Log) (by : ℕ) (core : Core) (call : FileCall) → Pieces sizes log core → MayBegin sizes call (core.passes by) → Pieces sizes log (after_begin sizes by call core)
+pieces_begin sizes log by core call pieces may =
+    record { says = said.says; followers = said.followers; leaders = λ n is kind. begun_still sizes by core call may (log.group n).first (pieces.leaders n is kind); readied = said.readied }
+  where
+    said : Said sizes log (after_begin sizes by call core)
+    said = pieces_kept sizes log core (after_begin sizes by call core) (λ n is. is) (λ slot _. refl) (λ slot _. refl)
+        (by_number (λ other (p : Pass). (n : ℕ) → IsReadied p.stage p.first p.entries n → was_readied (entry_at sizes core n) ≡ true) core.passes by (begun sizes call (core.passes by))
+        (λ n. if_both (λ s. IsReadied s 0 0 n → was_readied (entry_at sizes core n) ≡ true) (page_count sizes call == 0) Checking (Locking (first_page sizes call)) (λ _ z. absurd z) (λ _ z. absurd z))
+        (λ other ne n is. pieces.readied other n is)) pieces
 
 worked_readied : (sizes : Sizes) (values : Values) (pass : Pass) (work : Work) (stage : Stage) (how : Ending) (from count n : ℕ) → IsDue sizes values pass work stage → IsReadied (stage_worked sizes pass how stage) from count n → ⊥
 worked_readied sizes values one work (Committing calls) Made from count n due =
@@ -356,16 +588,20 @@ worked_readied sizes values one work (Copying page dirty) Made from count n due 
 worked_readied sizes values one work (Copying page dirty) (Failed came faults) from count n due = λ z. z
 worked_readied sizes values one work (Patching page number) Made from count n due = λ z. z
 worked_readied sizes values one work (Patching page number) (Failed came faults) from count n due = λ z. z
+worked_readied sizes values one work (Committing calls) Refused from count n due = λ z. z
+worked_readied sizes values one work (Copying page dirty) Refused from count n due = λ z. z
+worked_readied sizes values one work (Patching page number) Refused from count n due = λ z. z
+worked_readied sizes values one work (Cleaning batch sweep) how from count n due = λ is. swept_worked (λ s. IsReadied s from count n → ⊥) (λ z. z) (λ b s z. z) batch how sweep (subst (λ s. IsReadied s from count n) (worked_stage sizes one batch how sweep) is)
 worked_readied sizes values one work stage how from count n due = absurd due
 
 pub pieces_work : (sizes : Sizes) (log : Log) (by : ℕ) (core : Core) (work : Work) → Pieces sizes log core → MayWork sizes core.values (core.passes by) work
     → Pieces sizes (log_worked (core.passes by) work.ending (core.passes by).stage log) (after_work sizes by work core)
 pieces_work sizes log by core work pieces may =
     subst (λ g. Pieces sizes record { group = g; calls = (log_worked (core.passes by) work.ending (core.passes by).stage log).calls } (after_work sizes by work core)) (sym (log_group (core.passes by) work.ending (core.passes by).stage log))
-    record { says = same.says; followers = same.followers; readied = same.readied }
+    record { says = same.says; followers = same.followers; leaders = λ n is kind. worked_still sizes by core work may (log.group n).first (pieces.leaders n is kind); readied = same.readied }
   where
-    same : Pieces sizes log (after_work sizes by work core)
-    same = pieces_kept sizes log core (after_work sizes by work core) refl refl (λ slot _. refl) (λ slot _. refl)
+    same : Said sizes log (after_work sizes by work core)
+    same = pieces_kept sizes log core (after_work sizes by work core) (λ n is. is) (λ slot _. refl) (λ slot _. refl)
         (by_number (λ other (p : Pass). (n : ℕ) → IsReadied p.stage p.first p.entries n → was_readied (entry_at sizes core n) ≡ true) core.passes by (worked sizes work (core.passes by))
         (λ n is. absurd (worked_readied sizes core.values (core.passes by) work (core.passes by).stage work.ending (core.passes by).first (core.passes by).entries n may.due is))
         (λ other ne n is. pieces.readied other n is)) pieces

@@ -11,18 +11,20 @@ use Rattle.nv_pmem.specs.Room.{Room}
 use Rattle.nv_pmem.specs.Rows.{RowStep, steps_on}
 use Rattle.nv_pmem.specs.Steps.{Step}
 use Rattle.nv_entry.specs.Commits.{GroupsEndReady}
-use Rattle.nv_core.specs.Words.{Sizes, Word, HEADER, STORE, ENTRY, kind_of, free, filling, broken, was_readied, held, is_entry_of, ready}
-use Rattle.nv_core.specs.Values.{Value, Bare, APart, AStore, ABuffer, Writes, Ending, Made, Failed, called, Peeks}
-use Rattle.nv_core.specs.Passes.{Stage, Locking, Checking, Copying, Seizing, Committing, Pledging, Readying, Placing, ReadFailing, WriteFailing, Breaking, Pass, IsUnseized, IsFilling, IsAmong, file_of, page_count, first_page, end_page, without, times, Patching, PieceFailing}
-use Rattle.nv_core.specs.Deeds.{Deed, slot_of, page_at, ready_word, Loads, Takes, Gives, Places, Stops, Draws, Seizes, Pledges, Readies, Grows, Breaks, Splits, Leaves, Joins, Turns, Hints, Holds, Returns}
+use Rattle.nv_core.specs.Words.{Sizes, Word, HEADER, STORE, ENTRY, free, filling, broken, was_readied, held, is_entry_of, ready}
+use Rattle.nv_core.specs.Sweeps.{Batch, Sweep, Peeking, Carrying, Syncing, Moving, Lifts, Drops, Cleans, Frees}
+use Rattle.nv_core.specs.Chores.{group_file}
+use Rattle.nv_core.specs.Values.{Value, Bare, APart, AStore, ABuffer, Writes, Ending, Made, Failed, Refused, called, Peeks}
+use Rattle.nv_core.specs.Passes.{Stage, Locking, Checking, Copying, Seizing, Committing, Pledging, Readying, Placing, ReadFailing, WriteFailing, Breaking, Pass, IsUnseized, IsFilling, IsAmong, file_of, page_count, first_page, end_page, without, times, Patching, PieceFailing, Cleaning}
+use Rattle.nv_core.specs.Deeds.{Deed, slot_of, page_at, ready_word, Loads, Takes, Gives, Places, Stops, Draws, Seizes, Pledges, Readies, Grows, Breaks, Splits, Leaves, Joins, Turns, Hints, Holds, Returns, Tends}
 use Rattle.nv_core.specs.Stages.{after_stop, leaving}
 use Rattle.nv_core.specs.Stepped.{begun}
-use Rattle.nv_core.specs.Order.{Values, Work, MayWork, MayLeave, IsDue, IsNextCall, IsPageRead, IsFailing, commit_steps, IsPieceRead}
+use Rattle.nv_core.specs.Order.{Values, Work, MayWork, MayLeave, IsDue, IsChoreDue, IsNextCall, IsPageRead, IsFailing, commit_steps, IsPieceRead}
 use Rattle.nv_core.specs.Core.{Core, changes, changed, with_word, after_step, after_begin, after_work, worked, stage_worked, values_worked}
-use Rattle.nv_core.specs.Events.{MayFind}
+use Rattle.nv_core.specs.Events.{MayFind, MayBegin}
 use Rattle.nv_core.specs.Standing.{StandsAt, HasDrawn}
 use Rattle.nv_core.specs.LogWindow.{Fills, InWindow, entry_at}
-use Rattle.nv_core.specs.Rooms.{EndsReady, KeepsReady, FillsReady, KeepsRoomy, Rooms}
+use Rattle.nv_core.specs.Rooms.{EndsReady, KeepsReady, FillsReady, Rooms}
 use Rattle.nv_core.specs.Sound.{Sound}
 use Rattle.nv_core.proofs.Changes.{by_number, by_word, word_else, differ}
 use Rattle.nv_core.proofs.Choices.{if_both, when_true, when_false, busy, not_both}
@@ -31,24 +33,34 @@ use Rattle.nv_core.proofs.WordLaws.{untouched, touches}
 use Rattle.nv_core.proofs.HoldingSteps.{few_entries, apart_in}
 use Rattle.nv_core.proofs.KeepsLocks.{kind_is, entry_is, ready_was, held_was}
 use Rattle.nv_core.proofs.KeepsLoaded.{held_by_one}
-use Rattle.nv_core.proofs.KeepsHeader.{header_stepped, header_read}
+use Rattle.nv_core.proofs.HeaderRoom.{none_refused, header_room_step, moving_room_step, header_room_begin, moving_room_begin, header_work_room, moving_work_room}
+use Rattle.nv_core.proofs.StandingLaws.{worked_stage}
+use Rattle.nv_core.proofs.SweepStages.{swept_worked}
+use Rattle.nv_core.proofs.SweepDeeds.{lifts_hand, drops_hand, cleans_hand, frees_hand}
+use Rattle.nv_core.proofs.SweepReadied.{cleaned_was}
 use Rattle.nv_core.proofs.RowParts.{row_within}
 use Rattle.nv_core.proofs.WrittenLaws.{part_stepped, part_worked, value_called, value_not_called, value_peeked, value_not_peeked}
 use Rattle.nv_core.specs.Loaded.{Looks}
 use Rattle.nv_core.proofs.WindowLaws.{slot_within}
 
+-- all of it but what is said of the header
+record Parts (sizes : Sizes) (core : Core) : Type 0 where
+  free : (slot : ℕ) → slot < sizes.entries → core.words (ENTRY slot) ≡ free → KeepsReady sizes (core.values (ENTRY slot))
+  ready : (slot : ℕ) → slot < sizes.entries → was_readied (core.words (ENTRY slot)) ≡ true → KeepsReady sizes (core.values (ENTRY slot))
+  filling : (by number : ℕ) → Fills (core.passes by) number
+      → FillsReady sizes (core.passes by) (core.passes by).stage number (core.values (ENTRY (slot_of sizes number)))
+
 -- ---- no part changes
 
-module _ (sizes : Sizes) (core now : Core) (values : (slot : ℕ) → now.values (ENTRY slot) ≡ core.values (ENTRY slot)) (header : now.values HEADER ≡ core.values HEADER) where
-  rooms_kept : ((slot : ℕ) → now.words (ENTRY slot) ≡ free → core.words (ENTRY slot) ≡ free)
+module _ (sizes : Sizes) (core now : Core) (values : (slot : ℕ) → now.values (ENTRY slot) ≡ core.values (ENTRY slot)) where
+  rooms_kept : ((slot : ℕ) → now.words (ENTRY slot) ≡ free → (core.words (ENTRY slot) ≡ free) ⊎ KeepsReady sizes (core.values (ENTRY slot)))
       → ((slot : ℕ) → was_readied (now.words (ENTRY slot)) ≡ true → (was_readied (core.words (ENTRY slot)) ≡ true) ⊎ KeepsReady sizes (core.values (ENTRY slot)))
       → ((by number : ℕ) → Fills (now.passes by) number → FillsReady sizes (now.passes by) (now.passes by).stage number (core.values (ENTRY (slot_of sizes number))))
-      → Rooms sizes core → Rooms sizes now
+      → Rooms sizes core → Parts sizes now
   rooms_kept frees readies fills rooms = record {
-    free = λ slot less is. subst (KeepsReady sizes) (sym (values slot)) (rooms.free slot less (frees slot is));
+    free = λ slot less is. subst (KeepsReady sizes) (sym (values slot)) (elim (frees slot is) [ inl old ↦ rooms.free slot less old | inr new ↦ new ]);
     ready = λ slot less is. subst (KeepsReady sizes) (sym (values slot)) (elim (readies slot is) [ inl old ↦ rooms.ready slot less old | inr new ↦ new ]);
     filling = λ by number is. subst (FillsReady sizes (now.passes by) (now.passes by).stage number) (sym (values (slot_of sizes number))) (fills by number is);
-    header = subst KeepsRoomy (sym header) rooms.header;
   }
 
 -- ---- entries being filled, after a step
@@ -147,6 +159,7 @@ module _ (sizes : Sizes) (first : Values) (by : ℕ) (core : Core) (found : ℕ)
       (λ _ _. tt) is
   fills_here (Holds next) may number is = none_here (Holds next) number (clear_to sizes core.values (core.passes by) (Holds next) found tt may.may) is
   fills_here (Returns next) may number is = none_here (Returns next) number (clear_to sizes core.values (core.passes by) (Returns next) found tt may.may) is
+  fills_here (Tends chore) may number is = none_here (Tends chore) number (clear_to sizes core.values (core.passes by) (Tends chore) found tt may.may) is
   fills_here Splits may number is = absurd is
   fills_here (Leaves cell) may number is = rooms.filling by number is
   fills_here (Joins other) may number is = rooms.filling by number is
@@ -159,30 +172,30 @@ module _ (sizes : Sizes) (first : Values) (by : ℕ) (core : Core) (found : ℕ)
   -- ---- steps
 
   -- one that changes no ENTRY word
-  plain_step : (deed : Deed) → MayFind sizes by core deed found → ((slot : ℕ) → touches deed (ENTRY slot) ≡ false) → Rooms sizes (after_step sizes by deed found core)
-  plain_step deed may entry = rooms_kept sizes core (after_step sizes by deed found core) (part_stepped sizes (core.passes by) deed core.values) (header_stepped sizes (core.passes by) deed core.values)
-      (λ slot is. sym (untouched sizes by core deed found may (ENTRY slot) (entry slot)) ∙ is)
+  plain_step : (deed : Deed) → MayFind sizes by core deed found → ((slot : ℕ) → touches deed (ENTRY slot) ≡ false) → Parts sizes (after_step sizes by deed found core)
+  plain_step deed may entry = rooms_kept sizes core (after_step sizes by deed found core) (part_stepped sizes (core.passes by) deed core.values)
+      (λ slot is. inl (sym (untouched sizes by core deed found may (ENTRY slot) (entry slot)) ∙ is))
       (λ slot is. inl (ap was_readied (sym (untouched sizes by core deed found may (ENTRY slot) (entry slot))) ∙ is)) (fills_now deed may) rooms
 
-  -- one that sets an ENTRY word that isn't free then, and ready only where the part is
-  entry_step : (deed : Deed) (slot value : ℕ) → MayFind sizes by core deed found → (after_step sizes by deed found core).words ≡ with_word core.words (ENTRY slot) value → kind_of value ≢ free
-      → (was_readied value ≡ true → KeepsReady sizes (core.values (ENTRY slot))) → Rooms sizes (after_step sizes by deed found core)
-  entry_step deed slot value may words not_free is_ready = rooms_kept sizes core (after_step sizes by deed found core) (part_stepped sizes (core.passes by) deed core.values) (header_stepped sizes (core.passes by) deed core.values)
+  -- one that sets an ENTRY word, and that to free or ready only where the part is
+  entry_step : (deed : Deed) (slot value : ℕ) → MayFind sizes by core deed found → (after_step sizes by deed found core).words ≡ with_word core.words (ENTRY slot) value → (value ≡ free → KeepsReady sizes (core.values (ENTRY slot)))
+      → (was_readied value ≡ true → KeepsReady sizes (core.values (ENTRY slot))) → Parts sizes (after_step sizes by deed found core)
+  entry_step deed slot value may words is_free is_ready = rooms_kept sizes core (after_step sizes by deed found core) (part_stepped sizes (core.passes by) deed core.values)
       (λ other is. frees (ENTRY other) (sym (ap (λ w. w (ENTRY other)) words) ∙ is))
       (λ other is. readies (ENTRY other) (ap (λ w. was_readied (w (ENTRY other))) (sym words) ∙ is)) (fills_now deed may) rooms
     where
-      frees : (word : Word) → with_word core.words (ENTRY slot) value word ≡ free → core.words word ≡ free
-      frees = by_word (λ word v. v ≡ free → core.words word ≡ free) core.words (ENTRY slot) value (λ e. absurd (not_free (ap kind_of e))) (λ word ne e. e)
+      frees : (word : Word) → with_word core.words (ENTRY slot) value word ≡ free → (core.words word ≡ free) ⊎ KeepsReady sizes (core.values word)
+      frees = by_word (λ word v. v ≡ free → (core.words word ≡ free) ⊎ KeepsReady sizes (core.values word)) core.words (ENTRY slot) value (λ e. inr (is_free e)) (λ word ne e. inl e)
 
       readies : (word : Word) → was_readied (with_word core.words (ENTRY slot) value word) ≡ true → (was_readied (core.words word) ≡ true) ⊎ KeepsReady sizes (core.values word)
       readies = by_word (λ word v. was_readied v ≡ true → (was_readied (core.words word) ≡ true) ⊎ KeepsReady sizes (core.values word)) core.words (ENTRY slot) value (λ e. inr (is_ready e)) (λ word ne e. inl e)
 
-pub rooms_step : (sizes : Sizes) (first : Values) (by : ℕ) (core : Core) (deed : Deed) (found : ℕ) → Sound sizes first core → MayFind sizes by core deed found → Rooms sizes (after_step sizes by deed found core)
-rooms_step sizes first by core (Seizes next) found sound may = entry_step sizes first by core found sound sound.rooms (Seizes next) (slot_of sizes next) filling may refl (λ e. omega (arith, e)) (λ e. absurd (not_both e refl))
-rooms_step sizes first by core (Breaks next) found sound may = entry_step sizes first by core found sound sound.rooms (Breaks next) (slot_of sizes next) broken may refl (λ e. omega (arith, e)) (λ e. absurd (not_both e refl))
-rooms_step sizes first by core (Readies next) found sound may =
+parts_step : (sizes : Sizes) (first : Values) (by : ℕ) (core : Core) (deed : Deed) (found : ℕ) → Sound sizes first core → MayFind sizes by core deed found → Parts sizes (after_step sizes by deed found core)
+parts_step sizes first by core (Seizes next) found sound may = entry_step sizes first by core found sound sound.rooms (Seizes next) (slot_of sizes next) filling may refl (λ e. absurd (omega (arith, e))) (λ e. absurd (not_both e refl))
+parts_step sizes first by core (Breaks next) found sound may = entry_step sizes first by core found sound sound.rooms (Breaks next) (slot_of sizes next) broken may refl (λ e. absurd (omega (arith, e))) (λ e. absurd (not_both e refl))
+parts_step sizes first by core (Readies next) found sound may =
     entry_step sizes first by core found sound sound.rooms (Readies next) (slot_of sizes next) (ready_word sizes (core.passes by) next) may refl
-    (λ e. let k = kind_is 2 (if next == (core.passes by).first then (core.passes by).entries else 0) (page_at sizes (core.passes by) next) (omega arith) in omega (arith, k, e))
+    (λ e. absurd (let k = kind_is 2 (if next == (core.passes by).first then (core.passes by).entries else 0) (page_at sizes (core.passes by) next) (omega arith) in omega (arith, k, e)))
     (λ _. was_filled sizes first by core found sound sound.rooms next (Readying next) may.may (fills (cases_eq next (core.passes by).first)))
   where
     at : HasDrawn sizes (core.passes by).call (core.passes by).entries × IsAmong (core.passes by).first (core.passes by).entries next
@@ -191,32 +204,54 @@ rooms_step sizes first by core (Readies next) found sound may =
     fills : (next ≡ (core.passes by).first) ⊎ (next ≢ (core.passes by).first) → IsFilling (Readying next) (core.passes by).first (core.passes by).entries next
     fills (inl leader) = inl leader
     fills (inr ne) = let low = at.1.0 in inr (omega (arith, low, ne), omega arith, at.1.1)
-rooms_step sizes first by core (Holds next) found sound may =
+parts_step sizes first by core (Holds next) found sound may =
     let looks : InWindow core next × (is_entry_of ready may.may.0 (entry_at sizes core next) ≡ true) = subst (Looks sizes core) may.may.1 (sound.loaded.looks by) in
     let kind = (entry_is ready may.may.0 (entry_at sizes core next) looks.1).0 in let is = may.is in
-    entry_step sizes first by core found sound sound.rooms (Holds next) (slot_of sizes next) (found + 1) may refl (λ e. omega (arith, e, kind, is))
+    entry_step sizes first by core found sound sound.rooms (Holds next) (slot_of sizes next) (found + 1) may refl (λ e. absurd (omega (arith, e, kind, is)))
     (λ _. sound.rooms.ready (slot_of sizes next) (slot_within sizes core next sound.window looks.0) (ready_was (entry_at sizes core next) kind))
-rooms_step sizes first by core (Returns next) found sound may =
+parts_step sizes first by core (Returns next) found sound may =
     let looks : InWindow core next × (is_entry_of held may.may.0 (entry_at sizes core next) ≡ true) = subst (Looks sizes core) may.may.2 (sound.loaded.looks by) in
     let kind = (entry_is held may.may.0 (entry_at sizes core next) looks.1).0 in let is = may.is in
-    entry_step sizes first by core found sound sound.rooms (Returns next) (slot_of sizes next) (found - 1) may refl (λ e. omega (arith, e, kind, is))
+    entry_step sizes first by core found sound sound.rooms (Returns next) (slot_of sizes next) (found - 1) may refl (λ e. absurd (omega (arith, e, kind, is)))
     (λ _. sound.rooms.ready (slot_of sizes next) (slot_within sizes core next sound.window looks.0) (held_was (entry_at sizes core next) kind))
-rooms_step sizes first by core deed found sound may = plain_step sizes first by core found sound sound.rooms deed may (λ slot. refl)
+parts_step sizes first by core (Tends (Lifts next)) found sound may =
+    let hand = lifts_hand sizes first core sound by found next may in let kind = hand.kind_is in let is : entry_at sizes core next ≡ found = may.is in
+    entry_step sizes first by core found sound sound.rooms (Tends (Lifts next)) (slot_of sizes next) (found + 1) may refl (λ e. absurd (omega (arith, e)))
+    (λ _. sound.rooms.ready (slot_of sizes next) (slot_within sizes core next sound.window hand.within) (ready_was (entry_at sizes core next) kind))
+parts_step sizes first by core (Tends (Drops next)) found sound may =
+    let hand = drops_hand sizes first core sound by found next may in let kind = hand.kind_is in let is : entry_at sizes core next ≡ found = may.is in
+    entry_step sizes first by core found sound sound.rooms (Tends (Drops next)) (slot_of sizes next) (found - 1) may refl (λ e. absurd (omega (arith, e, kind, is)))
+    (λ _. sound.rooms.ready (slot_of sizes next) (slot_within sizes core next sound.window hand.within) (held_was (entry_at sizes core next) kind))
+parts_step sizes first by core (Tends (Cleans next)) found sound may =
+    let hand = cleans_hand sizes first core sound by found next may in let kind = hand.kind_is in
+    entry_step sizes first by core found sound sound.rooms (Tends (Cleans next)) (slot_of sizes next) (found + 1) may refl (λ e. absurd (omega (arith, e)))
+    (λ _. sound.rooms.ready (slot_of sizes next) (slot_within sizes core next sound.window hand.within) (held_was (entry_at sizes core next) kind))
+parts_step sizes first by core (Tends (Frees next)) found sound may =
+    let hand = frees_hand sizes first core sound by found next may in
+    entry_step sizes first by core found sound sound.rooms (Tends (Frees next)) (slot_of sizes next) free may refl
+    (λ _. sound.rooms.ready (slot_of sizes next) (slot_within sizes core next sound.window hand.within) (cleaned_was (entry_at sizes core next) hand.kind_is)) (λ e. absurd (not_both e refl))
+parts_step sizes first by core (Tends chore) found sound may = plain_step sizes first by core found sound sound.rooms (Tends chore) may (λ slot. refl)
+parts_step sizes first by core deed found sound may = plain_step sizes first by core found sound sound.rooms deed may (λ slot. refl)
+
+pub rooms_step : (sizes : Sizes) (first : Values) (by : ℕ) (core : Core) (deed : Deed) (found : ℕ) → Sound sizes first core → MayFind sizes by core deed found → Rooms sizes (after_step sizes by deed found core)
+rooms_step sizes first by core deed found sound may =
+    let parts = parts_step sizes first by core deed found sound may in
+    record { free = parts.free; ready = parts.ready; filling = parts.filling; header = header_room_step sizes first by core found sound deed may; moving = moving_room_step sizes first by core found sound deed may }
 
 -- ---- a call that begins
 
-pub rooms_begin : (sizes : Sizes) (by : ℕ) (core : Core) (call : FileCall) → Rooms sizes core → Rooms sizes (after_begin sizes by call core)
-rooms_begin sizes by core call rooms = rooms_kept sizes core (after_begin sizes by call core) (λ slot. refl) refl (λ slot is. is) (λ slot is. inl is)
+parts_begin : (sizes : Sizes) (by : ℕ) (core : Core) (call : FileCall) → Rooms sizes core → Parts sizes (after_begin sizes by call core)
+parts_begin sizes by core call rooms = rooms_kept sizes core (after_begin sizes by call core) (λ slot. refl) (λ slot is. inl is) (λ slot is. inl is)
     (λ n number. by_number (λ n (p : Pass). Fills p number → FillsReady sizes p p.stage number (core.values (ENTRY (slot_of sizes number)))) core.passes by (begun sizes call (core.passes by))
     (if_both (λ s. IsFilling s 0 0 number → FillsReady sizes (begun sizes call (core.passes by)) s number (core.values (ENTRY (slot_of sizes number)))) (page_count sizes call == 0) Checking (Locking (first_page sizes call)) (λ _ is. absurd is) (λ _ is. absurd is))
     (λ n ne. rooms.filling n number) n) rooms
 
--- ---- a device call
+pub rooms_begin : (sizes : Sizes) (by : ℕ) (core : Core) (call : FileCall) → Rooms sizes core → MayBegin sizes call (core.passes by) → Rooms sizes (after_begin sizes by call core)
+rooms_begin sizes by core call rooms may =
+    let parts = parts_begin sizes by core call rooms in
+    record { free = parts.free; ready = parts.ready; filling = parts.filling; header = header_room_begin sizes by core call rooms may; moving = moving_room_begin sizes by core call rooms }
 
-header_worked : (pass : Pass) (work : Work) (values : Values) → HEADER ≢ work.cell → values_worked pass work values HEADER ≡ values HEADER
-header_worked pass work values ne =
-    header_read work.job work.ending pass.stage (with_word values work.cell (called work.job work.ending (values work.cell)))
-    ∙ word_else values work.cell (called work.job work.ending (values work.cell)) HEADER ne
+-- ---- a device call
 
 -- the device calls to come, before and after one of them
 next_due : (steps : List RowStep) (calls : ℕ) (row : RowStep) → calls < length steps → slice_index_or steps calls row ≡ row → drop calls steps ≡ row ∷ drop (suc calls) steps
@@ -299,6 +334,7 @@ module _ (ends : GroupsEndReady) (sizes : Sizes) (first : Values) (by : ℕ) (co
   filled_now : (how : Ending) → work.ending ≡ how → (number : ℕ) → IsFilling (stage_worked sizes (core.passes by) how (Committing calls)) (core.passes by).first (core.passes by).entries number
       → FillsReady sizes (worked sizes work (core.passes by)) (stage_worked sizes (core.passes by) how (Committing calls)) number (values_worked (core.passes by) work core.values (ENTRY (slot_of sizes number)))
   filled_now (Failed came faults) made number is = tt
+  filled_now Refused made number is = absurd (none_refused due.row.step due.room (core.values (ENTRY (slot_of sizes ((core.passes by).first + due.row.part)))) (subst (MayLeave (core.values (ENTRY (slot_of sizes ((core.passes by).first + due.row.part)))) (Writes due.row.step due.room)) made leaves))
   filled_now Made made number is = if_both (λ s. IsFilling s (core.passes by).first (core.passes by).entries number → FillsReady sizes (worked sizes work (core.passes by)) s number (values_worked (core.passes by) work core.values (ENTRY (slot_of sizes number))))
       (calls + 1 == length (commit_steps sizes (core.passes by) (core.passes by).call)) (Pledging (first_page sizes (core.passes by).call)) (Committing (calls + 1))
       (λ all is. let l = eqb-true (calls + 1) (length (commit_steps sizes (core.passes by) (core.passes by).call)) all in
@@ -308,7 +344,7 @@ module _ (ends : GroupsEndReady) (sizes : Sizes) (first : Values) (by : ℕ) (co
   unlike : (slot : ℕ) (value : ℕ) → core.words (ENTRY slot) ≡ value → value ≢ filling → slot ≢ slot_of sizes ((core.passes by).first + due.row.part)
   unlike slot value is ne e = ne (sym is ∙ ap (λ s. core.words (ENTRY s)) e ∙ sound.window.filling_is by ((core.passes by).first + due.row.part) (fills_here_at ((core.passes by).first + due.row.part) here))
 
-  commit_rooms : Rooms sizes (after_work sizes by work core)
+  commit_rooms : Parts sizes (after_work sizes by work core)
   commit_rooms = record {
     free = λ slot less is. subst (KeepsReady sizes) (sym (value_not_called sizes (core.passes by) work core.values calls due slot (unlike slot free is (λ e. omega (arith, e))))) (sound.rooms.free slot less is);
     ready = λ slot less is. subst (KeepsReady sizes) (sym (value_not_called sizes (core.passes by) work core.values calls due slot (unlike slot (core.words (ENTRY slot)) refl
@@ -317,7 +353,6 @@ module _ (ends : GroupsEndReady) (sizes : Sizes) (first : Values) (by : ℕ) (co
         (subst (λ s. IsFilling (stage_worked sizes (core.passes by) work.ending s) (core.passes by).first (core.passes by).entries number
         → FillsReady sizes (worked sizes work (core.passes by)) (stage_worked sizes (core.passes by) work.ending s) number (values_worked (core.passes by) work core.values (ENTRY (slot_of sizes number)))) (sym at) (filled_now work.ending refl number))
         (λ n ne is. subst (FillsReady sizes (core.passes n) (core.passes n).stage number) (sym (value_not_called sizes (core.passes by) work core.values calls due (slot_of sizes number) (apart n number ne is))) (sound.rooms.filling n number is)) n;
-    header = subst KeepsRoomy (sym (header_worked (core.passes by) work core.values (λ e. differ HEADER (ENTRY (slot_of sizes ((core.passes by).first + due.row.part))) refl (e ∙ due.cell)))) sound.rooms.header;
   }
     where
       apart : (n number : ℕ) → n ≢ by → Fills (core.passes n) number → slot_of sizes number ≢ slot_of sizes ((core.passes by).first + due.row.part)
@@ -325,11 +360,10 @@ module _ (ends : GroupsEndReady) (sizes : Sizes) (first : Values) (by : ℕ) (co
           ((sound.holding by).filling ((core.passes by).first + due.row.part) (fills_here_at ((core.passes by).first + due.row.part) here))
           (subst (λ s. times (ENTRY s) (core.passes n).hands ≡ 1) e ((sound.holding n).filling number is)) ne
 
-read_rooms : (sizes : Sizes) (by : ℕ) (core : Core) (work : Work) (page : ℕ) (dirty : Bool) → Rooms sizes core → (core.passes by).stage ≡ Copying page dirty → IsPageRead sizes core.values (core.passes by) page work → Rooms sizes (after_work sizes by work core)
+read_rooms : (sizes : Sizes) (by : ℕ) (core : Core) (work : Work) (page : ℕ) (dirty : Bool) → Rooms sizes core → (core.passes by).stage ≡ Copying page dirty → IsPageRead sizes core.values (core.passes by) page work → Parts sizes (after_work sizes by work core)
 read_rooms sizes by core work page dirty rooms at due = rooms_kept sizes core (after_work sizes by work core)
     (λ slot. part_worked (core.passes by) work core.values slot ∙ word_else core.values work.cell (called work.job work.ending (core.values work.cell)) (ENTRY slot) (λ e. differ (ENTRY slot) (STORE (file_of (core.passes by).call)) refl (e ∙ due.cell)))
-    (header_worked (core.passes by) work core.values (λ e. differ HEADER (STORE (file_of (core.passes by).call)) refl (e ∙ due.cell)))
-    (λ slot is. is) (λ slot is. inl is)
+    (λ slot is. inl is) (λ slot is. inl is)
     (λ n number. by_number (λ n (p : Pass). Fills p number → FillsReady sizes p p.stage number (core.values (ENTRY (slot_of sizes number)))) core.passes by (worked sizes work (core.passes by))
     (subst (λ s. IsFilling (stage_worked sizes (core.passes by) work.ending s) (core.passes by).first (core.passes by).entries number
     → FillsReady sizes (worked sizes work (core.passes by)) (stage_worked sizes (core.passes by) work.ending s) number (core.values (ENTRY (slot_of sizes number)))) (sym at) (go number work.ending))
@@ -339,21 +373,20 @@ read_rooms sizes by core work page dirty rooms at due = rooms_kept sizes core (a
         → FillsReady sizes (worked sizes work (core.passes by)) (stage_worked sizes (core.passes by) how (Copying page dirty)) number (core.values (ENTRY (slot_of sizes number)))
     go number Made is = absurd is
     go number (Failed came faults) is = absurd is
+    go number Refused is = absurd is
 
 -- a read of a piece leaves each part its room
 peek_ends : (sizes : Sizes) (rest : List Step) (at : ℕ) (bytes : List ℕ) (how : Ending) (value : Value) → EndsReady sizes rest value → EndsReady sizes rest (called (Peeks at bytes) how value)
 peek_ends sizes rest at bytes how (APart device room) is = is
 peek_ends sizes rest at bytes how value is = absurd is
 
-peek_rooms : (sizes : Sizes) (by : ℕ) (core : Core) (work : Work) (page one : ℕ) → Rooms sizes core → (core.passes by).stage ≡ Patching page one → IsPieceRead sizes core.values one work → Rooms sizes (after_work sizes by work core)
-peek_rooms sizes by core work page one rooms at due = record {
+peek_rooms : (sizes : Sizes) (by : ℕ) (core : Core) (work : Work) (one : ℕ) → Rooms sizes core → ((number : ℕ) → Fills (worked sizes work (core.passes by)) number → ⊥) → IsPieceRead sizes core.values one work → Parts sizes (after_work sizes by work core)
+peek_rooms sizes by core work one rooms none due = record {
   free = λ slot less is. ends [] slot (rooms.free slot less is);
   ready = λ slot less is. ends [] slot (rooms.ready slot less is);
   filling = λ n number. by_number (λ n (p : Pass). Fills p number → FillsReady sizes p p.stage number (values_worked (core.passes by) work core.values (ENTRY (slot_of sizes number)))) core.passes by (worked sizes work (core.passes by))
-      (subst (λ s. IsFilling (stage_worked sizes (core.passes by) work.ending s) (core.passes by).first (core.passes by).entries number
-      → FillsReady sizes (worked sizes work (core.passes by)) (stage_worked sizes (core.passes by) work.ending s) number (values_worked (core.passes by) work core.values (ENTRY (slot_of sizes number)))) (sym at) (go number work.ending))
+      (λ is. absurd (none number is))
       (λ n ne is. fills (core.passes n) (core.passes n).stage number (rooms.filling n number is)) n;
-  header = subst KeepsRoomy (sym (header_worked (core.passes by) work core.values (λ e. differ HEADER (ENTRY (slot_of sizes one)) refl (e ∙ due.cell)))) rooms.header;
 }
   where
     ends : (steps : List Step) (slot : ℕ) → EndsReady sizes steps (core.values (ENTRY slot)) → EndsReady sizes steps (values_worked (core.passes by) work core.values (ENTRY slot))
@@ -368,16 +401,44 @@ peek_rooms sizes by core work page one rooms at due = record {
     fills pass (Breaking next) number is = tt
     fills pass stage number is = ends [] (slot_of sizes number) is
 
-    go : (number : ℕ) (how : Ending) → IsFilling (stage_worked sizes (core.passes by) how (Patching page one)) (core.passes by).first (core.passes by).entries number
-        → FillsReady sizes (worked sizes work (core.passes by)) (stage_worked sizes (core.passes by) how (Patching page one)) number (values_worked (core.passes by) work core.values (ENTRY (slot_of sizes number)))
-    go number Made is = absurd is
-    go number (Failed came faults) is = absurd is
+-- a cleaner's calls: on a piece that it reads, on a store, or on the header
+swept_fills : (sizes : Sizes) (by : ℕ) (core : Core) (work : Work) (batch : Batch) (sweep : Sweep) → (core.passes by).stage ≡ Cleaning batch sweep → (number : ℕ) → Fills (worked sizes work (core.passes by)) number → ⊥
+swept_fills sizes by core work batch sweep at number is = clear_filling (worked sizes work (core.passes by)).stage (core.passes by).first (core.passes by).entries number
+    (subst IsClear (sym (ap (stage_worked sizes (core.passes by) work.ending) at ∙ worked_stage sizes (core.passes by) batch work.ending sweep)) (swept_worked IsClear tt (λ b s. tt) batch work.ending sweep)) is
 
-pub rooms_work : GroupsEndReady → (sizes : Sizes) (first : Values) (by : ℕ) (core : Core) (work : Work) → Sound sizes first core → MayWork sizes core.values (core.passes by) work → Rooms sizes (after_work sizes by work core)
-rooms_work ends sizes first by core work sound may = go (core.passes by).stage refl may.due
+swept_rooms : (sizes : Sizes) (by : ℕ) (core : Core) (work : Work) (batch : Batch) (sweep : Sweep) → Rooms sizes core → (core.passes by).stage ≡ Cleaning batch sweep → ((slot : ℕ) → ENTRY slot ≢ work.cell) → Parts sizes (after_work sizes by work core)
+swept_rooms sizes by core work batch sweep rooms at other = rooms_kept sizes core (after_work sizes by work core)
+    (λ slot. part_worked (core.passes by) work core.values slot ∙ word_else core.values work.cell (called work.job work.ending (core.values work.cell)) (ENTRY slot) (other slot))
+    (λ slot is. inl is) (λ slot is. inl is)
+    (λ n number. by_number (λ n (p : Pass). Fills p number → FillsReady sizes p p.stage number (core.values (ENTRY (slot_of sizes number)))) core.passes by (worked sizes work (core.passes by))
+    (λ is. absurd (swept_fills sizes by core work batch sweep at number is)) (λ n ne. rooms.filling n number) n) rooms
+
+parts_work : GroupsEndReady → (sizes : Sizes) (first : Values) (by : ℕ) (core : Core) (work : Work) → Sound sizes first core → MayWork sizes core.values (core.passes by) work → Parts sizes (after_work sizes by work core)
+parts_work ends sizes first by core work sound may = go (core.passes by).stage refl may.due
   where
-    go : (stage : Stage) → (core.passes by).stage ≡ stage → IsDue sizes core.values (core.passes by) work stage → Rooms sizes (after_work sizes by work core)
+    tidy : (batch : Batch) (sweep : Sweep) → (core.passes by).stage ≡ Cleaning batch sweep → IsChoreDue sizes core.values batch work sweep → Parts sizes (after_work sizes by work core)
+    tidy batch (Peeking i) at due = peek_rooms sizes by core work (batch.reached + i) sound.rooms (swept_fills sizes by core work batch (Peeking i) at) due
+    tidy batch (Carrying i) at due = swept_rooms sizes by core work batch (Carrying i) sound.rooms at (λ slot e. differ (ENTRY slot) (STORE (group_file sizes batch)) refl (e ∙ due.cell))
+    tidy batch (Syncing (file ∷ rest)) at due = swept_rooms sizes by core work batch (Syncing (file ∷ rest)) sound.rooms at (λ slot e. differ (ENTRY slot) (STORE file) refl (e ∙ due.0))
+    tidy batch (Moving calls) at due = swept_rooms sizes by core work batch (Moving calls) sound.rooms at (λ slot e. differ (ENTRY slot) HEADER refl (e ∙ due.cell))
+    tidy batch sweep at due = absurd due
+
+    patched : (page number : ℕ) → (core.passes by).stage ≡ Patching page number → (n : ℕ) → Fills (worked sizes work (core.passes by)) n → ⊥
+    patched page number at n is = none work.ending (subst (λ s. IsFilling (stage_worked sizes (core.passes by) work.ending s) (core.passes by).first (core.passes by).entries n) at is)
+      where
+        none : (how : Ending) → IsFilling (stage_worked sizes (core.passes by) how (Patching page number)) (core.passes by).first (core.passes by).entries n → ⊥
+        none Made is = is
+        none (Failed came faults) is = is
+        none Refused is = is
+
+    go : (stage : Stage) → (core.passes by).stage ≡ stage → IsDue sizes core.values (core.passes by) work stage → Parts sizes (after_work sizes by work core)
     go (Committing calls) at due = commit_rooms ends sizes first by core work calls sound may at due
     go (Copying page dirty) at due = read_rooms sizes by core work page dirty sound.rooms at due
-    go (Patching page number) at due = peek_rooms sizes by core work page number sound.rooms at due
+    go (Patching page number) at due = peek_rooms sizes by core work number sound.rooms (patched page number at) due
+    go (Cleaning batch sweep) at due = tidy batch sweep at due
     go stage at due = absurd due
+
+pub rooms_work : GroupsEndReady → (sizes : Sizes) (first : Values) (by : ℕ) (core : Core) (work : Work) → Sound sizes first core → MayWork sizes core.values (core.passes by) work → Rooms sizes (after_work sizes by work core)
+rooms_work ends sizes first by core work sound may =
+    let parts = parts_work ends sizes first by core work sound may in
+    record { free = parts.free; ready = parts.ready; filling = parts.filling; header = header_work_room sizes first by core work sound may; moving = moving_work_room sizes first by core work sound may }

@@ -5,9 +5,9 @@ use Rattle.nv_plain.specs.declared.call.FileCall.{FileCall}
 use Rattle.nv_plain.specs.declared.call.FileCall.TheVariants.{Read, Write, Sync}
 use Rattle.nv_core.specs.Totals.{total}
 use Rattle.nv_core.specs.Words.{Sizes, Word, STOP, ORDER, HEAD, TAIL, SIZE, LENGTH, STORE, ENTRY, HINT, PAGE, CLEANUP, DIRTY, page_total, index, ready, is_entry_of}
-use Rattle.nv_core.specs.Values.{Value, ABuffer, Job, Reads, Ending, Made, Failed, called, filled, buffers_in, lacks_buffer, emptied, received}
-use Rattle.nv_core.specs.Passes.{Stage, Idle, Locking, Measuring, Sizing, Checking, Ordering, Reading, Waiting, Fetching, Copying, Returning, Bounding, Scanning, Grasping, Patching, Unlocking, Search, Hinting, Seeking, Robbing, Robbed, Nothing, Found, Searching, Heading, Tailing, Drawing, Seizing, Committing, Pledging, Readying, Placing, Growing, Releasing, Giving, Leaving, ReadFailing, PieceFailing, WriteFailing, Breaking, Pass, fetched_bytes, len_of, is_write, is_read, page_count, first_page, end_page, without, times}
-use Rattle.nv_core.specs.Deeds.{Deed, Loads, Takes, Gives, Places, Stops, Draws, Seizes, Pledges, Readies, Grows, Breaks, Turns, Hints, Holds, Returns, Splits, Leaves, Joins, slot_of, patched_by}
+use Rattle.nv_core.specs.Values.{Value, ABuffer, Job, Reads, Ending, Made, Failed, Refused, called, filled, buffers_in, lacks_buffer, emptied, received}
+use Rattle.nv_core.specs.Passes.{Stage, Idle, Locking, Measuring, Sizing, Checking, Ordering, Reading, Waiting, Fetching, Copying, Returning, Bounding, Scanning, Grasping, Patching, Unlocking, Search, Hinting, Seeking, Robbing, Robbed, Nothing, Found, Searching, Heading, Tailing, Drawing, Seizing, Committing, Pledging, Readying, Placing, Growing, Releasing, Giving, Leaving, ReadFailing, PieceFailing, WriteFailing, Breaking, Pass, fetched_bytes, len_of, is_write, is_read, page_count, first_page, end_page, without, times, Cleaning}
+use Rattle.nv_core.specs.Deeds.{Deed, Loads, Takes, Gives, Places, Stops, Draws, Seizes, Pledges, Readies, Grows, Breaks, Turns, Hints, Holds, Returns, Splits, Leaves, Joins, slot_of, patched_by, Tends, chore_move, moved}
 use Rattle.nv_core.specs.Stages.{stage_after, after_load, after_give, after_stop, leaving, giving, ending, ordered, copying, exceeds, scanning, after_head, after_tail, after_look, after_hold, after_return}
 use Rattle.nv_core.specs.Stepped.{begun}
 use Rattle.nv_core.specs.Order.{Values, Work, MayWork, MayStep, MayLoad, MayTake, MayGive, IsDue, IsFailing}
@@ -25,6 +25,8 @@ use Rattle.nv_core.proofs.LockLaws.{only_holder}
 use Rattle.nv_core.proofs.WordLaws.{untouched}
 use Rattle.nv_core.proofs.TotalLaws.{total_same, total_at}
 use Rattle.nv_core.proofs.ValueLaws.{IsUnmoving, buffers_steady, steady_unmoved}
+use Rattle.nv_core.proofs.StandingLaws.{worked_stage}
+use Rattle.nv_core.proofs.SweepStages.{tended_to, swept_worked}
 use Rattle.nv_core.proofs.SearchLaws.{hinting_next, tried_next}
 use Rattle.nv_core.proofs.BufferLaws.{not_own, searching_holds}
 use Rattle.nv_core.proofs.KeepsEntryWords.{pages_within}
@@ -280,6 +282,7 @@ module _ (sizes : Sizes) (values : Values) (pass : Pass) where
       (λ _. at_leaving (without (ENTRY (slot_of sizes next)) pass.hands)) (λ _. at_scanning may.0 (next + 1)))
   at_step (Turns page) found within may was = (below found sizes.buffers (let few = may.few in omega (arith, few)), may.lacks)
   at_step (Hints buffer page) found within may was = may.has
+  at_step (Tends chore) found within may was = tended_to (KnowsAt sizes values) tt (λ b s. tt) sizes pass (moved (chore_move sizes chore found) pass.hands) chore found pass.stage may
   at_step deed found within may was = absurd may
 
 known_here : (sizes : Sizes) (first : Values) (by : ℕ) (core : Core) (found : ℕ) (deed : Deed) → Sound sizes first core → MayFind sizes by core deed found
@@ -347,6 +350,10 @@ searches_work sizes by core work may was = record {
     works (Failed came faults) (Committing calls) due = tt
     works (Failed came faults) (Copying page dirty) due = tt
     works (Failed came faults) (Patching page next) due = tt
+    works Refused (Committing calls) due = tt
+    works Refused (Copying page dirty) due = tt
+    works Refused (Patching page next) due = tt
+    works how (Cleaning batch sweep) due = subst (KnowsAt sizes (values_worked (core.passes by) work core.values)) (sym (worked_stage sizes (core.passes by) batch how sweep)) (swept_worked (KnowsAt sizes (values_worked (core.passes by) work core.values)) tt (λ b s. tt) batch how sweep)
     works how stage due = absurd due
 
 -- ---- at opening

@@ -1,18 +1,21 @@
 -- Each event keeps STOP, the buffers and the devices.
-use Rattle.std.proofs.Common.{◌≡◌, ◌≢◌, ◌⊎◌, ℕ, ◌+◌, ◌-◌, ◌^◌, ◌≤◌, ◌==◌, min, Bool, true, false, if◌then◌else◌, length, inl, inr, refl, sym, ap, subst, ◌∙◌, arith, le_trans}
+use Rattle.std.proofs.Common.{◌≡◌, ◌≢◌, ◌⊎◌, ℕ, ◌+◌, ◌-◌, ◌^◌, ◌≤◌, ◌==◌, min, Bool, true, false, if◌then◌else◌, List, [], ◌∷◌, length, inl, inr, refl, sym, ap, subst, ◌∙◌, arith, le_trans}
 use Rattle.std.proofs.lemmas.Bool.{eqb-false, or_cases}
 use Rattle.nv_plain.specs.Faults.{Rose}
 use Rattle.nv_plain.specs.declared.call.FileCall.{FileCall}
 use Rattle.nv_core.specs.Words.{Sizes, Word, STOP, ENTRY, PAGE, page_total}
-use Rattle.nv_core.specs.Values.{Ending, Made, Failed, called, faults_of, identity_of, buffers_in}
-use Rattle.nv_core.specs.Passes.{Stage, Locking, Checking, Copying, Seizing, Committing, Pledging, Readying, Placing, ReadFailing, WriteFailing, Breaking, Pass, page_count, first_page, end_page, without, PieceFailing, Patching}
-use Rattle.nv_core.specs.Deeds.{Deed, Loads, Takes, Gives, Places, Stops, Draws, Seizes, Pledges, Readies, Grows, Breaks, Splits, Leaves, Joins, slot_of, Turns, Hints, Holds, Returns}
-use Rattle.nv_core.specs.Stages.{stage_after, after_stop, leaving}
+use Rattle.nv_core.specs.Values.{Ending, Made, Failed, Refused, called, faults_of, identity_of, buffers_in}
+use Rattle.nv_core.specs.Sweeps.{Batch, Sweep, Lifting, Peeking, Carrying, Setting, Syncing, Moving, Freeing, Failing, Chore, Looks, Halts}
+use Rattle.nv_core.specs.Chores.{after_chore_work}
+use Rattle.nv_header.specs.HeaderSteps.{tail_steps}
+use Rattle.nv_core.specs.Passes.{Stage, Locking, Checking, Copying, Seizing, Committing, Pledging, Readying, Placing, ReadFailing, WriteFailing, Breaking, Pass, page_count, first_page, end_page, without, PieceFailing, Patching, Cleaning}
+use Rattle.nv_core.specs.Deeds.{Deed, Loads, Takes, Gives, Places, Stops, Draws, Seizes, Pledges, Readies, Grows, Breaks, Splits, Leaves, Joins, slot_of, Turns, Hints, Holds, Returns, Tends, chore_move, moved}
+use Rattle.nv_core.specs.Stages.{stage_after, after_stop, after_tending, leaving}
 use Rattle.nv_core.specs.Stepped.{stopped_after}
-use Rattle.nv_core.specs.Order.{Values, Work, MayWork, MayStep, IsDue, IsFailing, MayEnd, commit_steps}
+use Rattle.nv_core.specs.Order.{Values, Work, MayWork, MayStep, MayTend, IsDue, IsChoreDue, IsFailing, MayEnd, commit_steps}
 use Rattle.nv_core.specs.Core.{Core, changes, changed, after_step, after_begin, after_work, stage_worked, values_worked, values_stepped}
 use Rattle.nv_core.specs.Events.{MayDo, MayFind, MayBegin}
-use Rattle.nv_core.specs.Stop.{HasFailed, Stop}
+use Rattle.nv_core.specs.Stop.{HasFailed, IsHalting, Stop}
 use Rattle.nv_core.specs.BuffersKept.{BuffersKept}
 use Rattle.nv_core.specs.Devices.{Devices}
 use Rattle.nv_core.specs.Sound.{Sound}
@@ -23,6 +26,10 @@ use Rattle.nv_core.proofs.WordLaws.{untouched, touches}
 use Rattle.nv_core.proofs.TotalLaws.{total_same}
 use Rattle.nv_core.proofs.ValueLaws.{faults_steady, identity_steady, steady_stepped, steady_worked, identity_worked, buffers_worked, faults_rose, faults_worked, faults_robbed, identity_robbed}
 use Rattle.nv_core.proofs.Inherits.{inherits}
+use Rattle.nv_core.proofs.KeepsProgress.{IsCall, step_call}
+use Rattle.nv_core.proofs.SweepDeeds.{IsTending, tending}
+use Rattle.nv_core.proofs.SweepLands.{IsLanding, tended_lands}
+use Rattle.nv_core.proofs.SweepStages.{swept_worked}
 
 -- ---- no step leads to a fault
 
@@ -55,7 +62,24 @@ none_fails sizes values pass found (Breaks next) may = if_both (λ s. IsFailing 
     (λ _. clear_failing (leaving (without (ENTRY (slot_of sizes next)) pass.hands)) (clear_leaving (without (ENTRY (slot_of sizes next)) pass.hands))) (λ _ z. z)
 none_fails sizes values pass found (Holds next) may = clear_failing _ (clear_to sizes values pass (Holds next) found tt may)
 none_fails sizes values pass found (Returns next) may = clear_failing _ (clear_to sizes values pass (Returns next) found tt may)
+none_fails sizes values pass found (Tends chore) may = clear_failing _ (clear_to sizes values pass (Tends chore) found tt may)
 none_fails sizes values pass found deed may = absurd may
+
+-- nor, by a cleaner, to STOP
+call_halting : (stage : Stage) → IsCall stage → IsHalting stage → ⊥
+call_halting (Cleaning batch sweep) call is = call
+call_halting stage call is = is
+
+tended_halting : (sizes : Sizes) (pass : Pass) (hands : List Word) (chore : Chore) (found : ℕ) (stage : Stage) → MayTend sizes pass chore stage → IsHalting (after_tending sizes hands chore found stage) → ⊥
+tended_halting = tended_lands (λ s. IsHalting s → ⊥) (λ z. z) landed
+  where
+    landed : (batch : Batch) (sweep : Sweep) → IsLanding sweep → IsHalting (Cleaning batch sweep) → ⊥
+    landed batch (Failing n) lands is = lands
+    landed batch sweep lands is = is
+
+none_halts : (sizes : Sizes) (values : Values) (pass : Pass) (found : ℕ) (deed : Deed) → MayStep sizes values pass deed → IsHalting (stage_after sizes pass deed found) → ⊥
+none_halts sizes values pass found (Tends chore) may = tended_halting sizes pass (moved (chore_move sizes chore found) pass.hands) chore found pass.stage may
+none_halts sizes values pass found deed may = call_halting (stage_after sizes pass deed found) (step_call sizes values pass deed found (λ f. f) may)
 
 -- ---- counts
 
@@ -93,12 +117,21 @@ saw pass STOP found is = go (found == 0) refl is
     go false e is = inr (refl, eqb-false found 0 e)
 saw pass word found is = inl is
 
+saw_too : (pass : Pass) (word : Word) (found : ℕ) → (stopped_after pass (Tends (Looks word)) found ≡ true) → (pass.stopped ≡ true) ⊎ ((word ≡ STOP) × (found ≢ 0))
+saw_too pass STOP found is = saw pass STOP found is
+saw_too pass word found is = inl is
+
 stop_stays : (sizes : Sizes) (first : Values) (by : ℕ) (core : Core) (found : ℕ) (deed : Deed) → MayFind sizes by core deed found → Sound sizes first core → touches deed STOP ≡ false → (changed sizes by core deed found).stopped ≡ true → core.words STOP ≡ 1
 stop_stays sizes first by core found (Loads word) may sound other is = elim (saw (core.passes by) word found is) [
   | inl old ↦ sound.stop.stays by old
   | inr new ↦ let f : core.words STOP ≡ found = ap core.words (sym new.0) ∙ may.is in let ne = new.1 in let bit = sound.stop.bit in omega (arith, f, ne, bit)
 ]
 stop_stays sizes first by core found Stops may sound other is = absurd (not_both refl other)
+stop_stays sizes first by core found (Tends Halts) may sound other is = absurd (not_both refl other)
+stop_stays sizes first by core found (Tends (Looks word)) may sound other is = elim (saw_too (core.passes by) word found is) [
+  | inl old ↦ sound.stop.stays by old
+  | inr new ↦ let f : core.words STOP ≡ found = ap core.words (sym new.0) ∙ may.is in let ne = new.1 in let bit = sound.stop.bit in omega (arith, f, ne, bit)
+]
 stop_stays sizes first by core found Splits may sound other is = inherits (λ p. p.stopped ≡ true → core.words STOP ≡ 1) core
     (λ one two a b both. elim (or_cases one.stopped two.stopped both) [ inl x ↦ a x | inr y ↦ b y ]) sound.stop.stays (λ p is. is) is
 stop_stays sizes first by core found deed may sound other is = sound.stop.stays by is
@@ -111,6 +144,17 @@ fails_now : (sizes : Sizes) (first : Values) (by : ℕ) (core : Core) (deed : De
 fails_now sizes first by core deed found sound may = by_number (λ n (p : Pass). IsFailing p.stage → HasFailed first (values_stepped sizes (core.passes by) deed core.values)) core.passes (changes by core.made deed) (changed sizes by core deed found)
     (λ is. on sizes first by core deed (stop_fails sizes first by core found deed may.may sound is)) (λ n ne is. on sizes first by core deed (sound.stop.failing n is))
 
+stop_halts : (sizes : Sizes) (first : Values) (by : ℕ) (core : Core) (found : ℕ) (deed : Deed) → MayDo sizes by core deed → Sound sizes first core → IsHalting (changed sizes by core deed found).stage → HasFailed first core.values
+stop_halts sizes first by core found Splits may sound is = absurd is
+stop_halts sizes first by core found (Leaves cell) may sound is = sound.stop.halting by is
+stop_halts sizes first by core found (Joins number) may sound is = sound.stop.halting by is
+stop_halts sizes first by core found deed may sound is = absurd (none_halts sizes core.values (core.passes by) found deed may is)
+
+halts_now : (sizes : Sizes) (first : Values) (by : ℕ) (core : Core) (deed : Deed) (found : ℕ) → Sound sizes first core → MayFind sizes by core deed found
+    → (n : ℕ) → IsHalting ((after_step sizes by deed found core).passes n).stage → HasFailed first (values_stepped sizes (core.passes by) deed core.values)
+halts_now sizes first by core deed found sound may = by_number (λ n (p : Pass). IsHalting p.stage → HasFailed first (values_stepped sizes (core.passes by) deed core.values)) core.passes (changes by core.made deed) (changed sizes by core deed found)
+    (λ is. on sizes first by core deed (stop_halts sizes first by core found deed may.may sound is)) (λ n ne is. on sizes first by core deed (sound.stop.halting n is))
+
 up : (sizes : Sizes) (first : Values) (by : ℕ) (core : Core) (deed : Deed) → Sound sizes first core → (cell : Word) → faults_of (first cell) ≤ faults_of (values_stepped sizes (core.passes by) deed core.values cell)
 up sizes first by core deed sound cell = le_trans (sound.stop.never_fell cell) (same_faults sizes (core.passes by) deed core.values cell)
 
@@ -122,6 +166,7 @@ stop_else sizes first by core deed found sound may other =
       bit = subst (λ n. n ≤ 1) (sym same) sound.stop.bit;
       stopped = λ is. on sizes first by core deed (sound.stop.stopped (sym same ∙ is));
       failing = fails_now sizes first by core deed found sound may;
+      halting = halts_now sizes first by core deed found sound may;
       never_fell = up sizes first by core deed sound;
       stays = by_number (λ n (p : Pass). p.stopped ≡ true → (after_step sizes by deed found core).words STOP ≡ 1) core.passes (changes by core.made deed) (changed sizes by core deed found)
           (λ is. same ∙ stop_stays sizes first by core found deed may sound other is) (λ n ne is. same ∙ sound.stop.stays n is);
@@ -132,9 +177,22 @@ stop_step sizes first by core Stops found sound may = record {
   bit = subst (λ n. n ≤ 1) (sym (word_here core.words STOP 1)) (omega arith);
   stopped = λ is. sound.stop.failing by may.may;
   failing = fails_now sizes first by core Stops found sound may;
+  halting = halts_now sizes first by core Stops found sound may;
   never_fell = sound.stop.never_fell;
   stays = λ n is. word_here core.words STOP 1;
 }
+stop_step sizes first by core (Tends Halts) found sound may = record {
+  bit = subst (λ n. n ≤ 1) (sym (word_here core.words STOP 1)) (omega arith);
+  stopped = λ is. sound.stop.halting by (subst IsHalting (sym (t.stage ∙ ap (Cleaning t.batch) t.made.1)) tt);
+  failing = fails_now sizes first by core (Tends Halts) found sound may;
+  halting = halts_now sizes first by core (Tends Halts) found sound may;
+  never_fell = sound.stop.never_fell;
+  stays = λ n is. word_here core.words STOP 1;
+}
+  where
+    t : IsTending (core.passes by) Halts
+    t = tending sizes (core.passes by) Halts tt may.may
+stop_step sizes first by core (Tends chore) found sound may = stop_else sizes first by core (Tends chore) found sound may refl
 stop_step sizes first by core deed found sound may = stop_else sizes first by core deed found sound may refl
 
 pub stop_begin : (sizes : Sizes) (first : Values) (by : ℕ) (core : Core) (call : FileCall) → Sound sizes first core → MayBegin sizes call (core.passes by) → Stop first (after_begin sizes by call core)
@@ -143,6 +201,8 @@ stop_begin sizes first by core call sound may = record {
   stopped = sound.stop.stopped;
   failing = by_number (λ n (p : Pass). IsFailing p.stage → HasFailed first core.values) core.passes by _
       (if_both (λ s. IsFailing s → HasFailed first core.values) (page_count sizes call == 0) Checking (Locking (first_page sizes call)) (λ _ z. absurd z) (λ _ z. absurd z)) (λ n ne is. sound.stop.failing n is);
+  halting = by_number (λ n (p : Pass). IsHalting p.stage → HasFailed first core.values) core.passes by _
+      (if_both (λ s. IsHalting s → HasFailed first core.values) (page_count sizes call == 0) Checking (Locking (first_page sizes call)) (λ _ z. absurd z) (λ _ z. absurd z)) (λ n ne is. sound.stop.halting n is);
   never_fell = sound.stop.never_fell;
   stays = by_number (λ n (p : Pass). p.stopped ≡ true → core.words STOP ≡ 1) core.passes by _ (sound.stop.stays by) (λ n ne is. sound.stop.stays n is);
 }
@@ -157,7 +217,47 @@ worked_fails sizes values pass work due is = go work.ending refl pass.stage due 
     go Made e (Committing calls) due is = absurd (if_both (λ s. IsFailing s → ⊥) (calls + 1 == length (commit_steps sizes pass pass.call)) (Pledging (first_page sizes pass.call)) (Committing (calls + 1)) (λ _ z. z) (λ _ z. z) is)
     go Made e (Copying page dirty) due is = absurd is
     go Made e (Patching page number) due is = absurd is
-    go Made e stage due is = absurd due
+    go Made e (Cleaning batch sweep) due is = absurd (swept_worked (λ s. IsFailing s → ⊥) (λ z. z) (λ b s z. z) batch Made sweep is)
+    go Refused e (Committing calls) due is = absurd is
+    go Refused e (Copying page dirty) due is = absurd is
+    go Refused e (Patching page number) due is = absurd is
+    go Refused e (Cleaning batch sweep) due is = absurd (swept_worked (λ s. IsFailing s → ⊥) (λ z. z) (λ b s z. z) batch Refused sweep is)
+    go how e stage due is = absurd due
+
+-- a cleaner is about to set STOP by a device call that failed
+worked_halts : (sizes : Sizes) (values : Values) (pass : Pass) (work : Work) → IsDue sizes values pass work pass.stage → IsHalting (stage_worked sizes pass work.ending pass.stage) → (came : Bool) × (faults : ℕ) × (work.ending ≡ Failed came faults)
+worked_halts sizes values pass work due is = go work.ending refl pass.stage due is
+  where
+    none : (batch : Batch) (how : Ending) (sweep : Sweep) → (how ≡ Made) ⊎ (how ≡ Refused) → IsChoreDue sizes values batch work sweep → IsHalting (after_chore_work batch how sweep) → ⊥
+    none batch Made (Carrying i) which due is = if_both (λ s. IsHalting s → ⊥) (i + 1 == length batch.pages) (Cleaning batch (Setting 0)) (Cleaning batch (Lifting (i + 1))) (λ _ z. z) (λ _ z. z) is
+    none batch Made (Peeking i) which due is = is
+    none batch Made (Syncing (file ∷ [])) which due is = is
+    none batch Made (Syncing (file ∷ (other ∷ rest))) which due is = is
+    none batch Made (Moving calls) which due is = if_both (λ s. IsHalting s → ⊥) (calls + 1 == length (tail_steps batch.reached)) (Cleaning batch (Freeing batch.tail)) (Cleaning batch (Moving (calls + 1))) (λ _ z. z) (λ _ z. z) is
+    none batch Refused (Carrying i) which due is = is
+    none batch Refused (Peeking i) which due is = is
+    none batch Refused (Syncing (file ∷ rest)) which due is = is
+    none batch Refused (Moving calls) which due is = is
+    none batch (Failed came faults) sweep which due is = elim which [ inl e ↦ not_made came faults e | inr e ↦ not_refused came faults e ]
+      where
+        not_made : (came : Bool) (faults : ℕ) → Failed came faults ≢ Made
+        not_made came faults e = cc
+
+        not_refused : (came : Bool) (faults : ℕ) → Failed came faults ≢ Refused
+        not_refused came faults e = cc
+    none batch how sweep which due is = due
+
+    go : (how : Ending) → work.ending ≡ how → (stage : Stage) → IsDue sizes values pass work stage → IsHalting (stage_worked sizes pass how stage) → (came : Bool) × (faults : ℕ) × (work.ending ≡ Failed came faults)
+    go (Failed came faults) e stage due is = (came, faults, e)
+    go Made e (Committing calls) due is = absurd (if_both (λ s. IsHalting s → ⊥) (calls + 1 == length (commit_steps sizes pass pass.call)) (Pledging (first_page sizes pass.call)) (Committing (calls + 1)) (λ _ z. z) (λ _ z. z) is)
+    go Made e (Copying page dirty) due is = absurd is
+    go Made e (Patching page number) due is = absurd is
+    go Made e (Cleaning batch sweep) due is = absurd (none batch Made sweep (inl refl) due is)
+    go Refused e (Committing calls) due is = absurd is
+    go Refused e (Copying page dirty) due is = absurd is
+    go Refused e (Patching page number) due is = absurd is
+    go Refused e (Cleaning batch sweep) due is = absurd (none batch Refused sweep (inr refl) due is)
+    go how e stage due is = absurd due
 
 pub stop_work : (sizes : Sizes) (first : Values) (by : ℕ) (core : Core) (work : Work) → Sound sizes first core → MayWork sizes core.values (core.passes by) work → Stop first (after_work sizes by work core)
 stop_work sizes first by core work sound may = record {
@@ -165,6 +265,8 @@ stop_work sizes first by core work sound may = record {
   stopped = λ is. rises (sound.stop.stopped is);
   failing = by_number (λ n (p : Pass). IsFailing p.stage → HasFailed first (values_worked (core.passes by) work core.values)) core.passes by _
       (λ is. failed (worked_fails sizes core.values (core.passes by) work may.due is)) (λ n ne is. rises (sound.stop.failing n is));
+  halting = by_number (λ n (p : Pass). IsHalting p.stage → HasFailed first (values_worked (core.passes by) work core.values)) core.passes by _
+      (λ is. failed (worked_halts sizes core.values (core.passes by) work may.due is)) (λ n ne is. rises (sound.stop.halting n is));
   never_fell = λ cell. le_trans (sound.stop.never_fell cell) (faults_worked (core.passes by) work core.values may.ends cell);
   stays = by_number (λ n (p : Pass). p.stopped ≡ true → core.words STOP ≡ 1) core.passes by _ (sound.stop.stays by) (λ n ne is. sound.stop.stays n is);
 }

@@ -3,37 +3,42 @@ use Rattle.std.proofs.Common.{◌≡◌, ◌≢◌, ◌⊎◌, ℕ, ◌+◌, ◌
 use Rattle.std.proofs.lemmas.Bool.{cases_eq}
 use Rattle.nv_plain.specs.declared.call.FileCall.{FileCall}
 use Rattle.nv_plain.specs.declared.call.Reply.{Reply}
-use Rattle.nv_core.specs.Words.{Sizes, Word, HEAD, TAIL, PAGE, ENTRY, kind_of, free, filling, broken, index, was_readied}
-use Rattle.nv_core.specs.Values.{Ending, Made, Failed}
-use Rattle.nv_core.specs.Passes.{Stage, Locking, Checking, Copying, Drawing, Seizing, Committing, Pledging, Readying, Placing, Reading, WriteFailing, Breaking, Fault, Pass, IsOneOf, IsUnseized, IsFilling, IsAmong, is_write, page_count, first_page, end_page, times, Patching}
-use Rattle.nv_core.specs.Deeds.{Deed, slot_of, page_at, ready_word, Loads, Takes, Gives, Places, Stops, Draws, Seizes, Pledges, Readies, Grows, Breaks, Splits, Leaves, Joins, Turns, Hints, Holds, Returns}
+use Rattle.nv_core.specs.Words.{Sizes, HEAD, TAIL, PAGE, ENTRY, kind_of, free, filling, broken, index, was_readied}
+use Rattle.nv_core.specs.Values.{Ending, Made, Failed, Refused}
+use Rattle.nv_core.specs.Sweeps.{Lifts, Drops, Cleans, Frees, Retires}
+use Rattle.nv_core.specs.Passes.{Stage, Locking, Checking, Copying, Drawing, Seizing, Committing, Pledging, Readying, Placing, Reading, WriteFailing, Breaking, Fault, Pass, IsOneOf, IsUnseized, IsFilling, IsAmong, is_write, page_count, first_page, end_page, times, Patching, Cleaning}
+use Rattle.nv_core.specs.Deeds.{Deed, slot_of, page_at, ready_word, Loads, Takes, Gives, Places, Stops, Draws, Seizes, Pledges, Readies, Grows, Breaks, Splits, Leaves, Joins, Turns, Hints, Holds, Returns, Tends}
 use Rattle.nv_core.specs.Stages.{leaving}
 use Rattle.nv_core.specs.Stepped.{begun, fault_of}
 use Rattle.nv_core.specs.Order.{Values, Work, MayWork, IsDue, commit_steps, MayPlace}
 use Rattle.nv_core.specs.Core.{Core, changes, changed, with_word, with_number, after_step, after_begin, after_work, worked, stage_worked}
-use Rattle.nv_core.specs.Events.{MayDo, MayFind}
+use Rattle.nv_core.specs.Events.{MayDo, MayFind, MayBegin}
 use Rattle.nv_core.specs.Standing.{StandsAt, HasDrawn, IsPage, IsSmall, HasRoom}
 use Rattle.nv_core.specs.Holding.{HoldsLocks}
 use Rattle.nv_core.specs.EntryWords.{IsEntryWord, IsFree, IsFilled, IsBroken, IsReady}
 use Rattle.nv_core.specs.Broken.{HasChecked, victim_held}
-use Rattle.nv_core.specs.LogWindow.{HasUnseized, Fills, InWindow, entry_at, IsNumbered, Drawn, Filling, Kept}
+use Rattle.nv_core.specs.LogWindow.{HasUnseized, Fills, InWindow, WasReadied, entry_at, IsNumbered, Drawn, Filling, Freed, Kept}
 use Rattle.nv_core.specs.Groups.{Group, Log, with_group, log_stepped, log_worked, HasGroup, Groups}
 use Rattle.nv_core.specs.Pieces.{page_of_number}
 use Rattle.nv_core.specs.InFlight.{placed_stepped, IsFlying, InFlight}
 use Rattle.nv_core.specs.Unready.{IsOfFault, IsUnready, Unready}
 use Rattle.nv_core.specs.Sound.{Sound}
-use Rattle.nv_core.proofs.Changes.{by_number, by_word, number_here, number_else, word_here, word_else, differ}
+use Rattle.nv_core.proofs.Changes.{by_number, number_here, number_else, word_here, word_else, differ}
 use Rattle.nv_core.proofs.Choices.{if_both, not_both, when_true, when_false}
 use Rattle.nv_core.proofs.ClearLaws.{IsClear, clear_to, clear_leaving}
 use Rattle.nv_core.proofs.PageLaws.{write_pages}
-use Rattle.nv_core.proofs.WordLaws.{untouched}
+use Rattle.nv_core.proofs.WordLaws.{untouched, touches}
+use Rattle.nv_core.proofs.SweepStages.{swept_worked}
+use Rattle.nv_core.proofs.SweepDeeds.{frees_hand, retires_hand}
+use Rattle.nv_core.proofs.SweepReadied.{lifts_rekind, drops_rekind, cleans_rekind}
+use Rattle.nv_core.proofs.ReadiedLaws.{readied_still, begun_still, worked_still}
 use Rattle.nv_core.proofs.KeepsLocks.{readied_is, ready_is}
 use Rattle.nv_core.proofs.KeepsLoaded.{holds_page, held_by_one}
 use Rattle.nv_core.proofs.KeepsWindow.{window_step}
 use Rattle.nv_core.proofs.KeepsInFlight.{no_reading}
 use Rattle.nv_core.proofs.KeepsGroups.{group_new, group_old, which, log_group}
 use Rattle.nv_core.proofs.WindowLaws.{apart_within}
-use Rattle.nv_core.proofs.Rekinded.{holds_rekind, returns_rekind, rekind_broken}
+use Rattle.nv_core.proofs.Rekinded.{IsRekinded, holds_rekind, returns_rekind, rekind_broken}
 
 -- ---- passes that break
 
@@ -73,6 +78,7 @@ breaking_now sizes by core found (Readies next) may old number e = absurd (if_bo
     (λ _. elsewhere _ _ refl refl number) (λ _. elsewhere _ _ refl refl number) e)
 breaking_now sizes by core found (Holds next) may old number e = absurd (clear_breaking _ number (clear_to sizes core.values (core.passes by) (Holds next) found tt may) e)
 breaking_now sizes by core found (Returns next) may old number e = absurd (clear_breaking _ number (clear_to sizes core.values (core.passes by) (Returns next) found tt may) e)
+breaking_now sizes by core found (Tends chore) may old number e = absurd (clear_breaking _ number (clear_to sizes core.values (core.passes by) (Tends chore) found tt may) e)
 breaking_now sizes by core found Splits may old number e = absurd (elsewhere _ _ refl refl number e)
 breaking_now sizes by core found (Leaves cell) may old number e = old by number e
 breaking_now sizes by core found (Joins other) may old number e = old by number e
@@ -93,10 +99,18 @@ KeepsFaults core now = (by : ℕ) (fault : Fault) → IsOneOf (core.passes by).f
 still_of : (core now : Core) (group : Group) → KeepsFaults core now → IsOfFault core group → IsOfFault now group
 still_of core now group keeps is = record { by = is.by; fault = is.fault; ended = keeps is.by is.fault is.ended; is = is.is }
 
-module _ (sizes : Sizes) (log : Log) (placed next : ℕ → Bool) (core now : Core) (head : now.words HEAD ≡ core.words HEAD) (tail : now.words TAIL ≡ core.words TAIL) where
+-- a leader that was never made ready is neither ready nor freed
+not_readied : (sizes : Sizes) (log : Log) (core : Core) (n : ℕ) → IsUnready sizes log core n → WasReadied sizes core n → ⊥
+not_readied sizes log core n is (inl kind) = is.unready kind
+not_readied sizes log core n is (inr freed) = is.unfreed freed.0 freed.1
+
+none_readied : (sizes : Sizes) (log : Log) (core : Core) (n : ℕ) → InWindow core n → (log.group n).first ≡ n → (WasReadied sizes core n → ⊥) → IsUnready sizes log core n
+none_readied sizes log core n within leads none = record { within = within; leads = leads; unready = λ kind. none (inl kind); unfreed = λ by freed. none (inr (by, freed)) }
+
+module _ (sizes : Sizes) (log : Log) (placed next : ℕ → Bool) (core now : Core) (head : now.words HEAD ≡ core.words HEAD) (window : core.words TAIL ≤ now.words TAIL) where
   unready_kept : KeepsFaults core now → BreaksListed now
       → ((n : ℕ) → InWindow core n → entry_at sizes now n ≡ broken → (entry_at sizes core n ≡ broken) ⊎ IsOfFault now (log.group n))
-      → ((n : ℕ) → InWindow core n → was_readied (entry_at sizes core n) ≡ true → was_readied (entry_at sizes now n) ≡ true)
+      → ((n : ℕ) → InWindow core n → now.words TAIL ≤ n → WasReadied sizes core n → WasReadied sizes now n)
       → ((n : ℕ) → IsUnready sizes log core n → placed n ≡ false → next n ≡ false)
       → Unready sizes log placed core → Unready sizes log next now
   unready_kept faults breaks brokens still places unready = record {
@@ -110,10 +124,10 @@ module _ (sizes : Sizes) (log : Log) (placed next : ℕ → Bool) (core now : Co
   }
     where
       was : (n : ℕ) → InWindow now n → InWindow core n
-      was n is = (subst (λ t. t ≤ n) tail is.0, subst (λ h. n < h) head is.1)
+      was n is = let l = is.0 in let w = window in (omega (arith, l, w), subst (λ h. n < h) head is.1)
 
       before : (n : ℕ) → IsUnready sizes log now n → IsUnready sizes log core n
-      before n is = record { within = was n is.within; leads = is.leads; unready = λ e. is.unready (still n (was n is.within) e) }
+      before n is = none_readied sizes log core n (was n is.within) is.leads (λ e. not_readied sizes log now n is (still n (was n is.within) is.within.0 e))
 
 -- ---- the steps
 
@@ -125,35 +139,43 @@ module _ (sizes : Sizes) (first : Values) (log : Log) (placed : ℕ → Bool) (b
   breaks_after = by_number (λ n (p : Pass). (number : ℕ) → p.stage ≡ Breaking number → IsOneOf p.faulted (fault_of p)) core.passes (changes by core.made deed) (changed sizes by core deed found)
       (breaking_now sizes by core found deed may.may unready.breaking) (λ n ne. unready.breaking n)
 
+  any_unready : (next : ℕ → Bool) → (after_step sizes by deed found core).words HEAD ≡ core.words HEAD → core.words TAIL ≤ (after_step sizes by deed found core).words TAIL
+      → ((n : ℕ) → InWindow core n → entry_at sizes (after_step sizes by deed found core) n ≡ broken → (entry_at sizes core n ≡ broken) ⊎ IsOfFault (after_step sizes by deed found core) (log.group n))
+      → ((n : ℕ) → IsUnready sizes log core n → placed n ≡ false → next n ≡ false)
+      → Unready sizes log next (after_step sizes by deed found core)
+  any_unready next head window brokens places =
+      unready_kept sizes log placed next core (after_step sizes by deed found core) head window faults_after breaks_after brokens (readied_still sizes first by core found sound deed may) places unready
+
   -- a step that leaves the ENTRY words
-  plain_unready : (next : ℕ → Bool) → (after_step sizes by deed found core).words HEAD ≡ core.words HEAD → (after_step sizes by deed found core).words TAIL ≡ core.words TAIL
+  plain_unready : (next : ℕ → Bool) → (after_step sizes by deed found core).words HEAD ≡ core.words HEAD → core.words TAIL ≤ (after_step sizes by deed found core).words TAIL
       → ((slot : ℕ) → (after_step sizes by deed found core).words (ENTRY slot) ≡ core.words (ENTRY slot))
       → ((n : ℕ) → IsUnready sizes log core n → placed n ≡ false → next n ≡ false)
       → Unready sizes log next (after_step sizes by deed found core)
-  plain_unready next head tail entry places =
-      unready_kept sizes log placed next core (after_step sizes by deed found core) head tail faults_after breaks_after
-      (λ n within e. inl (sym (entry (slot_of sizes n)) ∙ e)) (λ n within e. ap was_readied (entry (slot_of sizes n)) ∙ e) places unready
+  plain_unready next head window entry places = any_unready next head window (λ n within e. inl (sym (entry (slot_of sizes n)) ∙ e)) places
+
+  -- and TAIL
+  still_unready : touches deed HEAD ≡ false → touches deed TAIL ≡ false → ((slot : ℕ) → touches deed (ENTRY slot) ≡ false) → Unready sizes log placed (after_step sizes by deed found core)
+  still_unready head tail entry = plain_unready placed (untouched sizes by core deed found may HEAD head) (let e = untouched sizes by core deed found may TAIL tail in omega (arith, e))
+      (λ slot. untouched sizes by core deed found may (ENTRY slot) (entry slot)) (λ n is none. none)
 
   -- one that sets the ENTRY word of a number of the window
   entry_unready : (next value : ℕ) → (after_step sizes by deed found core).words ≡ with_word core.words (ENTRY (slot_of sizes next)) value → InWindow core next
       → (value ≡ broken → IsOfFault (after_step sizes by deed found core) (log.group next))
-      → (was_readied (core.words (ENTRY (slot_of sizes next))) ≡ true → was_readied value ≡ true)
       → Unready sizes log placed (after_step sizes by deed found core)
-  entry_unready next value words there breaks_ still =
-      unready_kept sizes log placed placed core (after_step sizes by deed found core)
+  entry_unready next value words there breaks_ =
+      any_unready placed
       (ap (λ w. w HEAD) words ∙ word_else core.words (ENTRY (slot_of sizes next)) value HEAD (differ HEAD (ENTRY (slot_of sizes next)) refl))
-      (ap (λ w. w TAIL) words ∙ word_else core.words (ENTRY (slot_of sizes next)) value TAIL (differ TAIL (ENTRY (slot_of sizes next)) refl))
-      faults_after breaks_after
+      (let e = ap (λ w. w TAIL) words ∙ word_else core.words (ENTRY (slot_of sizes next)) value TAIL (differ TAIL (ENTRY (slot_of sizes next)) refl) in omega (arith, e))
       (λ n within e. elim (cases_eq n next) [
         | inl same ↦ inr (subst (λ m. IsOfFault (after_step sizes by deed found core) (log.group m)) (sym same)
             (breaks_ (sym (word_here core.words (ENTRY (slot_of sizes next)) value) ∙ ap (λ w. w (ENTRY (slot_of sizes next))) (sym words) ∙ ap (λ m. (after_step sizes by deed found core).words (ENTRY (slot_of sizes m))) (sym same) ∙ e)))
         | inr ne ↦ inl (sym (word_else core.words (ENTRY (slot_of sizes next)) value (ENTRY (slot_of sizes n)) (λ s. apart_within sizes core sound.window n next within there ne (ap index s))) ∙ ap (λ w. w (ENTRY (slot_of sizes n))) (sym words) ∙ e)
       ])
-      (λ n within e. ap (λ w. was_readied (w (ENTRY (slot_of sizes n)))) words ∙ stays (ENTRY (slot_of sizes n)) e)
-      (λ n is e. e) unready
-    where
-      stays : (word : Word) → was_readied (core.words word) ≡ true → was_readied (with_word core.words (ENTRY (slot_of sizes next)) value word) ≡ true
-      stays = by_word (λ word v. was_readied (core.words word) ≡ true → was_readied v ≡ true) core.words (ENTRY (slot_of sizes next)) value still (λ word ne e. e)
+      (λ n is e. e)
+
+  -- and one that leaves what was made ready so
+  rekind_unready : (next value : ℕ) → (after_step sizes by deed found core).words ≡ with_word core.words (ENTRY (slot_of sizes next)) value → IsRekinded sizes core next value → Unready sizes log placed (after_step sizes by deed found core)
+  rekind_unready next value words rekinded = entry_unready next value words rekinded.within (λ e. absurd (rekind_broken sizes core next value rekinded e))
 
 -- ---- a call is placed
 
@@ -171,7 +193,7 @@ place_places sizes first log placed by core found reply sound flight may n is no
     go true e =
         let at = placing_first sizes core.values (core.passes by) reply (core.passes by).stage (sound.standing by).at may.may e in
         ap (λ p. p n) (when_true (is_write (core.passes by).call) (with_number placed (core.passes by).first true) placed e)
-        ∙ number_else placed (core.passes by).first true n (λ same. is.unready (subst (λ m. was_readied (entry_at sizes core m) ≡ true) (sym same) (flight.ready_first by at.1 at.0)))
+        ∙ number_else placed (core.passes by).first true n (λ same. not_readied sizes log core n is (subst (WasReadied sizes core) (sym same) (flight.ready_first by at.1 at.0 (subst (InWindow core) same is.within))))
         ∙ none
 
 -- ---- numbers are drawn
@@ -235,6 +257,7 @@ module _ (sizes : Sizes) (first : Values) (log : Log) (placed : ℕ → Bool) (b
       numbered : IsNumbered sizes core n → ⊥
       numbered (Drawn other has) = none_shared other n page (inl has) on own
       numbered (Filling other has) = none_shared other n page (inr has) on own
+      numbered (Freed other has) = is.unfreed other has
       numbered (Kept not_free not_filling) = kept (sound.entries.each (slot_of sizes n)) not_free not_filling
 
 draw_unready : (sizes : Sizes) (first : Values) (log : Log) (placed : ℕ → Bool) (by : ℕ) (core : Core) (found : ℕ) → Sound sizes first core → Groups sizes core log → Unready sizes log placed core → MayFind sizes by core Draws found
@@ -249,7 +272,7 @@ draw_unready sizes first log placed by core found sound groups unready may = go 
         (subst (λ p. Unready sizes log p (after_step sizes by Draws found core)) (sym (when_false (found == (core.passes by).head) (with_number placed found false) placed e))
         (plain_unready sizes first log placed by core Draws found sound unready may placed
         (word_here core.words HEAD _ ∙ when_false (found == (core.passes by).head) (found + page_count sizes (core.passes by).call) found e ∙ sym may.is)
-        (untouched sizes by core Draws found may TAIL refl) (λ slot. untouched sizes by core Draws found may (ENTRY slot) refl) (λ n is none. none)))
+        (omega arith) (λ slot. untouched sizes by core Draws found may (ENTRY slot) refl) (λ n is none. none)))
     go true e = subst (λ l. Unready sizes l (placed_stepped (core.passes by) Draws found placed) (after_step sizes by Draws found core)) (sym (when_true (found == (core.passes by).head) (with_group group log) log e))
         (subst (λ p. Unready sizes (with_group group log) p (after_step sizes by Draws found core)) (sym (when_true (found == (core.passes by).head) (with_number placed found false) placed e)) won)
       where
@@ -289,7 +312,8 @@ draw_unready sizes first log placed by core found sound groups unready may = go 
             omega (arith, none, word)
 
         was : (n : ℕ) → InWindow core n → IsUnready sizes (with_group group log) (after_step sizes by Draws found core) n → IsUnready sizes log core n
-        was n before is = record { within = before; leads = sym (ap (λ g. g.first) (old n before.1)) ∙ is.leads; unready = is.unready }
+        was n before is = none_readied sizes log core n before (sym (ap (λ g. g.first) (old n before.1)) ∙ is.leads)
+            (λ e. not_readied sizes (with_group group log) (after_step sizes by Draws found core) n is (readied_still sizes first by core found sound Draws may n before before.0 e))
 
         -- a leader's number that is new is the first one
         is_found : (n : ℕ) → IsAmong found (page_count sizes (core.passes by).call) n → IsUnready sizes (with_group group log) (after_step sizes by Draws found core) n → n ≡ found
@@ -334,74 +358,74 @@ pub unready_step : (sizes : Sizes) (first : Values) (log : Log) (placed : ℕ �
     → Unready sizes (log_stepped sizes (core.passes by) deed found log) (placed_stepped (core.passes by) deed found placed) (after_step sizes by deed found core)
 unready_step sizes first log placed by core Draws found sound groups flight unready may = draw_unready sizes first log placed by core found sound groups unready may
 unready_step sizes first log placed by core (Places reply) found sound groups flight unready may = plain_unready sizes first log placed by core (Places reply) found sound unready may (placed_stepped (core.passes by) (Places reply) found placed)
-    (untouched sizes by core (Places reply) found may HEAD refl) (untouched sizes by core (Places reply) found may TAIL refl) (λ slot. untouched sizes by core (Places reply) found may (ENTRY slot) refl)
+    (untouched sizes by core (Places reply) found may HEAD refl) (let e = untouched sizes by core (Places reply) found may TAIL refl in omega (arith, e)) (λ slot. untouched sizes by core (Places reply) found may (ENTRY slot) refl)
     (place_places sizes first log placed by core found reply sound flight may)
 unready_step sizes first log placed by core (Seizes next) found sound groups flight unready may =
     let at : HasDrawn sizes (core.passes by).call (core.passes by).entries × IsAmong (core.passes by).first (core.passes by).entries next = subst (StandsAt sizes (core.passes by)) may.may (sound.standing by).at in
     let has : HasUnseized (core.passes by) next = subst (λ s. IsUnseized s (core.passes by).first (core.passes by).entries next) (sym may.may) (omega arith, at.1.1) in
-    let old : entry_at sizes core next ≡ free = sound.window.unseized_is by next has in
     entry_unready sizes first log placed by core (Seizes next) found sound unready may next filling refl (sound.window.unseized_in by next has) (λ e. absurd (omega (arith, e)))
-    (λ e. absurd (not_both (ap was_readied (sym old) ∙ e) refl))
 unready_step sizes first log placed by core (Readies next) found sound groups flight unready may =
     let at : HasDrawn sizes (core.passes by).call (core.passes by).entries × IsAmong (core.passes by).first (core.passes by).entries next = subst (StandsAt sizes (core.passes by)) may.may (sound.standing by).at in
     let own = groups.own by (subst HasGroup (sym may.may) tt) next at.1 in
     let kind : was_readied (ready_word sizes (core.passes by) next) ≡ true = ready_is (if next == (core.passes by).first then (core.passes by).entries else 0) (page_at sizes (core.passes by) next) in
     entry_unready sizes first log placed by core (Readies next) found sound unready may next (ready_word sizes (core.passes by) next) refl own.within
-    (λ e. absurd (not_both (ap was_readied (sym e) ∙ kind) refl)) (λ _. kind)
+    (λ e. absurd (not_both (ap was_readied (sym e) ∙ kind) refl))
 unready_step sizes first log placed by core (Breaks next) found sound groups flight unready may =
     let at : HasDrawn sizes (core.passes by).call (core.passes by).entries × IsAmong (core.passes by).first (core.passes by).entries next = subst (StandsAt sizes (core.passes by)) may.may (sound.standing by).at in
     let own = groups.own by (subst HasGroup (sym may.may) tt) next at.1 in
-    let old : entry_at sizes core next ≡ filling = sound.window.filling_is by next (subst (λ s. IsFilling s (core.passes by).first (core.passes by).entries next) (sym may.may) (omega arith, at.1.1)) in
     entry_unready sizes first log placed by core (Breaks next) found sound unready may next broken refl own.within
     (λ _. still_of core (after_step sizes by (Breaks next) found core) (log.group next) (faults_after sizes first log placed by core (Breaks next) found sound unready may)
     record { by = by; fault = fault_of (core.passes by); ended = unready.breaking by next may.may; is = own.group })
-    (λ e. absurd (not_both (ap was_readied (sym old) ∙ e) refl))
-unready_step sizes first log placed by core (Holds next) found sound groups flight unready may =
-    let rekinded = holds_rekind sizes first by core found next sound may in
-    entry_unready sizes first log placed by core (Holds next) found sound unready may next (found + 1) refl rekinded.within (λ e. absurd (rekind_broken sizes core next (found + 1) rekinded e)) (λ _. rekinded.now)
-unready_step sizes first log placed by core (Returns next) found sound groups flight unready may =
-    let rekinded = returns_rekind sizes first by core found next sound may in
-    entry_unready sizes first log placed by core (Returns next) found sound unready may next (found - 1) refl rekinded.within (λ e. absurd (rekind_broken sizes core next (found - 1) rekinded e)) (λ _. rekinded.now)
-unready_step sizes first log placed by core (Loads word) found sound groups flight unready may = plain_unready sizes first log placed by core (Loads word) found sound unready may placed
-    (untouched sizes by core (Loads word) found may HEAD refl) (untouched sizes by core (Loads word) found may TAIL refl) (λ slot. untouched sizes by core (Loads word) found may (ENTRY slot) refl) (λ n is none. none)
-unready_step sizes first log placed by core (Takes cell) found sound groups flight unready may = plain_unready sizes first log placed by core (Takes cell) found sound unready may placed
-    (untouched sizes by core (Takes cell) found may HEAD refl) (untouched sizes by core (Takes cell) found may TAIL refl) (λ slot. untouched sizes by core (Takes cell) found may (ENTRY slot) refl) (λ n is none. none)
-unready_step sizes first log placed by core (Gives cell) found sound groups flight unready may = plain_unready sizes first log placed by core (Gives cell) found sound unready may placed
-    (untouched sizes by core (Gives cell) found may HEAD refl) (untouched sizes by core (Gives cell) found may TAIL refl) (λ slot. untouched sizes by core (Gives cell) found may (ENTRY slot) refl) (λ n is none. none)
-unready_step sizes first log placed by core Stops found sound groups flight unready may = plain_unready sizes first log placed by core Stops found sound unready may placed
-    (untouched sizes by core Stops found may HEAD refl) (untouched sizes by core Stops found may TAIL refl) (λ slot. untouched sizes by core Stops found may (ENTRY slot) refl) (λ n is none. none)
-unready_step sizes first log placed by core (Pledges page) found sound groups flight unready may = plain_unready sizes first log placed by core (Pledges page) found sound unready may placed
-    (untouched sizes by core (Pledges page) found may HEAD refl) (untouched sizes by core (Pledges page) found may TAIL refl) (λ slot. untouched sizes by core (Pledges page) found may (ENTRY slot) refl) (λ n is none. none)
-unready_step sizes first log placed by core Grows found sound groups flight unready may = plain_unready sizes first log placed by core Grows found sound unready may placed
-    (untouched sizes by core Grows found may HEAD refl) (untouched sizes by core Grows found may TAIL refl) (λ slot. untouched sizes by core Grows found may (ENTRY slot) refl) (λ n is none. none)
-unready_step sizes first log placed by core (Turns page) found sound groups flight unready may = plain_unready sizes first log placed by core (Turns page) found sound unready may placed
-    (untouched sizes by core (Turns page) found may HEAD refl) (untouched sizes by core (Turns page) found may TAIL refl) (λ slot. untouched sizes by core (Turns page) found may (ENTRY slot) refl) (λ n is none. none)
-unready_step sizes first log placed by core (Hints buffer page) found sound groups flight unready may = plain_unready sizes first log placed by core (Hints buffer page) found sound unready may placed
-    (untouched sizes by core (Hints buffer page) found may HEAD refl) (untouched sizes by core (Hints buffer page) found may TAIL refl) (λ slot. untouched sizes by core (Hints buffer page) found may (ENTRY slot) refl) (λ n is none. none)
-unready_step sizes first log placed by core Splits found sound groups flight unready may = plain_unready sizes first log placed by core Splits found sound unready may placed
-    (untouched sizes by core Splits found may HEAD refl) (untouched sizes by core Splits found may TAIL refl) (λ slot. untouched sizes by core Splits found may (ENTRY slot) refl) (λ n is none. none)
-unready_step sizes first log placed by core (Leaves cell) found sound groups flight unready may = plain_unready sizes first log placed by core (Leaves cell) found sound unready may placed
-    (untouched sizes by core (Leaves cell) found may HEAD refl) (untouched sizes by core (Leaves cell) found may TAIL refl) (λ slot. untouched sizes by core (Leaves cell) found may (ENTRY slot) refl) (λ n is none. none)
-unready_step sizes first log placed by core (Joins number) found sound groups flight unready may = plain_unready sizes first log placed by core (Joins number) found sound unready may placed
-    (untouched sizes by core (Joins number) found may HEAD refl) (untouched sizes by core (Joins number) found may TAIL refl) (λ slot. untouched sizes by core (Joins number) found may (ENTRY slot) refl) (λ n is none. none)
+unready_step sizes first log placed by core (Holds next) found sound groups flight unready may = rekind_unready sizes first log placed by core (Holds next) found sound unready may next (found + 1) refl (holds_rekind sizes first by core found next sound may)
+unready_step sizes first log placed by core (Returns next) found sound groups flight unready may = rekind_unready sizes first log placed by core (Returns next) found sound unready may next (found - 1) refl (returns_rekind sizes first by core found next sound may)
+unready_step sizes first log placed by core (Tends (Lifts next)) found sound groups flight unready may = rekind_unready sizes first log placed by core (Tends (Lifts next)) found sound unready may next (found + 1) refl (lifts_rekind sizes first by core found next sound may)
+unready_step sizes first log placed by core (Tends (Drops next)) found sound groups flight unready may = rekind_unready sizes first log placed by core (Tends (Drops next)) found sound unready may next (found - 1) refl (drops_rekind sizes first by core found next sound may)
+unready_step sizes first log placed by core (Tends (Cleans next)) found sound groups flight unready may = rekind_unready sizes first log placed by core (Tends (Cleans next)) found sound unready may next (found + 1) refl (cleans_rekind sizes first by core found next sound may)
+unready_step sizes first log placed by core (Tends (Frees next)) found sound groups flight unready may = entry_unready sizes first log placed by core (Tends (Frees next)) found sound unready may next free refl
+    (frees_hand sizes first core sound by found next may).within (λ e. absurd (omega (arith, e)))
+unready_step sizes first log placed by core (Tends (Retires tail)) found sound groups flight unready may = plain_unready sizes first log placed by core (Tends (Retires tail)) found sound unready may placed
+    (untouched sizes by core (Tends (Retires tail)) found may HEAD refl)
+    (let e : (after_step sizes by (Tends (Retires tail)) found core).words TAIL ≡ tail = word_here core.words TAIL tail in let l = (retires_hand sizes first core sound by found tail may).low in omega (arith, e, l))
+    (λ slot. untouched sizes by core (Tends (Retires tail)) found may (ENTRY slot) refl) (λ n is none. none)
+unready_step sizes first log placed by core (Loads word) found sound groups flight unready may = still_unready sizes first log placed by core (Loads word) found sound unready may refl refl (λ slot. refl)
+unready_step sizes first log placed by core (Takes cell) found sound groups flight unready may = still_unready sizes first log placed by core (Takes cell) found sound unready may refl refl (λ slot. refl)
+unready_step sizes first log placed by core (Gives cell) found sound groups flight unready may = still_unready sizes first log placed by core (Gives cell) found sound unready may refl refl (λ slot. refl)
+unready_step sizes first log placed by core Stops found sound groups flight unready may = still_unready sizes first log placed by core Stops found sound unready may refl refl (λ slot. refl)
+unready_step sizes first log placed by core (Pledges page) found sound groups flight unready may = still_unready sizes first log placed by core (Pledges page) found sound unready may refl refl (λ slot. refl)
+unready_step sizes first log placed by core Grows found sound groups flight unready may = still_unready sizes first log placed by core Grows found sound unready may refl refl (λ slot. refl)
+unready_step sizes first log placed by core (Turns page) found sound groups flight unready may = still_unready sizes first log placed by core (Turns page) found sound unready may refl refl (λ slot. refl)
+unready_step sizes first log placed by core (Hints buffer page) found sound groups flight unready may = still_unready sizes first log placed by core (Hints buffer page) found sound unready may refl refl (λ slot. refl)
+unready_step sizes first log placed by core (Tends chore) found sound groups flight unready may = still_unready sizes first log placed by core (Tends chore) found sound unready may refl refl (λ slot. refl)
+unready_step sizes first log placed by core Splits found sound groups flight unready may = still_unready sizes first log placed by core Splits found sound unready may refl refl (λ slot. refl)
+unready_step sizes first log placed by core (Leaves cell) found sound groups flight unready may = still_unready sizes first log placed by core (Leaves cell) found sound unready may refl refl (λ slot. refl)
+unready_step sizes first log placed by core (Joins number) found sound groups flight unready may = still_unready sizes first log placed by core (Joins number) found sound unready may refl refl (λ slot. refl)
 
 -- ---- a call that begins, and a device call
 
-pub unready_begin : (sizes : Sizes) (log : Log) (placed : ℕ → Bool) (by : ℕ) (core : Core) (call : FileCall) → Unready sizes log placed core → Unready sizes log placed (after_begin sizes by call core)
-unready_begin sizes log placed by core call unready = unready_kept sizes log placed placed core (after_begin sizes by call core) refl refl
+pub unready_begin : (sizes : Sizes) (log : Log) (placed : ℕ → Bool) (by : ℕ) (core : Core) (call : FileCall) → MayBegin sizes call (core.passes by) → Unready sizes log placed core → Unready sizes log placed (after_begin sizes by call core)
+unready_begin sizes log placed by core call may unready = unready_kept sizes log placed placed core (after_begin sizes by call core) refl (omega arith)
     (by_number (λ n (p : Pass). (fault : Fault) → IsOneOf (core.passes n).faulted fault → IsOneOf p.faulted fault) core.passes by (begun sizes call (core.passes by)) (λ fault is. is) (λ n ne fault is. is))
     (by_number (λ n (p : Pass). (number : ℕ) → p.stage ≡ Breaking number → IsOneOf p.faulted (fault_of p)) core.passes by (begun sizes call (core.passes by))
     (λ number e. absurd (if_both (λ s. s ≡ Breaking number → ⊥) (page_count sizes call == 0) Checking (Locking (first_page sizes call)) (λ _. elsewhere _ _ refl refl number) (λ _. elsewhere _ _ refl refl number) e))
     (λ n ne. unready.breaking n))
-    (λ n within e. inl e) (λ n within e. e) (λ n is e. e) unready
+    (λ n within e. inl e) (λ n within low e. begun_still sizes by core call may n e) (λ n is e. e) unready
 
 worked_breaking : (sizes : Sizes) (values : Values) (pass : Pass) (work : Work) (stage : Stage) (how : Ending) → IsDue sizes values pass work stage → (number : ℕ) → stage_worked sizes pass how stage ≡ Breaking number → ⊥
 worked_breaking sizes values pass work (Committing calls) Made due number = if_both (λ s. s ≡ Breaking number → ⊥) (calls + 1 == length (commit_steps sizes pass pass.call)) (Pledging (first_page sizes pass.call)) (Committing (calls + 1)) (λ _. elsewhere _ _ refl refl number) (λ _. elsewhere _ _ refl refl number)
 worked_breaking sizes values pass work (Committing calls) (Failed came faults) due number = elsewhere _ _ refl refl number
+worked_breaking sizes values pass work (Committing calls) Refused due number = elsewhere _ _ refl refl number
+worked_breaking sizes values pass work (Copying page dirty) Refused due number = elsewhere _ _ refl refl number
+worked_breaking sizes values pass work (Patching page one) Refused due number = elsewhere _ _ refl refl number
 worked_breaking sizes values pass work (Copying page dirty) Made due number = elsewhere _ _ refl refl number
 worked_breaking sizes values pass work (Copying page dirty) (Failed came faults) due number = elsewhere _ _ refl refl number
 worked_breaking sizes values pass work (Patching page one) Made due number = elsewhere _ _ refl refl number
 worked_breaking sizes values pass work (Patching page one) (Failed came faults) due number = elsewhere _ _ refl refl number
+worked_breaking sizes values pass work (Cleaning batch sweep) how due number = swept how
+  where
+    swept : (how : Ending) → stage_worked sizes pass how (Cleaning batch sweep) ≡ Breaking number → ⊥
+    swept Made = swept_worked (λ s. s ≡ Breaking number → ⊥) (elsewhere _ _ refl refl number) (λ _ _. elsewhere _ _ refl refl number) batch Made sweep
+    swept (Failed came faults) = swept_worked (λ s. s ≡ Breaking number → ⊥) (elsewhere _ _ refl refl number) (λ _ _. elsewhere _ _ refl refl number) batch (Failed came faults) sweep
+    swept Refused = swept_worked (λ s. s ≡ Breaking number → ⊥) (elsewhere _ _ refl refl number) (λ _ _. elsewhere _ _ refl refl number) batch Refused sweep
 worked_breaking sizes values pass work stage how due number = absurd due
 
 pub unready_work : (sizes : Sizes) (log : Log) (placed : ℕ → Bool) (by : ℕ) (core : Core) (work : Work) → Unready sizes log placed core → MayWork sizes core.values (core.passes by) work
@@ -411,13 +435,13 @@ unready_work sizes log placed by core work unready may =
     record {
       breaking = same.breaking;
       broken = same.broken;
-      unplaced = λ n is. same.unplaced n record { within = is.within; leads = is.leads; unready = is.unready };
-      apart = λ n other is. same.apart n other record { within = is.within; leads = is.leads; unready = is.unready };
+      unplaced = λ n is. same.unplaced n record { within = is.within; leads = is.leads; unready = is.unready; unfreed = is.unfreed };
+      apart = λ n other is. same.apart n other record { within = is.within; leads = is.leads; unready = is.unready; unfreed = is.unfreed };
     }
   where
     same : Unready sizes log placed (after_work sizes by work core)
-    same = unready_kept sizes log placed placed core (after_work sizes by work core) refl refl
+    same = unready_kept sizes log placed placed core (after_work sizes by work core) refl (omega arith)
         (by_number (λ n (p : Pass). (fault : Fault) → IsOneOf (core.passes n).faulted fault → IsOneOf p.faulted fault) core.passes by (worked sizes work (core.passes by)) (λ fault is. is) (λ n ne fault is. is))
         (by_number (λ n (p : Pass). (number : ℕ) → p.stage ≡ Breaking number → IsOneOf p.faulted (fault_of p)) core.passes by (worked sizes work (core.passes by))
         (λ number e. absurd (worked_breaking sizes core.values (core.passes by) work (core.passes by).stage work.ending may.due number e)) (λ n ne. unready.breaking n))
-        (λ n within e. inl e) (λ n within e. e) (λ n is e. e) unready
+        (λ n within e. inl e) (λ n within low e. worked_still sizes by core work may n e) (λ n is e. e) unready

@@ -6,22 +6,27 @@ use Rattle.nv_plain.specs.declared.call.FileCall.{FileCall}
 use Rattle.nv_plain.specs.declared.call.FileCall.TheVariants.{Read, Write, Sync}
 use Rattle.nv_plain.specs.declared.call.Reply.{Reply}
 use Rattle.nv_store.specs.Store.{Store}
-use Rattle.nv_core.specs.Words.{Sizes, Word, PAGE, CLEANUP, DIRTY, ENTRY, STORE, same, index}
-use Rattle.nv_core.specs.Values.{Value, AStore, ABuffer, Job, Writes, Reads, Peeks, Ending, Made, Failed, called, filled, is_valid, bytes_in}
-use Rattle.nv_core.specs.Passes.{Stage, Idle, Locking, Checking, Ordering, Reading, Copying, Returning, Patching, Unlocking, Committing, Pledging, Readying, Placing, Growing, Giving, Pass, fetched_bytes, IsAllowed, is_write, is_read, file_of, times, page_count, first_page, end_page, Searching, Robbing}
-use Rattle.nv_core.specs.Deeds.{Deed, Takes, Gives, Places, Pledges, Splits, Leaves, Joins, moved, Comes, Stays, patched_by, slot_of}
+use Rattle.nv_core.specs.Words.{Sizes, Word, PAGE, CLEANUP, DIRTY, ENTRY, STORE, same, index, HEADER}
+use Rattle.nv_core.specs.Values.{Value, AStore, ABuffer, Job, Writes, Reads, Peeks, Ending, Made, Failed, called, filled, is_valid, bytes_in, Refused}
+use Rattle.nv_core.specs.Passes.{Stage, Idle, Locking, Checking, Ordering, Reading, Copying, Returning, Patching, Unlocking, Committing, Pledging, Readying, Placing, Growing, Giving, Pass, fetched_bytes, IsAllowed, is_write, is_read, file_of, times, page_count, first_page, end_page, Searching, Robbing, Cleaning}
+use Rattle.nv_core.specs.Deeds.{Deed, Takes, Gives, Places, Pledges, Splits, Leaves, Joins, moved, Comes, Stays, patched_by, slot_of, Tends}
 use Rattle.nv_core.specs.Stages.{after_give, exceeds, ending}
 use Rattle.nv_core.specs.Stepped.{begun}
-use Rattle.nv_core.specs.Order.{Values, Work, MayWork, MayGive, MayPlace, IsDue, IsPageRead, SaysOf, SaysPage, page_start, page_bytes, commit_steps}
+use Rattle.nv_core.specs.Order.{Values, Work, MayWork, MayGive, MayPlace, IsDue, IsPageRead, SaysOf, SaysPage, page_start, page_bytes, commit_steps, MayTend, MayLeave}
 use Rattle.nv_core.specs.Core.{Core, changes, changed, with_word, after_step, after_begin, after_work, worked, stage_worked, fetched_worked, values_given, values_stepped, values_read, values_worked, values_robbed}
 use Rattle.nv_core.specs.Events.{MayFind, MayBegin}
 use Rattle.nv_core.specs.Standing.{StandsAt}
 use Rattle.nv_core.specs.Holding.{HoldsLocks}
 use Rattle.nv_core.specs.Loaded.{SawClean}
-use Rattle.nv_core.specs.StorePages.{store_of, StoresTell, StoresKept, StorePages}
+use Rattle.nv_core.specs.StorePages.{store_of, StoresTell, StorePages}
 use Rattle.nv_core.specs.PagesAfter.{page_from, files_now, page_now, page_in}
 use Rattle.nv_core.specs.ValidBuffers.{patched_page, with_own, Gathered, GatheredBut, HasFetched, Halfway, GatheredAt, ValidBuffers}
 use Rattle.nv_core.specs.Sound.{Sound}
+use Rattle.nv_core.specs.Sweeps.{Batch, Sweep, Peeking, Carrying, Syncing, Moving, Looks as LooksAt, Grabs, Yields}
+use Rattle.nv_core.specs.Chores.{group_file}
+use Rattle.nv_core.proofs.SweepStages.{swept_worked}
+use Rattle.nv_core.proofs.KeepsLocks.{yields_one}
+use Rattle.nv_core.proofs.KeepsStores.{keeps_stores, no_refusal}
 use Rattle.nv_core.proofs.PlainLaws.{PlainLaws}
 use Rattle.nv_core.proofs.Changes.{by_number, by_word, word_here, word_else, same_true, differ}
 use Rattle.nv_core.proofs.Choices.{if_both, when_true, when_false, gives_back, step_idle, busy}
@@ -31,7 +36,7 @@ use Rattle.nv_core.proofs.KeepsLoaded.{pledged_page}
 use Rattle.nv_core.proofs.KeepsLengths.{known_file, files_placed}
 use Rattle.nv_core.proofs.FileLaws.{own_none, page_placed, page_else, page_place}
 use Rattle.nv_core.proofs.Placed.{IsUnplaced, same_history}
-use Rattle.nv_core.proofs.BufferLaws.{not_own, IsWhole, whole_holds, whole_page, page_given, no_more, IsUnpatched, unpatched, giving_back, IsKeeping, IsUnfilling, plain_after, patch_stays, old_ending}
+use Rattle.nv_core.proofs.BufferLaws.{not_own, IsWhole, whole_holds, whole_page, page_given, no_more, IsUnpatched, unpatched, giving_back, IsKeeping, IsUnfilling, plain_after, patch_stays, old_ending, tends_no_more}
 use Rattle.nv_core.proofs.ValueLaws.{robbed_valid, IsUnmoving}
 use Rattle.nv_core.proofs.KeepsSearches.{robbed_apart, rob_stands, rob_others}
 use Rattle.nv_core.proofs.GatheredLaws.{gathered_same, gathered_on, AreRight, at_ending, page_bytes_same}
@@ -67,6 +72,14 @@ given_same pass stage values other = refl
 abbrev HasNow : Sizes → Files → Core → (page : ℕ) → Type 0
 HasNow sizes opening core page = is_valid (core.values (PAGE page)) ≡ true → bytes_in (core.values (PAGE page)) ≡ page_now sizes opening core page
 
+-- a lock is given back by a cleaner at its batch
+yields_at : (sizes : Sizes) (pass : Pass) (cell : Word) → MayTend sizes pass (Yields cell) pass.stage → (batch : Batch) × (sweep : Sweep) × (pass.stage ≡ Cleaning batch sweep)
+yields_at sizes pass cell may = go pass.stage refl may
+  where
+    go : (stage : Stage) → pass.stage ≡ stage → MayTend sizes pass (Yields cell) stage → (batch : Batch) × (sweep : Sweep) × (pass.stage ≡ Cleaning batch sweep)
+    go (Cleaning batch sweep) at may = (batch, sweep, at)
+    go stage at may = absurd may
+
 free_after : (sizes : Sizes) (first : Values) (opening : Files) (by : ℕ) (core : Core) (found : ℕ) (deed : Deed) → IsKeeping deed → Sound sizes first core → MayFind sizes by core deed found → ValidBuffers sizes opening core
     → (page : ℕ) → (after_step sizes by deed found core).words (PAGE page) ≡ 0 → HasNow sizes opening core page
 free_after sizes first opening by core found (Takes cell) keeping sound may was page free =
@@ -80,6 +93,17 @@ free_after sizes first opening by core found (Gives cell) keeping sound may was 
     (λ w ne e z. was.free page (ap core.words (sym e) ∙ z)) (PAGE page) refl free
 free_after sizes first opening by core found (Places reply) keeping sound may was page free = absurd keeping
 free_after sizes first opening by core found (Pledges other) keeping sound may was page free = absurd keeping
+free_after sizes first opening by core found (Tends (LooksAt word)) keeping sound may was page free =
+    by_word (λ w v. w ≡ PAGE page → v ≡ 0 → HasNow sizes opening core page) core.words word found (λ e z. was.free page (ap core.words (sym e) ∙ may.is ∙ z)) (λ w ne e z. was.free page (ap core.words (sym e) ∙ z)) (PAGE page) refl free
+free_after sizes first opening by core found (Tends (Grabs cell)) keeping sound may was page free =
+    by_word (λ w v. w ≡ PAGE page → v ≡ 0 → HasNow sizes opening core page) core.words cell 1 (λ e z. absurd (omega (arith, z))) (λ w ne e z. was.free page (ap core.words (sym e) ∙ z)) (PAGE page) refl free
+free_after sizes first opening by core found (Tends (Yields cell)) keeping sound may was page free =
+    by_word (λ w v. w ≡ PAGE page → v ≡ 0 → HasNow sizes opening core page) core.words cell 0
+    (λ e z valid. let stands = yields_at sizes (core.passes by) cell may.may in
+    was.held by page (once sizes first core sound by page (subst (λ w. 1 ≤ times w (core.passes by).hands) e (yields_one sizes first by core cell (core.passes by).stage sound refl may.may))) valid
+    ∙ ap (λ s. patched_page sizes (core.passes by).call s page (page_now sizes opening core page)) stands.2)
+    (λ w ne e z. was.free page (ap core.words (sym e) ∙ z)) (PAGE page) refl free
+free_after sizes first opening by core found (Tends chore) keeping sound may was page free = was.free page free
 free_after sizes first opening by core found deed keeping sound may was page free = was.free page (sym (untouched sizes by core deed found may (PAGE page) refl) ∙ free)
 
 -- what the buffer of a page in the hands of a pass has
@@ -108,6 +132,10 @@ held_after sizes first opening by core found (Takes cell) keeping sound may was 
       was.held by page (ap (λ m. times (PAGE page) (moved m (core.passes by).hands)) (sym (when_false (found == 0) (Comes cell) Stays shut)) ∙ has) valid
       ∙ sym (patch_stays sizes core.values (core.passes by) page (page_now sizes opening core page) (Takes cell) found may.may tt)
 ]
+held_after sizes first opening by core found (Tends chore) keeping sound may was page has valid =
+    let less = tends_no_more sizes (core.passes by) chore found page may.may in
+    was.held by page (once sizes first core sound by page (omega (arith, less, has))) valid
+    ∙ sym (patch_stays sizes core.values (core.passes by) page (page_now sizes opening core page) (Tends chore) found may.may tt)
 held_after sizes first opening by core found deed keeping sound may was page has valid =
     let less = no_more sizes deed found page (core.passes by).hands tt in
     was.held by page (once sizes first core sound by page (omega (arith, less, has))) valid
@@ -472,6 +500,10 @@ work_cell : (sizes : Sizes) (values : Values) (pass : Pass) (work : Work) (stage
 work_cell sizes values pass work (Committing calls) due page e = differ (PAGE page) (ENTRY (slot_of sizes (pass.first + due.row.part))) refl (e ∙ due.cell)
 work_cell sizes values pass work (Patching next number) due page e = differ (PAGE page) (ENTRY (slot_of sizes number)) refl (e ∙ due.cell)
 work_cell sizes values pass work (Copying next dirty) due page e = differ (PAGE page) (STORE (file_of pass.call)) refl (e ∙ due.cell)
+work_cell sizes values pass work (Cleaning batch (Peeking i)) due page e = differ (PAGE page) (ENTRY (slot_of sizes (batch.reached + i))) refl (e ∙ due.cell)
+work_cell sizes values pass work (Cleaning batch (Carrying i)) due page e = differ (PAGE page) (STORE (group_file sizes batch)) refl (e ∙ due.cell)
+work_cell sizes values pass work (Cleaning batch (Syncing (file ∷ rest))) due page e = differ (PAGE page) (STORE file) refl (e ∙ due.0)
+work_cell sizes values pass work (Cleaning batch (Moving calls)) due page e = differ (PAGE page) HEADER refl (e ∙ due.cell)
 work_cell sizes values pass work stage due page e = due
 
 read_else : (job : Job) (how : Ending) (stage : Stage) (values : Values) (page : ℕ) → (stage ≡ Copying page false → ⊥) → values_read job how stage values (PAGE page) ≡ values (PAGE page)
@@ -481,7 +513,7 @@ read_else job how stage values page ne = refl
 read_failed : (job : Job) (came : Bool) (faults : ℕ) (stage : Stage) (values : Values) → values_read job (Failed came faults) stage values ≡ values
 read_failed (Reads at bytes) came faults stage values = refl
 read_failed (Writes step room) came faults stage values = refl
-read_failed (Peeks at bytes) came faults stage values = refl
+read_failed job came faults stage values = refl
 
 -- what stands patched stays so
 work_patched : (sizes : Sizes) (values : Values) (pass : Pass) (work : Work) (how : Ending) (stage : Stage) (page : ℕ) (old : List ℕ) → HoldsLocks sizes pass stage → IsDue sizes values pass work stage → times (PAGE page) pass.hands ≡ 1
@@ -494,6 +526,12 @@ work_patched sizes values pass work Made (Patching next number) page old held du
 work_patched sizes values pass work (Failed came faults) (Committing calls) page old held due has = refl
 work_patched sizes values pass work (Failed came faults) (Copying next dirty) page old held due has = refl
 work_patched sizes values pass work (Failed came faults) (Patching next number) page old held due has = refl
+work_patched sizes values pass work Made (Cleaning batch sweep) page old held due has = swept_worked (λ s. old ≡ patched_page sizes pass.call s page old) refl (λ _ _. refl) batch Made sweep
+work_patched sizes values pass work (Failed came faults) (Cleaning batch sweep) page old held due has = swept_worked (λ s. old ≡ patched_page sizes pass.call s page old) refl (λ _ _. refl) batch (Failed came faults) sweep
+work_patched sizes values pass work Refused (Cleaning batch sweep) page old held due has = swept_worked (λ s. old ≡ patched_page sizes pass.call s page old) refl (λ _ _. refl) batch Refused sweep
+work_patched sizes values pass work Refused (Committing calls) page old held due has = refl
+work_patched sizes values pass work Refused (Copying next dirty) page old held due has = refl
+work_patched sizes values pass work Refused (Patching next number) page old held due has = refl
 work_patched sizes values pass work how stage page old held due has = absurd due
 
 -- a store's page that was read
@@ -530,7 +568,23 @@ module _ (sizes : Sizes) (first : Values) (opening : Files) (by : ℕ) (core : C
       ends (Committing calls) due = tt
       ends (Copying page dirty) due = tt
       ends (Patching page number) due = tt
+      ends (Cleaning batch sweep) due = swept_worked (GatheredAt sizes (page_now sizes opening core) (values_worked (core.passes by) work core.values) (core.passes by).call (worked sizes work (core.passes by)).fetched) tt (λ _ _. tt) batch (Failed came faults) sweep
       ends stage due = absurd due
+
+  -- a cleaner's
+  swept : (batch : Batch) (sweep : Sweep) → (core.passes by).stage ≡ Cleaning batch sweep → ValidBuffers sizes opening (after_work sizes by work core)
+  swept batch sweep at = buffers_unread
+      (λ page. read_else work.job work.ending (core.passes by).stage (with_word core.values work.cell (called work.job work.ending (core.values work.cell))) page (λ e. true≢false (ap is_cleaning (sym at ∙ e))) ∙ called_else page)
+      (subst (λ s. GatheredAt sizes (page_now sizes opening core) (values_worked (core.passes by) work core.values) (core.passes by).call (worked sizes work (core.passes by)).fetched (stage_worked sizes (core.passes by) work.ending s)) (sym at) (go work.ending))
+    where
+      is_cleaning : Stage → Bool
+      is_cleaning (Cleaning batch sweep) = true
+      is_cleaning stage = false
+
+      go : (how : Ending) → GatheredAt sizes (page_now sizes opening core) (values_worked (core.passes by) work core.values) (core.passes by).call (worked sizes work (core.passes by)).fetched (stage_worked sizes (core.passes by) how (Cleaning batch sweep))
+      go Made = swept_worked (GatheredAt sizes (page_now sizes opening core) (values_worked (core.passes by) work core.values) (core.passes by).call (worked sizes work (core.passes by)).fetched) tt (λ _ _. tt) batch Made sweep
+      go (Failed came faults) = swept_worked (GatheredAt sizes (page_now sizes opening core) (values_worked (core.passes by) work core.values) (core.passes by).call (worked sizes work (core.passes by)).fetched) tt (λ _ _. tt) batch (Failed came faults) sweep
+      go Refused = swept_worked (GatheredAt sizes (page_now sizes opening core) (values_worked (core.passes by) work core.values) (core.passes by).call (worked sizes work (core.passes by)).fetched) tt (λ _ _. tt) batch Refused sweep
 
   committed : (calls : ℕ) → (core.passes by).stage ≡ Committing calls → work.ending ≡ Made → ValidBuffers sizes opening (after_work sizes by work core)
   committed calls at how = buffers_unread
@@ -576,7 +630,7 @@ module _ (sizes : Sizes) (first : Values) (opening : Files) (by : ℕ) (core : C
 
 -- a call that reads a page without entries from its store
 module _ (sizes : Sizes) (first : Values) (opening : Files) (by : ℕ) (core : Core) (work : Work) (own : ℕ)
-    (sound : Sound sizes first core) (tells : StoresTell sizes first) (kept : StoresKept first core.values) (clean : StorePages sizes first opening core)
+    (sound : Sound sizes first core) (tells : StoresTell sizes core.values) (clean : StorePages sizes opening core)
     (at : (core.passes by).stage ≡ Copying own false) (how : work.ending ≡ Made) (due : IsPageRead sizes core.values (core.passes by) own work)
     (may : MayWork sizes core.values (core.passes by) work) (was : ValidBuffers sizes opening core) where
   stands : StandsAt sizes (core.passes by) (Copying own false)
@@ -597,9 +651,9 @@ module _ (sizes : Sizes) (first : Values) (opening : Files) (by : ℕ) (core : C
       let place = page_place sizes (core.passes by).call allowed_read own stands.1 in
       let told = tells.each (file_of (core.passes by).call) allowed_read.known in
       let clear : core.words (DIRTY own) ≡ 0 = sound.loaded.clean by own (subst (λ s. SawClean s own) (sym at) refl) in
-      says_is sizes (page_start sizes (core.passes by).call own) due.bytes told.0 (core.values (STORE (file_of (core.passes by).call))) (kept.each (file_of (core.passes by).call) ∙ told.1) due.says
+      says_is sizes (page_start sizes (core.passes by).call own) due.bytes told.0 (core.values (STORE (file_of (core.passes by).call))) told.1 due.says
       ∙ ap (λ n. page_from told.0.seen (n * sizes.page) sizes.page) (sym place.1)
-      ∙ sym (clean.clean by own told.0 stands.0 has_read clear (subst (λ f. f < sizes.files) (sym place.0) allowed_read.known) (ap (λ f. store_of (first (STORE f))) place.0 ∙ told.1))
+      ∙ sym (clean.clean by own told.0 stands.0 has_read clear (subst (λ f. f < sizes.files) (sym place.0) allowed_read.known) (ap (λ f. store_of (core.values (STORE f))) place.0 ∙ told.1))
 
   value_read : values_worked (core.passes by) work core.values (PAGE own) ≡ filled due.bytes (core.values (PAGE own))
   value_read =
@@ -681,14 +735,14 @@ abbrev is_copy : Stage → Bool
 is_copy (Copying page dirty) = true
 is_copy stage = false
 
-pub valid_work : (sizes : Sizes) (first : Values) (opening : Files) (by : ℕ) (core : Core) (work : Work) → Sound sizes first core → StoresTell sizes first → StoresKept first core.values → StorePages sizes first opening core
+pub valid_work : (sizes : Sizes) (first : Values) (opening : Files) (by : ℕ) (core : Core) (work : Work) → Sound sizes first core → StoresTell sizes core.values → StorePages sizes opening core
     → MayWork sizes core.values (core.passes by) work → ValidBuffers sizes opening core → ValidBuffers sizes opening (after_work sizes by work core)
-valid_work sizes first opening by core work sound tells kept clean may was = go work.ending refl (core.passes by).stage refl may.due
+valid_work sizes first opening by core work sound tells clean may was = go work.ending refl (core.passes by).stage refl may.due
   where
     go : (how : Ending) → work.ending ≡ how → (stage : Stage) → (core.passes by).stage ≡ stage → IsDue sizes core.values (core.passes by) work stage → ValidBuffers sizes opening (after_work sizes by work core)
     go (Failed came faults) how stage at due = failed sizes first opening by core work sound may was came faults how
     go Made how (Committing calls) at due = committed sizes first opening by core work sound may was calls at how
-    go Made how (Copying page false) at due = buffers_read sizes first opening by core work page sound tells kept clean at how due may was
+    go Made how (Copying page false) at due = buffers_read sizes first opening by core work page sound tells clean at how due may was
     go Made how (Copying page true) at due = buffers_fetch sizes first opening by core work sound may was page (Copying page true) at how (λ other e. true≢false (ap is_dirty e)) refl
         (λ at other is ne passed. at other is passed) due.bytes
         (ap (λ j. fetched_worked sizes (core.passes by) j work.ending (core.passes by).stage) due.job
@@ -699,4 +753,9 @@ valid_work sizes first opening by core work sound tells kept clean may was = go 
         (ap (λ j. fetched_worked sizes (core.passes by) j work.ending (core.passes by).stage) due.job
         ∙ ap (λ h. fetched_worked sizes (core.passes by) (Peeks due.at due.bytes) h (core.passes by).stage) how
         ∙ ap (λ s. fetched_worked sizes (core.passes by) (Peeks due.at due.bytes) Made s) at)
-    go Made how stage at due = absurd due
+    go Made how (Cleaning batch sweep) at due = swept sizes first opening by core work sound may was batch sweep at
+    go Refused how (Cleaning batch sweep) at due = swept sizes first opening by core work sound may was batch sweep at
+    go Refused how (Committing calls) at due = absurd (no_refusal (core.values work.cell) work.job (ap keeps_stores due.job) (subst (MayLeave (core.values work.cell) work.job) how may.leaves))
+    go Refused how (Copying page dirty) at due = absurd (no_refusal (core.values work.cell) work.job (ap keeps_stores due.job) (subst (MayLeave (core.values work.cell) work.job) how may.leaves))
+    go Refused how (Patching page number) at due = absurd (no_refusal (core.values work.cell) work.job (ap keeps_stores due.job) (subst (MayLeave (core.values work.cell) work.job) how may.leaves))
+    go how ending stage at due = absurd due

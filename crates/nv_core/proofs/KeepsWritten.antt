@@ -1,7 +1,7 @@
 -- Each event keeps the groups written, and the free entries blank.
 use Rattle.std.proofs.Common.{◌≡◌, ◌≢◌, ◌⊎◌, ℕ, zero, suc, ◌+◌, ◌<◌, ◌≤◌, ◌==◌, Bool, true, false, if◌then◌else◌, List, [], ◌∷◌, length, inl, inr, refl, sym, ap, ap₂, subst, ◌∙◌, arith, ◌-◌}
 use Rattle.std.specs.Prelude.{slice_index_or}
-use Rattle.std.proofs.lemmas.Bool.{eqb-true, cases_eq, cases_lt}
+use Rattle.std.proofs.lemmas.Bool.{eqb-true, cases_eq, cases_lt, true≢false}
 use Rattle.std.proofs.lemmas.Nat.{mod_below}
 use Rattle.std.proofs.lemmas.List.{get_or_past}
 use Rattle.nv_plain.specs.declared.call.FileCall.{FileCall}
@@ -12,19 +12,26 @@ use Rattle.nv_pmem.specs.Laws.{BlankIsQuiet}
 use Rattle.nv_pmem.specs.Images.{IsQuiet, InEachImage}
 use Rattle.nv_pmem.specs.Runs.{run}
 use Rattle.nv_entry.specs.Commits.{after_some}
-use Rattle.nv_core.specs.Words.{Sizes, Word, HEAD, TAIL, STORE, ENTRY, kind_of, free, filling, broken, index, was_readied}
-use Rattle.nv_core.specs.Values.{Ending, Made, Failed, Writes, called}
-use Rattle.nv_core.specs.Passes.{Stage, Locking, Checking, Copying, Seizing, Committing, Pledging, Readying, Placing, ReadFailing, WriteFailing, Breaking, Pass, IsUnseized, IsFilling, IsAmong, AreBytes, IsAllowed, file_of, is_write, page_count, first_page, end_page, without, PieceFailing, Patching}
-use Rattle.nv_core.specs.Deeds.{Deed, slot_of, page_at, ready_word, Loads, Takes, Gives, Places, Stops, Draws, Seizes, Pledges, Readies, Grows, Breaks, Splits, Leaves, Joins, Turns, Hints, Holds, Returns}
+use Rattle.nv_header.specs.HeaderSteps.{tail_steps}
+use Rattle.nv_core.specs.Words.{Sizes, Word, HEAD, TAIL, HEADER, STORE, ENTRY, free, filling, broken, index, was_readied}
+use Rattle.nv_core.specs.Values.{Ending, Made, Failed, Refused, Writes, called}
+use Rattle.nv_core.specs.Sweeps.{Batch, Sweep, Peeking, Carrying, Syncing, Moving, Freeing, Lifts, Drops, Cleans, Frees, Retires}
+use Rattle.nv_core.specs.Chores.{group_file}
+use Rattle.nv_core.specs.SweepNumbers.{IsFreed}
+use Rattle.nv_core.specs.Passes.{Stage, Locking, Checking, Copying, Seizing, Committing, Pledging, Readying, Placing, ReadFailing, WriteFailing, Breaking, Pass, IsUnseized, IsFilling, IsAmong, AreBytes, IsAllowed, file_of, is_write, page_count, first_page, end_page, without, PieceFailing, Patching, Cleaning}
+use Rattle.nv_core.specs.Deeds.{Deed, slot_of, page_at, ready_word, Loads, Takes, Gives, Places, Stops, Draws, Seizes, Pledges, Readies, Grows, Breaks, Splits, Leaves, Joins, Turns, Hints, Holds, Returns, Tends}
 use Rattle.nv_core.specs.Stages.{stage_after, after_stop, leaving}
 use Rattle.nv_core.specs.Stepped.{stepped, begun}
-use Rattle.nv_core.specs.Order.{Values, Work, MayWork, IsDue, IsNextCall, IsPageRead, IsFailing, commit_steps, MayStep, IsPieceRead}
+use Rattle.nv_core.specs.Order.{Values, Work, MayWork, IsDue, IsChoreDue, IsNextCall, IsFailing, commit_steps, MayStep}
 use Rattle.nv_core.specs.Core.{Core, changes, changed, with_word, with_number, after_step, after_begin, after_work, worked, stage_worked, values_worked}
-use Rattle.nv_core.specs.Events.{MayFind}
+use Rattle.nv_core.specs.Events.{MayFind, MayBegin}
 use Rattle.nv_core.specs.Standing.{StandsAt, HasDrawn, IsSmall, HasRoom}
-use Rattle.nv_core.specs.LogWindow.{HasUnseized, Fills, InWindow, entry_at}
+use Rattle.nv_core.specs.LogWindow.{HasUnseized, Fills, InWindow, WasReadied, entry_at}
 use Rattle.nv_core.specs.Groups.{Group, Log, group_of, with_group, log_stepped, log_worked, calls_after, HasGroup, IsGrouped, IsOwn, Groups}
 use Rattle.nv_core.specs.Written.{IsPart, AreParts, CommitsNone, IsWritten, commit_length, HasCalls, IsBlank, Written}
+use Rattle.nv_core.specs.Tails.{Tails, still, tails_moved, tails_worked}
+use Rattle.nv_core.specs.Progress.{IsUnderWay}
+use Rattle.nv_core.specs.Retiring.{TailsAt, IsDone, Retired}
 use Rattle.nv_core.specs.Sound.{Sound}
 use Rattle.nv_core.proofs.Changes.{by_number, by_word, number_here, number_else, word_here, word_else, differ}
 use Rattle.nv_core.proofs.Choices.{if_both, not_both, when_true, when_false, busy}
@@ -33,13 +40,19 @@ use Rattle.nv_core.proofs.LockLaws.{only_holder}
 use Rattle.nv_core.proofs.PageLaws.{write_pages}
 use Rattle.nv_core.proofs.WordLaws.{untouched, touches}
 use Rattle.nv_core.proofs.HoldingSteps.{few_entries, apart_in}
-use Rattle.nv_core.proofs.KeepsLocks.{kind_is}
+use Rattle.nv_core.proofs.SweepStages.{swept_worked}
+use Rattle.nv_core.proofs.SweepDeeds.{IsAtFree, frees_hand, retires_hand, sole_cleaner}
+use Rattle.nv_core.proofs.SweepReadied.{cleaned_was, lifts_rekind, drops_rekind, cleans_rekind}
+use Rattle.nv_core.proofs.ReadiedLaws.{freed_after, readied_before, begun_before, worked_before}
+use Rattle.nv_core.proofs.LogLaws.{LogLaws}
+use Rattle.nv_core.proofs.FreedParts.{group_blank}
+use Rattle.nv_core.proofs.KeepsLocks.{ready_is}
 use Rattle.nv_core.proofs.WindowLaws.{apart_within}
 use Rattle.nv_core.proofs.KeepsWindow.{window_step}
 use Rattle.nv_core.proofs.KeepsGroups.{is_draw, group_new, group_old, which}
 use Rattle.nv_core.proofs.RowParts.{row_within}
-use Rattle.nv_core.proofs.WrittenLaws.{part_now, part_stepped, part_worked, part_called, value_called, value_not_called, steps_of, written_same, written_more, told_on}
-use Rattle.nv_core.proofs.Rekinded.{IsRekinded, holds_rekind, returns_rekind, rekind_free, rekind_before}
+use Rattle.nv_core.proofs.WrittenLaws.{part_now, part_stepped, part_worked, part_called, value_called, value_not_called, steps_of, written_same, written_more, written_later, blank_later, told_on}
+use Rattle.nv_core.proofs.Rekinded.{IsRekinded, holds_rekind, returns_rekind}
 
 -- ---- whose a leader is
 
@@ -120,24 +133,71 @@ calls_as sizes log next old new first call stage same is = tt
 
 -- ---- nothing of a part changes
 
-module _ (sizes : Sizes) (tail : ℕ) (log : Log) (core now : Core) (head : now.words HEAD ≡ core.words HEAD) (window : now.words TAIL ≡ core.words TAIL)
-    (values : (slot : ℕ) → now.values (ENTRY slot) ≡ core.values (ENTRY slot)) where
-  written_kept : ((slot : ℕ) → now.words (ENTRY slot) ≡ free → core.words (ENTRY slot) ≡ free)
-      → ((n : ℕ) → InWindow core n → (log.group n).first ≡ n → was_readied (entry_at sizes now n) ≡ true → (was_readied (entry_at sizes core n) ≡ true) ⊎ (log.calls n ≡ commit_length sizes (log.group n).call n))
+module _ (sizes : Sizes) (tail : ℕ) (log : Log) (core now : Core) (head : now.words HEAD ≡ core.words HEAD) (window : core.words TAIL ≤ now.words TAIL)
+    (values : (slot : ℕ) (part : Part) → IsPart (core.values (ENTRY slot)) part → IsPart (now.values (ENTRY slot)) part) where
+  blank_kept : (slot : ℕ) → IsBlank sizes (core.values (ENTRY slot)) tail slot → IsBlank sizes (now.values (ENTRY slot)) tail slot
+  blank_kept slot blank = record { part = blank.part; is = values slot blank.part blank.is; lines = blank.lines; quiet = blank.quiet; stale = blank.stale }
+
+  written_kept : ((slot : ℕ) → slot < sizes.entries → now.words (ENTRY slot) ≡ free → (core.words (ENTRY slot) ≡ free) ⊎ IsBlank sizes (core.values (ENTRY slot)) tail slot)
+      → ((n : ℕ) → InWindow core n → (log.group n).first ≡ n → WasReadied sizes now n → WasReadied sizes core n ⊎ (log.calls n ≡ commit_length sizes (log.group n).call n))
       → ((by : ℕ) → HasCalls sizes log (now.passes by) (now.passes by).stage) → Written sizes tail log core → Written sizes tail log now
   written_kept frees readies calls written = record {
     groups = λ n is leads. written_same sizes core.values now.values tail (log.group n).call n (log.calls n)
-        (λ i less part is. subst (λ v. IsPart v part) (sym (values (slot_of sizes (n + i)))) is) (written.groups n (was n is) leads);
+        (λ i less part is. values (slot_of sizes (n + i)) part is) (written.groups n (was n is) leads);
     calls = calls;
     ready = λ n is leads kind. elim (readies n (was n is) leads kind) [ inl old ↦ written.ready n (was n is) leads old | inr all ↦ all ];
-    free = λ slot less is. subst (λ v. IsBlank sizes v tail slot) (sym (values slot)) (written.free slot less (frees slot is));
+    free = λ slot less is. elim (frees slot less is) [ inl old ↦ blank_kept slot (written.free slot less old) | inr blank ↦ blank_kept slot blank ];
     low = subst (λ h. tail ≤ h) (sym head) written.low;
   }
     where
       was : (n : ℕ) → InWindow now n → InWindow core n
-      was n is = (subst (λ t. t ≤ n) window is.0, subst (λ h. n < h) head is.1)
+      was n is = let l = is.0 in let w = window in (omega (arith, l, w), subst (λ h. n < h) head is.1)
 
 -- ---- the steps that draw nothing
+
+-- an entry that is freed is one of a group whose commit's device calls all came, below the header's tail
+freed_blank : LogLaws → (sizes : Sizes) (first : Values) (tails : Tails) (log : Log) (by : ℕ) (core : Core) (found next : ℕ) → Sound sizes first core → Groups sizes core log → Retired sizes tails log core → Written sizes tails.least log core
+    → MayFind sizes by core (Tends (Frees next)) found → IsBlank sizes (core.values (ENTRY (slot_of sizes next))) tails.least (slot_of sizes next)
+freed_blank laws sizes first tails log by core found next sound groups retired written may =
+    subst (λ m. IsBlank sizes (core.values (ENTRY (slot_of sizes m))) tails.least (slot_of sizes m)) (let l = among.0 in omega (arith, l))
+    (group_blank laws sizes core.values tails.least (log.group next).call (log.group next).first (log.calls (log.group next).first)
+    (subst (λ g. IsWritten sizes core.values tails.least g.call (log.group next).first (log.calls (log.group next).first)) same (written.groups (log.group next).first inside leads))
+    (written.ready (log.group next).first inside leads readied ∙ ap (λ g. commit_length sizes g.call (log.group next).first) same)
+    (let l = among.0 in let h = hand.high in omega (arith, l, h, least))
+    (next - (log.group next).first) (let l = among.0 in let h = among.1 in let m = grouped.drawn.many in omega (arith, l, h, m)))
+  where
+    hand : IsAtFree sizes first core sound by next
+    hand = frees_hand sizes first core sound by found next may
+
+    grouped : IsGrouped sizes core log next
+    grouped = groups.each next hand.within
+
+    among : IsAmong (log.group next).first (log.group next).entries next
+    among = grouped.among
+
+    at_first : IsAmong (log.group next).first (log.group next).entries (log.group next).first
+    at_first = let s = grouped.drawn.some in (omega arith, omega (arith, s))
+
+    same : log.group (log.group next).first ≡ log.group next
+    same = grouped.same (log.group next).first at_first
+
+    leads : (log.group (log.group next).first).first ≡ (log.group next).first
+    leads = ap (λ g. g.first) same
+
+    inside : InWindow core (log.group next).first
+    inside = let l = among.0 in let h = hand.within.1 in (grouped.low, omega (arith, l, h))
+
+    least : tails.least ≡ hand.batch.reached
+    least = (subst (TailsAt tails) hand.stage (retired.at by)).0
+
+    foot : hand.batch.tail ≡ core.words TAIL
+    foot = (sound.grouped.progress.each by hand.batch (Freeing next) hand.stage tt).tail
+
+    readied : WasReadied sizes core (log.group next).first
+    readied = elim (cases_lt (log.group next).first next) [
+      | inl less ↦ inr (by, subst (λ s. IsFreed s (log.group next).first) (sym hand.stage) (let f = foot in let l = grouped.low in omega (arith, f, l), less))
+      | inr more ↦ inl (subst (λ m. was_readied (entry_at sizes core m) ≡ true) (let l = among.0 in omega (arith, l, more)) (cleaned_was (entry_at sizes core next) hand.kind_is))
+    ]
 
 -- the passes after a step
 calls_now : (sizes : Sizes) (log : Log) (tail : ℕ) (by : ℕ) (core : Core) (deed : Deed) (found : ℕ) → Written sizes tail log core
@@ -145,140 +205,113 @@ calls_now : (sizes : Sizes) (log : Log) (tail : ℕ) (by : ℕ) (core : Core) (d
     → (n : ℕ) → HasCalls sizes log ((after_step sizes by deed found core).passes n) ((after_step sizes by deed found core).passes n).stage
 calls_now sizes log tail by core deed found written here = by_number (λ n (p : Pass). HasCalls sizes log p p.stage) core.passes (changes by core.made deed) (changed sizes by core deed found) here (λ n ne. written.calls n)
 
--- a step that changes no ENTRY word
-plain_step : (sizes : Sizes) (tail : ℕ) (log : Log) (by : ℕ) (core : Core) (deed : Deed) (found : ℕ) → Written sizes tail log core → MayFind sizes by core deed found
-    → touches deed HEAD ≡ false → touches deed TAIL ≡ false → ((slot : ℕ) → touches deed (ENTRY slot) ≡ false)
-    → HasCalls sizes log (changed sizes by core deed found) (changed sizes by core deed found).stage → Written sizes tail log (after_step sizes by deed found core)
-plain_step sizes tail log by core deed found written may head window entry here =
-    written_kept sizes tail log core (after_step sizes by deed found core) (untouched sizes by core deed found may HEAD head) (untouched sizes by core deed found may TAIL window)
-    (part_stepped sizes (core.passes by) deed core.values)
-    (λ slot is. sym (untouched sizes by core deed found may (ENTRY slot) (entry slot)) ∙ is)
-    (λ n is leads kind. inl (ap was_readied (sym (untouched sizes by core deed found may (ENTRY (slot_of sizes n)) (entry (slot_of sizes n)))) ∙ kind))
-    (calls_now sizes log tail by core deed found written here) written
+module _ (laws : LogLaws) (sizes : Sizes) (first : Values) (tails : Tails) (log : Log) (by : ℕ) (core : Core) (found : ℕ) (sound : Sound sizes first core) (groups : Groups sizes core log) (retired : Retired sizes tails log core) (written : Written sizes tails.least log core) where
+  -- a leader is made ready only when all device calls of its group's commit have come
+  leader_all : (n : ℕ) → (log.group n).first ≡ n → MayFind sizes by core (Readies n) found → log.calls n ≡ commit_length sizes (log.group n).call n
+  leader_all n leads may =
+      let g : log.group n ≡ group_of (core.passes by) = own.group in
+      let f : (core.passes by).first ≡ n = sym (ap (λ one. one.first) g) ∙ leads in
+      subst (λ one. log.calls n ≡ commit_length sizes one.call n) (sym g) (subst (λ m. log.calls m ≡ commit_length sizes (core.passes by).call m) f all)
+    where
+      at : HasDrawn sizes (core.passes by).call (core.passes by).entries × IsAmong (core.passes by).first (core.passes by).entries n
+      at = subst (StandsAt sizes (core.passes by)) may.may (sound.standing by).at
 
-clear_step : (sizes : Sizes) (tail : ℕ) (log : Log) (by : ℕ) (core : Core) (deed : Deed) (found number : ℕ) → IsPlain deed → MayStep sizes core.values (core.passes by) deed
-    → HasCalls sizes log (stepped sizes number core.history deed found (core.passes by)) (stage_after sizes (core.passes by) deed found)
-clear_step sizes tail log by core deed found number plain may = clear_calls sizes log (stepped sizes number core.history deed found (core.passes by)) (stage_after sizes (core.passes by) deed found) (clear_to sizes core.values (core.passes by) deed found plain may)
+      all : log.calls (core.passes by).first ≡ commit_length sizes (core.passes by).call (core.passes by).first
+      all = subst (HasCalls sizes log (core.passes by)) may.may (written.calls by)
 
--- a step that sets an ENTRY word that is neither free nor ready then
-entry_step : (sizes : Sizes) (tail : ℕ) (log : Log) (by : ℕ) (core : Core) (deed : Deed) (found slot value : ℕ) → Written sizes tail log core
-    → (after_step sizes by deed found core).words ≡ with_word core.words (ENTRY slot) value → kind_of value ≢ free → was_readied value ≢ true
-    → HasCalls sizes log (changed sizes by core deed found) (changed sizes by core deed found).stage → Written sizes tail log (after_step sizes by deed found core)
-entry_step sizes tail log by core deed found slot value written words not_free not_ready here =
-    written_kept sizes tail log core (after_step sizes by deed found core)
-    (ap (λ w. w HEAD) words ∙ word_else core.words (ENTRY slot) value HEAD (differ HEAD (ENTRY slot) refl))
-    (ap (λ w. w TAIL) words ∙ word_else core.words (ENTRY slot) value TAIL (differ TAIL (ENTRY slot) refl))
-    (part_stepped sizes (core.passes by) deed core.values)
-    (λ other is. frees (ENTRY other) (sym (ap (λ w. w (ENTRY other)) words) ∙ is))
-    (λ n is leads kind. inl (readies (ENTRY (slot_of sizes n)) (ap (λ w. was_readied (w (ENTRY (slot_of sizes n)))) (sym words) ∙ kind)))
-    (calls_now sizes log tail by core deed found written here) written
-  where
-    frees : (word : Word) → with_word core.words (ENTRY slot) value word ≡ free → core.words word ≡ free
-    frees = by_word (λ word v. v ≡ free → core.words word ≡ free) core.words (ENTRY slot) value (λ e. absurd (not_free (ap kind_of e))) (λ word ne e. e)
+      own : IsOwn core log (core.passes by) n
+      own = groups.own by (subst HasGroup (sym may.may) tt) n at.1
 
-    readies : (word : Word) → was_readied (with_word core.words (ENTRY slot) value word) ≡ true → was_readied (core.words word) ≡ true
-    readies = by_word (λ word v. was_readied v ≡ true → was_readied (core.words word) ≡ true) core.words (ENTRY slot) value (λ e. absurd (not_ready e)) (λ word ne e. e)
+  -- which entries are free after a step
+  abbrev FreedAs : Deed → Type 0
+  FreedAs deed = (slot : ℕ) → slot < sizes.entries → (after_step sizes by deed found core).words (ENTRY slot) ≡ free → (core.words (ENTRY slot) ≡ free) ⊎ IsBlank sizes (core.values (ENTRY slot)) tails.least slot
 
--- an entry is held or returned
-rekind_step : (sizes : Sizes) (tail : ℕ) (log : Log) (by : ℕ) (core : Core) (deed : Deed) (found next value : ℕ) → Written sizes tail log core
-    → (after_step sizes by deed found core).words ≡ with_word core.words (ENTRY (slot_of sizes next)) value → IsRekinded sizes core next value
-    → HasCalls sizes log (changed sizes by core deed found) (changed sizes by core deed found).stage → Written sizes tail log (after_step sizes by deed found core)
-rekind_step sizes tail log by core deed found next value written words rekinded here =
-    written_kept sizes tail log core (after_step sizes by deed found core)
-    (ap (λ w. w HEAD) words ∙ word_else core.words (ENTRY (slot_of sizes next)) value HEAD (differ HEAD (ENTRY (slot_of sizes next)) refl))
-    (ap (λ w. w TAIL) words ∙ word_else core.words (ENTRY (slot_of sizes next)) value TAIL (differ TAIL (ENTRY (slot_of sizes next)) refl))
-    (part_stepped sizes (core.passes by) deed core.values)
-    (λ other is. rekind_free sizes core next value rekinded (ENTRY other) (sym (ap (λ w. w (ENTRY other)) words) ∙ is))
-    (λ n is leads kind. inl (rekind_before sizes core next value rekinded (ENTRY (slot_of sizes n)) (ap (λ w. was_readied (w (ENTRY (slot_of sizes n)))) (sym words) ∙ kind)))
-    (calls_now sizes log tail by core deed found written here) written
+  any_step : (deed : Deed) → MayFind sizes by core deed found → (after_step sizes by deed found core).words HEAD ≡ core.words HEAD → core.words TAIL ≤ (after_step sizes by deed found core).words TAIL → FreedAs deed
+      → HasCalls sizes log (changed sizes by core deed found) (changed sizes by core deed found).stage → Written sizes tails.least log (after_step sizes by deed found core)
+  any_step deed may head window frees here =
+      written_kept sizes tails.least log core (after_step sizes by deed found core) head window
+      (λ slot part is. subst (λ v. IsPart v part) (sym (part_stepped sizes (core.passes by) deed core.values slot)) is)
+      frees
+      (λ n is leads kind. elim (readied_before sizes first by core found sound deed may n is kind) [ inl old ↦ inl old | inr e ↦ inr (leader_all n leads (subst (λ d. MayFind sizes by core d found) e may)) ])
+      (calls_now sizes log tails.least by core deed found written here) written
 
--- an entry is made ready: a leader only when all device calls of its group's commit have come
-ready_step : (sizes : Sizes) (first : Values) (tail : ℕ) (log : Log) (by : ℕ) (core : Core) (found next : ℕ) → Sound sizes first core → Groups sizes core log → Written sizes tail log core → MayFind sizes by core (Readies next) found
-    → Written sizes tail log (after_step sizes by (Readies next) found core)
-ready_step sizes first tail log by core found next sound groups written may =
-    written_kept sizes tail log core (after_step sizes by (Readies next) found core)
-    (word_else core.words (ENTRY (slot_of sizes next)) value HEAD (differ HEAD (ENTRY (slot_of sizes next)) refl))
-    (word_else core.words (ENTRY (slot_of sizes next)) value TAIL (differ TAIL (ENTRY (slot_of sizes next)) refl))
-    (λ slot. refl)
-    (λ other is. by_word (λ word v. v ≡ free → core.words word ≡ free) core.words (ENTRY (slot_of sizes next)) value (λ e. absurd (let k = kind_two in let z : kind_of value ≡ 0 = ap kind_of e in omega (arith, k, z))) (λ word ne e. e) (ENTRY other) is)
-    (λ n is leads kind. by_word (λ word v. word ≡ ENTRY (slot_of sizes n) → was_readied v ≡ true → (was_readied (core.words word) ≡ true) ⊎ (log.calls n ≡ commit_length sizes (log.group n).call n)) core.words (ENTRY (slot_of sizes next)) value
-    (λ e _. inr (leader n is leads (ap index e))) (λ word ne e k. inl k) (ENTRY (slot_of sizes n)) refl kind)
-    (calls_now sizes log tail by core (Readies next) found written
-    (if_both (λ s. HasCalls sizes log (changed sizes by core (Readies next) found) s) (next == (core.passes by).first) Placing
-    (Readying (if next + 1 == (core.passes by).first + (core.passes by).entries then (core.passes by).first else next + 1)) (λ _. tt) (λ _. all)))
-    written
-  where
-    value : ℕ
-    value = ready_word sizes (core.passes by) next
+  -- a step that changes no ENTRY word
+  plain_step : (deed : Deed) → MayFind sizes by core deed found → touches deed HEAD ≡ false → touches deed TAIL ≡ false → ((slot : ℕ) → touches deed (ENTRY slot) ≡ false)
+      → HasCalls sizes log (changed sizes by core deed found) (changed sizes by core deed found).stage → Written sizes tails.least log (after_step sizes by deed found core)
+  plain_step deed may head window entry here = any_step deed may (untouched sizes by core deed found may HEAD head) (let e = untouched sizes by core deed found may TAIL window in omega (arith, e))
+      (λ slot less is. inl (sym (untouched sizes by core deed found may (ENTRY slot) (entry slot)) ∙ is)) here
 
-    kind_two : kind_of (ready_word sizes (core.passes by) next) ≡ 2
-    kind_two = kind_is 2 (if next == (core.passes by).first then (core.passes by).entries else 0) (page_at sizes (core.passes by) next) (omega arith)
+  clear_step : (deed : Deed) (number : ℕ) → IsPlain deed → MayStep sizes core.values (core.passes by) deed → HasCalls sizes log (stepped sizes number core.history deed found (core.passes by)) (stage_after sizes (core.passes by) deed found)
+  clear_step deed number plain may = clear_calls sizes log (stepped sizes number core.history deed found (core.passes by)) (stage_after sizes (core.passes by) deed found) (clear_to sizes core.values (core.passes by) deed found plain may)
 
-    at : HasDrawn sizes (core.passes by).call (core.passes by).entries × IsAmong (core.passes by).first (core.passes by).entries next
-    at = subst (StandsAt sizes (core.passes by)) may.may (sound.standing by).at
+  -- one that sets an ENTRY word
+  entry_step : (deed : Deed) (slot value : ℕ) → MayFind sizes by core deed found → (after_step sizes by deed found core).words ≡ with_word core.words (ENTRY slot) value
+      → (value ≡ free → IsBlank sizes (core.values (ENTRY slot)) tails.least slot)
+      → HasCalls sizes log (changed sizes by core deed found) (changed sizes by core deed found).stage → Written sizes tails.least log (after_step sizes by deed found core)
+  entry_step deed slot value may words frees here = any_step deed may
+      (ap (λ w. w HEAD) words ∙ word_else core.words (ENTRY slot) value HEAD (differ HEAD (ENTRY slot) refl))
+      (let e = ap (λ w. w TAIL) words ∙ word_else core.words (ENTRY slot) value TAIL (differ TAIL (ENTRY slot) refl) in omega (arith, e))
+      (λ other less is. by_word (λ word v. word ≡ ENTRY other → v ≡ free → (core.words word ≡ free) ⊎ IsBlank sizes (core.values word) tails.least other) core.words (ENTRY slot) value
+      (λ same e. inr (subst (λ k. IsBlank sizes (core.values (ENTRY slot)) tails.least k) (ap index same) (frees e))) (λ word ne _ e. inl e) (ENTRY other) refl (sym (ap (λ w. w (ENTRY other)) words) ∙ is))
+      here
 
-    all : log.calls (core.passes by).first ≡ commit_length sizes (core.passes by).call (core.passes by).first
-    all = subst (HasCalls sizes log (core.passes by)) may.may (written.calls by)
+  -- and one that leaves what was made ready so
+  rekind_step : (deed : Deed) (next value : ℕ) → MayFind sizes by core deed found → (after_step sizes by deed found core).words ≡ with_word core.words (ENTRY (slot_of sizes next)) value → IsRekinded sizes core next value
+      → HasCalls sizes log (changed sizes by core deed found) (changed sizes by core deed found).stage → Written sizes tails.least log (after_step sizes by deed found core)
+  rekind_step deed next value may words rekinded here = entry_step deed (slot_of sizes next) value may words (λ e. absurd (not_both (ap was_readied (sym e) ∙ rekinded.now) refl)) here
 
-    own : IsOwn core log (core.passes by) next
-    own = groups.own by (subst HasGroup (sym may.may) tt) next at.1
+  same_stage : (pass : Pass) → pass.first ≡ (core.passes by).first → pass.call ≡ (core.passes by).call → HasCalls sizes log pass (core.passes by).stage
+  same_stage pass same call = calls_as sizes log log (core.passes by) pass same call (core.passes by).stage (λ _. refl) (written.calls by)
 
-    leader : (n : ℕ) → InWindow core n → (log.group n).first ≡ n → slot_of sizes next ≡ slot_of sizes n → log.calls n ≡ commit_length sizes (log.group n).call n
-    leader n is leads slots = elim (cases_eq next n) [
-      | inl same ↦
-          let g : log.group n ≡ group_of (core.passes by) = subst (λ m. log.group m ≡ group_of (core.passes by)) same own.group in
-          let f : (core.passes by).first ≡ n = sym (ap (λ one. one.first) g) ∙ leads in
-          subst (λ one. log.calls n ≡ commit_length sizes one.call n) (sym g) (subst (λ m. log.calls m ≡ commit_length sizes (core.passes by).call m) f all)
-      | inr ne ↦ absurd (apart_within sizes core sound.window next n own.within is ne slots)
-    ]
+  stop_calls : (now : Pass) (stage : Stage) → IsFailing stage → HasCalls sizes log now (after_stop (core.passes by) stage)
+  stop_calls now (PieceFailing page next) is = tt
+  stop_calls now (ReadFailing page dirty) is = clear_calls sizes log now (leaving (core.passes by).hands) (clear_leaving (core.passes by).hands)
+  stop_calls now WriteFailing is = tt
+  stop_calls now stage is = absurd is
 
-same_stage : (sizes : Sizes) (tail : ℕ) (log : Log) (by : ℕ) (core : Core) (pass : Pass) → Written sizes tail log core → pass.first ≡ (core.passes by).first → pass.call ≡ (core.passes by).call
-    → HasCalls sizes log pass (core.passes by).stage
-same_stage sizes tail log by core pass written first call = calls_as sizes log log (core.passes by) pass first call (core.passes by).stage (λ _. refl) (written.calls by)
-
-stop_calls : (sizes : Sizes) (log : Log) (pass now : Pass) (stage : Stage) → IsFailing stage → HasCalls sizes log now (after_stop pass stage)
-stop_calls sizes log pass now (PieceFailing page next) is = tt
-stop_calls sizes log pass now (ReadFailing page dirty) is = clear_calls sizes log now (leaving pass.hands) (clear_leaving pass.hands)
-stop_calls sizes log pass now WriteFailing is = tt
-stop_calls sizes log pass now stage is = absurd is
-
-other_step : (sizes : Sizes) (first : Values) (tail : ℕ) (log : Log) (by : ℕ) (core : Core) (deed : Deed) (found : ℕ) → Sound sizes first core → Groups sizes core log → Written sizes tail log core → MayFind sizes by core deed found
-    → is_draw deed ≡ false → Written sizes tail log (after_step sizes by deed found core)
-other_step sizes first tail log by core (Loads word) found sound groups written may ne = plain_step sizes tail log by core (Loads word) found written may refl refl (λ slot. refl) (clear_step sizes tail log by core (Loads word) found by tt may.may)
-other_step sizes first tail log by core (Takes cell) found sound groups written may ne = plain_step sizes tail log by core (Takes cell) found written may refl refl (λ slot. refl) (clear_step sizes tail log by core (Takes cell) found by tt may.may)
-other_step sizes first tail log by core (Gives cell) found sound groups written may ne = plain_step sizes tail log by core (Gives cell) found written may refl refl (λ slot. refl) (clear_step sizes tail log by core (Gives cell) found by tt may.may)
-other_step sizes first tail log by core (Places reply) found sound groups written may ne = plain_step sizes tail log by core (Places reply) found written may refl refl (λ slot. refl) (clear_step sizes tail log by core (Places reply) found by tt may.may)
-other_step sizes first tail log by core Grows found sound groups written may ne = plain_step sizes tail log by core Grows found written may refl refl (λ slot. refl) (clear_step sizes tail log by core Grows found by tt may.may)
-other_step sizes first tail log by core (Turns page) found sound groups written may ne = plain_step sizes tail log by core (Turns page) found written may refl refl (λ slot. refl) (clear_step sizes tail log by core (Turns page) found by tt may.may)
-other_step sizes first tail log by core (Hints buffer page) found sound groups written may ne = plain_step sizes tail log by core (Hints buffer page) found written may refl refl (λ slot. refl) (clear_step sizes tail log by core (Hints buffer page) found by tt may.may)
-other_step sizes first tail log by core Stops found sound groups written may ne = plain_step sizes tail log by core Stops found written may refl refl (λ slot. refl)
-    (stop_calls sizes log (core.passes by) (changed sizes by core Stops found) (core.passes by).stage may.may)
-other_step sizes first tail log by core Draws found sound groups written may ne = absurd (not_both refl ne)
-other_step sizes first tail log by core (Seizes next) found sound groups written may ne =
-    entry_step sizes tail log by core (Seizes next) found (slot_of sizes next) filling written refl (λ e. omega (arith, e)) (λ e. not_both e refl)
-    (let none : log.calls (core.passes by).first ≡ 0 = subst (HasCalls sizes log (core.passes by)) may.may (written.calls by) in
-    if_both (HasCalls sizes log (changed sizes by core (Seizes next) found)) (next + 1 == (core.passes by).first + (core.passes by).entries) (Committing 0) (Seizing (next + 1)) (λ _. none) (λ _. none))
-other_step sizes first tail log by core (Pledges page) found sound groups written may ne = plain_step sizes tail log by core (Pledges page) found written may refl refl (λ slot. refl)
-    (let all : log.calls (core.passes by).first ≡ commit_length sizes (core.passes by).call (core.passes by).first = subst (HasCalls sizes log (core.passes by)) may.may (written.calls by) in
-    if_both (HasCalls sizes log (changed sizes by core (Pledges page) found)) (page + 1 == end_page sizes (core.passes by).call) (Readying (if (core.passes by).entries == 1 then (core.passes by).first else (core.passes by).first + 1)) (Pledging (page + 1)) (λ _. all) (λ _. all))
-other_step sizes first tail log by core (Readies next) found sound groups written may ne = ready_step sizes first tail log by core found next sound groups written may
-other_step sizes first tail log by core (Breaks next) found sound groups written may ne =
-    entry_step sizes tail log by core (Breaks next) found (slot_of sizes next) broken written refl (λ e. omega (arith, e)) (λ e. not_both e refl)
-    (if_both (HasCalls sizes log (changed sizes by core (Breaks next) found)) (next + 1 == (core.passes by).first + (core.passes by).entries)
-    (leaving (without (ENTRY (slot_of sizes next)) (core.passes by).hands)) (Breaking (next + 1))
-    (λ _. clear_calls sizes log (changed sizes by core (Breaks next) found) (leaving (without (ENTRY (slot_of sizes next)) (core.passes by).hands)) (clear_leaving (without (ENTRY (slot_of sizes next)) (core.passes by).hands))) (λ _. tt))
-other_step sizes first tail log by core (Holds next) found sound groups written may ne =
-    rekind_step sizes tail log by core (Holds next) found next (found + 1) written refl (holds_rekind sizes first by core found next sound may) (clear_step sizes tail log by core (Holds next) found by tt may.may)
-other_step sizes first tail log by core (Returns next) found sound groups written may ne =
-    rekind_step sizes tail log by core (Returns next) found next (found - 1) written refl (returns_rekind sizes first by core found next sound may) (clear_step sizes tail log by core (Returns next) found by tt may.may)
-other_step sizes first tail log by core Splits found sound groups written may ne = plain_step sizes tail log by core Splits found written may refl refl (λ slot. refl) tt
-other_step sizes first tail log by core (Leaves cell) found sound groups written may ne = plain_step sizes tail log by core (Leaves cell) found written may refl refl (λ slot. refl) (same_stage sizes tail log by core (changed sizes by core (Leaves cell) found) written refl refl)
-other_step sizes first tail log by core (Joins number) found sound groups written may ne = plain_step sizes tail log by core (Joins number) found written may refl refl (λ slot. refl) (same_stage sizes tail log by core (changed sizes by core (Joins number) found) written refl refl)
+  other_step : (deed : Deed) → MayFind sizes by core deed found → is_draw deed ≡ false → Written sizes tails.least log (after_step sizes by deed found core)
+  other_step (Loads word) may ne = plain_step (Loads word) may refl refl (λ slot. refl) (clear_step (Loads word) by tt may.may)
+  other_step (Takes cell) may ne = plain_step (Takes cell) may refl refl (λ slot. refl) (clear_step (Takes cell) by tt may.may)
+  other_step (Gives cell) may ne = plain_step (Gives cell) may refl refl (λ slot. refl) (clear_step (Gives cell) by tt may.may)
+  other_step (Places reply) may ne = plain_step (Places reply) may refl refl (λ slot. refl) (clear_step (Places reply) by tt may.may)
+  other_step Grows may ne = plain_step Grows may refl refl (λ slot. refl) (clear_step Grows by tt may.may)
+  other_step (Turns page) may ne = plain_step (Turns page) may refl refl (λ slot. refl) (clear_step (Turns page) by tt may.may)
+  other_step (Hints buffer page) may ne = plain_step (Hints buffer page) may refl refl (λ slot. refl) (clear_step (Hints buffer page) by tt may.may)
+  other_step Stops may ne = plain_step Stops may refl refl (λ slot. refl) (stop_calls (changed sizes by core Stops found) (core.passes by).stage may.may)
+  other_step Draws may ne = absurd (not_both refl ne)
+  other_step (Seizes next) may ne = entry_step (Seizes next) (slot_of sizes next) filling may refl (λ e. absurd (omega (arith, e)))
+      (let none : log.calls (core.passes by).first ≡ 0 = subst (HasCalls sizes log (core.passes by)) may.may (written.calls by) in
+      if_both (HasCalls sizes log (changed sizes by core (Seizes next) found)) (next + 1 == (core.passes by).first + (core.passes by).entries) (Committing 0) (Seizing (next + 1)) (λ _. none) (λ _. none))
+  other_step (Pledges page) may ne = plain_step (Pledges page) may refl refl (λ slot. refl)
+      (let all : log.calls (core.passes by).first ≡ commit_length sizes (core.passes by).call (core.passes by).first = subst (HasCalls sizes log (core.passes by)) may.may (written.calls by) in
+      if_both (HasCalls sizes log (changed sizes by core (Pledges page) found)) (page + 1 == end_page sizes (core.passes by).call) (Readying (if (core.passes by).entries == 1 then (core.passes by).first else (core.passes by).first + 1)) (Pledging (page + 1)) (λ _. all) (λ _. all))
+  other_step (Readies next) may ne = entry_step (Readies next) (slot_of sizes next) (ready_word sizes (core.passes by) next) may refl
+      (λ e. absurd (not_both (ap was_readied (sym e) ∙ ready_is (if next == (core.passes by).first then (core.passes by).entries else 0) (page_at sizes (core.passes by) next)) refl))
+      (let all : log.calls (core.passes by).first ≡ commit_length sizes (core.passes by).call (core.passes by).first = subst (HasCalls sizes log (core.passes by)) may.may (written.calls by) in
+      if_both (λ s. HasCalls sizes log (changed sizes by core (Readies next) found) s) (next == (core.passes by).first) Placing
+      (Readying (if next + 1 == (core.passes by).first + (core.passes by).entries then (core.passes by).first else next + 1)) (λ _. tt) (λ _. all))
+  other_step (Breaks next) may ne = entry_step (Breaks next) (slot_of sizes next) broken may refl (λ e. absurd (omega (arith, e)))
+      (if_both (HasCalls sizes log (changed sizes by core (Breaks next) found)) (next + 1 == (core.passes by).first + (core.passes by).entries)
+      (leaving (without (ENTRY (slot_of sizes next)) (core.passes by).hands)) (Breaking (next + 1))
+      (λ _. clear_calls sizes log (changed sizes by core (Breaks next) found) (leaving (without (ENTRY (slot_of sizes next)) (core.passes by).hands)) (clear_leaving (without (ENTRY (slot_of sizes next)) (core.passes by).hands))) (λ _. tt))
+  other_step (Holds next) may ne = rekind_step (Holds next) next (found + 1) may refl (holds_rekind sizes first by core found next sound may) (clear_step (Holds next) by tt may.may)
+  other_step (Returns next) may ne = rekind_step (Returns next) next (found - 1) may refl (returns_rekind sizes first by core found next sound may) (clear_step (Returns next) by tt may.may)
+  other_step (Tends (Lifts next)) may ne = rekind_step (Tends (Lifts next)) next (found + 1) may refl (lifts_rekind sizes first by core found next sound may) (clear_step (Tends (Lifts next)) by tt may.may)
+  other_step (Tends (Drops next)) may ne = rekind_step (Tends (Drops next)) next (found - 1) may refl (drops_rekind sizes first by core found next sound may) (clear_step (Tends (Drops next)) by tt may.may)
+  other_step (Tends (Cleans next)) may ne = rekind_step (Tends (Cleans next)) next (found + 1) may refl (cleans_rekind sizes first by core found next sound may) (clear_step (Tends (Cleans next)) by tt may.may)
+  other_step (Tends (Frees next)) may ne = entry_step (Tends (Frees next)) (slot_of sizes next) free may refl (λ _. freed_blank laws sizes first tails log by core found next sound groups retired written may) (clear_step (Tends (Frees next)) by tt may.may)
+  other_step (Tends (Retires tail)) may ne = any_step (Tends (Retires tail)) may (untouched sizes by core (Tends (Retires tail)) found may HEAD refl)
+      (let e : (after_step sizes by (Tends (Retires tail)) found core).words TAIL ≡ tail = word_here core.words TAIL tail in let l = (retires_hand sizes first core sound by found tail may).low in omega (arith, e, l))
+      (λ slot less is. inl (sym (untouched sizes by core (Tends (Retires tail)) found may (ENTRY slot) refl) ∙ is)) (clear_step (Tends (Retires tail)) by tt may.may)
+  other_step (Tends chore) may ne = plain_step (Tends chore) may refl refl (λ slot. refl) (clear_step (Tends chore) by tt may.may)
+  other_step Splits may ne = plain_step Splits may refl refl (λ slot. refl) tt
+  other_step (Leaves cell) may ne = plain_step (Leaves cell) may refl refl (λ slot. refl) (same_stage (changed sizes by core (Leaves cell) found) refl refl)
+  other_step (Joins number) may ne = plain_step (Joins number) may refl refl (λ slot. refl) (same_stage (changed sizes by core (Joins number) found) refl refl)
 
 -- ---- a call that begins
 
-pub written_begin : (sizes : Sizes) (tail : ℕ) (log : Log) (by : ℕ) (core : Core) (call : FileCall) → Written sizes tail log core → Written sizes tail log (after_begin sizes by call core)
-written_begin sizes tail log by core call written = written_kept sizes tail log core (after_begin sizes by call core) refl refl (λ slot. refl) (λ slot is. is) (λ n is leads kind. inl kind)
+pub written_begin : (sizes : Sizes) (tail : ℕ) (log : Log) (by : ℕ) (core : Core) (call : FileCall) → MayBegin sizes call (core.passes by) → Written sizes tail log core → Written sizes tail log (after_begin sizes by call core)
+written_begin sizes tail log by core call may written = written_kept sizes tail log core (after_begin sizes by call core) refl (omega arith) (λ slot part is. is) (λ slot less is. inl is) (λ n is leads kind. inl (begun_before sizes by core call may n kind))
     (by_number (λ n (p : Pass). HasCalls sizes log p p.stage) core.passes by (begun sizes call (core.passes by))
     (if_both (HasCalls sizes log (begun sizes call (core.passes by))) (page_count sizes call == 0) Checking (Locking (first_page sizes call)) (λ _. tt) (λ _. tt)) (λ n ne. written.calls n)) written
 
@@ -296,7 +329,7 @@ length_same sizes pass (Sync file) = refl
 
 module _ (sizes : Sizes) (first : Values) (tail : ℕ) (log : Log) (by : ℕ) (core : Core) (work : Work) (calls : ℕ)
     (sound : Sound sizes first core) (groups : Groups sizes core log) (written : Written sizes tail log core)
-    (at : (core.passes by).stage ≡ Committing calls) (due : IsNextCall sizes (core.passes by) calls work) where
+    (at : (core.passes by).stage ≡ Committing calls) (may : MayWork sizes core.values (core.passes by) work) (due : IsNextCall sizes (core.passes by) calls work) where
   pass_drawn : HasDrawn sizes (core.passes by).call (core.passes by).entries
   pass_drawn = subst (StandsAt sizes (core.passes by)) at (sound.standing by).at
 
@@ -382,10 +415,8 @@ module _ (sizes : Sizes) (first : Values) (tail : ℕ) (log : Log) (by : ℕ) (c
         (λ n ne. calls_as sizes log next_log (core.passes n) (core.passes n) refl refl (core.passes n).stage
         (λ counted. number_else log.calls (core.passes by).first (calls_after work.ending calls) (core.passes n).first
         (λ e. ne (first_apart sizes first core sound n by counted (subst IsCounted (sym at) tt) e))) (written.calls n));
-    ready = λ n is leads kind. number_else log.calls (core.passes by).first (calls_after work.ending calls) n
-        (λ e. let one : entry_at sizes core n ≡ filling = subst (λ m. entry_at sizes core m ≡ filling) (sym e) (sound.window.filling_is by (core.passes by).first (fills (core.passes by).first (among_first sizes (core.passes by) pass_drawn))) in
-        not_both (ap was_readied (sym one) ∙ kind) refl)
-        ∙ written.ready n is leads kind;
+    ready = λ n is leads kind. number_else log.calls (core.passes by).first (calls_after work.ending calls) n (λ e. not_ready n e (worked_before sizes by core work may n kind))
+        ∙ written.ready n is leads (worked_before sizes by core work may n kind);
     free = λ slot less is. subst (λ v. IsBlank sizes v tail slot) (sym (value_else slot
         (λ e. let one : core.words (ENTRY slot) ≡ filling = ap (λ s. core.words (ENTRY s)) e ∙ sound.window.filling_is by ((core.passes by).first + due.row.part) (fills _ among_part) in omega (arith, one, is))))
         (written.free slot less is);
@@ -399,48 +430,110 @@ module _ (sizes : Sizes) (first : Values) (tail : ℕ) (log : Log) (by : ℕ) (c
           if_both (HasCalls sizes next_log (worked sizes work (core.passes by))) (calls + 1 == length (commit_steps sizes (core.passes by) (core.passes by).call)) (Pledging (first_page sizes (core.passes by).call)) (Committing (calls + 1))
           (λ all. here ∙ eqb-true (calls + 1) (length (commit_steps sizes (core.passes by) (core.passes by).call)) all ∙ length_same sizes (core.passes by) (core.passes by).call) (λ _. here)
       goes (Failed came faults) e = tt
+      goes Refused e = number_here log.calls (core.passes by).first (calls_after work.ending calls) ∙ ap (λ how. calls_after how calls) e
 
--- a page is read from a store
-read_work : (sizes : Sizes) (tail : ℕ) (log : Log) (by : ℕ) (core : Core) (work : Work) (page : ℕ) (dirty : Bool) → Written sizes tail log core → (core.passes by).stage ≡ Copying page dirty → IsPageRead sizes core.values (core.passes by) page work
-    → Written sizes tail log (after_work sizes by work core)
-read_work sizes tail log by core work page dirty written at due = written_kept sizes tail log core (after_work sizes by work core) refl refl
-    (λ slot. part_worked (core.passes by) work core.values slot
-    ∙ ap (λ c. with_word core.values c (called work.job work.ending (core.values c)) (ENTRY slot)) due.cell
-    ∙ word_else core.values (STORE (file_of (core.passes by).call)) (called work.job work.ending (core.values (STORE (file_of (core.passes by).call)))) (ENTRY slot) (differ (ENTRY slot) (STORE (file_of (core.passes by).call)) refl))
-    (λ slot is. is) (λ n is leads kind. inl kind)
-    (by_number (λ n (p : Pass). HasCalls sizes log p p.stage) core.passes by (worked sizes work (core.passes by))
-    (subst (λ s. HasCalls sizes log (worked sizes work (core.passes by)) (stage_worked sizes (core.passes by) work.ending s)) (sym at) (goes work.ending)) (λ n ne. written.calls n)) written
-  where
-    goes : (how : Ending) → HasCalls sizes log (worked sizes work (core.passes by)) (stage_worked sizes (core.passes by) how (Copying page dirty))
-    goes Made = tt
-    goes (Failed came faults) = tt
+      -- its leader is being filled, and so neither ready nor freed
+      leader_fills : entry_at sizes core (core.passes by).first ≡ filling
+      leader_fills = sound.window.filling_is by (core.passes by).first (fills (core.passes by).first (among_first sizes (core.passes by) pass_drawn))
 
--- and a piece, from a part, which tells what it told
-peek_work : (sizes : Sizes) (tail : ℕ) (log : Log) (by : ℕ) (core : Core) (work : Work) (page number : ℕ) → Written sizes tail log core → (core.passes by).stage ≡ Patching page number → IsPieceRead sizes core.values number work
-    → Written sizes tail log (after_work sizes by work core)
-peek_work sizes tail log by core work page number written at due = record {
-  groups = λ n is leads. written_same sizes core.values (values_worked (core.passes by) work core.values) tail (log.group n).call n (log.calls n)
-      (λ i less part is. told_on sizes core.values (core.passes by) work number due (slot_of sizes (n + i)) part is) (written.groups n is leads);
-  calls = by_number (λ n (p : Pass). HasCalls sizes log p p.stage) core.passes by (worked sizes work (core.passes by))
-      (subst (λ s. HasCalls sizes log (worked sizes work (core.passes by)) (stage_worked sizes (core.passes by) work.ending s)) (sym at) (goes work.ending)) (λ n ne. written.calls n);
+      not_ready : (n : ℕ) → n ≡ (core.passes by).first → WasReadied sizes core n → ⊥
+      not_ready n e (inl kind) = let one : entry_at sizes core n ≡ filling = subst (λ m. entry_at sizes core m ≡ filling) (sym e) leader_fills in not_both (ap was_readied (sym one) ∙ kind) refl
+      not_ready n e (inr freed) =
+          let one : entry_at sizes core n ≡ filling = subst (λ m. entry_at sizes core m ≡ filling) (sym e) leader_fills in
+          let none : entry_at sizes core n ≡ free = sound.window.freed_is freed.0 n freed.1 in omega (arith, one, none)
+
+-- ---- other device calls
+
+-- a device call on a cell that keeps no entry's part, or one that leaves what a part tells
+kept_work : (sizes : Sizes) (tail : ℕ) (log : Log) (by : ℕ) (core : Core) (work : Work) → MayWork sizes core.values (core.passes by) work
+    → ((slot : ℕ) (part : Part) → IsPart (core.values (ENTRY slot)) part → IsPart (values_worked (core.passes by) work core.values (ENTRY slot)) part)
+    → HasCalls sizes log (worked sizes work (core.passes by)) (worked sizes work (core.passes by)).stage → Written sizes tail log core → Written sizes tail log (after_work sizes by work core)
+kept_work sizes tail log by core work may values here written = written_kept sizes tail log core (after_work sizes by work core) refl (omega arith) values (λ slot less is. inl is)
+    (λ n is leads kind. inl (worked_before sizes by core work may n kind))
+    (by_number (λ n (p : Pass). HasCalls sizes log p p.stage) core.passes by (worked sizes work (core.passes by)) here (λ n ne. written.calls n)) written
+
+part_else_work : (pass : Pass) (work : Work) (values : Values) (cell : Word) → work.cell ≡ cell → ((slot : ℕ) → ENTRY slot ≢ cell) → (slot : ℕ) (part : Part) → IsPart (values (ENTRY slot)) part → IsPart (values_worked pass work values (ENTRY slot)) part
+part_else_work pass work values cell is ne slot part told = subst (λ v. IsPart v part) (sym (part_worked pass work values slot
+    ∙ ap (λ c. with_word values c (called work.job work.ending (values c)) (ENTRY slot)) is
+    ∙ word_else values cell (called work.job work.ending (values cell)) (ENTRY slot) (ne slot))) told
+
+-- a tail that is moved ends above the one before, and no higher than HEAD
+module _ (sizes : Sizes) (first : Values) (tails : Tails) (log : Log) (by : ℕ) (core : Core) (sound : Sound sizes first core) (retired : Retired sizes tails log core) (batch : Batch) (calls : ℕ) (at : (core.passes by).stage ≡ Cleaning batch (Moving calls)) where
+  pub moving_way : IsUnderWay sizes sound.grouped.log core batch (Moving calls)
+  moving_way = sound.grouped.progress.each by batch (Moving calls) at tt
+
+  -- the next number behind what is cleaned is neither cleaned nor freed
+  not_done : InWindow core batch.reached → IsDone sizes core batch.reached → ⊥
+  not_done within (inl kind) = let own = sound.grouped.progress.own by batch (Moving calls) at tt batch.reached within kind in let h = own.1 in omega (arith, h)
+  not_done within (inr freed) = elim (cases_eq freed.0 by) [
+    | inl same ↦ subst (λ s. IsFreed s batch.reached) (subst (λ m. (core.passes m).stage ≡ Cleaning batch (Moving calls)) (sym same) at) freed.1
+    | inr ne ↦ (sole_cleaner sizes first core sound by batch (Moving calls) at tt freed.0 ne batch.reached).0 freed.1
+  ]
+
+  pub tail_above : tails.least ≤ batch.reached
+  tail_above = elim (cases_lt batch.reached tails.least) [
+    | inl less ↦ absurd (
+        let o = retired.order in let h = retired.high in let l = moving_way.low in let t = moving_way.tail in
+        let within : InWindow core batch.reached = (omega (arith, l, t), omega (arith, less, o, h)) in
+        not_done within (retired.done batch.reached within (omega (arith, less, o))))
+    | inr more ↦ more
+  ]
+
+later_tail : (sizes : Sizes) (tail next : ℕ) (log : Log) (core : Core) → tail ≤ next → next ≤ core.words HEAD → Written sizes tail log core → Written sizes next log core
+later_tail sizes tail next log core less high written = record {
+  groups = λ n is leads. written_later sizes core.values tail next (log.group n).call n (log.calls n) less (written.groups n is leads);
+  calls = written.calls;
   ready = written.ready;
-  free = λ slot less is. let blank = written.free slot less is in
-      record { part = blank.part; is = told_on sizes core.values (core.passes by) work number due slot blank.part blank.is; lines = blank.lines; quiet = blank.quiet; stale = blank.stale };
-  low = written.low;
+  free = λ slot few is. blank_later sizes (core.values (ENTRY slot)) tail next slot less (written.free slot few is);
+  low = high;
 }
-  where
-    goes : (how : Ending) → HasCalls sizes log (worked sizes work (core.passes by)) (stage_worked sizes (core.passes by) how (Patching page number))
-    goes Made = tt
-    goes (Failed came faults) = tt
 
-pub written_work : (sizes : Sizes) (first : Values) (tail : ℕ) (log : Log) (by : ℕ) (core : Core) (work : Work) → Sound sizes first core → Groups sizes core log → Written sizes tail log core → MayWork sizes core.values (core.passes by) work
-    → Written sizes tail (log_worked (core.passes by) work.ending (core.passes by).stage log) (after_work sizes by work core)
-written_work sizes first tail log by core work sound groups written may = go (core.passes by).stage refl may.due
+moved_tail : (sizes : Sizes) (log : Log) (core : Core) (how : Ending) (tail calls : ℕ) (tails : Tails) → tails.least ≤ tail → tail ≤ core.words HEAD → Written sizes tails.least log core → Written sizes (tails_moved how tail calls tails).least log core
+moved_tail sizes log core Made tail calls tails less high written = if_both (λ (t : Tails). Written sizes t.least log core) (calls == length (tail_steps tail)) (still tail) (record { least = tails.least; next = tail; calls = calls })
+    (λ _. later_tail sizes tails.least tail log core less high written) (λ _. written)
+moved_tail sizes log core (Failed true faults) tail calls tails less high written = written
+moved_tail sizes log core (Failed false faults) tail calls tails less high written = written
+moved_tail sizes log core Refused tail calls tails less high written = written
+
+pub written_work : (sizes : Sizes) (first : Values) (tails : Tails) (log : Log) (by : ℕ) (core : Core) (work : Work) → Sound sizes first core → Groups sizes core log → Retired sizes tails log core → Written sizes tails.least log core → MayWork sizes core.values (core.passes by) work
+    → Written sizes (tails_worked work.ending (core.passes by).stage tails).least (log_worked (core.passes by) work.ending (core.passes by).stage log) (after_work sizes by work core)
+written_work sizes first tails log by core work sound groups retired written may = go (core.passes by).stage refl may.due
   where
-    go : (stage : Stage) → (core.passes by).stage ≡ stage → IsDue sizes core.values (core.passes by) work stage → Written sizes tail (log_worked (core.passes by) work.ending stage log) (after_work sizes by work core)
-    go (Committing calls) at due = commit_work sizes first tail log by core work calls sound groups written at due
-    go (Copying page dirty) at due = read_work sizes tail log by core work page dirty written at due
-    go (Patching page number) at due = peek_work sizes tail log by core work page number written at due
+    read_calls : (page : ℕ) (dirty : Bool) (how : Ending) → HasCalls sizes log (worked sizes work (core.passes by)) (stage_worked sizes (core.passes by) how (Copying page dirty))
+    read_calls page dirty Made = tt
+    read_calls page dirty (Failed came faults) = tt
+    read_calls page dirty Refused = tt
+
+    peek_calls : (page number : ℕ) (how : Ending) → HasCalls sizes log (worked sizes work (core.passes by)) (stage_worked sizes (core.passes by) how (Patching page number))
+    peek_calls page number Made = tt
+    peek_calls page number (Failed came faults) = tt
+    peek_calls page number Refused = tt
+
+    sweep_calls : (batch : Batch) (sweep : Sweep) (how : Ending) → HasCalls sizes log (worked sizes work (core.passes by)) (stage_worked sizes (core.passes by) how (Cleaning batch sweep))
+    sweep_calls batch sweep Made = swept_worked (HasCalls sizes log (worked sizes work (core.passes by))) tt (λ _ _. tt) batch Made sweep
+    sweep_calls batch sweep (Failed came faults) = swept_worked (HasCalls sizes log (worked sizes work (core.passes by))) tt (λ _ _. tt) batch (Failed came faults) sweep
+    sweep_calls batch sweep Refused = swept_worked (HasCalls sizes log (worked sizes work (core.passes by))) tt (λ _ _. tt) batch Refused sweep
+
+    here : (stage : Stage) → (core.passes by).stage ≡ stage → HasCalls sizes log (worked sizes work (core.passes by)) (stage_worked sizes (core.passes by) work.ending stage) → HasCalls sizes log (worked sizes work (core.passes by)) (worked sizes work (core.passes by)).stage
+    here stage at is = subst (λ s. HasCalls sizes log (worked sizes work (core.passes by)) (stage_worked sizes (core.passes by) work.ending s)) (sym at) is
+
+    at_store : (file : ℕ) → work.cell ≡ STORE file → HasCalls sizes log (worked sizes work (core.passes by)) (worked sizes work (core.passes by)).stage → Written sizes tails.least log (after_work sizes by work core)
+    at_store file is calls = kept_work sizes tails.least log by core work may (part_else_work (core.passes by) work core.values (STORE file) is (λ slot. differ (ENTRY slot) (STORE file) refl)) calls written
+
+    sweeps : (batch : Batch) (sweep : Sweep) → (core.passes by).stage ≡ Cleaning batch sweep → IsChoreDue sizes core.values batch work sweep → Written sizes (tails_worked work.ending (Cleaning batch sweep) tails).least log (after_work sizes by work core)
+    sweeps batch (Peeking i) at due = kept_work sizes tails.least log by core work may (told_on sizes core.values (core.passes by) work (batch.reached + i) due) (here (Cleaning batch (Peeking i)) at (sweep_calls batch (Peeking i) work.ending)) written
+    sweeps batch (Carrying i) at due = at_store (group_file sizes batch) due.cell (here (Cleaning batch (Carrying i)) at (sweep_calls batch (Carrying i) work.ending))
+    sweeps batch (Syncing (file ∷ rest)) at due = at_store file due.0 (here (Cleaning batch (Syncing (file ∷ rest))) at (sweep_calls batch (Syncing (file ∷ rest)) work.ending))
+    sweeps batch (Moving calls) at due =
+        moved_tail sizes log (after_work sizes by work core) work.ending batch.reached (calls + 1) tails (tail_above sizes first tails log by core sound retired batch calls at) (moving_way sizes first tails log by core sound retired batch calls at).high
+        (kept_work sizes tails.least log by core work may (part_else_work (core.passes by) work core.values HEADER due.cell (λ slot. differ (ENTRY slot) HEADER refl)) (here (Cleaning batch (Moving calls)) at (sweep_calls batch (Moving calls) work.ending)) written)
+    sweeps batch sweep at due = absurd due
+
+    go : (stage : Stage) → (core.passes by).stage ≡ stage → IsDue sizes core.values (core.passes by) work stage → Written sizes (tails_worked work.ending stage tails).least (log_worked (core.passes by) work.ending stage log) (after_work sizes by work core)
+    go (Committing calls) at due = commit_work sizes first tails.least log by core work calls sound groups written at may due
+    go (Copying page dirty) at due = at_store (file_of (core.passes by).call) due.cell (here (Copying page dirty) at (read_calls page dirty work.ending))
+    go (Patching page number) at due = kept_work sizes tails.least log by core work may (told_on sizes core.values (core.passes by) work number due) (here (Patching page number) at (peek_calls page number work.ending)) written
+    go (Cleaning batch sweep) at due = sweeps batch sweep at due
     go stage at due = absurd due
 
 -- ---- numbers are drawn
@@ -465,12 +558,12 @@ pub nothing_made : (page first file at : ℕ) (bytes : List ℕ) (parts : List P
 unfolding run
 nothing_made page first file at bytes parts = refl
 
-none_written : (sizes : Sizes) (values : Values) (tail : ℕ) (call : FileCall) (first : ℕ) → BlankIsQuiet → IsPageSize sizes.page → AreBytes call → is_write call ≡ true → 1 ≤ page_count sizes call → tail ≤ first
+none_written : (sizes : Sizes) (values : Values) (tail : ℕ) (call : FileCall) (first : ℕ) → BlankIsQuiet → IsPageSize sizes.page → AreBytes call → is_write call ≡ true → 1 ≤ page_count sizes call
     → ((i : ℕ) → i < page_count sizes call → IsBlank sizes (values (ENTRY (slot_of sizes (first + i)))) tail (slot_of sizes (first + i)))
     → IsWritten sizes values tail call first 0
-none_written sizes values tail (Read file at len) first blank_quiet page_is bytes_are write some low blank = absurd (not_both write refl)
-none_written sizes values tail (Sync file) first blank_quiet page_is bytes_are write some low blank = absurd (not_both write refl)
-none_written sizes values tail (Write file at bytes) first blank_quiet page_is bytes_are write some low blank =
+none_written sizes values tail (Read file at len) first blank_quiet page_is bytes_are write some blank = absurd (not_both write refl)
+none_written sizes values tail (Sync file) first blank_quiet page_is bytes_are write some blank = absurd (not_both write refl)
+none_written sizes values tail (Write file at bytes) first blank_quiet page_is bytes_are write some blank =
     let row = chosen (IsBlankPart sizes values tail first) (page_count sizes (Write file at bytes))
     (λ i less. let b = blank i less in (b.part, (b.is, b.lines, b.quiet, b.stale))) in
     made row.0 row.1 row.2
@@ -483,7 +576,6 @@ none_written sizes values tail (Write file at bytes) first blank_quiet page_is b
       quiet = record { each = λ i. elim (cases_lt i (length parts)) [ inl less ↦ (each i (within i less)).2 | inr past ↦ subst IsQuiet (sym (get_or_past parts i [] past)) (record { lines = λ line. blank_quiet }) ] };
       stale = λ image is i less. (each i (within i less)).3 (image i) (is.each i);
       now = subst (AreParts sizes values first) (sym (nothing_made sizes.page first file at bytes parts)) record { each = λ i less. (each i (within i less)).0 };
-      low = low;
     }
       where
         within : (i : ℕ) → i < length parts → i < page_count sizes (Write file at bytes)
@@ -544,7 +636,6 @@ module _ (sizes : Sizes) (first : Values) (tail : ℕ) (log : Log) (by : ℕ) (c
 
   drawn_written : IsWritten sizes core.values tail (core.passes by).call found 0
   drawn_written = none_written sizes core.values tail (core.passes by).call found blank_quiet page_is allowed.bytes at_draw.0 some_drawn
-      (let f = may.is in let l = written.low in omega (arith, f, l))
       (λ i less. written.free (slot_of sizes (found + i)) (mod_below (found + i) sizes.entries (let b = allowed.short in let s = some_drawn in omega (arith, b, s)))
       (new_free (found + i) (omega arith, omega (arith, less))))
 
@@ -572,11 +663,20 @@ module _ (sizes : Sizes) (first : Values) (tail : ℕ) (log : Log) (by : ℕ) (c
       (among_first sizes (core.passes n) (counted_drawn sizes (core.passes n) (core.passes n).stage counted (sound.standing n).at))).within.1)
       (written.calls n))
 
-  draw_ready : (n : ℕ) → InWindow new_core n → (drawn_log.group n).first ≡ n → was_readied (entry_at sizes core n) ≡ true → drawn_log.calls n ≡ commit_length sizes (drawn_log.group n).call n
+  draw_ready : (n : ℕ) → InWindow new_core n → (drawn_log.group n).first ≡ n → WasReadied sizes new_core n → drawn_log.calls n ≡ commit_length sizes (drawn_log.group n).call n
   draw_ready n is leads kind = elim (split n is) [
-    | inl old ↦ old_calls n old.1 ∙ written.ready n old (sym (ap (λ g. g.first) (old_group n old.1)) ∙ leads) kind ∙ ap (λ g. commit_length sizes g.call n) (sym (old_group n old.1))
-    | inr new ↦ absurd (not_both (ap was_readied (sym (new_free n new)) ∙ kind) refl)
+    | inl old ↦
+        let was : WasReadied sizes core n = elim (readied_before sizes first by core found sound Draws may n old kind) [ inl x ↦ x | inr e ↦ absurd (true≢false (ap is_draw e)) ] in
+        old_calls n old.1 ∙ written.ready n old (sym (ap (λ g. g.first) (old_group n old.1)) ∙ leads) was ∙ ap (λ g. commit_length sizes g.call n) (sym (old_group n old.1))
+    | inr new ↦ absurd (none_new n new kind)
   ]
+    where
+      none_new : (n : ℕ) → IsAmong found (page_count sizes (core.passes by).call) n → WasReadied sizes new_core n → ⊥
+      none_new n new (inl kind) = not_both (ap was_readied (sym (new_free n new)) ∙ kind) refl
+      none_new n new (inr freed) = elim (freed_after sizes first by core found sound Draws may n freed.0 freed.1) [
+        | inl old ↦ let w = (sound.window.freed_in old.0 n old.1).1 in let f = may.is in let l = new.0 in omega (arith, w, f, l)
+        | inr e ↦ true≢false (ap is_draw e)
+      ]
 
   draw_won : Written sizes tail drawn_log new_core
   draw_won = record {
@@ -587,23 +687,22 @@ module _ (sizes : Sizes) (first : Values) (tail : ℕ) (log : Log) (by : ℕ) (c
     low = let h = new_head in let l = written.low in omega (arith, h, l);
   }
 
-draw_step : (sizes : Sizes) (first : Values) (tail : ℕ) (log : Log) (by : ℕ) (core : Core) (found : ℕ) → BlankIsQuiet → IsPageSize sizes.page → Sound sizes first core → Groups sizes core log → Written sizes tail log core → MayFind sizes by core Draws found
-    → Written sizes tail (log_stepped sizes (core.passes by) Draws found log) (after_step sizes by Draws found core)
-draw_step sizes first tail log by core found blank_quiet page_is sound groups written may = go (found == (core.passes by).head) refl
+draw_step : (laws : LogLaws) (sizes : Sizes) (first : Values) (tails : Tails) (log : Log) (by : ℕ) (core : Core) (found : ℕ) → IsPageSize sizes.page → Sound sizes first core → Groups sizes core log → Retired sizes tails log core → Written sizes tails.least log core → MayFind sizes by core Draws found
+    → Written sizes tails.least (log_stepped sizes (core.passes by) Draws found log) (after_step sizes by Draws found core)
+draw_step laws sizes first tails log by core found page_is sound groups retired written may = go (found == (core.passes by).head) refl
   where
-    go : (b : Bool) → (found == (core.passes by).head) ≡ b → Written sizes tail (log_stepped sizes (core.passes by) Draws found log) (after_step sizes by Draws found core)
-    go true e = subst (λ l. Written sizes tail l (after_step sizes by Draws found core))
+    go : (b : Bool) → (found == (core.passes by).head) ≡ b → Written sizes tails.least (log_stepped sizes (core.passes by) Draws found log) (after_step sizes by Draws found core)
+    go true e = subst (λ l. Written sizes tails.least l (after_step sizes by Draws found core))
         (sym (when_true (found == (core.passes by).head) (with_group record { call = (core.passes by).call; first = found; entries = page_count sizes (core.passes by).call } log) log e))
-        (draw_won sizes first tail log by core found blank_quiet page_is sound groups written may e)
-    go false e = subst (λ l. Written sizes tail l (after_step sizes by Draws found core))
+        (draw_won sizes first tails.least log by core found laws.blank page_is sound groups written may e)
+    go false e = subst (λ l. Written sizes tails.least l (after_step sizes by Draws found core))
         (sym (when_false (found == (core.passes by).head) (with_group record { call = (core.passes by).call; first = found; entries = page_count sizes (core.passes by).call } log) log e))
-        (written_kept sizes tail log core (after_step sizes by Draws found core)
-        (word_here core.words HEAD _ ∙ when_false (found == (core.passes by).head) (found + page_count sizes (core.passes by).call) found e ∙ sym may.is) refl (λ slot. refl) (λ slot is. is) (λ n is leads kind. inl kind)
-        (calls_now sizes log tail by core Draws found written
+        (any_step laws sizes first tails log by core found sound groups retired written Draws may
+        (word_here core.words HEAD _ ∙ when_false (found == (core.passes by).head) (found + page_count sizes (core.passes by).call) found e ∙ sym may.is) (omega arith) (λ slot less is. inl is)
         (subst (HasCalls sizes log (changed sizes by core Draws found)) (sym (when_false (found == (core.passes by).head) (Seizing found) (leaving (core.passes by).hands) e))
-        (clear_calls sizes log (changed sizes by core Draws found) (leaving (core.passes by).hands) (clear_leaving (core.passes by).hands)))) written)
+        (clear_calls sizes log (changed sizes by core Draws found) (leaving (core.passes by).hands) (clear_leaving (core.passes by).hands))))
 
-pub written_step : (sizes : Sizes) (first : Values) (tail : ℕ) (log : Log) (by : ℕ) (core : Core) (deed : Deed) (found : ℕ) → BlankIsQuiet → IsPageSize sizes.page → Sound sizes first core → Groups sizes core log → Written sizes tail log core → MayFind sizes by core deed found
-    → Written sizes tail (log_stepped sizes (core.passes by) deed found log) (after_step sizes by deed found core)
-written_step sizes first tail log by core Draws found blank_quiet page_is sound groups written may = draw_step sizes first tail log by core found blank_quiet page_is sound groups written may
-written_step sizes first tail log by core deed found blank_quiet page_is sound groups written may = other_step sizes first tail log by core deed found sound groups written may refl
+pub written_step : (laws : LogLaws) (sizes : Sizes) (first : Values) (tails : Tails) (log : Log) (by : ℕ) (core : Core) (deed : Deed) (found : ℕ) → IsPageSize sizes.page → Sound sizes first core → Groups sizes core log → Retired sizes tails log core → Written sizes tails.least log core → MayFind sizes by core deed found
+    → Written sizes tails.least (log_stepped sizes (core.passes by) deed found log) (after_step sizes by deed found core)
+written_step laws sizes first tails log by core Draws found page_is sound groups retired written may = draw_step laws sizes first tails log by core found page_is sound groups retired written may
+written_step laws sizes first tails log by core deed found page_is sound groups retired written may = other_step laws sizes first tails log by core found sound groups retired written deed may refl

@@ -88,11 +88,11 @@ pieces_after law sizes (Sync file) first files page_is write there = absurd (tru
 -- ---- writes on different pages are apart
 
 -- a write lies in the pages of a file from one on, below another
-abbrev LiesIn : Sizes → FileCall → (file from end : ℕ) → Type 0
+abbrev pub LiesIn : Sizes → FileCall → (file from end : ℕ) → Type 0
 LiesIn sizes (Write one at bytes) file from end = (one ≡ file) × (from * sizes.page ≤ at) × (at + length bytes ≤ end * sizes.page)
 LiesIn sizes call file from end = Unit {0}
 
-lie_apart : (sizes : Sizes) (one other : FileCall) (f a b g c d : ℕ) → LiesIn sizes one f a b → LiesIn sizes other g c d → (f ≢ g) ⊎ ((b ≤ c) ⊎ (d ≤ a)) → AreApart one other
+pub lie_apart : (sizes : Sizes) (one other : FileCall) (f a b g c d : ℕ) → LiesIn sizes one f a b → LiesIn sizes other g c d → (f ≢ g) ⊎ ((b ≤ c) ⊎ (d ≤ a)) → AreApart one other
 lie_apart sizes (Write file at bytes) (Write other from others) f a b g c d x y how = elim how [
   | inl ne ↦ inl (λ e. ne (sym x.0 ∙ e ∙ y.0))
   | inr pages ↦ elim pages [
@@ -105,7 +105,7 @@ lie_apart sizes (Write file at bytes) (Sync other) f a b g c d x y how = tt
 lie_apart sizes (Read file at len) other f a b g c d x y how = tt
 lie_apart sizes (Sync file) other f a b g c d x y how = tt
 
-piece_lies : (sizes : Sizes) (call : FileCall) (i : ℕ) → 1 ≤ sizes.page → LiesIn sizes (piece_write sizes call i) (file_of call) (at_of call / sizes.page + i) (at_of call / sizes.page + i + 1)
+pub piece_lies : (sizes : Sizes) (call : FileCall) (i : ℕ) → 1 ≤ sizes.page → LiesIn sizes (piece_write sizes call i) (file_of call) (at_of call / sizes.page + i) (at_of call / sizes.page + i + 1)
 piece_lies sizes (Write file at bytes) i some = lies sizes.page some
   where
     lies : (page : ℕ) → 1 ≤ page → (file ≡ file) × ((at / page + i) * page ≤ (piece_of at (length bytes) page i).at)

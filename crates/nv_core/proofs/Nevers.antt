@@ -2,7 +2,8 @@
 use Rattle.std.proofs.Common.{◌≡◌, ◌≢◌, ℕ, inl, inr, refl, sym, subst, arith, true, ◌∙◌}
 use Rattle.std.proofs.lemmas.Bool.{cases_eq}
 use Rattle.nv_core.specs.Words.{Word, PAGE, ENTRY, CLEANUP, ready, is_entry_of}
-use Rattle.nv_core.specs.Passes.{Stage, Seizing, Committing, Pledging, Readying, Placing, WriteFailing, IsUnseized, IsFilling, IsAmong, times, Leaving, Searching, Seeking, Robbing}
+use Rattle.nv_core.specs.Passes.{Stage, Seizing, Committing, Pledging, Readying, Placing, WriteFailing, IsUnseized, IsFilling, IsAmong, times, Leaving, Searching, Seeking, Robbing, Cleaning}
+use Rattle.nv_core.specs.Sweeps.{Withdrawing}
 use Rattle.nv_core.specs.Deeds.{Draws, slot_of}
 use Rattle.nv_core.specs.Order.{MayPlace}
 use Rattle.nv_core.specs.Standing.{StandsAt, HasDrawn, IsPage}
@@ -105,6 +106,8 @@ no_other_cleanup sizes first core by other page sound owes held = elim (cases_eq
   where
     has : (stage : Stage) → cleanup_held stage page ≡ 1 → HoldsLocks sizes (core.passes by) stage → times (CLEANUP page) (core.passes by).hands ≡ 1
     has Leaving owes locks = absurd (omega (arith, owes))
+    has (Cleaning batch Withdrawing) owes locks = absurd (omega (arith, owes))
+    has (Cleaning batch sweep) owes locks = locks (CLEANUP page) (λ slot. differ (CLEANUP page) (ENTRY slot) refl) ∙ owes
     has stage owes locks = locks (CLEANUP page) (λ slot. differ (CLEANUP page) (ENTRY slot) refl) ∙ owes
 
 pub no_draw_past_the_end : NoDrawPastTheEnd

@@ -1,10 +1,13 @@
 -- With an empty log, no call at hand and no history, the content of the log holds at opening.
-use Rattle.std.proofs.Common.{◌≡◌, ℕ, ◌-◌, ◌<◌, ◌≤◌, Bool, [], ◌++◌, get_or, length, Some, refl, sym, ap, ap₂, subst, ◌∙◌, arith}
+use Rattle.std.proofs.Common.{◌≡◌, ℕ, zero, suc, ◌+◌, ◌-◌, ◌<◌, ◌≤◌, ◌&&◌, not, Bool, List, [], ◌++◌, inl, get_or, length, Some, refl, sym, ap, ap₂, subst, ◌∙◌, arith}
 use Rattle.std.proofs.lemmas.List.FromFn.{fill_by_all}
 use Rattle.nv_plain.specs.Files.{Files}
+use Rattle.nv_plain.specs.declared.call.FileCall.{FileCall}
 use Rattle.nv_pmem.specs.Part.{Part, line_of, word_of}
 use Rattle.nv_pmem.specs.Images.{IsQuietLine}
 use Rattle.nv_pmem.specs.Laws.{QuietHasOneImage}
+use Rattle.nv_pmem.specs.Runs as runs
+use Rattle.nv_header.specs.Laws.{after_some_tail}
 use Rattle.nv_store.specs.Store.{Store}
 use Rattle.nv_core.specs.Words.{Sizes, HEAD, TAIL, HEADER, STORE, ENTRY}
 use Rattle.nv_core.specs.Values.{Value, Bare, APart, AStore, ABuffer}
@@ -13,7 +16,8 @@ use Rattle.nv_core.specs.Opening.{opening}
 use Rattle.nv_core.specs.StorePages.{store_of, HasFiles}
 use Rattle.nv_core.specs.HeaderStays.{HeaderStays}
 use Rattle.nv_core.specs.LogContent.{HasTail, OpeningHasTheLog}
-use Rattle.nv_core.specs.Passes.{Idle}
+use Rattle.nv_core.specs.Sweeps.{Batch, Sweep}
+use Rattle.nv_core.specs.Passes.{Stage, Idle, Cleaning}
 use Rattle.nv_core.specs.Core.{Core}
 use Rattle.nv_core.specs.LogWindow.{InWindow}
 use Rattle.nv_core.specs.Groups.{Log, HasGroup, Groups}
@@ -21,11 +25,18 @@ use Rattle.nv_core.specs.Written.{IsPart, HasCalls, IsBlank, Written}
 use Rattle.nv_core.specs.Pieces.{IsReadied, Pieces}
 use Rattle.nv_core.specs.InFlight.{IsFlying, InFlight}
 use Rattle.nv_core.specs.Apart.{after_calls}
-use Rattle.nv_core.specs.LivePieces.{rising, call_if, piece_call, is_live, is_to_place, calls_of, told_bytes, store_bytes, store_files, LivePieces}
+use Rattle.nv_core.specs.LivePieces.{rising, call_if, piece_call, is_cleaned, is_live, is_waiting, to_place, calls_of, told_bytes, store_bytes, store_files, LivePieces}
+use Rattle.nv_core.specs.Tails.{still}
+use Rattle.nv_core.specs.Progress.{Progress}
+use Rattle.nv_core.specs.Retiring.{IsWrittenBack, IsSynced, TailsAt, Retired}
 use Rattle.nv_core.specs.Leaders.{Leaders}
 use Rattle.nv_core.specs.Unready.{Unready}
 use Rattle.nv_core.proofs.ImageLaws.{part_one}
 use Rattle.nv_core.proofs.ClearLaws.{IsClear}
+
+abbrev IsIdle : Stage → Type 0
+IsIdle Idle = Unit {0}
+IsIdle stage = ⊥
 
 module _ (sizes : Sizes) (log : Log) (placed : ℕ → Bool) (core : Core) (empty : core.words HEAD ≡ core.words TAIL) (idle : (n : ℕ) → (core.passes n).stage ≡ Idle) where
   none_within : (n : ℕ) → InWindow core n → ⊥
@@ -47,6 +58,7 @@ module _ (sizes : Sizes) (log : Log) (placed : ℕ → Bool) (core : Core) (empt
   pieces_opening = record {
     says = λ n is. absurd (none_within n is);
     followers = λ n other is. absurd (none_within n is);
+    leaders = λ n is. absurd (none_within n is);
     readied = λ by n is. absurd (subst (λ s. IsReadied s (core.passes by).first (core.passes by).entries n) (idle by) is);
   }
 
@@ -71,16 +83,47 @@ module _ (sizes : Sizes) (log : Log) (placed : ℕ → Bool) (core : Core) (empt
     apart = λ n other is. absurd (none_within n is.within);
   }
 
+  -- no write is to be placed
+  none_to_place : (from count : ℕ) → rising (λ by. call_if (is_waiting (core.passes by) (core.passes by).stage) (core.passes by).call) from count ≡ []
+  none_to_place from zero = refl
+  none_to_place from (suc count) = ap (λ s. call_if (is_waiting (core.passes from) s) (core.passes from).call ++ rising (λ by. call_if (is_waiting (core.passes by) (core.passes by).stage) (core.passes by).call) (suc from) count) (idle from) ∙ none_to_place (suc from) count
+
   pub leaders_opening : Leaders sizes log core
   leaders_opening = record { each = λ n is. absurd (none_within n is) }
 
   -- the files at opening are what the stores read as
-  pub live_opening : core.history ≡ [] → LivePieces sizes log placed (store_files sizes core.values) core
-  live_opening none = record {
-    files =
-        let count : core.words HEAD - core.words TAIL ≡ 0 = omega (arith, empty) in
-        ap₂ (λ h c. after_calls (calls_of h ++ rising (λ n. call_if (is_to_place sizes log placed core n) (log.group n).call) (core.words TAIL) c) (store_files sizes core.values)) none count
-        ∙ sym (ap (λ c. after_calls (rising (λ n. call_if (is_live sizes log core n) (piece_call sizes (log.group n) n)) (core.words TAIL) c) (store_files sizes core.values)) count);
+  pub live_opening : core.history ≡ [] → LivePieces sizes log (store_files sizes core.values) core
+  live_opening none = record { files = none_left ∙ sym (none_of (λ n. call_if (is_live sizes log core n) (piece_call sizes (log.group n) n))); uncleaned = none_left ∙ sym (none_of (λ n. call_if (is_live sizes log core n && not (is_cleaned sizes core n)) (piece_call sizes (log.group n) n))) }
+    where
+      none_left : after_calls (calls_of core.history ++ to_place core) (store_files sizes core.values) ≡ store_files sizes core.values
+      none_left = ap₂ (λ h c. after_calls (calls_of h ++ c) (store_files sizes core.values)) none (none_to_place 0 (core.made + 1))
+
+      none_of : (calls : ℕ → List FileCall) → after_calls (rising calls (core.words TAIL) (core.words HEAD - core.words TAIL)) (store_files sizes core.values) ≡ store_files sizes core.values
+      none_of calls = let count : core.words HEAD - core.words TAIL ≡ 0 = omega (arith, empty) in ap (λ c. after_calls (rising calls (core.words TAIL) c) (store_files sizes core.values)) count
+
+  no_cleaner : (by : ℕ) (batch : Batch) (sweep : Sweep) → (core.passes by).stage ≡ Cleaning batch sweep → ⊥
+  no_cleaner by batch sweep e = subst IsIdle (sym (idle by) ∙ e) tt
+
+  pub progress_opening : Progress sizes log core
+  progress_opening = record {
+    each = λ by batch sweep e. absurd (no_cleaner by batch sweep e);
+    head = λ by batch sweep e. absurd (no_cleaner by batch sweep e);
+    fresh = λ by batch sweep e. absurd (no_cleaner by batch sweep e);
+    own = λ by batch sweep e. absurd (no_cleaner by batch sweep e);
+    halted = λ by batch sweep e. absurd (no_cleaner by batch sweep e);
+  }
+
+  pub retired_opening : (tail : ℕ) → tail ≤ core.words HEAD → Retired sizes (still tail) log core
+  retired_opening tail low = record {
+    written = λ by n is. absurd (subst (λ s. IsWrittenBack s n) (idle by) is);
+    synced = λ by file store is. absurd (subst (λ s. IsSynced s file) (idle by) is);
+    at = λ by. subst (TailsAt (still tail)) (sym (idle by)) tt;
+    begun = λ some. absurd (some refl);
+    same = λ none. refl;
+    order = omega arith;
+    high = low;
+    leads = λ t which is. absurd (none_within t is);
+    done = λ n is. absurd (none_within n is);
   }
 
 -- ---- a mount's files and header
@@ -101,11 +144,21 @@ files_are sizes first files has = ap (λ c. record { contents = c }) (sym (fill_
     each : (k : ℕ) → k < sizes.files → get_or files.contents k [] ≡ store_bytes (first (STORE k))
     each k low = let tells = has.tell.each k low in sym (told_seen first k tells.0 tells.1 ∙ has.seen.seen k tells.0 tells.1)
 
-header_opening : QuietHasOneImage → (first : Values) (tail : ℕ) → HasTail (first HEADER) tail → HeaderStays first tail first
+no_call : (tail : ℕ) (part : Part) → part ≡ after_some_tail tail 0 part
+unfolding runs.run
+no_call tail part = refl
+
+header_opening : QuietHasOneImage → (first : Values) (tail : ℕ) → HasTail (first HEADER) tail → HeaderStays first (still tail) first
 header_opening one_image first tail has = record {
   words = λ was part a b image left line word off. one_image part image line word (quiet part b line) left ∙ ap (λ p. word_of p line word) (part_one (first HEADER) part was b a);
-  tail_is = λ part b image left. one_image part image 1 0 (quiet part b 1) left ∙ ap (λ p. word_of p 1 0) (part_one (first HEADER) part has.part b has.is) ∙ has.tail_is;
-  quiet = λ part b. record { lines = quiet part b };
+  tail_is = λ part b image left. inl (one_image part image 1 0 (quiet part b 1) left ∙ ap (λ p. word_of p 1 0) (part_one (first HEADER) part has.part b has.is) ∙ has.tail_is);
+  moved = λ part b. record {
+    before = part;
+    quiet = record { lines = quiet part b };
+    long = subst (λ p. 1 < length p) (part_one (first HEADER) has.part part has.is b) has.long;
+    reads = ap (λ p. word_of p 1 0) (part_one (first HEADER) part has.part b has.is) ∙ has.tail_is;
+    is = no_call tail part;
+  };
   header_lines = λ was part a b. ap length (part_one (first HEADER) part was b a);
   entry_lines = λ slot was part a b. ap length (part_one (first (ENTRY slot)) part was b a);
 }
@@ -121,6 +174,9 @@ opening_has_the_log one_image mount files tail log placed opens has = record {
   pieces = pieces_opening mount.sizes log placed (opening mount) refl (λ n. refl);
   flight = flight_opening mount.sizes log placed (opening mount) refl (λ n. refl);
   unready = unready_opening mount.sizes log placed (opening mount) refl (λ n. refl);
-  live = subst (λ f. LivePieces mount.sizes log placed f (opening mount)) (files_are mount.sizes mount.values files has) (live_opening mount.sizes log placed (opening mount) refl (λ n. refl) refl);
+  live = subst (λ f. LivePieces mount.sizes log f (opening mount)) (files_are mount.sizes mount.values files has) (live_opening mount.sizes log placed (opening mount) refl (λ n. refl) refl);
+  progress = progress_opening mount.sizes log placed (opening mount) refl (λ n. refl);
+  retired = retired_opening mount.sizes log placed (opening mount) refl (λ n. refl) tail opens.low;
   leaders = leaders_opening mount.sizes log placed (opening mount) refl (λ n. refl);
+  tell = has.tell;
 }

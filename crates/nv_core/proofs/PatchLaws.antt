@@ -1,6 +1,6 @@
 -- Patched pages: a page after the history is its store's page, overwritten by the pieces of its entries in rising number.
-use Rattle.std.proofs.Common.{◌≡◌, ◌≢◌, ◌⊎◌, ℕ, zero, suc, ◌+◌, ◌-◌, ◌*◌, ◌/◌, ◌%◌, ◌<◌, ◌≤◌, ◌==◌, ◌&&◌, not, Bool, true, false, if◌then◌else◌, List, [], ◌∷◌, ◌++◌, length, drop, Some, inl, inr, refl, sym, ap, ap₂, subst, ◌∙◌, arith}
-use Rattle.std.proofs.lemmas.Bool.{cases_eq, cases_lt, cases_Bool, eqb-true, eqb-false, ne_eqb, true≢false, and_parts, ltb-true}
+use Rattle.std.proofs.Common.{◌≡◌, ◌≢◌, ◌⊎◌, ℕ, zero, suc, ◌+◌, ◌-◌, ◌*◌, ◌/◌, ◌%◌, ◌<◌, ◌≤◌, ◌==◌, ◌&&◌, ◌||◌, not, Bool, true, false, if◌then◌else◌, List, [], ◌∷◌, ◌++◌, length, drop, Some, inl, inr, refl, sym, ap, ap₂, subst, ◌∙◌, arith}
+use Rattle.std.proofs.lemmas.Bool.{cases_eq, cases_lt, cases_Bool, eqb-true, eqb-false, ne_eqb, true≢false, ltb-true}
 use Rattle.std.proofs.lemmas.List.{take_all, length-take, length-drop}
 use Rattle.std.proofs.lemmas.List.FromFn.{get_or-map-range_with_len}
 use Rattle.std.proofs.lemmas.Nat.{mod_below, div-add-mod'}
@@ -15,10 +15,10 @@ use Rattle.nv_store.specs.Store.{Store}
 use Rattle.nv_core.specs.Words.{Sizes, HEAD, TAIL, STORE, ENTRY, PAGE, kind_of, was_readied, free, filling}
 use Rattle.nv_core.specs.Passes.{Stage, Seizing, Committing, Pledging, Readying, Placing, WriteFailing, Breaking, Pass, IsAllowed, IsFilling, IsAmong, file_of, is_write, page_count, page_number, first_page, end_page, times}
 use Rattle.nv_core.specs.Order.{Values}
-use Rattle.nv_core.specs.Standing.{StandsAt, IsPage}
+use Rattle.nv_core.specs.Standing.{StandsAt, IsPage, has_call}
 use Rattle.nv_core.specs.Holding.{HoldsLocks}
 use Rattle.nv_core.specs.Core.{Core}
-use Rattle.nv_core.specs.LogWindow.{InWindow, entry_at, IsNumbered, Drawn, Filling, Kept}
+use Rattle.nv_core.specs.LogWindow.{InWindow, entry_at, IsNumbered, Drawn, Filling, Freed, Kept}
 use Rattle.nv_core.specs.PagesAfter.{page_from, file_of_page, start_of_page, page_in, page_now}
 use Rattle.nv_core.specs.StorePages.{store_of}
 use Rattle.nv_core.specs.ValidBuffers.{with_own}
@@ -26,10 +26,11 @@ use Rattle.nv_core.specs.Groups.{Log, group_of, HasGroup, Groups}
 use Rattle.nv_core.specs.Pieces.{page_of_number}
 use Rattle.nv_core.specs.InFlight.{IsFlying}
 use Rattle.nv_core.specs.Apart.{after_calls}
-use Rattle.nv_core.specs.LivePieces.{rising, call_if, piece_write, piece_call, is_ready, is_live, live_pieces, is_to_place, to_place, calls_of, store_bytes, store_files}
+use Rattle.nv_core.specs.LivePieces.{rising, call_if, piece_write, piece_call, is_ready, is_cleaned, is_live, live_pieces, is_waiting, to_place, calls_of, store_bytes, store_files}
 use Rattle.nv_core.specs.Leaders.{Leaders}
 use Rattle.nv_core.specs.LogContent.{LogContent}
-use Rattle.nv_core.specs.PatchedPages.{patched_by_number, patched_from, IsStill, PagesArePatched}
+use Rattle.nv_core.specs.PatchedPages.{patched_by_number, patched_where, IsStill, IsPatched, PagesArePatched}
+use Rattle.nv_core.specs.Tails.{Tails}
 use Rattle.nv_core.specs.Sound.{Sound}
 use Rattle.nv_core.proofs.PlainLaws.{PlainLaws}
 use Rattle.nv_core.proofs.Changes.{differ}
@@ -228,16 +229,29 @@ fills_own sizes pass WriteFailing number stands is = (tt, is)
 fills_own sizes pass (Breaking next) number stands is = (tt, (let a = is.0 in let b = stands.1.0 in omega (arith, a, b), is.1))
 fills_own sizes pass stage number stands is = absurd is
 
+-- a piece that is written, and where it goes: a test and another agree where the number is one of the page
+if_agree : (bytes other : List ℕ) (test made on : Bool) → (on ≡ true → test ≡ made) → (if test then (if on then other else bytes) else bytes) ≡ (if made && on then other else bytes)
+if_agree bytes other test made true same = ap (λ t. if t then other else bytes) (same refl ∙ sym (and_true made))
+  where
+    and_true : (b : Bool) → (b && true) ≡ b
+    and_true true = refl
+    and_true false = refl
+if_agree bytes other true true false same = refl
+if_agree bytes other true false false same = refl
+if_agree bytes other false true false same = refl
+if_agree bytes other false false false same = refl
+
 module _ (plain : PlainLaws) (sizes : Sizes) (first : Values) (log : Log) (core : Core) (page : ℕ) (sound : Sound sizes first core) (groups : Groups sizes core log) (leaders : Leaders sizes log core) (still : IsStill sizes core page) where
-  -- an entry of a still page that was made ready has a leader that was
-  pub ready_leader : (number : ℕ) → InWindow core number → is_ready sizes core number ≡ true → page_of_number sizes (log.group number) number ≡ page → is_ready sizes core (log.group number).first ≡ true
-  ready_leader number within ready_ on = elim (leaders.each number within ready_) [
+  -- an entry of a still page that was made ready, and isn't cleaned, has a leader that was
+  pub ready_leader : (number : ℕ) → InWindow core number → is_ready sizes core number ≡ true → is_cleaned sizes core number ≡ false → page_of_number sizes (log.group number) number ≡ page → is_ready sizes core (log.group number).first ≡ true
+  ready_leader number within ready_ fresh on = elim (leaders.each number within ready_ fresh) [
     | inl is ↦ is
     | inr fills ↦ absurd (numbered fills (sound.window.each (log.group number).first (leader_in sizes log core groups number within)))
   ]
     where
       numbered : entry_at sizes core (log.group number).first ≡ filling → IsNumbered sizes core (log.group number).first → ⊥
       numbered fills (Drawn by is) = let z : free ≡ filling = sym (sound.window.unseized_is by (log.group number).first is) ∙ fills in omega (arith, z)
+      numbered fills (Freed by is) = let z : free ≡ filling = sym (sound.window.freed_is by (log.group number).first is) ∙ fills in omega (arith, z)
       numbered fills (Kept some other) = other (ap kind_of fills)
       numbered fills (Filling by is) =
           let mine = fills_own sizes (core.passes by) (core.passes by).stage (log.group number).first (sound.standing by).at is in
@@ -249,74 +263,91 @@ module _ (plain : PlainLaws) (sizes : Sizes) (first : Values) (log : Log) (core 
             | inr too ↦ filling_not sizes core number (sound.window.filling_is by number too) ready_
           ]
 
-  piece_number : (files : Files) (number : ℕ) → length files.contents ≡ sizes.files → InWindow core number
-      → page_in sizes (after_calls (call_if (is_live sizes log core number) (piece_call sizes (log.group number) number)) files) page ≡ patched_by_number sizes log core page number (page_in sizes files page)
-  piece_number files number count within = elim (cases_Bool (is_ready sizes core number)) [
-    | inr none ↦ ap (λ b. page_in sizes (after_calls (call_if (b && is_ready sizes core (log.group number).first) (piece_call sizes (log.group number) number)) files) page) none
-        ∙ sym (ap (λ b. if b && page_of_number sizes (log.group number) number == page then with_own sizes (log.group number).call page (page_in sizes files page) else page_in sizes files page) none)
-    | inl is ↦ elim (cases_Bool (is_ready sizes core (log.group number).first)) [
-      | inl leads ↦
-          let g = groups.each number within in
-          ap₂ (λ a b. page_in sizes (after_calls (call_if (a && b) (piece_call sizes (log.group number) number)) files) page) is leads
-          ∙ piece_page plain sizes (log.group number).call files (number - (log.group number).first) page g.drawn.write g.allowed (let k = g.allowed.known in omega (arith, k, count))
-          (let a = g.among.0 in let b = g.among.1 in let m = g.drawn.many in omega (arith, a, b, m))
-          ∙ sym (ap (λ b. if b && page_of_number sizes (log.group number) number == page then with_own sizes (log.group number).call page (page_in sizes files page) else page_in sizes files page) is)
-      | inr not_yet ↦
-          ap₂ (λ a b. page_in sizes (after_calls (call_if (a && b) (piece_call sizes (log.group number) number)) files) page) is not_yet
-          ∙ sym (ap₂ (λ a b. if a && b then with_own sizes (log.group number).call page (page_in sizes files page) else page_in sizes files page) is
-          (ne_eqb (page_of_number sizes (log.group number) number) page (λ on. not_both (ready_leader number within is on) not_yet)))
+  -- calls of numbers of the window, where a test of each agrees with another one if it is of the page
+  module _ (test made : ℕ → Bool) (same : (number : ℕ) → InWindow core number → page_of_number sizes (log.group number) number ≡ page → test number ≡ made number) where
+    abbrev made_on : ℕ → Bool
+    made_on number = made number && page_of_number sizes (log.group number) number == page
+
+    piece_number : (files : Files) (number : ℕ) → length files.contents ≡ sizes.files → InWindow core number
+        → page_in sizes (after_calls (call_if (test number) (piece_call sizes (log.group number) number)) files) page ≡ patched_by_number sizes log made_on page number (page_in sizes files page)
+    piece_number files number count within =
+        go (test number)
+        ∙ if_agree (page_in sizes files page) (with_own sizes (log.group number).call page (page_in sizes files page)) (test number) (made number) (page_of_number sizes (log.group number) number == page)
+        (λ on. same number within (eqb-true (page_of_number sizes (log.group number) number) page on))
+      where
+        go : (t : Bool) → page_in sizes (after_calls (call_if t (piece_call sizes (log.group number) number)) files) page
+            ≡ (if t then (if page_of_number sizes (log.group number) number == page then with_own sizes (log.group number).call page (page_in sizes files page) else page_in sizes files page) else page_in sizes files page)
+        go false = refl
+        go true =
+            let g = groups.each number within in
+            piece_page plain sizes (log.group number).call files (number - (log.group number).first) page g.drawn.write g.allowed (let k = g.allowed.known in omega (arith, k, count))
+            (let a = g.among.0 in let b = g.among.1 in let m = g.drawn.many in omega (arith, a, b, m))
+
+    -- these calls leave of the page what the pieces of its entries do
+    pub patched_pieces : (from count : ℕ) (files : Files) → length files.contents ≡ sizes.files → core.words TAIL ≤ from → from + count ≤ core.words HEAD
+        → page_in sizes (after_calls (rising (λ n. call_if (test n) (piece_call sizes (log.group n) n)) from count) files) page ≡ patched_where sizes log made_on page from count (page_in sizes files page)
+    patched_pieces from zero files long low high = refl
+    patched_pieces from (suc count) files long low high =
+        let here = call_if (test from) (piece_call sizes (log.group from) from) in
+        ap (λ f. page_in sizes f page) (after_both here (rising (λ n. call_if (test n) (piece_call sizes (log.group n) n)) (suc from) count) files)
+        ∙ patched_pieces (suc from) count (after_calls here files) (after_length here files ∙ long) (omega (arith, low)) (omega (arith, high))
+        ∙ ap (patched_where sizes log made_on page (suc from) count) (piece_number files from long (low, omega (arith, high)))
+
+  -- what is live on the page was made ready, and the other way round
+  live_made : (number : ℕ) → InWindow core number → page_of_number sizes (log.group number) number ≡ page → is_live sizes log core number ≡ is_ready sizes core number
+  live_made number within on = elim (cases_Bool (is_ready sizes core number)) [
+    | inr none ↦ ap (λ b. b && (is_ready sizes core (log.group number).first || is_cleaned sizes core number)) none ∙ sym none
+    | inl is ↦ elim (cases_Bool (is_cleaned sizes core number)) [
+      | inl clean ↦ ap₂ (λ a b. a && (is_ready sizes core (log.group number).first || b)) is clean ∙ or_true (is_ready sizes core (log.group number).first) ∙ sym is
+      | inr fresh ↦ ap₂ (λ a b. a && (b || is_cleaned sizes core number)) is (ready_leader number within is fresh on) ∙ sym is
     ]
   ]
-
-  -- the pieces that are live leave of the page what those of its entries do
-  pub patched_pieces : (from count : ℕ) (files : Files) → length files.contents ≡ sizes.files → core.words TAIL ≤ from → from + count ≤ core.words HEAD
-      → page_in sizes (after_calls (rising (λ n. call_if (is_live sizes log core n) (piece_call sizes (log.group n) n)) from count) files) page ≡ patched_from sizes log core page from count (page_in sizes files page)
-  patched_pieces from zero files long low high = refl
-  patched_pieces from (suc count) files long low high =
-      let here = call_if (is_live sizes log core from) (piece_call sizes (log.group from) from) in
-      ap (λ f. page_in sizes f page) (after_both here (rising (λ n. call_if (is_live sizes log core n) (piece_call sizes (log.group n) n)) (suc from) count) files)
-      ∙ patched_pieces (suc from) count (after_calls here files) (after_length here files ∙ long) (omega (arith, low)) (omega (arith, high))
-      ∙ ap (patched_from sizes log core page (suc from) count) (piece_number files from long (low, omega (arith, high)))
+    where
+      or_true : (b : Bool) → (b || true) ≡ true
+      or_true true = refl
+      or_true false = refl
 
 -- ---- all of it
 
-module _ (plain : PlainLaws) (sizes : Sizes) (first : Values) (opened : Files) (tail : ℕ) (log : Log) (placed : ℕ → Bool) (core : Core) (page : ℕ)
-    (sound : Sound sizes first core) (content : LogContent sizes first opened tail log placed core) (still : IsStill sizes core page) where
+-- a write that waits for its place is in flight, of a call
+waiting_flies : (pass : Pass) (stage : Stage) → is_waiting pass stage ≡ true → IsFlying pass stage × (has_call stage ≡ true)
+waiting_flies pass Placing is = (is, refl)
+waiting_flies pass stage is = absurd (true≢false (sym is))
+
+module _ (plain : PlainLaws) (sizes : Sizes) (first : Values) (opened : Files) (tails : Tails) (log : Log) (placed : ℕ → Bool) (core : Core) (page : ℕ)
+    (sound : Sound sizes first core) (content : LogContent sizes first opened tails log placed core) (still : IsStill sizes core page) where
   count : length opened.contents ≡ sizes.files
   count =
-      sym (after_length (calls_of core.history ++ to_place sizes log placed core) opened)
+      sym (after_length (calls_of core.history ++ to_place core) opened)
       ∙ ap (λ f. length f.contents) content.live.files
       ∙ after_length (live_pieces sizes log core) (store_files sizes core.values)
       ∙ stores_length sizes core.values
 
   -- no write that is to be placed is on the page
-  waits_off : (number : ℕ) → InWindow core number → is_to_place sizes log placed core number ≡ true → IsPage sizes (log.group number).call page → ⊥
-  waits_off number within is on =
-      let parts = and_parts ((log.group number).first == number && is_ready sizes core number) (not (placed number)) is in
-      let both = and_parts ((log.group number).first == number) (is_ready sizes core number) parts.0 in
-      let leads : (log.group number).first ≡ number = eqb-true (log.group number).first number both.0 in
-      let waits = content.flight.waiting number within leads both.1 (not_false (placed number) parts.1) in
-      let by = waits.0 in
-      let flies : IsFlying (core.passes by) (core.passes by).stage = subst (IsFlying (core.passes by)) (sym waits.1.stage) waits.1.write in
-      let f : (core.passes by).first ≡ number = waits.1.first in
-      let own = content.flight.own by flies number (let s = (content.flight.drawn by flies).some in (omega (arith, f), omega (arith, f, s))) in
-      still by flies (subst (λ call. IsPage sizes call page) (ap (λ g. g.call) own.group) on)
-    where
-      not_false : (b : Bool) → not b ≡ true → b ≡ false
-      not_false true e = absurd (true≢false (sym e))
-      not_false false e = refl
-
-  pub page_is_patched : page_now sizes opened core page ≡ patched_from sizes log core page (core.words TAIL) (core.words HEAD - core.words TAIL) (page_in sizes (store_files sizes core.values) page)
-  page_is_patched =
-      let history = after_calls (calls_of core.history) opened in
-      let order = sound.window.order in
+  history_page : page_now sizes opened core page ≡ page_in sizes (after_calls (calls_of core.history ++ to_place core) opened) page
+  history_page =
       sym (ap (λ f. page_in sizes f page) (history_after core.history opened))
-      ∙ sym (off_page plain sizes page (to_place sizes log placed core) history (after_length (calls_of core.history) opened ∙ count)
-      (off_rising sizes page (λ n. call_if (is_to_place sizes log placed core n) (log.group n).call) (core.words TAIL) (core.words HEAD - core.words TAIL)
-      (λ n low high. let within : InWindow core n = (low, omega (arith, high, order)) in
-      off_if sizes page (is_to_place sizes log placed core n) (log.group n).call (λ is. ((content.groups.each n within).allowed, waits_off n within is)))))
-      ∙ ap (λ f. page_in sizes f page) (sym (after_both (calls_of core.history) (to_place sizes log placed core) opened) ∙ content.live.files)
-      ∙ patched_pieces plain sizes first log core page sound content.groups content.leaders still (core.words TAIL) (core.words HEAD - core.words TAIL) (store_files sizes core.values) (stores_length sizes core.values) (omega arith) (omega (arith, order))
+      ∙ sym (off_page plain sizes page (to_place core) (after_calls (calls_of core.history) opened) (after_length (calls_of core.history) opened ∙ count)
+      (off_rising sizes page (λ by. call_if (is_waiting (core.passes by) (core.passes by).stage) (core.passes by).call) 0 (core.made + 1)
+      (λ by low high. off_if sizes page (is_waiting (core.passes by) (core.passes by).stage) (core.passes by).call
+      (λ is. let waits = waiting_flies (core.passes by) (core.passes by).stage is in ((sound.standing by).allowed waits.1, still by waits.0)))))
+      ∙ sym (ap (λ f. page_in sizes f page) (after_both (calls_of core.history) (to_place core) opened))
+
+  pub page_is_patched : IsPatched sizes opened log core page (page_in sizes (store_files sizes core.values) page)
+  page_is_patched = record {
+    all = history_page ∙ ap (λ f. page_in sizes f page) content.live.files ∙ pieces_leave (is_live sizes log core) (is_ready sizes core) made;
+    uncleaned = history_page ∙ ap (λ f. page_in sizes f page) content.live.uncleaned
+        ∙ pieces_leave (λ n. is_live sizes log core n && not (is_cleaned sizes core n)) (λ n. is_ready sizes core n && not (is_cleaned sizes core n)) (λ n within on. ap (λ b. b && not (is_cleaned sizes core n)) (made n within on));
+  }
+    where
+      made : (n : ℕ) → InWindow core n → page_of_number sizes (log.group n) n ≡ page → is_live sizes log core n ≡ is_ready sizes core n
+      made = live_made plain sizes first log core page sound content.groups content.leaders still
+
+      pieces_leave : (test made : ℕ → Bool) → ((n : ℕ) → InWindow core n → page_of_number sizes (log.group n) n ≡ page → test n ≡ made n)
+          → page_in sizes (after_calls (rising (λ n. call_if (test n) (piece_call sizes (log.group n) n)) (core.words TAIL) (core.words HEAD - core.words TAIL)) (store_files sizes core.values)) page
+          ≡ patched_where sizes log (λ n. made n && page_of_number sizes (log.group n) n == page) page (core.words TAIL) (core.words HEAD - core.words TAIL) (page_in sizes (store_files sizes core.values) page)
+      pieces_leave test made same = patched_pieces plain sizes first log core page sound content.groups content.leaders still test made same (core.words TAIL) (core.words HEAD - core.words TAIL) (store_files sizes core.values)
+          (stores_length sizes core.values) (omega arith) (let order = sound.window.order in omega (arith, order))
 
 -- a page of the files that the stores read as is its store's
 pub store_page : (sizes : Sizes) (values : Values) (page : ℕ) (store : Store) → file_of_page sizes page < sizes.files → store_of (values (STORE (file_of_page sizes page))) ≡ Some store
@@ -326,9 +357,8 @@ store_page sizes values page store low told =
     (get_or-map-range_with_len (λ file. store_bytes (values (STORE file))) 0 sizes.files (file_of_page sizes page) (file_of_page sizes page) [] low (omega arith) ∙ told_seen values (file_of_page sizes page) store told)
 
 pub pages_are_patched : PlainLaws → PagesArePatched
-pages_are_patched plain sizes first opened tail log placed core page store sound content still low told =
-    page_is_patched plain sizes first opened tail log placed core page sound content still
-    ∙ ap (patched_from sizes log core page (core.words TAIL) (core.words HEAD - core.words TAIL)) (store_page sizes core.values page store low told)
+pages_are_patched plain sizes first opened tails log placed core page store sound content still low told =
+    subst (IsPatched sizes opened log core page) (store_page sizes core.values page store low told) (page_is_patched plain sizes first opened tails log placed core page sound content still)
 
 -- ---- where a page is still
 

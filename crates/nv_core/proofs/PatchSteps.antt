@@ -1,7 +1,7 @@
 -- Patched pages, number by number: what the part of an entry reads as, and what a step leaves of the entries of a page.
-use Rattle.std.proofs.Common.{◌≡◌, ℕ, zero, suc, ◌+◌, ◌-◌, ◌%◌, ◌<◌, ◌≤◌, ◌==◌, ◌&&◌, Bool, true, false, if◌then◌else◌, List, length, inl, inr, refl, sym, ap, ap₂, subst, ◌∙◌, arith}
+use Rattle.std.proofs.Common.{◌≡◌, ◌⊎◌, ℕ, zero, suc, ◌+◌, ◌-◌, ◌%◌, ◌<◌, ◌≤◌, ◌==◌, nat_le, ◌&&◌, not, Bool, true, false, if◌then◌else◌, List, length, inl, inr, refl, sym, ap, ap₂, subst, ◌∙◌, arith}
 use Rattle.std.specs.Prelude.{Option, Some, None}
-use Rattle.std.proofs.lemmas.Bool.{cases_eq, cases_Bool, ne_eqb}
+use Rattle.std.proofs.lemmas.Bool.{cases_eq, cases_lt, cases_Bool, ne_eqb, eqb-false, leb-true, and_parts, true≢false}
 use Rattle.nv_plain.specs.Files.{overwritten}
 use Rattle.nv_plain.specs.Images.{PartImage, Image, entry_of, data_of}
 use Rattle.nv_plain.specs.Pieces.{piece_of, piece_bytes}
@@ -11,10 +11,13 @@ use Rattle.nv_pmem.specs.Part.{Part, word_of as part_word}
 use Rattle.nv_pmem.specs.Images.{IsImage}
 use Rattle.nv_pmem.specs.Laws.{LoadsAreAnImage}
 use Rattle.nv_entry.specs.Group.{HoldsEntry}
-use Rattle.nv_core.specs.Words.{Sizes, HEAD, TAIL, HEADER, ENTRY, PAGE, kind_of, was_readied, page_of, free, filling, broken, entry_word, index}
+use Rattle.nv_core.specs.Words.{Sizes, HEAD, TAIL, HEADER, ENTRY, PAGE, CLEANUP, ready, held, cleaned, kind_of, was_readied, page_of, free, filling, broken, entry_word, index}
 use Rattle.nv_core.specs.Values.{Value, Bare, APart, AStore, ABuffer}
-use Rattle.nv_core.specs.Passes.{Drawing, Pass, IsUnseized, IsFilling, IsAmong, is_write, first_page, page_count, end_page, times}
-use Rattle.nv_core.specs.Deeds.{Deed, slot_of, ready_word, Takes, Gives, Draws, Seizes, Readies, Breaks, Holds, Returns}
+use Rattle.nv_core.specs.Passes.{Drawing, Grasping, Restoring, Pass, IsUnseized, IsFilling, IsAmong, is_write, first_page, page_count, end_page, times}
+use Rattle.nv_core.specs.Deeds.{Deed, slot_of, ready_word, Takes, Gives, Draws, Seizes, Readies, Breaks, Holds, Returns, Tends}
+use Rattle.nv_core.specs.Sweeps.{Chore, Lifts, Drops, Cleans, Frees, Retires}
+use Rattle.nv_core.specs.SweepNumbers.{IsFreed}
+use Rattle.nv_core.specs.Loaded.{Looks}
 use Rattle.nv_core.specs.Order.{Values}
 use Rattle.nv_core.specs.Standing.{StandsAt, HasDrawn, IsSmall, HasRoom, IsPage}
 use Rattle.nv_core.specs.Holding.{HoldsLocks}
@@ -28,18 +31,20 @@ use Rattle.nv_core.specs.Written.{IsPart}
 use Rattle.nv_core.specs.EntryImages.{IsRegionImage, entries_from, ReadsWhole, EntryImages}
 use Rattle.nv_core.specs.LivePieces.{is_ready}
 use Rattle.nv_core.specs.ValidBuffers.{with_own}
-use Rattle.nv_core.specs.PatchedPages.{is_on, patched_by_number, patched_from, IsStill}
+use Rattle.nv_core.specs.PatchedPages.{patched_by_number, is_on, patched_from, IsStill}
+use Rattle.nv_core.specs.Tails.{Tails}
+use Rattle.nv_core.specs.Retiring.{Retired}
 use Rattle.nv_core.specs.Sound.{Sound}
-use Rattle.nv_core.proofs.Changes.{word_here, word_else, differ}
-use Rattle.nv_core.proofs.Choices.{when_true, when_false}
+use Rattle.nv_core.proofs.Changes.{by_word, word_here, word_else, differ}
+use Rattle.nv_core.proofs.Choices.{when_true, when_false, not_both}
+use Rattle.nv_core.proofs.KeepsLocks.{entry_is, held_was}
+use Rattle.nv_core.proofs.SweepDeeds.{lifts_hand, drops_hand, cleans_hand, frees_hand, retires_hand}
 use Rattle.nv_core.proofs.HoldingLaws.{among_in}
 use Rattle.nv_core.proofs.PageLaws.{write_pages}
 use Rattle.nv_core.proofs.WordLaws.{untouched, touches}
 use Rattle.nv_core.proofs.WindowLaws.{apart_within}
 use Rattle.nv_core.proofs.KeepsGroups.{group_old, group_new, which}
 use Rattle.nv_core.proofs.KeepsLive.{and_false}
-use Rattle.nv_core.proofs.Rekinded.{holds_rekind, returns_rekind}
-use Rattle.nv_core.proofs.KeepsLeaders.{still_readied}
 use Rattle.nv_core.proofs.PatchLaws.{on_call, leader_in, leader_group}
 
 -- ---- number by number
@@ -63,8 +68,8 @@ patch_both sizes log core page from (suc one) other bytes =
     let a : suc one + other ≡ suc (one + other) = omega arith in
     let b : suc from + one ≡ from + suc one = omega arith in
     ap (λ c. patched_from sizes log core page from c bytes) a
-    ∙ patch_both sizes log core page (suc from) one other (patched_by_number sizes log core page from bytes)
-    ∙ ap (λ f. patched_from sizes log core page f other (patched_from sizes log core page (suc from) one (patched_by_number sizes log core page from bytes))) b
+    ∙ patch_both sizes log core page (suc from) one other (patched_by_number sizes log (is_on sizes log core page) page from bytes)
+    ∙ ap (λ f. patched_from sizes log core page f other (patched_from sizes log core page (suc from) one (patched_by_number sizes log (is_on sizes log core page) page from bytes))) b
 
 -- numbers of which none is of the page
 pub patch_nothing : (sizes : Sizes) (log : Log) (core : Core) (page from count : ℕ) (bytes : List ℕ) → ((n : ℕ) → from ≤ n → n < from + count → is_on sizes log core page n ≡ false)
@@ -74,6 +79,23 @@ patch_nothing sizes log core page from (suc count) bytes none =
     patch_none sizes log core page from count bytes (none from (omega arith) (omega arith))
     ∙ patch_nothing sizes log core page (suc from) count bytes (λ n low high. none n (omega (arith, low)) (omega (arith, high)))
 
+-- to pass by numbers, below an end, of which none is of the page
+pub patch_skip : (sizes : Sizes) (log : Log) (core : Core) (page from next head : ℕ) (bytes : List ℕ) → from ≤ next → ((n : ℕ) → from ≤ n → n < next → n < head → is_on sizes log core page n ≡ false)
+    → patched_from sizes log core page from (head - from) bytes ≡ patched_from sizes log core page next (head - next) bytes
+patch_skip sizes log core page from next head bytes up none = elim (cases_lt head next) [
+  | inl past ↦
+      let zero_ : head - next ≡ 0 = omega (arith, past) in
+      patch_nothing sizes log core page from (head - from) bytes (λ n low high. none n low (omega (arith, low, high, past)) (omega (arith, low, high)))
+      ∙ sym (ap (λ c. patched_from sizes log core page next c bytes) zero_)
+  | inr inside ↦
+      let all : head - from ≡ (next - from) + (head - next) = omega (arith, up, inside) in
+      let there : from + (next - from) ≡ next = omega (arith, up) in
+      ap (λ c. patched_from sizes log core page from c bytes) all
+      ∙ patch_both sizes log core page from (next - from) (head - next) bytes
+      ∙ ap₂ (λ f b. patched_from sizes log core page f (head - next) b) there
+      (patch_nothing sizes log core page from (next - from) bytes (λ n low high. none n low (omega (arith, low, high, up)) (omega (arith, low, high, up, inside))))
+]
+
 -- entries that are the same of the page patch it alike
 pub patch_same : (sizes : Sizes) (log other : Log) (core now : Core) (page from count : ℕ) (bytes : List ℕ)
     → ((n : ℕ) → from ≤ n → n < from + count → (is_on sizes other now page n ≡ is_on sizes log core page n) × (other.group n ≡ log.group n))
@@ -81,7 +103,7 @@ pub patch_same : (sizes : Sizes) (log other : Log) (core now : Core) (page from 
 patch_same sizes log other core now page from zero bytes same = refl
 patch_same sizes log other core now page from (suc count) bytes same =
     let here = same from (omega arith) (omega arith) in
-    patch_same sizes log other core now page (suc from) count (patched_by_number sizes other now page from bytes) (λ n low high. same n (omega (arith, low)) (omega (arith, high)))
+    patch_same sizes log other core now page (suc from) count (patched_by_number sizes other (is_on sizes other now page) page from bytes) (λ n low high. same n (omega (arith, low)) (omega (arith, high)))
     ∙ ap (patched_from sizes log core page (suc from) count) (ap₂ (λ b g. if b then with_own sizes g.call page bytes else bytes) here.0 here.1)
 
 -- ---- what an entry's word says
@@ -102,6 +124,59 @@ word_page sizes log core groups pieces number within ready_ =
     if_few : (b : Bool) → (log.group number).entries ≤ 16 → (if b then (log.group number).entries else 0) ≤ 16
     if_few true few = few
     if_few false few = omega arith
+
+-- whether a word is that of an entry that was made ready, and isn't cleaned
+abbrev pub is_fresh : (word : ℕ) → Bool
+is_fresh word = was_readied word && not (kind_of word == cleaned)
+
+abbrev fresh_kind : (kind : ℕ) → Bool
+fresh_kind kind = (nat_le ready kind && nat_le kind cleaned) && not (kind == cleaned)
+
+pub fresh_ready : (word : ℕ) → kind_of word ≡ ready → is_fresh word ≡ true
+fresh_ready word is = ap fresh_kind is
+
+pub fresh_held : (word : ℕ) → kind_of word ≡ held → is_fresh word ≡ true
+fresh_held word is = ap fresh_kind is
+
+pub fresh_cleaned : (word : ℕ) → kind_of word ≡ cleaned → is_fresh word ≡ false
+fresh_cleaned word is = ap fresh_kind is
+
+-- such an entry is ready or held
+pub fresh_is : (word : ℕ) → is_fresh word ≡ true → (was_readied word ≡ true) × ((kind_of word == cleaned) ≡ false) × ((kind_of word ≡ ready) ⊎ (kind_of word ≡ held))
+fresh_is word is =
+    let both = and_parts (was_readied word) (not (kind_of word == cleaned)) is in
+    let kinds = and_parts (nat_le ready (kind_of word)) (nat_le (kind_of word) cleaned) both.0 in
+    let low = leb-true ready (kind_of word) kinds.0 in
+    let high = leb-true (kind_of word) cleaned kinds.1 in
+    let no = not_true (kind_of word == cleaned) both.1 in
+    let ne = eqb-false (kind_of word) cleaned no in
+    (both.0, no, elim (cases_eq (kind_of word) ready) [ inl two ↦ inl two | inr other ↦ inr (omega (arith, low, high, ne, other)) ])
+  where
+    not_true : (b : Bool) → not b ≡ true → b ≡ false
+    not_true true e = absurd (true≢false (sym e))
+    not_true false e = refl
+
+-- one isn't below a tail of the header, nor is its leader
+pub fresh_high : (sizes : Sizes) (first : Values) (tails : Tails) (log : Log) (core : Core) → Sound sizes first core → Groups sizes core log → Retired sizes tails log core → (number : ℕ) → InWindow core number → is_fresh (entry_at sizes core number) ≡ true
+    → tails.next ≤ (log.group number).first
+fresh_high sizes first tails log core sound groups retired number within fresh = elim (cases_lt (log.group number).first tails.next) [
+  | inr more ↦ more
+  | inl less ↦ absurd (
+      let g = groups.each number within in
+      let top = g.among.1 in let t = g.low in let h = within.1 in let own = above in
+      let next_in : InWindow core tails.next = (omega (arith, t, less), omega (arith, own, h)) in
+      let same : log.group tails.next ≡ log.group number = g.same tails.next (omega (arith, less), omega (arith, top, own)) in
+      let e : tails.next ≡ (log.group number).first = sym (retired.leads tails.next (inr refl) next_in) ∙ ap (λ g. g.first) same in omega (arith, e, less))
+]
+  where
+    above : tails.next ≤ number
+    above = elim (cases_lt number tails.next) [
+      | inr more ↦ more
+      | inl less ↦ absurd (elim (retired.done number within less) [
+        | inl clean ↦ not_both fresh (fresh_cleaned (entry_at sizes core number) clean)
+        | inr freed ↦ not_both fresh (ap is_fresh (sound.window.freed_is freed.0 number freed.1))
+      ])
+    ]
 
 -- ---- what its part reads as
 
@@ -136,13 +211,13 @@ region_is loads sizes values = record {
   entries = λ slot less part is. subst (IsImage part) (sym (region_entry values slot ∙ image_is (values (ENTRY slot)) part is)) (loads part);
 }
 
-module _ (loads : LoadsAreAnImage) (sizes : Sizes) (log : Log) (core : Core) (groups : Groups sizes core log) (images : EntryImages sizes log core) (number page : ℕ) (within : InWindow core number)
+module _ (loads : LoadsAreAnImage) (sizes : Sizes) (log : Log) (core : Core) (groups : Groups sizes core log) (tail : ℕ) (images : EntryImages sizes tail log core) (number page : ℕ) (within : InWindow core number) (high : tail ≤ (log.group number).first)
     (leads : is_ready sizes core (log.group number).first ≡ true) (on : page_of_number sizes (log.group number) number ≡ page) (part : Part) (is : IsPart (core.values (ENTRY (slot_of sizes number))) part) where
   whole : (call : FileCall) → (log.group number).call ≡ call → ReadsWhole sizes call (log.group number).first (region core.values)
   whole call e =
       let same = leader_group sizes log core groups number within in
       subst (λ c. ReadsWhole sizes c (log.group number).first (region core.values)) (ap (λ g. g.call) same ∙ e)
-      (images.whole (log.group number).first (leader_in sizes log core groups number within) (ap (λ g. g.first) same) leads (region core.values) (region_is loads sizes core.values))
+      (images.whole (log.group number).first (leader_in sizes log core groups number within) high (ap (λ g. g.first) same) leads (region core.values) (region_is loads sizes core.values))
 
   its_part : entries_from sizes (region core.values) (log.group number).first (number - (log.group number).first) ≡ part_word part
   its_part =
@@ -218,7 +293,12 @@ module _ (sizes : Sizes) (first : Values) (log : Log) (by : ℕ) (core : Core) (
     ]
   ]
 
-module _ (sizes : Sizes) (first : Values) (log : Log) (by : ℕ) (core : Core) (found page : ℕ) (sound : Sound sizes first core) (groups : Groups sizes core log) (still : IsStill sizes core page) where
+-- a cleaner that makes a step doesn't hold CLEANUP of a page
+abbrev pub IsClear : Core → (by page : ℕ) → Deed → Type 0
+IsClear core by page (Tends chore) = times (CLEANUP page) (core.passes by).hands ≡ 0
+IsClear core by page deed = Unit {0}
+
+module _ (sizes : Sizes) (first : Values) (log : Log) (by : ℕ) (core : Core) (found page : ℕ) (sound : Sound sizes first core) (groups : Groups sizes core log) (pieces : Pieces sizes log core) (still : IsStill sizes core page) where
   -- what is said of a step: a number of the window has its group still, and its entry is one of the page where it was
   abbrev pub KeepsOn : Deed → Type 0
   KeepsOn deed = (n : ℕ) → InWindow core n
@@ -227,65 +307,110 @@ module _ (sizes : Sizes) (first : Values) (log : Log) (by : ℕ) (core : Core) (
   abbrev on_test : ℕ → Bool
   on_test n = page_of_number sizes (log.group n) n == page
 
-  -- a word that is set, and was and is of no entry that was made ready
-  set_unready : (next value n : ℕ) → InWindow core next → InWindow core n → was_readied value ≡ false → was_readied (entry_at sizes core next) ≡ false
-      → was_readied (with_word core.words (ENTRY (slot_of sizes next)) value (ENTRY (slot_of sizes n))) ≡ was_readied (entry_at sizes core n)
-  set_unready next value n inside within not_now not_before = elim (cases_eq n next) [
-    | inl e ↦ ap (λ m. was_readied (with_word core.words (ENTRY (slot_of sizes next)) value (ENTRY (slot_of sizes m)))) e
-        ∙ ap was_readied (word_here core.words (ENTRY (slot_of sizes next)) value) ∙ not_now ∙ sym (ap (λ m. was_readied (entry_at sizes core m)) e ∙ not_before)
-    | inr ne ↦ ap was_readied (word_else core.words (ENTRY (slot_of sizes next)) value (ENTRY (slot_of sizes n)) (λ e. apart_within sizes core sound.window n next within inside ne (ap index e)))
+  -- a word that is set, and says as much as before of being ready and not cleaned
+  set_alike : (next value : ℕ) → is_fresh value ≡ is_fresh (entry_at sizes core next) → (n : ℕ)
+      → is_fresh (with_word core.words (ENTRY (slot_of sizes next)) value (ENTRY (slot_of sizes n))) ≡ is_fresh (entry_at sizes core n)
+  set_alike next value same n = by_word (λ word v. is_fresh v ≡ is_fresh (core.words word)) core.words (ENTRY (slot_of sizes next)) value same (λ word ne. refl) (ENTRY (slot_of sizes n))
+
+  -- one that is of another page
+  set_apart : (next value : ℕ) → InWindow core next → (page_of_number sizes (log.group next) next ≡ page → ⊥) → (n : ℕ) → InWindow core n
+      → (is_fresh (with_word core.words (ENTRY (slot_of sizes next)) value (ENTRY (slot_of sizes n))) && on_test n) ≡ (is_fresh (entry_at sizes core n) && on_test n)
+  set_apart next value inside off n within = elim (cases_eq n next) [
+    | inl e ↦ none_of (is_fresh (with_word core.words (ENTRY (slot_of sizes next)) value (ENTRY (slot_of sizes n)))) (is_fresh (entry_at sizes core n)) (on_test n)
+        (ne_eqb (page_of_number sizes (log.group n) n) page (λ on. off (ap (λ m. page_of_number sizes (log.group m) m) (sym e) ∙ on)))
+    | inr ne ↦ ap (λ w. is_fresh w && on_test n) (word_else core.words (ENTRY (slot_of sizes next)) value (ENTRY (slot_of sizes n)) (λ e. apart_within sizes core sound.window n next within inside ne (ap index e)))
   ]
+    where
+      none_of : (one other test : Bool) → test ≡ false → (one && test) ≡ (other && test)
+      none_of one other test e = ap (λ t. one && t) e ∙ and_false one ∙ sym (ap (λ t. other && t) e ∙ and_false other)
 
   -- what touches no entry
-  pub plain_on : (deed : Deed) → MayFind sizes by core deed found → ((slot : ℕ) → touches deed (ENTRY slot) ≡ false) → (n : ℕ) → is_on sizes log (after_step sizes by deed found core) page n ≡ is_on sizes log core page n
-  plain_on deed may entry n = ap (λ w. was_readied w && on_test n) (untouched sizes by core deed found may (ENTRY (slot_of sizes n)) (entry (slot_of sizes n)))
+  plain_on : (deed : Deed) → MayFind sizes by core deed found → ((slot : ℕ) → touches deed (ENTRY slot) ≡ false) → (n : ℕ) → is_on sizes log (after_step sizes by deed found core) page n ≡ is_on sizes log core page n
+  plain_on deed may entry n = ap (λ w. is_fresh w && on_test n) (untouched sizes by core deed found may (ENTRY (slot_of sizes n)) (entry (slot_of sizes n)))
+
+  alike_on : (deed : Deed) (next value : ℕ) (n : ℕ) → is_fresh value ≡ is_fresh (entry_at sizes core next)
+      → (is_fresh (with_word core.words (ENTRY (slot_of sizes next)) value (ENTRY (slot_of sizes n))) && on_test n) ≡ is_on sizes log core page n
+  alike_on deed next value n same = ap (λ b. b && on_test n) (set_alike next value same n)
 
   seize_on : (next : ℕ) → MayFind sizes by core (Seizes next) found → KeepsOn (Seizes next)
   seize_on next may n within =
       let at : HasDrawn sizes (core.passes by).call (core.passes by).entries × IsAmong (core.passes by).first (core.passes by).entries next = subst (StandsAt sizes (core.passes by)) may.may (sound.standing by).at in
       let old : entry_at sizes core next ≡ free = sound.window.unseized_is by next (subst (λ s. IsUnseized s (core.passes by).first (core.passes by).entries next) (sym may.may) (omega arith, at.1.1)) in
-      (ap (λ b. b && on_test n) (set_unready next filling n (groups.own by (subst HasGroup (sym may.may) tt) next at.1).within within refl (ap was_readied old)), refl)
+      (alike_on (Seizes next) next filling n (sym (ap is_fresh old)), refl)
 
   break_on : (next : ℕ) → MayFind sizes by core (Breaks next) found → KeepsOn (Breaks next)
   break_on next may n within =
       let at : HasDrawn sizes (core.passes by).call (core.passes by).entries × IsAmong (core.passes by).first (core.passes by).entries next = subst (StandsAt sizes (core.passes by)) may.may (sound.standing by).at in
       let old : entry_at sizes core next ≡ filling = sound.window.filling_is by next (subst (λ s. IsFilling s (core.passes by).first (core.passes by).entries next) (sym may.may) (omega arith, at.1.1)) in
-      (ap (λ b. b && on_test n) (set_unready next broken n (groups.own by (subst HasGroup (sym may.may) tt) next at.1).within within refl (ap was_readied old)), refl)
+      (alike_on (Breaks next) next broken n (sym (ap is_fresh old)), refl)
 
   -- an entry that is made ready is of a page of a write in flight, and so of another page
   ready_on : (next : ℕ) → MayFind sizes by core (Readies next) found → KeepsOn (Readies next)
   ready_on next may n within =
       let at : HasDrawn sizes (core.passes by).call (core.passes by).entries × IsAmong (core.passes by).first (core.passes by).entries next = subst (StandsAt sizes (core.passes by)) may.may (sound.standing by).at in
-      let own = groups.own by (subst HasGroup (sym may.may) tt) next at.1 in
-      let value = ready_word sizes (core.passes by) next in
-      elim (cases_eq n next) [
-        | inl e ↦
-            let off : on_test n ≡ false = ne_eqb (page_of_number sizes (log.group n) n) page (λ on.
-            still by (subst (IsFlying (core.passes by)) (sym may.may) tt)
-            (subst (λ c. IsPage sizes c page) (ap (λ g. g.call) (ap log.group e ∙ own.group)) (on_call sizes log core groups n page within on))) in
-            (none_of (was_readied (with_word core.words (ENTRY (slot_of sizes next)) value (ENTRY (slot_of sizes n)))) (was_readied (entry_at sizes core n)) (on_test n) off, refl)
-        | inr ne ↦ (ap (λ w. was_readied w && on_test n) (word_else core.words (ENTRY (slot_of sizes next)) value (ENTRY (slot_of sizes n)) (λ e. apart_within sizes core sound.window n next within own.within ne (ap index e))), refl)
-      ]
-    where
-      none_of : (one other test : Bool) → test ≡ false → (one && test) ≡ (other && test)
-      none_of one other test e = ap (λ t. one && t) e ∙ and_false one ∙ sym (ap (λ t. other && t) e ∙ and_false other)
+      let own = groups.own by (subst HasGroup (sym may.may) tt) next at.1 in (
+        set_apart next (ready_word sizes (core.passes by) next) own.within
+            (λ on. still by (subst (IsFlying (core.passes by)) (sym may.may) tt) (subst (λ c. IsPage sizes c page) (ap (λ g. g.call) own.group) (on_call sizes log core groups next page own.within on))) n within,
+        refl,
+      )
 
-  pub step_on : (deed : Deed) → MayFind sizes by core deed found → KeepsOn deed
-  step_on Draws may n within = let old = draw_old sizes first log by core found sound groups may n within in (ap (λ g. was_readied (entry_at sizes core n) && page_of_number sizes g n == page) old, old)
-  step_on (Seizes next) may n within = seize_on next may n within
-  step_on (Readies next) may n within = ready_on next may n within
-  step_on (Breaks next) may n within = break_on next may n within
-  step_on (Holds next) may n within =
-      let re = holds_rekind sizes first by core found next sound may in (ap (λ b. b && on_test n) (still_readied core (slot_of sizes next) (found + 1) re.now re.was (slot_of sizes n)), refl)
-  step_on (Returns next) may n within =
-      let re = returns_rekind sizes first by core found next sound may in (ap (λ b. b && on_test n) (still_readied core (slot_of sizes next) (found - 1) re.now re.was (slot_of sizes n)), refl)
-  step_on (Takes cell) may n within = (plain_on (Takes cell) may (λ slot. refl) n, refl)
-  step_on (Gives cell) may n within = (plain_on (Gives cell) may (λ slot. refl) n, refl)
-  step_on deed may n within = (plain_on deed may (λ slot. refl) n, refl)
+  hold_on : (next : ℕ) → MayFind sizes by core (Holds next) found → KeepsOn (Holds next)
+  hold_on next may n within =
+      let looks : Looks sizes core (Grasping may.may.0 next) = subst (Looks sizes core) may.may.1 (sound.loaded.looks by) in
+      let k = (entry_is ready may.may.0 (entry_at sizes core next) looks.1).0 in let is : entry_at sizes core next ≡ found = may.is in
+      (alike_on (Holds next) next (found + 1) n (fresh_held (found + 1) (omega (arith, k, is)) ∙ sym (fresh_ready (entry_at sizes core next) k)), refl)
+
+  return_on : (next : ℕ) → MayFind sizes by core (Returns next) found → KeepsOn (Returns next)
+  return_on next may n within =
+      let looks : Looks sizes core (Restoring may.may.0 next may.may.1) = subst (Looks sizes core) may.may.2 (sound.loaded.looks by) in
+      let k = (entry_is held may.may.0 (entry_at sizes core next) looks.1).0 in let is : entry_at sizes core next ≡ found = may.is in
+      (alike_on (Returns next) next (found - 1) n (fresh_ready (found - 1) (omega (arith, k, is)) ∙ sym (fresh_held (entry_at sizes core next) k)), refl)
+
+  -- a cleaner's: one that is cleaned is of another page, if CLEANUP of the page isn't the cleaner's
+  tend_on : (chore : Chore) → MayFind sizes by core (Tends chore) found → times (CLEANUP page) (core.passes by).hands ≡ 0 → KeepsOn (Tends chore)
+  tend_on (Lifts next) may apart n within =
+      let k = (lifts_hand sizes first core sound by found next may).kind_is in let is : entry_at sizes core next ≡ found = may.is in
+      (alike_on (Tends (Lifts next)) next (found + 1) n (fresh_held (found + 1) (omega (arith, k, is)) ∙ sym (fresh_ready (entry_at sizes core next) k)), refl)
+  tend_on (Drops next) may apart n within =
+      let k = (drops_hand sizes first core sound by found next may).kind_is in let is : entry_at sizes core next ≡ found = may.is in
+      (alike_on (Tends (Drops next)) next (found - 1) n (fresh_ready (found - 1) (omega (arith, k, is)) ∙ sym (fresh_held (entry_at sizes core next) k)), refl)
+  tend_on (Frees next) may apart n within =
+      let k = (frees_hand sizes first core sound by found next may).kind_is in
+      (alike_on (Tends (Frees next)) next free n (sym (fresh_cleaned (entry_at sizes core next) k)), refl)
+  tend_on (Cleans next) may apart n within =
+      let hand = cleans_hand sizes first core sound by found next may in (
+        set_apart next (found + 1) hand.within
+            (λ on. let c = subst (λ p. 1 ≤ times (CLEANUP p) (core.passes by).hands) (word_page sizes log core groups pieces next hand.within (held_was (entry_at sizes core next) hand.kind_is) ∙ on) hand.cleanup in omega (arith, c, apart)) n within,
+        refl,
+      )
+  tend_on chore may apart n within = (plain_on (Tends chore) may (λ slot. refl) n, refl)
+
+  pub step_on : (deed : Deed) → IsClear core by page deed → MayFind sizes by core deed found → KeepsOn deed
+  step_on Draws clear may n within = let old = draw_old sizes first log by core found sound groups may n within in (ap (λ g. is_fresh (entry_at sizes core n) && page_of_number sizes g n == page) old, old)
+  step_on (Seizes next) clear may n within = seize_on next may n within
+  step_on (Readies next) clear may n within = ready_on next may n within
+  step_on (Breaks next) clear may n within = break_on next may n within
+  step_on (Holds next) clear may n within = hold_on next may n within
+  step_on (Returns next) clear may n within = return_on next may n within
+  step_on (Tends chore) clear may n within = tend_on chore may clear n within
+  step_on (Takes cell) clear may n within = (plain_on (Takes cell) may (λ slot. refl) n, refl)
+  step_on (Gives cell) clear may n within = (plain_on (Gives cell) may (λ slot. refl) n, refl)
+  step_on deed clear may n within = (plain_on deed may (λ slot. refl) n, refl)
 
   -- A step patches a still page as before, with numbers of the window.
-  pub step_patches : (deed : Deed) → MayFind sizes by core deed found → (from count : ℕ) (bytes : List ℕ) → core.words TAIL ≤ from → from + count ≤ core.words HEAD
+  pub step_patches : (deed : Deed) → IsClear core by page deed → MayFind sizes by core deed found → (from count : ℕ) (bytes : List ℕ) → ((n : ℕ) → from ≤ n → n < from + count → InWindow core n)
       → patched_from sizes (log_stepped sizes (core.passes by) deed found log) (after_step sizes by deed found core) page from count bytes ≡ patched_from sizes log core page from count bytes
-  step_patches deed may from count bytes low high =
+  step_patches deed clear may from count bytes inside =
       patch_same sizes log (log_stepped sizes (core.passes by) deed found log) core (after_step sizes by deed found core) page from count bytes
-      (λ n above below. step_on deed may n (omega (arith, low, above), omega (arith, below, high)))
+      (λ n above below. step_on deed clear may n (inside n above below))
+
+  -- what TAIL moves past is free, and so none of the page's
+  pub risen_off : (deed : Deed) → MayFind sizes by core deed found → (n : ℕ) → InWindow core n → n < (after_step sizes by deed found core).words TAIL → is_on sizes log core page n ≡ false
+  risen_off (Tends (Retires tail)) may n within less =
+      let hand = retires_hand sizes first core sound by found tail may in
+      let e = word_here core.words TAIL tail in let t = hand.is in let w = hand.was in let l = within.0 in
+      let freed : entry_at sizes core n ≡ free = sound.window.freed_is by n (subst (λ s. IsFreed s n) (sym hand.stage) (omega (arith, w, l), omega (arith, e, t, less))) in
+      ap (λ w. is_fresh w && on_test n) freed
+  risen_off (Tends chore) may n within less = absurd (let e = untouched sizes by core (Tends chore) found may TAIL refl in let l = within.0 in omega (arith, e, l, less))
+  risen_off (Takes cell) may n within less = absurd (let e = untouched sizes by core (Takes cell) found may TAIL refl in let l = within.0 in omega (arith, e, l, less))
+  risen_off deed may n within less = absurd (let e = untouched sizes by core deed found may TAIL refl in let l = within.0 in omega (arith, e, l, less))

@@ -9,6 +9,7 @@ use Rattle.nv_core.specs.Core.{Core, after_step, after_begin, after_work}
 use Rattle.nv_core.specs.Events.{Event, Act, Begins, Does, Calls, MayAct, MayFind, MayBegin, after_act, after_event, after, IsRun}
 use Rattle.nv_core.specs.Opening.{Mount, opening, opening_pass, opening_word}
 use Rattle.nv_core.specs.Sound.{Sound}
+use Rattle.nv_core.specs.Groups.{Log, log_stepped, log_worked}
 use Rattle.nv_core.specs.Laws.{OpeningIsSound, EventsKeepSound, RunsAreSound}
 use Rattle.nv_core.proofs.Choices.{not_both}
 use Rattle.nv_core.proofs.HoldingLaws.{nothing}
@@ -29,18 +30,23 @@ use Rattle.nv_core.proofs.KeepsEntryWords.{words_step}
 use Rattle.nv_core.proofs.KeepsDirty.{dirty_step, dirty_begin, dirty_work}
 use Rattle.nv_core.proofs.KeepsStop.{stop_step, stop_begin, stop_work, buffers_work, devices_step, devices_work}
 use Rattle.nv_core.proofs.KeepsLooks.{looks_step, looks_begin, looks_work}
+use Rattle.nv_core.proofs.KeepsBounds.{bounds_step, bounds_begin, bounds_work}
+use Rattle.nv_core.proofs.KeepsGroups.{groups_step, groups_begin, groups_work}
+use Rattle.nv_core.proofs.KeepsPieces.{pieces_step, pieces_begin, pieces_work}
+use Rattle.nv_core.proofs.KeepsProgress.{progress_step, progress_begin, progress_work}
+use Rattle.nv_core.proofs.OpeningLogContent.{groups_opening, pieces_opening, progress_opening}
 use Rattle.nv_core.proofs.KeepsSearches.{buffers_step, searches_step, searches_begin, searches_work, first_hints}
 
 sound_step : (sizes : Sizes) (first : Values) (by : ℕ) (core : Core) (deed : Deed) (found : ℕ) → Sound sizes first core → by ≤ core.made → MayFind sizes by core deed found → Sound sizes first (after_step sizes by deed found core)
 sound_step sizes first by core deed found sound made may = record {
   numbers = numbers_step sizes by core deed found sound.numbers made may.may;
   standing = standing_step sizes first by core deed found sound may.may;
-  holding = holding_step sizes first by core deed found sound may.may;
+  holding = holding_step sizes first by core deed found sound may;
   locks = locks_step sizes first by core deed found sound may;
   window = window_step sizes first by core deed found sound may;
   entries = words_step sizes first by core deed found sound sound.entries may;
   dirty = dirty_step sizes first by core deed found sound sound.dirty may;
-  loaded = loaded_step sizes first by core deed found sound made may (looks_step sizes first by core deed found sound may);
+  loaded = loaded_step sizes first by core deed found sound made may (bounds_step sizes first by core deed found sound may) (looks_step sizes first by core deed found sound may);
   stop = stop_step sizes first by core deed found sound may;
   broken = broken_step sizes first by core deed found sound sound.broken may;
   broken_lengths = broken_lengths_step sizes first by core deed found sound may;
@@ -49,6 +55,12 @@ sound_step sizes first by core deed found sound made may = record {
   searches = searches_step sizes first by core deed found sound may;
   devices = devices_step sizes first by core deed sound;
   rooms = rooms_step sizes first by core deed found sound may;
+  grouped = let g = sound.grouped in record {
+    log = log_stepped sizes (core.passes by) deed found g.log;
+    groups = groups_step sizes first by core g.log deed found sound g.groups g.progress may;
+    pieces = pieces_step sizes first g.log by core deed found sound g.groups g.pieces g.progress may;
+    progress = progress_step sizes first by core found sound g.log g.groups g.pieces g.progress deed may;
+  };
 }
 
 -- a call that begins, before its first step
@@ -61,7 +73,7 @@ sound_begin sizes first by core call sound made may = record {
   window = window_begin sizes first by core call sound may;
   entries = sound.entries;
   dirty = dirty_begin sizes first by core call sound.dirty may;
-  loaded = loaded_begin sizes first by core call sound may (looks_begin sizes first by core call sound);
+  loaded = loaded_begin sizes first by core call sound may (bounds_begin sizes first by core call sound) (looks_begin sizes first by core call sound);
   stop = stop_begin sizes first by core call sound may;
   broken = broken_begin sizes first by core call sound sound.broken may;
   broken_lengths = broken_lengths_begin sizes by core call sound.broken_lengths;
@@ -69,7 +81,13 @@ sound_begin sizes first by core call sound made may = record {
   buffers = sound.buffers;
   searches = searches_begin sizes by core call sound.searches;
   devices = sound.devices;
-  rooms = rooms_begin sizes by core call sound.rooms;
+  rooms = rooms_begin sizes by core call sound.rooms may;
+  grouped = let g = sound.grouped in record {
+    log = g.log;
+    groups = groups_begin sizes by core g.log call g.groups;
+    pieces = pieces_begin sizes g.log by core call g.pieces may;
+    progress = progress_begin sizes g.log by core call g.progress;
+  };
 }
 
 sound_work : (ends : GroupsEndReady) (sizes : Sizes) (first : Values) (by : ℕ) (core : Core) (work : Work) → Sound sizes first core → by ≤ core.made → MayWork sizes core.values (core.passes by) work → Sound sizes first (after_work sizes by work core)
@@ -81,7 +99,7 @@ sound_work ends sizes first by core work sound made may = record {
   window = window_work sizes first by core work sound may;
   entries = sound.entries;
   dirty = dirty_work sizes first by core work sound.dirty may;
-  loaded = loaded_work sizes first by core work sound may (looks_work sizes first by core work sound may);
+  loaded = loaded_work sizes first by core work sound may (bounds_work sizes first by core work sound may) (looks_work sizes first by core work sound may);
   stop = stop_work sizes first by core work sound may;
   broken = broken_work sizes first by core work sound sound.broken may;
   broken_lengths = broken_lengths_work sizes by core work sound.broken_lengths may;
@@ -90,6 +108,12 @@ sound_work ends sizes first by core work sound made may = record {
   searches = searches_work sizes by core work may sound.searches;
   devices = devices_work sizes first by core work sound;
   rooms = rooms_work ends sizes first by core work sound may;
+  grouped = let g = sound.grouped in record {
+    log = log_worked (core.passes by) work.ending (core.passes by).stage g.log;
+    groups = groups_work sizes by core g.log work g.groups may;
+    pieces = pieces_work sizes g.log by core work g.pieces may;
+    progress = progress_work sizes g.log by core work g.progress may;
+  };
 }
 
 sound_act : (ends : GroupsEndReady) (sizes : Sizes) (first : Values) (by : ℕ) (core : Core) (act : Act) → Sound sizes first core → by ≤ core.made → MayAct sizes by core act → Sound sizes first (after_act sizes by act core)
@@ -107,6 +131,11 @@ none_counted : (count page : ℕ) → total count (λ slot. one_if (is_of_page p
 unfolding total
 none_counted zero page = refl
 none_counted (suc count) page = let again = none_counted count page in omega (arith, again)
+
+-- and none is owed
+none_owed : total (0 + 1) (λ number. 0) ≡ 0
+unfolding total
+none_owed = omega arith
 
 -- no call is open
 none_open : 0 + total (0 + 1) (λ number. 0) ≤ 2 ^ 60 + 0
@@ -130,7 +159,7 @@ lock_word mount cell lock = absurd (not_both lock refl)
 pub opening_is_sound : OpeningIsSound
 opening_is_sound mount is_mount = record {
   numbers = record { unborn = λ n less. record { idle = refl; hands = refl; mine = refl; faulted = refl; left = refl }; ended = λ n ended. absurd ended };
-  standing = λ n. record { at = tt; allowed = λ ne. absurd (ne refl) };
+  standing = λ n. record { at = tt; allowed = λ called. absurd (not_both called refl) };
   holding = λ n. record { locks = λ cell lock. sym (nothing mount.sizes (opening_pass mount) cell); filling = λ s fills. absurd fills; held = λ s holds. absurd holds; none = λ slot off away. refl };
   locks = record { bit = lock_word mount; keyed = λ cell. record { free = λ unshut n. refl; held = λ shut. absurd (not_both shut (open_cell mount cell)) } };
   window = record {
@@ -141,12 +170,18 @@ opening_is_sound mount is_mount = record {
     filling_in = λ n s u. absurd u;
     unseized_is = λ n s u. absurd u;
     filling_is = λ n s u. absurd u;
+    freed_in = λ n s f. absurd f;
+    freed_is = λ n s f. absurd f;
+    cleaned_in = λ n s c. absurd c;
+    cleaned_is = λ n s c. absurd c;
+    cleaned_by = λ s within. absurd (let a = within.0 in let b = within.1 in omega (arith, a, b));
     unseized_by_one = λ n m s u v. absurd u;
+    freed_by_none = λ n m s u f. absurd u;
     each = λ s within. absurd (let a = within.0 in let b = within.1 in omega (arith, a, b));
     others = λ slot less off. refl;
   };
   entries = record { each = λ slot. IsFree refl };
-  dirty = record { free = λ page zero. sym (none_counted mount.sizes.entries page); held = λ page n here. absurd (omega (arith, here)) };
+  dirty = record { free = λ page zero. let n = none_counted mount.sizes.entries page in let o = none_owed in omega (arith, n, o); held = λ page n here. absurd (omega (arith, here)) };
   loaded = record {
     head = λ n. omega arith;
     tail = λ n. omega arith;
@@ -156,9 +191,10 @@ opening_is_sound mount is_mount = record {
     sized = λ n measured more. absurd measured;
     length_is = λ n measured sized. absurd measured;
     clean = λ n page saw. absurd saw;
+    bounds = λ n. tt;
     looks = λ n. tt;
   };
-  stop = record { bit = omega arith; stopped = λ one. absurd (omega arith); failing = λ n fails. absurd fails; never_fell = λ cell. omega arith; stays = λ n stopped. absurd (not_both stopped refl) };
+  stop = record { bit = omega arith; stopped = λ one. absurd (omega arith); failing = λ n fails. absurd fails; halting = λ n halts. absurd halts; never_fell = λ cell. omega arith; stays = λ n stopped. absurd (not_both stopped refl) };
   broken = record { stopped = λ n some. absurd (some refl); once = λ n. omega arith; passed = λ n checked. absurd checked; pages = λ n m page fault is at checked. absurd is };
   broken_lengths = record { files = λ n m fault is at checked. absurd is };
   history = record {
@@ -171,8 +207,17 @@ opening_is_sound mount is_mount = record {
   buffers = is_mount.buffers;
   searches = record { hints = first_hints mount is_mount; each = λ n. tt };
   devices = record { each = λ cell. refl };
-  rooms = record { free = λ slot less is. is_mount.ready slot less; ready = λ slot less kind. is_mount.ready slot less; filling = λ by number fills. absurd fills; header = is_mount.header };
+  rooms = record { free = λ slot less is. is_mount.ready slot less; ready = λ slot less kind. is_mount.ready slot less; filling = λ by number fills. absurd fills; header = λ zero still. is_mount.header; moving = λ by. tt };
+  grouped = record {
+    log = none;
+    groups = groups_opening mount.sizes none (λ n. false) (opening mount) refl (λ n. refl);
+    pieces = pieces_opening mount.sizes none (λ n. false) (opening mount) refl (λ n. refl);
+    progress = progress_opening mount.sizes none (λ n. false) (opening mount) refl (λ n. refl);
+  };
 }
+  where
+    none : Log
+    none = record { group = λ n. record { call = (opening_pass mount).call; first = 0; entries = 0 }; calls = λ n. 0 }
 
 -- ---- runs
 

@@ -19,6 +19,21 @@ pub record IsRekinded (sizes : Sizes) (core : Core) (next value : ℕ) : Type 0 
   pub now : was_readied value ≡ true
   pub says : (count page : ℕ) → entry_at sizes core next ≡ entry_word (kind_of (entry_at sizes core next)) count page → value ≡ entry_word (kind_of value) count page
 
+-- an entry that a read holds is ready, and held then; and the one that it returns the other way round
+pub holds_kinds : (sizes : Sizes) (first : Values) (by : ℕ) (core : Core) (found next : ℕ) → Sound sizes first core → MayFind sizes by core (Holds next) found → (kind_of (entry_at sizes core next) ≡ ready) × (kind_of (found + 1) ≡ held)
+holds_kinds sizes first by core found next sound may =
+    let looks : InWindow core next × (is_entry_of ready may.may.0 (entry_at sizes core next) ≡ true) = subst (Looks sizes core) may.may.1 (sound.loaded.looks by) in
+    let kind = (entry_is ready may.may.0 (entry_at sizes core next) looks.1).0 in
+    let is : core.words (ENTRY (slot_of sizes next)) ≡ found = may.is in
+    (kind, omega (arith, kind, is))
+
+pub returns_kinds : (sizes : Sizes) (first : Values) (by : ℕ) (core : Core) (found next : ℕ) → Sound sizes first core → MayFind sizes by core (Returns next) found → (kind_of (entry_at sizes core next) ≡ held) × (kind_of (found - 1) ≡ ready)
+returns_kinds sizes first by core found next sound may =
+    let looks : InWindow core next × (is_entry_of held may.may.0 (entry_at sizes core next) ≡ true) = subst (Looks sizes core) may.may.2 (sound.loaded.looks by) in
+    let kind = (entry_is held may.may.0 (entry_at sizes core next) looks.1).0 in
+    let is : core.words (ENTRY (slot_of sizes next)) ≡ found = may.is in
+    (kind, omega (arith, kind, is))
+
 pub holds_rekind : (sizes : Sizes) (first : Values) (by : ℕ) (core : Core) (found next : ℕ) → Sound sizes first core → MayFind sizes by core (Holds next) found → IsRekinded sizes core next (found + 1)
 holds_rekind sizes first by core found next sound may = record {
   within = looks.0;

@@ -1,19 +1,24 @@
 -- Standing: each step and each device call leaves its pass where it may stand.
-use Rattle.std.proofs.Common.{◌≡◌, ◌≢◌, ℕ, ◌+◌, ◌≤◌, ◌==◌, nat_lt, nat_le, ◌^◌, true, false, not, ◌&&◌, if◌then◌else◌, List, length, refl, sym, ap, subst, ◌∙◌, arith, ◌<◌, inl, inr}
-use Rattle.std.proofs.lemmas.Bool.{and_parts, not-true, eqb-false, leb-true, ltb-true}
+use Rattle.std.proofs.Common.{◌≡◌, ℕ, ◌+◌, ◌≤◌, ◌==◌, nat_lt, nat_le, ◌^◌, true, false, not, ◌&&◌, if◌then◌else◌, List, length, refl, sym, ap, subst, ◌∙◌, arith, ◌<◌, inl, inr}
+use Rattle.std.proofs.lemmas.Bool.{true≢false, and_parts, not-true, eqb-false, leb-true, ltb-true}
 use Rattle.nv_plain.specs.Histories.{Answered}
 use Rattle.nv_plain.specs.declared.call.FileCall.{FileCall}
 use Rattle.nv_core.specs.Words.{Sizes, Word, STOP, ORDER, HEAD, TAIL, SIZE, LENGTH, STORE, ENTRY, HINT, PAGE, DIRTY, CLEANUP, ready, is_entry_of}
-use Rattle.nv_core.specs.Passes.{Stage, Idle, Locking, Measuring, Sizing, Checking, Ordering, Reading, Fetching, Copying, Returning, Waiting, Search, Hinting, Seeking, Robbing, Robbed, Nothing, Searching, Heading, Tailing, Drawing, Seizing, Committing, Pledging, Readying, Placing, Growing, Releasing, Giving, Leaving, ReadFailing, WriteFailing, Breaking, Pass, is_read, is_write, page_count, first_page, end_page, without, IsAmong, IsAllowed, Bounding, Scanning, Grasping, Patching, Unlocking, PieceFailing}
-use Rattle.nv_core.specs.Deeds.{Deed, Stays, Comes, moved, slot_of, Loads, Takes, Gives, Places, Stops, Draws, Seizes, Pledges, Readies, Grows, Breaks, Turns, Hints, Holds, Returns}
-use Rattle.nv_core.specs.Stages.{copying, pursued, stage_after, after_load, after_give, after_stop, leaving, giving, ending, ordered, exceeds, scanning, after_head, after_tail, after_look, after_hold, after_return}
+use Rattle.nv_core.specs.Passes.{Stage, Idle, Locking, Measuring, Sizing, Checking, Ordering, Reading, Fetching, Copying, Returning, Waiting, Search, Hinting, Seeking, Robbing, Robbed, Nothing, Searching, Heading, Tailing, Drawing, Seizing, Committing, Pledging, Readying, Placing, Growing, Releasing, Giving, Leaving, ReadFailing, WriteFailing, Breaking, Pass, is_read, is_write, page_count, first_page, end_page, without, IsAmong, IsAllowed, Bounding, Scanning, Grasping, Patching, Unlocking, PieceFailing, Cleaning}
+use Rattle.nv_core.specs.Sweeps.{Batch, Sweep, Barring, Chore, Enters}
+use Rattle.nv_core.specs.Chores.{after_chore, after_chore_work, new_batch}
+use Rattle.nv_core.specs.Progress.{HasFooted}
+use Rattle.nv_core.specs.Deeds.{Deed, Stays, Comes, moved, slot_of, Loads, Takes, Gives, Places, Stops, Draws, Seizes, Pledges, Readies, Grows, Breaks, Turns, Hints, Holds, Returns, Tends, chore_move}
+use Rattle.nv_core.specs.Stages.{copying, pursued, stage_after, after_load, after_give, after_stop, leaving, giving, ending, ordered, exceeds, scanning, after_head, after_tail, after_look, after_hold, after_return, after_tending}
 use Rattle.nv_core.specs.Stepped.{stepped, begun}
-use Rattle.nv_core.specs.Values.{Ending, Made, Failed}
+use Rattle.nv_core.specs.Values.{Ending, Made, Failed, Refused}
 use Rattle.nv_core.specs.Core.{worked, stage_worked}
-use Rattle.nv_core.specs.Order.{Values, Work, MayWork, IsDue, commit_steps, MayStep, MayLoad, MayTake, IsMiss, JustNow, AfterTries, IsFailing}
-use Rattle.nv_core.specs.Standing.{IsPage, HasDrawn, IsSmall, HasRoom, IsElsewhere, StandsAt, Standing, ReadsPage}
+use Rattle.nv_core.specs.Order.{Values, Work, MayWork, IsDue, commit_steps, MayStep, MayLoad, MayTake, IsMiss, JustNow, AfterTries, IsFailing, MayTend}
+use Rattle.nv_core.specs.Standing.{IsPage, HasDrawn, IsSmall, HasRoom, IsElsewhere, StandsAt, StandsSweeping, Standing, ReadsPage, has_call}
 use Rattle.nv_core.specs.Holding.{is_among}
-use Rattle.nv_core.proofs.Choices.{if_both, when_true, leaving_both, step_idle, IsGivingBack, gives_back}
+use Rattle.nv_core.proofs.Choices.{if_both, when_true, not_both, leaving_both, HasCall, step_idle, IsGivingBack, gives_back}
+use Rattle.nv_core.proofs.SweepStages.{tended_to, swept_worked}
+use Rattle.nv_core.proofs.SweepStanding.{StoodSweeping, sweep_stands, sweep_works}
 use Rattle.nv_core.proofs.SearchLaws.{hinting_next, tried_next}
 use Rattle.nv_core.proofs.PageLaws.{write_pages, read_within}
 
@@ -165,15 +170,34 @@ draws sizes pass found number history stands may =
     (record { write = write; many = many; some = omega arith }, (omega arith, omega arith)))
     (λ e. out sizes now pass.hands refl)
 
-steps : (sizes : Sizes) (values : Values) (pass : Pass) (deed : Deed) (found number : ℕ) (history : List Answered) → Standing sizes pass → MayStep sizes values pass deed
+-- a cleaner that has footed has cleaned none below its tail
+abbrev pub IsFooted : Stage → Type 0
+IsFooted (Cleaning batch sweep) = HasFooted sweep → batch.tail ≤ batch.reached
+IsFooted stage = Unit {0}
+
+-- where it is idle or at a batch, that is all
+stands_sweeping : (sizes : Sizes) (now : Pass) (hands : List Word) (stage : Stage) → now.hands ≡ hands → has_call stage ≡ false → StoodSweeping hands stage → StandsAt sizes now stage
+stands_sweeping sizes now hands Idle is none stood = tt
+stands_sweeping sizes now hands (Cleaning batch sweep) is none stood = subst (λ h. StandsSweeping batch h sweep) (sym is) stood
+stands_sweeping sizes now hands stage is none stood = absurd (true≢false none)
+
+tends : (sizes : Sizes) (pass now : Pass) (chore : Chore) (found : ℕ) (stage : Stage) → StandsAt sizes pass stage → IsFooted stage → MayTend sizes pass chore stage → StandsAt sizes now (after_tending sizes now.hands chore found stage)
+tends sizes pass now chore found stage stands footed may = go chore stage stands footed may (tended_to (λ s. has_call s ≡ false) refl (λ batch sweep. refl) sizes pass now.hands chore found stage may)
+  where
+    go : (chore : Chore) (stage : Stage) → StandsAt sizes pass stage → IsFooted stage → MayTend sizes pass chore stage → has_call (after_tending sizes now.hands chore found stage) ≡ false → StandsAt sizes now (after_tending sizes now.hands chore found stage)
+    go chore (Cleaning batch sweep) stands footed may none = stands_sweeping sizes now now.hands (after_chore sizes now.hands batch sweep found) refl none (sweep_stands sizes pass.hands now.hands batch sweep found footed stands)
+    go (Enters most) Idle stands footed may none = if_both (StandsAt sizes now) (found == 0) (Cleaning (new_batch most) Barring) Idle (λ _. refl) (λ _. tt)
+    go chore stage stands footed may none = absurd may
+
+steps : (sizes : Sizes) (values : Values) (pass : Pass) (deed : Deed) (found number : ℕ) (history : List Answered) → Standing sizes pass → IsFooted pass.stage → MayStep sizes values pass deed
     → StandsAt sizes (stepped sizes number history deed found pass) (stage_after sizes pass deed found)
-steps sizes values pass (Loads word) found number history stands may = loads sizes values pass word found number history stands may
-steps sizes values pass (Takes cell) found number history stands may = takes sizes pass cell found number history stands may
-steps sizes values pass (Gives cell) found number history stands may = gives_at sizes pass cell found number history pass.stage stands.at (gives_back pass cell pass.stage may)
-steps sizes values pass (Places reply) found number history stands may =
+steps sizes values pass (Loads word) found number history stands footed may = loads sizes values pass word found number history stands may
+steps sizes values pass (Takes cell) found number history stands footed may = takes sizes pass cell found number history stands may
+steps sizes values pass (Gives cell) found number history stands footed may = gives_at sizes pass cell found number history pass.stage stands.at (gives_back pass cell pass.stage may)
+steps sizes values pass (Places reply) found number history stands footed may =
     let now = stepped sizes number history (Places reply) found pass in
     if_both (StandsAt sizes now) (is_write pass.call && exceeds pass pass.length) Growing (ending sizes pass) (λ e. (and_parts (is_write pass.call) (exceeds pass pass.length) e).1) (λ e. ends sizes pass now refl refl)
-steps sizes values pass Stops found number history stands may = stops pass.stage may stands.at
+steps sizes values pass Stops found number history stands footed may = stops pass.stage may stands.at
   where
     now : Pass
     now = stepped sizes number history Stops found pass
@@ -183,13 +207,13 @@ steps sizes values pass Stops found number history stands may = stops pass.stage
     stops (PieceFailing page next) is at = at
     stops WriteFailing is at = (at, first_among pass.first pass.entries at.some)
     stops stage is at = absurd is
-steps sizes values pass Draws found number history stands may = draws sizes pass found number history stands may
-steps sizes values pass (Seizes next) found number history stands may =
+steps sizes values pass Draws found number history stands footed may = draws sizes pass found number history stands may
+steps sizes values pass (Seizes next) found number history stands footed may =
     let at : HasDrawn sizes pass.call pass.entries × IsAmong pass.first pass.entries next = subst (StandsAt sizes pass) may stands.at in
     let drawn = at.0 in
     if_both (StandsAt sizes (stepped sizes number history (Seizes next) found pass)) (next + 1 == pass.first + pass.entries) (Committing 0) (Seizing (next + 1))
     (λ e. drawn) (λ e. (drawn, next_among pass.first pass.entries next at.1 e))
-steps sizes values pass (Pledges page) found number history stands may =
+steps sizes values pass (Pledges page) found number history stands footed may =
     let at : HasDrawn sizes pass.call pass.entries × IsPage sizes pass.call page = subst (StandsAt sizes pass) may stands.at in
     let drawn = at.0 in
     if_both (StandsAt sizes (stepped sizes number history (Pledges page) found pass)) (page + 1 == end_page sizes pass.call)
@@ -201,7 +225,7 @@ steps sizes values pass (Pledges page) found number history stands may =
     ))
     (λ last. let ne = eqb-false (page + 1) (end_page sizes pass.call) last in let from = at.1.0 in let to = at.1.1 in
     let within : IsPage sizes pass.call (page + 1) = (omega arith, omega arith) in (drawn, within))
-steps sizes values pass (Readies next) found number history stands may =
+steps sizes values pass (Readies next) found number history stands footed may =
     let at : HasDrawn sizes pass.call pass.entries × IsAmong pass.first pass.entries next = subst (StandsAt sizes pass) may stands.at in
     let drawn = at.0 in
     if_both (StandsAt sizes (stepped sizes number history (Readies next) found pass)) (next == pass.first) Placing
@@ -212,31 +236,41 @@ steps sizes values pass (Readies next) found number history stands may =
       if_both (IsAmong pass.first pass.entries) (next + 1 == pass.first + pass.entries) pass.first (next + 1)
           (λ _. first_among pass.first pass.entries at.0.some) (next_among pass.first pass.entries next at.1),
     ))
-steps sizes values pass Grows found number history stands may = ends sizes pass (stepped sizes number history Grows found pass) refl refl
-steps sizes values pass (Breaks next) found number history stands may =
+steps sizes values pass Grows found number history stands footed may = ends sizes pass (stepped sizes number history Grows found pass) refl refl
+steps sizes values pass (Breaks next) found number history stands footed may =
     let at : HasDrawn sizes pass.call pass.entries × IsAmong pass.first pass.entries next = subst (StandsAt sizes pass) may stands.at in
     let drawn = at.0 in
     let now = stepped sizes number history (Breaks next) found pass in
     if_both (StandsAt sizes now) (next + 1 == pass.first + pass.entries) (leaving (without (ENTRY (slot_of sizes next)) pass.hands)) (Breaking (next + 1))
     (λ e. out sizes now (without (ENTRY (slot_of sizes next)) pass.hands) refl) (λ e. (drawn, next_among pass.first pass.entries next at.1 e))
-steps sizes values pass (Holds next) found number history stands may =
+steps sizes values pass (Holds next) found number history stands footed may =
     subst (λ s. StandsAt sizes (stepped sizes number history (Holds next) found pass) (after_hold s)) (sym may.1) (subst (StandsAt sizes pass) may.1 stands.at)
-steps sizes values pass (Returns next) found number history stands may =
+steps sizes values pass (Returns next) found number history stands footed may =
     let now = stepped sizes number history (Returns next) found pass in
     let at : ReadsPage sizes pass may.0 × (next < pass.head) = subst (StandsAt sizes pass) may.2 stands.at in
     subst (λ s. StandsAt sizes now (after_return sizes pass s)) (sym may.2)
     (if_both (StandsAt sizes now) may.1 (leaving (without (ENTRY (slot_of sizes next)) pass.hands)) (scanning pass may.0 (next + 1))
     (λ _. out sizes now (without (ENTRY (slot_of sizes next)) pass.hands) refl) (λ _. scans sizes pass now may.0 (next + 1) refl at.0))
-steps sizes values pass (Turns page) found number history stands may = let at = missed_page sizes values pass page may.tries stands.at may.miss in (at.0, at.1, tt)
-steps sizes values pass (Hints buffer page) found number history stands may =
+steps sizes values pass (Turns page) found number history stands footed may = let at = missed_page sizes values pass page may.tries stands.at may.miss in (at.0, at.1, tt)
+steps sizes values pass (Hints buffer page) found number history stands footed may =
     let at : StandsAt sizes pass (Searching page may.tries (Robbed buffer)) = subst (StandsAt sizes pass) may.is stands.at in (at.0, at.1, tt)
-steps sizes values pass deed found number history stands may = absurd may
+steps sizes values pass (Tends chore) found number history stands footed may = tends sizes pass (stepped sizes number history (Tends chore) found pass) chore found pass.stage stands.at footed may
+steps sizes values pass deed found number history stands footed may = absurd may
 
-pub standing_steps : (sizes : Sizes) (values : Values) (pass : Pass) (deed : Deed) (found number : ℕ) (history : List Answered) → Standing sizes pass → MayStep sizes values pass deed
+-- where no call is at hand before a step, there is none after
+pub called_before : (sizes : Sizes) (values : Values) (pass : Pass) (deed : Deed) (found : ℕ) → MayStep sizes values pass deed → has_call (stage_after sizes pass deed found) ≡ true → has_call pass.stage ≡ true
+called_before sizes values pass deed found may = from deed may (step_idle sizes values pass deed may)
+  where
+    from : (deed : Deed) → MayStep sizes values pass deed → HasCall deed pass.stage → has_call (stage_after sizes pass deed found) ≡ true → has_call pass.stage ≡ true
+    from (Tends chore) may has now =
+        absurd (not_both now (tended_to (λ s. has_call s ≡ false) refl (λ batch sweep. refl) sizes pass (moved (chore_move sizes chore found) pass.hands) chore found pass.stage may))
+    from deed may has now = has
+
+pub standing_steps : (sizes : Sizes) (values : Values) (pass : Pass) (deed : Deed) (found number : ℕ) (history : List Answered) → Standing sizes pass → IsFooted pass.stage → MayStep sizes values pass deed
     → Standing sizes (stepped sizes number history deed found pass)
-standing_steps sizes values pass deed found number history stands may = record {
-  at = steps sizes values pass deed found number history stands may;
-  allowed = λ _. stands.allowed (step_idle sizes values pass deed may);
+standing_steps sizes values pass deed found number history stands footed may = record {
+  at = steps sizes values pass deed found number history stands footed may;
+  allowed = λ now. stands.allowed (called_before sizes values pass deed found may now);
 }
 
 -- ---- a call that begins
@@ -250,6 +284,12 @@ standing_begins sizes call pass allowed = record {
 
 -- ---- device calls
 
+-- a cleaner's, however it ended
+pub worked_stage : (sizes : Sizes) (pass : Pass) (batch : Batch) (how : Ending) (sweep : Sweep) → stage_worked sizes pass how (Cleaning batch sweep) ≡ after_chore_work batch how sweep
+worked_stage sizes pass batch Made sweep = refl
+worked_stage sizes pass batch (Failed came faults) sweep = refl
+worked_stage sizes pass batch Refused sweep = refl
+
 works : (sizes : Sizes) (values : Values) (pass : Pass) (work : Work) (stage : Stage) (how : Ending) → StandsAt sizes pass stage → IsDue sizes values pass work stage
     → StandsAt sizes (worked sizes work pass) (stage_worked sizes pass how stage)
 works sizes values pass work (Committing calls) Made at due =
@@ -262,13 +302,24 @@ works sizes values pass work (Copying page dirty) Made at due = at
 works sizes values pass work (Copying page dirty) (Failed came faults) at due = at
 works sizes values pass work (Patching page number) Made at due = at
 works sizes values pass work (Patching page number) (Failed came faults) at due = at
+works sizes values pass work (Cleaning batch sweep) how at due = subst (StandsAt sizes (worked sizes work pass)) (sym (worked_stage sizes pass batch how sweep))
+    (stands_sweeping sizes (worked sizes work pass) pass.hands (after_chore_work batch how sweep) refl (swept_worked (λ s. has_call s ≡ false) refl (λ _ _. refl) batch how sweep) (sweep_works pass.hands batch how sweep at))
+works sizes values pass work (Committing calls) Refused at due = at
+works sizes values pass work (Copying page dirty) Refused at due = at
+works sizes values pass work (Patching page number) Refused at due = at
 works sizes values pass work stage how at due = absurd due
 
-due_idle : (sizes : Sizes) (values : Values) (pass : Pass) (work : Work) → IsDue sizes values pass work pass.stage → pass.stage ≢ Idle
-due_idle sizes values pass work due idle = subst (IsDue sizes values pass work) idle due
+-- a device call begins none either
+uncalled_work : (sizes : Sizes) (values : Values) (pass : Pass) (work : Work) (stage : Stage) (how : Ending) → IsDue sizes values pass work stage → has_call (stage_worked sizes pass how stage) ≡ true → has_call stage ≡ true
+uncalled_work sizes values pass work (Committing calls) how due now = refl
+uncalled_work sizes values pass work (Copying page dirty) how due now = refl
+uncalled_work sizes values pass work (Patching page number) how due now = refl
+uncalled_work sizes values pass work (Cleaning batch sweep) how due now =
+    absurd (not_both now (subst (λ s. has_call s ≡ false) (sym (worked_stage sizes pass batch how sweep)) (swept_worked (λ s. has_call s ≡ false) refl (λ _ _. refl) batch how sweep)))
+uncalled_work sizes values pass work stage how due now = absurd due
 
 pub standing_works : (sizes : Sizes) (values : Values) (pass : Pass) (work : Work) → Standing sizes pass → MayWork sizes values pass work → Standing sizes (worked sizes work pass)
 standing_works sizes values pass work stands may = record {
   at = works sizes values pass work pass.stage work.ending stands.at may.due;
-  allowed = λ _. stands.allowed (due_idle sizes values pass work may.due);
+  allowed = λ now. stands.allowed (uncalled_work sizes values pass work pass.stage work.ending may.due now);
 }

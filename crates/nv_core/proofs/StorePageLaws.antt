@@ -1,9 +1,9 @@
 -- Store pages: a page that has no entries is its store's.
-use Rattle.std.proofs.Common.{◌≡◌, ◌⊎◌, ℕ, ◌-◌, ◌<◌, ◌==◌, nat_le, ◌&&◌, ◌||◌, Bool, true, false, inl, inr, refl, ap, ◌∙◌, arith}
-use Rattle.std.proofs.lemmas.Bool.{cases_eq, cases_Bool, and_parts, eqb-true, eq-eqb, leb-true}
+use Rattle.std.proofs.Common.{◌≡◌, ◌⊎◌, ℕ, ◌-◌, ◌<◌, ◌==◌, ◌&&◌, ◌||◌, Bool, true, false, inl, inr, refl, ap, ◌∙◌, arith}
+use Rattle.std.proofs.lemmas.Bool.{cases_Bool, and_parts, eqb-true, eq-eqb}
 use Rattle.std.proofs.lemmas.Nat.{mod_below}
 use Rattle.nv_plain.specs.Files.{Files}
-use Rattle.nv_core.specs.Words.{Sizes, HEAD, TAIL, ENTRY, kind_of, page_of, was_readied, ready, held, cleaned}
+use Rattle.nv_core.specs.Words.{Sizes, HEAD, TAIL, ENTRY, page_of, ready, held}
 use Rattle.nv_core.specs.Passes.{Stage, Pledging, Readying, Pass, is_read}
 use Rattle.nv_core.specs.Deeds.{slot_of}
 use Rattle.nv_core.specs.Order.{Values}
@@ -12,13 +12,13 @@ use Rattle.nv_core.specs.Holding.{one_if}
 use Rattle.nv_core.specs.Core.{Core}
 use Rattle.nv_core.specs.LogWindow.{InWindow, entry_at}
 use Rattle.nv_core.specs.DirtyCounters.{is_of_page, entries_of, pledged}
-use Rattle.nv_core.specs.StorePages.{StoresKept, StorePages}
+use Rattle.nv_core.specs.StorePages.{StorePages}
 use Rattle.nv_core.specs.Groups.{Log}
 use Rattle.nv_core.specs.Pieces.{page_of_number}
 use Rattle.nv_core.specs.LivePieces.{store_files}
-use Rattle.nv_core.specs.PagesAfter.{file_of_page, page_in}
+use Rattle.nv_core.specs.PagesAfter.{page_in}
 use Rattle.nv_core.specs.PatchedPages.{is_on}
-use Rattle.nv_core.specs.PatchedReads.{PatchedReads}
+use Rattle.nv_core.specs.Tails.{Tails}
 use Rattle.nv_core.specs.LogContent.{LogContent}
 use Rattle.nv_core.specs.Sound.{Sound}
 use Rattle.nv_core.proofs.PlainLaws.{PlainLaws}
@@ -26,7 +26,7 @@ use Rattle.nv_core.proofs.Choices.{not_both}
 use Rattle.nv_core.proofs.TotalLaws.{total_none}
 use Rattle.nv_core.proofs.KeepsValidBuffers.{read_only}
 use Rattle.nv_core.proofs.PatchLaws.{page_is_patched, still_held, store_page}
-use Rattle.nv_core.proofs.PatchSteps.{patch_nothing, word_page}
+use Rattle.nv_core.proofs.PatchSteps.{patch_nothing, word_page, is_fresh, fresh_is}
 
 -- a call that reads has pledged nothing
 none_pledged : (sizes : Sizes) (pass : Pass) (stage : Stage) (page : ℕ) → StandsAt sizes pass stage → is_read pass.call ≡ true → pledged sizes pass stage page ≡ 0
@@ -34,8 +34,8 @@ none_pledged sizes pass (Pledging next) page stands read = absurd (not_both stan
 none_pledged sizes pass (Readying next) page stands read = absurd (not_both stands.0.write (read_only pass.call read))
 none_pledged sizes pass stage page stands read = refl
 
-module _ (plain : PlainLaws) (sizes : Sizes) (first : Values) (opening : Files) (tail : ℕ) (log : Log) (placed : ℕ → Bool) (core : Core)
-    (sound : Sound sizes first core) (content : LogContent sizes first opening tail log placed core) (kept : StoresKept first core.values) (patched : PatchedReads sizes log opening core) where
+module _ (plain : PlainLaws) (sizes : Sizes) (first : Values) (opening : Files) (tails : Tails) (log : Log) (placed : ℕ → Bool) (core : Core)
+    (sound : Sound sizes first core) (content : LogContent sizes first opening tails log placed core) where
   -- a slot of a page whose entries are none has none of them
   none_on : (page number : ℕ) → entries_of sizes core.words page ≡ 0 → InWindow core number → is_on sizes log core page number ≡ false
   none_on page number none within = go (cases_Bool (is_on sizes log core page number))
@@ -49,29 +49,24 @@ module _ (plain : PlainLaws) (sizes : Sizes) (first : Values) (opening : Files) 
       go : (is_on sizes log core page number ≡ true) ⊎ (is_on sizes log core page number ≡ false) → is_on sizes log core page number ≡ false
       go (inr off) = off
       go (inl is) = absurd (
-          let both = and_parts (was_readied (entry_at sizes core number)) (page_of_number sizes (log.group number) number == page) is in
-          let kinds = and_parts (nat_le ready (kind_of (entry_at sizes core number))) (nat_le (kind_of (entry_at sizes core number)) cleaned) both.0 in
-          let low = leb-true ready (kind_of (entry_at sizes core number)) kinds.0 in
-          let high = leb-true (kind_of (entry_at sizes core number)) cleaned kinds.1 in
-          let own : page_of (entry_at sizes core number) ≡ page = word_page sizes log core content.groups content.pieces number within both.0 ∙ eqb-true (page_of_number sizes (log.group number) number) page both.1 in
+          let both = and_parts (is_fresh (entry_at sizes core number)) (page_of_number sizes (log.group number) number == page) is in
+          let fresh = fresh_is (entry_at sizes core number) both.0 in
+          let own : page_of (entry_at sizes core number) ≡ page = word_page sizes log core content.groups content.pieces number within fresh.0 ∙ eqb-true (page_of_number sizes (log.group number) number) page both.1 in
           let page_is = eq-eqb (page_of (entry_at sizes core number)) page own in
-          elim (cases_eq (kind_of (entry_at sizes core number)) ready) [
+          elim fresh.2 [
             | inl two ↦ counted (ap (λ k. (k == ready || k == held) && page_of (entry_at sizes core number) == page) two ∙ page_is)
-            | inr other ↦ elim (cases_eq (kind_of (entry_at sizes core number)) held) [
-              | inl three ↦ counted (ap (λ k. (k == ready || k == held) && page_of (entry_at sizes core number) == page) three ∙ page_is)
-              | inr more ↦ patched.uncleaned (slot_of sizes number) (omega (arith, low, high, other, more))
-            ]
+            | inr three ↦ counted (ap (λ k. (k == ready || k == held) && page_of (entry_at sizes core number) == page) three ∙ page_is)
           ])
 
-  pub store_pages : StorePages sizes first opening core
+  pub store_pages : StorePages sizes opening core
   store_pages = record {
     clean = λ number page store read has clear low told.
         let none : entries_of sizes core.words page ≡ 0 =
         (let d = sound.dirty.held page number has in let p = none_pledged sizes (core.passes number) (core.passes number).stage page (sound.standing number).at read in omega (arith, d, p, clear)) in
         let order = sound.window.order in
-        page_is_patched plain sizes first opening tail log placed core page sound content
-        (still_held sizes first core page number sound has (λ flies. not_both (content.flight.drawn number flies).write (read_only (core.passes number).call read)))
+        (page_is_patched plain sizes first opening tails log placed core page sound content
+        (still_held sizes first core page number sound has (λ flies. not_both (content.flight.drawn number flies).write (read_only (core.passes number).call read)))).uncleaned
         ∙ patch_nothing sizes log core page (core.words TAIL) (core.words HEAD - core.words TAIL) (page_in sizes (store_files sizes core.values) page)
         (λ n above below. none_on page n none (above, omega (arith, below, order)))
-        ∙ store_page sizes core.values page store low (kept.each (file_of_page sizes page) ∙ told);
+        ∙ store_page sizes core.values page store low told;
   }

@@ -5,7 +5,7 @@ use Rattle.nv_plain.specs.Faults.{Rose}
 use Rattle.nv_plain.specs.declared.call.FileCall.{FileCall}
 use Rattle.nv_plain.specs.declared.call.FileCall.TheVariants.{Write}
 use Rattle.nv_core.specs.Words.{Sizes, Word, PAGE}
-use Rattle.nv_core.specs.Values.{Value, Bare, APart, AStore, ABuffer, Job, Reads, Ending, Made, Failed, called, faults_of, identity_of, buffers_in, is_valid, emptied, received, filled, patched}
+use Rattle.nv_core.specs.Values.{Value, Bare, APart, AStore, ABuffer, Job, Reads, Ending, Made, Failed, Refused, called, faults_of, identity_of, buffers_in, is_valid, emptied, received, filled, patched}
 use Rattle.nv_core.specs.Passes.{Stage, Copying, Robbing, Searching, Pass, Unlocking, fetched_bytes}
 use Rattle.nv_core.specs.Deeds.{Deed, Pledges, patched_by, Gives}
 use Rattle.nv_core.specs.Order.{Values, Work, MayEnd}
@@ -159,6 +159,10 @@ faults_called job Made Bare may = omega arith
 faults_called job Made (APart device room) may = omega arith
 faults_called job Made (AStore device) may = omega arith
 faults_called job Made (ABuffer buffer) may = omega arith
+faults_called job Refused (AStore device) may = omega arith
+faults_called job Refused Bare may = absurd may
+faults_called job Refused (APart device room) may = absurd may
+faults_called job Refused (ABuffer buffer) may = absurd may
 faults_called job (Failed came faults) value may = (faults_rose job came faults value may).never_falls
 
 pub faults_worked : (pass : Pass) (work : Work) (values : Values) → MayEnd (values work.cell) work.ending → (cell : Word) → faults_of (values cell) ≤ faults_of (values_worked pass work values cell)

@@ -78,7 +78,7 @@ module _ (blank : BlankIsQuiet) where
   walk_opens_log zeros one_image = record {
     page = record { least = omega arith; most = omega arith; whole_lines = refl };
     low = omega arith;
-    header = record { part = walk_header; is = refl; quiet = header_quiet; tail_is = zeros walk_header 1 0 refl };
+    header = record { part = walk_header; is = refl; quiet = header_quiet; long = omega arith; tail_is = zeros walk_header 1 0 refl };
     blank = λ slot low. record { part = replicate 2 blank_line; is = refl; lines = omega arith; quiet = quiet 2; stale = commits_none zeros one_image slot };
   }
 

@@ -25,22 +25,25 @@ are_bytes (suc (suc (suc zero))) = omega arith
 are_bytes (suc (suc (suc (suc zero)))) = omega arith
 are_bytes (suc (suc (suc (suc (suc i))))) = omega arith
 
--- a step may leave a part's room as it was
-keeps : Keeps (walk_room 2) (walk_room 2)
-keeps = record { lines = refl; spare = λ line. omega arith; after_fence = λ line. omega arith }
+-- a step may leave a part's room as it was, of however many lines
+keeps : (lines : ℕ) → Keeps (walk_room lines) (walk_room lines)
+keeps lines = record { lines = refl; spare = λ line. omega arith; after_fence = λ line. omega arith }
 
-takes : (count line : ℕ) → Takes count line (walk_room 2) (walk_room 2)
-takes count line = record { lines = refl; spare = omega arith; after_fence = omega arith; other_spare = λ other ne. omega arith; other_after_fence = λ other ne. omega arith }
+takes : (lines count line : ℕ) → Takes count line (walk_room lines) (walk_room lines)
+takes lines count line = record { lines = refl; spare = omega arith; after_fence = omega arith; other_spare = λ other ne. omega arith; other_after_fence = λ other ne. omega arith }
+
+pub any_room_stays : (lines : ℕ) (step : Step) → RoomAfter step (walk_room lines) (walk_room lines)
+any_room_stays lines (Store line word value) = takes lines 1 line
+any_room_stays lines (Flush line) = (keeps lines, omega arith)
+any_room_stays lines Fence = (keeps lines, record { spare = λ line. omega arith })
 
 pub room_stays : (step : Step) → RoomAfter step (walk_room 2) (walk_room 2)
-room_stays (Store line word value) = takes 1 line
-room_stays (Flush line) = (keeps, omega arith)
-room_stays Fence = (keeps, record { spare = λ line. omega arith })
+room_stays = any_room_stays 2
 
 fault_stays : (step : Step) → RoomAfterFault step (walk_room 2) (walk_room 2)
-fault_stays (Store line word value) = takes 8 line
-fault_stays (Flush line) = keeps
-fault_stays Fence = keeps
+fault_stays (Store line word value) = takes 2 8 line
+fault_stays (Flush line) = keeps 2
+fault_stays Fence = keeps 2
 
 pub read_is_walked : ReadIsWalked
 read_is_walked = record {

@@ -1,12 +1,14 @@
 -- Written entries: what keeps them.
-use Rattle.std.proofs.Common.{◌≡◌, ◌≢◌, ◌⊎◌, ℕ, zero, suc, ◌+◌, ◌<◌, Bool, true, false, if◌then◌else◌, List, [], ◌∷◌, length, take, inl, inr, refl, sym, ap, subst, ◌∙◌, arith}
+use Rattle.std.proofs.Common.{◌≡◌, ◌≢◌, ◌⊎◌, ℕ, zero, suc, ◌+◌, ◌<◌, ◌≤◌, Bool, true, false, if◌then◌else◌, List, [], ◌∷◌, length, take, inl, inr, refl, sym, ap, subst, ◌∙◌, arith}
 use Rattle.std.proofs.Math.Numerals.{add-one}
 use Rattle.std.proofs.lemmas.Bool.{cases_eq}
 use Rattle.std.proofs.lemmas.List.{length-set, get_or-set_same, get_or-set_other}
 use Rattle.std.specs.Prelude.{slice_index_or, option_map}
+use Rattle.nv_plain.specs.Images.{PartImage}
 use Rattle.nv_plain.specs.declared.call.FileCall.{FileCall}
 use Rattle.nv_plain.specs.declared.call.FileCall.TheVariants.{Read, Write, Sync}
 use Rattle.nv_pmem.specs.Part.{Part}
+use Rattle.nv_pmem.specs.Laws.{StepsKeepLines}
 use Rattle.nv_pmem.specs.Room.{Room}
 use Rattle.nv_pmem.specs.Runs.{run}
 use Rattle.nv_pmem.specs.Rows.{RowStep, row_after}
@@ -14,13 +16,13 @@ use Rattle.nv_pmem.specs.Steps.{Step, after_step as after_line_step}
 use Rattle.nv_entry.specs.Group.{group_steps}
 use Rattle.nv_entry.specs.Commits.{after_some}
 use Rattle.nv_core.specs.Words.{Sizes, Word, ENTRY, PAGE, index}
-use Rattle.nv_core.specs.Values.{Value, Bare, APart, AStore, ABuffer, Job, Writes, Reads, Ending, Made, Failed, called, has_come, filled, Peeks}
+use Rattle.nv_core.specs.Values.{Value, Bare, APart, AStore, ABuffer, Job, Writes, Reads, Ending, Made, Failed, Refused, called, has_come, filled, Peeks}
 use Rattle.nv_core.specs.Passes.{Stage, Copying, Pass, page_count, Unlocking, fetched_bytes}
 use Rattle.nv_core.specs.Deeds.{Deed, Pledges, slot_of, patched_by, Gives}
 use Rattle.nv_core.specs.Order.{Values, Work, IsNextCall, IsPieceRead}
 use Rattle.nv_core.specs.Core.{with_word, values_read, values_worked, values_stepped, values_given}
 use Rattle.nv_core.specs.Groups.{calls_after}
-use Rattle.nv_core.specs.Written.{IsPart, AreParts, IsWritten}
+use Rattle.nv_core.specs.Written.{IsPart, AreParts, CommitsNone, IsWritten, IsBlank}
 use Rattle.nv_core.proofs.Changes.{word_here, word_else, differ}
 use Rattle.nv_core.proofs.ValueLaws.{robbed_else}
 
@@ -48,6 +50,11 @@ part_read job how stage values slot = refl
 pub part_worked : (pass : Pass) (work : Work) (values : Values) (slot : ℕ) → values_worked pass work values (ENTRY slot) ≡ with_word values work.cell (called work.job work.ending (values work.cell)) (ENTRY slot)
 part_worked pass work values slot = part_read work.job work.ending pass.stage (with_word values work.cell (called work.job work.ending (values work.cell))) slot
 
+-- no step changes how many lines a part has
+pub one_lines : StepsKeepLines → (step : Step) (part : Part) → length (after_line_step step part) ≡ length part
+unfolding run
+one_lines keeps step part = keeps (step ∷ []) part
+
 -- the part after a step on it, or as it was where the step did nothing
 abbrev pub part_now : Ending → Step → Part → Part
 part_now how step part = if has_come how then after_line_step step part else part
@@ -56,6 +63,7 @@ pub part_called : (step : Step) (left : Room) (how : Ending) (value : Value) (pa
 part_called step left Made (APart device room) part is = ap (option_map (after_line_step step)) is
 part_called step left (Failed true faults) (APart device room) part is = ap (option_map (after_line_step step)) is
 part_called step left (Failed false faults) (APart device room) part is = is
+part_called step left Refused (APart device room) part is = is
 part_called step left how Bare part is = absurd is
 part_called step left how (AStore device) part is = absurd is
 part_called step left how (ABuffer buffer) part is = absurd is
@@ -83,6 +91,7 @@ peek_tells : (at : ℕ) (bytes : List ℕ) (how : Ending) (value : Value) (part 
 peek_tells at bytes Made (APart device room) part is = is
 peek_tells at bytes (Failed true faults) (APart device room) part is = is
 peek_tells at bytes (Failed false faults) (APart device room) part is = is
+peek_tells at bytes Refused (APart device room) part is = is
 peek_tells at bytes how Bare part is = is
 peek_tells at bytes how (AStore device) part is = is
 peek_tells at bytes how (ABuffer buffer) part is = is
@@ -91,6 +100,7 @@ peek_told : (at : ℕ) (bytes : List ℕ) (how : Ending) (value : Value) (part :
 peek_told at bytes Made (APart device room) part is = is
 peek_told at bytes (Failed true faults) (APart device room) part is = is
 peek_told at bytes (Failed false faults) (APart device room) part is = is
+peek_told at bytes Refused (APart device room) part is = is
 peek_told at bytes how Bare part is = is
 peek_told at bytes how (AStore device) part is = is
 peek_told at bytes how (ABuffer buffer) part is = is
@@ -123,7 +133,7 @@ module _ (sizes : Sizes) (values : Values) (pass : Pass) (work : Work) (number :
 
 -- ---- one more step of a run
 
-run_more : {T S : Type 0} (after : T → S → S) (steps : List T) (count : ℕ) (one : T) (state : S) → count < length steps → slice_index_or steps count one ≡ one
+pub run_more : {T S : Type 0} (after : T → S → S) (steps : List T) (count : ℕ) (one : T) (state : S) → count < length steps → slice_index_or steps count one ≡ one
     → run after (take (suc count) steps) state ≡ after one (run after (take count steps) state)
 unfolding run
 run_more after [] count one state less is = absurd (omega arith)
@@ -139,6 +149,32 @@ row_length (step ∷ steps) parts = row_length steps (row_after step parts) ∙ 
 pub some_length : (page first file at : ℕ) (bytes : List ℕ) (steps : ℕ) (parts : List Part) → length (after_some page first file at bytes steps parts) ≡ length parts
 some_length page first file at bytes steps parts = row_length (take steps (group_steps page first file at bytes)) parts
 
+-- ---- a later tail
+
+later_none : (sizes : Sizes) (tail next slot : ℕ) → tail ≤ next → (image : PartImage) → CommitsNone sizes tail slot image → CommitsNone sizes next slot image
+later_none sizes tail next slot less image none number here low = none number here (omega (arith, less, low))
+
+-- a commit word that doesn't count for a tail counts for no later one
+pub written_later : (sizes : Sizes) (values : Values) (tail next : ℕ) (call : FileCall) (first calls : ℕ) → tail ≤ next → IsWritten sizes values tail call first calls → IsWritten sizes values next call first calls
+written_later sizes values tail next (Write file at bytes) first calls less written = record {
+  before = written.before;
+  fit = written.fit;
+  quiet = written.quiet;
+  stale = λ image is i few. later_none sizes tail next (slot_of sizes (first + i)) less (image i) (written.stale image is i few);
+  now = written.now;
+}
+written_later sizes values tail next (Read file at len) first calls less written = absurd written
+written_later sizes values tail next (Sync file) first calls less written = absurd written
+
+pub blank_later : (sizes : Sizes) (value : Value) (tail next slot : ℕ) → tail ≤ next → IsBlank sizes value tail slot → IsBlank sizes value next slot
+blank_later sizes value tail next slot less blank = record {
+  part = blank.part;
+  is = blank.is;
+  lines = blank.lines;
+  quiet = blank.quiet;
+  stale = λ image is. later_none sizes tail next slot less image (blank.stale image is);
+}
+
 -- ---- nothing of a group's parts changes
 
 pub written_same : (sizes : Sizes) (old new : Values) (tail : ℕ) (call : FileCall) (first calls : ℕ)
@@ -150,7 +186,6 @@ written_same sizes old new tail (Write file at bytes) first calls same written =
   quiet = written.quiet;
   stale = written.stale;
   now = record { each = λ i less. same i (let l = some_length sizes.page first file at bytes calls written.before in let f = written.fit.count in omega (arith, less, l, f)) _ (written.now.each i less) };
-  low = written.low;
 }
 written_same sizes old new tail (Read file at len) first calls same written = absurd written
 written_same sizes old new tail (Sync file) first calls same written = absurd written
@@ -203,7 +238,6 @@ written_more sizes old new tail (Write file at bytes) first calls how row there 
       stale = written.stale;
       now = subst (AreParts sizes new first) (sym (ap (λ n. run row_after (take n steps) written.before) (add-one calls) ∙ run_more row_after steps calls row written.before there is))
           (parts_more sizes old new first was row (grown true e here) (λ i less ne. else_ i (few i less) ne) written.now);
-      low = written.low;
     }
     go false e = subst (λ b. IsWritten sizes new tail (Write file at bytes) first (if b then calls + 1 else calls)) (sym e) record {
       before = written.before;
@@ -216,7 +250,6 @@ written_more sizes old new tail (Write file at bytes) first calls how row there 
           | inr ne ↦ else_ i (few i less) ne _ (written.now.each i less)
         ];
       };
-      low = written.low;
     }
 written_more sizes old new tail (Read file at len) first calls how row there is here else_ written = absurd written
 written_more sizes old new tail (Sync file) first calls how row there is here else_ written = absurd written

@@ -11,9 +11,10 @@ use Rattle.nv_core.specs.Written.{IsPart}
 use Rattle.nv_core.specs.LogContent.{OpensLog}
 use Rattle.nv_core.specs.Crash.{StoresQuiet, OpensRegion}
 
--- The cells keep these parts: HEADER the first one, and each entry the part of its slot, which is long enough for an entry.
+-- The cells keep these parts: HEADER the first one, which has a line 1, and each entry the part of its slot, which is long enough for an entry.
 pub record KeepRow (sizes : Sizes) (values : Values) (parts : List Part) : Type 0 where
   pub header : IsPart (values HEADER) (slice_index_or parts 0 [])
+  pub header_lines : 1 < length (slice_index_or parts 0 [])
   pub entries : (slot : ℕ) → slot < sizes.entries → IsPart (values (ENTRY slot)) (slice_index_or parts (1 + slot) [])
   pub lines : (slot : ℕ) → slot < sizes.entries → entry_lines sizes.page ≤ length (slice_index_or parts (1 + slot) [])
 

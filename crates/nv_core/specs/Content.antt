@@ -8,28 +8,28 @@ use Rattle.nv_core.specs.Core.{Core}
 use Rattle.nv_core.specs.Events.{Event, MayCome, after_event, after, IsRun}
 use Rattle.nv_core.specs.Opening.{Mount, IsMount, opening}
 use Rattle.nv_core.specs.Sound.{Sound}
-use Rattle.nv_core.specs.StorePages.{StoresKept, HasFiles}
+use Rattle.nv_core.specs.StorePages.{HasFiles}
 use Rattle.nv_core.specs.Legal.{Legal}
 use Rattle.nv_core.specs.Lengths.{Lengths}
 use Rattle.nv_core.specs.ValidBuffers.{ValidBuffers}
 use Rattle.nv_core.specs.Groups.{Log, log_after}
 use Rattle.nv_core.specs.PatchedReads.{PatchedReads}
+use Rattle.nv_core.specs.Tails.{Tails}
 use Rattle.nv_core.specs.LogContent.{LogContent, OpensLog, log_after_run}
 
--- These parts, over the files at opening, the cells' values then, and the log.
-pub record Content (sizes : Sizes) (first : Values) (opening : Files) (log : Log) (core : Core) : Type 0 where
+-- These parts, over the files at opening and the log.
+pub record Content (sizes : Sizes) (opening : Files) (log : Log) (core : Core) : Type 0 where
   pub legal : Legal opening core
   pub lengths : Lengths sizes opening core
   pub buffers : ValidBuffers sizes opening core
-  pub stores : StoresKept first core.values
   pub patched : PatchedReads sizes log opening core
 
 -- Every event that may come to a sound core in which the content of the log is right keeps them, over the log after it.
 abbrev pub EventsKeepContent : Type 0
 EventsKeepContent =
-    (sizes : Sizes) (first : Values) (files : Files) (tail : ℕ) (log : Log) (placed : ℕ → Bool) (core : Core) (event : Event)
-    → HasFiles sizes first files → Sound sizes first core → LogContent sizes first files tail log placed core → Content sizes first files log core
-    → MayCome sizes event core → Content sizes first files (log_after sizes event core log) (after_event sizes event core)
+    (sizes : Sizes) (first : Values) (files : Files) (tails : Tails) (log : Log) (placed : ℕ → Bool) (core : Core) (event : Event)
+    → HasFiles sizes first files → Sound sizes first core → LogContent sizes first files tails log placed core → Content sizes files log core
+    → MayCome sizes event core → Content sizes files (log_after sizes event core log) (after_event sizes event core)
 
 -- A mount opens files: its stores have them, each is as long as its LENGTH says, and no buffer counts yet.
 pub record Opens (mount : Mount) (files : Files) : Type 0 where
@@ -39,11 +39,11 @@ pub record Opens (mount : Mount) (files : Files) : Type 0 where
 
 -- The content is right at opening, whatever log one begins with.
 abbrev pub OpeningHasContent : Type 0
-OpeningHasContent = (mount : Mount) (files : Files) (log : Log) → Opens mount files → Content mount.sizes mount.values files log (opening mount)
+OpeningHasContent = (mount : Mount) (files : Files) (log : Log) → Opens mount files → Content mount.sizes files log (opening mount)
 
 -- So it is right after every run of a mount that opens an empty log: each call of the history was answered as on plain files.
 abbrev pub RunsKeepContent : Type 0
 RunsKeepContent =
     (mount : Mount) (files : Files) (tail : ℕ) (log : Log) (placed : ℕ → Bool) (events : List Event)
     → IsMount mount → OpensLog mount tail → Opens mount files → IsRun mount.sizes (opening mount) events
-    → Content mount.sizes mount.values files (log_after_run mount.sizes (opening mount) events log) (after mount.sizes (opening mount) events)
+    → Content mount.sizes files (log_after_run mount.sizes (opening mount) events log) (after mount.sizes (opening mount) events)

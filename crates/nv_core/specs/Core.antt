@@ -4,8 +4,9 @@ use Rattle.nv_plain.specs.Files.{overwritten}
 use Rattle.nv_plain.specs.Histories.{Answered}
 use Rattle.nv_plain.specs.declared.call.FileCall.{FileCall}
 use Rattle.nv_core.specs.Words.{Sizes, Word, PAGE, same}
-use Rattle.nv_core.specs.Values.{Job, Reads, Peeks, Ending, Made, Failed, called, emptied, received, filled}
-use Rattle.nv_core.specs.Passes.{Stage, Idle, Copying, Returning, Robbing, Searching, Patching, Restoring, Unlocking, Committing, Pledging, ReadFailing, PieceFailing, WriteFailing, Pass, first_page, fetched_bytes}
+use Rattle.nv_core.specs.Values.{Job, Reads, Peeks, Ending, Made, Failed, called, emptied, received, filled, Refused}
+use Rattle.nv_core.specs.Passes.{Stage, Idle, Copying, Returning, Robbing, Searching, Patching, Restoring, Unlocking, Committing, Pledging, ReadFailing, PieceFailing, WriteFailing, Pass, first_page, fetched_bytes, Cleaning}
+use Rattle.nv_core.specs.Chores.{after_chore_work}
 use Rattle.nv_core.specs.Deeds.{Deed, Gives, Pledges, Splits, Joins, word_of, value_after, patched_by}
 use Rattle.nv_core.specs.Stepped.{added, stepped, begun}
 use Rattle.nv_core.specs.Order.{Values, Work, commit_steps}
@@ -38,11 +39,15 @@ stage_worked sizes pass Made (Committing calls) =
     if calls + 1 == length (commit_steps sizes pass pass.call) then Pledging (first_page sizes pass.call) else Committing (calls + 1)
 stage_worked sizes pass Made (Copying page dirty) = Returning page dirty
 stage_worked sizes pass Made (Patching page number) = Restoring page number false
+stage_worked sizes pass Made (Cleaning batch sweep) = after_chore_work batch Made sweep
 stage_worked sizes pass Made stage = stage
 stage_worked sizes pass (Failed came faults) (Committing calls) = WriteFailing
 stage_worked sizes pass (Failed came faults) (Copying page dirty) = ReadFailing page dirty
 stage_worked sizes pass (Failed came faults) (Patching page number) = PieceFailing page number
+stage_worked sizes pass (Failed came faults) (Cleaning batch sweep) = after_chore_work batch (Failed came faults) sweep
 stage_worked sizes pass (Failed came faults) stage = stage
+stage_worked sizes pass Refused (Cleaning batch sweep) = after_chore_work batch Refused sweep
+stage_worked sizes pass Refused stage = stage
 
 -- the pages that a read has fetched then: one more, or one with one more of its pieces
 abbrev pub fetched_worked : Sizes → Pass → Job → Ending → Stage → List (ℕ × List ℕ)

@@ -1,5 +1,5 @@
 -- Crashes: what a power failure at any moment leaves of the region and of the stores, and which files that stands for.
-use Rattle.std.specs.Prelude.{◌≡◌, ◌↔◌, ℕ, ◌+◌, ◌-◌, ◌<◌, ◌≤◌, ◌==◌, ◌&&◌, ◌||◌, not, Bool, true, List, ◌++◌, length, Some}
+use Rattle.std.specs.Prelude.{◌≡◌, ◌↔◌, ℕ, ◌+◌, ◌-◌, ◌<◌, ◌≤◌, ◌==◌, ◌&&◌, ◌||◌, nat_le, not, Bool, true, List, ◌++◌, length, Some}
 use Rattle.nv_plain.specs.Files.{Files, contents_of}
 use Rattle.nv_plain.specs.Images.{Image, entry_of}
 use Rattle.nv_plain.specs.Layouts.{version_1}
@@ -18,13 +18,16 @@ use Rattle.nv_core.specs.Core.{Core}
 use Rattle.nv_core.specs.Events.{Event, MayCome, after_event, after, IsRun}
 use Rattle.nv_core.specs.Opening.{Mount, IsMount, opening}
 use Rattle.nv_core.specs.Sound.{Sound}
-use Rattle.nv_core.specs.StorePages.{store_of, StoresTell, HasFiles}
+use Rattle.nv_core.specs.StorePages.{store_of, HasFiles}
 use Rattle.nv_core.specs.LogWindow.{InWindow}
-use Rattle.nv_core.specs.Groups.{Log}
+use Rattle.nv_core.specs.Groups.{Log, log_after}
 use Rattle.nv_core.specs.Written.{IsPart}
 use Rattle.nv_core.specs.EntryImages.{IsRegionImage, InEachImageOf}
-use Rattle.nv_core.specs.LivePieces.{rising, call_if, calls_of, is_ready}
+use Rattle.nv_core.specs.InFlight.{IsWaiting}
+use Rattle.nv_core.specs.Tails.{Tails, still, tails_after}
+use Rattle.nv_core.specs.LivePieces.{rising, call_if, calls_of, is_ready, to_place}
 use Rattle.nv_core.specs.Apart.{after_calls}
+use Rattle.nv_core.specs.PersistentTail.{PersistentTail}
 use Rattle.nv_core.specs.LogContent.{LogContent, OpensLog, log_after_run, placed_after_run}
 
 -- ---- what a power failure may leave of the stores
@@ -40,28 +43,39 @@ pub record AreStoreImages (sizes : Sizes) (values : Values) (bytes : Files) : Ty
 abbrev pub is_in_flight : Log → (ℕ → Bool) → (number : ℕ) → Bool
 is_in_flight log placed number = (log.group number).first == number && not (placed number)
 
--- its commit word in an image is its own
+-- its commit word in an image is its own, and it is no lower than the image's tail
 abbrev pub is_committed : Sizes → Image → (number : ℕ) → Bool
-is_committed sizes image number = (entry_of (image (1 + slot_of sizes number))).commit == number + 1
+is_committed sizes image number = nat_le (image 0 1 0) number && (entry_of (image (1 + slot_of sizes number))).commit == number + 1
 
 -- A write in flight is added where its leader was made ready, and where it reads as committed in this image.
 abbrev pub is_added : Sizes → Log → (ℕ → Bool) → Core → Image → (number : ℕ) → Bool
 is_added sizes log placed core image number = is_in_flight log placed number && (is_ready sizes core number || is_committed sizes image number)
 
--- those writes, each whole, in rising number
+-- those whose leader was never made ready, each whole, in rising number
+abbrev pub added_unready : Sizes → Log → (ℕ → Bool) → Core → Image → List FileCall
+added_unready sizes log placed core image =
+    rising (λ number. call_if (is_added sizes log placed core image number && not (is_ready sizes core number)) (log.group number).call)
+    (core.words TAIL) (core.words HEAD - core.words TAIL)
+
+-- all of them: a write whose leader was made ready, and that isn't placed, is one that is placed next
 abbrev pub added : Sizes → Log → (ℕ → Bool) → Core → Image → List FileCall
-added sizes log placed core image =
-    rising (λ number. call_if (is_added sizes log placed core image number) (log.group number).call) (core.words TAIL) (core.words HEAD - core.words TAIL)
+added sizes log placed core image = to_place core ++ added_unready sizes log placed core image
 
 -- ---- what such an image stands for
 
--- It fits. It recovers to the files after the history and then those writes. A write in flight is kept where it is one of these, and nowhere
--- else. The first number is no lower than TAIL, and the next one no higher than HEAD.
+-- What becomes of a write in flight. One at or above the first number that is recovered is among the groups where it is added, and nowhere else.
+-- One below it was made ready and cleaned: the stores have it, and it is placed next.
+pub data IsFated (sizes : Sizes) (log : Log) (placed : ℕ → Bool) (core : Core) (image : Image) (first : ℕ) (groups : List ℕ) (number : ℕ) : Type 0 where
+  Kept : first ≤ number → IsOneOf groups number ↔ (is_added sizes log placed core image number ≡ true) → IsFated sizes log placed core image first groups number
+  Stored : number < first → (by : ℕ) → IsWaiting (core.passes by) number → IsFated sizes log placed core image first groups number
+
+-- It fits. It recovers to the files after the history and then those writes, each write in flight with its fate. The first number is no lower
+-- than TAIL, and the next one no higher than HEAD.
 pub record Survives (sizes : Sizes) (opened : Files) (log : Log) (placed : ℕ → Bool) (core : Core) (image : Image) (bytes : Files) : Type 0 where
   pub fits : Fits version_1 image
   pub files : (recovered image bytes).files ≡ after_calls (calls_of core.history ++ added sizes log placed core image) opened
   pub fates : (number : ℕ) → InWindow core number → is_in_flight log placed number ≡ true
-      → (IsOneOf (recovered image bytes).groups number ↔ (is_added sizes log placed core image number ≡ true))
+      → IsFated sizes log placed core image (recovered image bytes).first (recovered image bytes).groups number
   pub low : core.words TAIL ≤ (recovered image bytes).first
   pub high : (recovered image bytes).next ≤ core.words HEAD
 
@@ -77,28 +91,29 @@ CrashesSurvive sizes opened log placed core =
 pub record StoresQuiet (values : Values) : Type 0 where
   pub each : (file : ℕ) (store : Store) → store_of (values (STORE file)) ≡ Some store → IsQuiet store
 
--- The region reads as one of this mount: in each image its header says the mount's pages and entries, as many names as it has files, and a
--- tail that is no lower than TAIL. A file has no more pages than a region allows. The stores tell, and are durable.
-pub record HasRegion (sizes : Sizes) (names : List (List ℕ)) (tail : ℕ) (core : Core) : Type 0 where
-  pub header : InEachImageOf sizes core.values (ReadsAs version_1 sizes.page sizes.entries names tail)
+-- The region reads as one of this mount: in each image its header says the mount's pages and entries, as many names as it has files, and some
+-- tail. A file has no more pages than a region allows. No tail of the header is lower than TAIL. What of the stores isn't durable lies in
+-- pieces that each image of the log has.
+pub record HasRegion (sizes : Sizes) (names : List (List ℕ)) (tails : Tails) (log : Log) (core : Core) : Type 0 where
+  pub header : InEachImageOf sizes core.values (λ image. ReadsAs version_1 sizes.page sizes.entries names (image 0 1 0) image)
   pub files : length names ≡ sizes.files
   pub pages : sizes.pages ≤ version_1.page_limit
-  pub low : core.words TAIL ≤ tail
-  pub tell : StoresTell sizes core.values
-  pub quiet : StoresQuiet core.values
+  pub low : core.words TAIL ≤ tails.least
+  pub persistent : PersistentTail sizes tails.next log core
 
 -- In every sound state in which the content of the log is right, each image does.
 abbrev pub StatesSurviveCrashes : Type 0
 StatesSurviveCrashes =
-    (sizes : Sizes) (first : Values) (opened : Files) (names : List (List ℕ)) (tail : ℕ) (log : Log) (placed : ℕ → Bool) (core : Core)
-    → Sound sizes first core → LogContent sizes first opened tail log placed core → HasRegion sizes names tail core
+    (sizes : Sizes) (first : Values) (opened : Files) (names : List (List ℕ)) (tails : Tails) (log : Log) (placed : ℕ → Bool) (core : Core)
+    → Sound sizes first core → LogContent sizes first opened tails log placed core → HasRegion sizes names tails log core
     → CrashesSurvive sizes opened log placed core
 
 -- Every event keeps the region.
 abbrev pub EventsKeepRegion : Type 0
 EventsKeepRegion =
-    (sizes : Sizes) (names : List (List ℕ)) (tail : ℕ) (core : Core) (event : Event)
-    → HasRegion sizes names tail core → MayCome sizes event core → HasRegion sizes names tail (after_event sizes event core)
+    (sizes : Sizes) (first : Values) (opened : Files) (names : List (List ℕ)) (tails : Tails) (log : Log) (placed : ℕ → Bool) (core : Core) (event : Event)
+    → Sound sizes first core → LogContent sizes first opened tails log placed core → HasRegion sizes names tails log core
+    → MayCome sizes event core → HasRegion sizes names (tails_after event core tails) (log_after sizes event core log) (after_event sizes event core)
 
 -- ---- runs
 
@@ -109,11 +124,11 @@ pub record OpensRegion (mount : Mount) (names : List (List ℕ)) : Type 0 where
   pub pages : mount.sizes.pages ≤ version_1.page_limit
   pub quiet : StoresQuiet mount.values
 
--- The region is there at opening.
+-- The region is there at opening, whatever log one begins with.
 abbrev pub OpeningHasRegion : Type 0
 OpeningHasRegion =
-    (mount : Mount) (files : Files) (names : List (List ℕ))
-    → OpensLog mount mount.next → HasFiles mount.sizes mount.values files → OpensRegion mount names → HasRegion mount.sizes names mount.next (opening mount)
+    (mount : Mount) (files : Files) (names : List (List ℕ)) (log : Log)
+    → OpensLog mount mount.next → HasFiles mount.sizes mount.values files → OpensRegion mount names → HasRegion mount.sizes names (still mount.next) log (opening mount)
 
 -- So each image does after every run from such an opening.
 abbrev pub RunsSurviveCrashes : Type 0

@@ -5,8 +5,10 @@ use Rattle.nv_plain.specs.Pieces.{piece_of, piece_bytes}
 use Rattle.nv_plain.specs.declared.call.FileCall.{FileCall}
 use Rattle.nv_plain.specs.declared.call.FileCall.TheVariants.{Write}
 use Rattle.nv_plain.specs.declared.call.Reply.{Reply}
-use Rattle.nv_core.specs.Words.{Sizes, Word, STOP, ORDER, HEAD, HAND, LENGTH, ENTRY, HINT, DIRTY, filling, ready, broken, entry_word}
+use Rattle.nv_core.specs.Words.{Sizes, Word, STOP, ORDER, HEAD, HAND, LENGTH, ENTRY, HINT, DIRTY, filling, ready, broken, entry_word, CLEANER}
 use Rattle.nv_core.specs.Values.{Value, patched}
+use Rattle.nv_core.specs.Sweeps.{Chore, Enters, Grabs, Yields, Lifts, Drops, Cleans}
+use Rattle.nv_core.specs.Chores.{chore_word, chore_value, slot_in}
 use Rattle.nv_core.specs.Passes.{Pass, file_of, at_of, len_of, page_count, first_page, without}
 
 -- A kind of step with what it is made on. An entry is named by its number, a page by its number of all pages.
@@ -41,6 +43,8 @@ pub data Deed : Type 0 where
   Turns : (page : ℕ) → Deed
   -- HINT of the buffer is the page that was given it
   Hints : (buffer page : ℕ) → Deed
+  -- a step of a cleaner
+  Tends : Chore → Deed
   -- a new pass is made, with what pass 0 and the passes that it took in have seen
   Splits : Deed
   -- a pass on its way into pass 0 puts back what a cell keeps, and the lock stays shut
@@ -68,6 +72,7 @@ word_of sizes pass (Pledges page) = DIRTY page
 word_of sizes pass (Readies number) = ENTRY (slot_of sizes number)
 word_of sizes pass Grows = LENGTH (file_of pass.call)
 word_of sizes pass (Breaks number) = ENTRY (slot_of sizes number)
+word_of sizes pass (Tends chore) = chore_word sizes chore
 word_of sizes pass (Holds number) = ENTRY (slot_of sizes number)
 word_of sizes pass (Returns number) = ENTRY (slot_of sizes number)
 word_of sizes pass (Turns page) = HAND
@@ -90,6 +95,7 @@ value_after sizes pass (Pledges page) found = found + 1
 value_after sizes pass (Readies number) found = ready_word sizes pass number
 value_after sizes pass Grows found = at_of pass.call + len_of pass.call
 value_after sizes pass (Breaks number) found = broken
+value_after sizes pass (Tends chore) found = chore_value chore found
 value_after sizes pass (Holds number) found = found + 1
 value_after sizes pass (Returns number) found = found - 1
 value_after sizes pass (Turns page) found = (found + 1) % 2 ^ 64
@@ -102,12 +108,23 @@ pub data Move : Type 0 where
   Comes : Word → Move
   Goes : Word → Move
 
+-- what moves by a step of a cleaner
+abbrev pub chore_move : Sizes → Chore → (found : ℕ) → Move
+chore_move sizes (Enters most) found = if found == 0 then Comes CLEANER else Stays
+chore_move sizes (Grabs cell) found = if found == 0 then Comes cell else Stays
+chore_move sizes (Yields cell) found = Goes cell
+chore_move sizes (Lifts number) found = Comes (ENTRY (slot_in sizes number))
+chore_move sizes (Drops number) found = Goes (ENTRY (slot_in sizes number))
+chore_move sizes (Cleans number) found = Goes (ENTRY (slot_in sizes number))
+chore_move sizes chore found = Stays
+
 abbrev pub move_of : Sizes → Deed → (found : ℕ) → Move
 move_of sizes (Takes cell) found = if found == 0 then Comes cell else Stays
 move_of sizes (Gives cell) found = Goes cell
 move_of sizes (Seizes number) found = Comes (ENTRY (slot_of sizes number))
 move_of sizes (Readies number) found = Goes (ENTRY (slot_of sizes number))
 move_of sizes (Breaks number) found = Goes (ENTRY (slot_of sizes number))
+move_of sizes (Tends chore) found = chore_move sizes chore found
 move_of sizes (Holds number) found = Comes (ENTRY (slot_of sizes number))
 move_of sizes (Returns number) found = Goes (ENTRY (slot_of sizes number))
 move_of sizes deed found = Stays

@@ -1,5 +1,5 @@
 -- Entry images: what a power failure may leave of the region's entries, where all of its parts tell.
-use Rattle.std.specs.Prelude.{◌≡◌, ℕ, ◌+◌, ◌<◌, true}
+use Rattle.std.specs.Prelude.{◌≡◌, ℕ, ◌+◌, ◌<◌, ◌≤◌, true}
 use Rattle.nv_plain.specs.Images.{PartImage, Image}
 use Rattle.nv_plain.specs.declared.call.FileCall.{FileCall}
 use Rattle.nv_plain.specs.declared.call.FileCall.TheVariants.{Write}
@@ -59,11 +59,11 @@ HasPledged stage = ⊥
 
 -- ---- all of them
 
--- In every image each group of the window reads as uncommitted or whole, be it filled, broken or made ready. One that is drawn and not yet
--- filled reads as uncommitted. One whose leader was made ready, or whose pass has begun to pledge, reads as whole, and its parts are quiet.
--- The parts of free entries are quiet too.
-pub record EntryImages (sizes : Sizes) (log : Log) (core : Core) : Type 0 where
-  pub groups : (number : ℕ) → InWindow core number → (log.group number).first ≡ number
+-- In every image each group of the window at or above a tail reads as uncommitted or whole, be it filled, broken or made ready. One that is drawn
+-- and not yet filled reads as uncommitted. One whose leader was made ready, or whose pass has begun to pledge, reads as whole, and its parts are
+-- quiet. The parts of free entries are quiet too. A group below the tail that the header has is cleaned, and recovery looks at it no more.
+pub record EntryImages (sizes : Sizes) (tail : ℕ) (log : Log) (core : Core) : Type 0 where
+  pub groups : (number : ℕ) → InWindow core number → tail ≤ number → (log.group number).first ≡ number
       → InEachImageOf sizes core.values (ReadsOpenOrWhole sizes (log.group number).call number)
   pub drawn : (by next : ℕ) → (core.passes by).stage ≡ Seizing next
       → InEachImageOf sizes core.values (ReadsOpen sizes (core.passes by).call (core.passes by).first)
@@ -71,7 +71,7 @@ pub record EntryImages (sizes : Sizes) (log : Log) (core : Core) : Type 0 where
       → InEachImageOf sizes core.values (ReadsWhole sizes (core.passes by).call (core.passes by).first)
   pub pledged_quiet : (by number : ℕ) → HasPledged (core.passes by).stage → IsAmong (core.passes by).first (core.passes by).entries number
       → KeepsQuiet (core.values (ENTRY (slot_of sizes number)))
-  pub whole : (number : ℕ) → InWindow core number → (log.group number).first ≡ number → was_readied (entry_at sizes core number) ≡ true
+  pub whole : (number : ℕ) → InWindow core number → tail ≤ number → (log.group number).first ≡ number → was_readied (entry_at sizes core number) ≡ true
       → InEachImageOf sizes core.values (ReadsWhole sizes (log.group number).call number)
   pub whole_quiet : (number other : ℕ) → InWindow core number → (log.group number).first ≡ number → was_readied (entry_at sizes core number) ≡ true
       → IsAmong number (log.group number).entries other → KeepsQuiet (core.values (ENTRY (slot_of sizes other)))

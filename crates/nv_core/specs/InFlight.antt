@@ -1,14 +1,14 @@
 -- Writes in flight: those that a pass has drawn and that have no place yet.
-use Rattle.std.specs.Prelude.{◌≡◌, ℕ, ◌+◌, ◌≤◌, ◌==◌, Bool, true, false, if◌then◌else◌}
-use Rattle.nv_core.specs.Words.{Sizes, was_readied}
+use Rattle.std.specs.Prelude.{◌≡◌, ℕ, ◌+◌, ◌<◌, ◌≤◌, ◌==◌, Bool, true, false, if◌then◌else◌}
+use Rattle.nv_core.specs.Words.{Sizes, HEAD}
 use Rattle.nv_core.specs.Passes.{Stage, Seizing, Committing, Pledging, Readying, Placing, Pass, IsAmong, is_write}
 use Rattle.nv_core.specs.Deeds.{Deed, Draws, Places}
 use Rattle.nv_core.specs.Stepped.{begun}
 use Rattle.nv_core.specs.Standing.{HasDrawn, IsPage}
 use Rattle.nv_core.specs.Core.{Core, with_number}
 use Rattle.nv_core.specs.Events.{Act, Begins, Does, Calls, Event}
-use Rattle.nv_core.specs.LogWindow.{InWindow, entry_at}
-use Rattle.nv_core.specs.Groups.{Log, IsOwn}
+use Rattle.nv_core.specs.LogWindow.{InWindow, WasReadied}
+use Rattle.nv_core.specs.Groups.{Log, group_of}
 use Rattle.nv_core.specs.Pieces.{page_of_number}
 
 -- Which leaders' writes have their place: after a step.
@@ -41,16 +41,22 @@ pub record IsWaiting (pass : Pass) (number : ℕ) : Type 0 where
   pub write : is_write pass.call ≡ true
   pub first : pass.first ≡ number
 
+-- a number was drawn, and is of the group that its pass has drawn; it may have left the window
+pub record IsDrawn (core : Core) (log : Log) (pass : Pass) (number : ℕ) : Type 0 where
+  pub below : number < core.words HEAD
+  pub group : log.group number ≡ group_of pass
+
 -- The numbers of a write in flight are its group, and it isn't placed. No number above these is of a page of that write. A leader that
--- was made ready and is not placed is that of a write that is placed next.
+-- was made ready and is not placed is that of a write that is placed next. Such a write may be cleaned meanwhile, and its numbers freed, and
+-- TAIL moved past them.
 pub record InFlight (sizes : Sizes) (log : Log) (placed : ℕ → Bool) (core : Core) : Type 0 where
   pub own : (by : ℕ) → IsFlying (core.passes by) (core.passes by).stage → (number : ℕ) → IsAmong (core.passes by).first (core.passes by).entries number
-      → IsOwn core log (core.passes by) number
+      → IsDrawn core log (core.passes by) number
   pub drawn : (by : ℕ) → IsFlying (core.passes by) (core.passes by).stage → HasDrawn sizes (core.passes by).call (core.passes by).entries
   pub apart : (by : ℕ) → IsFlying (core.passes by) (core.passes by).stage → (number : ℕ) → InWindow core number
       → (core.passes by).first + (core.passes by).entries ≤ number → IsPage sizes (core.passes by).call (page_of_number sizes (log.group number) number) → ⊥
   pub unplaced : (by : ℕ) → IsFlying (core.passes by) (core.passes by).stage → placed (core.passes by).first ≡ false
   pub ready_first : (by : ℕ) → IsFlying (core.passes by) (core.passes by).stage → (core.passes by).stage ≡ Placing
-      → was_readied (entry_at sizes core (core.passes by).first) ≡ true
-  pub waiting : (number : ℕ) → InWindow core number → (log.group number).first ≡ number → was_readied (entry_at sizes core number) ≡ true
+      → InWindow core (core.passes by).first → WasReadied sizes core (core.passes by).first
+  pub waiting : (number : ℕ) → InWindow core number → (log.group number).first ≡ number → WasReadied sizes core number
       → placed number ≡ false → (by : ℕ) × IsWaiting (core.passes by) number

@@ -1,7 +1,9 @@
 pub mod Totals
 pub mod Words
 pub mod Values
+pub mod Sweeps
 pub mod Passes
+pub mod Chores
 pub mod Deeds
 pub mod Stages
 pub mod Stepped
@@ -10,7 +12,9 @@ pub mod Core
 pub mod Events
 pub mod Standing
 pub mod Locks
+pub mod SweepHolding
 pub mod Holding
+pub mod SweepNumbers
 pub mod LogWindow
 pub mod Stop
 pub mod DirtyCounters
@@ -29,6 +33,7 @@ pub mod Opening
 pub mod Laws
 pub mod Never
 pub mod Walks
+pub mod BatchWalks
 pub mod PagesAfter
 pub mod StorePages
 pub mod Legal
@@ -39,12 +44,16 @@ pub mod Apart
 pub mod Written
 pub mod EntryImages
 pub mod StaleWords
+pub mod Tails
 pub mod HeaderStays
 pub mod Pieces
 pub mod InFlight
 pub mod Unready
 pub mod LivePieces
 pub mod Leaders
+pub mod PersistentTail
+pub mod Progress
+pub mod Retiring
 pub mod LogContent
 pub mod PatchedPages
 pub mod PatchedReads
@@ -54,3 +63,6 @@ pub mod AtRest
 pub mod WalkOpens
 pub mod CrashWalks
 pub mod DirtyWalks
+pub mod CrashByHand
+pub mod CleaningOrder
+pub mod EmptyLog

@@ -1,5 +1,5 @@
 -- Live pieces: the files after the history and the writes that are to be placed are the stores, overwritten by what the log has of them.
-use Rattle.std.specs.Prelude.{◌≡◌, ℕ, zero, suc, ◌-◌, ◌==◌, ◌&&◌, not, Bool, if◌then◌else◌, List, [], ◌∷◌, ◌++◌, length, map, Option, Some, None}
+use Rattle.std.specs.Prelude.{◌≡◌, ℕ, zero, suc, ◌+◌, ◌-◌, ◌==◌, ◌&&◌, ◌||◌, not, Bool, false, if◌then◌else◌, List, [], ◌∷◌, ◌++◌, length, map, Option, Some, None}
 use Rattle.std.specs.List.{range_with_len}
 use Rattle.nv_plain.specs.Files.{Files}
 use Rattle.nv_plain.specs.Histories.{Answered}
@@ -7,8 +7,9 @@ use Rattle.nv_plain.specs.Pieces.{piece_of, piece_bytes}
 use Rattle.nv_plain.specs.declared.call.FileCall.{FileCall}
 use Rattle.nv_plain.specs.declared.call.FileCall.TheVariants.{Write}
 use Rattle.nv_store.specs.Store.{Store}
-use Rattle.nv_core.specs.Words.{Sizes, HEAD, TAIL, STORE, was_readied}
+use Rattle.nv_core.specs.Words.{Sizes, HEAD, TAIL, STORE, kind_of, cleaned, was_readied}
 use Rattle.nv_core.specs.Values.{Value, AStore}
+use Rattle.nv_core.specs.Passes.{Stage, Placing, Pass, is_write}
 use Rattle.nv_core.specs.Order.{Values}
 use Rattle.nv_core.specs.Core.{Core}
 use Rattle.nv_core.specs.LogWindow.{entry_at}
@@ -41,23 +42,34 @@ piece_call sizes group number = piece_write sizes group.call (number - group.fir
 abbrev pub is_ready : Sizes → Core → (number : ℕ) → Bool
 is_ready sizes core number = was_readied (entry_at sizes core number)
 
--- an entry is live where it was made ready, and its leader too
+-- whether a number's entry is cleaned
+abbrev pub is_cleaned : Sizes → Core → (number : ℕ) → Bool
+is_cleaned sizes core number = kind_of (entry_at sizes core number) == cleaned
+
+-- an entry is live where it was made ready, and its leader too, or is cleaned: the leader may be freed by then
 abbrev pub is_live : Sizes → Log → Core → (number : ℕ) → Bool
-is_live sizes log core number = is_ready sizes core number && is_ready sizes core (log.group number).first
+is_live sizes log core number = is_ready sizes core number && (is_ready sizes core (log.group number).first || is_cleaned sizes core number)
 
 abbrev pub live_pieces : Sizes → Log → Core → List FileCall
 live_pieces sizes log core =
     rising (λ number. call_if (is_live sizes log core number) (piece_call sizes (log.group number) number)) (core.words TAIL) (core.words HEAD - core.words TAIL)
 
+-- those of them whose entries aren't cleaned
+abbrev pub uncleaned_pieces : Sizes → Log → Core → List FileCall
+uncleaned_pieces sizes log core =
+    rising (λ number. call_if (is_live sizes log core number && not (is_cleaned sizes core number)) (piece_call sizes (log.group number) number))
+    (core.words TAIL) (core.words HEAD - core.words TAIL)
+
 -- ---- the writes that are to be placed
 
--- a leader was made ready, and its write isn't placed
-abbrev pub is_to_place : Sizes → Log → (ℕ → Bool) → Core → (number : ℕ) → Bool
-is_to_place sizes log placed core number = ((log.group number).first == number && is_ready sizes core number) && not (placed number)
+-- whether a pass's write is placed next: its leader was made ready, though it may be cleaned and freed by then
+abbrev pub is_waiting : Pass → Stage → Bool
+is_waiting pass Placing = is_write pass.call
+is_waiting pass stage = false
 
-abbrev pub to_place : Sizes → Log → (ℕ → Bool) → Core → List FileCall
-to_place sizes log placed core =
-    rising (λ number. call_if (is_to_place sizes log placed core number) (log.group number).call) (core.words TAIL) (core.words HEAD - core.words TAIL)
+-- those of all passes, which hold their pages and so are apart from one another
+abbrev pub to_place : Core → List FileCall
+to_place core = rising (λ by. call_if (is_waiting (core.passes by) (core.passes by).stage) (core.passes by).call) 0 (core.made + 1)
 
 -- ---- both
 
@@ -78,8 +90,10 @@ store_bytes value = []
 abbrev pub store_files : Sizes → Values → Files
 store_files sizes values = record { contents = map (λ file. store_bytes (values (STORE file))) (range_with_len 0 sizes.files) }
 
--- From the files at opening, the history and then the writes that are to be placed, in rising number, leave the files that the stores read
--- as, overwritten by the live pieces in rising number.
-pub record LivePieces (sizes : Sizes) (log : Log) (placed : ℕ → Bool) (opened : Files) (core : Core) : Type 0 where
-  pub files : after_calls (calls_of core.history ++ to_place sizes log placed core) opened
+-- From the files at opening, the history and then the writes that are to be placed leave the files that the stores read
+-- as, overwritten by the live pieces in rising number; and so they do by those alone whose entries aren't cleaned.
+pub record LivePieces (sizes : Sizes) (log : Log) (opened : Files) (core : Core) : Type 0 where
+  pub files : after_calls (calls_of core.history ++ to_place core) opened
       ≡ after_calls (live_pieces sizes log core) (store_files sizes core.values)
+  pub uncleaned : after_calls (calls_of core.history ++ to_place core) opened
+      ≡ after_calls (uncleaned_pieces sizes log core) (store_files sizes core.values)

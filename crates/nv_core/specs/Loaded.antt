@@ -1,7 +1,7 @@
 -- What was loaded: how the words that a pass has loaded stand to the words as they are.
-use Rattle.std.specs.Prelude.{◌≡◌, ℕ, ◌≤◌, true, false}
-use Rattle.nv_core.specs.Words.{Sizes, HEAD, TAIL, LENGTH, DIRTY, ready, held, is_entry_of}
-use Rattle.nv_core.specs.Passes.{Stage, Fetching, Copying, Returning, Scanning, Grasping, Patching, Restoring, PieceFailing, file_of}
+use Rattle.std.specs.Prelude.{◌≡◌, ◌≢◌, ℕ, ◌+◌, ◌≤◌, true, false}
+use Rattle.nv_core.specs.Words.{Sizes, HEAD, TAIL, LENGTH, DIRTY, ready, held, page_of, was_readied, is_entry_of}
+use Rattle.nv_core.specs.Passes.{Stage, Fetching, Copying, Returning, Starting, Scanning, Grasping, Patching, Restoring, PieceFailing, Pass, file_of}
 use Rattle.nv_core.specs.Stages.{IsBetween, exceeds}
 use Rattle.nv_core.specs.Core.{Core}
 use Rattle.nv_core.specs.LogWindow.{InWindow, entry_at}
@@ -17,10 +17,31 @@ SawClean (Copying next false) page = next ≡ page
 SawClean (Returning next false) page = next ≡ page
 SawClean stage page = ⊥
 
--- the number at which a read of a page with entries looks, and what it knows of its entry: nothing yet, that it is ready and of the page,
--- or, once the read holds it, that it is held and of the page
+-- no entry that was made ready is of a page and has a number of the window from one on
+abbrev pub NoneFrom : Sizes → Core → (page from : ℕ) → Type 0
+NoneFrom sizes core page from =
+    (number : ℕ) → InWindow core number → from ≤ number → was_readied (entry_at sizes core number) ≡ true → page_of (entry_at sizes core number) ≢ page
+
+-- the number at which a read of a page with entries looks is at least TAIL as it loaded it, from which HEAD, as it loaded it before, is no
+-- further than the log has entries; and no number from that HEAD on is of the page
+pub record IsBounded (sizes : Sizes) (core : Core) (pass : Pass) (page number : ℕ) : Type 0 where
+  pub low : pass.tail ≤ number
+  pub room : pass.head ≤ pass.tail + sizes.entries
+  pub later : NoneFrom sizes core page pass.head
+
+-- what a read of a page with entries knows of the log's window, from its load of HEAD on
+abbrev pub Bounds : Sizes → Core → Pass → Stage → Type 0
+Bounds sizes core pass (Starting page) = (pass.head ≤ core.words TAIL + sizes.entries) × NoneFrom sizes core page pass.head
+Bounds sizes core pass (Scanning page number) = IsBounded sizes core pass page number
+Bounds sizes core pass (Grasping page number) = IsBounded sizes core pass page number
+Bounds sizes core pass (Patching page number) = IsBounded sizes core pass page number
+Bounds sizes core pass (Restoring page number failed) = IsBounded sizes core pass page number
+Bounds sizes core pass (PieceFailing page number) = IsBounded sizes core pass page number
+Bounds sizes core pass stage = Unit {0}
+
+-- what it knows of the entry that it has found: it is that of its number, ready and of the page, or, once the read holds it, held and of
+-- the page
 abbrev pub Looks : Sizes → Core → Stage → Type 0
-Looks sizes core (Scanning page number) = InWindow core number
 Looks sizes core (Grasping page number) = InWindow core number × (is_entry_of ready page (entry_at sizes core number) ≡ true)
 Looks sizes core (Patching page number) = InWindow core number × (is_entry_of held page (entry_at sizes core number) ≡ true)
 Looks sizes core (Restoring page number failed) = InWindow core number × (is_entry_of held page (entry_at sizes core number) ≡ true)
@@ -29,7 +50,8 @@ Looks sizes core stage = Unit {0}
 
 -- HEAD, TAIL and LENGTH as a pass saw them are at most the words, and some pass saw HEAD, and some TAIL, as they are. A call that
 -- reaches past the length that it loaded has taken SIZE, LENGTH that was loaded under SIZE is still LENGTH, and a DIRTY that was
--- loaded as 0 is still 0. The number at which a read looks is in the window, and its entry is as the read has found it.
+-- loaded as 0 is still 0. A read of a page with entries looks at the numbers of the window that may be of it, and the entry that it has found
+-- is as it has found it.
 pub record Loaded (sizes : Sizes) (core : Core) : Type 0 where
   pub head : (number : ℕ) → (core.passes number).head ≤ core.words HEAD
   pub tail : (number : ℕ) → (core.passes number).tail ≤ core.words TAIL
@@ -41,4 +63,5 @@ pub record Loaded (sizes : Sizes) (core : Core) : Type 0 where
   pub length_is : (number : ℕ) → HasMeasured (core.passes number).stage → (core.passes number).sized ≡ true
       → (core.passes number).length ≡ core.words (LENGTH (file_of (core.passes number).call))
   pub clean : (number page : ℕ) → SawClean (core.passes number).stage page → core.words (DIRTY page) ≡ 0
+  pub bounds : (number : ℕ) → Bounds sizes core (core.passes number) (core.passes number).stage
   pub looks : (number : ℕ) → Looks sizes core (core.passes number).stage

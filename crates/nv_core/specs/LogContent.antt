@@ -1,5 +1,5 @@
 -- Content of the log: the parts of the invariant about what the devices hold, where all of them tell.
-use Rattle.std.specs.Prelude.{◌≡◌, ℕ, ◌<◌, ◌≤◌, Bool, List, [], ◌∷◌}
+use Rattle.std.specs.Prelude.{◌≡◌, ℕ, ◌<◌, ◌≤◌, Bool, List, [], ◌∷◌, length}
 use Rattle.nv_plain.specs.Files.{Files}
 use Rattle.nv_pmem.specs.Limits.{IsPageSize}
 use Rattle.nv_pmem.specs.Part.{Part, word_of}
@@ -11,7 +11,6 @@ use Rattle.nv_core.specs.Core.{Core}
 use Rattle.nv_core.specs.Events.{Event, MayCome, after_event, after, IsRun}
 use Rattle.nv_core.specs.Opening.{Mount, IsMount, opening}
 use Rattle.nv_core.specs.Sound.{Sound}
-use Rattle.nv_core.specs.StorePages.{HasFiles}
 use Rattle.nv_core.specs.Groups.{Log, log_after, Groups}
 use Rattle.nv_core.specs.Written.{IsPart, IsBlank, Written}
 use Rattle.nv_core.specs.EntryImages.{EntryImages}
@@ -21,36 +20,44 @@ use Rattle.nv_core.specs.Pieces.{Pieces}
 use Rattle.nv_core.specs.InFlight.{placed_after, InFlight}
 use Rattle.nv_core.specs.Unready.{Unready}
 use Rattle.nv_core.specs.LivePieces.{LivePieces}
+use Rattle.nv_core.specs.Tails.{Tails, still, tails_after}
+use Rattle.nv_core.specs.Progress.{Progress}
+use Rattle.nv_core.specs.Retiring.{Retired}
+use Rattle.nv_core.specs.StorePages.{StoresTell, HasFiles}
 use Rattle.nv_core.specs.Leaders.{Leaders}
 
--- These parts, over the cells' values and the files at opening, the tail that the header has, the log, and which writes are placed.
-pub record LogContent (sizes : Sizes) (first : Values) (opened : Files) (tail : ℕ) (log : Log) (placed : ℕ → Bool) (core : Core) : Type 0 where
+-- These parts, over the cells' values and the files at opening, the tails that the header has, the log, and which writes are placed.
+pub record LogContent (sizes : Sizes) (first : Values) (opened : Files) (tails : Tails) (log : Log) (placed : ℕ → Bool) (core : Core) : Type 0 where
   pub groups : Groups sizes core log
-  pub written : Written sizes tail log core
-  pub header : HeaderStays first tail core.values
+  pub written : Written sizes tails.least log core
+  pub header : HeaderStays first tails core.values
   pub pieces : Pieces sizes log core
   pub flight : InFlight sizes log placed core
   pub unready : Unready sizes log placed core
-  pub live : LivePieces sizes log placed opened core
+  pub live : LivePieces sizes log opened core
+  pub progress : Progress sizes log core
+  pub retired : Retired sizes tails log core
   pub leaders : Leaders sizes log core
+  pub tell : StoresTell sizes core.values
 
 -- ---- events
 
 -- Every event that may come to a sound core keeps them, over the log and the placed writes after it.
 abbrev pub EventsKeepTheLog : Type 0
 EventsKeepTheLog =
-    (sizes : Sizes) (first : Values) (opened : Files) (tail : ℕ) (log : Log) (placed : ℕ → Bool) (core : Core) (event : Event)
-    → IsPageSize sizes.page → Sound sizes first core → LogContent sizes first opened tail log placed core
+    (sizes : Sizes) (first : Values) (opened : Files) (tails : Tails) (log : Log) (placed : ℕ → Bool) (core : Core) (event : Event)
+    → IsPageSize sizes.page → Sound sizes first core → LogContent sizes first opened tails log placed core
     → MayCome sizes event core
-    → LogContent sizes first opened tail (log_after sizes event core log) (placed_after sizes event core placed) (after_event sizes event core)
+    → LogContent sizes first opened (tails_after event core tails) (log_after sizes event core log) (placed_after sizes event core placed) (after_event sizes event core)
 
 -- ---- at opening
 
--- a cell keeps the header's part: it is quiet, and reads this tail
+-- a cell keeps the header's part: it is quiet and has a line 1, and reads this tail
 pub record HasTail (value : Value) (tail : ℕ) : Type 0 where
   pub part : Part
   pub is : IsPart value part
   pub quiet : IsQuiet part
+  pub long : 1 < length part
   pub tail_is : word_of part 1 0 ≡ tail
 
 -- A mount opens an empty log: its header has a tail that is no higher than its next number, and the part of each entry is blank.
@@ -65,11 +72,15 @@ abbrev pub OpeningHasTheLog : Type 0
 OpeningHasTheLog =
     (mount : Mount) (files : Files) (tail : ℕ) (log : Log) (placed : ℕ → Bool)
     → OpensLog mount tail → HasFiles mount.sizes mount.values files
-    → LogContent mount.sizes mount.values files tail log placed (opening mount)
+    → LogContent mount.sizes mount.values files (still tail) log placed (opening mount)
 
 -- ---- runs
 
--- the log after a run, and which writes are placed
+-- the header's tails after a run, the log, and which writes are placed
+abbrev pub tails_after_run : Sizes → Core → List Event → Tails → Tails
+tails_after_run sizes core [] tails = tails
+tails_after_run sizes core (event ∷ later) tails = tails_after_run sizes (after_event sizes event core) later (tails_after event core tails)
+
 abbrev pub log_after_run : Sizes → Core → List Event → Log → Log
 log_after_run sizes core [] log = log
 log_after_run sizes core (event ∷ later) log = log_after_run sizes (after_event sizes event core) later (log_after sizes event core log)
@@ -83,18 +94,18 @@ abbrev pub RunsKeepTheLog : Type 0
 RunsKeepTheLog =
     (mount : Mount) (files : Files) (tail : ℕ) (log : Log) (placed : ℕ → Bool) (events : List Event)
     → IsMount mount → OpensLog mount tail → HasFiles mount.sizes mount.values files → IsRun mount.sizes (opening mount) events
-    → LogContent mount.sizes mount.values files tail (log_after_run mount.sizes (opening mount) events log) (placed_after_run mount.sizes (opening mount) events placed) (after mount.sizes (opening mount) events)
+    → LogContent mount.sizes mount.values files (tails_after_run mount.sizes (opening mount) events (still tail)) (log_after_run mount.sizes (opening mount) events log) (placed_after_run mount.sizes (opening mount) events placed) (after mount.sizes (opening mount) events)
 
 -- ---- what a power failure may leave
 
--- Where they hold, each image of the region has each group as a whole or not at all.
+-- Where they hold, each image of the region has each group that recovery may look at as a whole or not at all.
 abbrev pub GroupsAreInImages : Type 0
 GroupsAreInImages =
-    (sizes : Sizes) (first : Values) (opened : Files) (tail : ℕ) (log : Log) (placed : ℕ → Bool) (core : Core)
-    → 1 ≤ sizes.entries → Sound sizes first core → LogContent sizes first opened tail log placed core → EntryImages sizes log core
+    (sizes : Sizes) (first : Values) (opened : Files) (tails : Tails) (log : Log) (placed : ℕ → Bool) (core : Core)
+    → 1 ≤ sizes.entries → Sound sizes first core → LogContent sizes first opened tails log placed core → EntryImages sizes tails.least log core
 
 -- And no image has a commit word of an earlier turn that would count.
 abbrev pub NoOldWordCounts : Type 0
 NoOldWordCounts =
-    (sizes : Sizes) (first : Values) (opened : Files) (tail : ℕ) (log : Log) (placed : ℕ → Bool) (core : Core)
-    → 1 ≤ sizes.entries → Sound sizes first core → LogContent sizes first opened tail log placed core → StaleWords sizes tail log core
+    (sizes : Sizes) (first : Values) (opened : Files) (tails : Tails) (log : Log) (placed : ℕ → Bool) (core : Core)
+    → 1 ≤ sizes.entries → Sound sizes first core → LogContent sizes first opened tails log placed core → StaleWords sizes tails.least log core

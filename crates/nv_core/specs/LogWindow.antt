@@ -1,6 +1,7 @@
 -- The log's window: which numbers the log has, and what each of their slots is.
-use Rattle.std.specs.Prelude.{◌≡◌, ◌≢◌, ℕ, ◌+◌, ◌^◌, ◌<◌, ◌≤◌}
-use Rattle.nv_core.specs.Words.{Sizes, HEAD, TAIL, ENTRY, kind_of, free, filling}
+use Rattle.std.specs.Prelude.{◌≡◌, ◌≢◌, ◌⊎◌, ℕ, ◌+◌, ◌^◌, ◌<◌, ◌≤◌, true}
+use Rattle.nv_core.specs.Words.{Sizes, STOP, HEAD, TAIL, ENTRY, kind_of, free, filling, cleaned, was_readied}
+use Rattle.nv_core.specs.SweepNumbers.{IsCleaned, IsFreed}
 use Rattle.nv_core.specs.Passes.{Pass, IsUnseized, IsFilling}
 use Rattle.nv_core.specs.Deeds.{slot_of}
 use Rattle.nv_core.specs.Core.{Core}
@@ -20,11 +21,16 @@ InWindow core number = (core.words TAIL ≤ number) × (number < core.words HEAD
 abbrev pub entry_at : Sizes → Core → (number : ℕ) → ℕ
 entry_at sizes core number = core.words (ENTRY (slot_of sizes number))
 
+-- a number's entry was made ready: its word says so still, or a cleaner has freed it and is still to move TAIL
+abbrev pub WasReadied : Sizes → Core → (number : ℕ) → Type 0
+WasReadied sizes core number = (was_readied (entry_at sizes core number) ≡ true) ⊎ ((by : ℕ) × IsFreed (core.passes by).stage number)
+
 -- Each number of the window is drawn and not seized by a pass, being filled by one, ready, held, cleaned or broken: by its word no two
--- of these at once.
+-- of these at once; or it is freed by a cleaner that is still to move TAIL.
 pub data IsNumbered (sizes : Sizes) (core : Core) (number : ℕ) : Type 0 where
   Drawn : (by : ℕ) → HasUnseized (core.passes by) number → IsNumbered sizes core number
   Filling : (by : ℕ) → Fills (core.passes by) number → IsNumbered sizes core number
+  Freed : (by : ℕ) → IsFreed (core.passes by).stage number → IsNumbered sizes core number
   Kept : kind_of (entry_at sizes core number) ≢ free → kind_of (entry_at sizes core number) ≢ filling → IsNumbered sizes core number
 
 pub record LogWindow (sizes : Sizes) (core : Core) : Type 0 where
@@ -36,8 +42,16 @@ pub record LogWindow (sizes : Sizes) (core : Core) : Type 0 where
   pub filling_in : (by number : ℕ) → Fills (core.passes by) number → InWindow core number
   pub unseized_is : (by number : ℕ) → HasUnseized (core.passes by) number → entry_at sizes core number ≡ free
   pub filling_is : (by number : ℕ) → Fills (core.passes by) number → entry_at sizes core number ≡ filling
-  -- no two passes have one number
+  pub freed_in : (by number : ℕ) → IsFreed (core.passes by).stage number → InWindow core number
+  pub freed_is : (by number : ℕ) → IsFreed (core.passes by).stage number → entry_at sizes core number ≡ free
+  -- what a cleaner has cleaned is in the window, and its word says so; and nothing else is cleaned, but after STOP
+  pub cleaned_in : (by number : ℕ) → IsCleaned (core.passes by).stage number → InWindow core number
+  pub cleaned_is : (by number : ℕ) → IsCleaned (core.passes by).stage number → kind_of (entry_at sizes core number) ≡ cleaned
+  pub cleaned_by : (number : ℕ) → InWindow core number → kind_of (entry_at sizes core number) ≡ cleaned → core.words STOP ≡ 0
+      → (by : ℕ) × IsCleaned (core.passes by).stage number
+  -- no two passes have one number, and a freed one is not drawn again
   pub unseized_by_one : (by other number : ℕ) → HasUnseized (core.passes by) number → HasUnseized (core.passes other) number → by ≡ other
+  pub freed_by_none : (by other number : ℕ) → HasUnseized (core.passes by) number → IsFreed (core.passes other).stage number → ⊥
   -- each number is one of these, and the other slots are free
   pub each : (number : ℕ) → InWindow core number → IsNumbered sizes core number
   pub others : (slot : ℕ) → slot < sizes.entries → ((number : ℕ) → InWindow core number → slot_of sizes number ≢ slot)

@@ -1,5 +1,5 @@
 -- The order of steps: when a step or a device call of a pass may come.
-use Rattle.std.specs.Prelude.{◌≡◌, ◌⊎◌, ℕ, ◌+◌, ◌-◌, ◌*◌, ◌%◌, ◌<◌, ◌≤◌, ◌==◌, Bool, true, false, if◌then◌else◌, List, [], ◌∷◌, length, slice_index_or, Option, Some, None}
+use Rattle.std.specs.Prelude.{◌≡◌, ◌⊎◌, ℕ, ◌+◌, ◌-◌, ◌*◌, ◌%◌, ◌<◌, ◌≤◌, ◌==◌, Bool, true, false, if◌then◌else◌, List, [], ◌∷◌, length, slice_index_or, Option, Some, None, option_map}
 use Rattle.std.specs.List.{flat_map, range_with_len}
 use Rattle.nv_plain.specs.Faults.{Rose}
 use Rattle.nv_plain.specs.Files.{bytes_at, padded}
@@ -13,12 +13,18 @@ use Rattle.nv_pmem.specs.Part.{Part, word_of as word_of_part}
 use Rattle.nv_pmem.specs.Room.{Room}
 use Rattle.nv_pmem.specs.RoomSteps.{RoomAfter, RoomAfterFault}
 use Rattle.nv_pmem.specs.Rows.{RowStep}
+use Rattle.nv_pmem.specs.Steps.{Step}
 use Rattle.nv_store.specs.Store.{Store}
+use Rattle.nv_store.specs.Steps.{Write as StoreWrite, after_step as after_store_step}
+use Rattle.nv_store.specs.Torn.{IsTorn}
 use Rattle.nv_entry.specs.Group.{group_steps}
-use Rattle.nv_core.specs.Words.{Sizes, Word, STOP, ORDER, HEAD, TAIL, LENGTH, SIZE, STORE, ENTRY, HINT, PAGE, CLEANUP, DIRTY}
-use Rattle.nv_core.specs.Values.{Value, APart, AStore, Job, Writes, Reads, Peeks, Ending, Made, Failed, lacks_buffer, is_valid, bytes_in}
-use Rattle.nv_core.specs.Passes.{Stage, Locking, Measuring, Sizing, Checking, Ordering, Reading, Waiting, Fetching, Copying, Returning, Search, Hinting, Seeking, Robbing, Robbed, Nothing, Found, Searching, Bounding, Starting, Scanning, Grasping, Patching, Restoring, Unlocking, Heading, Tailing, Drawing, Seizing, Committing, Pledging, Readying, Placing, Growing, Releasing, Giving, Leaving, ReadFailing, PieceFailing, WriteFailing, Breaking, Pass, file_of, at_of, covered, end_read, first_page, IsLastTaken, times}
-use Rattle.nv_core.specs.Deeds.{Deed, Loads, Takes, Gives, Places, Stops, Draws, Seizes, Pledges, Readies, Grows, Breaks, Turns, Hints, Holds, Returns, slot_of}
+use Rattle.nv_core.specs.Words.{Sizes, Word, STOP, ORDER, HEAD, TAIL, LENGTH, SIZE, STORE, ENTRY, HINT, PAGE, CLEANUP, DIRTY, HEADER}
+use Rattle.nv_core.specs.Values.{Value, APart, AStore, Job, Writes, Reads, Peeks, Ending, Made, Failed, lacks_buffer, is_valid, bytes_in, Carries, Syncs, Refused}
+use Rattle.nv_core.specs.Passes.{Stage, Locking, Measuring, Sizing, Checking, Ordering, Reading, Waiting, Fetching, Copying, Returning, Search, Hinting, Seeking, Robbing, Robbed, Nothing, Found, Searching, Bounding, Starting, Scanning, Grasping, Patching, Restoring, Unlocking, Heading, Tailing, Drawing, Seizing, Committing, Pledging, Readying, Placing, Growing, Releasing, Giving, Leaving, ReadFailing, PieceFailing, WriteFailing, Breaking, Pass, file_of, at_of, covered, end_read, first_page, IsLastTaken, times, Idle, Cleaning}
+use Rattle.nv_core.specs.Deeds.{Deed, Loads, Takes, Gives, Places, Stops, Draws, Seizes, Pledges, Readies, Grows, Breaks, Turns, Hints, Holds, Returns, slot_of, Tends}
+use Rattle.nv_header.specs.HeaderSteps.{tail_steps}
+use Rattle.nv_core.specs.Sweeps.{Batch, Sweep, Peeking, Carrying, Syncing, Moving, Chore, Enters}
+use Rattle.nv_core.specs.Chores.{group_file, next_chore}
 
 -- what the cells keep, by their words
 abbrev pub Values : Type 0
@@ -151,6 +157,12 @@ IsFailing (PieceFailing page number) = Unit {0}
 IsFailing WriteFailing = Unit {0}
 IsFailing stage = ⊥
 
+-- a cleaner may make this step: an idle pass may begin a batch, and one that is at its batch makes the step that is next
+abbrev pub MayTend : Sizes → Pass → Chore → Stage → Type 0
+MayTend sizes pass chore (Cleaning batch sweep) = next_chore sizes pass.hands batch sweep ≡ Some chore
+MayTend sizes pass (Enters most) Idle = Unit {0}
+MayTend sizes pass chore stage = ⊥
+
 -- a step may come
 abbrev pub MayStep : Sizes → Values → Pass → Deed → Type 0
 MayStep sizes values pass (Loads word) = MayLoad sizes values pass word
@@ -164,6 +176,7 @@ MayStep sizes values pass (Pledges page) = pass.stage ≡ Pledging page
 MayStep sizes values pass (Readies number) = pass.stage ≡ Readying number
 MayStep sizes values pass Grows = pass.stage ≡ Growing
 MayStep sizes values pass (Breaks number) = pass.stage ≡ Breaking number
+MayStep sizes values pass (Tends chore) = MayTend sizes pass chore pass.stage
 MayStep sizes values pass (Holds number) = (page : ℕ) × (pass.stage ≡ Grasping page number)
 MayStep sizes values pass (Returns number) = (page : ℕ) × (failed : Bool) × (pass.stage ≡ Restoring page number failed)
 MayStep sizes values pass (Turns page) = MayTurn sizes values pass page
@@ -230,17 +243,55 @@ pub record IsPieceRead (sizes : Sizes) (values : Values) (number : ℕ) (work : 
   pub job : work.job ≡ Peeks at bytes
   pub says : SaysPieceOf sizes at bytes (values (ENTRY (slot_of sizes number)))
 
--- A device call ends by a fault only where the count rose.
+-- a write of an entry's piece to the store of its file
+pub record IsCarried (sizes : Sizes) (values : Values) (batch : Batch) (number : ℕ) (work : Work) : Type 0 where
+  pub at : ℕ
+  pub bytes : List ℕ
+  pub left : Option Store
+  pub cell : work.cell ≡ STORE (group_file sizes batch)
+  pub job : work.job ≡ Carries at bytes left
+  pub says : SaysPieceOf sizes at bytes (values (ENTRY (slot_of sizes number)))
+
+-- the next device call of the move of the header's tail
+pub record IsTailCall (tail calls : ℕ) (work : Work) : Type 0 where
+  pub step : Step
+  pub there : calls < length (tail_steps tail)
+  pub at : slice_index_or (tail_steps tail) calls step ≡ step
+  pub cell : work.cell ≡ HEADER
+  pub room : Room
+  pub job : work.job ≡ Writes step room
+
+-- the next device call of a cleaner
+abbrev pub IsChoreDue : Sizes → Values → Batch → Work → Sweep → Type 0
+IsChoreDue sizes values batch work (Peeking i) = IsPieceRead sizes values (batch.reached + i) work
+IsChoreDue sizes values batch work (Carrying i) = IsCarried sizes values batch (batch.reached + i) work
+IsChoreDue sizes values batch work (Syncing (file ∷ rest)) = (work.cell ≡ STORE file) × (work.job ≡ Syncs)
+IsChoreDue sizes values batch work (Moving calls) = IsTailCall batch.reached calls work
+IsChoreDue sizes values batch work sweep = ⊥
+
+-- A device call ends by a fault only where the count rose. Only a store may refuse one for want of memory.
 abbrev pub MayEnd : Value → Ending → Type 0
 MayEnd value Made = Unit {0}
 MayEnd (APart device room) (Failed came faults) = Rose device.faults faults
 MayEnd (AStore device) (Failed came faults) = Rose device.faults faults
 MayEnd value (Failed came faults) = ⊥
+MayEnd (AStore device) Refused = Unit {0}
+MayEnd value Refused = ⊥
 
--- It leaves a part the room that the clauses of its step promise.
+-- a write to a store that failed has left it torn
+abbrev pub IsTornOf : (at count : ℕ) → (old new : Option Store) → Type 0
+IsTornOf at count (Some old) (Some new) = IsTorn at count old new
+IsTornOf at count old new = ⊥
+
+-- It leaves a part the room that the clauses of its step promise, and a store written, as it was or torn, or, where it refused, as it was.
 abbrev pub MayLeave : Value → Job → Ending → Type 0
 MayLeave (APart device before) (Writes step room) Made = RoomAfter step before room
 MayLeave (APart device before) (Writes step room) (Failed came faults) = RoomAfterFault step before room
+MayLeave (AStore device) (Carries at bytes left) Made = left ≡ option_map (after_store_step (StoreWrite at bytes)) device.told
+MayLeave (AStore device) (Carries at bytes left) (Failed came faults) = (left ≡ device.told) ⊎ IsTornOf at (length bytes) device.told left
+MayLeave (AStore device) (Carries at bytes left) Refused = left ≡ device.told
+MayLeave value (Carries at bytes left) ending = ⊥
+MayLeave value job Refused = ⊥
 MayLeave value job ending = Unit {0}
 
 -- a device call may come
@@ -248,6 +299,7 @@ abbrev pub IsDue : Sizes → Values → Pass → Work → Stage → Type 0
 IsDue sizes values pass work (Committing calls) = IsNextCall sizes pass calls work
 IsDue sizes values pass work (Copying page dirty) = IsPageRead sizes values pass page work
 IsDue sizes values pass work (Patching page number) = IsPieceRead sizes values number work
+IsDue sizes values pass work (Cleaning batch sweep) = IsChoreDue sizes values batch work sweep
 IsDue sizes values pass work stage = ⊥
 
 pub record MayWork (sizes : Sizes) (values : Values) (pass : Pass) (work : Work) : Type 0 where

@@ -6,6 +6,7 @@ use Rattle.nv_plain.specs.Pieces.{pages_touched}
 use Rattle.nv_plain.specs.declared.call.FileCall.{FileCall}
 use Rattle.nv_plain.specs.declared.call.FileCall.TheVariants.{Read, Write, Sync}
 use Rattle.nv_core.specs.Words.{Sizes, Word, same}
+use Rattle.nv_core.specs.Sweeps.{Batch, Sweep, Lifting, Peeking, Carrying, Setting, Dropping, Undoing, Failing}
 
 -- A read's search for a buffer, in the try at hand: HINT of this buffer is loaded next; PAGE of the hinted page, the victim, is tried next;
 -- it is held, and given back next; it is given back; the try found nothing; HINT is set.
@@ -64,6 +65,8 @@ pub data Stage : Type 0 where
   PieceFailing : (page number : ℕ) → Stage
   WriteFailing : Stage
   Breaking : (number : ℕ) → Stage
+  -- no call, but a batch of the cleaner
+  Cleaning : Batch → Sweep → Stage
 
 -- A call that ended by a fault: its first number and how many it had drawn, and LENGTH as it had loaded it.
 pub record Fault : Type 0 where
@@ -212,9 +215,25 @@ IsFilling WriteFailing first entries number = IsAmong first entries number
 IsFilling (Breaking next) first entries number = (next ≤ number) × (number < first + entries)
 IsFilling _ first entries number = ⊥
 
--- the number whose entry a read holds
+-- a number of the group at hand, from one place on and below another
+abbrev pub IsOfGroup : Batch → (from end number : ℕ) → Type 0
+IsOfGroup batch from end number = (batch.reached + from ≤ number) × (number < batch.reached + end)
+
+-- the numbers whose entries a cleaner holds
+abbrev pub IsSwept : Batch → Sweep → (number : ℕ) → Type 0
+IsSwept batch (Lifting i) number = IsOfGroup batch 0 i number
+IsSwept batch (Peeking i) number = IsOfGroup batch 0 (i + 1) number
+IsSwept batch (Carrying i) number = IsOfGroup batch 0 (i + 1) number
+IsSwept batch (Setting i) number = IsOfGroup batch i (length batch.pages) number
+IsSwept batch (Dropping i end) number = IsOfGroup batch i end number
+IsSwept batch (Undoing i end) number = IsOfGroup batch i end number
+IsSwept batch (Failing held) number = IsOfGroup batch 0 held number
+IsSwept batch sweep number = ⊥
+
+-- the numbers whose entries a pass holds: the one whose piece a read reads, or those that a cleaner carries
 abbrev pub IsHeld : Stage → (number : ℕ) → Type 0
 IsHeld (Patching page next) number = number ≡ next
 IsHeld (Restoring page next failed) number = number ≡ next
 IsHeld (PieceFailing page next) number = number ≡ next
+IsHeld (Cleaning batch sweep) number = IsSwept batch sweep number
 IsHeld stage number = ⊥

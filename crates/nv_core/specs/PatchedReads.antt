@@ -1,7 +1,7 @@
 -- Patched reads: how far a read is with a page that has entries.
-use Rattle.std.specs.Prelude.{◌≡◌, ◌≢◌, ℕ, ◌+◌, ◌-◌, true, false, List}
+use Rattle.std.specs.Prelude.{◌≡◌, ℕ, ◌+◌, ◌-◌, true, false, List}
 use Rattle.nv_plain.specs.Files.{Files}
-use Rattle.nv_core.specs.Words.{Sizes, TAIL, ENTRY, kind_of, cleaned}
+use Rattle.nv_core.specs.Words.{Sizes, TAIL}
 use Rattle.nv_core.specs.Passes.{Stage, Returning, Bounding, Starting, Scanning, Grasping, Patching, Restoring, Unlocking, fetched_bytes}
 use Rattle.nv_core.specs.Core.{Core}
 use Rattle.nv_core.specs.Groups.{Log}
@@ -13,10 +13,15 @@ use Rattle.nv_core.specs.PatchedPages.{patched_from}
 abbrev pub HasStores : Sizes → Core → (fetched : List (ℕ × List ℕ)) → (page : ℕ) → Type 0
 HasStores sizes core fetched page = fetched_bytes fetched page ≡ page_in sizes (store_files sizes core.values) page
 
--- it is the page after the history, once overwritten by the pieces of the numbers from one on, below HEAD as the read loaded it
+-- a number, or TAIL where that is higher
+abbrev pub in_window_from : Core → (from : ℕ) → ℕ
+in_window_from core from = from + (core.words TAIL - from)
+
+-- It is the page after the history, once overwritten by the pieces of the numbers from one on, below HEAD as the read loaded it, that the window
+-- still has and whose entries aren't cleaned.
 abbrev pub LacksFrom : Sizes → Log → Files → Core → (fetched : List (ℕ × List ℕ)) → (head page from : ℕ) → Type 0
 LacksFrom sizes log opening core fetched head page from =
-    patched_from sizes log core page from (head - from) (fetched_bytes fetched page) ≡ page_now sizes opening core page
+    patched_from sizes log core page (in_window_from core from) (head - in_window_from core from) (fetched_bytes fetched page) ≡ page_now sizes opening core page
 
 -- or it is that page
 abbrev pub HasAll : Sizes → Files → Core → (fetched : List (ℕ × List ℕ)) → (page : ℕ) → Type 0
@@ -26,7 +31,7 @@ HasAll sizes opening core fetched page = fetched_bytes fetched page ≡ page_now
 abbrev pub PatchedAt : Sizes → Log → Files → Core → (fetched : List (ℕ × List ℕ)) → (head : ℕ) → Stage → Type 0
 PatchedAt sizes log opening core fetched head (Returning page true) = HasStores sizes core fetched page
 PatchedAt sizes log opening core fetched head (Bounding page) = HasStores sizes core fetched page
-PatchedAt sizes log opening core fetched head (Starting page) = LacksFrom sizes log opening core fetched head page (core.words TAIL)
+PatchedAt sizes log opening core fetched head (Starting page) = LacksFrom sizes log opening core fetched head page 0
 PatchedAt sizes log opening core fetched head (Scanning page number) = LacksFrom sizes log opening core fetched head page number
 PatchedAt sizes log opening core fetched head (Grasping page number) = LacksFrom sizes log opening core fetched head page number
 PatchedAt sizes log opening core fetched head (Patching page number) = LacksFrom sizes log opening core fetched head page number
@@ -34,7 +39,6 @@ PatchedAt sizes log opening core fetched head (Restoring page number false) = La
 PatchedAt sizes log opening core fetched head (Unlocking page) = HasAll sizes opening core fetched page
 PatchedAt sizes log opening core fetched head stage = Unit {0}
 
--- Each read is so far with its page. No entry is cleaned: a read that passes one by would lack its piece.
+-- Each read is so far with its page.
 pub record PatchedReads (sizes : Sizes) (log : Log) (opening : Files) (core : Core) : Type 0 where
   pub each : (number : ℕ) → PatchedAt sizes log opening core (core.passes number).fetched (core.passes number).head (core.passes number).stage
-  pub uncleaned : (slot : ℕ) → kind_of (core.words (ENTRY slot)) ≢ cleaned

@@ -1,9 +1,9 @@
 -- Pieces: what the ENTRY words of entries that were made ready say.
 use Rattle.std.specs.Prelude.{◌≡◌, ◌≢◌, ◌⊎◌, ℕ, ◌+◌, ◌-◌, ◌<◌, ◌==◌, true, if◌then◌else◌}
-use Rattle.nv_core.specs.Words.{Sizes, kind_of, was_readied, entry_word}
+use Rattle.nv_core.specs.Words.{Sizes, kind_of, cleaned, was_readied, entry_word}
 use Rattle.nv_core.specs.Passes.{Stage, Readying, IsAmong, first_page}
 use Rattle.nv_core.specs.Core.{Core}
-use Rattle.nv_core.specs.LogWindow.{InWindow, entry_at}
+use Rattle.nv_core.specs.LogWindow.{InWindow, entry_at, WasReadied}
 use Rattle.nv_core.specs.Groups.{Group, Log}
 
 -- the page on which a number of a group has its piece
@@ -20,11 +20,12 @@ IsReadied (Readying next) first entries number = IsAmong first entries number ×
 IsReadied stage first entries number = ⊥
 
 -- Each entry of a write is that of its piece on one page: one that was made ready says so. Where a leader was made ready its followers
--- were, and a pass's followers are made ready one after another before it.
+-- were, and a pass's followers are made ready one after another before it. The leader of one that is cleaned was made ready, and may be freed.
 pub record Pieces (sizes : Sizes) (log : Log) (core : Core) : Type 0 where
   pub says : (number : ℕ) → InWindow core number → was_readied (entry_at sizes core number) ≡ true
       → entry_at sizes core number ≡ word_of_number sizes (log.group number) (kind_of (entry_at sizes core number)) number
   pub followers : (number other : ℕ) → InWindow core number → (log.group number).first ≡ number → was_readied (entry_at sizes core number) ≡ true
       → IsAmong number (log.group number).entries other → was_readied (entry_at sizes core other) ≡ true
+  pub leaders : (number : ℕ) → InWindow core number → kind_of (entry_at sizes core number) ≡ cleaned → WasReadied sizes core (log.group number).first
   pub readied : (by number : ℕ) → IsReadied (core.passes by).stage (core.passes by).first (core.passes by).entries number
       → was_readied (entry_at sizes core number) ≡ true

@@ -1,14 +1,16 @@
 -- Rooms: which parts can take the stores of an entry, or of the header's tail.
-use Rattle.std.specs.Prelude.{◌≡◌, ℕ, suc, ◌-◌, ◌<◌, true, List, [], drop}
+use Rattle.std.specs.Prelude.{◌≡◌, ℕ, zero, suc, ◌-◌, ◌<◌, true, List, [], drop}
 use Rattle.nv_plain.specs.Layouts.{version_1}
 use Rattle.nv_pmem.specs.RoomSteps.{EndWith}
 use Rattle.nv_pmem.specs.Rows.{steps_on}
 use Rattle.nv_pmem.specs.Steps.{Step}
 use Rattle.nv_entry.specs.Group.{IsReady}
+use Rattle.nv_header.specs.HeaderSteps.{tail_steps}
 use Rattle.nv_header.specs.Regions.{IsRoomy}
-use Rattle.nv_core.specs.Words.{Sizes, HEADER, ENTRY, was_readied, free}
+use Rattle.nv_core.specs.Sweeps.{Sweep, Footing, Topping, Surveying, Claiming, Storing, Lifting, Peeking, Carrying, Setting, Subtracting, Disclaiming, Dropping, Retreating, Syncing, Moving, Failing}
+use Rattle.nv_core.specs.Words.{Sizes, STOP, HEADER, ENTRY, was_readied, free}
 use Rattle.nv_core.specs.Values.{Value, APart}
-use Rattle.nv_core.specs.Passes.{Stage, Committing, WriteFailing, Breaking, Pass}
+use Rattle.nv_core.specs.Passes.{Stage, Committing, WriteFailing, Breaking, Cleaning, Pass}
 use Rattle.nv_core.specs.Deeds.{slot_of}
 use Rattle.nv_core.specs.Order.{commit_steps}
 use Rattle.nv_core.specs.Core.{Core}
@@ -32,15 +34,53 @@ FillsReady sizes pass WriteFailing number value = Unit {0}
 FillsReady sizes pass (Breaking next) number value = Unit {0}
 FillsReady sizes pass stage number value = KeepsReady sizes value
 
--- a cell keeps a header's part, and each of its lines can take 15 contents
+-- a cell keeps a header's part, and each of its lines can take 15 contents after some steps, whatever room they leave
+abbrev pub EndsRoomy : List Step → Value → Type 0
+EndsRoomy steps (APart device room) = EndWith (IsRoomy version_1.header_lines) steps room
+EndsRoomy steps value = ⊥
+
+-- and so it is now
 abbrev pub KeepsRoomy : Value → Type 0
 KeepsRoomy (APart device room) = IsRoomy version_1.header_lines room
 KeepsRoomy value = ⊥
 
--- The parts of entries that are free or were made ready are ready for an entry, and those being filled come to be so. The header's part has room.
+-- a cleaner has begun to move the header's tail, or has met a fault, and not yet set STOP
+abbrev pub IsMoving : Stage → Type 0
+IsMoving (Cleaning batch (Moving (suc calls))) = Unit {0}
+IsMoving (Cleaning batch (Failing held)) = Unit {0}
+IsMoving stage = ⊥
+
+-- a cleaner has found STOP at 0, and not begun to move the tail
+abbrev pub IsUnmoved : Sweep → Type 0
+IsUnmoved Footing = Unit {0}
+IsUnmoved Topping = Unit {0}
+IsUnmoved (Surveying i) = Unit {0}
+IsUnmoved (Claiming i) = Unit {0}
+IsUnmoved Storing = Unit {0}
+IsUnmoved (Lifting i) = Unit {0}
+IsUnmoved (Peeking i) = Unit {0}
+IsUnmoved (Carrying i) = Unit {0}
+IsUnmoved (Setting i) = Unit {0}
+IsUnmoved (Subtracting i) = Unit {0}
+IsUnmoved (Disclaiming i) = Unit {0}
+IsUnmoved (Dropping i end) = Unit {0}
+IsUnmoved (Retreating i) = Unit {0}
+IsUnmoved (Syncing files) = Unit {0}
+IsUnmoved (Moving zero) = Unit {0}
+IsUnmoved sweep = ⊥
+
+-- then the header's part has room, and while it moves the tail, that part comes to have it by the calls that are still to come
+abbrev pub MovesRoomy : Stage → Value → Type 0
+MovesRoomy (Cleaning batch (Moving (suc calls))) value = EndsRoomy (drop (suc calls) (tail_steps batch.reached)) value
+MovesRoomy (Cleaning batch sweep) value = IsUnmoved sweep → KeepsRoomy value
+MovesRoomy stage value = Unit {0}
+
+-- The parts of entries that are free or were made ready are ready for an entry, and those being filled come to be so. The header's part has room where
+-- STOP is 0 and no cleaner moves the tail, and for a cleaner that is still to move it, and else comes to have it.
 pub record Rooms (sizes : Sizes) (core : Core) : Type 0 where
   pub free : (slot : ℕ) → slot < sizes.entries → core.words (ENTRY slot) ≡ free → KeepsReady sizes (core.values (ENTRY slot))
   pub ready : (slot : ℕ) → slot < sizes.entries → was_readied (core.words (ENTRY slot)) ≡ true → KeepsReady sizes (core.values (ENTRY slot))
   pub filling : (by number : ℕ) → Fills (core.passes by) number
       → FillsReady sizes (core.passes by) (core.passes by).stage number (core.values (ENTRY (slot_of sizes number)))
-  pub header : KeepsRoomy (core.values HEADER)
+  pub header : core.words STOP ≡ 0 → ((by : ℕ) → IsMoving (core.passes by).stage → ⊥) → KeepsRoomy (core.values HEADER)
+  pub moving : (by : ℕ) → MovesRoomy (core.passes by).stage (core.values HEADER)

@@ -19,6 +19,16 @@ use Rattle.nv_core.specs.BuffersKept.{BuffersKept}
 use Rattle.nv_core.specs.Searches.{Searches}
 use Rattle.nv_core.specs.Devices.{Devices}
 use Rattle.nv_core.specs.Rooms.{Rooms}
+use Rattle.nv_core.specs.Groups.{Log, Groups}
+use Rattle.nv_core.specs.Pieces.{Pieces}
+use Rattle.nv_core.specs.Progress.{Progress}
+
+-- The log's numbers are whole groups by their words, in which cleaners go on; for some log, whatever the devices tell.
+pub record Grouped (sizes : Sizes) (core : Core) : Type 0 where
+  pub log : Log
+  pub groups : Groups sizes core log
+  pub pieces : Pieces sizes log core
+  pub progress : Progress sizes log core
 
 -- The parts of the invariant, over the cells' values at opening.
 pub record Sound (sizes : Sizes) (first : Values) (core : Core) : Type 0 where
@@ -38,3 +48,4 @@ pub record Sound (sizes : Sizes) (first : Values) (core : Core) : Type 0 where
   pub searches : Searches sizes core
   pub devices : Devices first core.values
   pub rooms : Rooms sizes core
+  pub grouped : Grouped sizes core

@@ -2,9 +2,11 @@
 use Rattle.std.specs.Prelude.{ℕ, ◌+◌, ◌%◌, ◌^◌, ◌==◌, nat_lt, nat_le, Bool, true, false, not, ◌&&◌, if◌then◌else◌, List, [], ◌∷◌}
 use Rattle.nv_plain.specs.declared.call.FileCall.{FileCall}
 use Rattle.nv_core.specs.Words.{Sizes, Word, STOP, ORDER, HEAD, TAIL, LENGTH, SIZE, STORE, ENTRY, HINT, PAGE, CLEANUP, DIRTY, ready, is_entry_of}
-use Rattle.nv_core.specs.Passes.{Stage, Idle, Locking, Measuring, Sizing, Checking, Ordering, Reading, Waiting, Search, Hinting, Seeking, Robbing, Robbed, Nothing, Found, Searching, Fetching, Copying, Returning, Bounding, Starting, Scanning, Grasping, Patching, Restoring, Unlocking, Heading, Tailing, Drawing, Seizing, Committing, Pledging, Readying, Placing, Growing, Releasing, Giving, Leaving, PieceFailing, WriteFailing, Breaking, Pass, at_of, len_of, is_write, is_read, page_count, first_page, end_page, without}
-use Rattle.nv_core.specs.Deeds.{Deed, slot_of, Loads, Takes, Gives, Places, Stops, Draws, Seizes, Pledges, Readies, Grows, Breaks, Turns, Hints, Holds, Returns}
+use Rattle.nv_core.specs.Passes.{Stage, Idle, Locking, Measuring, Sizing, Checking, Ordering, Reading, Waiting, Search, Hinting, Seeking, Robbing, Robbed, Nothing, Found, Searching, Fetching, Copying, Returning, Bounding, Starting, Scanning, Grasping, Patching, Restoring, Unlocking, Heading, Tailing, Drawing, Seizing, Committing, Pledging, Readying, Placing, Growing, Releasing, Giving, Leaving, PieceFailing, WriteFailing, Breaking, Pass, at_of, len_of, is_write, is_read, page_count, first_page, end_page, without, Cleaning}
+use Rattle.nv_core.specs.Deeds.{Deed, slot_of, Loads, Takes, Gives, Places, Stops, Draws, Seizes, Pledges, Readies, Grows, Breaks, Turns, Hints, Holds, Returns, moved, chore_move, Tends}
 use Rattle.nv_core.specs.Holding.{is_among}
+use Rattle.nv_core.specs.Sweeps.{Chore, Enters, Barring}
+use Rattle.nv_core.specs.Chores.{new_batch, after_chore}
 
 -- a test is true
 abbrev pub IsSo : Bool → Type 0
@@ -26,6 +28,7 @@ turn (Giving page) = 7
 turn Leaving = 0
 turn (Breaking number) = 0
 turn (Restoring page number true) = 0
+turn (Cleaning batch sweep) = 0
 turn stage = 5
 
 -- it is at one of these, both included
@@ -154,6 +157,12 @@ after_return sizes pass (Restoring page number failed) =
     if failed then leaving (without (ENTRY (slot_of sizes number)) pass.hands) else scanning pass page (number + 1)
 after_return sizes pass stage = stage
 
+-- A cleaner begins, or goes on. Its hands are those after the step.
+abbrev pub after_tending : Sizes → (hands : List Word) → Chore → (found : ℕ) → Stage → Stage
+after_tending sizes hands chore found (Cleaning batch sweep) = after_chore sizes hands batch sweep found
+after_tending sizes hands (Enters most) found Idle = if found == 0 then Cleaning (new_batch most) Barring else Idle
+after_tending sizes hands chore found stage = stage
+
 abbrev pub stage_after : Sizes → Pass → Deed → (found : ℕ) → Stage
 stage_after sizes pass (Loads word) found = after_load sizes pass word found
 stage_after sizes pass (Takes cell) found = if found == 0 then after_take sizes pass cell else refused pass.hands cell pass.stage
@@ -170,6 +179,7 @@ stage_after sizes pass Grows found = ending sizes pass
 stage_after sizes pass (Breaks number) found =
     if number + 1 == pass.first + pass.entries then leaving (without (ENTRY (slot_of sizes number)) pass.hands) else Breaking (number + 1)
 stage_after sizes pass (Holds number) found = after_hold pass.stage
+stage_after sizes pass (Tends chore) found = after_tending sizes (moved (chore_move sizes chore found) pass.hands) chore found pass.stage
 stage_after sizes pass (Returns number) found = after_return sizes pass pass.stage
 stage_after sizes pass (Turns page) found = Searching page (tries_of pass.stage + 1) (Hinting (found % sizes.buffers))
 stage_after sizes pass (Hints buffer page) found = Searching page (tries_of pass.stage) Found

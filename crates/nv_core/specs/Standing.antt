@@ -1,9 +1,11 @@
 -- Standing: what is so of a pass by where it stands in the order of steps.
-use Rattle.std.specs.Prelude.{◌≡◌, ◌≢◌, ℕ, ◌+◌, ◌^◌, ◌<◌, ◌≤◌, true, false, []}
+use Rattle.std.specs.Prelude.{◌≡◌, ◌≢◌, ℕ, zero, suc, ◌+◌, ◌^◌, ◌<◌, ◌≤◌, Bool, true, false, List, [], length}
+use Rattle.nv_header.specs.HeaderSteps.{tail_steps}
 use Rattle.nv_plain.specs.declared.call.FileCall.{FileCall}
-use Rattle.nv_core.specs.Words.{Sizes}
+use Rattle.nv_core.specs.Words.{Sizes, Word}
+use Rattle.nv_core.specs.Sweeps.{Batch, Sweep, Barring, Minding, Footing, Topping, Surveying, Claiming, Storing, Lifting, Peeking, Carrying, Setting, Subtracting, Disclaiming, Dropping, Undoing, Retreating, Syncing, Moving, Freeing, Retiring, Discharging, Failing, Withdrawing}
 use Rattle.nv_core.specs.Stages.{exceeds}
-use Rattle.nv_core.specs.Passes.{Stage, Idle, Locking, Sizing, Reading, Waiting, Fetching, Copying, Returning, Search, Seeking, Robbing, Searching, Bounding, Starting, Scanning, Grasping, Patching, Restoring, Unlocking, Heading, Tailing, Drawing, Seizing, Committing, Pledging, Readying, Growing, Releasing, Giving, Leaving, ReadFailing, PieceFailing, WriteFailing, Breaking, Pass, IsAllowed, IsAmong, is_read, is_write, page_count, first_page, end_page}
+use Rattle.nv_core.specs.Passes.{Stage, Idle, Locking, Sizing, Reading, Waiting, Fetching, Copying, Returning, Search, Seeking, Robbing, Searching, Bounding, Starting, Scanning, Grasping, Patching, Restoring, Unlocking, Heading, Tailing, Drawing, Seizing, Committing, Pledging, Readying, Growing, Releasing, Giving, Leaving, ReadFailing, PieceFailing, WriteFailing, Breaking, Pass, IsAllowed, IsAmong, is_read, is_write, page_count, first_page, end_page, Cleaning}
 use Rattle.nv_core.specs.Holding.{is_among}
 
 -- a page of a call
@@ -33,6 +35,34 @@ abbrev pub IsElsewhere : Sizes → FileCall → Search → Type 0
 IsElsewhere sizes call (Seeking buffer victim) = is_among (first_page sizes call) (end_page sizes call) victim ≡ false
 IsElsewhere sizes call (Robbing buffer victim) = is_among (first_page sizes call) (end_page sizes call) victim ≡ false
 IsElsewhere sizes call search = Unit {0}
+
+-- what a cleaner needs to stand where it does
+abbrev pub StandsSweeping : Batch → (hands : List Word) → Sweep → Type 0
+StandsSweeping batch hands Barring = length batch.pages ≡ 0
+StandsSweeping batch hands Minding = length batch.pages ≡ 0
+StandsSweeping batch hands Footing = length batch.pages ≡ 0
+StandsSweeping batch hands Topping = length batch.pages ≡ 0
+StandsSweeping batch hands (Surveying zero) = (length batch.pages ≡ 0) × (batch.reached < batch.head)
+StandsSweeping batch hands (Surveying (suc i)) = (length batch.pages ≡ suc i) × (suc i < batch.count)
+StandsSweeping batch hands (Claiming i) = i < length batch.pages
+StandsSweeping batch hands Storing = 0 < length batch.pages
+StandsSweeping batch hands (Lifting i) = i < length batch.pages
+StandsSweeping batch hands (Peeking i) = i < length batch.pages
+StandsSweeping batch hands (Carrying i) = i < length batch.pages
+StandsSweeping batch hands (Setting i) = i < length batch.pages
+StandsSweeping batch hands (Subtracting i) = i < length batch.pages
+StandsSweeping batch hands (Disclaiming i) = i < length batch.pages
+StandsSweeping batch hands (Dropping i end) = (i < end) × (end ≤ length batch.pages)
+StandsSweeping batch hands (Undoing i end) = (i < end) × (end ≤ length batch.pages)
+StandsSweeping batch hands (Retreating i) = i < length batch.pages
+StandsSweeping batch hands (Syncing files) = (files ≢ []) × (batch.tail < batch.reached)
+StandsSweeping batch hands (Moving calls) = (calls < length (tail_steps batch.reached)) × (batch.tail < batch.reached)
+StandsSweeping batch hands (Freeing number) = (batch.tail ≤ number) × (number < batch.reached)
+StandsSweeping batch hands Retiring = batch.tail < batch.reached
+StandsSweeping batch hands (Discharging files) = files ≢ []
+StandsSweeping batch hands (Failing held) = held ≤ length batch.pages
+StandsSweeping batch hands Withdrawing = hands ≢ []
+StandsSweeping batch hands sweep = Unit {0}
 
 -- what it needs to stand where it does
 abbrev pub StandsAt : Sizes → Pass → Stage → Type 0
@@ -66,9 +96,16 @@ StandsAt sizes pass (ReadFailing page dirty) = ReadsPage sizes pass page
 StandsAt sizes pass (PieceFailing page number) = ReadsPage sizes pass page × (number < pass.head)
 StandsAt sizes pass WriteFailing = HasDrawn sizes pass.call pass.entries
 StandsAt sizes pass (Breaking number) = HasDrawn sizes pass.call pass.entries × IsAmong pass.first pass.entries number
+StandsAt sizes pass (Cleaning batch sweep) = StandsSweeping batch pass.hands sweep
 StandsAt sizes pass stage = Unit {0}
 
--- A pass stands so, and its call is one that may be begun.
+-- a pass has a call at hand
+abbrev pub has_call : Stage → Bool
+has_call Idle = false
+has_call (Cleaning batch sweep) = false
+has_call stage = true
+
+-- A pass stands so, and its call, if it has one, is one that may be begun.
 pub record Standing (sizes : Sizes) (pass : Pass) : Type 0 where
   pub at : StandsAt sizes pass pass.stage
-  pub allowed : pass.stage ≢ Idle → IsAllowed sizes pass.call
+  pub allowed : has_call pass.stage ≡ true → IsAllowed sizes pass.call

@@ -4,7 +4,8 @@ use Rattle.nv_plain.specs.Histories.{Answered}
 use Rattle.nv_plain.specs.declared.call.FileCall.{FileCall}
 use Rattle.nv_core.specs.Words.{Sizes, Word, STOP, HEAD, TAIL, LENGTH, SIZE}
 use Rattle.nv_core.specs.Passes.{Fault, Pass, page_count}
-use Rattle.nv_core.specs.Deeds.{Deed, value_after, move_of, moved, Loads, Takes, Places, Stops, Draws, Leaves}
+use Rattle.nv_core.specs.Sweeps.{Looks, Retires, Halts}
+use Rattle.nv_core.specs.Deeds.{Deed, Tends, value_after, move_of, moved, Loads, Takes, Places, Stops, Draws, Leaves}
 use Rattle.nv_core.specs.Stages.{first_stage, stage_after}
 
 -- it has taken SIZE
@@ -21,16 +22,21 @@ length_after pass _ found = pass.length
 abbrev pub head_after : Sizes → Pass → Deed → (found : ℕ) → ℕ
 head_after sizes pass (Loads HEAD) found = found
 head_after sizes pass Draws found = value_after sizes pass Draws found
+head_after sizes pass (Tends (Looks HEAD)) found = found
 head_after sizes pass _ found = pass.head
 
 abbrev pub tail_after : Pass → Deed → (found : ℕ) → ℕ
 tail_after pass (Loads TAIL) found = found
+tail_after pass (Tends (Looks TAIL)) found = found
+tail_after pass (Tends (Retires tail)) found = tail
 tail_after pass _ found = pass.tail
 
 -- it has seen STOP as 1, or set it
 abbrev pub stopped_after : Pass → Deed → (found : ℕ) → Bool
 stopped_after pass (Loads STOP) found = if found == 0 then pass.stopped else true
 stopped_after pass Stops found = true
+stopped_after pass (Tends (Looks STOP)) found = if found == 0 then pass.stopped else true
+stopped_after pass (Tends Halts) found = true
 stopped_after pass _ found = pass.stopped
 
 -- the numbers that it drew

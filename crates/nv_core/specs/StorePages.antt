@@ -32,8 +32,8 @@ pub record HasFiles (sizes : Sizes) (first : Values) (files : Files) : Type 0 wh
 pub record StoresKept (first now : Values) : Type 0 where
   pub each : (file : ℕ) → store_of (now (STORE file)) ≡ store_of (first (STORE file))
 
--- A page that a read holds and that has no entries is its store's page at opening. (The content of the log gives it.)
-pub record StorePages (sizes : Sizes) (first : Values) (opening : Files) (core : Core) : Type 0 where
+-- A page that a read holds and that has no entries is its store's page as it is. (The content of the log gives it.)
+pub record StorePages (sizes : Sizes) (opening : Files) (core : Core) : Type 0 where
   pub clean : (number page : ℕ) (store : Store) → is_read (core.passes number).call ≡ true → times (PAGE page) (core.passes number).hands ≡ 1
-      → core.words (DIRTY page) ≡ 0 → file_of_page sizes page < sizes.files → store_of (first (STORE (file_of_page sizes page))) ≡ Some store
+      → core.words (DIRTY page) ≡ 0 → file_of_page sizes page < sizes.files → store_of (core.values (STORE (file_of_page sizes page))) ≡ Some store
       → page_now sizes opening core page ≡ page_from store.seen (start_of_page sizes page) sizes.page

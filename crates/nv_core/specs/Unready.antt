@@ -4,6 +4,7 @@ use Rattle.nv_core.specs.Words.{Sizes, was_readied, broken}
 use Rattle.nv_core.specs.Passes.{Breaking, Fault, IsOneOf}
 use Rattle.nv_core.specs.Stepped.{fault_of}
 use Rattle.nv_core.specs.Standing.{IsPage}
+use Rattle.nv_core.specs.SweepNumbers.{IsFreed}
 use Rattle.nv_core.specs.Core.{Core}
 use Rattle.nv_core.specs.LogWindow.{InWindow, entry_at}
 use Rattle.nv_core.specs.Groups.{Group, Log}
@@ -25,6 +26,7 @@ pub record IsUnready (sizes : Sizes) (log : Log) (core : Core) (number : ℕ) : 
   pub within : InWindow core number
   pub leads : (log.group number).first ≡ number
   pub unready : was_readied (entry_at sizes core number) ≢ true
+  pub unfreed : (by : ℕ) → IsFreed (core.passes by).stage number → ⊥
 
 -- A broken entry is one of a call that a fault ended. A write whose leader was never made ready has no place, and no number above its own is of one
 -- of its pages, be it broken too.

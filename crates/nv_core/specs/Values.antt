@@ -5,6 +5,7 @@ use Rattle.nv_pmem.specs.Part.{Part}
 use Rattle.nv_pmem.specs.Room.{Room}
 use Rattle.nv_pmem.specs.Steps.{Step as LineStep, after_step as after_line_step}
 use Rattle.nv_store.specs.Store.{Store}
+use Rattle.nv_store.specs.Steps.{Sync, after_step as after_store_step}
 
 -- A device: what it tells of its state, or nothing, how often it has failed, and which one it is.
 pub record Device (State : Type 0) : Type 0 where
@@ -32,21 +33,28 @@ pub data Job : Type 0 where
   Writes : LineStep → (room : Room) → Job
   Reads : (at : ℕ) (bytes : List ℕ) → Job
   Peeks : (at : ℕ) (bytes : List ℕ) → Job
+  -- a write to a store, with what it leaves of it, and a sync
+  Carries : (at : ℕ) (bytes : List ℕ) (left : Option Store) → Job
+  Syncs : Job
 
--- How it ended: well; or failed, having done its work or not, with the count that it left.
+-- How it ended: well; or failed, having done its work or not, with the count that it left; or, of a write to a store, refused for want of
+-- memory, with nothing changed.
 pub data Ending : Type 0 where
   Made : Ending
   Failed : (came : Bool) (faults : ℕ) → Ending
+  Refused : Ending
 
 -- whether a call did its work
 abbrev pub has_come : Ending → Bool
 has_come Made = true
 has_come (Failed came faults) = came
+has_come Refused = false
 
 -- how often a device has failed after a call
 abbrev pub faults_after : Ending → ℕ → ℕ
 faults_after Made before = before
 faults_after (Failed came faults) before = faults
+faults_after Refused before = before
 
 -- what a part tells after a call on it
 abbrev pub part_after : Job → Bool → Option Part → Option Part
@@ -58,11 +66,18 @@ abbrev pub room_after : Job → Room → Room
 room_after (Writes step room) before = room
 room_after job before = before
 
+-- what a store tells after a call on it
+abbrev pub store_after : Job → Bool → Option Store → Option Store
+store_after (Carries at bytes left) came told = left
+store_after Syncs true told = option_map (after_store_step Sync) told
+store_after job came told = told
+
 -- what a cell keeps after a call on its device
 abbrev pub called : Job → Ending → Value → Value
 called job ending (APart device room) =
     APart record device { told = part_after job (has_come ending) device.told; faults = faults_after ending device.faults } (room_after job room)
-called job ending (AStore device) = AStore record device { faults = faults_after ending device.faults }
+called job ending (AStore device) =
+    AStore record device { told = store_after job (has_come ending) device.told; faults = faults_after ending device.faults }
 called job ending Bare = Bare
 called job ending (ABuffer buffer) = ABuffer buffer
 

@@ -1,5 +1,5 @@
 -- Written entries: what the device calls of each group's commit have made of its parts.
-use Rattle.std.specs.Prelude.{◌≡◌, ◌≢◌, ℕ, ◌+◌, ◌<◌, ◌≤◌, true, List, [], length, slice_index_or, Some}
+use Rattle.std.specs.Prelude.{◌≡◌, ◌≢◌, ℕ, ◌+◌, ◌<◌, ◌≤◌, List, [], length, slice_index_or, Some}
 use Rattle.nv_plain.specs.Images.{PartImage, Image}
 use Rattle.nv_plain.specs.declared.call.FileCall.{FileCall}
 use Rattle.nv_plain.specs.declared.call.FileCall.TheVariants.{Write}
@@ -9,13 +9,13 @@ use Rattle.nv_pmem.specs.Images.{IsQuiet, InEachImage}
 use Rattle.nv_pmem.specs.Rows.{AreQuiet, InEachRowImage}
 use Rattle.nv_entry.specs.Group.{group_steps}
 use Rattle.nv_entry.specs.Commits.{AreGroupParts, after_some}
-use Rattle.nv_core.specs.Words.{Sizes, HEAD, ENTRY, was_readied, free}
+use Rattle.nv_core.specs.Words.{Sizes, HEAD, ENTRY, free}
 use Rattle.nv_core.specs.Values.{Value, APart}
 use Rattle.nv_core.specs.Passes.{Stage, Seizing, Committing, Pledging, Readying, Pass}
 use Rattle.nv_core.specs.Deeds.{slot_of}
 use Rattle.nv_core.specs.Order.{Values}
 use Rattle.nv_core.specs.Core.{Core}
-use Rattle.nv_core.specs.LogWindow.{InWindow, entry_at}
+use Rattle.nv_core.specs.LogWindow.{InWindow, WasReadied}
 use Rattle.nv_core.specs.Groups.{Log}
 
 -- a cell keeps a part of the region that tells this state
@@ -44,7 +44,6 @@ pub record IsWrittenTo (sizes : Sizes) (values : Values) (tail first file at : �
   pub quiet : AreQuiet before
   pub stale : InEachRowImage (CommitNone sizes tail first (length before)) before
   pub now : AreParts sizes values first (after_some sizes.page first file at bytes calls before)
-  pub low : tail ≤ first
 
 abbrev pub IsWritten : Sizes → Values → (tail : ℕ) → FileCall → (first calls : ℕ) → Type 0
 IsWritten sizes values tail (Write file at bytes) first calls = IsWrittenTo sizes values tail first file at bytes calls
@@ -76,12 +75,12 @@ pub record IsBlank (sizes : Sizes) (value : Value) (tail slot : ℕ) : Type 0 wh
 -- ---- all of them
 
 -- The parts of each group are as so many device calls of its commit have left them: all of them once its pass pledges, and where
--- its leader was made ready. The part of a free entry is blank. No tail in the header is above HEAD.
+-- its leader was made ready, be it freed since. The part of a free entry is blank. No tail in the header is above HEAD.
 pub record Written (sizes : Sizes) (tail : ℕ) (log : Log) (core : Core) : Type 0 where
   pub groups : (number : ℕ) → InWindow core number → (log.group number).first ≡ number
       → IsWritten sizes core.values tail (log.group number).call number (log.calls number)
   pub calls : (by : ℕ) → HasCalls sizes log (core.passes by) (core.passes by).stage
-  pub ready : (number : ℕ) → InWindow core number → (log.group number).first ≡ number → was_readied (entry_at sizes core number) ≡ true
+  pub ready : (number : ℕ) → InWindow core number → (log.group number).first ≡ number → WasReadied sizes core number
       → log.calls number ≡ commit_length sizes (log.group number).call number
   pub free : (slot : ℕ) → slot < sizes.entries → core.words (ENTRY slot) ≡ free → IsBlank sizes (core.values (ENTRY slot)) tail slot
   pub low : tail ≤ core.words HEAD

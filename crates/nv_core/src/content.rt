@@ -2,6 +2,7 @@ ghost use Rattle.nv_core.specs.Content.{EventsKeepContent, OpeningHasContent, Ru
 ghost use Rattle.nv_core.specs.PatchedPages.{PagesArePatched};
 
 use nv_entry::groups_follow_steps;
+use nv_header::the_tail_follows_steps;
 use nv_plain::{history_goes_on, write_is_its_pieces, write_leaves_its_bytes};
 use nv_pmem::{images_follow_calls, loads_follow_calls};
 
@@ -19,10 +20,12 @@ pub fn runs_keep_content()
     write_is_its_pieces();
     history_goes_on();
     groups_follow_steps();
+    the_tail_follows_steps();
 }
 
-/// A page on which no write is in flight is, after the history, its store's page overwritten by the pieces of its entries that were
-/// made ready, in rising number: what a read of a page with entries gathers.
+/// A page on which no write is in flight is, after the history, its store's page as it is, overwritten by the pieces of its entries that
+/// were made ready and aren't cleaned, in rising number: what a read of a page with entries gathers. The pieces of the cleaned ones
+/// change nothing more of it.
 pub fn pages_are_patched()
     ensures { PagesArePatched }
 {

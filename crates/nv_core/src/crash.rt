@@ -1,16 +1,20 @@
 ghost use Rattle.nv_core.specs.AtRest.{RegionsAtRestOpen};
 ghost use Rattle.nv_core.specs.Crash.{EventsKeepRegion, OpeningHasRegion, RunsSurviveCrashes, StatesSurviveCrashes};
+ghost use Rattle.nv_core.specs.CrashByHand.{ImagesByHand};
+ghost use Rattle.nv_core.specs.EmptyLog.{EmptyLogsRest};
 ghost use Rattle.nv_core.specs.CrashWalks.{OpenWriteHasTwoFates, PlacedWriteStays, ReadyWriteStays};
 
 use nv_entry::groups_follow_steps;
+use nv_header::the_tail_follows_steps;
 use nv_plain::{history_goes_on, write_is_its_pieces, write_leaves_its_bytes};
 use nv_pmem::{images_follow_calls, loads_follow_calls};
 use nv_store::store_images;
 
 /// A power failure at any moment leaves whole writes: each image of the region and of the stores fits, and recovers to the files
 /// after the history and then some of the writes in flight, each whole: all those whose leader was made ready, and of the others
-/// those that read as committed in that image. So it is in every sound state in which the content of the log is right and the
-/// region reads as the mount's, which each event keeps, and so after every run from the opening of a region.
+/// those that read as committed in that image. So it is in every sound state in which the content of the log is right, the
+/// region reads as the mount's, and what of the stores isn't durable lies in live pieces. Each event keeps that, and so it is
+/// after every run from the opening of a region.
 pub fn crashes_leave_whole_writes()
     ensures opening { OpeningHasRegion }
     ensures events { EventsKeepRegion }
@@ -19,12 +23,18 @@ pub fn crashes_leave_whole_writes()
 {
     loads_follow_calls();
     images_follow_calls();
-    store_images();
     write_leaves_its_bytes();
     write_is_its_pieces();
     history_goes_on();
     groups_follow_steps();
+    the_tail_follows_steps();
 }
+
+/// Where the log is empty, STOP is 0 and no pass has a call or a batch at hand, the stores read as the files after the history and are
+/// durable, the header and the part of each entry are quiet, and no commit word counts in any image.
+pub fn empty_logs_rest()
+    ensures { EmptyLogsRest }
+{}
 
 /// What the crash law asks of a mount's region is met by every region at rest, as recovery and formatting leave it.
 pub fn regions_at_rest_open()
@@ -45,4 +55,16 @@ pub fn walks_survive_crashes()
     loads_follow_calls();
     images_follow_calls();
     store_images();
+}
+
+/// A power failure by hand, on the walks' mount: the first write is written back to its store, which isn't synced, and its entry
+/// cleaned; the second one is ready, and has no place yet; the third one is between the store of its commit word and the flush.
+/// Each image recovers to the first two writes, or to all three. So do three images by hand: the store has nothing of what was
+/// written back, all of it, or some of it, and the third write's commit word is lost, lost, and there.
+pub fn images_by_hand()
+    ensures { ImagesByHand }
+{
+    crashes_leave_whole_writes();
+    loads_follow_calls();
+    images_follow_calls();
 }

@@ -1,5 +1,6 @@
 ghost use Rattle.nv_core.specs.DirtyWalks.{DirtyReadIsWalked};
 ghost use Rattle.nv_core.specs.Laws.{OpeningIsSound, EventsKeepSound, RunsAreSound};
+ghost use Rattle.nv_core.specs.BatchWalks.{BatchIsWalked};
 ghost use Rattle.nv_core.specs.Lengths.{LengthsFollowTheHistory};
 ghost use Rattle.nv_core.specs.Never.{NoPlaceBeforeTheFence, NoPageBeforeThePlace, StoppedAfterAFault, NoLeaderBeforeAFollower, NoGrowthBeforeThePlace, NoTwoWritesOfAPage, NoStopWithoutAFault, NoSeizureOfAHeldEntry, NoHoldOfAnUnreadyEntry, NoEntryHeldTwice, NoOtherCleanup, NoVictimOfTheCall, NoDrawPastTheEnd};
 ghost use Rattle.nv_core.specs.Walks.{WalkBegins, FirstPageIsWord30, ReadIsWalked, WriteIsWalked, FaultIsWalked, SearchIsWalked, TriesAreWalked};
@@ -74,3 +75,10 @@ pub fn lengths_follow_the_history()
     history_goes_on();
     groups_follow_steps();
 }
+
+/// A cleaner's whole batch by hand, on the walks' mount, with the words after each of its events: two writes to two pages, of
+/// one entry each, of which the second was patched into a read before, come to the store in the order of their numbers, and
+/// the store is synced before the header's tail and TAIL move past them. Then it has both, durable.
+pub fn a_batch_is_a_run()
+    ensures { BatchIsWalked }
+{}

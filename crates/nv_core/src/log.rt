@@ -1,7 +1,9 @@
+ghost use Rattle.nv_core.specs.CleaningOrder.{NoCleanBeforeTheStore, NoFreeBeforeTheTail, NoMoveBeforeTheSync, NoSubtractBeforeTheClean};
 ghost use Rattle.nv_core.specs.LogContent.{EventsKeepTheLog, OpeningHasTheLog, RunsKeepTheLog, GroupsAreInImages, NoOldWordCounts};
 ghost use Rattle.nv_core.specs.WalkOpens.{WalkOpensFiles, WalkOpensLog, WalkOpensRegion};
 
 use nv_entry::groups_follow_steps;
+use nv_header::the_tail_follows_steps;
 use nv_plain::{history_goes_on, write_is_its_pieces, write_leaves_its_bytes};
 use nv_pmem::{images_follow_calls, loads_follow_calls};
 
@@ -23,7 +25,18 @@ pub fn runs_keep_the_log()
     write_is_its_pieces();
     history_goes_on();
     groups_follow_steps();
+    the_tail_follows_steps();
 }
+
+/// What a step of a cleaner has before it, where the content of the log is right: an entry is returned as cleaned when its store
+/// has its piece, a page's DIRTY is lowered when an entry of it is cleaned, the header's tail is moved when each store that has a
+/// piece of the batch is durable, and an entry is freed when each image of the header has a tail above it.
+pub fn cleaning_keeps_its_order()
+    ensures store { NoCleanBeforeTheStore }
+    ensures dirty { NoSubtractBeforeTheClean }
+    ensures sync { NoMoveBeforeTheSync }
+    ensures tail { NoFreeBeforeTheTail }
+{}
 
 /// What these laws ask of a mount can be met: that of the walks opens a file, an empty log, and a region whose header can be
 /// read.

@@ -1,4 +1,5 @@
 use Rattle.nv_core.proofs.PlainLaws.{PlainLaws}
+use Rattle.nv_core.proofs.LogLaws.{LogLaws}
 use Rattle.nv_core.proofs.KeepsContent.{PartLaws, opening_has_content, events_keep_content, runs_keep_content as runs_keep_content_all}
 use Rattle.nv_core.proofs.content.runs_keep_content.Goals as goal
 
@@ -13,14 +14,17 @@ returns c =
       legally = c.history_goes_on.ensures.legal;
       count = c.history_goes_on.ensures.count;
     } in
-    let parts : PartLaws = record {
-      loads = c.images_follow_calls.ensures.now;
-      atomic = c.groups_follow_steps.ensures.atomic;
-      becomes = c.groups_follow_steps.ensures.whole;
-      ends = c.groups_follow_steps.ensures.quiet;
+    let laws : LogLaws = record {
+      now = c.images_follow_calls.ensures.now;
+      one_image = c.images_follow_calls.ensures.quiet;
       blank = c.images_follow_calls.ensures.blank;
       lines = c.loads_follow_calls.ensures.lines;
-      ready = c.groups_follow_steps.ensures.ready;
-      one_image = c.images_follow_calls.ensures.quiet;
+      tail_moments = c.the_tail_follows_steps.ensures.moments;
+      tail_moved = c.the_tail_follows_steps.ensures.moved;
+      tail_quiet = c.the_tail_follows_steps.ensures.quiet;
+      group_only = c.groups_follow_steps.ensures.only;
+      group_whole = c.groups_follow_steps.ensures.whole;
+      group_quiet = c.groups_follow_steps.ensures.quiet;
     } in
+    let parts : PartLaws = record { laws = laws; atomic = c.groups_follow_steps.ensures.atomic; ready = c.groups_follow_steps.ensures.ready } in
     record { opening = opening_has_content; events = events_keep_content plain parts; runs = runs_keep_content_all plain parts }

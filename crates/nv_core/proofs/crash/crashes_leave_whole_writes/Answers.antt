@@ -1,7 +1,12 @@
+use Rattle.nv_core.specs.Laws.{OpeningIsSound, EventsKeepSound}
+use Rattle.nv_core.specs.LogContent.{OpeningHasTheLog, EventsKeepTheLog}
 use Rattle.nv_core.specs.Crash.{EventsKeepRegion, OpeningHasRegion, StatesSurviveCrashes}
 use Rattle.nv_core.proofs.PlainLaws.{PlainLaws}
-use Rattle.nv_core.proofs.Reach.{runs_are_sound_all}
-use Rattle.nv_core.proofs.KeepsLogContent.{runs_keep_the_log_all}
+use Rattle.nv_core.proofs.LogLaws.{LogLaws}
+use Rattle.nv_core.proofs.Reach.{opening_is_sound, events_keep_sound, runs_are_sound_all}
+use Rattle.nv_core.proofs.OpeningLogContent.{opening_has_the_log}
+use Rattle.nv_core.proofs.KeepsLogContent.{events_keep_the_log, runs_keep_the_log_all}
+use Rattle.nv_core.proofs.KeepsPersistent.{persistent_goes_on}
 use Rattle.nv_core.proofs.CrashLaws.{states_survive}
 use Rattle.nv_core.proofs.CrashRegions.{events_keep_region}
 use Rattle.nv_core.proofs.CrashRuns.{opening_has_region, runs_survive}
@@ -18,14 +23,28 @@ returns c =
       legally = c.history_goes_on.ensures.legal;
       count = c.history_goes_on.ensures.count;
     } in
-    let states : StatesSurviveCrashes = states_survive c.images_follow_calls.ensures.now c.groups_follow_steps.ensures.atomic c.groups_follow_steps.ensures.whole c.groups_follow_steps.ensures.quiet c.groups_follow_steps.ensures.only c.store_images.ensures.quiet plain in
+    let laws : LogLaws = record {
+      now = c.images_follow_calls.ensures.now;
+      one_image = c.images_follow_calls.ensures.quiet;
+      blank = c.images_follow_calls.ensures.blank;
+      lines = c.loads_follow_calls.ensures.lines;
+      tail_moments = c.the_tail_follows_steps.ensures.moments;
+      tail_moved = c.the_tail_follows_steps.ensures.moved;
+      tail_quiet = c.the_tail_follows_steps.ensures.quiet;
+      group_only = c.groups_follow_steps.ensures.only;
+      group_whole = c.groups_follow_steps.ensures.whole;
+      group_quiet = c.groups_follow_steps.ensures.quiet;
+    } in
+    let opens_sound : OpeningIsSound = opening_is_sound in
+    let sounds : EventsKeepSound = events_keep_sound c.groups_follow_steps.ensures.ready in
+    let opens_log : OpeningHasTheLog = opening_has_the_log c.images_follow_calls.ensures.quiet in
+    let logs : EventsKeepTheLog = events_keep_the_log laws plain in
+    let states : StatesSurviveCrashes = states_survive c.images_follow_calls.ensures.now c.groups_follow_steps.ensures.atomic c.groups_follow_steps.ensures.whole c.groups_follow_steps.ensures.quiet c.groups_follow_steps.ensures.only plain in
     let opening : OpeningHasRegion = opening_has_region c.images_follow_calls.ensures.quiet in
-    let events : EventsKeepRegion = events_keep_region c.images_follow_calls.ensures.now in
+    let events : EventsKeepRegion = events_keep_region laws (persistent_goes_on c.images_follow_calls.ensures.now c.groups_follow_steps.ensures.whole plain) in
     record {
       opening = opening;
       events = events;
       states = states;
-      runs = runs_survive (runs_are_sound_all c.groups_follow_steps.ensures.ready)
-          (runs_keep_the_log_all c.images_follow_calls.ensures.blank c.loads_follow_calls.ensures.lines plain c.groups_follow_steps.ensures.ready c.images_follow_calls.ensures.quiet)
-          opening events states;
+      runs = runs_survive opens_sound sounds opens_log logs (runs_are_sound_all c.groups_follow_steps.ensures.ready) (runs_keep_the_log_all laws plain c.groups_follow_steps.ensures.ready) opening events states;
     }

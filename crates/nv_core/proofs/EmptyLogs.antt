@@ -1,0 +1,73 @@
+-- An empty log has nothing that its stores lack.
+use Rattle.std.proofs.Common.{◌≡◌, ℕ, ◌+◌, ◌-◌, ◌<◌, ◌≤◌, false, List, [], ◌++◌, length, Some, inl, inr, refl, sym, ap, ap₂, subst, ◌∙◌, arith}
+use Rattle.std.proofs.lemmas.Bool.{cases_eq, cases_lt}
+use Rattle.std.proofs.lemmas.List.{append-nil, ext_get_or}
+use Rattle.nv_plain.specs.declared.call.FileCall.{FileCall}
+use Rattle.nv_pmem.specs.Part.{Part}
+use Rattle.nv_pmem.specs.Images.{IsQuiet}
+use Rattle.nv_header.specs.Laws.{after_some_tail}
+use Rattle.nv_store.specs.Store.{Store, IsQuiet as IsDurable, is_unsynced}
+use Rattle.nv_core.specs.Words.{Sizes, STOP, HEAD, TAIL, ENTRY, HEADER}
+use Rattle.nv_core.specs.Passes.{Idle}
+use Rattle.nv_core.specs.Order.{Values}
+use Rattle.nv_core.specs.Core.{Core}
+use Rattle.nv_core.specs.LogWindow.{InWindow}
+use Rattle.nv_core.specs.Groups.{Log}
+use Rattle.nv_core.specs.Rooms.{IsMoving}
+use Rattle.nv_core.specs.Tails.{Tails}
+use Rattle.nv_core.specs.Apart.{after_calls}
+use Rattle.nv_core.specs.LivePieces.{rising, call_if, piece_call, is_live, is_waiting, live_pieces, to_place, calls_of, store_files}
+use Rattle.nv_core.specs.PersistentTail.{LiesInPieces}
+use Rattle.nv_core.specs.EmptyLog.{IsEmpty, EmptyLogsRest}
+use Rattle.nv_core.proofs.Choices.{unless_true}
+use Rattle.nv_core.proofs.LiveLaws.{rising_none}
+use Rattle.nv_core.proofs.KeepsHeader.{none_moved}
+
+-- it has no number
+no_number : (core : Core) → IsEmpty core → (n : ℕ) → InWindow core n → ⊥
+no_number core empty n within = let e = empty.none in let l = within.0 in let h = within.1 in omega (arith, e, l, h)
+
+-- no live piece, and no write that is to be placed
+no_pieces : (sizes : Sizes) (log : Log) (core : Core) → IsEmpty core → live_pieces sizes log core ≡ []
+no_pieces sizes log core empty = ap (rising (λ n. call_if (is_live sizes log core n) (piece_call sizes (log.group n) n)) (core.words TAIL)) (let e = empty.none in let z : core.words HEAD - core.words TAIL ≡ 0 = omega (arith, e) in z)
+
+none_to_place : (core : Core) → IsEmpty core → to_place core ≡ []
+none_to_place core empty = rising_none (λ by. call_if (is_waiting (core.passes by) (core.passes by).stage) (core.passes by).call) 0 (core.made + 1)
+    (λ by low high. ap (λ s. call_if (is_waiting (core.passes by) s) (core.passes by).call) (empty.idle by))
+
+-- a store of which no byte lies in a piece is durable
+durable : (sizes : Sizes) (tail : ℕ) (log : Log) (core : Core) (file : ℕ) (store : Store) → IsEmpty core → LiesInPieces sizes tail log core file store → IsDurable store
+durable sizes tail log core file store empty lies = record {
+  none = synced;
+  durable = ext_get_or 0 store.durable store.seen same (λ i less. sym (lies.synced i (synced i)));
+}
+  where
+    synced : (i : ℕ) → is_unsynced store i ≡ false
+    synced i = unless_true (is_unsynced store i) (λ some. let piece = lies.unsynced i some in no_number core empty piece.number piece.within)
+
+    same : length store.durable ≡ length store.seen
+    same = elim (cases_lt (length store.durable) (length store.seen)) [
+      | inl less ↦ absurd (let last = lies.longer less in no_number core empty last.2.number last.2.within)
+      | inr more ↦ let l = lies.no_longer in omega (arith, l, more)
+    ]
+
+pub empty_logs_rest : EmptyLogsRest
+empty_logs_rest sizes first opened names tails log placed core sound content region empty = record {
+  files =
+      ap (λ c. after_calls c opened) (sym (append-nil (calls_of core.history)) ∙ ap (λ p. calls_of core.history ++ p) (sym (none_to_place core empty)))
+      ∙ content.live.files
+      ∙ ap (λ c. after_calls c (store_files sizes core.values)) (no_pieces sizes log core empty);
+  stores = λ file store less told. durable sizes tails.next log core file store empty (region.persistent.stores file store less told);
+  header = λ part is. let moved = content.header.moved part is in subst IsQuiet (sym (moved.is ∙ ap (λ c. after_some_tail tails.next c moved.before) unmoved ∙ none_moved tails.next moved.before)) moved.quiet;
+  tail = content.retired.same unmoved;
+  entries = λ slot less. content.written.free slot less (sound.window.others slot less (λ n within. absurd (no_number core empty n within)));
+}
+  where
+    unmoved : tails.calls ≡ 0
+    unmoved = elim (cases_eq tails.calls 0) [
+      | inl e ↦ e
+      | inr ne ↦ absurd (elim (content.retired.begun ne) [
+        | inl stopped ↦ let g = empty.going in omega (arith, stopped, g)
+        | inr moving ↦ subst IsMoving (empty.idle moving.0) moving.1
+      ])
+    ]

@@ -1,0 +1,297 @@
+-- A cleaner's progress: what of it stays where the words and the log stay, or change in one entry, and how it goes on.
+use Rattle.std.proofs.Common.{◌≡◌, ◌≢◌, ◌⊎◌, ℕ, zero, suc, ◌+◌, ◌-◌, ◌<◌, ◌≤◌, ◌==◌, nat_lt, true, List, [], ◌∷◌, length, take, inl, inr, refl, sym, ap, subst, ◌∙◌, arith}
+use Rattle.std.specs.Prelude.{slice_index}
+use Rattle.std.proofs.lemmas.Bool.{cases_eq, cases_lt, eqb-true, eqb-false}
+use Rattle.nv_core.specs.Words.{Sizes, Word, STOP, HEAD, TAIL, ENTRY, index, kind_of, page_of, was_readied, cleaned}
+use Rattle.nv_core.specs.Sweeps.{Batch, Sweep, Footing, Surveying, Claiming, Storing, Lifting, Peeking, Carrying, Setting, Subtracting, Disclaiming, Dropping, Undoing, Retreating, Syncing, Moving, Failing}
+use Rattle.nv_core.specs.Chores.{withdrawing, syncing, finishing, surveying, retreating, each_next, closed, rising_files, group_page, group_file, holds_store, new_batch}
+use Rattle.nv_core.specs.Holding.{one_if}
+use Rattle.nv_core.specs.SweepHolding.{count_in, swept_cleanup}
+use Rattle.nv_core.specs.SweepNumbers.{IsCleaned}
+use Rattle.nv_core.specs.Passes.{Stage, Cleaning}
+use Rattle.nv_core.specs.Deeds.{slot_of}
+use Rattle.nv_core.specs.Core.{Core, with_word}
+use Rattle.nv_core.specs.LogWindow.{InWindow, entry_at, LogWindow}
+use Rattle.nv_core.specs.PagesAfter.{file_of_page}
+use Rattle.nv_core.specs.Groups.{Log}
+use Rattle.nv_core.specs.Pieces.{page_of_number}
+use Rattle.nv_core.specs.Progress.{HasFooted, IsFresh, HasMinded, HasHalted, HasNone, HasStore, HasGroup, KindAt, IsLooked, IsUnderWay, Progress}
+use Rattle.nv_core.proofs.Changes.{word_here, word_else, differ, number_self}
+use Rattle.nv_core.proofs.Choices.{if_both, when_true}
+use Rattle.nv_core.proofs.WindowLaws.{apart_within}
+
+-- ---- the parts, by where a pass stands
+
+pub record AtBatch (sizes : Sizes) (log : Log) (core : Core) (batch : Batch) (sweep : Sweep) : Type 0 where
+  pub way : HasFooted sweep → IsUnderWay sizes log core batch sweep
+  pub head : batch.head ≤ core.words HEAD
+  pub fresh : IsFresh sweep → batch ≡ new_batch batch.most
+  pub own : HasMinded sweep → (n : ℕ) → InWindow core n → kind_of (entry_at sizes core n) ≡ cleaned → IsCleaned (Cleaning batch sweep) n
+  pub halted : HasHalted sweep → core.words STOP ≡ 1
+
+abbrev pub At : Sizes → Log → Core → Stage → Type 0
+At sizes log core (Cleaning batch sweep) = AtBatch sizes log core batch sweep
+At sizes log core stage = Unit {0}
+
+pub all_at : {sizes : Sizes} {log : Log} {core : Core} → Progress sizes log core → (by : ℕ) → At sizes log core (core.passes by).stage
+all_at {sizes = sizes} {log = log} {core = core} progress by = go (core.passes by).stage refl
+  where
+    go : (stage : Stage) → (core.passes by).stage ≡ stage → At sizes log core stage
+    go (Cleaning batch sweep) e = record {
+      way = progress.each by batch sweep e;
+      head = progress.head by batch sweep e;
+      fresh = progress.fresh by batch sweep e;
+      own = progress.own by batch sweep e;
+      halted = progress.halted by batch sweep e;
+    }
+    go stage e = tt
+
+pub from_all : (sizes : Sizes) (log : Log) (core : Core) → ((by : ℕ) → At sizes log core (core.passes by).stage) → Progress sizes log core
+from_all sizes log core all = record {
+  each = λ by batch sweep e. (there by batch sweep e).way;
+  head = λ by batch sweep e. (there by batch sweep e).head;
+  fresh = λ by batch sweep e. (there by batch sweep e).fresh;
+  own = λ by batch sweep e. (there by batch sweep e).own;
+  halted = λ by batch sweep e. (there by batch sweep e).halted;
+}
+  where
+    there : (by : ℕ) (batch : Batch) (sweep : Sweep) → (core.passes by).stage ≡ Cleaning batch sweep → AtBatch sizes log core batch sweep
+    there by batch sweep e = subst (At sizes log core) e (all by)
+
+pub minded : (sweep : Sweep) → HasFooted sweep → HasMinded sweep
+minded Footing footed = tt
+minded sweep footed = footed
+
+-- ---- the words of the log go on
+
+module _ (sizes : Sizes) (log next : Log) (core now : Core) (tail : now.words TAIL ≡ core.words TAIL) (head : core.words HEAD ≤ now.words HEAD) (stop : core.words STOP ≡ 1 → now.words STOP ≡ 1)
+    (group : (n : ℕ) → n < core.words HEAD → next.group n ≡ log.group n) (leads : core.words HEAD < now.words HEAD → (next.group (core.words HEAD)).first ≡ core.words HEAD) where
+  window_on : (n : ℕ) → InWindow core n → InWindow now n
+  window_on n is = (subst (λ t. t ≤ n) (sym tail) is.0, let a = is.1 in omega (arith, a, head))
+
+  -- an entry that was loaded, at another kind, where the cleaner stands elsewhere
+  pub looked_on : (batch : Batch) (s t : Sweep) (i : ℕ) → was_readied (entry_at sizes now (batch.reached + i)) ≡ true → page_of (entry_at sizes now (batch.reached + i)) ≡ page_of (entry_at sizes core (batch.reached + i))
+      → KindAt t i (kind_of (entry_at sizes now (batch.reached + i))) → IsLooked sizes core batch s i → IsLooked sizes now batch t i
+  looked_on batch s t i was page kind looked = record { within = window_on (batch.reached + i) looked.within; readied = was; page = page ∙ looked.page; kind = kind }
+
+  pub way_on : (batch : Batch) (s t : Sweep) → ((i : ℕ) → i < length batch.pages → IsLooked sizes core batch s i → IsLooked sizes now batch t i)
+      → (HasGroup t → length batch.pages ≡ batch.count) → (HasNone t → length batch.pages ≡ 0) → (HasStore t → holds_store batch (group_file sizes batch) ≡ true)
+      → IsUnderWay sizes log core batch s → IsUnderWay sizes next now batch t
+  way_on batch s t entry whole none stored way = record {
+    tail = way.tail ∙ sym tail;
+    low = way.low;
+    high = let h = way.high in omega (arith, h, head);
+    leads = λ within. elim (cases_lt batch.reached (core.words HEAD)) [
+      | inl less ↦ ap (λ g. g.first) (group batch.reached less) ∙ way.leads (subst (λ t. t ≤ batch.reached) tail within.0, less)
+      | inr more ↦
+          let h = way.high in let e : batch.reached ≡ core.words HEAD = omega (arith, more, h) in let w = within.1 in
+          subst (λ n. (next.group n).first ≡ n) (sym e) (leads (omega (arith, e, w)))
+    ];
+    looked = λ i less. entry i less (way.looked i less);
+    count = λ some. way.count some ∙ ap (λ g. g.entries) (sym (group batch.reached (let l = (way.looked 0 some).within.1 in omega (arith, l))));
+    whole = whole;
+    none = none;
+    stored = stored;
+    files = way.files;
+    stores = λ n low high. subst (λ g. holds_store batch (file_of_page sizes (page_of_number sizes g n)) ≡ true) (sym (group n (let h = way.high in omega (arith, high, h)))) (way.stores n low high);
+  }
+
+  -- where it stands as it stood
+  pub batch_on : (batch : Batch) (sweep : Sweep) → (HasFooted sweep → (i : ℕ) → i < length batch.pages → IsLooked sizes core batch sweep i → IsLooked sizes now batch sweep i)
+      → ((n : ℕ) → InWindow now n → kind_of (entry_at sizes now n) ≡ cleaned → InWindow core n × (kind_of (entry_at sizes core n) ≡ cleaned))
+      → AtBatch sizes log core batch sweep → AtBatch sizes next now batch sweep
+  batch_on batch sweep entry clean at = record {
+    way = λ footed. let way = at.way footed in way_on batch sweep sweep (entry footed) way.whole way.none way.stored way;
+    head = let h = at.head in omega (arith, h, head);
+    fresh = at.fresh;
+    own = λ minded n within kind. let was = clean n within kind in at.own minded n was.0 was.1;
+    halted = λ halted. stop (at.halted halted);
+  }
+
+-- no word of the log changes
+pub same_at : (sizes : Sizes) (log next : Log) (core now : Core) → now.words TAIL ≡ core.words TAIL → now.words HEAD ≡ core.words HEAD → (core.words STOP ≡ 1 → now.words STOP ≡ 1)
+    → ((slot : ℕ) → now.words (ENTRY slot) ≡ core.words (ENTRY slot)) → next.group ≡ log.group → (stage : Stage) → At sizes log core stage → At sizes next now stage
+same_at sizes log next core now tail head stop entry group (Cleaning batch sweep) at =
+    batch_on sizes log next core now tail (omega (arith, head)) stop (λ n less. ap (λ g. g n) group) (λ less. absurd (omega (arith, less, head))) batch sweep
+    (λ _ i less looked. let e : entry_at sizes now (batch.reached + i) ≡ entry_at sizes core (batch.reached + i) = entry (slot_of sizes (batch.reached + i)) in
+    looked_on sizes log next core now tail (omega (arith, head)) stop (λ n less. ap (λ g. g n) group) (λ less. absurd (omega (arith, less, head))) batch sweep sweep i
+    (ap was_readied e ∙ looked.readied) (ap page_of e) (subst (λ w. KindAt sweep i (kind_of w)) (sym e) looked.kind) looked)
+    (λ n within kind. ((subst (λ t. t ≤ n) tail within.0, subst (λ h. n < h) head within.1), ap kind_of (sym (entry (slot_of sizes n))) ∙ kind)) at
+same_at sizes log next core now tail head stop entry group stage at = tt
+
+-- ---- one entry changes
+
+module _ (sizes : Sizes) (log next : Log) (core now : Core) (m value : ℕ) (words : now.words ≡ with_word core.words (ENTRY (slot_of sizes m)) value) (window : LogWindow sizes core) (within : InWindow core m) (group : next.group ≡ log.group) where
+  pub entry_tail : now.words TAIL ≡ core.words TAIL
+  entry_tail = ap (λ w. w TAIL) words ∙ word_else core.words (ENTRY (slot_of sizes m)) value TAIL (differ TAIL (ENTRY (slot_of sizes m)) refl)
+
+  pub entry_head : now.words HEAD ≡ core.words HEAD
+  entry_head = ap (λ w. w HEAD) words ∙ word_else core.words (ENTRY (slot_of sizes m)) value HEAD (differ HEAD (ENTRY (slot_of sizes m)) refl)
+
+  entry_stop : now.words STOP ≡ core.words STOP
+  entry_stop = ap (λ w. w STOP) words ∙ word_else core.words (ENTRY (slot_of sizes m)) value STOP (differ STOP (ENTRY (slot_of sizes m)) refl)
+
+  pub entry_here : entry_at sizes now m ≡ value
+  entry_here = ap (λ w. w (ENTRY (slot_of sizes m))) words ∙ word_here core.words (ENTRY (slot_of sizes m)) value
+
+  pub entry_there : (n : ℕ) → InWindow core n → n ≢ m → entry_at sizes now n ≡ entry_at sizes core n
+  entry_there n is ne = ap (λ w. w (ENTRY (slot_of sizes n))) words ∙ word_else core.words (ENTRY (slot_of sizes m)) value (ENTRY (slot_of sizes n)) (λ e. apart_within sizes core window n m is within ne (ap index e))
+
+  pub entry_was : (n : ℕ) → InWindow now n → InWindow core n
+  entry_was n is = (subst (λ t. t ≤ n) entry_tail is.0, subst (λ h. n < h) entry_head is.1)
+
+  -- what is cleaned then, is this entry or was so
+  pub entry_cleaned : (n : ℕ) → InWindow now n → kind_of (entry_at sizes now n) ≡ cleaned → ((n ≡ m) × (kind_of value ≡ cleaned)) ⊎ ((n ≢ m) × InWindow core n × (kind_of (entry_at sizes core n) ≡ cleaned))
+  entry_cleaned n is kind = elim (cases_eq n m) [
+    | inl e ↦ inl (e, ap kind_of (sym entry_here) ∙ ap (λ k. kind_of (entry_at sizes now k)) (sym e) ∙ kind)
+    | inr ne ↦ inr (ne, entry_was n is, ap kind_of (sym (entry_there n (entry_was n is) ne)) ∙ kind)
+  ]
+
+  -- the entries of a group that were loaded, where the cleaner stands elsewhere then
+  pub entry_looked : (batch : Batch) (s t : Sweep) (i : ℕ)
+      → (batch.reached + i ≡ m → (was_readied value ≡ true) × (page_of value ≡ page_of (entry_at sizes core m)) × KindAt t i (kind_of value))
+      → (batch.reached + i ≢ m → KindAt s i (kind_of (entry_at sizes core (batch.reached + i))) → KindAt t i (kind_of (entry_at sizes core (batch.reached + i))))
+      → IsLooked sizes core batch s i → IsLooked sizes now batch t i
+  entry_looked batch s t i here there looked = elim (cases_eq (batch.reached + i) m) [
+    | inl e ↦
+        let h = here e in let v : entry_at sizes now (batch.reached + i) ≡ value = ap (entry_at sizes now) e ∙ entry_here in
+        looked_on sizes log next core now entry_tail (omega (arith, entry_head)) (λ one. entry_stop ∙ one) (λ n less. ap (λ g. g n) group) (λ less. absurd (omega (arith, less, entry_head))) batch s t i
+        (ap was_readied v ∙ h.0) (ap page_of v ∙ h.1 ∙ ap (λ k. page_of (entry_at sizes core k)) (sym e)) (subst (λ w. KindAt t i (kind_of w)) (sym v) h.2) looked
+    | inr ne ↦
+        let v : entry_at sizes now (batch.reached + i) ≡ entry_at sizes core (batch.reached + i) = entry_there (batch.reached + i) looked.within ne in
+        looked_on sizes log next core now entry_tail (omega (arith, entry_head)) (λ one. entry_stop ∙ one) (λ n less. ap (λ g. g n) group) (λ less. absurd (omega (arith, less, entry_head))) batch s t i
+        (ap was_readied v ∙ looked.readied) (ap page_of v) (subst (λ w. KindAt t i (kind_of w)) (sym v) (there ne looked.kind)) looked
+  ]
+
+  pub entry_way : (batch : Batch) (s t : Sweep) → ((i : ℕ) → i < length batch.pages → IsLooked sizes core batch s i → IsLooked sizes now batch t i)
+      → (HasGroup t → length batch.pages ≡ batch.count) → (HasNone t → length batch.pages ≡ 0) → (HasStore t → holds_store batch (group_file sizes batch) ≡ true)
+      → IsUnderWay sizes log core batch s → IsUnderWay sizes next now batch t
+  entry_way = way_on sizes log next core now entry_tail (omega (arith, entry_head)) (λ one. entry_stop ∙ one) (λ n less. ap (λ g. g n) group) (λ less. absurd (omega (arith, less, entry_head)))
+
+  -- another pass's entry
+  pub entry_at_other : kind_of value ≢ cleaned → (stage : Stage)
+      → ((batch : Batch) (sweep : Sweep) → stage ≡ Cleaning batch sweep → HasFooted sweep → (i : ℕ) → i < length batch.pages → IsLooked sizes core batch sweep i → batch.reached + i ≡ m
+      → (was_readied value ≡ true) × (page_of value ≡ page_of (entry_at sizes core m)) × KindAt sweep i (kind_of value))
+      → At sizes log core stage → At sizes next now stage
+  entry_at_other dirty (Cleaning batch sweep) here at =
+      batch_on sizes log next core now entry_tail (omega (arith, entry_head)) (λ one. entry_stop ∙ one) (λ n less. ap (λ g. g n) group) (λ less. absurd (omega (arith, less, entry_head))) batch sweep
+      (λ footed i less looked. entry_looked batch sweep sweep i (here batch sweep refl footed i less looked) (λ _ kind. kind) looked)
+      (λ n is kind. elim (entry_cleaned n is kind) [ inl same ↦ absurd (dirty same.1) | inr other ↦ (other.1, other.2) ]) at
+  entry_at_other dirty stage here at = tt
+
+-- ---- counts
+
+pub count_some : (pages : List ℕ) (i : ℕ) → i < length pages → 1 ≤ count_in pages (slice_index pages i)
+count_some [] i less = absurd (omega (arith, less))
+count_some (first ∷ rest) zero less = let o : one_if (first == first) ≡ 1 = when_true (first == first) 1 0 (number_self first) in omega (arith, o)
+count_some (first ∷ rest) (suc i) less = let again = count_some rest i (omega (arith, less)) in omega (arith, again)
+
+pub count_some_take : (pages : List ℕ) (n i : ℕ) → i < n → i < length pages → 1 ≤ count_in (take n pages) (slice_index pages i)
+count_some_take [] n i below less = absurd (omega (arith, less))
+count_some_take (first ∷ rest) zero i below less = absurd (omega (arith, below))
+count_some_take (first ∷ rest) (suc n) zero below less = let o : one_if (first == first) ≡ 1 = when_true (first == first) 1 0 (number_self first) in omega (arith, o)
+count_some_take (first ∷ rest) (suc n) (suc i) below less = let again = count_some_take rest n i (omega (arith, below)) (omega (arith, less)) in omega (arith, again)
+
+-- another pass holds CLEANUP of an entry's page: then nothing is known of its kind, but that it isn't cleaned
+pub kind_kept : (batch : Batch) (sweep : Sweep) (i old new : ℕ) → i < length batch.pages → old ≢ cleaned → swept_cleanup batch sweep (group_page batch i) ≡ 0 → KindAt sweep i old → KindAt sweep i new
+kind_kept batch (Claiming n) i old new less dirty none kind = λ below. absurd (let c = count_some_take batch.pages n i below less in omega (arith, none, c))
+kind_kept batch Storing i old new less dirty none kind = absurd (let c = count_some batch.pages i less in omega (arith, none, c))
+kind_kept batch (Lifting n) i old new less dirty none kind = absurd (let c = count_some batch.pages i less in omega (arith, none, c))
+kind_kept batch (Peeking n) i old new less dirty none kind = absurd (let c = count_some batch.pages i less in omega (arith, none, c))
+kind_kept batch (Carrying n) i old new less dirty none kind = absurd (let c = count_some batch.pages i less in omega (arith, none, c))
+kind_kept batch (Setting n) i old new less dirty none kind = absurd (let c = count_some batch.pages i less in omega (arith, none, c))
+kind_kept batch (Subtracting n) i old new less dirty none kind = absurd (dirty kind)
+kind_kept batch (Disclaiming n) i old new less dirty none kind = absurd (dirty kind)
+kind_kept batch (Dropping n end) i old new less dirty none kind = absurd (let c = count_some batch.pages i less in omega (arith, none, c))
+kind_kept batch (Undoing n end) i old new less dirty none kind = absurd (let c = count_some batch.pages i less in omega (arith, none, c))
+kind_kept batch (Failing n) i old new less dirty none kind = absurd (let c = count_some batch.pages i less in omega (arith, none, c))
+kind_kept batch sweep i old new less dirty none kind = tt
+
+-- ---- a cleaner goes on, and the words stay
+
+module _ (sizes : Sizes) (log : Log) (core : Core) where
+  pub turned : (batch : Batch) (s t : Sweep) → HasFooted s → (IsFresh t → ⊥) → (HasHalted t → core.words STOP ≡ 1)
+      → ((i : ℕ) → i < length batch.pages → KindAt s i (kind_of (entry_at sizes core (batch.reached + i))) → KindAt t i (kind_of (entry_at sizes core (batch.reached + i))))
+      → (IsUnderWay sizes log core batch s → HasGroup t → length batch.pages ≡ batch.count) → (IsUnderWay sizes log core batch s → HasNone t → length batch.pages ≡ 0)
+      → (IsUnderWay sizes log core batch s → HasStore t → holds_store batch (group_file sizes batch) ≡ true)
+      → ((n : ℕ) → IsCleaned (Cleaning batch s) n → IsCleaned (Cleaning batch t) n)
+      → AtBatch sizes log core batch s → AtBatch sizes log core batch t
+  turned batch s t footed old halted kinds whole none stored clean at =
+      let way = at.way footed in
+      record {
+        way = λ _. record {
+          tail = way.tail;
+          low = way.low;
+          high = way.high;
+          leads = way.leads;
+          looked = λ i less. let l = way.looked i less in record { within = l.within; readied = l.readied; page = l.page; kind = kinds i less l.kind };
+          count = way.count;
+          whole = whole way;
+          none = none way;
+          stored = stored way;
+          files = way.files;
+          stores = way.stores;
+        };
+        head = at.head;
+        fresh = λ f. absurd (old f);
+        own = λ _ n within kind. clean n (at.own (minded s footed) n within kind);
+        halted = halted;
+      }
+
+  -- where it closes the group at hand
+  pub closes : (batch : Batch) (s t : Sweep) → HasFooted s → (IsFresh t → ⊥) → (HasHalted t → ⊥) → (HasGroup t → ⊥) → (HasStore t → ⊥)
+      → ((n : ℕ) → IsCleaned (Cleaning batch s) n → IsCleaned (Cleaning (closed batch) t) n)
+      → AtBatch sizes log core batch s → AtBatch sizes log core (closed batch) t
+  closes batch s t footed old halted whole stored clean at =
+      let way = at.way footed in
+      record {
+        way = λ _. record {
+          tail = way.tail;
+          low = way.low;
+          high = way.high;
+          leads = way.leads;
+          looked = λ i less. absurd (omega (arith, less));
+          count = λ some. absurd (omega (arith, some));
+          whole = λ g. absurd (whole g);
+          none = λ _. refl;
+          stored = λ g. absurd (stored g);
+          files = way.files;
+          stores = way.stores;
+        };
+        head = at.head;
+        fresh = λ f. absurd (old f);
+        own = λ _ n within kind. clean n (at.own (minded s footed) n within kind);
+        halted = λ h. absurd (halted h);
+      }
+
+  -- where it gives all back
+  pub leaves : (hands : List Word) (batch : Batch) → batch.head ≤ core.words HEAD → At sizes log core (withdrawing hands batch)
+  leaves [] batch head = tt
+  leaves (cell ∷ rest) batch head = record { way = λ f. absurd f; head = head; fresh = λ f. absurd f; own = λ m. absurd m; halted = λ h. absurd h }
+
+  -- nothing of the group at hand is cleaned
+  abbrev pub IsPlainly : Batch → Sweep → Type 0
+  IsPlainly batch s = (n : ℕ) → IsCleaned (Cleaning batch s) n → (batch.tail ≤ n) × (n < batch.reached + 0)
+
+  syncs : (batch : Batch) (s : Sweep) (files : List ℕ) → HasFooted s → IsPlainly batch s → AtBatch sizes log core batch s → At sizes log core (syncing (closed batch) files)
+  syncs batch s [] footed plain at = closes batch s (Moving 0) footed (λ f. f) (λ f. f) (λ f. f) (λ f. f) plain at
+  syncs batch s (file ∷ rest) footed plain at = closes batch s (Syncing (file ∷ rest)) footed (λ f. f) (λ f. f) (λ f. f) (λ f. f) plain at
+
+  pub finishes : (hands : List Word) (batch : Batch) (s : Sweep) → HasFooted s → IsPlainly batch s → AtBatch sizes log core batch s → At sizes log core (finishing sizes hands batch)
+  finishes hands batch s footed plain at = if_both (At sizes log core) (batch.reached == batch.tail) (withdrawing hands (closed batch)) (syncing (closed batch) (rising_files sizes batch))
+      (λ _. leaves hands (closed batch) at.head) (λ _. syncs batch s (rising_files sizes batch) footed plain at)
+
+  pub surveys : (hands : List Word) (batch : Batch) (s : Sweep) → HasFooted s → IsPlainly batch s → AtBatch sizes log core batch s → At sizes log core (surveying sizes hands batch)
+  surveys hands batch s footed plain at = if_both (At sizes log core) (nat_lt batch.reached batch.head) (Cleaning batch (Surveying 0)) (finishing sizes hands batch)
+      (λ _. turned batch s (Surveying 0) footed (λ f. f) (λ f. absurd f) (λ i less _. tt) (λ _ f. absurd f) (λ _ f. absurd f) (λ _ f. absurd f) plain at)
+      (λ _. finishes hands batch s footed plain at)
+
+  pub retreats : (hands : List Word) (batch : Batch) (s : Sweep) (i : ℕ) → HasFooted s → IsPlainly batch s → (IsUnderWay sizes log core batch s → length batch.pages ≡ batch.count) → AtBatch sizes log core batch s → At sizes log core (retreating sizes hands batch i)
+  retreats hands batch s i footed plain whole at = if_both (At sizes log core) (i == 0) (finishing sizes hands batch) (Cleaning batch (Retreating (i - 1)))
+      (λ _. finishes hands batch s footed plain at)
+      (λ _. turned batch s (Retreating (i - 1)) footed (λ f. f) (λ f. absurd f) (λ i less _. tt) (λ way _. whole way) (λ _ f. absurd f) (λ _ f. absurd f) plain at)
+
+  -- the next entry of the group, or what comes behind the last
+  pub goes_next : (batch : Batch) (i : ℕ) (sweep : Sweep) (last : Stage) → (i + 1 ≢ length batch.pages → AtBatch sizes log core batch sweep) → (i + 1 ≡ length batch.pages → At sizes log core last) → At sizes log core (each_next batch i sweep last)
+  goes_next batch i sweep last more done = if_both (At sizes log core) (i + 1 == length batch.pages) last (Cleaning batch sweep)
+      (λ e. done (eqb-true (i + 1) (length batch.pages) e)) (λ e. more (eqb-false (i + 1) (length batch.pages) e))
