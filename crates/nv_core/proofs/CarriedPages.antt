@@ -45,7 +45,7 @@ use Rattle.nv_core.proofs.PatchSteps.{word_page}
 -- what a store reads as, by what it tells
 pub bytes_told : (value : Value) → store_bytes value ≡ told_bytes (store_of value)
 bytes_told Bare = refl
-bytes_told (APart device room) = refl
+bytes_told (APart device spares) = refl
 bytes_told (AStore device) = refl
 bytes_told (ABuffer buffer) = refl
 
@@ -64,7 +64,7 @@ sync_bytes (Failed true faults) (AStore device) = told device.told
 sync_bytes (Failed false faults) (AStore device) = refl
 sync_bytes Refused (AStore device) = refl
 sync_bytes how Bare = refl
-sync_bytes how (APart device room) = refl
+sync_bytes how (APart device spares) = refl
 sync_bytes how (ABuffer buffer) = refl
 
 module _ (sizes : Sizes) (core : Core) (by : ℕ) (work : Work) where

@@ -36,7 +36,7 @@ use Rattle.nv_core.proofs.CrashRegions.{region_of, region_is, told_is}
 -- ---- what a part says, whose cell tells it
 
 says_of : (sizes : Sizes) (at : ℕ) (bytes : List ℕ) (value : Value) (part : Part) → IsPart value part → SaysPieceOf sizes at bytes value → SaysPiece sizes at bytes (Some part)
-says_of sizes at bytes (APart device room) part is says = subst (SaysPiece sizes at bytes) is says
+says_of sizes at bytes (APart device spares) part is says = subst (SaysPiece sizes at bytes) is says
 says_of sizes at bytes Bare part is says = absurd is
 says_of sizes at bytes (AStore device) part is says = absurd is
 says_of sizes at bytes (ABuffer buffer) part is says = absurd is

@@ -7,10 +7,10 @@ use Rattle.nv_plain.specs.Images.{Image, PartImage, header_of, name_of}
 use Rattle.nv_plain.specs.Layouts.{version_1}
 use Rattle.nv_pmem.specs.Limits.{IsPageSize, IsEntryCount}
 use Rattle.nv_pmem.specs.Part.{Part}
-use Rattle.nv_pmem.specs.Room.{Room}
 use Rattle.nv_header.specs.Heads.{first_names, is_record, length_of, room_of_name}
 use Rattle.nv_header.specs.Regions.{ReadsAs}
 use Rattle.nv_core.specs.Words.{Sizes, HEADER, ENTRY}
+use Rattle.nv_core.specs.Spares.{Spares}
 use Rattle.nv_core.specs.Values.{Value, Bare, APart, AStore, ABuffer, Device}
 use Rattle.nv_core.specs.Order.{Values}
 use Rattle.nv_core.specs.Core.{Core}
@@ -44,12 +44,12 @@ module _ (sizes : Sizes) (names : List (List ℕ)) (tails : Tails) (log : Log) (
   pub header_tells : (part : Part) × IsPart (core.values HEADER) part
   header_tells = go (core.values HEADER) refl
     where
-      told : (device : Device Part) (room : Room) → core.values HEADER ≡ APart device room → (tells : Option Part) → device.told ≡ tells → (part : Part) × IsPart (core.values HEADER) part
-      told device room e (Some part) t = (part, subst (λ v. IsPart v part) (sym e) t)
-      told device room e None t = absurd (tells_not (λ part has. let p : device.told ≡ Some part = subst (λ v. IsPart v part) e has in absurd (cc)))
+      told : (device : Device Part) (spares : Spares) → core.values HEADER ≡ APart device spares → (tells : Option Part) → device.told ≡ tells → (part : Part) × IsPart (core.values HEADER) part
+      told device spares e (Some part) t = (part, subst (λ v. IsPart v part) (sym e) t)
+      told device spares e None t = absurd (tells_not (λ part has. let p : device.told ≡ Some part = subst (λ v. IsPart v part) e has in absurd (cc)))
 
       go : (value : Value) → core.values HEADER ≡ value → (part : Part) × IsPart (core.values HEADER) part
-      go (APart device room) e = told device room e device.told refl
+      go (APart device spares) e = told device spares e device.told refl
       go Bare e = absurd (tells_not (λ part has. subst (λ v. IsPart v part) e has))
       go (AStore device) e = absurd (tells_not (λ part has. subst (λ v. IsPart v part) e has))
       go (ABuffer buffer) e = absurd (tells_not (λ part has. subst (λ v. IsPart v part) e has))

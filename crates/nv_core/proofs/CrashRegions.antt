@@ -77,11 +77,11 @@ told_or (Some part) = part
 told_or None = []
 
 abbrev pub told_part : Value → Part
-told_part (APart device room) = told_or device.told
+told_part (APart device spares) = told_or device.told
 told_part value = []
 
 pub told_is : (value : Value) (part : Part) → IsPart value part → told_part value ≡ part
-told_is (APart device room) part is = ap told_or is
+told_is (APart device spares) part is = ap told_or is
 told_is Bare part is = absurd is
 told_is (AStore device) part is = absurd is
 told_is (ABuffer buffer) part is = absurd is
@@ -108,9 +108,9 @@ region_is sizes leave each values = record { header = left_is leave each (values
 
 -- a part that told does after a device call, however that ended
 called_tells : (job : Job) (how : Ending) (value : Value) (part : Part) → IsPart value part → (now : Part) × IsPart (called job how value) now
-called_tells (Writes step room) how (APart device before) part is = go (has_come how)
+called_tells (Writes step spares) how (APart device before) part is = go (has_come how)
   where
-    go : (came : Bool) → (now : Part) × (part_after (Writes step room) came device.told ≡ Some now)
+    go : (came : Bool) → (now : Part) × (part_after (Writes step spares) came device.told ≡ Some now)
     go true = (after_line_step step part, ap (option_map (after_line_step step)) is)
     go false = (part, is)
 called_tells job how (APart device before) part is = (part, is)

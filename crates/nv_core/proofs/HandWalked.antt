@@ -9,10 +9,10 @@ use Rattle.nv_core.specs.Words.{ENTRY}
 use Rattle.nv_core.specs.Passes.{AreBytes}
 use Rattle.nv_core.specs.Order.{SaysPieceOf}
 use Rattle.nv_core.specs.Events.{IsRun}
-use Rattle.nv_core.specs.Walks.{walk_sizes, walk_bytes, walk_room}
+use Rattle.nv_core.specs.Walks.{walk_sizes, walk_bytes, walk_spares}
 use Rattle.nv_core.specs.CrashWalks.{placed_core}
 use Rattle.nv_core.specs.CrashByHand.{hand_store, hand_clean, hand_call, hand_next, late_bytes, hand_late, cleaned_core, next_core}
-use Rattle.nv_core.proofs.Walked.{comes, are_bytes, room_stays}
+use Rattle.nv_core.proofs.Walked.{comes, are_bytes, stays}
 
 -- the part of entry 0 has the first write's piece
 piece_says : SaysPieceOf walk_sizes 0 walk_bytes (placed_core.values (ENTRY 0))
@@ -78,43 +78,43 @@ next_run = (
               (
                 comes _ 1 _ (omega arith) (λ z. z) refl record { may = refl; is = refl },
                 (
-                  comes _ 1 _ (omega arith) (λ z. z) refl record { due = record { row = hand_call 1 64 walk_bytes 0; there = omega arith; at = refl; cell = refl; room = walk_room 2; job = refl }; ends = tt; leaves = room_stays (hand_call 1 64 walk_bytes 0).step; here = refl },
+                  comes _ 1 _ (omega arith) (λ z. z) refl record { due = record { row = hand_call 1 64 walk_bytes 0; there = omega arith; at = refl; cell = refl; spares = walk_spares 2; job = refl }; ends = tt; leaves = stays (hand_call 1 64 walk_bytes 0).step refl; here = refl },
                   (
-                    comes _ 1 _ (omega arith) (λ z. z) refl record { due = record { row = hand_call 1 64 walk_bytes 1; there = omega arith; at = refl; cell = refl; room = walk_room 2; job = refl }; ends = tt; leaves = room_stays (hand_call 1 64 walk_bytes 1).step; here = refl },
+                    comes _ 1 _ (omega arith) (λ z. z) refl record { due = record { row = hand_call 1 64 walk_bytes 1; there = omega arith; at = refl; cell = refl; spares = walk_spares 2; job = refl }; ends = tt; leaves = stays (hand_call 1 64 walk_bytes 1).step refl; here = refl },
                     (
-                      comes _ 1 _ (omega arith) (λ z. z) refl record { due = record { row = hand_call 1 64 walk_bytes 2; there = omega arith; at = refl; cell = refl; room = walk_room 2; job = refl }; ends = tt; leaves = room_stays (hand_call 1 64 walk_bytes 2).step; here = refl },
+                      comes _ 1 _ (omega arith) (λ z. z) refl record { due = record { row = hand_call 1 64 walk_bytes 2; there = omega arith; at = refl; cell = refl; spares = walk_spares 2; job = refl }; ends = tt; leaves = stays (hand_call 1 64 walk_bytes 2).step refl; here = refl },
                       (
-                        comes _ 1 _ (omega arith) (λ z. z) refl record { due = record { row = hand_call 1 64 walk_bytes 3; there = omega arith; at = refl; cell = refl; room = walk_room 2; job = refl }; ends = tt; leaves = room_stays (hand_call 1 64 walk_bytes 3).step; here = refl },
+                        comes _ 1 _ (omega arith) (λ z. z) refl record { due = record { row = hand_call 1 64 walk_bytes 3; there = omega arith; at = refl; cell = refl; spares = walk_spares 2; job = refl }; ends = tt; leaves = stays (hand_call 1 64 walk_bytes 3).step refl; here = refl },
                         (
-                          comes _ 1 _ (omega arith) (λ z. z) refl record { due = record { row = hand_call 1 64 walk_bytes 4; there = omega arith; at = refl; cell = refl; room = walk_room 2; job = refl }; ends = tt; leaves = room_stays (hand_call 1 64 walk_bytes 4).step; here = refl },
+                          comes _ 1 _ (omega arith) (λ z. z) refl record { due = record { row = hand_call 1 64 walk_bytes 4; there = omega arith; at = refl; cell = refl; spares = walk_spares 2; job = refl }; ends = tt; leaves = stays (hand_call 1 64 walk_bytes 4).step refl; here = refl },
                           (
-                            comes _ 1 _ (omega arith) (λ z. z) refl record { due = record { row = hand_call 1 64 walk_bytes 5; there = omega arith; at = refl; cell = refl; room = walk_room 2; job = refl }; ends = tt; leaves = room_stays (hand_call 1 64 walk_bytes 5).step; here = refl },
+                            comes _ 1 _ (omega arith) (λ z. z) refl record { due = record { row = hand_call 1 64 walk_bytes 5; there = omega arith; at = refl; cell = refl; spares = walk_spares 2; job = refl }; ends = tt; leaves = stays (hand_call 1 64 walk_bytes 5).step refl; here = refl },
                             (
-                              comes _ 1 _ (omega arith) (λ z. z) refl record { due = record { row = hand_call 1 64 walk_bytes 6; there = omega arith; at = refl; cell = refl; room = walk_room 2; job = refl }; ends = tt; leaves = room_stays (hand_call 1 64 walk_bytes 6).step; here = refl },
+                              comes _ 1 _ (omega arith) (λ z. z) refl record { due = record { row = hand_call 1 64 walk_bytes 6; there = omega arith; at = refl; cell = refl; spares = walk_spares 2; job = refl }; ends = tt; leaves = stays (hand_call 1 64 walk_bytes 6).step refl; here = refl },
                               (
-                                comes _ 1 _ (omega arith) (λ z. z) refl record { due = record { row = hand_call 1 64 walk_bytes 7; there = omega arith; at = refl; cell = refl; room = walk_room 2; job = refl }; ends = tt; leaves = room_stays (hand_call 1 64 walk_bytes 7).step; here = refl },
+                                comes _ 1 _ (omega arith) (λ z. z) refl record { due = record { row = hand_call 1 64 walk_bytes 7; there = omega arith; at = refl; cell = refl; spares = walk_spares 2; job = refl }; ends = tt; leaves = stays (hand_call 1 64 walk_bytes 7).step refl; here = refl },
                                 (
-                                  comes _ 1 _ (omega arith) (λ z. z) refl record { due = record { row = hand_call 1 64 walk_bytes 8; there = omega arith; at = refl; cell = refl; room = walk_room 2; job = refl }; ends = tt; leaves = room_stays (hand_call 1 64 walk_bytes 8).step; here = refl },
+                                  comes _ 1 _ (omega arith) (λ z. z) refl record { due = record { row = hand_call 1 64 walk_bytes 8; there = omega arith; at = refl; cell = refl; spares = walk_spares 2; job = refl }; ends = tt; leaves = stays (hand_call 1 64 walk_bytes 8).step refl; here = refl },
                                   (
-                                    comes _ 1 _ (omega arith) (λ z. z) refl record { due = record { row = hand_call 1 64 walk_bytes 9; there = omega arith; at = refl; cell = refl; room = walk_room 2; job = refl }; ends = tt; leaves = room_stays (hand_call 1 64 walk_bytes 9).step; here = refl },
+                                    comes _ 1 _ (omega arith) (λ z. z) refl record { due = record { row = hand_call 1 64 walk_bytes 9; there = omega arith; at = refl; cell = refl; spares = walk_spares 2; job = refl }; ends = tt; leaves = stays (hand_call 1 64 walk_bytes 9).step refl; here = refl },
                                     (
-                                      comes _ 1 _ (omega arith) (λ z. z) refl record { due = record { row = hand_call 1 64 walk_bytes 10; there = omega arith; at = refl; cell = refl; room = walk_room 2; job = refl }; ends = tt; leaves = room_stays (hand_call 1 64 walk_bytes 10).step; here = refl },
+                                      comes _ 1 _ (omega arith) (λ z. z) refl record { due = record { row = hand_call 1 64 walk_bytes 10; there = omega arith; at = refl; cell = refl; spares = walk_spares 2; job = refl }; ends = tt; leaves = stays (hand_call 1 64 walk_bytes 10).step refl; here = refl },
                                       (
-                                        comes _ 1 _ (omega arith) (λ z. z) refl record { due = record { row = hand_call 1 64 walk_bytes 11; there = omega arith; at = refl; cell = refl; room = walk_room 2; job = refl }; ends = tt; leaves = room_stays (hand_call 1 64 walk_bytes 11).step; here = refl },
+                                        comes _ 1 _ (omega arith) (λ z. z) refl record { due = record { row = hand_call 1 64 walk_bytes 11; there = omega arith; at = refl; cell = refl; spares = walk_spares 2; job = refl }; ends = tt; leaves = stays (hand_call 1 64 walk_bytes 11).step refl; here = refl },
                                         (
-                                          comes _ 1 _ (omega arith) (λ z. z) refl record { due = record { row = hand_call 1 64 walk_bytes 12; there = omega arith; at = refl; cell = refl; room = walk_room 2; job = refl }; ends = tt; leaves = room_stays (hand_call 1 64 walk_bytes 12).step; here = refl },
+                                          comes _ 1 _ (omega arith) (λ z. z) refl record { due = record { row = hand_call 1 64 walk_bytes 12; there = omega arith; at = refl; cell = refl; spares = walk_spares 2; job = refl }; ends = tt; leaves = stays (hand_call 1 64 walk_bytes 12).step refl; here = refl },
                                           (
-                                            comes _ 1 _ (omega arith) (λ z. z) refl record { due = record { row = hand_call 1 64 walk_bytes 13; there = omega arith; at = refl; cell = refl; room = walk_room 2; job = refl }; ends = tt; leaves = room_stays (hand_call 1 64 walk_bytes 13).step; here = refl },
+                                            comes _ 1 _ (omega arith) (λ z. z) refl record { due = record { row = hand_call 1 64 walk_bytes 13; there = omega arith; at = refl; cell = refl; spares = walk_spares 2; job = refl }; ends = tt; leaves = stays (hand_call 1 64 walk_bytes 13).step refl; here = refl },
                                             (
-                                              comes _ 1 _ (omega arith) (λ z. z) refl record { due = record { row = hand_call 1 64 walk_bytes 14; there = omega arith; at = refl; cell = refl; room = walk_room 2; job = refl }; ends = tt; leaves = room_stays (hand_call 1 64 walk_bytes 14).step; here = refl },
+                                              comes _ 1 _ (omega arith) (λ z. z) refl record { due = record { row = hand_call 1 64 walk_bytes 14; there = omega arith; at = refl; cell = refl; spares = walk_spares 2; job = refl }; ends = tt; leaves = stays (hand_call 1 64 walk_bytes 14).step refl; here = refl },
                                               (
-                                                comes _ 1 _ (omega arith) (λ z. z) refl record { due = record { row = hand_call 1 64 walk_bytes 15; there = omega arith; at = refl; cell = refl; room = walk_room 2; job = refl }; ends = tt; leaves = room_stays (hand_call 1 64 walk_bytes 15).step; here = refl },
+                                                comes _ 1 _ (omega arith) (λ z. z) refl record { due = record { row = hand_call 1 64 walk_bytes 15; there = omega arith; at = refl; cell = refl; spares = walk_spares 2; job = refl }; ends = tt; leaves = stays (hand_call 1 64 walk_bytes 15).step refl; here = refl },
                                                 (
-                                                  comes _ 1 _ (omega arith) (λ z. z) refl record { due = record { row = hand_call 1 64 walk_bytes 16; there = omega arith; at = refl; cell = refl; room = walk_room 2; job = refl }; ends = tt; leaves = room_stays (hand_call 1 64 walk_bytes 16).step; here = refl },
+                                                  comes _ 1 _ (omega arith) (λ z. z) refl record { due = record { row = hand_call 1 64 walk_bytes 16; there = omega arith; at = refl; cell = refl; spares = walk_spares 2; job = refl }; ends = tt; leaves = stays (hand_call 1 64 walk_bytes 16).step refl; here = refl },
                                                   (
-                                                    comes _ 1 _ (omega arith) (λ z. z) refl record { due = record { row = hand_call 1 64 walk_bytes 17; there = omega arith; at = refl; cell = refl; room = walk_room 2; job = refl }; ends = tt; leaves = room_stays (hand_call 1 64 walk_bytes 17).step; here = refl },
+                                                    comes _ 1 _ (omega arith) (λ z. z) refl record { due = record { row = hand_call 1 64 walk_bytes 17; there = omega arith; at = refl; cell = refl; spares = walk_spares 2; job = refl }; ends = tt; leaves = stays (hand_call 1 64 walk_bytes 17).step refl; here = refl },
                                                     (
-                                                      comes _ 1 _ (omega arith) (λ z. z) refl record { due = record { row = hand_call 1 64 walk_bytes 18; there = omega arith; at = refl; cell = refl; room = walk_room 2; job = refl }; ends = tt; leaves = room_stays (hand_call 1 64 walk_bytes 18).step; here = refl },
+                                                      comes _ 1 _ (omega arith) (λ z. z) refl record { due = record { row = hand_call 1 64 walk_bytes 18; there = omega arith; at = refl; cell = refl; spares = walk_spares 2; job = refl }; ends = tt; leaves = stays (hand_call 1 64 walk_bytes 18).step refl; here = refl },
                                                       (
                                                         comes _ 1 _ (omega arith) (λ z. z) refl record { may = refl; is = refl },
                                                         (comes _ 1 _ (omega arith) (λ z. z) refl record { may = refl; is = refl }, tt),
@@ -173,38 +173,38 @@ late_run = (
               (
                 comes _ 2 _ (omega arith) (λ z. z) refl record { may = refl; is = refl },
                 (
-                  comes _ 2 _ (omega arith) (λ z. z) refl record { due = record { row = hand_call 2 3 late_bytes 0; there = omega arith; at = refl; cell = refl; room = walk_room 2; job = refl }; ends = tt; leaves = room_stays (hand_call 2 3 late_bytes 0).step; here = refl },
+                  comes _ 2 _ (omega arith) (λ z. z) refl record { due = record { row = hand_call 2 3 late_bytes 0; there = omega arith; at = refl; cell = refl; spares = walk_spares 2; job = refl }; ends = tt; leaves = stays (hand_call 2 3 late_bytes 0).step refl; here = refl },
                   (
-                    comes _ 2 _ (omega arith) (λ z. z) refl record { due = record { row = hand_call 2 3 late_bytes 1; there = omega arith; at = refl; cell = refl; room = walk_room 2; job = refl }; ends = tt; leaves = room_stays (hand_call 2 3 late_bytes 1).step; here = refl },
+                    comes _ 2 _ (omega arith) (λ z. z) refl record { due = record { row = hand_call 2 3 late_bytes 1; there = omega arith; at = refl; cell = refl; spares = walk_spares 2; job = refl }; ends = tt; leaves = stays (hand_call 2 3 late_bytes 1).step refl; here = refl },
                     (
-                      comes _ 2 _ (omega arith) (λ z. z) refl record { due = record { row = hand_call 2 3 late_bytes 2; there = omega arith; at = refl; cell = refl; room = walk_room 2; job = refl }; ends = tt; leaves = room_stays (hand_call 2 3 late_bytes 2).step; here = refl },
+                      comes _ 2 _ (omega arith) (λ z. z) refl record { due = record { row = hand_call 2 3 late_bytes 2; there = omega arith; at = refl; cell = refl; spares = walk_spares 2; job = refl }; ends = tt; leaves = stays (hand_call 2 3 late_bytes 2).step refl; here = refl },
                       (
-                        comes _ 2 _ (omega arith) (λ z. z) refl record { due = record { row = hand_call 2 3 late_bytes 3; there = omega arith; at = refl; cell = refl; room = walk_room 2; job = refl }; ends = tt; leaves = room_stays (hand_call 2 3 late_bytes 3).step; here = refl },
+                        comes _ 2 _ (omega arith) (λ z. z) refl record { due = record { row = hand_call 2 3 late_bytes 3; there = omega arith; at = refl; cell = refl; spares = walk_spares 2; job = refl }; ends = tt; leaves = stays (hand_call 2 3 late_bytes 3).step refl; here = refl },
                         (
-                          comes _ 2 _ (omega arith) (λ z. z) refl record { due = record { row = hand_call 2 3 late_bytes 4; there = omega arith; at = refl; cell = refl; room = walk_room 2; job = refl }; ends = tt; leaves = room_stays (hand_call 2 3 late_bytes 4).step; here = refl },
+                          comes _ 2 _ (omega arith) (λ z. z) refl record { due = record { row = hand_call 2 3 late_bytes 4; there = omega arith; at = refl; cell = refl; spares = walk_spares 2; job = refl }; ends = tt; leaves = stays (hand_call 2 3 late_bytes 4).step refl; here = refl },
                           (
-                            comes _ 2 _ (omega arith) (λ z. z) refl record { due = record { row = hand_call 2 3 late_bytes 5; there = omega arith; at = refl; cell = refl; room = walk_room 2; job = refl }; ends = tt; leaves = room_stays (hand_call 2 3 late_bytes 5).step; here = refl },
+                            comes _ 2 _ (omega arith) (λ z. z) refl record { due = record { row = hand_call 2 3 late_bytes 5; there = omega arith; at = refl; cell = refl; spares = walk_spares 2; job = refl }; ends = tt; leaves = stays (hand_call 2 3 late_bytes 5).step refl; here = refl },
                             (
-                              comes _ 2 _ (omega arith) (λ z. z) refl record { due = record { row = hand_call 2 3 late_bytes 6; there = omega arith; at = refl; cell = refl; room = walk_room 2; job = refl }; ends = tt; leaves = room_stays (hand_call 2 3 late_bytes 6).step; here = refl },
+                              comes _ 2 _ (omega arith) (λ z. z) refl record { due = record { row = hand_call 2 3 late_bytes 6; there = omega arith; at = refl; cell = refl; spares = walk_spares 2; job = refl }; ends = tt; leaves = stays (hand_call 2 3 late_bytes 6).step refl; here = refl },
                               (
-                                comes _ 2 _ (omega arith) (λ z. z) refl record { due = record { row = hand_call 2 3 late_bytes 7; there = omega arith; at = refl; cell = refl; room = walk_room 2; job = refl }; ends = tt; leaves = room_stays (hand_call 2 3 late_bytes 7).step; here = refl },
+                                comes _ 2 _ (omega arith) (λ z. z) refl record { due = record { row = hand_call 2 3 late_bytes 7; there = omega arith; at = refl; cell = refl; spares = walk_spares 2; job = refl }; ends = tt; leaves = stays (hand_call 2 3 late_bytes 7).step refl; here = refl },
                                 (
-                                  comes _ 2 _ (omega arith) (λ z. z) refl record { due = record { row = hand_call 2 3 late_bytes 8; there = omega arith; at = refl; cell = refl; room = walk_room 2; job = refl }; ends = tt; leaves = room_stays (hand_call 2 3 late_bytes 8).step; here = refl },
+                                  comes _ 2 _ (omega arith) (λ z. z) refl record { due = record { row = hand_call 2 3 late_bytes 8; there = omega arith; at = refl; cell = refl; spares = walk_spares 2; job = refl }; ends = tt; leaves = stays (hand_call 2 3 late_bytes 8).step refl; here = refl },
                                   (
-                                    comes _ 2 _ (omega arith) (λ z. z) refl record { due = record { row = hand_call 2 3 late_bytes 9; there = omega arith; at = refl; cell = refl; room = walk_room 2; job = refl }; ends = tt; leaves = room_stays (hand_call 2 3 late_bytes 9).step; here = refl },
+                                    comes _ 2 _ (omega arith) (λ z. z) refl record { due = record { row = hand_call 2 3 late_bytes 9; there = omega arith; at = refl; cell = refl; spares = walk_spares 2; job = refl }; ends = tt; leaves = stays (hand_call 2 3 late_bytes 9).step refl; here = refl },
                                     (
-                                      comes _ 2 _ (omega arith) (λ z. z) refl record { due = record { row = hand_call 2 3 late_bytes 10; there = omega arith; at = refl; cell = refl; room = walk_room 2; job = refl }; ends = tt; leaves = room_stays (hand_call 2 3 late_bytes 10).step; here = refl },
+                                      comes _ 2 _ (omega arith) (λ z. z) refl record { due = record { row = hand_call 2 3 late_bytes 10; there = omega arith; at = refl; cell = refl; spares = walk_spares 2; job = refl }; ends = tt; leaves = stays (hand_call 2 3 late_bytes 10).step refl; here = refl },
                                       (
-                                        comes _ 2 _ (omega arith) (λ z. z) refl record { due = record { row = hand_call 2 3 late_bytes 11; there = omega arith; at = refl; cell = refl; room = walk_room 2; job = refl }; ends = tt; leaves = room_stays (hand_call 2 3 late_bytes 11).step; here = refl },
+                                        comes _ 2 _ (omega arith) (λ z. z) refl record { due = record { row = hand_call 2 3 late_bytes 11; there = omega arith; at = refl; cell = refl; spares = walk_spares 2; job = refl }; ends = tt; leaves = stays (hand_call 2 3 late_bytes 11).step refl; here = refl },
                                         (
-                                          comes _ 2 _ (omega arith) (λ z. z) refl record { due = record { row = hand_call 2 3 late_bytes 12; there = omega arith; at = refl; cell = refl; room = walk_room 2; job = refl }; ends = tt; leaves = room_stays (hand_call 2 3 late_bytes 12).step; here = refl },
+                                          comes _ 2 _ (omega arith) (λ z. z) refl record { due = record { row = hand_call 2 3 late_bytes 12; there = omega arith; at = refl; cell = refl; spares = walk_spares 2; job = refl }; ends = tt; leaves = stays (hand_call 2 3 late_bytes 12).step refl; here = refl },
                                           (
-                                            comes _ 2 _ (omega arith) (λ z. z) refl record { due = record { row = hand_call 2 3 late_bytes 13; there = omega arith; at = refl; cell = refl; room = walk_room 2; job = refl }; ends = tt; leaves = room_stays (hand_call 2 3 late_bytes 13).step; here = refl },
+                                            comes _ 2 _ (omega arith) (λ z. z) refl record { due = record { row = hand_call 2 3 late_bytes 13; there = omega arith; at = refl; cell = refl; spares = walk_spares 2; job = refl }; ends = tt; leaves = stays (hand_call 2 3 late_bytes 13).step refl; here = refl },
                                             (
-                                              comes _ 2 _ (omega arith) (λ z. z) refl record { due = record { row = hand_call 2 3 late_bytes 14; there = omega arith; at = refl; cell = refl; room = walk_room 2; job = refl }; ends = tt; leaves = room_stays (hand_call 2 3 late_bytes 14).step; here = refl },
+                                              comes _ 2 _ (omega arith) (λ z. z) refl record { due = record { row = hand_call 2 3 late_bytes 14; there = omega arith; at = refl; cell = refl; spares = walk_spares 2; job = refl }; ends = tt; leaves = stays (hand_call 2 3 late_bytes 14).step refl; here = refl },
                                               (
-                                                comes _ 2 _ (omega arith) (λ z. z) refl record { due = record { row = hand_call 2 3 late_bytes 15; there = omega arith; at = refl; cell = refl; room = walk_room 2; job = refl }; ends = tt; leaves = room_stays (hand_call 2 3 late_bytes 15).step; here = refl },
-                                                (comes _ 2 _ (omega arith) (λ z. z) refl record { due = record { row = hand_call 2 3 late_bytes 16; there = omega arith; at = refl; cell = refl; room = walk_room 2; job = refl }; ends = tt; leaves = room_stays (hand_call 2 3 late_bytes 16).step; here = refl }, tt),
+                                                comes _ 2 _ (omega arith) (λ z. z) refl record { due = record { row = hand_call 2 3 late_bytes 15; there = omega arith; at = refl; cell = refl; spares = walk_spares 2; job = refl }; ends = tt; leaves = stays (hand_call 2 3 late_bytes 15).step refl; here = refl },
+                                                (comes _ 2 _ (omega arith) (λ z. z) refl record { due = record { row = hand_call 2 3 late_bytes 16; there = omega arith; at = refl; cell = refl; spares = walk_spares 2; job = refl }; ends = tt; leaves = stays (hand_call 2 3 late_bytes 16).step refl; here = refl }, tt),
                                               ),
                                             ),
                                           ),

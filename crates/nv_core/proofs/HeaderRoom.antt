@@ -14,6 +14,7 @@ use Rattle.nv_header.specs.Regions.{IsRoomy}
 use Rattle.nv_core.specs.Words.{Sizes, Word, STOP, HEADER, STORE, ENTRY}
 use Rattle.nv_core.specs.Sweeps.{Batch, Sweep, Barring, Minding, Footing, Lifting, Peeking, Carrying, Setting, Undoing, Syncing, Moving, Freeing, Retiring, Discharging, Lowering, Parting, Failing, Withdrawing, Chore, Looks, Halts}
 use Rattle.nv_core.specs.Chores.{next_chore, after_chore, after_chore_work, withdrawing, discharging, rising_files, chore_word, new_batch, group_file}
+use Rattle.nv_core.specs.Spares.{Spares, room_of}
 use Rattle.nv_core.specs.Values.{Value, Bare, APart, AStore, ABuffer, Writes, Ending, Made, Failed, Refused, called}
 use Rattle.nv_core.specs.Passes.{Stage, Idle, Locking, Checking, Committing, Copying, Patching, Pledging, Cleaning, Pass, page_count, first_page, file_of}
 use Rattle.nv_core.specs.Deeds.{Deed, Stops, Tends, Splits, Leaves, Joins, slot_of, chore_move, moved}
@@ -47,25 +48,25 @@ tails_end_roomy tail room roomy = λ stored take flushed flush now fence. record
 }
 
 all_to_come : (tail : ℕ) (value : Value) → KeepsRoomy value → EndsRoomy (tail_steps tail) value
-all_to_come tail (APart device room) is = tails_end_roomy tail room is
+all_to_come tail (APart device spares) is = tails_end_roomy tail (room_of spares) is
 all_to_come tail value is = absurd is
 
 none_to_come : (value : Value) → EndsRoomy [] value → KeepsRoomy value
-none_to_come (APart device room) is = is
+none_to_come (APart device spares) is = is
 none_to_come value is = absurd is
 
 -- one of its device calls comes
-one_comes : (step : Step) (room : Room) (steps : List Step) (value : Value) → EndsRoomy (step ∷ steps) value → MayLeave value (Writes step room) Made → EndsRoomy steps (called (Writes step room) Made value)
-one_comes step room steps (APart device before) is leaves = is room leaves
-one_comes step room steps Bare is leaves = absurd is
-one_comes step room steps (AStore device) is leaves = absurd is
-one_comes step room steps (ABuffer buffer) is leaves = absurd is
+one_comes : (step : Step) (left : Spares) (steps : List Step) (value : Value) → EndsRoomy (step ∷ steps) value → MayLeave value (Writes step left) Made → EndsRoomy steps (called (Writes step left) Made value)
+one_comes step left steps (APart device before) is leaves = is (room_of left) leaves
+one_comes step left steps Bare is leaves = absurd is
+one_comes step left steps (AStore device) is leaves = absurd is
+one_comes step left steps (ABuffer buffer) is leaves = absurd is
 
-pub none_refused : (step : Step) (room : Room) (value : Value) → MayLeave value (Writes step room) Refused → ⊥
-none_refused step room (APart device before) leaves = leaves
-none_refused step room Bare leaves = leaves
-none_refused step room (AStore device) leaves = leaves
-none_refused step room (ABuffer buffer) leaves = leaves
+pub none_refused : (step : Step) (left : Spares) (value : Value) → MayLeave value (Writes step left) Refused → ⊥
+none_refused step left (APart device before) leaves = leaves
+none_refused step left Bare leaves = leaves
+none_refused step left (AStore device) leaves = leaves
+none_refused step left (ABuffer buffer) leaves = leaves
 
 next_due : (steps : List Step) (calls : ℕ) (step : Step) → calls < length steps → slice_index_or steps calls step ≡ step → drop calls steps ≡ step ∷ drop (suc calls) steps
 next_due [] calls step less is = absurd (omega (arith, less))
@@ -248,12 +249,12 @@ module _ (sizes : Sizes) (first : Values) (by : ℕ) (core : Core) (work : Work)
   others batch sweep at sweeping value n ne stage e = tt
 
   module _ (batch : Batch) (calls : ℕ) (at : (core.passes by).stage ≡ Cleaning batch (Moving calls)) (due : IsTailCall batch.reached calls work) where
-    value_now : (after_work sizes by work core).values HEADER ≡ called (Writes due.step due.room) work.ending (core.values HEADER)
+    value_now : (after_work sizes by work core).values HEADER ≡ called (Writes due.step due.spares) work.ending (core.values HEADER)
     value_now = header_read work.job work.ending (core.passes by).stage (with_word core.values work.cell (called work.job work.ending (core.values work.cell)))
         ∙ ap (λ c. with_word core.values c (called work.job work.ending (core.values c)) HEADER) due.cell ∙ word_here core.values HEADER (called work.job work.ending (core.values HEADER)) ∙ ap (λ j. called j work.ending (core.values HEADER)) due.job
 
-    leaves : MayLeave (core.values HEADER) (Writes due.step due.room) work.ending
-    leaves = subst (λ c. MayLeave (core.values c) (Writes due.step due.room) work.ending) due.cell (subst (λ j. MayLeave (core.values work.cell) j work.ending) due.job may.leaves)
+    leaves : MayLeave (core.values HEADER) (Writes due.step due.spares) work.ending
+    leaves = subst (λ c. MayLeave (core.values c) (Writes due.step due.spares) work.ending) due.cell (subst (λ j. MayLeave (core.values work.cell) j work.ending) due.job may.leaves)
 
     before_call : EndsRoomy (drop calls (tail_steps batch.reached)) (core.values HEADER)
     before_call = go calls at
@@ -263,10 +264,10 @@ module _ (sizes : Sizes) (first : Values) (by : ℕ) (core : Core) (work : Work)
         go (suc calls) at = subst (λ s. MovesRoomy s (core.values HEADER)) at (sound.rooms.moving by)
 
     after_call : work.ending ≡ Made → EndsRoomy (drop (suc calls) (tail_steps batch.reached)) ((after_work sizes by work core).values HEADER)
-    after_call made = subst (EndsRoomy (drop (suc calls) (tail_steps batch.reached))) (sym (value_now ∙ ap (λ how. called (Writes due.step due.room) how (core.values HEADER)) made))
-        (one_comes due.step due.room (drop (suc calls) (tail_steps batch.reached)) (core.values HEADER)
+    after_call made = subst (EndsRoomy (drop (suc calls) (tail_steps batch.reached))) (sym (value_now ∙ ap (λ how. called (Writes due.step due.spares) how (core.values HEADER)) made))
+        (one_comes due.step due.spares (drop (suc calls) (tail_steps batch.reached)) (core.values HEADER)
         (subst (λ list. EndsRoomy list (core.values HEADER)) (next_due (tail_steps batch.reached) calls due.step due.there due.at) before_call)
-        (subst (MayLeave (core.values HEADER) (Writes due.step due.room)) made leaves))
+        (subst (MayLeave (core.values HEADER) (Writes due.step due.spares)) made leaves))
 
     -- where the cleaner stands then
     after_stage : (how : Ending) → work.ending ≡ how → ((core.words STOP ≡ 0 → (IsMoving (after_chore_work batch how (Moving calls)) → ⊥) → KeepsRoomy ((after_work sizes by work core).values HEADER))
@@ -281,7 +282,7 @@ module _ (sizes : Sizes) (first : Values) (by : ℕ) (core : Core) (work : Work)
         (λ _. subst (λ n. (core.words STOP ≡ 0 → (IsMoving (Cleaning batch (Moving n)) → ⊥) → KeepsRoomy ((after_work sizes by work core).values HEADER)) × MovesRoomy (Cleaning batch (Moving n)) ((after_work sizes by work core).values HEADER))
         (sym (add-one calls)) (λ _ none. absurd (none tt), after_call made))
     after_stage (Failed came faults) made = (λ _ none. absurd (none tt), λ f. absurd f)
-    after_stage Refused made = absurd (none_refused due.step due.room (core.values HEADER) (subst (MayLeave (core.values HEADER) (Writes due.step due.room)) made leaves))
+    after_stage Refused made = absurd (none_refused due.step due.spares (core.values HEADER) (subst (MayLeave (core.values HEADER) (Writes due.step due.spares)) made leaves))
 
     moves_tail : HasHeader
     moves_tail = (

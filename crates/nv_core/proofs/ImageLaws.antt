@@ -36,7 +36,7 @@ use Rattle.nv_core.proofs.KeepsWritten.{IsCounted, counted_group, nothing_made, 
 
 -- a cell tells one state at a time
 pub part_one : (value : Value) (one other : Part) → IsPart value one → IsPart value other → one ≡ other
-part_one (APart device room) one other a b = some_same one other (sym a ∙ b)
+part_one (APart device spares) one other a b = some_same one other (sym a ∙ b)
   where
     some_same : (one other : Part) → Some one ≡ Some other → one ≡ other
     some_same one other e = cc

@@ -8,12 +8,12 @@ use Rattle.nv_plain.specs.Images.{PartImage}
 use Rattle.nv_pmem.specs.Part.{Part, word_of}
 use Rattle.nv_pmem.specs.Images.{IsImage, IsQuiet}
 use Rattle.nv_pmem.specs.Laws.{StepsKeepLines}
-use Rattle.nv_pmem.specs.Room.{Room}
 use Rattle.nv_pmem.specs.Runs.{run}
 use Rattle.nv_pmem.specs.Steps.{Step, after_step as after_line_step}
 use Rattle.nv_header.specs.HeaderSteps.{tail_steps}
 use Rattle.nv_header.specs.Laws.{after_some_tail}
 use Rattle.nv_core.specs.Words.{Sizes, Word, HEADER, STORE, ENTRY, PAGE, index}
+use Rattle.nv_core.specs.Spares.{Spares}
 use Rattle.nv_core.specs.Values.{Value, Bare, APart, AStore, ABuffer, Job, Writes, Reads, Ending, Made, Failed, Refused, called, filled}
 use Rattle.nv_core.specs.Sweeps.{Batch, Sweep, Peeking, Carrying, Syncing, Moving}
 use Rattle.nv_core.specs.Chores.{group_file}
@@ -70,40 +70,40 @@ mapped step None part is = cc
 mapped step (Some before) part is = (before, refl, cc)
 
 -- a call on a cell did its work there, or changed nothing that it tells
-stepped_part : (step : Step) (left : Room) (how : Ending) (value : Value) (part : Part) → IsPart (called (Writes step left) how value) part → IsPart value part ⊎ HasStepped step value part
-stepped_part step left Made (APart device room) part is = inr (mapped step device.told part is)
-stepped_part step left (Failed true faults) (APart device room) part is = inr (mapped step device.told part is)
-stepped_part step left (Failed false faults) (APart device room) part is = inl is
-stepped_part step left Refused (APart device room) part is = inl is
+stepped_part : (step : Step) (left : Spares) (how : Ending) (value : Value) (part : Part) → IsPart (called (Writes step left) how value) part → IsPart value part ⊎ HasStepped step value part
+stepped_part step left Made (APart device spares) part is = inr (mapped step device.told part is)
+stepped_part step left (Failed true faults) (APart device spares) part is = inr (mapped step device.told part is)
+stepped_part step left (Failed false faults) (APart device spares) part is = inl is
+stepped_part step left Refused (APart device spares) part is = inl is
 stepped_part step left how Bare part is = absurd is
 stepped_part step left how (AStore device) part is = absurd is
 stepped_part step left how (ABuffer buffer) part is = absurd is
 
-made_part : (step : Step) (left : Room) (value : Value) (part : Part) → IsPart (called (Writes step left) Made value) part → HasStepped step value part
-made_part step left (APart device room) part is = mapped step device.told part is
+made_part : (step : Step) (left : Spares) (value : Value) (part : Part) → IsPart (called (Writes step left) Made value) part → HasStepped step value part
+made_part step left (APart device spares) part is = mapped step device.told part is
 made_part step left Bare part is = absurd is
 made_part step left (AStore device) part is = absurd is
 made_part step left (ABuffer buffer) part is = absurd is
 
-came_part : (step : Step) (left : Room) (faults : ℕ) (value : Value) (part : Part) → IsPart (called (Writes step left) (Failed true faults) value) part → HasStepped step value part
-came_part step left faults (APart device room) part is = mapped step device.told part is
+came_part : (step : Step) (left : Spares) (faults : ℕ) (value : Value) (part : Part) → IsPart (called (Writes step left) (Failed true faults) value) part → HasStepped step value part
+came_part step left faults (APart device spares) part is = mapped step device.told part is
 came_part step left faults Bare part is = absurd is
 came_part step left faults (AStore device) part is = absurd is
 came_part step left faults (ABuffer buffer) part is = absurd is
 
-lost_part : (step : Step) (left : Room) (faults : ℕ) (value : Value) (part : Part) → IsPart (called (Writes step left) (Failed false faults) value) part → IsPart value part
-lost_part step left faults (APart device room) part is = is
+lost_part : (step : Step) (left : Spares) (faults : ℕ) (value : Value) (part : Part) → IsPart (called (Writes step left) (Failed false faults) value) part → IsPart value part
+lost_part step left faults (APart device spares) part is = is
 lost_part step left faults Bare part is = is
 lost_part step left faults (AStore device) part is = is
 lost_part step left faults (ABuffer buffer) part is = is
 
-refused_part : (step : Step) (left : Room) (value : Value) (part : Part) → IsPart (called (Writes step left) Refused value) part → IsPart value part
-refused_part step left (APart device room) part is = is
+refused_part : (step : Step) (left : Spares) (value : Value) (part : Part) → IsPart (called (Writes step left) Refused value) part → IsPart value part
+refused_part step left (APart device spares) part is = is
 refused_part step left Bare part is = is
 refused_part step left (AStore device) part is = is
 refused_part step left (ABuffer buffer) part is = is
 
-called_lines : StepsKeepLines → (step : Step) (left : Room) (how : Ending) (value : Value) (part : Part) → IsPart (called (Writes step left) how value) part → HasLines value part
+called_lines : StepsKeepLines → (step : Step) (left : Spares) (how : Ending) (value : Value) (part : Part) → IsPart (called (Writes step left) how value) part → HasLines value part
 called_lines keeps step left how value part is = elim (stepped_part step left how value part is) [
   | inl same ↦ (part, same, refl)
   | inr new ↦ (new.0, new.1, ap length new.2 ∙ one_lines keeps step new.0)
@@ -133,7 +133,7 @@ module _ (laws : LogLaws) (tail calls : ℕ) (part : Part) (quiet : IsQuiet part
 
 module _ (laws : LogLaws) (first : Values) (tails : Tails) (pass : Pass) (work : Work) (values : Values) (tail calls : ℕ)
     (stays : HeaderStays first tails values) (due : IsTailCall tail calls work) (count : tails.calls ≡ calls) (to : tails.calls ≢ 0 → tails.next ≡ tail) where
-  tail_value : values_worked pass work values HEADER ≡ called (Writes due.step due.room) work.ending (values HEADER)
+  tail_value : values_worked pass work values HEADER ≡ called (Writes due.step due.spares) work.ending (values HEADER)
   tail_value =
       header_read work.job work.ending pass.stage (with_word values work.cell (called work.job work.ending (values work.cell)))
       ∙ ap (λ c. with_word values c (called work.job work.ending (values c)) HEADER) due.cell
@@ -205,10 +205,10 @@ module _ (laws : LogLaws) (first : Values) (tails : Tails) (pass : Pass) (work :
   abbrev on_the_way : Tails
   on_the_way = record { least = tails.least; next = tail; calls = calls + 1 }
 
-  here : (part : Part) → IsPart (values_worked pass work values HEADER) part → IsPart (called (Writes due.step due.room) work.ending (values HEADER)) part
+  here : (part : Part) → IsPart (values_worked pass work values HEADER) part → IsPart (called (Writes due.step due.spares) work.ending (values HEADER)) part
   here part is = subst (λ v. IsPart v part) tail_value is
 
-  came_on : ((part : Part) → IsPart (called (Writes due.step due.room) work.ending (values HEADER)) part → HasStepped due.step (values HEADER) part) → HeaderStays first on_the_way (values_worked pass work values)
+  came_on : ((part : Part) → IsPart (called (Writes due.step due.spares) work.ending (values HEADER)) part → HasStepped due.step (values HEADER) part) → HeaderStays first on_the_way (values_worked pass work values)
   came_on came = record {
     words = λ was part a b. words_now part (came part (here part b)) was a;
     tail_is = λ part b. tail_now part (came part (here part b));
@@ -218,7 +218,7 @@ module _ (laws : LogLaws) (first : Values) (tails : Tails) (pass : Pass) (work :
     entry_lines = entry_one_lines;
   }
 
-  came_all : ((part : Part) → IsPart (called (Writes due.step due.room) work.ending (values HEADER)) part → HasStepped due.step (values HEADER) part) → calls + 1 ≡ length (tail_steps tail) → HeaderStays first (still tail) (values_worked pass work values)
+  came_all : ((part : Part) → IsPart (called (Writes due.step due.spares) work.ending (values HEADER)) part → HasStepped due.step (values HEADER) part) → calls + 1 ≡ length (tail_steps tail) → HeaderStays first (still tail) (values_worked pass work values)
   came_all came all = record {
     words = λ was part a b. words_now part (came part (here part b)) was a;
     tail_is = λ part b image is. inl (tail_there part (came part (here part b)) all image is);
@@ -227,7 +227,7 @@ module _ (laws : LogLaws) (first : Values) (tails : Tails) (pass : Pass) (work :
     entry_lines = entry_one_lines;
   }
 
-  none_came : ((part : Part) → IsPart (called (Writes due.step due.room) work.ending (values HEADER)) part → IsPart (values HEADER) part) → HeaderStays first tails (values_worked pass work values)
+  none_came : ((part : Part) → IsPart (called (Writes due.step due.spares) work.ending (values HEADER)) part → IsPart (values HEADER) part) → HeaderStays first tails (values_worked pass work values)
   none_came same = record {
     words = λ was part a b. stays.words was part a (same part (here part b));
     tail_is = λ part b. stays.tail_is part (same part (here part b));
@@ -241,11 +241,11 @@ module _ (laws : LogLaws) (first : Values) (tails : Tails) (pass : Pass) (work :
     where
       go : (how : Ending) → work.ending ≡ how → HeaderStays first (tails_moved how tail (calls + 1) tails) (values_worked pass work values)
       go Made e = if_both (λ t. HeaderStays first t (values_worked pass work values)) (calls + 1 == length (tail_steps tail)) (still tail) on_the_way
-          (λ all. came_all (λ part is. made_part due.step due.room (values HEADER) part (subst (λ h. IsPart (called (Writes due.step due.room) h (values HEADER)) part) e is)) (eqb-true (calls + 1) (length (tail_steps tail)) all))
-          (λ _. came_on (λ part is. made_part due.step due.room (values HEADER) part (subst (λ h. IsPart (called (Writes due.step due.room) h (values HEADER)) part) e is)))
-      go (Failed true faults) e = came_on (λ part is. came_part due.step due.room faults (values HEADER) part (subst (λ h. IsPart (called (Writes due.step due.room) h (values HEADER)) part) e is))
-      go (Failed false faults) e = none_came (λ part is. lost_part due.step due.room faults (values HEADER) part (subst (λ h. IsPart (called (Writes due.step due.room) h (values HEADER)) part) e is))
-      go Refused e = none_came (λ part is. refused_part due.step due.room (values HEADER) part (subst (λ h. IsPart (called (Writes due.step due.room) h (values HEADER)) part) e is))
+          (λ all. came_all (λ part is. made_part due.step due.spares (values HEADER) part (subst (λ h. IsPart (called (Writes due.step due.spares) h (values HEADER)) part) e is)) (eqb-true (calls + 1) (length (tail_steps tail)) all))
+          (λ _. came_on (λ part is. made_part due.step due.spares (values HEADER) part (subst (λ h. IsPart (called (Writes due.step due.spares) h (values HEADER)) part) e is)))
+      go (Failed true faults) e = came_on (λ part is. came_part due.step due.spares faults (values HEADER) part (subst (λ h. IsPart (called (Writes due.step due.spares) h (values HEADER)) part) e is))
+      go (Failed false faults) e = none_came (λ part is. lost_part due.step due.spares faults (values HEADER) part (subst (λ h. IsPart (called (Writes due.step due.spares) h (values HEADER)) part) e is))
+      go Refused e = none_came (λ part is. refused_part due.step due.spares (values HEADER) part (subst (λ h. IsPart (called (Writes due.step due.spares) h (values HEADER)) part) e is))
 
 -- ---- all of them
 
@@ -265,7 +265,7 @@ header_work laws sizes first tails pass work values stays at_tails may = go pass
 
     entry : (calls : ℕ) (due : IsNextCall sizes pass calls work) (slot : ℕ) (part : Part) → IsPart (values_worked pass work values (ENTRY slot)) part → HasLines (values (ENTRY slot)) part
     entry calls due slot part is = elim (cases_eq slot (slot_of sizes (pass.first + due.row.part))) [
-      | inl same ↦ called_lines laws.lines due.row.step due.room work.ending (values (ENTRY slot)) part
+      | inl same ↦ called_lines laws.lines due.row.step due.spares work.ending (values (ENTRY slot)) part
           (subst (λ v. IsPart v part) (part_worked pass work values slot ∙ at (ENTRY slot) (due.cell ∙ ap ENTRY (sym same)) (ENTRY slot)
           ∙ word_here values (ENTRY slot) (called work.job work.ending (values (ENTRY slot))) ∙ ap (λ j. called j work.ending (values (ENTRY slot))) due.job) is)
       | inr ne ↦ entry_else (ENTRY (slot_of sizes (pass.first + due.row.part))) due.cell slot (λ e. ne (ap index e)) part is

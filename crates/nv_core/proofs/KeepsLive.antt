@@ -58,7 +58,7 @@ stores_same sizes old new same = ap (λ c. record { contents = c }) (map_same (�
 -- the bytes of a store by what it tells
 pub bytes_of : (value : Value) → store_bytes value ≡ told_bytes (store_of value)
 bytes_of Bare = refl
-bytes_of (APart device room) = refl
+bytes_of (APart device spares) = refl
 bytes_of (AStore device) = refl
 bytes_of (ABuffer buffer) = refl
 

@@ -524,7 +524,7 @@ written_part sizes values tail (Read file at len) first calls i written below = 
 written_part sizes values tail (Sync file) first calls i written below = absurd written
 
 says_piece : (sizes : Sizes) (at : ℕ) (bytes : List ℕ) (value : Value) (part : Part) → IsPart value part → SaysPieceOf sizes at bytes value → SaysPiece sizes at bytes (Some part)
-says_piece sizes at bytes (APart device room) part is says = subst (SaysPiece sizes at bytes) is says
+says_piece sizes at bytes (APart device spares) part is says = subst (SaysPiece sizes at bytes) is says
 says_piece sizes at bytes Bare part is says = absurd is
 says_piece sizes at bytes (AStore device) part is says = absurd is
 says_piece sizes at bytes (ABuffer buffer) part is says = absurd is

@@ -7,13 +7,13 @@ use Rattle.std.proofs.lemmas.List.{drop_all}
 use Rattle.std.proofs.lemmas.Nat.{mod_below}
 use Rattle.nv_plain.specs.declared.call.FileCall.{FileCall}
 use Rattle.nv_plain.specs.declared.call.FileCall.TheVariants.{Read, Write, Sync}
-use Rattle.nv_pmem.specs.Room.{Room}
 use Rattle.nv_pmem.specs.Rows.{RowStep, steps_on}
 use Rattle.nv_pmem.specs.Steps.{Step}
 use Rattle.nv_entry.specs.Commits.{GroupsEndReady}
 use Rattle.nv_core.specs.Words.{Sizes, Word, HEADER, STORE, ENTRY, free, filling, broken, was_readied, held, is_entry_of, ready}
 use Rattle.nv_core.specs.Sweeps.{Batch, Sweep, Peeking, Carrying, Syncing, Moving, Lifts, Drops, Cleans, Frees}
 use Rattle.nv_core.specs.Chores.{group_file}
+use Rattle.nv_core.specs.Spares.{Spares, room_of}
 use Rattle.nv_core.specs.Values.{Value, Bare, APart, AStore, ABuffer, Writes, Ending, Made, Failed, Refused, called, Peeks}
 use Rattle.nv_core.specs.Passes.{Stage, Locking, Checking, Copying, Seizing, Committing, Pledging, Readying, Placing, ReadFailing, WriteFailing, Breaking, Pass, IsUnseized, IsFilling, IsAmong, file_of, page_count, first_page, end_page, without, times, Patching, PieceFailing, Cleaning}
 use Rattle.nv_core.specs.Deeds.{Deed, slot_of, page_at, ready_word, Loads, Takes, Gives, Places, Stops, Draws, Seizes, Pledges, Readies, Grows, Breaks, Splits, Leaves, Joins, Turns, Hints, Holds, Returns, Tends}
@@ -261,17 +261,17 @@ next_due (step ∷ steps) (suc calls) row less is = next_due steps calls row (om
 
 -- a part that is ready is so after all device calls of a commit
 all_due : GroupsEndReady → (sizes : Sizes) (pass : Pass) (call : FileCall) (i : ℕ) (value : Value) → i < page_count sizes call → KeepsReady sizes value → EndsReady sizes (steps_on i (commit_steps sizes pass call)) value
-all_due ends sizes pass (Write file at bytes) i (APart device room) less is = ends sizes.page pass.first file at bytes i room less is
+all_due ends sizes pass (Write file at bytes) i (APart device spares) less is = ends sizes.page pass.first file at bytes i (room_of spares) less is
 all_due ends sizes pass (Read file at len) i value less is = is
 all_due ends sizes pass (Sync file) i value less is = is
 all_due ends sizes pass call i value less is = absurd is
 
 -- one of them comes
-one_comes : (sizes : Sizes) (step : Step) (room : Room) (steps : List Step) (value : Value) → EndsReady sizes (step ∷ steps) value → MayLeave value (Writes step room) Made → EndsReady sizes steps (called (Writes step room) Made value)
-one_comes sizes step room steps (APart device before) is leaves = is room leaves
-one_comes sizes step room steps Bare is leaves = absurd is
-one_comes sizes step room steps (AStore device) is leaves = absurd is
-one_comes sizes step room steps (ABuffer buffer) is leaves = absurd is
+one_comes : (sizes : Sizes) (step : Step) (left : Spares) (steps : List Step) (value : Value) → EndsReady sizes (step ∷ steps) value → MayLeave value (Writes step left) Made → EndsReady sizes steps (called (Writes step left) Made value)
+one_comes sizes step left steps (APart device before) is leaves = is (room_of left) leaves
+one_comes sizes step left steps Bare is leaves = absurd is
+one_comes sizes step left steps (AStore device) is leaves = absurd is
+one_comes sizes step left steps (ABuffer buffer) is leaves = absurd is
 
 module _ (ends : GroupsEndReady) (sizes : Sizes) (first : Values) (by : ℕ) (core : Core) (work : Work) (calls : ℕ)
     (sound : Sound sizes first core) (may : MayWork sizes core.values (core.passes by) work)
@@ -292,8 +292,8 @@ module _ (ends : GroupsEndReady) (sizes : Sizes) (first : Values) (by : ℕ) (co
   fills_here_at : (number : ℕ) → IsAmong (core.passes by).first (core.passes by).entries number → Fills (core.passes by) number
   fills_here_at number is = subst (λ s. IsFilling s (core.passes by).first (core.passes by).entries number) (sym at) is
 
-  leaves : MayLeave (core.values (ENTRY (slot_of sizes ((core.passes by).first + due.row.part)))) (Writes due.row.step due.room) work.ending
-  leaves = subst (λ c. MayLeave (core.values c) (Writes due.row.step due.room) work.ending) due.cell (subst (λ j. MayLeave (core.values work.cell) j work.ending) due.job may.leaves)
+  leaves : MayLeave (core.values (ENTRY (slot_of sizes ((core.passes by).first + due.row.part)))) (Writes due.row.step due.spares) work.ending
+  leaves = subst (λ c. MayLeave (core.values c) (Writes due.row.step due.spares) work.ending) due.cell (subst (λ j. MayLeave (core.values work.cell) j work.ending) due.job may.leaves)
 
   -- what is to come of the part of an entry, before the call and after it
   before_call : (number : ℕ) → IsAmong (core.passes by).first (core.passes by).entries number → EndsReady sizes (steps_on (number - (core.passes by).first) (drop calls (commit_steps sizes (core.passes by) (core.passes by).call))) (core.values (ENTRY (slot_of sizes number)))
@@ -313,11 +313,11 @@ module _ (ends : GroupsEndReady) (sizes : Sizes) (first : Values) (by : ℕ) (co
     | inl same ↦
         let which : number ≡ (core.passes by).first + due.row.part = let low = is.0 in omega (arith, low, same) in
         subst (λ n. EndsReady sizes rest (values_worked (core.passes by) work core.values (ENTRY (slot_of sizes n)))) (sym which)
-        (subst (EndsReady sizes rest) (sym (value_called sizes (core.passes by) work core.values calls due ∙ ap (λ how. called (Writes due.row.step due.room) how (core.values (ENTRY (slot_of sizes ((core.passes by).first + due.row.part))))) made))
-        (one_comes sizes due.row.step due.room rest (core.values (ENTRY (slot_of sizes ((core.passes by).first + due.row.part))))
+        (subst (EndsReady sizes rest) (sym (value_called sizes (core.passes by) work core.values calls due ∙ ap (λ how. called (Writes due.row.step due.spares) how (core.values (ENTRY (slot_of sizes ((core.passes by).first + due.row.part))))) made))
+        (one_comes sizes due.row.step due.spares rest (core.values (ENTRY (slot_of sizes ((core.passes by).first + due.row.part))))
         (subst (λ n. EndsReady sizes (due.row.step ∷ rest) (core.values (ENTRY (slot_of sizes n)))) which
         (subst (λ list. EndsReady sizes list (core.values (ENTRY (slot_of sizes number)))) (when_true (number - (core.passes by).first == due.row.part) (due.row.step ∷ rest) rest (eq-eqb (number - (core.passes by).first) due.row.part same)) split))
-        (subst (MayLeave (core.values (ENTRY (slot_of sizes ((core.passes by).first + due.row.part)))) (Writes due.row.step due.room)) made leaves)))
+        (subst (MayLeave (core.values (ENTRY (slot_of sizes ((core.passes by).first + due.row.part)))) (Writes due.row.step due.spares)) made leaves)))
     | inr other ↦
         subst (EndsReady sizes rest) (sym (value_not_called sizes (core.passes by) work core.values calls due (slot_of sizes number)
         (apart_in sizes (core.passes by).first (core.passes by).entries number ((core.passes by).first + due.row.part)
@@ -334,7 +334,7 @@ module _ (ends : GroupsEndReady) (sizes : Sizes) (first : Values) (by : ℕ) (co
   filled_now : (how : Ending) → work.ending ≡ how → (number : ℕ) → IsFilling (stage_worked sizes (core.passes by) how (Committing calls)) (core.passes by).first (core.passes by).entries number
       → FillsReady sizes (worked sizes work (core.passes by)) (stage_worked sizes (core.passes by) how (Committing calls)) number (values_worked (core.passes by) work core.values (ENTRY (slot_of sizes number)))
   filled_now (Failed came faults) made number is = tt
-  filled_now Refused made number is = absurd (none_refused due.row.step due.room (core.values (ENTRY (slot_of sizes ((core.passes by).first + due.row.part)))) (subst (MayLeave (core.values (ENTRY (slot_of sizes ((core.passes by).first + due.row.part)))) (Writes due.row.step due.room)) made leaves))
+  filled_now Refused made number is = absurd (none_refused due.row.step due.spares (core.values (ENTRY (slot_of sizes ((core.passes by).first + due.row.part)))) (subst (MayLeave (core.values (ENTRY (slot_of sizes ((core.passes by).first + due.row.part)))) (Writes due.row.step due.spares)) made leaves))
   filled_now Made made number is = if_both (λ s. IsFilling s (core.passes by).first (core.passes by).entries number → FillsReady sizes (worked sizes work (core.passes by)) s number (values_worked (core.passes by) work core.values (ENTRY (slot_of sizes number))))
       (calls + 1 == length (commit_steps sizes (core.passes by) (core.passes by).call)) (Pledging (first_page sizes (core.passes by).call)) (Committing (calls + 1))
       (λ all is. let l = eqb-true (calls + 1) (length (commit_steps sizes (core.passes by) (core.passes by).call)) all in
@@ -377,7 +377,7 @@ read_rooms sizes by core work page dirty rooms at due = rooms_kept sizes core (a
 
 -- a read of a piece leaves each part its room
 peek_ends : (sizes : Sizes) (rest : List Step) (at : ℕ) (bytes : List ℕ) (how : Ending) (value : Value) → EndsReady sizes rest value → EndsReady sizes rest (called (Peeks at bytes) how value)
-peek_ends sizes rest at bytes how (APart device room) is = is
+peek_ends sizes rest at bytes how (APart device spares) is = is
 peek_ends sizes rest at bytes how value is = absurd is
 
 peek_rooms : (sizes : Sizes) (by : ℕ) (core : Core) (work : Work) (one : ℕ) → Rooms sizes core → ((number : ℕ) → Fills (worked sizes work (core.passes by)) number → ⊥) → IsPieceRead sizes core.values one work → Parts sizes (after_work sizes by work core)

@@ -28,16 +28,16 @@ keeps_stores job = true
 -- only a write to a store is refused
 pub no_refusal : (value : Value) (job : Job) → keeps_stores job ≡ true → MayLeave value job Refused → ⊥
 no_refusal Bare (Carries at bytes left) keeps leaves = absurd (true≢false (sym keeps))
-no_refusal (APart device room) (Carries at bytes left) keeps leaves = absurd (true≢false (sym keeps))
+no_refusal (APart device spares) (Carries at bytes left) keeps leaves = absurd (true≢false (sym keeps))
 no_refusal (AStore device) (Carries at bytes left) keeps leaves = absurd (true≢false (sym keeps))
 no_refusal (ABuffer buffer) (Carries at bytes left) keeps leaves = absurd (true≢false (sym keeps))
 no_refusal value job keeps leaves = leaves
 
 pub called_store : (job : Job) (how : Ending) (value : Value) → keeps_stores job ≡ true → store_of (called job how value) ≡ store_of value
 called_store job how Bare keeps = refl
-called_store job how (APart device room) keeps = refl
+called_store job how (APart device spares) keeps = refl
 called_store job how (ABuffer buffer) keeps = refl
-called_store (Writes step room) how (AStore device) keeps = refl
+called_store (Writes step spares) how (AStore device) keeps = refl
 called_store (Reads at bytes) how (AStore device) keeps = refl
 called_store (Peeks at bytes) how (AStore device) keeps = refl
 called_store (Carries at bytes left) how (AStore device) keeps = absurd (true≢false (sym keeps))
@@ -85,7 +85,7 @@ tells_called Syncs (Failed false faults) (AStore device) leaves tells = tells
 tells_called Syncs Refused (AStore device) leaves tells = tells
 tells_called job how (AStore device) leaves tells = tells
 tells_called job how Bare leaves tells = absurd cc
-tells_called job how (APart device room) leaves tells = absurd cc
+tells_called job how (APart device spares) leaves tells = absurd cc
 tells_called job how (ABuffer buffer) leaves tells = absurd cc
 
 pub tells_step : (sizes : Sizes) (pass : Pass) (deed : Deed) (values : Values) → StoresTell sizes values → StoresTell sizes (values_stepped sizes pass deed values)

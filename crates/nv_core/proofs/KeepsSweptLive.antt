@@ -281,9 +281,9 @@ synced_bytes None = refl
 
 quiet_bytes : (job : Job) (how : Ending) (value : Value) → is_carry job ≡ false → store_bytes (called job how value) ≡ store_bytes value
 quiet_bytes job how Bare quiet = refl
-quiet_bytes job how (APart device room) quiet = refl
+quiet_bytes job how (APart device spares) quiet = refl
 quiet_bytes job how (ABuffer buffer) quiet = refl
-quiet_bytes (Writes step room) how (AStore device) quiet = refl
+quiet_bytes (Writes step spares) how (AStore device) quiet = refl
 quiet_bytes (Reads at bytes) how (AStore device) quiet = refl
 quiet_bytes (Peeks at bytes) how (AStore device) quiet = refl
 quiet_bytes (Carries at bytes left) how (AStore device) quiet = absurd (not_both refl quiet)
@@ -315,9 +315,9 @@ carried_differs plain at bytes left how Bare leaves = absurd (no_leave how leave
     no_leave Made z = z
     no_leave (Failed came faults) z = z
     no_leave Refused z = z
-carried_differs plain at bytes left how (APart device room) leaves = absurd (no_leave how leaves)
+carried_differs plain at bytes left how (APart device spares) leaves = absurd (no_leave how leaves)
   where
-    no_leave : (how : Ending) → MayLeave (APart device room) (Carries at bytes left) how → ⊥
+    no_leave : (how : Ending) → MayLeave (APart device spares) (Carries at bytes left) how → ⊥
     no_leave Made z = z
     no_leave (Failed came faults) z = z
     no_leave Refused z = z

@@ -512,7 +512,7 @@ read_else job how stage values page ne = refl
 
 read_failed : (job : Job) (came : Bool) (faults : ℕ) (stage : Stage) (values : Values) → values_read job (Failed came faults) stage values ≡ values
 read_failed (Reads at bytes) came faults stage values = refl
-read_failed (Writes step room) came faults stage values = refl
+read_failed (Writes step spares) came faults stage values = refl
 read_failed job came faults stage values = refl
 
 -- what stands patched stays so

@@ -355,7 +355,7 @@ module _ (sizes : Sizes) (first : Values) (tail : ℕ) (log : Log) (by : ℕ) (c
   slot_here : ℕ
   slot_here = slot_of sizes ((core.passes by).first + due.row.part)
 
-  value_here : values_worked (core.passes by) work core.values (ENTRY (slot_of sizes ((core.passes by).first + due.row.part))) ≡ called (Writes due.row.step due.room) work.ending (core.values (ENTRY (slot_of sizes ((core.passes by).first + due.row.part))))
+  value_here : values_worked (core.passes by) work core.values (ENTRY (slot_of sizes ((core.passes by).first + due.row.part))) ≡ called (Writes due.row.step due.spares) work.ending (core.values (ENTRY (slot_of sizes ((core.passes by).first + due.row.part))))
   value_here = value_called sizes (core.passes by) work core.values calls due
 
   value_else : (slot : ℕ) → slot ≢ slot_of sizes ((core.passes by).first + due.row.part) → values_worked (core.passes by) work core.values (ENTRY slot) ≡ core.values (ENTRY slot)
@@ -378,7 +378,7 @@ module _ (sizes : Sizes) (first : Values) (tail : ℕ) (log : Log) (by : ℕ) (c
       written_more sizes core.values (values_worked (core.passes by) work core.values) tail (core.passes by).call (core.passes by).first calls work.ending due.row
       (subst (λ s. calls < length s) (steps_same sizes (core.passes by) (core.passes by).call) due.there)
       (subst (λ s. slice_index_or s calls due.row ≡ due.row) (steps_same sizes (core.passes by) (core.passes by).call) due.at)
-      (λ one is. subst (λ v. IsPart v (part_now work.ending due.row.step one)) (sym value_here) (part_called due.row.step due.room work.ending _ one is))
+      (λ one is. subst (λ v. IsPart v (part_now work.ending due.row.step one)) (sym value_here) (part_called due.row.step due.spares work.ending _ one is))
       (λ i less ne one is. part_else (slot_of sizes ((core.passes by).first + i))
       (apart_in sizes (core.passes by).first (core.passes by).entries ((core.passes by).first + i) ((core.passes by).first + due.row.part)
       (few_entries sizes (core.passes by).call (core.passes by).entries pass_drawn ((sound.standing by).allowed (busy _ _ at refl)))

@@ -109,5 +109,6 @@ pub mod KeepsProgress
 pub mod SweepLands
 pub mod SweepDirty
 pub mod HeaderRoom
+pub mod SparesLaws
 pub mod CleaningOrdered
 pub mod EmptyLogs

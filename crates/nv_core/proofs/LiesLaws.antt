@@ -147,7 +147,7 @@ carried_to plain at bytes left Made (AStore device) leaves new is = mapped plain
 carried_to plain at bytes left (Failed came faults) (AStore device) leaves new is = elim leaves [ inl same ↦ Kept_it (sym same ∙ is) | inr torn ↦ tore at (length bytes) device.told left new torn is ]
 carried_to plain at bytes left Refused (AStore device) leaves new is = Kept_it (sym leaves ∙ is)
 carried_to plain at bytes left how Bare leaves new is = absurd cc
-carried_to plain at bytes left how (APart device room) leaves new is = absurd cc
+carried_to plain at bytes left how (APart device spares) leaves new is = absurd cc
 carried_to plain at bytes left how (ABuffer buffer) leaves new is = absurd cc
 
 synced_told : (told : Option Store) (new : Store) → option_map (after_step Sync) told ≡ Some new → (told ≡ Some new) ⊎ IsQuiet new
@@ -161,5 +161,5 @@ synced_to (Failed true faults) (AStore device) new is = synced_told device.told 
 synced_to (Failed false faults) (AStore device) new is = inl is
 synced_to Refused (AStore device) new is = inl is
 synced_to how Bare new is = absurd cc
-synced_to how (APart device room) new is = absurd cc
+synced_to how (APart device spares) new is = absurd cc
 synced_to how (ABuffer buffer) new is = absurd cc

@@ -134,7 +134,7 @@ told_seen first file store told = go (first (STORE file)) told
     go : (value : Value) → store_of value ≡ Some store → store_bytes value ≡ store.seen
     go (AStore device) is = ap told_bytes is
     go Bare is = absurd (cc)
-    go (APart device room) is = absurd (cc)
+    go (APart device spares) is = absurd (cc)
     go (ABuffer buffer) is = absurd (cc)
 
 -- the files that the stores have are those that they read as

@@ -185,12 +185,12 @@ told_image (Some part) = part_word part
 told_image None = λ line word. 0
 
 image_of : Value → PartImage
-image_of (APart device room) = told_image device.told
+image_of (APart device spares) = told_image device.told
 image_of value = λ line word. 0
 
 image_is : (value : Value) (part : Part) → IsPart value part → image_of value ≡ part_word part
 unfolding told_image image_of
-image_is (APart device room) part is = ap told_image is
+image_is (APart device spares) part is = ap told_image is
 image_is Bare part is = absurd is
 image_is (AStore device) part is = absurd is
 image_is (ABuffer buffer) part is = absurd is

@@ -10,12 +10,12 @@ use Rattle.nv_plain.specs.declared.call.FileCall.{FileCall}
 use Rattle.nv_plain.specs.declared.call.FileCall.TheVariants.{Write}
 use Rattle.nv_plain.specs.Files.{contents_of, overwritten}
 use Rattle.nv_plain.specs.Calls.{files_after}
-use Rattle.nv_pmem.specs.Room.{Room}
 use Rattle.nv_pmem.specs.Steps.{Step as LineStep}
 use Rattle.nv_store.specs.Store.{Store, IsQuiet, quiet_store}
 use Rattle.nv_store.specs.Steps.{Write as StoreWrite, Sync, after_step as after_store_step}
 use Rattle.nv_header.specs.HeaderSteps.{tail_steps}
 use Rattle.nv_core.specs.Words.{Sizes, Word, STORE, index}
+use Rattle.nv_core.specs.Spares.{Spares}
 use Rattle.nv_core.specs.Values.{Value, Bare, APart, AStore, ABuffer, Job, Writes, Carries, Syncs, Ending, Made, Failed, Refused, called}
 use Rattle.nv_core.specs.Sweeps.{Batch, Sweep, Lifting, Peeking, Carrying, Setting, Syncing, Moving, Freeing, Withdrawing}
 use Rattle.nv_core.specs.Chores.{after_chore_work, syncing, group_file, holds_store}
@@ -62,7 +62,7 @@ use Rattle.nv_core.proofs.KeepsLive.{stores_same}
 seen_of : (value : Value) → store_bytes value ≡ told_bytes (store_of value)
 seen_of (AStore device) = refl
 seen_of Bare = refl
-seen_of (APart device room) = refl
+seen_of (APart device spares) = refl
 seen_of (ABuffer buffer) = refl
 
 -- after a sync a store is quiet, and reads as before
@@ -85,7 +85,7 @@ synced_told None store is = absurd cc
 synced_quiet : (value : Value) (store : Store) → store_of (called Syncs Made value) ≡ Some store → IsQuiet store
 synced_quiet (AStore device) store is = synced_told device.told store is
 synced_quiet Bare store is = absurd cc
-synced_quiet (APart device room) store is = absurd cc
+synced_quiet (APart device spares) store is = absurd cc
 synced_quiet (ABuffer buffer) store is = absurd cc
 
 synced_reads : (told : Option Store) → told_bytes (option_map (after_store_step Sync) told) ≡ told_bytes told
@@ -98,7 +98,7 @@ sync_reads (Failed true faults) (AStore device) = synced_reads device.told
 sync_reads (Failed false faults) (AStore device) = refl
 sync_reads Refused (AStore device) = refl
 sync_reads how Bare = refl
-sync_reads how (APart device room) = refl
+sync_reads how (APart device spares) = refl
 sync_reads how (ABuffer buffer) = refl
 
 -- a store that tells reads as written after a write
@@ -109,7 +109,7 @@ carry_reads : (at : ℕ) (bytes : List ℕ) (left : Option Store) (value : Value
     → store_bytes (called (Carries at bytes left) Made value) ≡ overwritten (store_bytes value) at bytes
 carry_reads at bytes left (AStore device) store leaves is = carry_told at bytes device.told left store leaves is
 carry_reads at bytes left Bare store leaves is = absurd cc
-carry_reads at bytes left (APart device room) store leaves is = absurd cc
+carry_reads at bytes left (APart device spares) store leaves is = absurd cc
 carry_reads at bytes left (ABuffer buffer) store leaves is = absurd cc
 
 -- one store of all is written
@@ -149,11 +149,11 @@ own_apart sizes call low high some less =
 
 -- ---- a call that is refused, and one that leaves the stores
 
-refuses_write : (value : Value) (step : LineStep) (room : Room) → MayLeave value (Writes step room) Refused → ⊥
-refuses_write (APart device before) step room is = is
-refuses_write (AStore device) step room is = is
-refuses_write Bare step room is = is
-refuses_write (ABuffer buffer) step room is = is
+refuses_write : (value : Value) (step : LineStep) (left : Spares) → MayLeave value (Writes step left) Refused → ⊥
+refuses_write (APart device before) step left is = is
+refuses_write (AStore device) step left is = is
+refuses_write Bare step left is = is
+refuses_write (ABuffer buffer) step left is = is
 
 refuses_sync : (value : Value) → MayLeave value Syncs Refused → ⊥
 refuses_sync (APart device before) is = is
@@ -354,7 +354,7 @@ module _ (laws : LogLaws) (plain : PlainLaws) (sizes : Sizes) (first : Values) (
               at = here (Failed false faults) e (TailsAt tails) tt;
             })
             (λ _. here (Failed false faults) e IsMoving tt)
-        go Refused e = absurd (refuses_write (core.values work.cell) due.step due.room (subst (λ j. MayLeave (core.values work.cell) j Refused) due.job (subst (λ h. MayLeave (core.values work.cell) work.job h) e may.leaves)))
+        go Refused e = absurd (refuses_write (core.values work.cell) due.step due.spares (subst (λ j. MayLeave (core.values work.cell) j Refused) due.job (subst (λ h. MayLeave (core.values work.cell) work.job h) e may.leaves)))
 
   -- ---- a store is synced, or written
 

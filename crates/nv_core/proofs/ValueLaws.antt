@@ -133,7 +133,7 @@ identity_worked pass work values cell = steady_worked identity_of identity_stead
   where
     same : (job : Job) (how : Ending) (value : Value) → identity_of (called job how value) ≡ identity_of value
     same job how Bare = refl
-    same job how (APart device room) = refl
+    same job how (APart device spares) = refl
     same job how (AStore device) = refl
     same job how (ABuffer buffer) = refl
 
@@ -142,13 +142,13 @@ buffers_worked pass work values cell = steady_worked buffers_in buffers_steady p
   where
     same : (job : Job) (how : Ending) (value : Value) → buffers_in (called job how value) ≡ buffers_in value
     same job how Bare = refl
-    same job how (APart device room) = refl
+    same job how (APart device spares) = refl
     same job how (AStore device) = refl
     same job how (ABuffer buffer) = refl
 
 -- a device call that failed left its count above
 pub faults_rose : (job : Job) (came : Bool) (faults : ℕ) (value : Value) → MayEnd value (Failed came faults) → Rose (faults_of value) (faults_of (called job (Failed came faults) value))
-faults_rose job came faults (APart device room) may = may
+faults_rose job came faults (APart device spares) may = may
 faults_rose job came faults (AStore device) may = may
 faults_rose job came faults Bare may = absurd may
 faults_rose job came faults (ABuffer buffer) may = absurd may
@@ -156,12 +156,12 @@ faults_rose job came faults (ABuffer buffer) may = absurd may
 -- and no count falls
 pub faults_called : (job : Job) (how : Ending) (value : Value) → MayEnd value how → faults_of value ≤ faults_of (called job how value)
 faults_called job Made Bare may = omega arith
-faults_called job Made (APart device room) may = omega arith
+faults_called job Made (APart device spares) may = omega arith
 faults_called job Made (AStore device) may = omega arith
 faults_called job Made (ABuffer buffer) may = omega arith
 faults_called job Refused (AStore device) may = omega arith
 faults_called job Refused Bare may = absurd may
-faults_called job Refused (APart device room) may = absurd may
+faults_called job Refused (APart device spares) may = absurd may
 faults_called job Refused (ABuffer buffer) may = absurd may
 faults_called job (Failed came faults) value may = (faults_rose job came faults value may).never_falls
 

@@ -9,13 +9,13 @@ use Rattle.nv_plain.specs.declared.call.FileCall.{FileCall}
 use Rattle.nv_plain.specs.declared.call.FileCall.TheVariants.{Read, Write, Sync}
 use Rattle.nv_pmem.specs.Part.{Part}
 use Rattle.nv_pmem.specs.Laws.{StepsKeepLines}
-use Rattle.nv_pmem.specs.Room.{Room}
 use Rattle.nv_pmem.specs.Runs.{run}
 use Rattle.nv_pmem.specs.Rows.{RowStep, row_after}
 use Rattle.nv_pmem.specs.Steps.{Step, after_step as after_line_step}
 use Rattle.nv_entry.specs.Group.{group_steps}
 use Rattle.nv_entry.specs.Commits.{after_some}
 use Rattle.nv_core.specs.Words.{Sizes, Word, ENTRY, PAGE, index}
+use Rattle.nv_core.specs.Spares.{Spares}
 use Rattle.nv_core.specs.Values.{Value, Bare, APart, AStore, ABuffer, Job, Writes, Reads, Ending, Made, Failed, Refused, called, has_come, filled, Peeks}
 use Rattle.nv_core.specs.Passes.{Stage, Copying, Pass, page_count, Unlocking, fetched_bytes}
 use Rattle.nv_core.specs.Deeds.{Deed, Pledges, slot_of, patched_by, Gives}
@@ -59,11 +59,11 @@ one_lines keeps step part = keeps (step ∷ []) part
 abbrev pub part_now : Ending → Step → Part → Part
 part_now how step part = if has_come how then after_line_step step part else part
 
-pub part_called : (step : Step) (left : Room) (how : Ending) (value : Value) (part : Part) → IsPart value part → IsPart (called (Writes step left) how value) (part_now how step part)
-part_called step left Made (APart device room) part is = ap (option_map (after_line_step step)) is
-part_called step left (Failed true faults) (APart device room) part is = ap (option_map (after_line_step step)) is
-part_called step left (Failed false faults) (APart device room) part is = is
-part_called step left Refused (APart device room) part is = is
+pub part_called : (step : Step) (left : Spares) (how : Ending) (value : Value) (part : Part) → IsPart value part → IsPart (called (Writes step left) how value) (part_now how step part)
+part_called step left Made (APart device spares) part is = ap (option_map (after_line_step step)) is
+part_called step left (Failed true faults) (APart device spares) part is = ap (option_map (after_line_step step)) is
+part_called step left (Failed false faults) (APart device spares) part is = is
+part_called step left Refused (APart device spares) part is = is
 part_called step left how Bare part is = absurd is
 part_called step left how (AStore device) part is = absurd is
 part_called step left how (ABuffer buffer) part is = absurd is
@@ -73,7 +73,7 @@ module _ (sizes : Sizes) (pass : Pass) (work : Work) (values : Values) (calls : 
   abbrev cell_due : Word
   cell_due = ENTRY (slot_of sizes (pass.first + due.row.part))
 
-  pub value_called : values_worked pass work values (ENTRY (slot_of sizes (pass.first + due.row.part))) ≡ called (Writes due.row.step due.room) work.ending (values (ENTRY (slot_of sizes (pass.first + due.row.part))))
+  pub value_called : values_worked pass work values (ENTRY (slot_of sizes (pass.first + due.row.part))) ≡ called (Writes due.row.step due.spares) work.ending (values (ENTRY (slot_of sizes (pass.first + due.row.part))))
   value_called =
       part_worked pass work values (slot_of sizes (pass.first + due.row.part))
       ∙ ap (λ c. with_word values c (called work.job work.ending (values c)) cell_due) due.cell
@@ -88,19 +88,19 @@ module _ (sizes : Sizes) (pass : Pass) (work : Work) (values : Values) (calls : 
 
 -- a read of a piece changes nothing that a part tells
 peek_tells : (at : ℕ) (bytes : List ℕ) (how : Ending) (value : Value) (part : Part) → IsPart (called (Peeks at bytes) how value) part → IsPart value part
-peek_tells at bytes Made (APart device room) part is = is
-peek_tells at bytes (Failed true faults) (APart device room) part is = is
-peek_tells at bytes (Failed false faults) (APart device room) part is = is
-peek_tells at bytes Refused (APart device room) part is = is
+peek_tells at bytes Made (APart device spares) part is = is
+peek_tells at bytes (Failed true faults) (APart device spares) part is = is
+peek_tells at bytes (Failed false faults) (APart device spares) part is = is
+peek_tells at bytes Refused (APart device spares) part is = is
 peek_tells at bytes how Bare part is = is
 peek_tells at bytes how (AStore device) part is = is
 peek_tells at bytes how (ABuffer buffer) part is = is
 
 peek_told : (at : ℕ) (bytes : List ℕ) (how : Ending) (value : Value) (part : Part) → IsPart value part → IsPart (called (Peeks at bytes) how value) part
-peek_told at bytes Made (APart device room) part is = is
-peek_told at bytes (Failed true faults) (APart device room) part is = is
-peek_told at bytes (Failed false faults) (APart device room) part is = is
-peek_told at bytes Refused (APart device room) part is = is
+peek_told at bytes Made (APart device spares) part is = is
+peek_told at bytes (Failed true faults) (APart device spares) part is = is
+peek_told at bytes (Failed false faults) (APart device spares) part is = is
+peek_told at bytes Refused (APart device spares) part is = is
 peek_told at bytes how Bare part is = is
 peek_told at bytes how (AStore device) part is = is
 peek_told at bytes how (ABuffer buffer) part is = is

@@ -10,7 +10,7 @@ use Rattle.nv_core.specs.Sweeps.{Chore, Enters, Looks, Grabs, Yields, Lifts, Cle
 use Rattle.nv_core.specs.Deeds.{Tends}
 use Rattle.nv_core.specs.Core.{Core}
 use Rattle.nv_core.specs.Events.{Does, Calls, Event, after, IsRun}
-use Rattle.nv_core.specs.Walks.{walk_sizes, walk_room, walk_header, durable_line, walk_bytes, rows_after, acts}
+use Rattle.nv_core.specs.Walks.{walk_sizes, walk_spares, walk_header, durable_line, walk_bytes, rows_after, acts}
 use Rattle.nv_core.specs.DirtyWalks.{dirty_core}
 
 -- the file's bytes with both writes
@@ -62,9 +62,9 @@ walk_batch =
     ∷ tends (Subtracts 1) 1
     ∷ tends (Yields (CLEANUP 1)) 1
     ∷ works (STORE 0) Syncs
-    ∷ works HEADER (Writes (StoreWord 1 0 2) (walk_room 18))
-    ∷ works HEADER (Writes (Flush 1) (walk_room 18))
-    ∷ works HEADER (Writes Fence (walk_room 18))
+    ∷ works HEADER (Writes (StoreWord 1 0 2) (walk_spares 18))
+    ∷ works HEADER (Writes (Flush 1) (walk_spares 18))
+    ∷ works HEADER (Writes Fence (walk_spares 18))
     ∷ tends (Frees 0) 12
     ∷ tends (Frees 1) 1036
     ∷ tends (Retires 2) 0
@@ -108,4 +108,4 @@ pub record BatchIsWalked : Type 0 where
       ∷ []
   pub rests : ((batch_core.passes 0).stage ≡ Idle) × ((batch_core.passes 0).hands ≡ [])
   pub store : batch_core.values (STORE 0) ≡ AStore record { told = Some (quiet_store both_bytes); faults = 0; identity = 17 }
-  pub header : batch_core.values HEADER ≡ APart record { told = Some moved_header; faults = 0; identity = 0 } (walk_room 18)
+  pub header : batch_core.values HEADER ≡ APart record { told = Some moved_header; faults = 0; identity = 0 } (walk_spares 18)

@@ -20,7 +20,7 @@ use Rattle.nv_core.specs.Opening.{opening}
 use Rattle.nv_core.specs.EntryImages.{IsRegionImage}
 use Rattle.nv_core.specs.LivePieces.{calls_of}
 use Rattle.nv_core.specs.Crash.{AreStoreImages}
-use Rattle.nv_core.specs.Walks.{walk_sizes, walk_mount, walk_room, walk_bytes, acts}
+use Rattle.nv_core.specs.Walks.{walk_sizes, walk_mount, walk_spares, walk_bytes, acts}
 use Rattle.nv_core.specs.WalkOpens.{walk_files}
 use Rattle.nv_core.specs.CrashWalks.{walk_placed, placed_core, written_files}
 
@@ -55,7 +55,7 @@ hand_call first at bytes call = slice_index_or (group_steps 64 first 0 at bytes)
 -- the first so many of them
 abbrev pub hand_calls : (by first at : ℕ) → List ℕ → (calls : ℕ) → List Event
 hand_calls by first at bytes calls =
-    map (λ call. acts by (Calls record { cell = ENTRY first; job = Writes (hand_call first at bytes call).step (walk_room 2); ending = Made })) (range_with_len 0 calls)
+    map (λ call. acts by (Calls record { cell = ENTRY first; job = Writes (hand_call first at bytes call).step (walk_spares 2); ending = Made })) (range_with_len 0 calls)
 
 -- Pass 1 writes 5 bytes at the start of the second page, up to the step that makes its leader ready.
 abbrev pub hand_next : List Event

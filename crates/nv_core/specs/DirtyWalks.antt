@@ -11,14 +11,14 @@ use Rattle.nv_core.specs.Values.{Writes, Reads, Peeks, Made, bytes_in}
 use Rattle.nv_core.specs.Deeds.{Loads, Takes, Gives, Places, Draws, Seizes, Pledges, Readies, Holds, Returns}
 use Rattle.nv_core.specs.Core.{Core}
 use Rattle.nv_core.specs.Events.{Begins, Does, Calls, Event, after, IsRun}
-use Rattle.nv_core.specs.Walks.{walk_sizes, walk_room, walk_bytes, rows_after, acts, write_core}
+use Rattle.nv_core.specs.Walks.{walk_sizes, walk_spares, walk_bytes, rows_after, acts, write_core}
 
 -- one of the device calls of the write's commit as entry 1
 abbrev pub second_call : (call : ℕ) → RowStep
 second_call call = slice_index_or (group_steps 64 1 0 64 walk_bytes) call record { part = 0; step = Fence }
 
 abbrev pub calls_second : (call : ℕ) → Event
-calls_second call = acts 1 (Calls record { cell = ENTRY 1; job = Writes (second_call call).step (walk_room 2); ending = Made })
+calls_second call = acts 1 (Calls record { cell = ENTRY 1; job = Writes (second_call call).step (walk_spares 2); ending = Made })
 
 -- After the walks' first write pass 1 writes 5 bytes at the start of the second page, whose buffer doesn't count.
 abbrev pub walk_second : List Event

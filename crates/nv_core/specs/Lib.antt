@@ -1,5 +1,6 @@
 pub mod Totals
 pub mod Words
+pub mod Spares
 pub mod Values
 pub mod Sweeps
 pub mod Passes

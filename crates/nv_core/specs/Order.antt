@@ -10,7 +10,6 @@ use Rattle.nv_plain.specs.declared.call.FileCall.TheVariants.{Read, Write, Sync}
 use Rattle.nv_plain.specs.declared.call.Reply.{Reply}
 use Rattle.nv_plain.specs.declared.call.Reply.TheVariants.{Bytes, Count, Done}
 use Rattle.nv_pmem.specs.Part.{Part, word_of as word_of_part}
-use Rattle.nv_pmem.specs.Room.{Room}
 use Rattle.nv_pmem.specs.RoomSteps.{RoomAfter, RoomAfterFault}
 use Rattle.nv_pmem.specs.Rows.{RowStep}
 use Rattle.nv_pmem.specs.Steps.{Step}
@@ -19,6 +18,7 @@ use Rattle.nv_store.specs.Steps.{Write as StoreWrite, after_step as after_store_
 use Rattle.nv_store.specs.Torn.{IsTorn}
 use Rattle.nv_entry.specs.Group.{group_steps}
 use Rattle.nv_core.specs.Words.{Sizes, Word, STOP, ORDER, HEAD, TAIL, LENGTH, SIZE, STORE, ENTRY, HINT, PAGE, CLEANUP, DIRTY, HEADER}
+use Rattle.nv_core.specs.Spares.{Spares, room_of}
 use Rattle.nv_core.specs.Values.{Value, APart, AStore, Job, Writes, Reads, Peeks, Ending, Made, Failed, lacks_buffer, is_valid, bytes_in, Carries, Syncs, Refused}
 use Rattle.nv_core.specs.Passes.{Stage, Locking, Measuring, Sizing, Checking, Ordering, Reading, Waiting, Fetching, Copying, Returning, Search, Hinting, Seeking, Robbing, Robbed, Nothing, Found, Searching, Bounding, Starting, Scanning, Grasping, Patching, Restoring, Unlocking, Heading, Tailing, Drawing, Seizing, Committing, Pledging, Readying, Placing, Growing, Releasing, Giving, Leaving, ReadFailing, PieceFailing, WriteFailing, Breaking, Pass, file_of, at_of, covered, end_read, first_page, IsLastTaken, times, Idle, Cleaning}
 use Rattle.nv_core.specs.Deeds.{Deed, Loads, Takes, Gives, Places, Stops, Draws, Seizes, Pledges, Readies, Grows, Breaks, Turns, Hints, Holds, Returns, slot_of, Tends}
@@ -202,8 +202,8 @@ pub record IsNextCall (sizes : Sizes) (pass : Pass) (calls : ℕ) (work : Work) 
   pub there : calls < length (commit_steps sizes pass pass.call)
   pub at : slice_index_or (commit_steps sizes pass pass.call) calls row ≡ row
   pub cell : work.cell ≡ ENTRY (slot_of sizes (pass.first + row.part))
-  pub room : Room
-  pub job : work.job ≡ Writes row.step room
+  pub spares : Spares
+  pub job : work.job ≡ Writes row.step spares
 
 -- what a store says of a page, with zeros behind the end
 abbrev pub SaysPage : Sizes → (at : ℕ) → List ℕ → Option Store → Type 0
@@ -232,7 +232,7 @@ SaysPiece sizes at bytes (Some part) = (at ≡ (entry_of (word_of_part part)).at
 SaysPiece sizes at bytes None = at % sizes.page + length bytes ≤ sizes.page
 
 abbrev pub SaysPieceOf : Sizes → (at : ℕ) → List ℕ → Value → Type 0
-SaysPieceOf sizes at bytes (APart device room) = SaysPiece sizes at bytes device.told
+SaysPieceOf sizes at bytes (APart device spares) = SaysPiece sizes at bytes device.told
 SaysPieceOf sizes at bytes value = ⊥
 
 -- a read of an entry's piece
@@ -258,8 +258,8 @@ pub record IsTailCall (tail calls : ℕ) (work : Work) : Type 0 where
   pub there : calls < length (tail_steps tail)
   pub at : slice_index_or (tail_steps tail) calls step ≡ step
   pub cell : work.cell ≡ HEADER
-  pub room : Room
-  pub job : work.job ≡ Writes step room
+  pub spares : Spares
+  pub job : work.job ≡ Writes step spares
 
 -- the next device call of a cleaner
 abbrev pub IsChoreDue : Sizes → Values → Batch → Work → Sweep → Type 0
@@ -272,7 +272,7 @@ IsChoreDue sizes values batch work sweep = ⊥
 -- A device call ends by a fault only where the count rose. Only a store may refuse one for want of memory.
 abbrev pub MayEnd : Value → Ending → Type 0
 MayEnd value Made = Unit {0}
-MayEnd (APart device room) (Failed came faults) = Rose device.faults faults
+MayEnd (APart device spares) (Failed came faults) = Rose device.faults faults
 MayEnd (AStore device) (Failed came faults) = Rose device.faults faults
 MayEnd value (Failed came faults) = ⊥
 MayEnd (AStore device) Refused = Unit {0}
@@ -285,8 +285,8 @@ IsTornOf at count old new = ⊥
 
 -- It leaves a part the room that the clauses of its step promise, and a store written, as it was or torn, or, where it refused, as it was.
 abbrev pub MayLeave : Value → Job → Ending → Type 0
-MayLeave (APart device before) (Writes step room) Made = RoomAfter step before room
-MayLeave (APart device before) (Writes step room) (Failed came faults) = RoomAfterFault step before room
+MayLeave (APart device before) (Writes step spares) Made = RoomAfter step (room_of before) (room_of spares)
+MayLeave (APart device before) (Writes step spares) (Failed came faults) = RoomAfterFault step (room_of before) (room_of spares)
 MayLeave (AStore device) (Carries at bytes left) Made = left ≡ option_map (after_store_step (StoreWrite at bytes)) device.told
 MayLeave (AStore device) (Carries at bytes left) (Failed came faults) = (left ≡ device.told) ⊎ IsTornOf at (length bytes) device.told left
 MayLeave (AStore device) (Carries at bytes left) Refused = left ≡ device.told

@@ -9,6 +9,7 @@ use Rattle.nv_header.specs.HeaderSteps.{tail_steps}
 use Rattle.nv_header.specs.Regions.{IsRoomy}
 use Rattle.nv_core.specs.Sweeps.{Sweep, Footing, Topping, Surveying, Claiming, Storing, Lifting, Peeking, Carrying, Setting, Subtracting, Disclaiming, Dropping, Retreating, Syncing, Moving, Failing}
 use Rattle.nv_core.specs.Words.{Sizes, STOP, HEADER, ENTRY, was_readied, free}
+use Rattle.nv_core.specs.Spares.{room_of}
 use Rattle.nv_core.specs.Values.{Value, APart}
 use Rattle.nv_core.specs.Passes.{Stage, Committing, WriteFailing, Breaking, Cleaning, Pass}
 use Rattle.nv_core.specs.Deeds.{slot_of}
@@ -19,7 +20,7 @@ use Rattle.nv_core.specs.LogWindow.{Fills}
 -- A cell keeps a part that is ready for an entry after some steps, whatever room they leave: it has an entry's lines, and each of
 -- them can take 15 contents.
 abbrev pub EndsReady : Sizes → List Step → Value → Type 0
-EndsReady sizes steps (APart device room) = EndWith (IsReady sizes.page) steps room
+EndsReady sizes steps (APart device spares) = EndWith (IsReady sizes.page) steps (room_of spares)
 EndsReady sizes steps value = ⊥
 
 -- and one that is so now
@@ -36,12 +37,12 @@ FillsReady sizes pass stage number value = KeepsReady sizes value
 
 -- a cell keeps a header's part, and each of its lines can take 15 contents after some steps, whatever room they leave
 abbrev pub EndsRoomy : List Step → Value → Type 0
-EndsRoomy steps (APart device room) = EndWith (IsRoomy version_1.header_lines) steps room
+EndsRoomy steps (APart device spares) = EndWith (IsRoomy version_1.header_lines) steps (room_of spares)
 EndsRoomy steps value = ⊥
 
 -- and so it is now
 abbrev pub KeepsRoomy : Value → Type 0
-KeepsRoomy (APart device room) = IsRoomy version_1.header_lines room
+KeepsRoomy (APart device spares) = IsRoomy version_1.header_lines (room_of spares)
 KeepsRoomy value = ⊥
 
 -- a cleaner has begun to move the header's tail, or has met a fault, and not yet set STOP

@@ -2,10 +2,10 @@
 use Rattle.std.specs.Prelude.{ℕ, Bool, true, false, if◌then◌else◌, List, [], Option, Some, None, option_map}
 use Rattle.nv_plain.specs.Files.{overwritten}
 use Rattle.nv_pmem.specs.Part.{Part}
-use Rattle.nv_pmem.specs.Room.{Room}
 use Rattle.nv_pmem.specs.Steps.{Step as LineStep, after_step as after_line_step}
 use Rattle.nv_store.specs.Store.{Store}
 use Rattle.nv_store.specs.Steps.{Sync, after_step as after_store_step}
+use Rattle.nv_core.specs.Spares.{Spares}
 
 -- A device: what it tells of its state, or nothing, how often it has failed, and which one it is.
 pub record Device (State : Type 0) : Type 0 where
@@ -18,19 +18,19 @@ pub record Buffer : Type 0 where
   pub bytes : List ℕ
   pub valid : Bool
 
--- What a cell keeps: a part of the region with its room, a store, a page's buffer or none, or nothing at all.
+-- What a cell keeps: a part of the region with what its lines can still take, a store, a page's buffer or none, or nothing at all.
 pub data Value : Type 0 where
   Bare : Value
-  APart : Device Part → Room → Value
+  APart : Device Part → Spares → Value
   AStore : Device Store → Value
   ABuffer : Option Buffer → Value
 
 -- ---- device calls
 
--- One call on a device: a step of a part, with the room that it leaves; or a read, with the offset in the file and the bytes that it gives:
+-- One call on a device: a step of a part, with what it leaves its lines to take; or a read, with the offset in the file and the bytes that it gives:
 -- of a store, or of the piece of the entry that a part holds.
 pub data Job : Type 0 where
-  Writes : LineStep → (room : Room) → Job
+  Writes : LineStep → (spares : Spares) → Job
   Reads : (at : ℕ) (bytes : List ℕ) → Job
   Peeks : (at : ℕ) (bytes : List ℕ) → Job
   -- a write to a store, with what it leaves of it, and a sync
@@ -58,13 +58,13 @@ faults_after Refused before = before
 
 -- what a part tells after a call on it
 abbrev pub part_after : Job → Bool → Option Part → Option Part
-part_after (Writes step room) true told = option_map (after_line_step step) told
+part_after (Writes step spares) true told = option_map (after_line_step step) told
 part_after _ _ told = told
 
--- and the room that it has then
-abbrev pub room_after : Job → Room → Room
-room_after (Writes step room) before = room
-room_after job before = before
+-- and what its lines can take then
+abbrev pub spares_after : Job → Spares → Spares
+spares_after (Writes step spares) before = spares
+spares_after job before = before
 
 -- what a store tells after a call on it
 abbrev pub store_after : Job → Bool → Option Store → Option Store
@@ -74,8 +74,8 @@ store_after job came told = told
 
 -- what a cell keeps after a call on its device
 abbrev pub called : Job → Ending → Value → Value
-called job ending (APart device room) =
-    APart record device { told = part_after job (has_come ending) device.told; faults = faults_after ending device.faults } (room_after job room)
+called job ending (APart device spares) =
+    APart record device { told = part_after job (has_come ending) device.told; faults = faults_after ending device.faults } (spares_after job spares)
 called job ending (AStore device) =
     AStore record device { told = store_after job (has_come ending) device.told; faults = faults_after ending device.faults }
 called job ending Bare = Bare
@@ -83,13 +83,13 @@ called job ending (ABuffer buffer) = ABuffer buffer
 
 -- how often a cell's device has failed; no device never fails
 abbrev pub faults_of : Value → ℕ
-faults_of (APart device room) = device.faults
+faults_of (APart device spares) = device.faults
 faults_of (AStore device) = device.faults
 faults_of _ = 0
 
 -- which device a cell keeps, counting parts and stores apart from 1; 0 where it keeps none
 abbrev pub identity_of : Value → ℕ
-identity_of (APart device room) = device.identity
+identity_of (APart device spares) = device.identity
 identity_of (AStore device) = device.identity
 identity_of _ = 0
 

@@ -4,13 +4,13 @@ use Rattle.nv_plain.specs.declared.call.FileCall.TheVariants.{Read, Write}
 use Rattle.nv_plain.specs.declared.call.Reply.TheVariants.{Bytes, Count}
 use Rattle.nv_plain.specs.Images.{header_magic}
 use Rattle.nv_pmem.specs.Part.{Line, Part, blank_line}
-use Rattle.nv_pmem.specs.Room.{Room}
 use Rattle.nv_pmem.specs.Rows.{RowStep}
 use Rattle.nv_pmem.specs.Steps.{Fence}
 use Rattle.nv_entry.specs.Group.{group_steps}
 use Rattle.std.specs.List.{range_with_len}
 use Rattle.nv_store.specs.Store.{quiet_store}
 use Rattle.nv_core.specs.Words.{Sizes, place, STOP, ORDER, HEAD, TAIL, HAND, LENGTH, HEADER, STORE, ENTRY, HINT, PAGE, DIRTY}
+use Rattle.nv_core.specs.Spares.{Spares}
 use Rattle.nv_core.specs.Values.{Bare, APart, AStore, ABuffer, Writes, Reads, Ending, Made, Failed, is_valid, lacks_buffer}
 use Rattle.nv_core.specs.Deeds.{Loads, Takes, Gives, Places, Splits, Draws, Seizes, Pledges, Readies, Stops, Breaks, Turns, Hints}
 use Rattle.nv_core.specs.Order.{Values}
@@ -22,9 +22,9 @@ use Rattle.nv_core.specs.Opening.{Mount, IsMount, opening}
 abbrev pub walk_sizes : Sizes
 walk_sizes = record { page = 64; files = 1; pages = 64; entries = 16; buffers = 4 }
 
--- the room of a part of so many lines, of which each can take 15 contents
-abbrev pub walk_room : (lines : ℕ) → Room
-walk_room lines = record { lines = lines; spare = λ line. 15; after_fence = λ line. 15 }
+-- what a part of so many lines can take: each line 15 contents
+abbrev pub walk_spares : (lines : ℕ) → Spares
+walk_spares lines = replicate lines (15, 15)
 
 -- a durable line with these words
 abbrev pub durable_line : List ℕ → Line
@@ -38,8 +38,8 @@ walk_header =
 
 -- what the cells keep: that header's part and entry parts of two blank lines, a store of 128 bytes, and buffers in the first four pages
 abbrev pub walk_values : Values
-walk_values (ENTRY slot) = APart record { told = Some (replicate 2 blank_line); faults = 0; identity = slot + 1 } (walk_room 2)
-walk_values HEADER = APart record { told = Some walk_header; faults = 0; identity = 0 } (walk_room 18)
+walk_values (ENTRY slot) = APart record { told = Some (replicate 2 blank_line); faults = 0; identity = slot + 1 } (walk_spares 2)
+walk_values HEADER = APart record { told = Some walk_header; faults = 0; identity = 0 } (walk_spares 18)
 walk_values (STORE zero) = AStore record { told = Some (quiet_store (replicate 128 97)); faults = 0; identity = 17 }
 walk_values (PAGE page) = ABuffer (if nat_lt page 4 then Some record { bytes = []; valid = false } else None)
 walk_values word = Bare
@@ -95,12 +95,12 @@ pub record ReadIsWalked : Type 0 where
 abbrev pub walk_bytes : List ℕ
 walk_bytes = 1 ∷ 2 ∷ 3 ∷ 4 ∷ 5 ∷ []
 
--- one of the device calls of its commit as entry `first`, in the order of their steps; none of them takes of the room
+-- one of the device calls of its commit as entry `first`, in the order of their steps; none of them takes of what the lines can take
 abbrev pub walk_call : (first call : ℕ) → RowStep
 walk_call first call = slice_index_or (group_steps 64 first 0 0 walk_bytes) call record { part = 0; step = Fence }
 
 abbrev pub calls_one : (first : ℕ) → Ending → (call : ℕ) → Event
-calls_one first ending call = acts 1 (Calls record { cell = ENTRY first; job = Writes (walk_call first call).step (walk_room 2); ending = ending })
+calls_one first ending call = acts 1 (Calls record { cell = ENTRY first; job = Writes (walk_call first call).step (walk_spares 2); ending = ending })
 
 -- Pass 0 makes pass 1, which writes.
 abbrev pub walk_write : List Event

@@ -20,7 +20,7 @@ use Rattle.nv_core.specs.Groups.{Log}
 
 -- a cell keeps a part of the region that tells this state
 abbrev pub IsPart : Value → Part → Type 0
-IsPart (APart device room) part = device.told ≡ Some part
+IsPart (APart device spares) part = device.told ≡ Some part
 IsPart value part = ⊥
 
 -- these are the parts of the entries from a number on, as their cells keep them

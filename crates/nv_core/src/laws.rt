@@ -3,6 +3,7 @@ ghost use Rattle.nv_core.specs.Laws.{OpeningIsSound, EventsKeepSound, RunsAreSou
 ghost use Rattle.nv_core.specs.BatchWalks.{BatchIsWalked};
 ghost use Rattle.nv_core.specs.Lengths.{LengthsFollowTheHistory};
 ghost use Rattle.nv_core.specs.Never.{NoPlaceBeforeTheFence, NoPageBeforeThePlace, StoppedAfterAFault, NoLeaderBeforeAFollower, NoGrowthBeforeThePlace, NoTwoWritesOfAPage, NoStopWithoutAFault, NoSeizureOfAHeldEntry, NoHoldOfAnUnreadyEntry, NoEntryHeldTwice, NoOtherCleanup, NoVictimOfTheCall, NoDrawPastTheEnd};
+ghost use Rattle.nv_core.specs.Spares.{SparesKeepSteps, SparesTell};
 ghost use Rattle.nv_core.specs.Walks.{WalkBegins, FirstPageIsWord30, ReadIsWalked, WriteIsWalked, FaultIsWalked, SearchIsWalked, TriesAreWalked};
 ghost use Rattle.nv_core.specs.Words.{PlacesDiffer};
 
@@ -38,6 +39,13 @@ pub fn no_sound_state_allows()
     ensures cleanup { NoOtherCleanup }
     ensures end { NoDrawPastTheEnd }
     ensures victim { NoVictimOfTheCall }
+{}
+
+/// Nothing is lost where the room of a part is said as plain data, by its spares: these tell how many lines there are and what
+/// each of them can take, and what a step promises of the room that it leaves, it does of that of the spares.
+pub fn spares_tell_the_room()
+    ensures steps { SparesKeepSteps }
+    ensures room { SparesTell }
 {}
 
 /// Each word of a mount has a place of its own.

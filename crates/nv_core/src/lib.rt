@@ -15,6 +15,6 @@ pub use crash::{
 };
 pub use laws::{
     a_batch_is_a_run, a_dirty_read_is_a_run, lengths_follow_the_history, no_sound_state_allows,
-    runs_are_sound, walks_are_runs, words_have_places_of_their_own,
+    runs_are_sound, spares_tell_the_room, walks_are_runs, words_have_places_of_their_own,
 };
 pub use log::{a_mount_opens_a_file_and_a_log, cleaning_keeps_its_order, runs_keep_the_log};
