@@ -47,7 +47,7 @@ pub data Deed : Type 0 where
   Tends : Chore → Deed
   -- a new pass is made, with what pass 0 and the passes that it took in have seen
   Splits : Deed
-  -- a pass on its way into pass 0 puts back what a cell keeps, and the lock stays shut
+  -- a pass that is to be taken in, or pass 0 when the mount is closed, puts back what a cell in its hands keeps, and the lock stays shut
   Leaves : Word → Deed
   -- pass 0 takes in another pass
   Joins : (number : ℕ) → Deed

@@ -29,11 +29,11 @@ after_event sizes event core = after_act sizes event.by event.act core
 
 -- ---- when an event may come
 
--- Steps between passes: pass 0 makes one; another one, on its way into pass 0, puts back what it holds; pass 0 takes it in then.
--- Every other step follows the order of steps.
+-- Steps between passes: pass 0 makes one. A pass that is to be taken in, or pass 0 when the mount is closed, puts back what its hands keep;
+-- a pass that has put all of it back pass 0 may take in. Every other step follows the order of steps.
 abbrev pub MayDo : Sizes → (by : ℕ) → Core → Deed → Type 0
 MayDo sizes by core Splits = by ≡ 0
-MayDo sizes by core (Leaves cell) = (by ≢ 0) × (times cell (core.passes by).hands ≢ times cell (core.passes by).left)
+MayDo sizes by core (Leaves cell) = times cell (core.passes by).hands ≢ times cell (core.passes by).left
 MayDo sizes by core (Joins number) =
     (by ≡ 0) × (number ≢ 0) × (number ≤ core.made) × (IsOneOf core.ended number → ⊥)
     × ((cell : Word) → times cell (core.passes number).left ≡ times cell (core.passes number).hands)

@@ -98,7 +98,7 @@ pub record Pass : Type 0 where
   -- the history as it last saw it, and its own calls
   pub seen : List Answered
   pub mine : List Answered
-  -- what it has put back on its way into the pass that takes it in
+  -- what it has put back of what its hands keep, on its way into pass 0, or, as pass 0, when the mount is closed
   pub left : List Word
 
 -- what a read has fetched of a page
