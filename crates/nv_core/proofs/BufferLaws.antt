@@ -109,7 +109,7 @@ page_given sizes pass page (Searching missed tries (Robbing buffer victim)) belo
 page_given sizes pass page Leaving below held may = last_held (PAGE page) pass.hands may
 page_given sizes pass page stage below held may = absurd may
 
-less_times : (cell other : Word) (hands : List Word) → times cell (without other hands) ≤ times cell hands
+pub less_times : (cell other : Word) (hands : List Word) → times cell (without other hands) ≤ times cell hands
 less_times cell other [] = omega arith
 less_times cell other (first ∷ rest) = if_both (λ h. times cell h ≤ times cell (first ∷ rest)) (same other first) rest (first ∷ without other rest)
     (λ _. omega arith) (λ _. let l = less_times cell other rest in omega (arith, l))

@@ -32,7 +32,8 @@ use Rattle.nv_core.proofs.Walked.{walk_begins}
 use Rattle.nv_core.proofs.HandWalked.{clean_run, next_run, late_run}
 use Rattle.nv_core.proofs.WalkOpened.{walk_opens_files, walk_opens_region}
 use Rattle.nv_core.proofs.CrashRegions.{region_of, region_is}
-use Rattle.nv_core.proofs.CrashWalked.{run_both, placed_run, oldest_of, oldest_is, any_log, none_placed}
+use Rattle.nv_core.proofs.RunLaws.{run_both}
+use Rattle.nv_core.proofs.CrashWalked.{placed_run, oldest_of, oldest_is, any_log, none_placed}
 
 -- ---- the run
 

@@ -11,9 +11,8 @@ use Rattle.nv_store.specs.Laws as stores
 use Rattle.nv_store.specs.Images.{IsImage as IsStoreImage}
 use Rattle.nv_store.specs.Store.{Store}
 use Rattle.nv_entry.specs.Group.{group_steps, pieces_steps, piece_steps, data_steps, field_steps}
-use Rattle.nv_core.specs.Words.{Sizes, STORE}
-use Rattle.nv_core.specs.Core.{Core}
-use Rattle.nv_core.specs.Events.{Event, after_event, after, IsRun}
+use Rattle.nv_core.specs.Words.{STORE}
+use Rattle.nv_core.specs.Events.{Event, after, IsRun}
 use Rattle.nv_core.specs.Opening.{opening}
 use Rattle.nv_core.specs.StorePages.{store_of, StoresKept}
 use Rattle.nv_core.specs.Groups.{Log}
@@ -25,20 +24,13 @@ use Rattle.nv_core.specs.Crash.{AreStoreImages, added, Survives, RunsSurviveCras
 use Rattle.nv_core.specs.Walks.{walk_sizes, walk_mount, walk_read, walk_write}
 use Rattle.nv_core.specs.WalkOpens.{walk_files, WalkOpensLog}
 use Rattle.nv_core.specs.CrashWalks.{written_files, walk_placed, walk_open, walk_ready, placed_core, open_core, ready_core, PlacedWriteStays, ReadyWriteStays, OpenWriteHasTwoFates}
+use Rattle.nv_core.proofs.RunLaws.{run_both, run_parts}
 use Rattle.nv_core.proofs.Walked.{walk_begins, read_is_walked, write_is_walked}
 use Rattle.nv_core.proofs.WalkOpened.{walk_opens_files, walk_opens_region}
 use Rattle.nv_core.proofs.CrashRegions.{region_of, region_is}
 use Rattle.nv_core.proofs.CrashRuns.{all_leave_stores, stores_run}
 
--- ---- runs, one behind another
-
-pub run_both : (sizes : Sizes) (core : Core) (one other : List Event) → IsRun sizes core one → IsRun sizes (after sizes core one) other → IsRun sizes core (one ++ other)
-run_both sizes core [] other a b = b
-run_both sizes core (event ∷ one) other a b = (a.0, run_both sizes (after_event sizes event core) one other a.1 b)
-
-run_first : (sizes : Sizes) (core : Core) (one other : List Event) → IsRun sizes core (one ++ other) → IsRun sizes core one
-run_first sizes core [] other run = tt
-run_first sizes core (event ∷ one) other run = (run.0, run_first sizes (after_event sizes event core) one other run.1)
+-- ---- runs
 
 pub placed_run : IsRun walk_sizes (opening walk_mount) walk_placed
 placed_run = run_both walk_sizes (opening walk_mount) walk_read walk_write read_is_walked.is_run write_is_walked.is_run
@@ -46,8 +38,8 @@ placed_run = run_both walk_sizes (opening walk_mount) walk_read walk_write read_
 -- the read, and so many events of the write
 part_run : (count : ℕ) → IsRun walk_sizes (opening walk_mount) (walk_read ++ take count walk_write)
 part_run count = run_both walk_sizes (opening walk_mount) walk_read (take count walk_write) read_is_walked.is_run
-    (run_first walk_sizes (after walk_sizes (opening walk_mount) walk_read) (take count walk_write) (drop count walk_write)
-    (subst (IsRun walk_sizes (after walk_sizes (opening walk_mount) walk_read)) (sym (take-append-drop count walk_write)) write_is_walked.is_run))
+    (run_parts walk_sizes (after walk_sizes (opening walk_mount) walk_read) (take count walk_write) (drop count walk_write)
+    (subst (IsRun walk_sizes (after walk_sizes (opening walk_mount) walk_read)) (sym (take-append-drop count walk_write)) write_is_walked.is_run)).0
 
 open_run : IsRun walk_sizes (opening walk_mount) walk_open
 open_run = part_run 26

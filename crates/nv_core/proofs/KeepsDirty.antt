@@ -302,7 +302,7 @@ return_same page word is =
     let down : kind_of (word - 1) ≡ ready = omega (arith, is) in let at : page_of word ≡ page_of (word - 1) = omega (arith, is) in
     of_held page word is ∙ ap (λ p. p == page) at ∙ sym (of_ready page (word - 1) down)
 
-slot_less : (sizes : Sizes) (pass : Pass) (number : ℕ) → HasDrawn sizes pass.call pass.entries → IsAllowed sizes pass.call → slot_of sizes number < sizes.entries
+pub slot_less : (sizes : Sizes) (pass : Pass) (number : ℕ) → HasDrawn sizes pass.call pass.entries → IsAllowed sizes pass.call → slot_of sizes number < sizes.entries
 slot_less sizes pass number drawn allowed = mod_below number sizes.entries (let a = few_entries sizes pass.call pass.entries drawn allowed in let b = drawn.some in omega (arith, a, b))
 
 -- ---- a pledge

@@ -30,6 +30,10 @@ pub mod KeepsLooks
 pub mod KeepsBounds
 pub mod Rekinded
 pub mod Reach
+pub mod RunLaws
+pub mod OthersLaws
+pub mod HandsLaws
+pub mod StepWords
 pub mod BarredLaws
 pub mod KeepsBroken
 pub mod KeepsBrokenLengths

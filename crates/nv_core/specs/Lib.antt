@@ -67,3 +67,4 @@ pub mod DirtyWalks
 pub mod CrashByHand
 pub mod CleaningOrder
 pub mod EmptyLog
+pub mod Others

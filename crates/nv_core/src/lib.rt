@@ -7,6 +7,7 @@ mod content;
 mod crash;
 mod laws;
 mod log;
+mod others;
 
 pub use content::{pages_are_patched, runs_keep_content};
 pub use crash::{
@@ -18,3 +19,4 @@ pub use laws::{
     runs_are_sound, spares_tell_the_room, walks_are_runs, words_have_places_of_their_own,
 };
 pub use log::{a_mount_opens_a_file_and_a_log, cleaning_keeps_its_order, runs_keep_the_log};
+pub use others::passes_are_left_alone;
