@@ -1,7 +1,7 @@
 -- Events: the acts of the passes, when each may come, and runs of them.
-use Rattle.std.specs.Prelude.{◌≡◌, ◌≢◌, ℕ, ◌≤◌, ◌==◌, List, [], ◌∷◌, filter}
+use Rattle.std.specs.Prelude.{◌≡◌, ◌≢◌, ℕ, ◌≤◌, ◌==◌, true, List, [], ◌∷◌, filter}
 use Rattle.nv_plain.specs.declared.call.FileCall.{FileCall}
-use Rattle.nv_core.specs.Words.{Sizes, Word}
+use Rattle.nv_core.specs.Words.{Sizes, Word, keeps_something}
 use Rattle.nv_core.specs.Passes.{IsOneOf, Idle, Pass, IsAllowed, times}
 use Rattle.nv_core.specs.Deeds.{Deed, Splits, Leaves, Joins, word_of}
 use Rattle.nv_core.specs.Order.{Work, MayStep, MayWork}
@@ -36,7 +36,7 @@ MayDo sizes by core Splits = by ≡ 0
 MayDo sizes by core (Leaves cell) = times cell (core.passes by).hands ≢ times cell (core.passes by).left
 MayDo sizes by core (Joins number) =
     (by ≡ 0) × (number ≢ 0) × (number ≤ core.made) × (IsOneOf core.ended number → ⊥)
-    × ((cell : Word) → times cell (core.passes number).left ≡ times cell (core.passes number).hands)
+    × ((cell : Word) → keeps_something cell ≡ true → times cell (core.passes number).left ≡ times cell (core.passes number).hands)
 MayDo sizes by core deed = MayStep sizes core.values (core.passes by) deed
 
 -- a step may come, and the word was found as it is

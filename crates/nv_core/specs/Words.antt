@@ -155,6 +155,14 @@ is_lock (PAGE page) = true
 is_lock (CLEANUP page) = true
 is_lock _ = false
 
+-- whether a cell keeps something, as a lock of its own right does not
+abbrev pub keeps_something : Word → Bool
+keeps_something HEADER = true
+keeps_something (STORE file) = true
+keeps_something (ENTRY slot) = true
+keeps_something (PAGE page) = true
+keeps_something word = false
+
 -- Whether a word of this value shuts its cell, so that some pass has what the cell keeps. A lock is free at 0, and an entry's part
 -- is out while the entry is being filled, or read.
 abbrev pub is_shut : Word → ℕ → Bool
