@@ -1,0 +1,126 @@
+-- Passes: what keeps a pass between its steps.
+use Rattle.std.proofs.Common.{arith, ◌≡◌, refl, sym, ap, ◌∙◌, subst, inl, inr, ℕ, ◌≤◌, ◌++◌, List, [], ◌∷◌, length, take, drop}
+use Rattle.std.specs.Prelude.{Option}
+use Rattle.std.proofs.lemmas.Bool.{cases_eq, cases_lt}
+use Rattle.std.proofs.lemmas.List.{length-map}
+use Rattle.nv_plain.specs.declared.call.FileCall.{FileCall}
+use Rattle.atomic_table.specs.Table.{Me}
+use Rattle.nv_core.specs.Words.{Word}
+use Rattle.nv_core.specs.Values.{Value}
+use Rattle.nv_core.specs.Passes.{IsOneOf, times}
+use Rattle.nv_core.specs.Deeds.{Deed, move_of}
+use Rattle.nv_core.specs.Laws.{RunsAreSound}
+use Rattle.nv_core.specs.Opening.{IsMount}
+use Rattle.nv_core.proofs.LockLaws.{only_holder}
+use Rattle.nv_table.specs.Acts.{Acted}
+use Rattle.nv_table.specs.Drawn.{lost_of, drawn_of}
+use Rattle.nv_table.specs.Layout.{slot_total, cell_of}
+use Rattle.nv_table.specs.Opened.{Opened, mount_of, IsRunOf}
+use Rattle.nv_table.specs.Passing.{IsKeeper, IsPass, HasPlaces}
+use Rattle.nv_table.specs.Sights.{Sight, Knows, pass_of, carried, numbers, slot_times}
+use Rattle.nv_table.specs.States.{shift_of}
+use Rattle.nv_table.proofs.CarryLaws.{few_left, slot_else}
+use Rattle.nv_table.proofs.ShiftLaws.{shifted, moved_written}
+use Rattle.nv_table.proofs.RoomLaws.{few_of}
+use Rattle.nv_table.proofs.TurnLaws.{times_turned, map_turned}
+
+-- its slots may stand in another order
+pub pass_turned : {S : Type 0} {drawn lost : Option ℕ} (sight : Sight) (slots : List (ℕ × S)) (number made joined : ℕ) (held : List ℕ) (room i : ℕ)
+    → IsPass sight slots number made joined held room drawn lost
+    → IsPass sight (drop i slots ++ take i slots) number made joined (drop i held ++ take i held) room drawn lost
+pass_turned sight slots number made joined held room i is = record {
+  live = is.live;
+  number_is = is.number_is;
+  mount = is.mount;
+  run = is.run;
+  known = is.known;
+  keeper = is.keeper;
+  within = λ slot more. times_turned slot i slots ∙ is.within slot more;
+  each = λ slot less. times_turned slot i slots ∙ is.each slot less;
+  written = map_turned (λ one. one.0) i slots ∙ ap (λ all. drop i all ++ take i all) is.written;
+  roomy = is.roomy;
+  drawn_is = is.drawn_is;
+  lost_is = is.lost_is;
+}
+
+-- it has the same places in the same mount
+pub same_places : {L B : Type 0} {opened now : Opened} {number part_places store_places : ℕ} {parts : List L} {stores : List B} → now ≡ opened
+    → HasPlaces opened.sizes number parts part_places stores store_places → HasPlaces now.sizes number parts part_places stores store_places
+same_places {number = number} {part_places = part_places} {store_places = store_places} {parts = parts} {stores = stores} same has =
+    subst (λ (o : Opened). HasPlaces o.sizes number parts part_places stores store_places) (sym same) has
+
+-- ---- a step
+
+none_there : {S : Type 0} (slots : List (ℕ × S)) (slot : ℕ) → ((held : S) → IsOneOf slots (slot, held) → ⊥) → slot_times slot slots ≡ 0
+none_there [] slot none = refl
+none_there (first ∷ rest) slot none = elim (cases_eq slot first.0) [
+  | inl is ↦ absurd (none first.1 (inl (ap (λ n. (n, first.1)) is)))
+  | inr ne ↦ slot_else slot first.0 first.1 rest ne ∙ none_there rest slot (λ held one. none held (inr one))
+]
+
+-- A step keeps it, and the pass writes down which slot moved.
+pub pass_acted : {S : Type 0} {drawn lost drawn_now lost_now : Option ℕ} (shown : S → Value) (sight : Sight) (slots : List (ℕ × S)) (number made joined : ℕ) (held : List ℕ) (room : ℕ)
+    (opens : Option FileCall) (deed : Deed) (found : ℕ) (new : Me S Sight)
+    → IsPass sight slots number made joined held room drawn lost → Acted shown (sight, slots) opens deed found new
+    → drawn_now ≡ drawn_of (pass_of new.0) → lost_now ≡ lost_of (pass_of new.0).faulted
+    → IsPass new.0 new.1 number made joined (shifted (shift_of sight.opened.sizes (move_of sight.opened.sizes deed found)) held) room drawn_now lost_now
+pass_acted shown sight slots number made joined held room opens deed found new is acted drawn_is lost_is = record {
+  live = ap (λ (s : Sight). s.live) acted.steps.is ∙ is.live;
+  number_is = is.number_is ∙ sym same_number;
+  mount = subst (λ o. IsMount (mount_of o)) (sym same_mount) is.mount;
+  run = subst (λ (s : Sight). IsRunOf s.opened s.run) (sym acted.steps.is) acted.steps.is_run;
+  known = subst (λ o. Knows o new.0.run new.0) (sym same_mount) acted.knows;
+  keeper = keeper;
+  within = λ slot more. none_there new.1 slot (λ one is_one. let less = acted.carries.within slot one is_one in let at = ap (λ o. slot_total o.sizes) same_mount in omega (arith, more, less, at));
+  each = λ slot less. acted.carries.each slot (let at = ap (λ o. slot_total o.sizes) same_mount in omega (arith, less, at))
+      ∙ ap (λ o. times (cell_of o.sizes slot) (carried (pass_of new.0))) (sym same_mount);
+  written = moved_written sight.opened.sizes (move_of sight.opened.sizes deed found) slots new.1 acted.moved
+      ∙ ap (shifted (shift_of sight.opened.sizes (move_of sight.opened.sizes deed found))) is.written;
+  roomy = subst (λ o. slot_total o.sizes ≤ room) (sym same_mount) is.roomy;
+  drawn_is = drawn_is;
+  lost_is = lost_is;
+}
+  where
+    same_mount : new.0.opened ≡ sight.opened
+    same_mount = ap (λ (s : Sight). s.opened) acted.steps.is
+
+    same_number : new.0.number ≡ sight.number
+    same_number = ap (λ (s : Sight). s.number) acted.steps.is
+
+    keeper : new.0.number ≡ 0 → IsKeeper new.0 made joined
+    keeper zero =
+        let number_zero : sight.number ≡ 0 = sym same_number ∙ zero in
+        let old = is.keeper number_zero in
+        record {
+          made_is = acted.made number_zero ∙ old.made_is;
+          seated = ap (λ (s : Sight). s.seated) acted.steps.is ∙ old.seated;
+          few = old.few;
+          taken = acted.ended number_zero ∙ old.taken ∙ ap (λ (s : Sight). numbers s.ended) (sym acted.steps.is);
+          count = old.count ∙ ap (λ (s : Sight). length s.ended) (sym acted.steps.is);
+        }
+
+-- What a pass has written down is no more than it has room for: its slots are those of cells in its hands, each there once.
+pub pass_fits : {S : Type 0} {drawn lost : Option ℕ} (sight : Sight) (slots : List (ℕ × S)) (number made joined : ℕ) (held : List ℕ) (room : ℕ) → RunsAreSound
+    → IsPass sight slots number made joined held room drawn lost → length held ≤ room
+pass_fits sight slots number made joined held room runs is =
+    let few = few_of slots (slot_total sight.opened.sizes) once is.within in
+    let many : length slots ≡ length held = sym (length-map slots (λ one. one.0)) ∙ ap length is.written in
+    let roomy = is.roomy in omega (arith, few, many, roomy)
+  where
+    once_held : (cell : Word) → times cell (pass_of sight).hands ≤ 1
+    once_held cell = elim (cases_lt 1 (times cell (pass_of sight).hands)) [
+      | inl more ↦
+          let one = (only_holder ((runs (mount_of sight.opened) sight.run is.mount is.run).locks.keyed cell) sight.number (omega (arith, more))).1 in
+          omega (arith, one)
+      | inr few ↦ few
+    ]
+
+    once : (slot : ℕ) → slot_times slot slots ≤ 1
+    once slot = elim (cases_lt slot (slot_total sight.opened.sizes)) [
+      | inl low ↦
+          let e = is.each slot low in
+          let few = few_left (cell_of sight.opened.sizes slot) (pass_of sight).left (pass_of sight).hands in
+          let one = once_held (cell_of sight.opened.sizes slot) in
+          omega (arith, e, few, one)
+      | inr high ↦ let none = is.within slot high in omega (arith, none)
+    ]

@@ -1,0 +1,199 @@
+-- Steps: what a pass carries, as its slots and as what they show.
+use Rattle.std.proofs.Common.{arith, ◌≡◌, refl, sym, ap, ◌∙◌, subst, inl, inr, ℕ, ◌<◌, ◌⊎◌, List, [], ◌∷◌, ◌++◌, take, drop, map, Option}
+use Rattle.std.proofs.lemmas.List.{take-append-drop}
+use Rattle.nv_plain.specs.declared.call.FileCall.{FileCall}
+use Rattle.atomic_table.specs.Seated.{TableId}
+use Rattle.atomic_table.specs.Table.{Me}
+use Rattle.nv_core.specs.Words.{Sizes, Word}
+use Rattle.nv_core.specs.Values.{Value}
+use Rattle.nv_core.specs.Passes.{IsOneOf, times}
+use Rattle.nv_core.specs.Deeds.{Deed, move_of}
+use Rattle.nv_core.specs.Laws.{RunsAreSound}
+use Rattle.nv_core.specs.Order.{Values, MayStep}
+use Rattle.nv_core.specs.Standing.{Standing}
+use Rattle.nv_table.specs.Changes.{changed}
+use Rattle.nv_table.specs.Drawn.{drawn_of, marks_of, IsFromHead, drawn_then, lost_then}
+use Rattle.nv_table.specs.Layout.{word_total}
+use Rattle.nv_table.specs.Opened.{mount_of, IsRunOf, state_of}
+use Rattle.nv_table.specs.Passing.{IsPass}
+use Rattle.nv_table.specs.Sights.{Sight, pass_of, values_of, carried, slot_times, Carries}
+use Rattle.nv_table.specs.Acts.{IsInFront, MayAct, Acted, values_then, pass_worked, values_before, with_call}
+use Rattle.nv_table.specs.Ready.{IsReady, Stepped}
+use Rattle.nv_table.specs.States.{BoardState, PassState, IsOf, Shift, Out, shown_in, shift_of}
+use Rattle.nv_table.specs.Turned.{IsTurned}
+use Rattle.nv_table.specs.declared.acting.Change.{Change}
+use Rattle.nv_table.specs.declared.stepping.Marks.{Marks}
+use Rattle.nv_table.proofs.CarryLaws.{carried_all}
+use Rattle.nv_table.specs.CoreLaws.{CoreLaws}
+use Rattle.nv_table.proofs.DrawnLaws.{marked}
+use Rattle.nv_table.proofs.LayoutLaws.{cell_there, place_within}
+use Rattle.nv_table.proofs.ShiftLaws.{cell_out, shifted}
+use Rattle.nv_table.proofs.Onward.{next_word, next_found, next_on_word, next_held}
+use Rattle.nv_table.proofs.PassLaws.{pass_acted}
+use Rattle.nv_table.proofs.TurnLaws.{times_turned, times_shown}
+
+-- ---- one of some
+
+one_both : {T : Type 0} (xs ys : List T) (one : T) → IsOneOf (xs ++ ys) one → IsOneOf xs one ⊎ IsOneOf ys one
+one_both [] ys one is = inr is
+one_both (x ∷ xs) ys one (inl is) = inl (inl is)
+one_both (x ∷ xs) ys one (inr is) = elim (one_both xs ys one is) [ inl here ↦ inl (inr here) | inr there ↦ inr there ]
+
+one_left : {T : Type 0} (xs ys : List T) (one : T) → IsOneOf xs one → IsOneOf (xs ++ ys) one
+one_left [] ys one is = absurd is
+one_left (x ∷ xs) ys one (inl is) = inl is
+one_left (x ∷ xs) ys one (inr is) = inr (one_left xs ys one is)
+
+one_right : {T : Type 0} (xs ys : List T) (one : T) → IsOneOf ys one → IsOneOf (xs ++ ys) one
+one_right [] ys one is = is
+one_right (x ∷ xs) ys one is = inr (one_right xs ys one is)
+
+pub one_turned : {T : Type 0} (i : ℕ) (xs : List T) (one : T) → IsOneOf (drop i xs ++ take i xs) one → IsOneOf xs one
+one_turned i xs one is = subst (λ all. IsOneOf all one) (take-append-drop i xs) (elim (one_both (drop i xs) (take i xs) one is) [
+  | inl behind ↦ one_right (take i xs) (drop i xs) one behind
+  | inr front ↦ one_left (take i xs) (drop i xs) one front
+])
+
+-- and the other way round
+one_back : {T : Type 0} (i : ℕ) (xs : List T) (one : T) → IsOneOf xs one → IsOneOf (drop i xs ++ take i xs) one
+one_back i xs one is = elim (one_both (take i xs) (drop i xs) one (subst (λ all. IsOneOf all one) (sym (take-append-drop i xs)) is)) [
+  | inl front ↦ one_right (drop i xs) (take i xs) one front
+  | inr behind ↦ one_left (drop i xs) (take i xs) one behind
+]
+
+pub one_shown : {S T : Type 0} (f : S → T) (xs : List S) (one : S) → IsOneOf xs one → IsOneOf (map f xs) (f one)
+one_shown f [] one is = absurd is
+one_shown f (x ∷ xs) one (inl is) = inl (ap f is)
+one_shown f (x ∷ xs) one (inr is) = inr (one_shown f xs one is)
+
+one_held : {S T : Type 0} (f : S → T) (xs : List S) (one : T) → IsOneOf (map f xs) one → (held : S) × IsOneOf xs held × (one ≡ f held)
+one_held f [] one is = absurd is
+one_held f (x ∷ xs) one (inl is) = (x, inl refl, is)
+one_held f (x ∷ xs) one (inr is) = let more = one_held f xs one is in (more.0, inr more.1, more.2)
+
+-- ---- what is carried
+
+pub carries_turned : {S : Type 0} (sizes : Sizes) (shown : S → Value) (kept : Values) (cells : List Word) (i : ℕ) (slots : List (ℕ × S))
+    → Carries sizes shown kept cells slots → Carries sizes shown kept cells (drop i slots ++ take i slots)
+carries_turned sizes shown kept cells i slots is = record {
+  within = λ slot held one. is.within slot held (one_turned i slots (slot, held) one);
+  each = λ slot less. times_turned slot i slots ∙ is.each slot less;
+  shows = λ slot held one. is.shows slot held (one_turned i slots (slot, held) one);
+}
+
+carries_back : {S : Type 0} (sizes : Sizes) (shown : S → Value) (kept : Values) (cells : List Word) (i : ℕ) (slots : List (ℕ × S))
+    → Carries sizes shown kept cells (drop i slots ++ take i slots) → Carries sizes shown kept cells slots
+carries_back sizes shown kept cells i slots is = record {
+  within = λ slot held one. is.within slot held (one_back i slots (slot, held) one);
+  each = λ slot less. sym (times_turned slot i slots) ∙ is.each slot less;
+  shows = λ slot held one. is.shows slot held (one_back i slots (slot, held) one);
+}
+
+-- as slots, and as what these show
+pub carries_held : {S : Type 0} (sizes : Sizes) (shown : S → Value) (kept : Values) (cells : List Word) (slots : List (ℕ × S))
+    → Carries sizes (λ value. value) kept cells (shown_in shown slots) → Carries sizes shown kept cells slots
+carries_held sizes shown kept cells slots is = record {
+  within = λ slot held one. is.within slot (shown held) (one_shown (λ one. (one.0, shown one.1)) slots (slot, held) one);
+  each = λ slot less. sym (times_shown shown slot slots) ∙ is.each slot less;
+  shows = λ slot held one. is.shows slot (shown held) (one_shown (λ one. (one.0, shown one.1)) slots (slot, held) one);
+}
+
+pub carries_shown : {S : Type 0} (sizes : Sizes) (shown : S → Value) (kept : Values) (cells : List Word) (slots : List (ℕ × S))
+    → Carries sizes shown kept cells slots → Carries sizes (λ value. value) kept cells (shown_in shown slots)
+carries_shown {S} sizes shown kept cells slots is = record {
+  within = λ slot value one. let held = one_held (λ one. (one.0, shown one.1)) slots (slot, value) one in
+      is.within slot held.0.1 (subst (λ n. IsOneOf slots (n, held.0.1)) (sym (ap (λ z. z.0) held.2)) held.1);
+  each = λ slot less. times_shown shown slot slots ∙ is.each slot less;
+  shows = λ slot value one. let held = one_held (λ one. (one.0, shown one.1)) slots (slot, value) one in
+      ap (λ z. z.1) held.2 ∙ is.shows slot held.0.1 (subst (λ n. IsOneOf slots (n, held.0.1)) (sym (ap (λ z. z.0) held.2)) held.1);
+}
+
+-- ---- a step
+
+-- what a step asks of the seat, whose slots may stand in another order than when the pass was asked
+pub may_act : {S : Type 0} (shown : S → Value) (pass : PassState) (me : Me S Sight) (opens : Option FileCall) (deed : Deed) (at : ℕ) (change : ℕ → ℕ)
+    → me.0 ≡ pass.sight → IsTurned pass.now (shown_in shown me.1)
+    → ((found : ℕ) → IsInFront pass.sight.opened.sizes (move_of pass.sight.opened.sizes deed found) me.1)
+    → IsReady pass opens deed at change → MayAct shown me opens deed at change
+may_act shown pass me opens deed at change sight turn front ready =
+    let sizes = pass.sight.opened.sizes in
+    let kept = values_then pass.sight opens deed ready.works in
+    let cells = carried (pass_of pass.sight) in
+    subst (λ v. MayAct shown (v, me.1) opens deed at change) (sym sight) record {
+      works = ready.works;
+      next = ready.next;
+      carries = carries_held sizes shown kept cells me.1 (subst (Carries sizes (λ value. value) kept cells) (sym turn.1)
+          (carries_turned sizes (λ value. value) kept cells turn.0 pass.now ready.holds));
+      front = front;
+    }
+
+module _ {S : Type 0} {drawn lost : Option ℕ} (pass : PassState) (me : Me S Sight) (number made joined : ℕ) (held : List ℕ) (room : ℕ) (opens : Option FileCall) (deed : Deed) (sight : me.0 ≡ pass.sight)
+    (is : IsPass me.0 me.1 number made joined held room drawn lost) where
+  -- as the pass's sight
+  own_pass : IsPass pass.sight me.1 number made joined held room drawn lost
+  own_pass = subst (λ s. IsPass s me.1 number made joined held room drawn lost) sight is
+
+  -- its word is one of the table's
+  pub step_fits : (at : ℕ) (change : ℕ → ℕ) (board : BoardState) (words : ℕ) → CoreLaws → IsReady pass opens deed at change → IsOf board pass → words ≡ word_total board.opened.sizes → at < words
+  step_fits at change board words laws ready of_board words_are =
+      let on = next_on_word laws pass.sight ready.works opens deed at change pass.sight.run own_pass.mount own_pass.run own_pass.known ready.next in
+      let less = place_within pass.sight.opened.sizes (next_word laws pass.sight ready.works opens deed at change pass.sight.run own_pass.mount own_pass.run own_pass.known ready.next) on in
+      let place_is = ready.next.word in
+      let total = ap (λ o. word_total o.sizes) of_board.same_mount in
+      omega (arith, less, place_is, total, words_are)
+
+  -- a slot that is to go is among the pass's, once
+  pub goes_once : (at : ℕ) (change : ℕ → ℕ) (slot : ℕ) → CoreLaws → IsReady pass opens deed at change
+      → ((found : ℕ) → shift_of pass.sight.opened.sizes (move_of pass.sight.opened.sizes deed found) ≡ Out slot) → slot_times slot pass.now ≡ 1
+  goes_once at change slot laws ready out =
+      let sizes = pass.sight.opened.sizes in
+      let found = next_found laws pass.sight ready.works opens deed at change pass.sight.run own_pass.mount own_pass.run own_pass.known ready.next in
+      let cell = cell_out sizes (move_of sizes deed found) slot (out found) in
+      let once = next_held laws pass.sight ready.works opens deed at change pass.sight.run own_pass.mount own_pass.run own_pass.known ready.next cell.0 cell.1 in
+      let there = cell_there sizes cell.0 slot once.0 cell.2 in
+      ready.holds.each slot there.0
+      ∙ ap (λ c. times c (carried (pass_of pass.sight))) there.1
+      ∙ ap (times cell.0) (carried_all (pass_of pass.sight) ready.next.staying)
+      ∙ once.1
+
+  -- what the pass has written down then
+  pub step_keeps : RunsAreSound → (shown : S → Value) (at : ℕ) (change : Change) (marks : Marks) (found : ℕ) (new : Me S Sight) (shift : Shift) → IsReady pass opens deed at (changed change)
+      → marks_of opens deed ≡ marks → IsFromHead marks change (pass_of pass.sight).head → Acted shown me opens deed found new
+      → shift_of pass.sight.opened.sizes (move_of pass.sight.opened.sizes deed found) ≡ shift
+      → IsPass new.0 new.1 number made joined (shifted shift held) room (drawn_then marks change found drawn lost) (lost_then marks drawn lost)
+  step_keeps runs shown at change marks found new shift ready marks_are head acted moves =
+      let same_mount : new.0.opened ≡ me.0.opened = ap (λ (s : Sight). s.opened) acted.steps.is in
+      let now = marked shown me new opens deed found (values_before pass.sight ready.works) (pass_worked pass.sight.opened.sizes ready.works (pass_of pass.sight)) marks change acted
+      (subst (λ o. Standing me.0.opened.sizes ((state_of o new.0.run).passes new.0.number)) (sym same_mount)
+      ((runs (mount_of me.0.opened) new.0.run is.mount (subst (λ (s : Sight). IsRunOf me.0.opened s.run) (sym acted.steps.is) acted.steps.is_run)).standing new.0.number))
+      (subst (λ s. MayStep s.opened.sizes (values_before pass.sight ready.works) (with_call s.opened.sizes opens (pass_worked pass.sight.opened.sizes ready.works (pass_of pass.sight))) deed) (sym sight) ready.next.may)
+      marks_are (subst (λ s. IsFromHead marks change (pass_of s).head) (sym sight) head) in
+      subst (λ s. IsPass new.0 new.1 number made joined (shifted s held) room (drawn_then marks change found drawn lost) (lost_then marks drawn lost))
+      (ap (λ (s : Sight). shift_of s.opened.sizes (move_of s.opened.sizes deed found)) sight ∙ moves)
+      (pass_acted shown me.0 me.1 number made joined held room opens deed found new is acted
+      (ap (λ d. drawn_then marks change found d lost) is.drawn_is ∙ ap (drawn_then marks change found (drawn_of (pass_of me.0))) is.lost_is ∙ sym now.drawn_is)
+      (ap (λ d. lost_then marks d lost) is.drawn_is ∙ ap (lost_then marks (drawn_of (pass_of me.0))) is.lost_is ∙ sym now.lost_is))
+
+-- what the step tells the pass
+pub acted_stepped : {S : Type 0} (shown : S → Value) (pass : PassState) (me : Me S Sight) (opens : Option FileCall) (deed : Deed) (found : ℕ) (new : Me S Sight) (table : TableId) {spare : List Value}
+    → me.0 ≡ pass.sight → IsTurned pass.now (shown_in shown me.1) → spare ≡ pass.spare → Acted shown me opens deed found new
+    → Stepped pass opens deed found record { table = table; sight = new.0; now = shown_in shown new.1; spare = spare }
+acted_stepped shown pass me opens deed found new table sight turned spare_is acted_me =
+    let sizes = pass.sight.opened.sizes in
+    let acted = subst (λ s. Acted shown (s, me.1) opens deed found new) sight acted_me in
+    let kept = values_then pass.sight opens deed acted.works in
+    let cells = carried (pass_of pass.sight) in
+    record {
+      works = acted.works;
+      due = acted.due;
+      holds = carries_back sizes (λ value. value) kept cells turned.0 pass.now
+          (subst (Carries sizes (λ value. value) kept cells) turned.1 (carries_shown sizes shown kept cells me.1 acted.carried_before));
+      steps = acted.steps;
+      pass = acted.pass;
+      kept = acted.kept;
+      made = acted.made;
+      ended = acted.ended;
+      carries = subst (λ o. Carries o.sizes (λ value. value) (values_of new.0) (carried (pass_of new.0)) (shown_in shown new.1))
+          (sym (ap (λ (s : Sight). s.opened) acted.steps.is)) (carries_shown sizes shown (values_of new.0) (carried (pass_of new.0)) new.1 acted.carries);
+      spare = spare_is;
+    }

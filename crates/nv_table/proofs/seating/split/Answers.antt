@@ -1,0 +1,8 @@
+use Rattle.nv_table.specs.Keys.{opened_of}
+use Rattle.nv_table.proofs.SeatLaws.{splits_allow}
+use Rattle.nv_table.proofs.seating.split.Goals as goal
+
+pub load-requires : goal.load-requires
+load-requires g c =
+    let laws = c.laws_of_the_core.ensures in
+    (c.requires.table, c.requires.place, splits_allow g.S.Shown.shown (opened_of g.S.Shown.shown c.args.shared.now.key.value) c.args.shared.now.table_id.slots c.args.seat.now.id c.args.seat.now.me laws c.requires.live c.requires.may)

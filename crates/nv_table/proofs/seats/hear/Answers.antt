@@ -1,0 +1,10 @@
+use Rattle.nv_table.proofs.BetweenLaws.{heard_pass}
+use Rattle.nv_table.proofs.seats.hear.Goals as goal
+
+pub invariant_of-to : goal.invariant_of-to
+invariant_of-to g c =
+    rw c.hear.ensures.heard (
+      heard_pass c.to.inside.seat.me.0 c.note.inside.seat.me.0 c.to.inside.seat.me.1 c.to.inside.number c.to.inside.made c.to.inside.joined c.to.inside.held.items
+          (Rattle.std.specs.Vec.vec_capacity c.to.inside.held) c.to.invariant.0,
+      c.to.invariant.1,
+    )

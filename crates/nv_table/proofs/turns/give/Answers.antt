@@ -1,0 +1,19 @@
+-- A lock that is due to be given back is ready for it.
+use Rattle.std.proofs.Common.{refl}
+use Rattle.std.specs.Prelude.{None}
+use Rattle.nv_table.specs.Changes.{changed}
+use Rattle.nv_table.specs.Layout.{word_at}
+use Rattle.nv_table.specs.Sights.{pass_of}
+use Rattle.nv_table.specs.Turns.{give_deed}
+use Rattle.nv_table.specs.declared.acting.Change.TheVariants.{Set}
+use Rattle.nv_table.proofs.TurnDeeds.{give_on, place_at, ready}
+use Rattle.nv_table.proofs.turns.give.Goals as goal
+
+pub step-requires-clause-next : goal.step-requires-clause-next
+step-requires-clause-next g c =
+    let pass = c.args.pass.now in
+    let sizes = pass.sight.opened.sizes in
+    let stage = (pass_of pass.sight).stage in
+    let cell = word_at sizes c.args.cell in
+    ready pass None (give_deed stage cell) cell (λ found. 0) c.args.cell (changed (Set 0)) c.requires.due
+    (give_on sizes stage cell) (place_at sizes c.args.cell) (λ core sound made. refl)

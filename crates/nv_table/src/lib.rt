@@ -1,0 +1,47 @@
+//! The table of a running mount: its words, which change in single atomic steps, and slots for what its cells keep: the header's part, each
+//! entry's part, each file's store, and each page's buffer. Threads share a [`Board`] by reference; each steps with a [`Pass`] of its own. There
+//! is no lock and no waiting, and no step takes memory.
+//!
+//! What contracts see of a pass is the run so far: all events of all passes up to its own last one. The rule of the table says that
+//! its words and its slots at home are those of the state that one run of the core (`nv_core`) leads to, and that each pass has seen all of its own
+//! events. So a step is one event of the core, after the device calls that its pass has made since its last one, and nothing else changes the
+//! table. `docs/machine.md` has all of it in words.
+//!
+//! [`step`] makes a step of any kind; the crates above say what their kinds are by [`Does`], and prove when they may come. The kinds that every
+//! call has are here: [`load_word`], [`take`], [`give`], [`place`] and [`stop`].
+#![tactic(auto)]
+
+mod acting;
+mod board;
+mod closing;
+mod desk;
+mod hands;
+mod laws;
+mod layout;
+mod opening;
+mod pass;
+mod rule;
+mod seating;
+mod seats;
+mod slot;
+mod stepping;
+mod turns;
+mod view;
+
+pub use acting::{Change, Does};
+pub use board::{Board, Refused};
+pub use closing::Closed;
+pub use desk::Desk;
+pub use hands::exchange;
+pub use layout::{CLEANER, HAND, HEAD, HEADER, Layout, ORDER, STOP, TAIL};
+pub use pass::Pass;
+pub use seats::{Note, hear, join_pass, split_pass, write_note};
+pub use slot::{PageBuffer, Shown, Slot};
+pub use stepping::{Marks, Moves, step};
+pub use turns::{
+    Busy, Calls, begin_with_load, begin_with_take, give, halt, load_word, place, stop, take,
+};
+pub use view::View;
+
+#[cfg(test)]
+mod tests;

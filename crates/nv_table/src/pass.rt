@@ -1,0 +1,109 @@
+//! The passes: each thread's own, with which it steps.
+ghost use Rattle.std.specs.Prelude.{◌≡◌, ◌≢◌, ℕ, ◌<◌, ◌≤◌, ◌++◌, [], take, drop, length, slice_index, Some};
+ghost use Rattle.nv_core.specs.Opening.{IsMount};
+ghost use Rattle.nv_table.specs.Acts.{IsFirst};
+ghost use Rattle.nv_table.specs.Between.{IsStill};
+ghost use Rattle.nv_table.specs.Drawn.{drawn_of};
+ghost use Rattle.nv_table.specs.Opened.{mount_of};
+ghost use Rattle.nv_table.specs.Sights.{pass_of, slot_times};
+ghost use Rattle.nv_table.specs.Turned.{SameButTurned};
+
+use crate::{Slot, View};
+use atomic_table::Seat;
+use nv_pmem::Lines;
+use nv_store::Backing;
+use std::marker::Model;
+
+/// What a thread steps with.
+pub struct Pass<L: Lines, B: Backing> {
+    pub(crate) seat: Seat<Slot<L, B>, View>,
+    pub(crate) number: u64,
+    pub(crate) made: u64,
+    pub(crate) joined: u64,
+    pub(crate) held: Vec<usize>,
+    pub(crate) drawn: Option<u64>,
+    pub(crate) lost: Option<u64>,
+    // In pass 0 the vectors that parts and stores came in, with places for all of them: the parts that have no slot, and no store. In the
+    // other passes they are empty, without memory. They aren't the board's, since threads share that, and devices need not be shared.
+    pub(crate) parts: Vec<L>,
+    pub(crate) stores: Vec<B>,
+}
+
+impl<L: Lines, B: Backing> Model for Pass<L, B> {
+    ghost use Rattle.std.specs.Prelude.{map, vec_capacity};
+    ghost use Rattle.nv_table.specs.States.{PassState, shown_in};
+    ghost use Rattle.nv_table.specs.Passing.{HasPlaces, IsPass};
+    ghost use Rattle.nv_table.specs.Kept.{part_value, store_value, slot_value};
+
+    ghost Value = { PassState };
+
+    ghost view = { λ p. record {
+      table = p.seat.table_id;
+      sight = p.seat.me.0;
+      now = shown_in (slot_value (part_value L.device L.history L.fault_count L.room) (store_value B.device B.history B.fault_count)) p.seat.me.1;
+      spare = map (part_value L.device L.history L.fault_count L.room) p.parts.items;
+    } };
+
+    ghost invariant = { λ p. IsPass p.seat.me.0 p.seat.me.1 p.number p.made p.joined p.held.items (vec_capacity p.held) p.drawn p.lost
+        × HasPlaces p.seat.me.0.opened.sizes p.number p.parts.items (vec_capacity p.parts) p.stores.items (vec_capacity p.stores) };
+}
+
+// Where a slot first stands among some; behind the last where it doesn't.
+fn place_of(held: &[usize], slot: usize) -> usize
+    ensures within { result ≤ length held.now }
+    ensures found { result < length held.now → slice_index held.now result ≡ slot }
+    ensures before { (i : ℕ) → i < result → slice_index held.now i ≢ slot }
+{
+    let mut i = 0;
+    while i < held.len() && held[i] != slot {
+        i += 1;
+    }
+    i
+}
+
+// The slots stand in the same order, from a later one on.
+fn turn<S>(seat: &mut Seat<S, View>, count: usize)
+    requires { count ≤ length seat.old.me.1 }
+    ensures table { seat.new.table_id ≡ seat.old.table_id }
+    ensures seat { seat.new.id ≡ seat.old.id }
+    ensures slots { seat.new.me ≡ (seat.old.me.0, drop count seat.old.me.1 ++ take count seat.old.me.1) }
+{
+    for _ in 0..count {
+        seat.turn();
+    }
+}
+
+impl<L: Lines, B: Backing> Pass<L, B> {
+    // A law: its mount is one of which the core's laws speak.
+    pub(crate) fn is_of_a_mount(&self)
+        ensures { IsMount (mount_of self.now.sight.opened) }
+    {
+        let _ = &self.number;
+    }
+
+    /// A law: where it carries nothing, no device call has come since its last step.
+    pub fn bare_is_still(&self)
+        ensures { self.now.now ≡ [] → IsStill self.now }
+    {
+        let _ = &self.number;
+    }
+
+    /// The first number of the log that its call at hand drew, or the last one where none is at hand. Where that call drew none, it is
+    /// the first number of the last call that ended by a device fault and had drawn some; `None` where there is no such call.
+    pub fn drawn(&self) -> Option<u64>
+        ensures { result ≡ drawn_of (pass_of self.now.sight) }
+    {
+        self.drawn
+    }
+
+    // A slot that it carries comes to the front.
+    pub(crate) fn bring(&mut self, slot: usize)
+        requires { slot_times slot self.old.now ≡ 1 }
+        ensures same { SameButTurned self.old self.new }
+        ensures first { IsFirst (Some slot) self.new.now }
+    {
+        let place = place_of(&self.held, slot);
+        turn(&mut self.seat, place);
+        self.held.rotate_left(place);
+    }
+}

@@ -1,0 +1,28 @@
+//! The rule of the table: its words, the values at home and what its seats see show a state that a run of the core leads to.
+ghost use Rattle.nv_table.specs.Keys.{opened_of};
+ghost use Rattle.nv_table.specs.Shows.{Shows};
+ghost use Rattle.nv_table.specs.Sights.{newcomer};
+
+use crate::{Layout, Shown, View};
+use atomic_table::TableRule;
+use std::marker::PhantomData;
+use std::snapshot::Snapshot;
+
+/// What a mount is made of: its sizes, the next number of its log, the lengths of its files, and what its slots hold.
+pub struct Opening<S> {
+    pub layout: Layout,
+    pub next: u64,
+    pub lengths: Vec<u64>,
+    pub slots: Vec<S>,
+}
+
+/// The rule.
+pub struct OneRun<S> {
+    marker: PhantomData<S>,
+}
+
+impl<S: Shown> TableRule<S, View, Snapshot<Opening<S>>> for OneRun<S> {
+    ghost holds = { λ key. Shows S.shown (opened_of S.shown key.value) };
+
+    ghost first = { λ key. newcomer (opened_of S.shown key.value) };
+}

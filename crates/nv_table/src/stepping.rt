@@ -1,0 +1,162 @@
+//! A step of any kind.
+ghost use Rattle.std.specs.Prelude.{◌≡◌, ◌≢◌, ℕ};
+ghost use Rattle.nv_core.specs.Deeds.{move_of};
+ghost use Rattle.nv_table.specs.Changes.{changed};
+ghost use Rattle.nv_table.specs.Drawn.{marks_of, IsFromHead, drawn_then, lost_then};
+ghost use Rattle.nv_table.specs.Moving.{shift_said, comes_by};
+ghost use Rattle.nv_table.specs.Ready.{IsReady, Stepped};
+ghost use Rattle.nv_table.specs.Sights.{pass_of};
+ghost use Rattle.nv_table.specs.States.{IsOf, Out, shift_of};
+ghost use Rattle.nv_table.specs.declared.stepping.Moves.TheVariants.{Goes};
+
+use crate::acting::act;
+use crate::laws::laws_of_the_core;
+use crate::{Board, Change, Does, Pass, Slot};
+use nv_pmem::Lines;
+use nv_store::Backing;
+
+/// Which slot a step moves.
+#[derive(Clone, Copy, Debug)]
+pub enum Moves {
+    /// None.
+    Stays,
+    /// This slot comes to the pass.
+    Comes(usize),
+    /// This slot comes where the word was found 0.
+    ComesIfFree(usize),
+    /// This slot goes home.
+    Goes(usize),
+}
+
+impl Moves {
+    // The slot that comes, where the word was found so.
+    fn coming(self, found: u64) -> Option<usize>
+        ensures { comes_by (shift_said self found) ≡ result }
+    {
+        match self {
+            Moves::Comes(slot) => Some(slot),
+            Moves::ComesIfFree(slot) if found == 0 => Some(slot),
+            _ => None,
+        }
+    }
+}
+
+/// What a step makes of the numbers that its pass has drawn.
+#[derive(Clone, Copy, Debug)]
+pub enum Marks {
+    /// They stay.
+    Nothing,
+    /// It begins a call, which has drawn none yet.
+    Begins,
+    /// It draws some, where HEAD is found as the pass saw it last.
+    Draws,
+    /// A device fault ends the call.
+    Stops,
+}
+
+impl Marks {
+    // The first number that its pass has drawn then.
+    fn drawn(self, change: Change, found: u64, drawn: Option<u64>, lost: Option<u64>) -> Option<u64>
+        ensures { result ≡ drawn_then self change found drawn lost }
+    {
+        match (self, change) {
+            (Marks::Begins, _) => lost,
+            (Marks::Draws, Change::Exchange(old, _)) if found == old => Some(found),
+            _ => drawn,
+        }
+    }
+
+    // And the one of a call that a fault ended.
+    fn lost(self, drawn: Option<u64>, lost: Option<u64>) -> Option<u64>
+        ensures { result ≡ lost_then self drawn lost }
+    {
+        match self {
+            Marks::Stops => drawn,
+            _ => lost,
+        }
+    }
+}
+
+// A step whose slot goes home: it comes to the front first.
+fn go<E: Does, L: Lines, B: Backing>(
+    board: &Board<L, B>,
+    pass: &mut Pass<L, B>,
+    place: usize,
+    change: Change,
+    slot: usize,
+    marks: Marks,
+) -> u64
+    requires board { IsOf board.now pass.old }
+    requires next { IsReady pass.old E.opens E.deed place (changed change) }
+    requires marks { marks_of E.opens E.deed ≡ marks }
+    requires head { IsFromHead marks change (pass_of pass.old.sight).head }
+    requires moves { (found : ℕ) → shift_of pass.old.sight.opened.sizes (move_of pass.old.sight.opened.sizes E.deed found) ≡ Out slot }
+    ensures board { IsOf board.now pass.new }
+    ensures stepped { Stepped pass.old E.opens E.deed result pass.new }
+{
+    laws_of_the_core();
+    // A field is used, so that what keeps the pass is known before its slots turn.
+    let _ = &pass.number;
+    pass.bring(slot);
+    let found = act::<E, Slot<L, B>>(&board.table.shared, &mut pass.seat, place, change);
+    let (drawn, lost) = (pass.drawn, pass.lost);
+    pass.drawn = marks.drawn(change, found, drawn, lost);
+    pass.lost = marks.lost(drawn, lost);
+    pass.held.rotate_left(1);
+    pass.held.pop();
+    found
+}
+
+// Another step: where a slot comes, it is the first then.
+fn come<E: Does, L: Lines, B: Backing>(
+    board: &Board<L, B>,
+    pass: &mut Pass<L, B>,
+    place: usize,
+    change: Change,
+    moves: Moves,
+    marks: Marks,
+) -> u64
+    requires board { IsOf board.now pass.old }
+    requires next { IsReady pass.old E.opens E.deed place (changed change) }
+    requires marks { marks_of E.opens E.deed ≡ marks }
+    requires head { IsFromHead marks change (pass_of pass.old.sight).head }
+    requires moves { (found : ℕ) → shift_of pass.old.sight.opened.sizes (move_of pass.old.sight.opened.sizes E.deed found) ≡ shift_said moves found }
+    requires stays { (slot : ℕ) → moves ≢ Goes slot }
+    ensures board { IsOf board.now pass.new }
+    ensures stepped { Stepped pass.old E.opens E.deed result pass.new }
+{
+    laws_of_the_core();
+    let found = act::<E, Slot<L, B>>(&board.table.shared, &mut pass.seat, place, change);
+    let (drawn, lost) = (pass.drawn, pass.lost);
+    pass.drawn = marks.drawn(change, found, drawn, lost);
+    pass.lost = marks.lost(drawn, lost);
+    if let Some(slot) = moves.coming(found) {
+        let len = pass.held.len();
+        pass.held.push_reserved(slot);
+        pass.held.rotate_left(len);
+    }
+    found
+}
+
+/// One step of a kind, on the word at a place, which moves a slot or none, and marks what its pass has drawn.
+pub fn step<E: Does, L: Lines, B: Backing>(
+    board: &Board<L, B>,
+    pass: &mut Pass<L, B>,
+    place: usize,
+    change: Change,
+    moves: Moves,
+    marks: Marks,
+) -> u64
+    requires board { IsOf board.now pass.old }
+    requires next { IsReady pass.old E.opens E.deed place (changed change) }
+    requires marks { marks_of E.opens E.deed ≡ marks }
+    requires head { IsFromHead marks change (pass_of pass.old.sight).head }
+    requires moves { (found : ℕ) → shift_of pass.old.sight.opened.sizes (move_of pass.old.sight.opened.sizes E.deed found) ≡ shift_said moves found }
+    ensures board { IsOf board.now pass.new }
+    ensures stepped { Stepped pass.old E.opens E.deed result pass.new }
+{
+    match moves {
+        Moves::Goes(slot) => go::<E, L, B>(board, pass, place, change, slot, marks),
+        _ => come::<E, L, B>(board, pass, place, change, moves, marks),
+    }
+}
