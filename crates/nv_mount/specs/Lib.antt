@@ -1,1 +1,2 @@
 pub mod Fds
+pub mod Mounts

@@ -1,9 +1,13 @@
-//! What a mount keeps beside its log: the descriptors of its files.
+//! A mount: its board, on which the log and the files are, and the descriptors of its files.
 #![tactic(auto)]
 
 mod fds;
+mod mount;
 
 pub use fds::{Fd, FdError, Fds, MAX_FDS};
+pub use mount::{Mount, OpenError, PassesOut, Unopened};
 
+#[cfg(test)]
+mod mount_tests;
 #[cfg(test)]
 mod tests;

@@ -1,0 +1,199 @@
+//! The mount: the board of a region and its stores, and the descriptors of its files.
+ghost use Rattle.std.specs.Prelude.{◌≡◌, ◌<◌, ◌≤◌, length, map, sum_by, All, IfOk, IfErr, OnOk};
+ghost use Rattle.nv_pmem.specs.Moments.{Tells};
+ghost use Rattle.nv_store.specs.Store.{IsQuiet};
+ghost use Rattle.nv_table.specs.Begun.{begun_sizes};
+ghost use Rattle.nv_table.specs.Between.{IsStill};
+ghost use Rattle.nv_table.specs.Closing.{IsClosed};
+ghost use Rattle.nv_table.specs.Kept.{part_value, store_value, slot_value};
+ghost use Rattle.nv_table.specs.Sights.{made_of};
+ghost use Rattle.nv_table.specs.States.{IsOf};
+ghost use Rattle.nv_mount.specs.Mounts.{AreLengths, HasLengthsCause, HasOpenCause, IsOpened};
+
+use crate::Fds;
+use nv_header::Region;
+use nv_pmem::Lines;
+use nv_store::{Backing, StoreFault};
+use nv_table::{Board, Closed, Pass, Refused};
+use std::alloc::{AllocFailed, Global};
+use std::marker::Model;
+use thiserror::Error;
+
+/// A mount: its board, which threads share, and the descriptors of its files.
+pub struct Mount<L: Lines, B: Backing> {
+    board: Board<L, B>,
+    fds: Fds,
+}
+
+impl<L: Lines, B: Backing> Model for Mount<L, B> {
+    ghost use Rattle.std.specs.Prelude.{◌<◌, All};
+    ghost use Rattle.nv_mount.specs.Mounts.{MountState};
+
+    ghost Value = { MountState };
+
+    ghost view = { λ m. record { board = m.board; fds = m.fds } };
+
+    ghost invariant = { λ m. All (λ fd. fd.file < m.board.opened.sizes.files) m.fds };
+}
+
+/// Why nothing is mounted.
+#[derive(Clone, Copy, Debug, PartialEq, Eq, Error)]
+pub enum OpenError {
+    /// There was not enough memory.
+    #[error("no memory")]
+    NoMemory,
+    /// A store did not tell its length, and its count of faults rose.
+    #[error("a store failed")]
+    StoreFault,
+}
+
+impl From<StoreFault> for OpenError {
+    ghost use Rattle.std.specs.Prelude.{◌≡◌};
+    ghost use Rattle.nv_mount.specs.declared.mount.OpenError.TheVariants as error;
+
+    ghost from_gives = { λ _ e. e ≡ error.StoreFault };
+
+    fn from(_: StoreFault) -> Self {
+        OpenError::StoreFault
+    }
+}
+
+impl From<AllocFailed<u64>> for OpenError {
+    ghost use Rattle.std.specs.Prelude.{◌≡◌};
+    ghost use Rattle.nv_mount.specs.declared.mount.OpenError.TheVariants as error;
+
+    ghost from_gives = { λ _ e. e ≡ error.NoMemory };
+
+    fn from(_: AllocFailed<u64>) -> Self {
+        OpenError::NoMemory
+    }
+}
+
+/// What comes back where nothing is mounted: the region and the stores, in their order, and why.
+#[derive(Drop)]
+pub struct Unopened<L: Lines, B> {
+    pub region: Region<L>,
+    pub stores: Vec<B>,
+    pub error: OpenError,
+}
+
+/// Passes are out: pass 0 has made more than it has taken in.
+#[derive(Clone, Copy, Debug, PartialEq, Eq, Error)]
+#[error("{made} passes were made, and {joined} joined")]
+pub struct PassesOut {
+    pub made: u64,
+    pub joined: u64,
+}
+
+// Asks each store for its length in bytes.
+fn lengths_of<B: Backing>(alloc: Global, stores: &mut [B]) -> Result<Vec<u64>, OpenError>
+    ensures count { IfOk result (λ lengths. length lengths.items ≡ length stores.old) }
+    ensures told { IfOk result (λ lengths. AreLengths (map B.history stores.old) lengths.items) }
+    ensures faults { IfOk result (λ lengths. map B.fault_count stores.new ≡ map B.fault_count stores.old) }
+    ensures histories { map B.history stores.new ≡ map B.history stores.old }
+    ensures devices { map B.device stores.new ≡ map B.device stores.old }
+    ensures cause { HasLengthsCause (sum_by B.fault_count stores.old) (sum_by B.fault_count stores.new) result }
+{
+    let mut lengths = Vec::new(alloc);
+    for store in stores.iter_mut() {
+        lengths.push(store.len()?)?;
+    }
+    Ok(lengths)
+}
+
+impl<L: Lines + Drop, B: Backing + Drop> Mount<L, B> {
+    /// Mounts a region and its stores, one for each of its names, in their order; and gives pass 0, with which the first thread steps.
+    /// Each file has 1 to 1,024 pages. There are as many buffers as pages, but at most `cache`, which is 1 to 16,384. It asks each store
+    /// for its length, and takes all memory that the board needs. At an error region and stores come back.
+    pub fn open(
+        alloc: Global,
+        region: Region<L>,
+        mut stores: Vec<B>,
+        fds: Fds,
+        pages: u64,
+        cache: u64,
+    ) -> Result<(Mount<L, B>, Pass<L, B>), Unopened<L, B>>
+        requires stores { length stores.items ≡ length region.names }
+        requires quiet { All (λ store. Tells (B.history store) IsQuiet) stores.items }
+        requires fds { All (λ fd. fd.file < length region.names) fds }
+        requires some_pages { 1 ≤ pages }
+        requires few_pages { pages ≤ 1024 }
+        requires some_cache { 1 ≤ cache }
+        requires few_cache { cache ≤ 16384 }
+        ensures opened { IfOk result (λ made. IsOpened
+            (slot_value (part_value L.device L.history L.fault_count L.room) (store_value B.device B.history B.fault_count))
+            B.device B.history B.fault_count
+            (begun_sizes region.geometry.page region.geometry.entries (length region.names) pages cache)
+            region.next region.parts.items stores.items fds made.0 made.1) }
+        ensures parts_back { IfErr result (λ failed. failed.region.parts.items ≡ region.parts.items) }
+        ensures geometry_back { IfErr result (λ failed. failed.region.geometry ≡ region.geometry) }
+        ensures names_back { IfErr result (λ failed. failed.region.names ≡ region.names) }
+        ensures next_back { IfErr result (λ failed. failed.region.next ≡ region.next) }
+        ensures devices_back { IfErr result (λ failed. map B.device failed.stores.items ≡ map B.device stores.items) }
+        ensures histories_back { IfErr result (λ failed. map B.history failed.stores.items ≡ map B.history stores.items) }
+        ensures cause { IfErr result (λ failed. HasOpenCause (sum_by B.fault_count stores.items) (sum_by B.fault_count failed.stores.items) failed.error) }
+    {
+        let lengths = match lengths_of(alloc, &mut stores) {
+            Ok(lengths) => lengths,
+            Err(error) => {
+                return Err(Unopened {
+                    region,
+                    stores,
+                    error,
+                });
+            }
+        };
+        match Board::new(alloc, region, stores, &lengths, pages, cache) {
+            Ok((board, pass)) => Ok((Mount { board, fds }, pass)),
+            Err(Refused { region, stores }) => Err(Unopened {
+                region,
+                stores,
+                error: OpenError::NoMemory,
+            }),
+        }
+    }
+
+    /// Its board.
+    pub fn board(&self) -> &Board<L, B>
+        ensures { result.now ≡ self.now.board }
+    {
+        &self.board
+    }
+
+    /// The descriptors of its files, each of a file that it has.
+    pub fn fds(&self) -> &Fds
+        ensures same { result.now ≡ self.now.fds }
+        ensures files { All (λ fd. fd.file < self.now.board.opened.sizes.files) result.now }
+    {
+        &self.fds
+    }
+
+    /// Ends the mount by pass 0, whatever it is at: what it carries goes home first. Where it has made more passes than it has taken in,
+    /// mount and pass come back unchanged. No device call may have come since the pass's last step. Takes no memory.
+    pub fn close(
+        self,
+        pass: Pass<L, B>,
+    ) -> Result<Closed<L, B>, (Mount<L, B>, Pass<L, B>, PassesOut)>
+        requires board { IsOf self.board pass }
+        requires zero { pass.sight.number ≡ 0 }
+        requires still { IsStill pass }
+        ensures all { OnOk result (length pass.sight.ended ≡ made_of pass.sight) }
+        ensures closed { IfOk result (λ closed. IsClosed L.device B.device
+            (slot_value (part_value L.device L.history L.fault_count L.room) (store_value B.device B.history B.fault_count))
+            self.board pass closed.parts.items closed.stores.items closed.placed closed.tail) }
+        ensures out { IfErr result (λ failed. length pass.sight.ended < made_of pass.sight) }
+        ensures mount_back { IfErr result (λ failed. failed.0 ≡ self) }
+        ensures pass_back { IfErr result (λ failed. failed.1 ≡ pass) }
+        ensures made { IfErr result (λ failed. failed.2.made ≡ made_of pass.sight) }
+        ensures joined { IfErr result (λ failed. failed.2.joined ≡ length pass.sight.ended) }
+    {
+        let made = pass.made();
+        let joined = pass.joined();
+        if joined < made {
+            return Err((self, pass, PassesOut { made, joined }));
+        }
+        let Mount { board, fds } = self;
+        drop(fds);
+        Ok(board.close(pass))
+    }
+}
