@@ -1,0 +1,94 @@
+//! An fsync, which has nothing to do but to take its place in the history.
+ghost use Rattle.std.specs.Prelude.{◌≡◌, ◌<◌, Some, IfOk, OnErr};
+ghost use Rattle.nv_plain.specs.declared.call.FileCall.TheVariants.{Sync};
+ghost use Rattle.nv_table.specs.Idle.{IsIdle, IsLater};
+ghost use Rattle.nv_table.specs.States.{IsOf};
+ghost use Rattle.nv_calls.specs.Answers.{IsSynced, IsUnplaced};
+ghost use Rattle.nv_calls.specs.Courses.{IsCourse, file_of};
+
+use nv_mount::Mount;
+use nv_pmem::Lines;
+use nv_store::Backing;
+use nv_table::{Board, Calls, ORDER, Pass, begin_with_load, load_word, place};
+use std::marker::Brand;
+use thiserror::Error;
+
+/// A call has its place in the history, and has been answered.
+#[derive(Clone, Copy, Debug, PartialEq, Eq)]
+pub struct Done {
+    /// How many calls stand before it.
+    pub place: u64,
+    /// How many bytes it read or wrote.
+    pub len: u64,
+}
+
+/// Why a call has no place in the history.
+#[derive(Clone, Copy, Debug, PartialEq, Eq, Error)]
+pub enum Refusal {
+    /// No descriptor has this number.
+    #[error("no such descriptor")]
+    BadFd,
+    /// The mount was stopped by a device fault.
+    #[error("the mount is stopped")]
+    Stopped,
+    /// As many calls have their place as there may be, or more.
+    #[error("{found} calls have their place")]
+    Spent { found: u64 },
+}
+
+// A sync of a file.
+fn sync_by<C: Calls, L: Lines, B: Backing>(
+    board: &Board<L, B>,
+    pass: &mut Pass<L, B>,
+    file: u64,
+) -> Result<Done, Refusal>
+    requires board { IsOf board.now pass.old }
+    requires idle { IsIdle pass.old }
+    requires call { C.call ≡ Sync file }
+    requires known { file < board.now.opened.sizes.files }
+    ensures board { IsOf board.now pass.new }
+    ensures idle { IsIdle pass.new }
+    ensures later { IsLater pass.old pass.new }
+    ensures spare { pass.new.spare ≡ pass.old.spare }
+    ensures done { IfOk result (λ done. IsSynced (Some file) pass.old.sight pass.new.sight done.place) }
+    ensures len { IfOk result (λ done. done.len ≡ 0) }
+    ensures kept { OnErr result (IsUnplaced pass.old.sight pass.new.sight) }
+    ensures course { IsCourse (Some file) pass.old pass.new result }
+{
+    // Only clauses speak of the file: a sync's steps are the same for each.
+    let _ = file;
+    if begin_with_load::<C, L, B>(board, pass) != 0 {
+        return Err(Refusal::Stopped);
+    }
+    let found = load_word(board, pass, ORDER);
+    if found >= 1 << 60 {
+        return Err(Refusal::Spent { found });
+    }
+    let place = place(board, pass);
+    Ok(Done { place, len: 0 })
+}
+
+/// Syncs the file of a descriptor: takes the call's place in the history, which is how many calls stand before it. Refused exactly where no
+/// descriptor has this number, before any step; then where STOP was found set; and then where ORDER was found used up. Takes no memory, and
+/// waits for nobody.
+pub fn try_fsync<L: Lines + Drop, B: Backing + Drop>(
+    mount: &Mount<L, B>,
+    pass: &mut Pass<L, B>,
+    fd: u64,
+) -> Result<Done, Refusal>
+    requires board { IsOf mount.now.board pass.old }
+    requires idle { IsIdle pass.old }
+    ensures board { IsOf mount.now.board pass.new }
+    ensures idle { IsIdle pass.new }
+    ensures later { IsLater pass.old pass.new }
+    ensures spare { pass.new.spare ≡ pass.old.spare }
+    ensures done { IfOk result (λ done. IsSynced (file_of mount.now.fds fd) pass.old.sight pass.new.sight done.place) }
+    ensures len { IfOk result (λ done. done.len ≡ 0) }
+    ensures kept { OnErr result (IsUnplaced pass.old.sight pass.new.sight) }
+    ensures course { IsCourse (file_of mount.now.fds fd) pass.old pass.new result }
+{
+    match mount.fds().get(fd) {
+        Some(open) => sync_by::<Brand, L, B>(mount.board(), pass, open.file),
+        None => Err(Refusal::BadFd),
+    }
+}
