@@ -284,6 +284,7 @@ pub(crate) fn load<L: Lines>(part: &mut L, line: u64, word: u64) -> Result<u64, 
     ensures value { IfOk result (λ value. Tells (L.history part.old) (λ now. value ≡ word_of now line word)) }
     ensures history { L.history part.new ≡ L.history part.old }
     ensures room { Keeps (L.room part.old) (L.room part.new) }
+    ensures same_room { L.room part.new ≡ L.room part.old }
     ensures cause { HasCause (L.fault_count part.old) (L.fault_count part.new) result }
     ensures device { L.device part.new ≡ L.device part.old }
 {

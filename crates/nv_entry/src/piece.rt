@@ -35,6 +35,7 @@ pub fn read_piece<L: Lines>(part: &mut L, into: &mut [u8]) -> Result<PieceHead, 
     ensures size { IfOk result (λ head. head.size ≤ length into.old) }
     ensures history { L.history part.new ≡ L.history part.old }
     ensures room { Keeps (L.room part.old) (L.room part.new) }
+    ensures same_room { L.room part.new ≡ L.room part.old }
     ensures cause { HasCause (L.fault_count part.old) (L.fault_count part.new) result }
     ensures device { L.device part.new ≡ L.device part.old }
 {
@@ -50,6 +51,7 @@ pub(crate) fn read_head<L: Lines>(part: &mut L) -> Result<PieceHead, RegionFault
     ensures head { IfOk result (λ head. Tells (L.history part.old) (λ now. head ≡ head_of now)) }
     ensures history { L.history part.new ≡ L.history part.old }
     ensures room { Keeps (L.room part.old) (L.room part.new) }
+    ensures same_room { L.room part.new ≡ L.room part.old }
     ensures cause { HasCause (L.fault_count part.old) (L.fault_count part.new) result }
     ensures device { L.device part.new ≡ L.device part.old }
 {
@@ -68,6 +70,7 @@ fn read_data<L: Lines>(part: &mut L, into: &mut [u8]) -> Result<(), RegionFault>
     ensures bytes { OnOk result (Tells (L.history part.old) (λ now. into.new ≡ data_of (word_of now) (length into.old))) }
     ensures history { L.history part.new ≡ L.history part.old }
     ensures room { Keeps (L.room part.old) (L.room part.new) }
+    ensures same_room { L.room part.new ≡ L.room part.old }
     ensures cause { HasCause (L.fault_count part.old) (L.fault_count part.new) result }
     ensures device { L.device part.new ≡ L.device part.old }
 {
@@ -86,6 +89,7 @@ fn load_line<L: Lines>(part: &mut L, line: u64) -> Result<[u8; 64], RegionFault>
     ensures bytes { IfOk result (λ bytes. Tells (L.history part.old) (λ now. bytes ≡ line_bytes (word_of now line))) }
     ensures history { L.history part.new ≡ L.history part.old }
     ensures room { Keeps (L.room part.old) (L.room part.new) }
+    ensures same_room { L.room part.new ≡ L.room part.old }
     ensures cause { HasCause (L.fault_count part.old) (L.fault_count part.new) result }
     ensures device { L.device part.new ≡ L.device part.old }
 {

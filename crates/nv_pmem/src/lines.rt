@@ -58,6 +58,7 @@ pub trait Lines {
         ensures value { IfOk result (λ value. Tells (history self.old) (λ part. value ≡ word_of part line word)) }
         ensures history { history self.new ≡ history self.old }
         ensures room { Keeps (room self.old) (room self.new) }
+        ensures same_room { room self.new ≡ room self.old }
         ensures cause { HasCause (fault_count self.old) (fault_count self.new) result }
         ensures device { device self.new ≡ device self.old };
 

@@ -18,6 +18,7 @@ loop-word-preserved g c =
           _ (omega arith) copy c.loop-word.invariant.loaded (subst Loaded c.loop-word.invariant.history c.in_ok-value.ensures.value);
       history = c.in_ok-value.ensures.history ∙ c.loop-word.invariant.history;
       room = Keeps-more c.loop-word.invariant.room c.in_ok-value.ensures.room;
+      same_room = c.in_ok-value.ensures.same_room ∙ c.loop-word.invariant.same_room;
       faults = c.in_ok-value.ensures.cause ∙ c.loop-word.invariant.faults;
       device = c.in_ok-value.ensures.device ∙ c.loop-word.invariant.device;
     }

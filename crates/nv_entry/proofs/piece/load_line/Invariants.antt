@@ -14,6 +14,7 @@ invariant-loop-word g l = record {
       take (8 * l.word) l.bytes ≡ flat_map (λ j. to_le_bytes w64 (word_of now l.line j)) (range_with_len 0 l.word));
   history : g.L.Lines.history l.part ≡ g.L.Lines.history l.fn.part;
   room : Keeps (g.L.Lines.room l.fn.part) (g.L.Lines.room l.part);
+  same_room : g.L.Lines.room l.part ≡ g.L.Lines.room l.fn.part;
   faults : g.L.Lines.fault_count l.part ≡ g.L.Lines.fault_count l.fn.part;
   device : g.L.Lines.device l.part ≡ g.L.Lines.device l.fn.part;
 }

@@ -17,6 +17,7 @@ loop-k-preserved g c =
           (subst Loaded c.loop-k.invariant.history c.in_ok-line.ensures.bytes) c.loop-k.invariant.read;
       history = c.in_ok-line.ensures.history ∙ c.loop-k.invariant.history;
       room = Keeps-more c.loop-k.invariant.room c.in_ok-line.ensures.room;
+      same_room = c.in_ok-line.ensures.same_room ∙ c.loop-k.invariant.same_room;
       faults = c.in_ok-line.ensures.cause ∙ c.loop-k.invariant.faults;
       device = c.in_ok-line.ensures.device ∙ c.loop-k.invariant.device;
     }

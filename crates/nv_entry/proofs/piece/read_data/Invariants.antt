@@ -12,6 +12,7 @@ invariant-loop-k g l = record {
       take (min (64 * l.k) (length l.into)) l.into ≡ take (min (64 * l.k) (length l.into)) (lines_bytes (word_of now) 1 l.k));
   history : g.L.Lines.history l.part ≡ g.L.Lines.history l.fn.part;
   room : Keeps (g.L.Lines.room l.fn.part) (g.L.Lines.room l.part);
+  same_room : g.L.Lines.room l.part ≡ g.L.Lines.room l.fn.part;
   faults : g.L.Lines.fault_count l.part ≡ g.L.Lines.fault_count l.fn.part;
   device : g.L.Lines.device l.part ≡ g.L.Lines.device l.fn.part;
 }
