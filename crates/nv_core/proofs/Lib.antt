@@ -116,3 +116,7 @@ pub mod HeaderRoom
 pub mod SparesLaws
 pub mod CleaningOrdered
 pub mod EmptyLogs
+pub mod StageSteps
+pub mod ShapeLaws
+pub mod FittingSteps
+pub mod FittingLaws

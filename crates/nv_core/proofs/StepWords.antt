@@ -39,7 +39,7 @@ use Rattle.nv_core.proofs.Reach.{sound_begin}
 some_len : (at len page : ℕ) → 1 ≤ pages_touched at len page → 1 ≤ len
 some_len at len page = if_both (λ n. 1 ≤ n → 1 ≤ len) (len == 0) 0 ((at + len - 1) / page - at / page + 1) (λ _ some. absurd (omega (arith, some))) (λ e _. let ne = eqb-false len 0 e in omega (arith, ne))
 
-page_within : (sizes : Sizes) (call : FileCall) (page : ℕ) → IsAllowed sizes call → IsPage sizes call page → page < page_total sizes
+pub page_within : (sizes : Sizes) (call : FileCall) (page : ℕ) → IsAllowed sizes call → IsPage sizes call page → page < page_total sizes
 page_within sizes call page allowed is =
     let low = is.0 in let high = is.1 in
     let most = pages_within sizes call allowed (some_len (at_of call) (len_of call) sizes.page (omega (arith, low, high))) in omega (arith, most, high)

@@ -68,3 +68,5 @@ pub mod CrashByHand
 pub mod CleaningOrder
 pub mod EmptyLog
 pub mod Others
+pub mod Shapes
+pub mod FittingPieces

@@ -5,18 +5,22 @@
 
 mod content;
 mod crash;
+mod fitting;
 mod laws;
 mod log;
 mod others;
+mod shapes;
 
 pub use content::{pages_are_patched, runs_keep_content};
 pub use crash::{
     crashes_leave_whole_writes, empty_logs_rest, images_by_hand, regions_at_rest_open,
     walks_survive_crashes,
 };
+pub use fitting::held_pieces_fit;
 pub use laws::{
     a_batch_is_a_run, a_dirty_read_is_a_run, lengths_follow_the_history, no_sound_state_allows,
     runs_are_sound, spares_tell_the_room, walks_are_runs, words_have_places_of_their_own,
 };
 pub use log::{a_mount_opens_a_file_and_a_log, cleaning_keeps_its_order, runs_keep_the_log};
 pub use others::passes_are_left_alone;
+pub use shapes::cells_keep_their_shapes;
