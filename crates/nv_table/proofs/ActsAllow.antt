@@ -11,6 +11,7 @@ use Rattle.nv_core.specs.Words.{Sizes, Word, IsWord, place, same}
 use Rattle.nv_core.specs.Values.{Value}
 use Rattle.nv_core.specs.Passes.{Pass, times, without}
 use Rattle.nv_core.specs.Deeds.{Deed, Move, Stays, Comes, Goes, moved, move_of, word_of}
+use Rattle.nv_core.specs.Order.{Work}
 use Rattle.nv_core.specs.Core.{Core}
 use Rattle.nv_core.specs.Stepped.{stepped}
 use Rattle.nv_core.specs.Events.{Event, own}
@@ -181,7 +182,7 @@ module _ {S : Type 0} (sizes : Sizes) (shown : S → Value) (number : ℕ) (core
 
 module _ {S : Type 0} (shown : S → Value) (old : Me S Sight) (opens : Option FileCall) (deed : Deed) (at : ℕ) (change : ℕ → ℕ)
     (laws : CoreLaws) (live : old.0.live ≡ true) (may : MayAct shown old opens deed at change)
-    (state : State S Sight) (shows : Shows shown old.0.opened state) (id : ℕ) (there : get_elem? state.views id ≡ some old.0)
+    (said : List Work → Type 0) (so : said may.works) (state : State S Sight) (shows : Shows shown old.0.opened state) (id : ℕ) (there : get_elem? state.views id ≡ some old.0)
     (low : slice_index state.words at < 18446744073709551616) where
   abbrev sizes : Sizes
   sizes = old.0.opened.sizes
@@ -275,16 +276,17 @@ module _ {S : Type 0} (shown : S → Value) (old : Me S Sight) (opens : Option F
   }
 
   pub allowed : (view : Sight) × (act : TableAct S) × Valid state.homes old.1 act × Shows shown old.0.opened (table_stepped state at (change found) id old.1 view act)
-      × Acted shown old opens deed found (view, carried_after old.1 act)
-  allowed = (onto old.0 shows.run more, made_moves.act, made_moves.valid, shows_then, acted)
+      × ((acted : Acted shown old opens deed found (view, carried_after old.1 act)) × said acted.works)
+  unfolding acted
+  allowed = (onto old.0 shows.run more, made_moves.act, made_moves.valid, shows_then, (acted, so))
 
 pub acts_allow : {S : Type 0} (shown : S → Value) (opened : Opened) (slots id : ℕ) (old : Me S Sight) (opens : Option FileCall) (deed : Deed) (at : ℕ) (change : ℕ → ℕ)
-    → CoreLaws → old.0.live ≡ true → MayAct shown old opens deed at change
-    → Allows (Shows shown opened) slots id old at change (λ found new. Acted shown old opens deed found new)
-acts_allow shown opened slots id old opens deed at change laws live may state shows count there low =
+    → CoreLaws → old.0.live ≡ true → (said : List Work → Type 0) → (may : MayAct shown old opens deed at change) × said may.works
+    → Allows (Shows shown opened) slots id old at change (λ found new. (acted : Acted shown old opens deed found new) × said acted.works)
+acts_allow shown opened slots id old opens deed at change laws live said may state shows count there low =
     subst (λ o. Shows shown o state → (view : Sight) × (act : TableAct _) × Valid state.homes old.1 act
     × Shows shown o (table_stepped state at (change (slice_index state.words at)) id old.1 view act)
-    × Acted shown old opens deed (slice_index state.words at) (view, carried_after old.1 act))
+    × ((acted : Acted shown old opens deed (slice_index state.words at) (view, carried_after old.1 act)) × said acted.works))
     (shows.knows id old.0 there live).mount
-    (λ at_own. allowed shown old opens deed at change laws live may state at_own id there low)
+    (λ at_own. allowed shown old opens deed at change laws live may.0 said may.1 state at_own id there low)
     shows

@@ -303,7 +303,7 @@ distinct_act sizes by core (Begins call deed found) may apart = distinct_deed si
 distinct_act sizes by core (Does deed found) may apart = distinct_deed sizes by core deed may.may apart
 distinct_act sizes by core (Calls work) may apart = apart
 
-distinct_run : (sizes : Sizes) (core : Core) (run : List Event) → IsRun sizes core run → AreDistinct core.ended → AreDistinct (after sizes core run).ended
+pub distinct_run : (sizes : Sizes) (core : Core) (run : List Event) → IsRun sizes core run → AreDistinct core.ended → AreDistinct (after sizes core run).ended
 distinct_run sizes core [] is apart = apart
 distinct_run sizes core (event ∷ later) is apart = distinct_run sizes (after_event sizes event core) later is.1 (distinct_act sizes event.by core event.act is.0.act apart)
 

@@ -31,3 +31,4 @@ pub mod BetweenLaws
 pub mod CallLaws
 pub mod SortLaws
 pub mod ClosedLaws
+pub mod ShapeLaws

@@ -64,9 +64,9 @@ module _ {L B : Type 0} (part : L → Value) (store : B → Value) where
       ∙ ap (λ vs. (map part parts ++ vs) ++ map (slot_value part store) (map PageSlot buffers)) (map_formed StoreSlot (slot_value part store) store (λ x. refl) stores)
       ∙ ap (λ vs. (map part parts ++ map store stores) ++ vs) (map_formed PageSlot (slot_value part store) buffer_value (λ x. refl) buffers)
 
--- a part in its slot, with its room
-part_there : {L : Type 0} (part : L → Value) (room : L → Room) (many : ℕ) (parts : List L) (rest : List Value) (i : ℕ) → i < many → i < length parts
-    → (one : L) × (get_or (map part (take many parts) ++ rest) i Bare ≡ part one) × ((none : Room) → get_or (map room parts) i none ≡ room one)
+-- a part in its slot, with its room, or with something else of it
+pub part_there : {L Y : Type 0} (part : L → Value) (room : L → Y) (many : ℕ) (parts : List L) (rest : List Value) (i : ℕ) → i < many → i < length parts
+    → (one : L) × (get_or (map part (take many parts) ++ rest) i Bare ≡ part one) × ((none : Y) → get_or (map room parts) i none ≡ room one)
 part_there part room zero parts rest i less there = absurd (omega arith)
 part_there part room (suc many) [] rest i less there = absurd (omega arith)
 part_there part room (suc many) (one ∷ parts) rest zero less there = (one, refl, λ none. refl)

@@ -9,7 +9,7 @@ use Rattle.nv_core.specs.Values.{Value}
 use Rattle.nv_core.specs.Passes.{IsOneOf, times}
 use Rattle.nv_core.specs.Deeds.{Deed, move_of}
 use Rattle.nv_core.specs.Laws.{RunsAreSound}
-use Rattle.nv_core.specs.Order.{Values, MayStep}
+use Rattle.nv_core.specs.Order.{Work, Values, MayStep}
 use Rattle.nv_core.specs.Standing.{Standing}
 use Rattle.nv_table.specs.Changes.{changed}
 use Rattle.nv_table.specs.Drawn.{drawn_of, marks_of, IsFromHead, drawn_then, lost_then}
@@ -114,18 +114,19 @@ carries_shown {S} sizes shown kept cells slots is = record {
 pub may_act : {S : Type 0} (shown : S → Value) (pass : PassState) (me : Me S Sight) (opens : Option FileCall) (deed : Deed) (at : ℕ) (change : ℕ → ℕ)
     → me.0 ≡ pass.sight → IsTurned pass.now (shown_in shown me.1)
     → ((found : ℕ) → IsInFront pass.sight.opened.sizes (move_of pass.sight.opened.sizes deed found) me.1)
-    → IsReady pass opens deed at change → MayAct shown me opens deed at change
-may_act shown pass me opens deed at change sight turn front ready =
+    → (said : List Work → Type 0) → (ready : IsReady pass opens deed at change) → said ready.works → (may : MayAct shown me opens deed at change) × said may.works
+may_act shown pass me opens deed at change sight turn front said ready so =
     let sizes = pass.sight.opened.sizes in
     let kept = values_then pass.sight opens deed ready.works in
     let cells = carried (pass_of pass.sight) in
-    subst (λ v. MayAct shown (v, me.1) opens deed at change) (sym sight) record {
+    let may : MayAct shown (pass.sight, me.1) opens deed at change = record {
       works = ready.works;
       next = ready.next;
       carries = carries_held sizes shown kept cells me.1 (subst (Carries sizes (λ value. value) kept cells) (sym turn.1)
           (carries_turned sizes (λ value. value) kept cells turn.0 pass.now ready.holds));
       front = front;
-    }
+    } in
+    subst (λ v. (may : MayAct shown (v, me.1) opens deed at change) × said may.works) (sym sight) (may, so)
 
 module _ {S : Type 0} {drawn lost : Option ℕ} (pass : PassState) (me : Me S Sight) (number made joined : ℕ) (held : List ℕ) (room : ℕ) (opens : Option FileCall) (deed : Deed) (sight : me.0 ≡ pass.sight)
     (is : IsPass me.0 me.1 number made joined held room drawn lost) where
@@ -176,14 +177,15 @@ module _ {S : Type 0} {drawn lost : Option ℕ} (pass : PassState) (me : Me S Si
 
 -- what the step tells the pass
 pub acted_stepped : {S : Type 0} (shown : S → Value) (pass : PassState) (me : Me S Sight) (opens : Option FileCall) (deed : Deed) (found : ℕ) (new : Me S Sight) (table : TableId) {spare : List Value}
-    → me.0 ≡ pass.sight → IsTurned pass.now (shown_in shown me.1) → spare ≡ pass.spare → Acted shown me opens deed found new
-    → Stepped pass opens deed found record { table = table; sight = new.0; now = shown_in shown new.1; spare = spare }
-acted_stepped shown pass me opens deed found new table sight turned spare_is acted_me =
+    → me.0 ≡ pass.sight → IsTurned pass.now (shown_in shown me.1) → spare ≡ pass.spare → (said : List Work → Type 0) → (acted : Acted shown me opens deed found new) × said acted.works
+    → (stepped : Stepped pass opens deed found record { table = table; sight = new.0; now = shown_in shown new.1; spare = spare }) × said stepped.works
+acted_stepped shown pass me opens deed found new table {spare} sight turned spare_is said acted_me =
     let sizes = pass.sight.opened.sizes in
-    let acted = subst (λ s. Acted shown (s, me.1) opens deed found new) sight acted_me in
+    let both = subst (λ s. (acted : Acted shown (s, me.1) opens deed found new) × said acted.works) sight acted_me in
+    let acted = both.0 in
     let kept = values_then pass.sight opens deed acted.works in
     let cells = carried (pass_of pass.sight) in
-    record {
+    let stepped : Stepped pass opens deed found record { table = table; sight = new.0; now = shown_in shown new.1; spare = spare } = record {
       works = acted.works;
       due = acted.due;
       holds = carries_back sizes (λ value. value) kept cells turned.0 pass.now
@@ -196,4 +198,5 @@ acted_stepped shown pass me opens deed found new table sight turned spare_is act
       carries = subst (λ o. Carries o.sizes (λ value. value) (values_of new.0) (carried (pass_of new.0)) (shown_in shown new.1))
           (sym (ap (λ (s : Sight). s.opened) acted.steps.is)) (carries_shown sizes shown (values_of new.0) (carried (pass_of new.0)) new.1 acted.carries);
       spare = spare_is;
-    }
+    } in
+    (stepped, both.1)

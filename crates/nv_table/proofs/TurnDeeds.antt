@@ -86,7 +86,7 @@ place_on sizes sight = record { word_is = λ pass. refl; value_is = λ pass foun
 
 -- ---- a step that is due is ready
 
-pub ready : (pass : PassState) (opens : Option FileCall) (deed : Deed) (word : Word) (value : ℕ → ℕ) (at : ℕ) (change : ℕ → ℕ)
+abbrev pub ready : (pass : PassState) (opens : Option FileCall) (deed : Deed) (word : Word) (value : ℕ → ℕ) (at : ℕ) (change : ℕ → ℕ)
     → IsDue pass opens deed → IsOn pass.sight.opened.sizes deed word value → place pass.sight.opened.sizes word ≡ at
     → ((core : Core) → Sound pass.sight.opened.sizes (mount_of pass.sight.opened).values core → core.made ≤ 2 ^ 32 → value (core.words word) ≡ change (core.words word))
     → IsReady pass opens deed at change

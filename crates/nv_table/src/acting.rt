@@ -1,5 +1,6 @@
 //! One atomic step of a seat.
-ghost use Rattle.std.specs.Prelude.{◌≡◌, ◌<◌, true, Option, None};
+ghost use Rattle.std.specs.Prelude.{◌≡◌, ◌<◌, true, List, Option, None};
+ghost use Rattle.nv_core.specs.Order.{Work};
 ghost use Rattle.nv_plain.specs.declared.call.FileCall.{FileCall};
 ghost use Rattle.nv_core.specs.Deeds.{Deed, Splits};
 ghost use Rattle.nv_table.specs.Acts.{MayAct, Acted};
@@ -27,17 +28,22 @@ pub enum Change {
     Exchange(u64, u64),
 }
 
-/// A kind of step, for contracts alone: the deed, and the call that it begins, if it does.
+/// A kind of step, for contracts alone: the deed, the call that it begins, if it does, and what is so of the device calls that its pass
+/// has made since its last step.
 pub trait Does {
     ghost deed: { Deed };
 
     ghost opens: { Option FileCall };
+
+    ghost said: { List Work → Type 0 };
 }
 
 impl Does for Brand {
     ghost deed = { Splits };
 
     ghost opens = { None };
+
+    ghost said = { λ works. Unit {0} };
 }
 
 /// What a step of a kind tells its seat.
@@ -46,7 +52,7 @@ pub struct Acting<E, S> {
 }
 
 impl<E: Does, S: Shown> Play<S, View> for Acting<E, S> {
-    ghost then = { λ step old found new. Acted S.shown old E.opens E.deed found new };
+    ghost then = { λ step old found new. (acted : Acted S.shown old E.opens E.deed found new) × E.said acted.works };
 }
 
 /// One step of a kind on the word at a place.
@@ -59,10 +65,10 @@ pub(crate) fn act<E: Does, S: Shown>(
     requires table { seat.old.table_id ≡ shared.now.table_id }
     requires live { seat.old.me.0.live ≡ true }
     requires place { place < shared.now.table_id.words }
-    requires may { MayAct S.shown seat.old.me E.opens E.deed place (changed change) }
+    requires may { (may : MayAct S.shown seat.old.me E.opens E.deed place (changed change)) × E.said may.works }
     ensures table { seat.new.table_id ≡ seat.old.table_id }
     ensures seat { seat.new.id ≡ seat.old.id }
-    ensures acted { Acted S.shown seat.old.me E.opens E.deed result seat.new.me }
+    ensures acted { (acted : Acted S.shown seat.old.me E.opens E.deed result seat.new.me) × E.said acted.works }
 {
     laws_of_the_core();
     match change {

@@ -1,13 +1,16 @@
 //! The table of a mount, which threads share by reference.
-ghost use Rattle.std.specs.Prelude.{◌≡◌, ◌≤◌, ◌^◌, [], length, map, vec_capacity, IfOk, IfErr};
+ghost use Rattle.std.specs.Prelude.{◌≡◌, ℕ, ◌<◌, ◌≤◌, ◌^◌, [], length, map, vec_capacity, IfOk, IfErr};
 ghost use Rattle.atomic_table.specs.Table.{opening as laid};
 ghost use Rattle.nv_plain.specs.Layouts.{version_1};
 ghost use Rattle.nv_header.specs.Regions.{HasParts};
+ghost use Rattle.nv_core.specs.Shapes.{HaveShapes, IsStore};
+ghost use Rattle.nv_core.specs.Words.{STORE};
 ghost use Rattle.nv_table.specs.Begun.{begun_sizes, IsBegun};
 ghost use Rattle.nv_table.specs.Kept.{part_value, store_value, slot_value};
 ghost use Rattle.nv_table.specs.Keys.{opened_of, sizes_of};
 ghost use Rattle.nv_table.specs.Layout.{slot_total};
 ghost use Rattle.nv_table.specs.Limits.{IsWithinLimits};
+ghost use Rattle.nv_table.specs.Opened.{mount_of};
 ghost use Rattle.nv_table.specs.OpeningWords.{AreOpeningWords};
 ghost use Rattle.nv_table.specs.Shows.{Shows};
 ghost use Rattle.nv_table.specs.Sights.{newcomer};
@@ -192,6 +195,14 @@ impl<L: Lines, B: Backing> Board<L, B> {
         ensures { sizes_of result ≡ self.now.opened.sizes }
     {
         self.layout
+    }
+
+    /// A law: what its cells kept at opening: the store of each file, and buffers of a page each.
+    pub fn keeps_stores_and_buffers(&self)
+        ensures stores { (file : ℕ) → file < self.now.opened.sizes.files → IsStore ((mount_of self.now.opened).values (STORE file)) }
+        ensures shapes { HaveShapes self.now.opened.sizes.page (mount_of self.now.opened).values (mount_of self.now.opened).values }
+    {
+        let _ = &self.layout;
     }
 }
 

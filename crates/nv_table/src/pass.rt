@@ -4,8 +4,8 @@ ghost use Rattle.nv_core.specs.Opening.{IsMount};
 ghost use Rattle.nv_table.specs.Acts.{IsFirst};
 ghost use Rattle.nv_table.specs.Between.{IsStill};
 ghost use Rattle.nv_table.specs.Drawn.{drawn_of};
-ghost use Rattle.nv_table.specs.Opened.{mount_of};
-ghost use Rattle.nv_table.specs.Sights.{pass_of, slot_times};
+ghost use Rattle.nv_table.specs.Opened.{mount_of, IsRunOf};
+ghost use Rattle.nv_table.specs.Sights.{ended_of, numbers, pass_of, slot_times};
 ghost use Rattle.nv_table.specs.Turned.{SameButTurned};
 
 use crate::{Slot, View};
@@ -74,9 +74,10 @@ fn turn<S>(seat: &mut Seat<S, View>, count: usize)
 }
 
 impl<L: Lines, B: Backing> Pass<L, B> {
-    // A law: its mount is one of which the core's laws speak.
-    pub(crate) fn is_of_a_mount(&self)
-        ensures { IsMount (mount_of self.now.sight.opened) }
+    /// A law: its mount is one of which the core's laws speak, and what it has seen is a run of it.
+    pub fn sees_a_run(&self)
+        ensures mount { IsMount (mount_of self.now.sight.opened) }
+        ensures run { IsRunOf self.now.sight.opened self.now.sight.run }
     {
         let _ = &self.number;
     }
@@ -84,6 +85,13 @@ impl<L: Lines, B: Backing> Pass<L, B> {
     /// A law: where it carries nothing, no device call has come since its last step.
     pub fn bare_is_still(&self)
         ensures { self.now.now ≡ [] → IsStill self.now }
+    {
+        let _ = &self.number;
+    }
+
+    /// A law: those that the core has as taken in are those that pass 0 took in.
+    pub fn has_taken_in(&self)
+        ensures { self.now.sight.number ≡ 0 → ended_of self.now.sight ≡ numbers self.now.sight.ended }
     {
         let _ = &self.number;
     }

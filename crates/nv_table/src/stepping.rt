@@ -87,12 +87,12 @@ fn go<E: Does, L: Lines, B: Backing>(
     marks: Marks,
 ) -> u64
     requires board { IsOf board.now pass.old }
-    requires next { IsReady pass.old E.opens E.deed place (changed change) }
+    requires next { (next : IsReady pass.old E.opens E.deed place (changed change)) × E.said next.works }
     requires marks { marks_of E.opens E.deed ≡ marks }
     requires head { IsFromHead marks change (pass_of pass.old.sight).head }
     requires moves { (found : ℕ) → shift_of pass.old.sight.opened.sizes (move_of pass.old.sight.opened.sizes E.deed found) ≡ Out slot }
     ensures board { IsOf board.now pass.new }
-    ensures stepped { Stepped pass.old E.opens E.deed result pass.new }
+    ensures stepped { (stepped : Stepped pass.old E.opens E.deed result pass.new) × E.said stepped.works }
 {
     laws_of_the_core();
     // A field is used, so that what keeps the pass is known before its slots turn.
@@ -117,13 +117,13 @@ fn come<E: Does, L: Lines, B: Backing>(
     marks: Marks,
 ) -> u64
     requires board { IsOf board.now pass.old }
-    requires next { IsReady pass.old E.opens E.deed place (changed change) }
+    requires next { (next : IsReady pass.old E.opens E.deed place (changed change)) × E.said next.works }
     requires marks { marks_of E.opens E.deed ≡ marks }
     requires head { IsFromHead marks change (pass_of pass.old.sight).head }
     requires moves { (found : ℕ) → shift_of pass.old.sight.opened.sizes (move_of pass.old.sight.opened.sizes E.deed found) ≡ shift_said moves found }
     requires stays { (slot : ℕ) → moves ≢ Goes slot }
     ensures board { IsOf board.now pass.new }
-    ensures stepped { Stepped pass.old E.opens E.deed result pass.new }
+    ensures stepped { (stepped : Stepped pass.old E.opens E.deed result pass.new) × E.said stepped.works }
 {
     laws_of_the_core();
     let found = act::<E, Slot<L, B>>(&board.table.shared, &mut pass.seat, place, change);
@@ -148,12 +148,12 @@ pub fn step<E: Does, L: Lines, B: Backing>(
     marks: Marks,
 ) -> u64
     requires board { IsOf board.now pass.old }
-    requires next { IsReady pass.old E.opens E.deed place (changed change) }
+    requires next { (next : IsReady pass.old E.opens E.deed place (changed change)) × E.said next.works }
     requires marks { marks_of E.opens E.deed ≡ marks }
     requires head { IsFromHead marks change (pass_of pass.old.sight).head }
     requires moves { (found : ℕ) → shift_of pass.old.sight.opened.sizes (move_of pass.old.sight.opened.sizes E.deed found) ≡ shift_said moves found }
     ensures board { IsOf board.now pass.new }
-    ensures stepped { Stepped pass.old E.opens E.deed result pass.new }
+    ensures stepped { (stepped : Stepped pass.old E.opens E.deed result pass.new) × E.said stepped.works }
 {
     match moves {
         Moves::Goes(slot) => go::<E, L, B>(board, pass, place, change, slot, marks),

@@ -1,5 +1,6 @@
 //! The steps that every call makes, and a cleaner too.
-ghost use Rattle.std.specs.Prelude.{◌≡◌, ◌==◌, ℕ, if◌then◌else◌, Option, None, Some, IfErr};
+ghost use Rattle.std.specs.Prelude.{◌≡◌, ◌==◌, ℕ, if◌then◌else◌, List, Option, None, Some, IfErr};
+ghost use Rattle.nv_core.specs.Order.{Work};
 ghost use Rattle.nv_plain.specs.declared.call.FileCall.{FileCall};
 ghost use Rattle.nv_plain.specs.declared.call.FileCall.TheVariants.{Sync};
 ghost use Rattle.nv_core.specs.Deeds.{Loads, Takes, Stops, Tends};
@@ -38,6 +39,15 @@ impl Calls for Brand {
     ghost call = { Sync 0 };
 }
 
+/// What is so of the device calls before a step, for contracts alone.
+pub trait Says {
+    ghost said: { List Work → Type 0 };
+}
+
+impl Says for Brand {
+    ghost said = { λ works. Unit {0} };
+}
+
 // How the slot of a cell that is taken moves, if it has one.
 fn comes_if_free(slot: Option<usize>) -> Moves
     ensures { (found : ℕ) → shift_said result found ≡ (if found == 0 then coming slot else Rests) }
@@ -68,9 +78,10 @@ fn load_by<E: Does, L: Lines, B: Backing>(
     requires board { IsOf board.now pass.old }
     requires deed { IsLoad E.deed (word_at pass.old.sight.opened.sizes word) }
     requires due { IsDue pass.old E.opens E.deed }
+    requires said { (works : List Work) → E.said works }
     requires begins { marks ≡ begins_or_not E.opens }
     ensures board { IsOf board.now pass.new }
-    ensures stepped { Stepped pass.old E.opens E.deed result pass.new }
+    ensures stepped { (stepped : Stepped pass.old E.opens E.deed result pass.new) × E.said stepped.works }
 {
     step::<E, L, B>(
         board,
@@ -92,13 +103,14 @@ fn take_by<E: Does, L: Lines, B: Backing>(
     requires board { IsOf board.now pass.old }
     requires deed { IsTake E.deed (word_at pass.old.sight.opened.sizes cell) }
     requires due { IsDue pass.old E.opens E.deed }
+    requires said { (works : List Work) → E.said works }
     requires begins { marks ≡ begins_or_not E.opens }
     ensures board { IsOf board.now pass.new }
-    ensures stepped { Stepped pass.old E.opens E.deed (found_by result) pass.new }
+    ensures stepped { (stepped : Stepped pass.old E.opens E.deed (found_by result) pass.new) × E.said stepped.works }
     ensures busy { IfErr result (λ busy. busy.cell ≡ cell) }
 {
     runs_are_sound();
-    pass.is_of_a_mount();
+    pass.sees_a_run();
     let moves = comes_if_free(board.layout.slot(cell));
     let found = step::<E, L, B>(
         board,
@@ -176,6 +188,20 @@ pub fn give<L: Lines, B: Backing>(board: &Board<L, B>, pass: &mut Pass<L, B>, ce
     ensures board { IsOf board.now pass.new }
     ensures stepped { (found : ℕ) × Stepped pass.old None (give_deed (pass_of pass.old.sight).stage (word_at pass.old.sight.opened.sizes cell)) found pass.new }
 {
+    give_after::<Brand, L, B>(board, pass, cell);
+}
+
+/// The same, where something is so of the device calls that the pass has made since its last step: it is so of those that the step tells.
+pub fn give_after<W: Says, L: Lines, B: Backing>(
+    board: &Board<L, B>,
+    pass: &mut Pass<L, B>,
+    cell: u64,
+)
+    requires board { IsOf board.now pass.old }
+    requires due { (due : IsDue pass.old None (give_deed (pass_of pass.old.sight).stage (word_at pass.old.sight.opened.sizes cell))) × W.said due.works }
+    ensures board { IsOf board.now pass.new }
+    ensures stepped { (found : ℕ) × (stepped : Stepped pass.old None (give_deed (pass_of pass.old.sight).stage (word_at pass.old.sight.opened.sizes cell)) found pass.new) × W.said stepped.works }
+{
     let moves = goes(board.layout.slot(cell));
     step::<Brand, L, B>(
         board,
@@ -196,7 +222,7 @@ pub fn place<L: Lines, B: Backing>(board: &Board<L, B>, pass: &mut Pass<L, B>) -
     ensures placed { IsPlaced pass.old.sight pass.new.sight result }
 {
     runs_are_sound();
-    pass.is_of_a_mount();
+    pass.sees_a_run();
     step::<Brand, L, B>(
         board,
         pass,

@@ -1,8 +1,9 @@
 -- Each kind of change is a step that the rule allows.
-use Rattle.std.proofs.Common.{◌≡◌, ℕ, true, subst, Option}
+use Rattle.std.proofs.Common.{◌≡◌, ℕ, true, List, subst, Option}
 use Rattle.nv_plain.specs.declared.call.FileCall.{FileCall}
 use Rattle.atomic_table.specs.Table.{Me, Allows}
 use Rattle.nv_core.specs.Deeds.{Deed}
+use Rattle.nv_core.specs.Order.{Work}
 use Rattle.nv_core.specs.Values.{Value}
 use Rattle.nv_table.specs.declared.acting.Change.{Change}
 use Rattle.nv_table.specs.Acts.{MayAct, Acted}
@@ -17,11 +18,11 @@ use Rattle.nv_table.proofs.acting.act.Goals as goal
 
 allowed : {S : Type 0} (shown : S → Value) (opened : Opened) (slots id : ℕ) (old : Me S Sight) (opens : Option FileCall) (deed : Deed) (at : ℕ) (change is : Change)
     → CoreLaws → old.0.live ≡ true
-    → MayAct shown old opens deed at (changed change) → change ≡ is
-    → Allows (Shows shown opened) slots id old at (changed is) (λ found new. Acted shown old opens deed found new)
-allowed shown opened slots id old opens deed at change is laws live may e =
-    acts_allow shown opened slots id old opens deed at (changed is) laws live
-    (subst (λ c. MayAct shown old opens deed at (changed c)) e may)
+    → (said : List Work → Type 0) → (may : MayAct shown old opens deed at (changed change)) × said may.works → change ≡ is
+    → Allows (Shows shown opened) slots id old at (changed is) (λ found new. (acted : Acted shown old opens deed found new) × said acted.works)
+allowed shown opened slots id old opens deed at change is laws live said may e =
+    acts_allow shown opened slots id old opens deed at (changed is) laws live said
+    (subst (λ c. (may : MayAct shown old opens deed at (changed c)) × said may.works) e may)
 
 pub load-requires : goal.load-requires
 load-requires g c = (
@@ -29,7 +30,7 @@ load-requires g c = (
   c.requires.place,
   allowed g.S.Shown.shown (opened_of g.S.Shown.shown c.args.shared.now.key.value) c.args.shared.now.table_id.slots c.args.seat.now.id c.args.seat.now.me
       g.E.Does.opens g.E.Does.deed c.args.place c.args.change _
-      c.laws_of_the_core.ensures c.requires.live c.requires.may c.in-Load.is,
+      c.laws_of_the_core.ensures c.requires.live g.E.Does.said c.requires.may c.in-Load.is,
 )
 
 pub fetch_add-requires : goal.fetch_add-requires
@@ -38,7 +39,7 @@ fetch_add-requires g c = (
   c.requires.place,
   allowed g.S.Shown.shown (opened_of g.S.Shown.shown c.args.shared.now.key.value) c.args.shared.now.table_id.slots c.args.seat.now.id c.args.seat.now.me
       g.E.Does.opens g.E.Does.deed c.args.place c.args.change _
-      c.laws_of_the_core.ensures c.requires.live c.requires.may c.in-Add.is,
+      c.laws_of_the_core.ensures c.requires.live g.E.Does.said c.requires.may c.in-Add.is,
 )
 
 pub fetch_sub-requires : goal.fetch_sub-requires
@@ -47,7 +48,7 @@ fetch_sub-requires g c = (
   c.requires.place,
   allowed g.S.Shown.shown (opened_of g.S.Shown.shown c.args.shared.now.key.value) c.args.shared.now.table_id.slots c.args.seat.now.id c.args.seat.now.me
       g.E.Does.opens g.E.Does.deed c.args.place c.args.change _
-      c.laws_of_the_core.ensures c.requires.live c.requires.may c.in-Subtract.is,
+      c.laws_of_the_core.ensures c.requires.live g.E.Does.said c.requires.may c.in-Subtract.is,
 )
 
 pub swap-requires : goal.swap-requires
@@ -56,7 +57,7 @@ swap-requires g c = (
   c.requires.place,
   allowed g.S.Shown.shown (opened_of g.S.Shown.shown c.args.shared.now.key.value) c.args.shared.now.table_id.slots c.args.seat.now.id c.args.seat.now.me
       g.E.Does.opens g.E.Does.deed c.args.place c.args.change _
-      c.laws_of_the_core.ensures c.requires.live c.requires.may c.in-Set.is,
+      c.laws_of_the_core.ensures c.requires.live g.E.Does.said c.requires.may c.in-Set.is,
 )
 
 pub compare_exchange-requires : goal.compare_exchange-requires
@@ -65,5 +66,5 @@ compare_exchange-requires g c = (
   c.requires.place,
   allowed g.S.Shown.shown (opened_of g.S.Shown.shown c.args.shared.now.key.value) c.args.shared.now.table_id.slots c.args.seat.now.id c.args.seat.now.me
       g.E.Does.opens g.E.Does.deed c.args.place c.args.change _
-      c.laws_of_the_core.ensures c.requires.live c.requires.may c.in-Exchange.is,
+      c.laws_of_the_core.ensures c.requires.live g.E.Does.said c.requires.may c.in-Exchange.is,
 )

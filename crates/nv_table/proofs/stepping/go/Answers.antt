@@ -21,7 +21,7 @@ bring-requires g c =
     goes_once c.args.pass.now inside.seat.me inside.number inside.made inside.joined inside.held.items (vec_capacity inside.held) g.E.Does.opens g.E.Does.deed
     (ap (λ (p : PassState). p.sight) c.pass.view_is) c.pass.invariant.0 c.args.place (changed c.args.change) c.args.slot
     c.laws_of_the_core.ensures
-    c.requires.next c.requires.moves
+    c.requires.next.0 c.requires.moves
 
 pub act-found-requires-clause-place : goal.act-found-requires-clause-place
 act-found-requires-clause-place g c =
@@ -30,7 +30,7 @@ act-found-requires-clause-place g c =
     (ap (λ (p : PassState). p.sight) c.pass-2.view_is ∙ c.bring.ensures.same.sight) c.pass-2.invariant.0 c.args.place (changed c.args.change)
     c.args.board.now c.board.inside.table.shared.table_id.words
     c.laws_of_the_core.ensures
-    c.requires.next c.requires.board (c.board.invariant.1 ∙ ap word_total (c.board.invariant.0 ∙ ap (λ (b : BoardState). b.opened.sizes) c.board.view_is))
+    c.requires.next.0 c.requires.board (c.board.invariant.1 ∙ ap word_total (c.board.invariant.0 ∙ ap (λ (b : BoardState). b.opened.sizes) c.board.view_is))
 
 pub act-found-requires-clause-may : goal.act-found-requires-clause-may
 act-found-requires-clause-may g c =
@@ -43,7 +43,7 @@ act-found-requires-clause-may g c =
     (turned.0, ap (λ (p : PassState). p.now) c.pass-2.view_is ∙ turned.1)
     (λ found. in_front c.args.pass.now.sight.opened.sizes (move_of c.args.pass.now.sight.opened.sizes g.E.Does.deed found) me.1
     (λ slot out. subst (λ n. IsFirst (Some n) me.1) (same_slot (sym (c.requires.moves found) ∙ out)) first))
-    c.requires.next
+    g.E.Does.said c.requires.next.0 c.requires.next.1
 
 pub invariant_of-pass : goal.invariant_of-pass
 invariant_of-pass g c =
@@ -52,8 +52,8 @@ invariant_of-pass g c =
     rw (c.drawn-pass-inside.ensures, c.lost-pass-inside.ensures, c.pop.ensures.rest, c.pop.ensures.capacity, c.rotate_left.new.self.ok.0, c.rotate_left.ensures.items, c.rotate_left.ensures.capacity, struck_out inside.held.items) (
       step_keeps c.args.pass.now inside.seat.me inside.number inside.made inside.joined inside.held.items (vec_capacity inside.held) g.E.Does.opens g.E.Does.deed
           (ap (λ (p : PassState). p.sight) c.pass-2.view_is ∙ c.bring.ensures.same.sight) c.pass-2.invariant.0 c.laws_of_the_core.ensures.runs shown c.args.place c.args.change c.args.marks c.act-found.result c.act-found.new.seat.me (Out c.args.slot)
-          c.requires.next c.requires.marks c.requires.head c.act-found.ensures.acted (c.requires.moves c.act-found.result),
-      same_places (ap (λ (s : Sight). s.opened) c.act-found.ensures.acted.steps.is) c.pass-2.invariant.1,
+          c.requires.next.0 c.requires.marks c.requires.head c.act-found.ensures.acted.0 (c.requires.moves c.act-found.result),
+      same_places (ap (λ (s : Sight). s.opened) c.act-found.ensures.acted.0.steps.is) c.pass-2.invariant.1,
     )
 
 pub returns-clause-stepped : goal.returns-clause-stepped
@@ -62,4 +62,4 @@ returns-clause-stepped g c =
     let turned = c.bring.ensures.same.turned in
     acted_stepped shown c.args.pass.now c.pass-2.inside.seat.me g.E.Does.opens g.E.Does.deed c.act-found.result c.act-found.new.seat.me c.act-found.new.seat.table_id
     (ap (λ (p : PassState). p.sight) c.pass-2.view_is ∙ c.bring.ensures.same.sight) (turned.0, ap (λ (p : PassState). p.now) c.pass-2.view_is ∙ turned.1)
-    (ap (λ (p : PassState). p.spare) c.pass-2.view_is ∙ c.bring.ensures.same.spare) c.act-found.ensures.acted
+    (ap (λ (p : PassState). p.spare) c.pass-2.view_is ∙ c.bring.ensures.same.spare) g.E.Does.said c.act-found.ensures.acted

@@ -5,4 +5,4 @@ use Rattle.nv_core.specs.Words.{STOP}
 use Rattle.nv_table.proofs.turns.begin_with_load.Given as goal
 
 abbrev pub ghosts-load_by : goal.ghosts-load_by
-ghosts-load_by g a = record { deed = Loads STOP; opens = Some g.C.Calls.call }
+ghosts-load_by g a = record { deed = Loads STOP; opens = Some g.C.Calls.call; said = λ works. Unit {0} }

@@ -1,9 +1,5 @@
--- The step is the giving back, by the pass's stage.
-use Rattle.std.specs.Prelude.{None}
-use Rattle.nv_table.specs.Layout.{word_at}
-use Rattle.nv_table.specs.Sights.{pass_of}
-use Rattle.nv_table.specs.Turns.{give_deed}
+-- Nothing is said of device calls.
 use Rattle.nv_table.proofs.turns.give.Given as goal
 
-abbrev pub ghosts-step : goal.ghosts-step
-ghosts-step g a = record { deed = give_deed (pass_of a.pass.now.sight).stage (word_at a.pass.now.sight.opened.sizes a.place); opens = None }
+abbrev pub ghosts-give_after : goal.ghosts-give_after
+ghosts-give_after g a = record { said = λ works. Unit {0} }

@@ -5,4 +5,4 @@ use Rattle.nv_core.specs.Sweeps.{Halts}
 use Rattle.nv_table.proofs.turns.halt.Given as goal
 
 abbrev pub ghosts-step : goal.ghosts-step
-ghosts-step g a = record { deed = Tends Halts; opens = None }
+ghosts-step g a = record { deed = Tends Halts; opens = None; said = λ works. Unit {0} }

@@ -11,5 +11,6 @@ step-requires-clause-next g c =
     let pass = c.args.pass.now in
     let sizes = pass.sight.opened.sizes in
     let word = word_at sizes c.args.word in
-    ready pass g.E.Does.opens g.E.Does.deed word (λ found. found) c.args.word (changed Load) c.requires.due
-    (load_on sizes g.E.Does.deed word c.requires.deed) (place_at sizes c.args.word) (λ core sound made. refl)
+    let is = ready pass g.E.Does.opens g.E.Does.deed word (λ found. found) c.args.word (changed Load) c.requires.due
+    (load_on sizes g.E.Does.deed word c.requires.deed) (place_at sizes c.args.word) (λ core sound made. refl) in
+    (is, c.requires.said is.works)

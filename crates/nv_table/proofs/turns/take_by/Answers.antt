@@ -13,18 +13,19 @@ step-found-requires-clause-next g c =
     let sizes = pass.sight.opened.sizes in
     let cell = word_at sizes c.args.cell in
     let lock = due_lock pass g.E.Does.opens g.E.Does.deed cell c.requires.deed c.requires.due in
-    ready pass g.E.Does.opens g.E.Does.deed cell (λ found. 1) c.args.cell (changed (Exchange 0 1)) c.requires.due
-    (take_on sizes g.E.Does.deed cell c.requires.deed) (place_at sizes c.args.cell) (λ core sound made. locked (core.words cell) (sound.locks.bit cell lock))
+    let is = ready pass g.E.Does.opens g.E.Does.deed cell (λ found. 1) c.args.cell (changed (Exchange 0 1)) c.requires.due
+    (take_on sizes g.E.Does.deed cell c.requires.deed) (place_at sizes c.args.cell) (λ core sound made. locked (core.words cell) (sound.locks.bit cell lock)) in
+    (is, c.requires.said is.works)
 
 pub returns-else-found-eq0-clause-stepped : goal.returns-else-found-eq0-clause-stepped
 returns-else-found-eq0-clause-stepped g c =
     let pass = c.args.pass.now in
     let sizes = pass.sight.opened.sizes in
     let cell = word_at sizes c.args.cell in
-    let stepped = c.step-found.ensures.stepped in
+    let stepped = c.step-found.ensures.stepped.0 in
     let lock = due_lock pass g.E.Does.opens g.E.Does.deed cell c.requires.deed c.requires.due in
     let at = found_in c.runs_are_sound.ensures.runs pass c.step-found.new.pass g.E.Does.opens g.E.Does.deed c.step-found.result cell (λ found. 1)
-    c.is_of_a_mount.ensures (take_on sizes g.E.Does.deed cell c.requires.deed) stepped in
+    c.sees_a_run.ensures.mount (take_on sizes g.E.Does.deed cell c.requires.deed) stepped in
     let low = at.sound.locks.bit cell lock in
     let one : c.step-found.result ≡ 1 = omega (arith, low, at.word_is, c.if-found-eq0.false) in
-    subst (λ found. Stepped pass g.E.Does.opens g.E.Does.deed found c.step-found.new.pass) one stepped
+    subst (λ found. (is : Stepped pass g.E.Does.opens g.E.Does.deed found c.step-found.new.pass) × g.E.Does.said is.works) one c.step-found.ensures.stepped

@@ -7,13 +7,18 @@ use Rattle.nv_table.specs.Sights.{pass_of}
 use Rattle.nv_table.specs.Turns.{give_deed}
 use Rattle.nv_table.specs.declared.acting.Change.TheVariants.{Set}
 use Rattle.nv_table.proofs.TurnDeeds.{give_on, place_at, ready}
-use Rattle.nv_table.proofs.turns.give.Goals as goal
+use Rattle.nv_table.proofs.turns.give_after.Goals as goal
 
 pub step-requires-clause-next : goal.step-requires-clause-next
 step-requires-clause-next g c =
     let pass = c.args.pass.now in
     let sizes = pass.sight.opened.sizes in
     let stage = (pass_of pass.sight).stage in
-    let cell = word_at sizes c.args.cell in
-    ready pass None (give_deed stage cell) cell (λ found. 0) c.args.cell (changed (Set 0)) c.requires.due
-    (give_on sizes stage cell) (place_at sizes c.args.cell) (λ core sound made. refl)
+    let cell = word_at sizes c.args.cell in (
+      ready pass None (give_deed stage cell) cell (λ found. 0) c.args.cell (changed (Set 0)) c.requires.due.0
+          (give_on sizes stage cell) (place_at sizes c.args.cell) (λ core sound made. refl),
+      c.requires.due.1,
+    )
+
+pub returns-clause-stepped : goal.returns-clause-stepped
+returns-clause-stepped g c = (c.step.result, c.step.ensures.stepped.0, c.step.ensures.stepped.1)
