@@ -1,0 +1,3 @@
+pub mod AlterLaws
+pub mod EntryLaws
+pub mod StoreLaws

@@ -1,0 +1,16 @@
+//! What a pass does with the pages of a read: with the buffers, the store and the parts of entries that it carries, between two steps, and the steps by which
+//! it searches a buffer, and holds and returns an entry. None of these calls takes memory or waits.
+#![tactic(auto)]
+
+mod buffers;
+mod entries;
+mod search;
+mod slots;
+mod stores;
+mod turns;
+
+pub use buffers::{copy_page, fill_page, lacks_buffer, move_buffer};
+pub use entries::{Piece, patch, read_entry};
+pub use search::{set_hint, turn_hand};
+pub use stores::read_store;
+pub use turns::{hold_entry, return_entry};
