@@ -1,2 +1,4 @@
 mod AskLaws
 mod SplitLaws
+mod HistoryLaws
+mod OpenLaws

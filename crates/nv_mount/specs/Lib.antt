@@ -1,2 +1,4 @@
 pub mod Fds
 pub mod Mounts
+pub mod OneHistories
+pub mod Telling

@@ -1,18 +1,25 @@
 //! The mount: the board of a region and its stores, and the descriptors of its files.
 ghost use Rattle.std.specs.Prelude.{◌≡◌, ◌<◌, ◌≤◌, length, map, sum_by, All, IfOk, IfErr, OnOk};
+ghost use Rattle.nv_plain.specs.Files.{Files};
 ghost use Rattle.nv_pmem.specs.Moments.{Tells};
 ghost use Rattle.nv_store.specs.Store.{IsQuiet};
+ghost use Rattle.nv_core.specs.Content.{Opens};
+ghost use Rattle.nv_core.specs.LogContent.{OpensLog};
 ghost use Rattle.nv_table.specs.Begun.{begun_sizes};
 ghost use Rattle.nv_table.specs.Between.{IsStill};
 ghost use Rattle.nv_table.specs.Closing.{IsClosed};
 ghost use Rattle.nv_table.specs.Kept.{part_value, store_value, slot_value};
+ghost use Rattle.nv_table.specs.Opened.{mount_of};
 ghost use Rattle.nv_table.specs.Sights.{made_of};
 ghost use Rattle.nv_table.specs.States.{IsOf};
 ghost use Rattle.nv_mount.specs.Mounts.{AreLengths, HasLengthsCause, HasOpenCause, IsOpened};
+ghost use Rattle.nv_mount.specs.OneHistories.{HasOneHistory};
+ghost use Rattle.nv_mount.specs.Telling.{AllTell, StoresHave};
 
 use crate::Fds;
+use nv_core::{passes_are_left_alone, regions_at_rest_open, runs_are_sound, runs_keep_content};
 use nv_header::Region;
-use nv_pmem::Lines;
+use nv_pmem::{Lines, rows_have_states};
 use nv_store::{Backing, StoreFault};
 use nv_table::{Board, Closed, Pass, Refused};
 use std::alloc::{AllocFailed, Global};
@@ -104,7 +111,8 @@ fn lengths_of<B: Backing>(alloc: Global, stores: &mut [B]) -> Result<Vec<u64>, O
 impl<L: Lines + Drop, B: Backing + Drop> Mount<L, B> {
     /// Mounts a region and its stores, one for each of its names, in their order; and gives pass 0, with which the first thread steps.
     /// Each file has 1 to 1,024 pages. There are as many buffers as pages, but at most `cache`, which is 1 to 16,384. It asks each store
-    /// for its length, and takes all memory that the board needs. At an error region and stores come back.
+    /// for its length, and takes all memory that the board needs. At an error region and stores come back. Where all stores tell, the mount
+    /// opens the files that they have, and where all parts of the region tell, its empty log.
     pub fn open(
         alloc: Global,
         region: Region<L>,
@@ -125,6 +133,8 @@ impl<L: Lines + Drop, B: Backing + Drop> Mount<L, B> {
             B.device B.history B.fault_count
             (begun_sizes region.geometry.page region.geometry.entries (length region.names) pages cache)
             region.next region.parts.items stores.items fds made.0 made.1) }
+        ensures files { IfOk result (λ made. (files : Files) → StoresHave (map B.history stores.items) files → Opens (mount_of made.0.board.opened) files) }
+        ensures log { IfOk result (λ made. AllTell (map L.history region.parts.items) → OpensLog (mount_of made.0.board.opened) region.next) }
         ensures parts_back { IfErr result (λ failed. failed.region.parts.items ≡ region.parts.items) }
         ensures geometry_back { IfErr result (λ failed. failed.region.geometry ≡ region.geometry) }
         ensures names_back { IfErr result (λ failed. failed.region.names ≡ region.names) }
@@ -133,6 +143,8 @@ impl<L: Lines + Drop, B: Backing + Drop> Mount<L, B> {
         ensures histories_back { IfErr result (λ failed. map B.history failed.stores.items ≡ map B.history stores.items) }
         ensures cause { IfErr result (λ failed. HasOpenCause (sum_by B.fault_count stores.items) (sum_by B.fault_count failed.stores.items) failed.error) }
     {
+        rows_have_states();
+        regions_at_rest_open();
         let lengths = match lengths_of(alloc, &mut stores) {
             Ok(lengths) => lengths,
             Err(error) => {
@@ -169,7 +181,8 @@ impl<L: Lines + Drop, B: Backing + Drop> Mount<L, B> {
     }
 
     /// Ends the mount by pass 0, whatever it is at: what it carries goes home first. Where it has made more passes than it has taken in,
-    /// mount and pass come back unchanged. No device call may have come since the pass's last step. Takes no memory.
+    /// mount and pass come back unchanged. The calls of all passes have one history, as long as `placed` says. No device call may have
+    /// come since the pass's last step. Takes no memory.
     pub fn close(
         self,
         pass: Pass<L, B>,
@@ -181,6 +194,7 @@ impl<L: Lines + Drop, B: Backing + Drop> Mount<L, B> {
         ensures closed { IfOk result (λ closed. IsClosed L.device B.device
             (slot_value (part_value L.device L.history L.fault_count L.room) (store_value B.device B.history B.fault_count))
             self.board pass closed.parts.items closed.stores.items closed.placed closed.tail) }
+        ensures history { IfOk result (λ closed. HasOneHistory pass.sight closed.placed) }
         ensures out { IfErr result (λ failed. length pass.sight.ended < made_of pass.sight) }
         ensures mount_back { IfErr result (λ failed. failed.0 ≡ self) }
         ensures pass_back { IfErr result (λ failed. failed.1 ≡ pass) }
@@ -194,6 +208,11 @@ impl<L: Lines + Drop, B: Backing + Drop> Mount<L, B> {
         }
         let Mount { board, fds } = self;
         drop(fds);
+        runs_are_sound();
+        runs_keep_content();
+        passes_are_left_alone();
+        pass.sees_a_run();
+        pass.has_taken_in();
         Ok(board.close(pass))
     }
 }
