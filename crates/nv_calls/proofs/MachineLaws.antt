@@ -11,7 +11,7 @@ use Rattle.nv_table.specs.Sights.{pass_of}
 use Rattle.nv_table.specs.States.{PassState}
 use Rattle.nv_table.specs.Turns.{IsDue, IsPlaced, load_deed, place_deed}
 use Rattle.nv_table.proofs.CallLaws.{IsAt, sync_begun, order_due, order_loaded, place_due, sync_placed, later_self, later_by, later_on}
-use Rattle.nv_calls.specs.declared.sync.Refusal.TheVariants.{BadFd, Stopped, Spent}
+use Rattle.nv_calls.specs.declared.answers.Refusal.TheVariants.{BadFd, Stopped, Spent}
 use Rattle.nv_calls.specs.declared.machine.SyncStage.TheVariants.{Begins, Orders, Places}
 use Rattle.nv_calls.specs.Machines.{HasLoaded, IsUnderWay, IsEnded}
 use Rattle.nv_calls.proofs.SyncLaws.{stop_unplaced, order_is, order_unplaced, unplaced_on, place_is, done_by}

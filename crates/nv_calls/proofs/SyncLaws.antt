@@ -1,5 +1,5 @@
 -- Syncs: what their steps tell, together.
-use Rattle.std.proofs.Common.{◌≡◌, ℕ, List, [], ◌∷◌, ◌++◌, length, length-append, refl, sym, ap, subst, ◌∙◌, arith}
+use Rattle.std.proofs.Common.{◌≡◌, ℕ, refl, sym, ap, subst, ◌∙◌}
 use Rattle.std.specs.Prelude.{Some, None}
 use Rattle.nv_plain.specs.declared.call.FileCall.{FileCall}
 use Rattle.nv_plain.specs.declared.call.FileCall.TheVariants.{Sync}
@@ -7,17 +7,15 @@ use Rattle.nv_plain.specs.declared.call.Reply.TheVariants.{Done}
 use Rattle.nv_core.specs.Words.{STOP, ORDER}
 use Rattle.nv_core.specs.Passes.{Pass, Ordering, Placing}
 use Rattle.nv_core.specs.Deeds.{Loads, Places}
-use Rattle.nv_core.specs.OneHistory.{Begins}
 use Rattle.nv_core.specs.Order.{plain_reply}
 use Rattle.nv_table.specs.Idle.{IsIdle, IsLater}
-use Rattle.nv_table.specs.Opened.{state_of}
 use Rattle.nv_table.specs.Ready.{Stepped}
 use Rattle.nv_table.specs.Sights.{Sight, pass_of, values_of}
 use Rattle.nv_table.specs.States.{PassState}
 use Rattle.nv_table.specs.Turns.{IsPlaced, load_deed, place_deed, reply_at}
 use Rattle.nv_table.proofs.CallLaws.{IsCallFree, IsAt, stepped_there}
-use Rattle.nv_calls.specs.Answers.{answered_by, IsDone, IsUnplaced}
-use Rattle.nv_calls.proofs.HistoryLaws.{seen_begins}
+use Rattle.nv_calls.specs.Answers.{IsDone, IsUnplaced}
+use Rattle.nv_calls.proofs.DoneLaws.{done_so}
 
 -- ---- loads leave the history
 
@@ -52,32 +50,8 @@ reply_is pass file at =
 pub place_is : (old new : PassState) (file found : ℕ) → IsAt old Placing (Sync file) → Stepped old None (place_deed old.sight) found new → Stepped old None (Places Done) found new
 place_is old new file found at is = subst (λ reply. Stepped old None (Places reply) found new) (reply_is old file at) is
 
-last_one : {T : Type 0} (one other : List T) (x y : T) → one ++ x ∷ [] ≡ other ++ y ∷ [] → length one ≡ length other
-last_one one other x y same =
-    let a = length-append one (x ∷ []) in
-    let b = length-append other (y ∷ []) in
-    let c = ap length same in
-    omega (arith, a, b, c)
-
 -- a sync that has gone on by two loads has its place
 pub done_by : (old loaded new : PassState) (file place : ℕ) → IsLater old loaded → IsUnplaced old.sight loaded.sight → IsAt loaded Placing (Sync file)
     → Stepped loaded None (Places Done) place new → IsPlaced loaded.sight new.sight place → IsDone old.sight new.sight (Sync file) Done place
 done_by old loaded new file place later still at is placed =
-    let free : IsCallFree (pass_of loaded.sight).stage = subst IsCallFree (sym at.stands) (λ sizes values pass work due. due) in
-    let there = stepped_there loaded new None (Places Done) place free is in
-    let opened = loaded.sight.opened in
-    let history = (state_of opened is.steps.run).history in
-    let same : answered_by loaded.sight (pass_of loaded.sight).call Done ≡ answered_by old.sight (Sync file) Done =
-    ap (λ (call : FileCall). answered_by loaded.sight call Done) at.makes
-    ∙ ap (λ (n : ℕ). record (answered_by old.sight (Sync file) Done) { caller = n }) later.number in
-    let seen : (pass_of new.sight).seen ≡ history ++ answered_by loaded.sight (pass_of loaded.sight).call Done ∷ [] = ap (λ (p : Pass). p.seen) there in
-    record {
-      before = history;
-      begins = subst (λ l. Begins l history) still.seen
-          (subst (λ run. Begins (pass_of loaded.sight).seen (state_of opened run).history) (sym is.steps.knew.all.goes_on)
-          (seen_begins opened loaded.sight.number loaded.sight.run is.steps.knew.all.rest));
-      at = placed.count ∙ last_one placed.before history _ _ (sym placed.seen ∙ seen);
-      seen = seen ∙ ap (λ a. history ++ a ∷ []) same;
-      mine = ap (λ (p : Pass). p.mine) there ∙ ap (λ a. (pass_of loaded.sight).mine ++ a ∷ []) same ∙ ap (λ l. l ++ answered_by old.sight (Sync file) Done ∷ []) still.mine;
-      plain = λ files. refl;
-    }
+    done_so old loaded new (Sync file) Done place later still at.makes (subst IsCallFree (sym at.stands) (λ sizes values pass work due. due)) is placed (λ files tail log opens. refl)

@@ -1,3 +1,14 @@
+pub mod Advances
 pub mod Answers
+pub mod Barred
+pub mod Copied
 pub mod Courses
+pub mod Ends
+pub mod Kinds
+pub mod Late
 pub mod Machines
+pub mod PageReads
+pub mod PieceReads
+pub mod Ranks
+pub mod Reads
+pub mod Steps

@@ -7,9 +7,9 @@ use Rattle.nv_table.specs.Idle.{IsIdle, IsLater}
 use Rattle.nv_table.specs.Ready.{Stepped}
 use Rattle.nv_table.specs.Sights.{Sight}
 use Rattle.nv_table.specs.States.{PassState}
-use Rattle.nv_calls.specs.declared.sync.Done.{Done}
-use Rattle.nv_calls.specs.declared.sync.Refusal.{Refusal}
-use Rattle.nv_calls.specs.declared.sync.Refusal.TheVariants.{BadFd, Stopped, Spent}
+use Rattle.nv_calls.specs.declared.answers.Done.{Done}
+use Rattle.nv_calls.specs.declared.answers.Refusal.{Refusal}
+use Rattle.nv_calls.specs.declared.answers.Refusal.TheVariants.{BadFd, Stopped, Spent}
 use Rattle.nv_calls.specs.declared.machine.SyncStage.{SyncStage}
 use Rattle.nv_calls.specs.declared.machine.SyncStage.TheVariants.{Begins, Orders, Places}
 use Rattle.nv_calls.specs.declared.machine.Progress.{Progress}
@@ -63,3 +63,8 @@ IsNext Begins new (Ended (Err Stopped)) = Unit {0}
 IsNext Orders new (Ended (Err (Spent found))) = Unit {0}
 IsNext Places new (Ended (Ok done)) = Unit {0}
 IsNext old new progress = ⊥
+
+-- its place after an advance
+abbrev pub placed_then : Option ℕ → Progress → Option ℕ
+placed_then before (Ended (Ok done)) = Some done.place
+placed_then before progress = before

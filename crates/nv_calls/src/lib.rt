@@ -1,11 +1,27 @@
-//! The calls of a mount that threads share: so far fsync.
+//! The calls of a mount that threads share, so far reads and fsync: whole, and one step at a time.
 #![tactic(auto)]
 
+mod answers;
+mod kinds;
 mod machine;
+mod read;
+mod read_begin;
+mod read_ends;
+mod read_pages;
+mod read_patch;
+mod read_search;
+mod read_steps;
+mod reading;
 mod sync;
 
+pub use answers::{Done, Refusal};
+pub use kinds::Kind;
 pub use machine::{Progress, SyncMachine, SyncStage};
-pub use sync::{Done, Refusal, try_fsync};
+pub use read::{pread, try_pread};
+pub use reading::{Held, MOST_PAGE, ReadMachine, ReadStage};
+pub use sync::try_fsync;
 
+#[cfg(test)]
+mod read_tests;
 #[cfg(test)]
 mod tests;

@@ -1,5 +1,5 @@
 //! An fsync that is made one step at a time.
-ghost use Rattle.std.specs.Prelude.{◌≡◌, ◌<◌, Some};
+ghost use Rattle.std.specs.Prelude.{◌≡◌, ◌<◌, false, Some, None, option_map};
 ghost use Rattle.nv_plain.specs.declared.call.FileCall.TheVariants.{Sync};
 ghost use Rattle.nv_core.specs.Deeds.{Loads};
 ghost use Rattle.nv_core.specs.Words.{STOP as stop_word};
@@ -7,10 +7,11 @@ ghost use Rattle.nv_table.specs.Idle.{IsIdle};
 ghost use Rattle.nv_table.specs.Ready.{Stepped};
 ghost use Rattle.nv_table.specs.States.{IsOf, PassState};
 ghost use Rattle.nv_calls.specs.Courses.{file_of};
-ghost use Rattle.nv_calls.specs.Machines.{Goes, IsNext, IsUnderWay};
+ghost use Rattle.nv_calls.specs.Kinds.{sync_kind};
+ghost use Rattle.nv_calls.specs.Machines.{Goes, IsNext, IsUnderWay, placed_then};
 ghost use Rattle.nv_calls.specs.declared.machine.SyncStage.TheVariants.{Begins};
 
-use crate::{Done, Refusal};
+use crate::{Done, Kind, Refusal};
 use nv_mount::Mount;
 use nv_pmem::Lines;
 use nv_store::Backing;
@@ -42,6 +43,8 @@ pub enum SyncStage {
 pub struct SyncMachine {
     pub fd: u64,
     pub stage: SyncStage,
+    /// Its place, once it has one.
+    pub place: Option<u64>,
 }
 
 // Begins a sync of a file.
@@ -65,12 +68,37 @@ fn begin_sync<C: Calls, L: Lines, B: Backing>(
 impl SyncMachine {
     /// An fsync that has made no step yet.
     pub fn new(fd: u64) -> Self
-        ensures { result ≡ record { fd = fd; stage = Begins } }
+        ensures { result ≡ record { fd = fd; stage = Begins; place = None } }
     {
         SyncMachine {
             fd,
             stage: SyncStage::Begins,
+            place: None,
         }
+    }
+
+    /// The kind of the next step. Before the first advance it is that of the first step of a sync which isn't refused before.
+    pub fn next_kind(&self) -> Kind
+        ensures { result ≡ sync_kind self.now.stage }
+    {
+        match self.stage {
+            SyncStage::Begins | SyncStage::Orders => Kind::Load,
+            SyncStage::Places => Kind::Place,
+        }
+    }
+
+    /// Its answer, from the step on by which it takes its place.
+    pub fn placed(&self) -> Option<Done>
+        ensures { result ≡ option_map (λ place. record { place = place; len = 0 }) self.now.place }
+    {
+        self.place.map(|place| Done { place, len: 0 })
+    }
+
+    /// Whether a device call of its advances has failed: it makes none.
+    pub fn faulted(&self) -> bool
+        ensures { result ≡ false }
+    {
+        false
     }
 
     /// Makes the next step. Its pass was idle before the first one, and has made no others since.
@@ -84,6 +112,7 @@ impl SyncMachine {
         ensures board { IsOf mount.now.board pass.new }
         ensures fd { self.new.fd ≡ self.old.fd }
         ensures next { IsNext self.old.stage self.new.stage result }
+        ensures place { self.new.place ≡ placed_then self.old.place result }
         ensures goes { (start : PassState) → IsUnderWay (file_of mount.now.fds self.old.fd) self.old.stage start pass.old → Goes (file_of mount.now.fds self.old.fd) start pass.new self.new.stage result }
     {
         let board = mount.board();
@@ -106,6 +135,7 @@ impl SyncMachine {
             }
             SyncStage::Places => {
                 let place = place(board, pass);
+                self.place = Some(place);
                 return Progress::Ended(Ok(Done { place, len: 0 }));
             }
         }

@@ -6,35 +6,12 @@ ghost use Rattle.nv_table.specs.States.{IsOf};
 ghost use Rattle.nv_calls.specs.Answers.{IsSynced, IsUnplaced};
 ghost use Rattle.nv_calls.specs.Courses.{IsCourse, file_of};
 
+use crate::{Done, Refusal};
 use nv_mount::Mount;
 use nv_pmem::Lines;
 use nv_store::Backing;
 use nv_table::{Board, Calls, ORDER, Pass, begin_with_load, load_word, place};
 use std::marker::Brand;
-use thiserror::Error;
-
-/// A call has its place in the history, and has been answered.
-#[derive(Clone, Copy, Debug, PartialEq, Eq)]
-pub struct Done {
-    /// How many calls stand before it.
-    pub place: u64,
-    /// How many bytes it read or wrote.
-    pub len: u64,
-}
-
-/// Why a call has no place in the history.
-#[derive(Clone, Copy, Debug, PartialEq, Eq, Error)]
-pub enum Refusal {
-    /// No descriptor has this number.
-    #[error("no such descriptor")]
-    BadFd,
-    /// The mount was stopped by a device fault.
-    #[error("the mount is stopped")]
-    Stopped,
-    /// As many calls have their place as there may be, or more.
-    #[error("{found} calls have their place")]
-    Spent { found: u64 },
-}
 
 // A sync of a file.
 fn sync_by<C: Calls, L: Lines, B: Backing>(

@@ -1,0 +1,288 @@
+-- Beginnings: the first step of a read, or its refusal before any.
+use Rattle.std.proofs.Common.{◌≡◌, ◌≢◌, ℕ, zero, suc, ◌+◌, ◌-◌, ◌/◌, ◌<◌, ◌==◌, false, if◌then◌else◌, List, [], ◌∷◌, inl, inr, refl, sym, ap, subst, ◌∙◌, arith, eq-eqb, ne_eqb}
+use Rattle.std.specs.Prelude.{Option, Some, None, Err, min}
+use Rattle.nv_plain.specs.Pieces.{pages_touched}
+use Rattle.nv_plain.specs.declared.call.FileCall.{FileCall}
+use Rattle.nv_plain.specs.declared.call.FileCall.TheVariants.{Read}
+use Rattle.nv_core.specs.Words.{Sizes, Word, STOP, PAGE, SIZE, place}
+use Rattle.nv_core.specs.Passes.{Stage, Pass, Idle, Locking, Measuring, Checking, Ordering, IsAllowed, first_page, end_page, page_count}
+use Rattle.nv_core.specs.Deeds.{Deed, Loads, Takes}
+use Rattle.nv_core.specs.Stages.{first_stage, leaving, after_page}
+use Rattle.nv_core.proofs.StepWords.{page_within}
+use Rattle.nv_core.specs.Standing.{IsPage}
+use Rattle.nv_table.specs.Idle.{IsIdle}
+use Rattle.nv_table.specs.Layout.{word_at}
+use Rattle.nv_table.specs.Opened.{Opened}
+use Rattle.nv_table.specs.Ready.{Stepped}
+use Rattle.nv_table.specs.Sights.{pass_of}
+use Rattle.nv_table.specs.States.{PassState}
+use Rattle.nv_table.specs.Turns.{IsDue}
+use Rattle.nv_table.proofs.CallLaws.{IsBare, IsCallFree, bare_carries, bare_there, page_due, page_refused, stepped_there, later_by}
+use Rattle.nv_mount.specs.declared.fds.Fd.{Fd}
+use Rattle.nv_calls.specs.declared.answers.Refusal.{Refusal}
+use Rattle.nv_calls.specs.declared.answers.Refusal.TheVariants.{Busy, Stopped}
+use Rattle.nv_calls.specs.declared.kinds.Kind.TheVariants.{Load, Take}
+use Rattle.nv_calls.specs.declared.machine.Progress.{Progress}
+use Rattle.nv_calls.specs.declared.machine.Progress.TheVariants.{Ended}
+use Rattle.nv_calls.specs.declared.reading.ReadMachine.{ReadMachine}
+use Rattle.nv_calls.specs.declared.reading.ReadStage.TheVariants.{Begins, Locks, Measures, Orders}
+use Rattle.nv_calls.specs.Advances.{IsSameRead, IsFirstAdvance}
+use Rattle.nv_calls.specs.Answers.{IsUnplaced}
+use Rattle.nv_calls.specs.Barred.{barred, IsAdmitted}
+use Rattle.nv_calls.specs.Kinds.{kind_of, read_kind}
+use Rattle.nv_calls.specs.Reads.{ReadGoes, pages_from, with_if, read_hands, reading, IsAt, IsMeasured, InCall, IsOnWayAt, IsUnbegun, IsReadOver, IsOverBy}
+use Rattle.nv_calls.specs.Steps.{Step, refused_by, place_by, is_stop}
+use Rattle.nv_calls.proofs.LockLaws.{page_among}
+use Rattle.nv_calls.proofs.ReadLaws.{over_from}
+use Rattle.nv_calls.proofs.WayLaws.{opened_same, by_sizes, taken_by, between_self, none_tells, word_is}
+
+-- ---- pages
+
+-- a call of some bytes touches a page
+pub some_pages : (at len page : ℕ) → 0 < len → 0 < pages_touched at len page
+some_pages at zero page some = absurd (omega (arith, some))
+some_pages at (suc len) page some =
+    let more : suc len ≢ 0 = omega arith in
+    let is : pages_touched at (suc len) page ≡ (at + suc len - 1) / page - at / page + 1 =
+    ap (λ b. if b then 0 else (at + suc len - 1) / page - at / page + 1) (ne_eqb (suc len) 0 more) in
+    omega (arith, is)
+
+pub first_locks : (sizes : Sizes) (file at len : ℕ) → 0 < len → first_stage sizes (Read file at len) ≡ Locking (first_page sizes (Read file at len))
+first_locks sizes file at len some =
+    ap (λ b. if b then Checking else Locking (first_page sizes (Read file at len)))
+    (let n = some_pages at len sizes.page some in ne_eqb (page_count sizes (Read file at len)) 0 (omega (arith, n)))
+
+-- ---- when the first step is due
+
+bare_of : (pass : PassState) → IsIdle pass → IsBare pass
+bare_of pass idle = record { hands = idle.hands; left = idle.left; nothing = idle.nothing }
+
+pub stop_due : (pass : PassState) (file at : ℕ) → IsAllowed pass.sight.opened.sizes (Read file at 0) → IsIdle pass → IsDue pass (Some (Read file at 0)) (Loads STOP)
+stop_due pass file at allowed idle = record {
+  works = [];
+  due = tt;
+  begins = record { idle = idle.stage; allowed = allowed };
+  may = refl;
+  staying = idle.left;
+  holds = bare_carries pass _ (bare_of pass idle);
+}
+
+pub first_due : (pass : PassState) (file at len page : ℕ) → IsAllowed pass.sight.opened.sizes (Read file at len) → 0 < len → page ≡ first_page pass.sight.opened.sizes (Read file at len) → IsIdle pass
+    → IsDue pass (Some (Read file at len)) (Takes (PAGE page))
+first_due pass file at len page allowed some first idle =
+    page_due pass (Read file at len) page allowed (first_locks pass.sight.opened.sizes file at len some ∙ ap Locking (sym first)) idle
+
+-- the word of the first page
+pub first_there : (layout sizes : Sizes) (file at len page cell : ℕ) → layout ≡ sizes → IsAllowed sizes (Read file at len) → 0 < len → page ≡ first_page sizes (Read file at len) → cell ≡ place layout (PAGE page)
+    → word_at sizes cell ≡ PAGE page
+first_there layout sizes file at len page cell same allowed some first is =
+    let count = some_pages at len sizes.page some in
+    word_is layout sizes (PAGE page) cell same (page_within sizes (Read file at len) page allowed (omega (arith, first), omega (arith, first, count))) is
+
+-- ---- before its first step it may be refused by what it asks for
+
+pub barred_over : (fds : List Fd) (m : ReadMachine) (list : List ℕ) (refusal : Refusal) (start now : PassState) → IsUnbegun m list start now → barred now.sight.opened.sizes fds m.fd m.at m.len ≡ Some refusal
+    → IsReadOver fds m.fd m.at list start now (Err refusal)
+barred_over fds m list refusal start now way is =
+    subst (λ b. IsOverBy b fds m.fd m.at list start now (Err refusal))
+    (sym (ap (barred start.sight.opened.sizes fds m.fd m.at) way.room ∙ ap (λ (p : PassState). barred p.sight.opened.sizes fds m.fd m.at m.len) (sym way.same) ∙ is))
+    (refl, way.same)
+
+-- ---- after the first step
+
+-- a pass with a call that has just begun
+abbrev just_begun : Pass → FileCall → Stage → (hands left : List Word) → Pass
+just_begun base call stage hands left = record base { stage = stage; call = call; hands = hands; sized = false; length = 0; first = 0; entries = 0; fetched = []; left = left }
+
+module _ (fds : List Fd) (m : ReadMachine) (list : List ℕ) (file : ℕ) (old : PassState) (way : IsUnbegun m list old old) (admitted : IsAdmitted old.sight.opened.sizes fds m.fd m.at m.len file) where
+  abbrev call : FileCall
+  call = Read file m.at m.len
+
+  free : IsCallFree (pass_of old.sight).stage
+  free = subst IsCallFree (sym way.idle.stage) (λ sizes values pass work due. due)
+
+  begun_call : (new : PassState) (deed : Deed) (found : ℕ) (refusal : Option Refusal) → (is : Stepped old (Some call) deed found new) → refused_by old.sight.opened.sizes call is.works deed found ≡ refusal
+      → place_by deed found ≡ None → is_stop deed ≡ false → InCall fds m.fd call refusal m.place m.faulted old new
+  begun_call new deed found refusal is refuses places stops = record {
+    idle = way.idle;
+    unbarred = admitted.unbarred;
+    file = admitted.file_is;
+    allowed = subst (λ (o : Opened). IsAllowed o.sizes call) (sym opened) admitted.allowed;
+    steps = step ∷ [];
+    made = (old, refl, taken_by old old new (Some call) deed found (between_self old) is);
+    refused = ap (λ (o : Opened). refused_by o.sizes call is.works deed found) opened ∙ refuses;
+    placed = places ∙ sym way.unplaced;
+    stopped = stops ∙ sym way.unfaulted;
+    mount = opened;
+    later = later_by old new (Some call) deed found is;
+    spare = is.spare;
+    still = is.carries;
+  }
+    where
+      step : Step
+      step = record { opens = Some call; works = is.works; deed = deed; found = found }
+
+      opened : new.sight.opened ≡ old.sight.opened
+      opened = opened_same old new (Some call) deed found is
+
+  -- ---- the lock of its first page
+
+  module _ (page : ℕ) (first : page ≡ first_page old.sight.opened.sizes call) (some : 0 < m.len) (new : PassState) where
+    locks : first_stage old.sight.opened.sizes call ≡ Locking page
+    locks = first_locks old.sight.opened.sizes file m.at m.len some ∙ ap Locking (sym first)
+
+    within : page < end_page old.sight.opened.sizes call
+    within = let n = some_pages m.at m.len old.sight.opened.sizes.page some in omega (arith, n, first)
+
+    begun_taken : Stepped old (Some call) (Takes (PAGE page)) 0 new
+        → pass_of new.sight ≡ reading (pass_of old.sight) call (if page + 1 == end_page old.sight.opened.sizes call then Measuring else Locking (page + 1)) (PAGE page ∷ []) false 0 []
+    begun_taken is =
+        stepped_there old new (Some call) (Takes (PAGE page)) 0 free is
+        ∙ ap (λ s. just_begun (pass_of old.sight) call (after_page old.sight.opened.sizes call page s) (PAGE page ∷ (pass_of old.sight).hands) (pass_of old.sight).left) locks
+        ∙ ap (λ hands. just_begun (pass_of old.sight) call (if page + 1 == end_page old.sight.opened.sizes call then Measuring else Locking (page + 1)) (PAGE page ∷ hands) (pass_of old.sight).left) way.idle.hands
+        ∙ ap (λ left. just_begun (pass_of old.sight) call (if page + 1 == end_page old.sight.opened.sizes call then Measuring else Locking (page + 1)) (PAGE page ∷ []) left) way.idle.left
+
+    begun_at : (stage : Stage) → (if page + 1 == end_page old.sight.opened.sizes call then Measuring else Locking (page + 1)) ≡ stage → Stepped old (Some call) (Takes (PAGE page)) 0 new
+        → pass_of new.sight ≡ reading (pass_of old.sight) call stage (pages_from (first_page old.sight.opened.sizes call) 1) m.sized 0 []
+    begun_at stage next is =
+        begun_taken is ∙ ap (λ s. reading (pass_of old.sight) call s (PAGE page ∷ []) false 0 []) next
+        ∙ ap (λ p. reading (pass_of old.sight) call stage (PAGE p ∷ []) false 0 []) (let one : page ≡ first_page old.sight.opened.sizes call + 0 = omega (arith, first) in one)
+        ∙ ap (λ b. reading (pass_of old.sight) call stage (pages_from (first_page old.sight.opened.sizes call) 1) b 0 []) (sym way.unsized)
+
+    begun_unplaced : (found : ℕ) → Stepped old (Some call) (Takes (PAGE page)) found new → IsUnplaced old.sight new.sight
+    begun_unplaced found is =
+        let there = stepped_there old new (Some call) (Takes (PAGE page)) found free is in
+        record { seen = ap (λ (p : Pass). p.seen) there; mine = ap (λ (p : Pass). p.mine) there }
+
+    taken_call : Stepped old (Some call) (Takes (PAGE page)) 0 new → InCall fds m.fd call None m.place m.faulted old new
+    taken_call is = begun_call new (Takes (PAGE page)) 0 None is refl refl refl
+
+    -- it was the last one: LENGTH is next
+    pub begun_last : Stepped old (Some call) (Takes (PAGE page)) 0 new → page + 1 ≡ end_page old.sight.opened.sizes call → IsOnWayAt fds (record m { file = file; stage = Measures }) list old new Measures
+    begun_last is last = record {
+      called = taken_call is;
+      base = pass_of old.sight;
+      stands = by_sizes old new (Some call) (Takes (PAGE page)) 0 is (λ sizes. (0 < m.len) × (m.copied ≡ 0) × IsAt (record m { file = file; stage = Measures }) (pass_of old.sight) (pass_of new.sight) Measuring (read_hands sizes call m.sized) [])
+          (some, way.uncopied, record { len = 0; is = begun_at Measuring (ap (λ b. if b then Measuring else Locking (page + 1)) (eq-eqb (page + 1) (end_page old.sight.opened.sizes call) last)) is ∙ ap (λ h. reading (pass_of old.sight) call Measuring h m.sized 0 []) hands });
+      placed = way.unplaced;
+      tells = none_tells m.place file m.at m.copied list old.sight new.sight way.unplaced (begun_unplaced 0 is);
+      room = way.room;
+    }
+      where
+        hands : pages_from (first_page old.sight.opened.sizes call) 1 ≡ read_hands old.sight.opened.sizes call m.sized
+        hands =
+            ap (pages_from (first_page old.sight.opened.sizes call)) (let count : 1 ≡ page_count old.sight.opened.sizes call = omega (arith, last, first) in count)
+            ∙ ap (λ b. with_if b (SIZE file) (pages_from (first_page old.sight.opened.sizes call) (page_count old.sight.opened.sizes call))) (sym way.unsized)
+
+    -- or there is another one
+    pub begun_next : Stepped old (Some call) (Takes (PAGE page)) 0 new → page + 1 ≢ end_page old.sight.opened.sizes call
+        → IsOnWayAt fds (record m { file = file; stage = Locks (page + 1) }) list old new (Locks (page + 1))
+    begun_next is more = record {
+      called = taken_call is;
+      base = pass_of old.sight;
+      stands = by_sizes old new (Some call) (Takes (PAGE page)) 0 is
+          (λ sizes. (m.sized ≡ false) × (m.copied ≡ 0) × IsPage sizes call (page + 1) × IsAt (record m { file = file; stage = Locks (page + 1) }) (pass_of old.sight) (pass_of new.sight) (Locking (page + 1)) (pages_from (first_page sizes call) (page + 1 - first_page sizes call)) []) (
+            way.unsized,
+            way.uncopied,
+            (omega (arith, first), omega (arith, within, more)),
+            record { len = 0; is = begun_at (Locking (page + 1)) (ap (λ b. if b then Measuring else Locking (page + 1)) (ne_eqb (page + 1) (end_page old.sight.opened.sizes call) more)) is ∙ ap (λ n. reading (pass_of old.sight) call (Locking (page + 1)) (pages_from (first_page old.sight.opened.sizes call) n) m.sized 0 []) one },
+          );
+      placed = way.unplaced;
+      tells = none_tells m.place file m.at m.copied list old.sight new.sight way.unplaced (begun_unplaced 0 is);
+      room = way.room;
+    }
+      where
+        one : 1 ≡ page + 1 - first_page old.sight.opened.sizes call
+        one = omega (arith, first)
+
+    -- it was held: the read is over
+    pub begun_busy : (cell : ℕ) → cell ≡ place old.sight.opened.sizes (PAGE page) → Stepped old (Some call) (Takes (PAGE page)) 1 new → IsReadOver fds m.fd m.at list old new (Err (Busy cell))
+    begun_busy cell cell_is is =
+        over_from fds (record m { file = file }) list (Some (Busy cell)) m.place m.faulted old new (Err (Busy cell)) (begun_call new (Takes (PAGE page)) 1 (Some (Busy cell)) is refuses refl refl) way.room refl way.unplaced
+        (begun_unplaced 1 is) (page_refused old new call page 1 locks way.idle is (λ e. omega (arith, e)))
+      where
+        refuses : refused_by old.sight.opened.sizes call is.works (Takes (PAGE page)) 1 ≡ Some (Busy cell)
+        refuses =
+            ap (λ b. if b then Some (Busy (place old.sight.opened.sizes (PAGE page))) else None) (page_among (first_page old.sight.opened.sizes call) (end_page old.sight.opened.sizes call) page (omega (arith, first)) within)
+            ∙ ap (λ n. Some (Busy n)) (sym cell_is)
+
+-- ---- a read of no bytes
+
+-- which is admitted
+module _ (fds : List Fd) (m : ReadMachine) (list : List ℕ) (file : ℕ) (old new : PassState) (way : IsUnbegun m list old old) (admitted : IsAdmitted old.sight.opened.sizes fds m.fd m.at m.len file) (none : m.len ≡ 0) where
+  stop_unplaced : (found : ℕ) → Stepped old (Some (Read file m.at m.len)) (Loads STOP) found new → IsUnplaced old.sight new.sight
+  stop_unplaced found is =
+      let there = stepped_there old new (Some (Read file m.at m.len)) (Loads STOP) found (free fds m list file old way admitted) is in
+      record { seen = ap (λ (p : Pass). p.seen) there; mine = ap (λ (p : Pass). p.mine) there }
+
+  no_pages : page_count old.sight.opened.sizes (Read file m.at m.len) ≡ 0
+  no_pages = ap (λ n. pages_touched m.at n old.sight.opened.sizes.page) none
+
+  -- STOP is 0: ORDER is next
+  pub stop_clear : Stepped old (Some (Read file m.at m.len)) (Loads STOP) 0 new → IsOnWayAt fds (record m { file = file; stage = Orders }) list old new Orders
+  stop_clear is = record {
+    called = begun_call fds m list file old way admitted new (Loads STOP) 0 None is refl refl refl;
+    base = pass_of old.sight;
+    stands = by_sizes old new (Some (Read file m.at m.len)) (Loads STOP) 0 is (λ sizes. IsMeasured sizes (record m { file = file; stage = Orders }) (pass_of old.sight) (pass_of new.sight) Ordering)
+        record {
+          len = 0;
+          is =
+              stepped_there old new (Some (Read file m.at m.len)) (Loads STOP) 0 (free fds m list file old way admitted) is
+              ∙ ap (λ hands. just_begun (pass_of old.sight) (Read file m.at m.len) Ordering hands (pass_of old.sight).left) (way.idle.hands ∙ hands)
+              ∙ ap (λ left. just_begun (pass_of old.sight) (Read file m.at m.len) Ordering (read_hands old.sight.opened.sizes (Read file m.at m.len) m.sized) left) way.idle.left
+              ∙ ap (λ b. reading (pass_of old.sight) (Read file m.at m.len) Ordering (read_hands old.sight.opened.sizes (Read file m.at m.len) m.sized) b 0 []) (sym way.unsized);
+          covers = way.uncovered ∙ sym (ap (λ n. min n (0 - m.at)) none ∙ none_less (0 - m.at));
+          none = way.uncopied;
+        };
+    placed = way.unplaced;
+    tells = none_tells m.place file m.at m.copied list old.sight new.sight way.unplaced (stop_unplaced 0 is);
+    room = way.room;
+  }
+    where
+      none_less : (n : ℕ) → min 0 n ≡ 0
+      none_less n = omega arith
+
+      hands : [] ≡ read_hands old.sight.opened.sizes (Read file m.at m.len) m.sized
+      hands =
+          ap (pages_from (first_page old.sight.opened.sizes (Read file m.at m.len))) (sym no_pages)
+          ∙ ap (λ b. with_if b (SIZE file) (pages_from (first_page old.sight.opened.sizes (Read file m.at m.len)) (page_count old.sight.opened.sizes (Read file m.at m.len)))) (sym way.unsized)
+
+  -- it is set: the read is over
+  pub stop_set : (found : ℕ) → found ≢ 0 → Stepped old (Some (Read file m.at m.len)) (Loads STOP) found new → IsReadOver fds m.fd m.at list old new (Err Stopped)
+  stop_set found some is =
+      over_from fds (record m { file = file }) list (Some Stopped) m.place m.faulted old new (Err Stopped)
+      (begun_call fds m list file old way admitted new (Loads STOP) found (Some Stopped) is (ap (λ b. if b then None else Some Stopped) (ne_eqb found 0 some)) refl refl) way.room refl way.unplaced (stop_unplaced found is)
+      record { stage = stage; hands = bare.hands; left = bare.left; nothing = bare.nothing }
+    where
+      bare : IsBare new
+      bare = bare_there old new (Some (Read file m.at m.len)) (Loads STOP) found (free fds m list file old way admitted) is (bare_of old way.idle) refl (λ pass. refl)
+
+      stage : (pass_of new.sight).stage ≡ Idle
+      stage =
+          ap (λ (p : Pass). p.stage) (stepped_there old new (Some (Read file m.at m.len)) (Loads STOP) found (free fds m list file old way admitted) is)
+          ∙ ap (λ b. if b then Ordering else leaving (pass_of old.sight).hands) (ne_eqb found 0 some) ∙ ap leaving way.idle.hands
+
+-- ---- the first advance
+
+pub kind_stop : (m : ReadMachine) → m.stage ≡ Begins → m.len ≡ 0 → kind_of (Loads STOP) ≡ read_kind m.len m.stage
+kind_stop m stage none = sym (ap (read_kind m.len) stage ∙ ap (λ b. if b then Load else Take) (eq-eqb m.len 0 none))
+
+pub kind_take : (m : ReadMachine) (page : ℕ) → m.stage ≡ Begins → m.len ≢ 0 → kind_of (Takes (PAGE page)) ≡ read_kind m.len m.stage
+kind_take m page stage some = sym (ap (read_kind m.len) stage ∙ ap (λ b. if b then Load else Take) (ne_eqb m.len 0 some))
+
+-- it makes a step, or none
+pub first_step : (fds : List Fd) (m next : ReadMachine) (list : List ℕ) (old new : PassState) (progress : Progress) (call : FileCall) (deed : Deed) (found : ℕ) → Stepped old (Some call) deed found new → IsSameRead m next
+    → kind_of deed ≡ read_kind m.len m.stage → (IsUnbegun m list old old → ReadGoes fds old next list new progress) → IsFirstAdvance fds m next list old new progress
+first_step fds m next list old new progress call deed found is same kind goes = record {
+  same = same;
+  one = inr record { step = record { opens = Some call; works = is.works; deed = deed; found = found }; is = taken_by old old new (Some call) deed found (between_self old) is; kind = λ unfaulted. kind };
+  goes = λ start way. subst (λ (s : PassState). ReadGoes fds s next list new progress) way.same (goes (subst (λ (s : PassState). IsUnbegun m list s old) (sym way.same) way));
+}
+
+pub first_none : (fds : List Fd) (m : ReadMachine) (list : List ℕ) (old : PassState) (refusal : Refusal) → barred old.sight.opened.sizes fds m.fd m.at m.len ≡ Some refusal
+    → IsFirstAdvance fds m m list old old (Ended (Err refusal))
+first_none fds m list old refusal is = record {
+  same = record { fd = refl; at = refl; len = refl };
+  one = inl record { refusal = refusal; barred_is = is; answer = refl; same = refl };
+  goes = λ start way. (way.unplaced, barred_over fds m list refusal start old way is);
+}

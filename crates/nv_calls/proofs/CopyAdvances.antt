@@ -1,0 +1,200 @@
+-- Copies, as advances: what the read of a page and the step after it come to together.
+use Rattle.std.proofs.Common.{◌≡◌, ℕ, ◌+◌, ◌-◌, ◌*◌, ◌%◌, ◌≤◌, Bool, true, false, List, [], ◌++◌, length, take, refl, sym, ap, subst, ◌∙◌, arith, append_assoc}
+use Rattle.std.specs.Prelude.{None}
+use Rattle.std.proofs.lemmas.List.{length-take}
+use Rattle.nv_plain.specs.Faults.{Rose}
+use Rattle.nv_plain.specs.Files.{bytes_at}
+use Rattle.nv_core.specs.Words.{Sizes, STORE}
+use Rattle.nv_core.specs.Values.{Reads, Failed, called, faults_of}
+use Rattle.nv_core.specs.Passes.{Pass}
+use Rattle.nv_core.specs.Deeds.{Gives, Stops}
+use Rattle.nv_core.specs.Order.{SaysOf}
+use Rattle.nv_core.specs.Core.{with_word}
+use Rattle.nv_core.specs.Shapes.{IsStore}
+use Rattle.nv_table.specs.Opened.{Opened}
+use Rattle.nv_table.specs.Ready.{Stepped}
+use Rattle.nv_table.specs.Sights.{Sight, pass_of, values_of, carried, Carries}
+use Rattle.nv_table.specs.States.{PassState}
+use Rattle.nv_table.specs.Turns.{IsDue}
+use Rattle.nv_mount.specs.declared.fds.Fd.{Fd}
+use Rattle.nv_pages.specs.Altered.{IsAltered}
+use Rattle.nv_pages.specs.PageWork.{HasFailed}
+use Rattle.nv_calls.specs.declared.answers.Refusal.TheVariants.{StoreFault}
+use Rattle.nv_calls.specs.declared.machine.Progress.{Progress}
+use Rattle.nv_calls.specs.declared.machine.Progress.TheVariants.{More}
+use Rattle.nv_calls.specs.declared.reading.Held.{Held}
+use Rattle.nv_calls.specs.declared.reading.ReadMachine.{ReadMachine}
+use Rattle.nv_calls.specs.declared.reading.ReadStage.TheVariants.{Copies, Bounds}
+use Rattle.nv_calls.specs.Advances.{IsSameRead, IsAdvance}
+use Rattle.nv_calls.specs.Kinds.{read_kind}
+use Rattle.nv_calls.specs.PageReads.{page_read, HasFailedFetch}
+use Rattle.nv_calls.specs.Reads.{IsLook, IsLooking, IsOnWayAt, StandsAt, Refuses, ReadGoes, page_piece}
+use Rattle.nv_calls.specs.Steps.{IsBetween}
+use Rattle.nv_calls.proofs.CopyLaws.{copying_on, read_values, read_due, fail_due, given_dirty, given_clean}
+use Rattle.nv_calls.proofs.CopyWays.{look_open, look_placed, look_goes, given_way, fail_goes, refused_faulted}
+use Rattle.nv_calls.proofs.FetchLaws.{fetching_held}
+use Rattle.nv_calls.proofs.OnwardLaws.{stepped_altered}
+use Rattle.nv_calls.proofs.ReadLaws.{refused_same}
+use Rattle.nv_calls.proofs.WayLaws.{opened_same, taken_by}
+
+module _ (m : ReadMachine) (now : PassState) (store : IsStore (values_of now.sight (STORE m.file))) (mid : PassState) (same : mid.sight ≡ now.sight) where
+  store_on : IsStore (values_of mid.sight (STORE m.file))
+  store_on = subst (λ (v : Sight). IsStore (values_of v (STORE m.file))) (sym same) store
+
+-- ---- the read has failed
+
+pub fail_ready : (fds : List Fd) (m : ReadMachine) (list : List ℕ) (start now mid : PassState) (page : ℕ) (dirty : Bool) → IsOnWayAt fds m list start now (Copies page dirty) → IsStore (values_of now.sight (STORE m.file)) → HasFailed (STORE m.file) now mid
+    → (due : IsDue mid None Stops) × HasFailedFetch due.works
+fail_ready fds m list start now mid page dirty way store failed =
+    let sight = failed.altered.sight in
+    fail_due m list way.base mid page dirty (copying_on m list way.base now mid page dirty sight way.stands) (store_on m now store mid sight) failed.faults
+    (subst (λ (v : Sight). Rose (faults_of (values_of v (STORE m.file))) failed.faults) (sym sight) (failed.rose (values_of now.sight) (carried (pass_of now.sight)) way.called.still))
+    (subst
+    (λ (v : Sight). Carries v.opened.sizes (λ value. value) (with_word (values_of v) (STORE m.file) (called (Reads 0 []) (Failed false failed.faults) (values_of v (STORE m.file)))) (carried (pass_of v)) mid.now)
+    (sym sight) (failed.altered.carries (values_of now.sight) (carried (pass_of now.sight)) way.called.still))
+
+pub fail_advance : (fds : List Fd) (m : ReadMachine) (list : List ℕ) (now mid : PassState) (page : ℕ) (dirty : Bool) → m.stage ≡ Copies page dirty → HasFailed (STORE m.file) now mid → m.faulted ≡ false
+    → (new : PassState) → ((found : ℕ) × (stepped : Stepped mid None Stops found new) × HasFailedFetch stepped.works)
+    → (s : ReadMachine) (scratch : List ℕ) → s ≡ record m { scratch = scratch } → (held : Held) → held ≡ fetching_held now.sight.opened.sizes m page dirty true
+    → (next : ReadMachine) (progress : Progress) → Refuses (record s { faulted = true }) held StoreFault next progress → IsAdvance fds m next list list now new progress
+fail_advance fds m list now mid page dirty stage_is failed unfaulted new stepped s scratch s_is held held_is next progress refuses_it = record {
+  same = record { fd = same.fd; at = same.at; len = same.len };
+  one = record {
+    step = record { opens = None; works = stepped.1.works; deed = Stops; found = stepped.0 };
+    is = taken_by now mid new None Stops stepped.0 between stepped.1;
+    kind = λ kept. absurd (clash (sym (refused_faulted failing next held StoreFault progress refuses) ∙ kept ∙ unfaulted));
+  };
+  goes = λ start way.
+      fail_goes fds m list start now mid page dirty (subst (IsOnWayAt fds m list start now) stage_is way) between stepped.0 new stepped.1 stepped.2 unfaulted scratch next progress
+      (subst (λ h. Refuses failing h StoreFault next progress) held_is refuses);
+}
+  where
+    failing : ReadMachine
+    failing = record m { faulted = true; scratch = scratch }
+
+    refuses : Refuses failing held StoreFault next progress
+    refuses = subst (λ (x : ReadMachine). Refuses (record x { faulted = true }) held StoreFault next progress) s_is refuses_it
+
+    same : IsSameRead failing next
+    same = refused_same failing next held StoreFault progress refuses
+
+    between : IsBetween now mid
+    between = record { table = failed.altered.table; sight = failed.altered.sight; spare = failed.altered.spare }
+
+    clash : true ≡ false → ⊥
+    clash e = cc
+
+-- ---- the read went well
+
+-- a step by which the store is given back, after such a read, as the code's machine has it
+abbrev pub GivenBy : (x : ReadMachine) (mid : PassState) (page : ℕ) (new : PassState) → Type 0
+GivenBy x mid page new =
+    (found : ℕ) × (stepped : Stepped mid None (Gives (STORE x.file)) found new)
+    × (stepped.works ≡ page_read x.file ((page - x.file * mid.sight.opened.sizes.pages) * mid.sight.opened.sizes.page) (take mid.sight.opened.sizes.page x.scratch))
+
+abbrev pub ReadyBy : (x : ReadMachine) (mid : PassState) (page : ℕ) → Type 0
+ReadyBy x mid page =
+    (due : IsDue mid None (Gives (STORE x.file)))
+    × (due.works ≡ page_read x.file ((page - x.file * mid.sight.opened.sizes.pages) * mid.sight.opened.sizes.page) (take mid.sight.opened.sizes.page x.scratch))
+
+module _ (fds : List Fd) (m : ReadMachine) (list : List ℕ) (now mid : PassState) (page : ℕ) (dirty : Bool) (store : IsStore (values_of now.sight (STORE m.file))) (scratch : List ℕ)
+    (altered : IsAltered (read_values dirty page (take now.sight.opened.sizes.page scratch)) now mid) where
+  between : IsBetween now mid
+  between = record { table = altered.table; sight = altered.sight; spare = altered.spare }
+
+  store_mid : IsStore (values_of mid.sight (STORE m.file))
+  store_mid = store_on m now store mid altered.sight
+
+  -- the store may be given back
+  pub give_ready : (start : PassState) → IsOnWayAt fds m list start now (Copies page dirty) → (s : ReadMachine) (copied : ℕ) → s ≡ record m { copied = copied; scratch = scratch }
+      → SaysOf now.sight.opened.sizes ((page - m.file * now.sight.opened.sizes.pages) * now.sight.opened.sizes.page) (take now.sight.opened.sizes.page scratch) (values_of now.sight (STORE m.file)) → ReadyBy s mid page
+  give_ready start way s copied s_is says =
+      subst (λ (x : ReadMachine). ReadyBy x mid page) (sym s_is)
+      (read_due m list way.base mid page dirty (copying_on m list way.base now mid page dirty altered.sight way.stands) ((page - m.file * mid.sight.opened.sizes.pages) * mid.sight.opened.sizes.page) (take mid.sight.opened.sizes.page scratch) store_mid refl
+      (subst (λ (v : Sight). SaysOf v.opened.sizes ((page - m.file * v.opened.sizes.pages) * v.opened.sizes.page) (take v.opened.sizes.page scratch) (values_of v (STORE m.file))) (sym altered.sight) says)
+      (subst (λ (v : Sight). Carries v.opened.sizes (λ value. value) (read_values dirty page (take v.opened.sizes.page scratch) (values_of v)) (carried (pass_of v)) mid.now) (sym altered.sight)
+      (altered.carries (values_of now.sight) (carried (pass_of now.sight)) way.called.still)))
+
+  module _ (new : PassState) (stage_is : m.stage ≡ Copies page dirty) where
+    dirty_by : dirty ≡ true → GivenBy (record m { scratch = scratch }) mid page new → IsAdvance fds m (record m { stage = Bounds page; scratch = scratch }) list list now new More
+    dirty_by so stepped = record {
+      same = record { fd = refl; at = refl; len = refl };
+      one = record {
+        step = record { opens = None; works = stepped.1.works; deed = Gives (STORE m.file); found = stepped.0 };
+        is = taken_by now mid new None (Gives (STORE m.file)) stepped.0 between stepped.1;
+        kind = λ kept. ap (read_kind m.len) (sym stage_is);
+      };
+      goes = λ start way_is.
+          let way = subst (IsOnWayAt fds m list start now) stage_is way_is in
+          given_way fds m list start now mid page dirty way between ((page - m.file * mid.sight.opened.sizes.pages) * mid.sight.opened.sizes.page) (take mid.sight.opened.sizes.page scratch) store_mid stepped.0 new stepped.1 stepped.2
+          list (Bounds page) m.copied scratch way.room refl way.placed
+          (given_dirty m list way.base mid page dirty (copying_on m list way.base now mid page dirty altered.sight way.stands) ((page - m.file * mid.sight.opened.sizes.pages) * mid.sight.opened.sizes.page) (take mid.sight.opened.sizes.page scratch) store_mid
+          stepped.0 new stepped.1 stepped.2 so scratch refl)
+          way.placed;
+    }
+
+    -- the page has entries
+    pub dirty_advance : dirty ≡ true → (s : ReadMachine) → s ≡ record m { scratch = scratch } → GivenBy s mid page new → IsAdvance fds m (record s { stage = Bounds page }) list list now new More
+    dirty_advance so s s_is stepped =
+        subst (λ (x : ReadMachine). GivenBy x mid page new → IsAdvance fds m (record x { stage = Bounds page }) list list now new More) (sym s_is) (dirty_by so) stepped
+
+    -- it has none: its bytes are in front of the list
+    module _ (so : dirty ≡ false) (some : 1 ≤ now.sight.opened.sizes.page) (long : now.sight.opened.sizes.page ≤ length scratch) (s : ReadMachine)
+        (s_is : s ≡ record m { copied = m.copied + (page_piece now.sight.opened.sizes m page).size; scratch = scratch }) (stepped_s : GivenBy s mid page new) (list_then rest : List ℕ)
+        (list_is : list_then ≡ take m.copied list ++ bytes_at (take now.sight.opened.sizes.page scratch) ((page_piece now.sight.opened.sizes m page).at % now.sight.opened.sizes.page) (page_piece now.sight.opened.sizes m page).size ++ rest) where
+      stepped : GivenBy (record m { copied = m.copied + (page_piece now.sight.opened.sizes m page).size; scratch = scratch }) mid page new
+      stepped = subst (λ (x : ReadMachine). GivenBy x mid page new) s_is stepped_s
+
+      given_opened : new.sight.opened ≡ mid.sight.opened
+      given_opened = opened_same mid new None (Gives (STORE m.file)) stepped.0 stepped.1
+
+      looking_mid : (start : PassState) (way : IsOnWayAt fds m list start now (Copies page dirty))
+          → IsLooking mid.sight.opened.sizes (record m { copied = m.copied + (page_piece mid.sight.opened.sizes m page).size; scratch = scratch }) list_then way.base (values_of new.sight) (pass_of new.sight) (page + 1)
+      looking_mid start way =
+          let sizes_is = ap (λ (v : Sight). v.opened.sizes) altered.sight in
+          given_clean m list way.base mid page dirty (copying_on m list way.base now mid page dirty altered.sight way.stands) ((page - m.file * mid.sight.opened.sizes.pages) * mid.sight.opened.sizes.page) (take mid.sight.opened.sizes.page scratch) store_mid
+          stepped.0 new stepped.1 stepped.2 so
+          (subst (λ (z : Sizes). 1 ≤ z.page) (sym sizes_is) some)
+          (subst (λ (z : Sizes). z.page ≤ length (take z.page scratch)) (sym sizes_is) (let all = length-take now.sight.opened.sizes.page scratch in omega (arith, all, long)))
+          list_then rest scratch
+          (subst (λ (z : Sizes). list_then ≡ take m.copied list ++ (bytes_at (take z.page scratch) ((page_piece z m page).at % z.page) (page_piece z m page).size ++ rest)) (sym sizes_is)
+          (list_is ∙ append_assoc (take m.copied list) (bytes_at (take now.sight.opened.sizes.page scratch) ((page_piece now.sight.opened.sizes m page).at % now.sight.opened.sizes.page) (page_piece now.sight.opened.sizes m page).size) rest))
+
+      -- it looks on from the next page
+      pub clean_looking : (start : PassState) (way : IsOnWayAt fds m list start now (Copies page dirty)) → IsLooking new.sight.opened.sizes s list_then way.base (values_of new.sight) (pass_of new.sight) (page + 1)
+      clean_looking start way =
+          subst (λ (x : ReadMachine). IsLooking new.sight.opened.sizes x list_then way.base (values_of new.sight) (pass_of new.sight) (page + 1)) (sym s_is)
+          (subst (λ (z : Sizes). IsLooking new.sight.opened.sizes (record m { copied = m.copied + (page_piece z m page).size; scratch = scratch }) list_then way.base (values_of new.sight) (pass_of new.sight) (page + 1))
+          (ap (λ (v : Sight). v.opened.sizes) altered.sight)
+          (subst (λ (o : Opened). IsLooking o.sizes (record m { copied = m.copied + (page_piece mid.sight.opened.sizes m page).size; scratch = scratch }) list_then way.base (values_of new.sight) (pass_of new.sight) (page + 1))
+          (sym given_opened) (looking_mid start way)))
+
+      -- and stands where it then does
+      pub clean_advance : (later : PassState) → IsAltered (λ kept. kept) new later → (list_last : List ℕ) → length list_last ≡ m.len → (next : ReadMachine) → next ≡ record s { stage = next.stage; copied = next.copied } → IsLook next.stage
+          → ((base : Pass) → IsLooking new.sight.opened.sizes s list_then base (values_of new.sight) (pass_of new.sight) (page + 1)
+          → StandsAt new.sight.opened.sizes next list_last base (values_of new.sight) (pass_of new.sight) next.stage)
+          → IsAdvance fds m next list list_last now later More
+      clean_advance later after list_last room next next_of look stands = record {
+        same = record { fd = ap (λ (n : ReadMachine). n.fd) next_is; at = ap (λ (n : ReadMachine). n.at) next_is; len = ap (λ (n : ReadMachine). n.len) next_is };
+        one = record {
+          step = record { opens = None; works = stepped.1.works; deed = Gives (STORE m.file); found = stepped.0 };
+          is = taken_by now mid later None (Gives (STORE m.file)) stepped.0 between is_later;
+          kind = λ kept. ap (read_kind m.len) (sym stage_is);
+        };
+        goes = λ start way_is.
+            let way = subst (IsOnWayAt fds m list start now) stage_is way_is in
+            subst (λ (n : ReadMachine). ReadGoes fds start n list_last later More) (sym next_is)
+            (look_goes fds (record m { stage = next.stage; copied = next.copied; scratch = scratch }) list_last start later next.stage look
+            (given_way fds m list start now mid page dirty way between ((page - m.file * mid.sight.opened.sizes.pages) * mid.sight.opened.sizes.page) (take mid.sight.opened.sizes.page scratch) store_mid stepped.0 later is_later stepped.2
+            list_last next.stage next.copied scratch room (look_open next.stage look) (look_placed next.stage m.place look way.placed)
+            (subst (λ (v : Sight). StandsAt mid.sight.opened.sizes (record m { stage = next.stage; copied = next.copied; scratch = scratch }) list_last way.base (values_of v) (pass_of v) next.stage) (sym after.sight)
+            (subst (λ (o : Opened). StandsAt o.sizes (record m { stage = next.stage; copied = next.copied; scratch = scratch }) list_last way.base (values_of new.sight) (pass_of new.sight) next.stage) given_opened
+            (subst (λ (n : ReadMachine). StandsAt new.sight.opened.sizes n list_last way.base (values_of new.sight) (pass_of new.sight) next.stage) next_is (stands way.base (clean_looking start way)))))
+            way.placed));
+      }
+        where
+          next_is : next ≡ record m { stage = next.stage; copied = next.copied; scratch = scratch }
+          next_is = next_of ∙ ap (λ (x : ReadMachine). record x { stage = next.stage; copied = next.copied }) s_is
+
+          is_later : Stepped mid None (Gives (STORE m.file)) stepped.0 later
+          is_later = stepped_altered mid new later None (Gives (STORE m.file)) stepped.0 after stepped.1

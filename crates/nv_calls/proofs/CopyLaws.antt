@@ -1,0 +1,385 @@
+-- Copies: a page is read from its store, which is given back, or STOP is set where it has failed.
+use Rattle.std.proofs.Common.{◌≡◌, ◌≢◌, ℕ, ◌+◌, ◌-◌, ◌*◌, ◌%◌, ◌<◌, ◌≤◌, ◌||◌, Bool, true, false, if◌then◌else◌, List, [], ◌∷◌, ◌++◌, length, take, drop, refl, sym, ap, subst, ◌∙◌, arith, replicate}
+use Rattle.std.specs.Prelude.{Option, Some, None}
+use Rattle.std.proofs.lemmas.List.{length-take, length-drop, length-replicate}
+use Rattle.nv_plain.specs.Faults.{Rose}
+use Rattle.nv_plain.specs.Files.{bytes_at, padded}
+use Rattle.nv_plain.specs.declared.call.FileCall.{FileCall}
+use Rattle.nv_store.specs.Store.{Store}
+use Rattle.nv_core.specs.Words.{Sizes, Word, PAGE, SIZE, STORE, CLEANUP, page_total, same}
+use Rattle.nv_core.specs.Values.{Value, AStore, Reads, Made, Failed, called, faults_of, filled}
+use Rattle.nv_core.specs.Passes.{Pass, Reading, Copying, Bounding, fetched_bytes, times, without}
+use Rattle.nv_core.specs.Deeds.{Deed, Gives, Stops}
+use Rattle.nv_core.specs.Order.{Values, Work, MayWork, MayEnd, MayLeave, MayGive, IsFailing, IsDue as IsWorkDue, SaysPage, SaysOf, page_bytes}
+use Rattle.nv_core.specs.Stepped.{stepped, faulted_after}
+use Rattle.nv_core.specs.Core.{worked, values_worked, values_given, with_word, stage_worked}
+use Rattle.nv_core.specs.Shapes.{HasShape, IsStore}
+use Rattle.nv_core.specs.Standing.{IsPage}
+use Rattle.nv_core.specs.Opening.{IsMount}
+use Rattle.nv_core.specs.Laws.{RunsAreSound}
+use Rattle.nv_core.specs.Broken.{HasChecked}
+use Rattle.nv_core.proofs.Changes.{word_else, by_word, same_self, number_self}
+use Rattle.nv_core.proofs.LockLaws.{times_here, times_else}
+use Rattle.nv_core.proofs.StepWords.{page_within}
+use Rattle.nv_table.specs.Acts.{pass_before, pass_worked, values_then, with_call}
+use Rattle.nv_table.specs.Opened.{mount_of, IsRunOf, state_of}
+use Rattle.nv_table.specs.Ready.{Stepped}
+use Rattle.nv_table.specs.Sights.{Sight, pass_of, values_of, carried, slot_times, Carries}
+use Rattle.nv_table.specs.States.{BoardState, PassState}
+use Rattle.nv_table.specs.Turns.{IsDue}
+use Rattle.nv_table.proofs.CarryLaws.{carries_kept}
+use Rattle.nv_table.proofs.DrawnLaws.{calls_leave}
+use Rattle.nv_mount.specs.declared.fds.Fd.{Fd}
+use Rattle.nv_pages.specs.PageWork.{store_slot, with_page}
+use Rattle.nv_pages.proofs.AlterLaws.{at_store}
+use Rattle.nv_calls.specs.declared.reading.ReadMachine.{ReadMachine}
+use Rattle.nv_calls.specs.declared.reading.ReadStage.TheVariants.{Copies, Bounds}
+use Rattle.nv_calls.specs.PageReads.{page_read, HasFailedFetch}
+use Rattle.nv_calls.specs.Reads.{call_of, with_if, read_hands, reading, HasCopied, IsAtPage, IsLooking, IsOnWayAt, StandsAt, page_piece}
+use Rattle.nv_calls.specs.Steps.{Step, HasMade, is_stop, stops_in}
+use Rattle.nv_calls.proofs.FetchLaws.{page_of_read}
+use Rattle.nv_calls.proofs.FrontLaws.{copied_same, bytes_same, bytes_else}
+use Rattle.nv_calls.proofs.HeldLaws.{page_held, other_not_held, slot_carried}
+use Rattle.nv_calls.proofs.LookLaws.{piece_there, read_piece, copied_most, copied_more}
+
+-- ---- stores
+
+-- a cell that kept a store keeps one
+pub store_by : (page : ℕ) (first now : Value) → IsStore first → HasShape page first now → IsStore now
+store_by page (AStore one) (AStore other) store shape = tt
+store_by page (AStore one) now store shape = absurd shape
+store_by page first now store shape = absurd store
+
+may_end : (value : Value) → IsStore value → MayEnd value Made
+may_end (AStore device) store = tt
+may_end value store = absurd store
+
+may_leave : (value : Value) (at : ℕ) (bytes : List ℕ) → IsStore value → MayLeave value (Reads at bytes) Made
+may_leave (AStore device) at bytes store = tt
+may_leave value at bytes store = absurd store
+
+-- a read that goes well leaves it as it was
+called_same : (value : Value) (at : ℕ) (bytes : List ℕ) → IsStore value → called (Reads at bytes) Made value ≡ value
+called_same (AStore device) at bytes store = refl
+called_same value at bytes store = absurd store
+
+fail_end : (value : Value) (faults : ℕ) → IsStore value → Rose (faults_of value) faults → MayEnd value (Failed false faults)
+fail_end (AStore device) faults store rose = rose
+fail_end value faults store rose = absurd store
+
+fail_leave : (value : Value) (at faults : ℕ) (bytes : List ℕ) → IsStore value → MayLeave value (Reads at bytes) (Failed false faults)
+fail_leave (AStore device) at faults bytes store = tt
+fail_leave value at faults bytes store = absurd store
+
+-- one that fails leaves the same, whatever was to be read
+called_any : (value : Value) (at faults : ℕ) (bytes : List ℕ) → IsStore value → called (Reads at bytes) (Failed false faults) value ≡ called (Reads 0 []) (Failed false faults) value
+called_any (AStore device) at faults bytes store = refl
+called_any value at faults bytes store = absurd store
+
+-- a store says some bytes of a page
+page_said : (sizes : Sizes) (at : ℕ) (told : Option Store) → (bytes : List ℕ) × SaysPage sizes at bytes told
+page_said sizes at (Some store) = (padded (bytes_at store.seen at sizes.page) sizes.page, refl)
+page_said sizes at None = (replicate sizes.page 0, length-replicate sizes.page 0)
+
+bytes_said : (sizes : Sizes) (at : ℕ) (value : Value) → IsStore value → (bytes : List ℕ) × SaysOf sizes at bytes value
+bytes_said sizes at (AStore device) store = page_said sizes at device.told
+bytes_said sizes at value store = absurd store
+
+-- a word that gets what it has is the same
+word_same : (f : Values) (word : Word) (value : Value) → value ≡ f word → (cell : Word) → with_word f word value cell ≡ f cell
+word_same f word value is cell = by_word (λ other v. v ≡ f other) f word value is (λ other ne. refl) cell
+
+-- ---- hands
+
+store_once : (sizes : Sizes) (call : FileCall) (sized dirty : Bool) (page file : ℕ) → times (STORE file) (STORE file ∷ with_if dirty (CLEANUP page) (read_hands sizes call sized)) ≡ 1
+store_once sizes call sized true page file =
+    times_here (STORE file) (CLEANUP page ∷ read_hands sizes call sized)
+    ∙ ap (λ n. 1 + n) (times_else (STORE file) (CLEANUP page) (read_hands sizes call sized) (λ e. clash e) ∙ other_not_held sizes call sized (STORE file) (λ p e. clash_page e) (λ f e. clash_size e))
+  where
+    clash : {one other : ℕ} → STORE one ≡ CLEANUP other → ⊥
+    clash e = cc
+
+    clash_page : {one other : ℕ} → STORE one ≡ PAGE other → ⊥
+    clash_page e = cc
+
+    clash_size : {one other : ℕ} → STORE one ≡ SIZE other → ⊥
+    clash_size e = cc
+store_once sizes call sized false page file =
+    times_here (STORE file) (read_hands sizes call sized) ∙ ap (λ n. 1 + n) (other_not_held sizes call sized (STORE file) (λ p e. clash_page e) (λ f e. clash_size e))
+  where
+    clash_page : {one other : ℕ} → STORE one ≡ PAGE other → ⊥
+    clash_page e = cc
+
+    clash_size : {one other : ℕ} → STORE one ≡ SIZE other → ⊥
+    clash_size e = cc
+
+page_once : (sizes : Sizes) (call : FileCall) (sized dirty : Bool) (page file p : ℕ) → IsPage sizes call p → times (PAGE p) (STORE file ∷ with_if dirty (CLEANUP page) (read_hands sizes call sized)) ≡ 1
+page_once sizes call sized dirty page file p is = times_else (PAGE p) (STORE file) (with_if dirty (CLEANUP page) (read_hands sizes call sized)) (λ e. clash e) ∙ rest dirty
+  where
+    clash : {one other : ℕ} → PAGE one ≡ STORE other → ⊥
+    clash e = cc
+
+    clash_cleanup : {one other : ℕ} → PAGE one ≡ CLEANUP other → ⊥
+    clash_cleanup e = cc
+
+    rest : (b : Bool) → times (PAGE p) (with_if b (CLEANUP page) (read_hands sizes call sized)) ≡ 1
+    rest true = times_else (PAGE p) (CLEANUP page) (read_hands sizes call sized) (λ e. clash_cleanup e) ∙ page_held sizes call sized p is
+    rest false = page_held sizes call sized p is
+
+-- ---- no device call has failed before
+
+none_faulted : (deed : Deed) (pass : Pass) → faulted_after pass deed ≡ [] → (is_stop deed ≡ false) × (pass.faulted ≡ [])
+none_faulted Stops pass none = absurd (let n = ap length none in omega (arith, n))
+none_faulted deed pass none = (refl, none)
+
+call_faulted : (sizes : Sizes) (opens : Option FileCall) (pass : Pass) → (with_call sizes opens pass).faulted ≡ pass.faulted
+call_faulted sizes None pass = refl
+call_faulted sizes (Some call) pass = refl
+
+-- a pass that no fault has ended a call of has not set STOP
+pub none_stopped : (steps : List Step) (start now : PassState) → HasMade steps start now → (pass_of now.sight).faulted ≡ [] → stops_in steps ≡ false
+none_stopped [] start now made none = refl
+none_stopped (step ∷ earlier) start now made none =
+    let taken = made.2 in
+    let before = taken.before in
+    let sizes = before.sight.opened.sizes in
+    let works = taken.stepped.works in
+    let was = none_faulted step.deed (pass_before before.sight step.opens works) (sym (ap (λ (p : Pass). p.faulted) taken.stepped.pass) ∙ none) in
+    let clear : (pass_of before.sight).faulted ≡ [] =
+    sym (calls_leave (λ p. p.faulted) (λ sizes work pass. refl) sizes works (pass_of before.sight)) ∙ sym (call_faulted sizes step.opens (pass_worked sizes works (pass_of before.sight))) ∙ was.1 in
+    ap (λ b. b || is_stop step.deed) (none_stopped earlier start made.0 made.1 (ap (λ (v : Sight). (pass_of v).faulted) (sym taken.between.sight) ∙ clear)) ∙ was.0
+
+-- ---- a read that is about to read a page from its store
+
+module _ (fds : List Fd) (m : ReadMachine) (list : List ℕ) (start now : PassState) (page : ℕ) (dirty : Bool) (way : IsOnWayAt fds m list start now (Copies page dirty)) where
+  at_copies : IsAtPage now.sight.opened.sizes m list way.base (values_of now.sight) (pass_of now.sight) page (Copying page dirty) (STORE m.file ∷ with_if dirty (CLEANUP page) (read_hands now.sight.opened.sizes (call_of m) m.sized))
+  at_copies = way.stands
+
+  pub copy_stands : (pass_of now.sight).stage ≡ Copying page dirty
+  copy_stands = ap (λ (p : Pass). p.stage) at_copies.is
+
+  pub copy_there : IsPage now.sight.opened.sizes (call_of m) page
+  copy_there = page_of_read now.sight.opened.sizes m list way.base (values_of now.sight) (pass_of now.sight) page (Copying page dirty) (STORE m.file ∷ with_if dirty (CLEANUP page) (read_hands now.sight.opened.sizes (call_of m) m.sized)) at_copies
+
+  pub copy_low : m.file * now.sight.opened.sizes.pages ≤ page
+  copy_low = let low = copy_there.0 in omega (arith, low)
+
+  pub copy_high : page < page_total now.sight.opened.sizes
+  copy_high = page_within now.sight.opened.sizes (call_of m) page way.called.allowed copy_there
+
+  -- there is room for its bytes behind what is copied
+  pub copy_most : 1 ≤ now.sight.opened.sizes.page → m.copied ≤ (page_piece now.sight.opened.sizes m page).from
+  copy_most some = copied_most now.sight.opened.sizes m list (values_of now.sight) at_copies.len at_copies.fetched page some at_copies.covers at_copies.more at_copies.copied
+
+  pub copy_once : times (PAGE page) (pass_of now.sight).hands ≡ 1
+  copy_once = ap (λ (p : Pass). times (PAGE page) p.hands) at_copies.is ∙ page_once now.sight.opened.sizes (call_of m) m.sized dirty page m.file page copy_there
+
+  pub store_carried : slot_times (store_slot now.sight.opened.sizes m.file) now.now ≡ 1
+  store_carried =
+      let known = way.called.allowed.known in
+      let board : BoardState = record { table = now.table; opened = now.sight.opened } in
+      slot_carried now (store_slot now.sight.opened.sizes m.file) (STORE m.file) way.called.still (ap (λ (p : Pass). p.left) at_copies.is) (omega (arith, known))
+      (at_store board now m.file (store_slot now.sight.opened.sizes m.file) (record { same_table = refl; same_mount = refl }) known refl)
+      ∙ ap (λ (p : Pass). times (STORE m.file) p.hands) at_copies.is ∙ store_once now.sight.opened.sizes (call_of m) m.sized dirty page m.file
+
+  pub copy_unfaulted : RunsAreSound → IsMount (mount_of now.sight.opened) → IsRunOf now.sight.opened now.sight.run → m.faulted ≡ false
+  copy_unfaulted runs mount run =
+      let sound = runs (mount_of now.sight.opened) now.sight.run mount run in
+      sym way.called.stopped ∙ none_stopped way.called.steps start now way.called.made (sound.broken.passed now.sight.number (subst HasChecked (sym copy_stands) tt))
+
+-- ---- what the cells keep after a read that went well
+
+-- of a page without entries, it is in its buffer
+abbrev pub read_values : Bool → (page : ℕ) → List ℕ → Values → Values
+read_values true page bytes kept = kept
+read_values false page bytes kept = with_page page bytes kept
+
+-- a read at its page, as its pass stands before the store is given back
+abbrev pub IsCopying : ReadMachine → List ℕ → Pass → PassState → (page : ℕ) → Bool → Type 0
+IsCopying m list base mid page dirty =
+    IsAtPage mid.sight.opened.sizes m list base (values_of mid.sight) (pass_of mid.sight) page (Copying page dirty) (STORE m.file ∷ with_if dirty (CLEANUP page) (read_hands mid.sight.opened.sizes (call_of m) m.sized))
+
+pub copying_on : (m : ReadMachine) (list : List ℕ) (base : Pass) (now mid : PassState) (page : ℕ) (dirty : Bool) → mid.sight ≡ now.sight → IsCopying m list base now page dirty → IsCopying m list base mid page dirty
+copying_on m list base now mid page dirty same at =
+    subst (λ (v : Sight). IsAtPage v.opened.sizes m list base (values_of v) (pass_of v) page (Copying page dirty) (STORE m.file ∷ with_if dirty (CLEANUP page) (read_hands v.opened.sizes (call_of m) m.sized))) (sym same) at
+
+module _ (m : ReadMachine) (list : List ℕ) (base : Pass) (mid : PassState) (page : ℕ) (dirty : Bool) (at : IsCopying m list base mid page dirty) (start : ℕ) (bytes : List ℕ) (store : IsStore (values_of mid.sight (STORE m.file))) where
+  abbrev work : Work
+  work = record { cell = STORE m.file; job = Reads start bytes; ending = Made }
+
+  abbrev at_pass : Pass
+  at_pass = reading base (call_of m) (Copying page dirty) (STORE m.file ∷ with_if dirty (CLEANUP page) (read_hands mid.sight.opened.sizes (call_of m) m.sized)) m.sized at.len at.fetched
+
+  with_same : (cell : Word) → with_word (values_of mid.sight) (STORE m.file) (called (Reads start bytes) Made (values_of mid.sight (STORE m.file))) cell ≡ values_of mid.sight cell
+  with_same cell = word_same (values_of mid.sight) (STORE m.file) _ (called_same (values_of mid.sight (STORE m.file)) start bytes store) cell
+
+  worked_so : (b : Bool) (cell : Word)
+      → values_worked (record at_pass { stage = Copying page b }) work (values_of mid.sight) cell ≡ read_values b page bytes (values_of mid.sight) cell
+  worked_so true cell = with_same cell
+  worked_so false cell =
+      ap (λ v. if same cell (PAGE page) then filled bytes v else with_word (values_of mid.sight) (STORE m.file) (called (Reads start bytes) Made (values_of mid.sight (STORE m.file))) cell) (with_same (PAGE page))
+      ∙ ap (λ v. if same cell (PAGE page) then filled bytes (values_of mid.sight (PAGE page)) else v) (with_same cell)
+
+  pub read_then : (cell : Word) → values_then mid.sight None (Gives (STORE m.file)) (page_read m.file start bytes) cell ≡ read_values dirty page bytes (values_of mid.sight) cell
+  read_then cell =
+      ap (λ (p : Pass). values_given (worked mid.sight.opened.sizes work p) (stage_worked mid.sight.opened.sizes p Made p.stage) (values_worked p work (values_of mid.sight)) cell) at.is
+      ∙ worked_so dirty cell
+
+  -- the store may be given back after it
+  pub read_due : (start ≡ (page - m.file * mid.sight.opened.sizes.pages) * mid.sight.opened.sizes.page) → SaysOf mid.sight.opened.sizes start bytes (values_of mid.sight (STORE m.file))
+      → Carries mid.sight.opened.sizes (λ value. value) (read_values dirty page bytes (values_of mid.sight)) (carried (pass_of mid.sight)) mid.now
+      → (due : IsDue mid None (Gives (STORE m.file))) × (due.works ≡ page_read m.file start bytes)
+  read_due start_is says carries = (
+    record {
+      works = page_read m.file start bytes;
+      due = (may, tt);
+      begins = tt;
+      may = subst (λ (p : Pass). MayGive (worked mid.sight.opened.sizes work p) (STORE m.file) (stage_worked mid.sight.opened.sizes p Made p.stage)) (sym at.is) refl;
+      staying = ap (λ (p : Pass). p.left) at.is;
+      holds = carries_kept mid.sight.opened.sizes (λ value. value) (read_values dirty page bytes (values_of mid.sight)) (values_then mid.sight None (Gives (STORE m.file)) (page_read m.file start bytes)) (carried (pass_of mid.sight)) mid.now
+          (λ cell some. read_then cell) carries;
+    },
+    refl,
+  )
+    where
+      due : IsWorkDue mid.sight.opened.sizes (values_of mid.sight) at_pass work (Copying page dirty)
+      due = record { bytes = bytes; cell = refl; job = ap (λ n. Reads n bytes) start_is; says = subst (λ n. SaysOf mid.sight.opened.sizes n bytes (values_of mid.sight (STORE m.file))) start_is says }
+
+      may : MayWork mid.sight.opened.sizes (values_of mid.sight) (pass_of mid.sight) work
+      may = record {
+        due = subst (λ (p : Pass). IsWorkDue mid.sight.opened.sizes (values_of mid.sight) p work p.stage) (sym at.is) due;
+        ends = may_end (values_of mid.sight (STORE m.file)) store;
+        leaves = may_leave (values_of mid.sight (STORE m.file)) start bytes store;
+        here = ap (λ (p : Pass). times (STORE m.file) p.hands) at.is ∙ store_once mid.sight.opened.sizes (call_of m) m.sized dirty page m.file;
+      }
+
+  -- ---- after it
+
+  module _ (found : ℕ) (new : PassState) (is : Stepped mid None (Gives (STORE m.file)) found new) (told : is.works ≡ page_read m.file start bytes) where
+    pub given_is : pass_of new.sight
+        ≡ reading base (call_of m) (if dirty then Bounding page else Reading (page + 1)) (with_if dirty (CLEANUP page) (read_hands mid.sight.opened.sizes (call_of m) m.sized)) m.sized at.len ((page, bytes) ∷ at.fetched)
+    given_is =
+        is.pass
+        ∙ ap (λ works. stepped mid.sight.opened.sizes mid.sight.number (state_of mid.sight.opened is.steps.run).history (Gives (STORE m.file)) found (pass_before mid.sight None works)) told
+        ∙ ap (λ (p : Pass). stepped mid.sight.opened.sizes mid.sight.number (state_of mid.sight.opened is.steps.run).history (Gives (STORE m.file)) found (worked mid.sight.opened.sizes work p)) at.is
+        ∙ ap
+        (λ b. reading base (call_of m) (if dirty then Bounding page else Reading (page + 1))
+        (if b then with_if dirty (CLEANUP page) (read_hands mid.sight.opened.sizes (call_of m) m.sized) else STORE m.file ∷ without (STORE m.file) (with_if dirty (CLEANUP page) (read_hands mid.sight.opened.sizes (call_of m) m.sized)))
+        m.sized at.len ((page, bytes) ∷ at.fetched))
+        (same_self (STORE m.file))
+
+    given_values : (cell : Word) → times cell (pass_of mid.sight).hands ≢ 0 → values_of new.sight cell ≡ read_values dirty page bytes (values_of mid.sight) cell
+    given_values cell held = is.kept cell held ∙ ap (λ works. values_then mid.sight None (Gives (STORE m.file)) works cell) told ∙ read_then cell
+
+    -- the other pages of the read keep what they kept
+    given_page : (p : ℕ) → IsPage mid.sight.opened.sizes (call_of m) p → p ≢ page → values_of new.sight (PAGE p) ≡ values_of mid.sight (PAGE p)
+    given_page p there ne =
+        given_values (PAGE p) (λ none. let once = page_once mid.sight.opened.sizes (call_of m) m.sized dirty page m.file p there in let hands = ap (λ (q : Pass). times (PAGE p) q.hands) at.is in omega (arith, none, once, hands))
+        ∙ other dirty
+      where
+        index_is : {one two : ℕ} → PAGE one ≡ PAGE two → one ≡ two
+        index_is e = cc
+
+        other : (b : Bool) → read_values b page bytes (values_of mid.sight) (PAGE p) ≡ values_of mid.sight (PAGE p)
+        other true = refl
+        other false = word_else (values_of mid.sight) (PAGE page) (filled bytes (values_of mid.sight (PAGE page))) (PAGE p) (λ e. ne (index_is e))
+
+    given_copied : HasCopied mid.sight.opened.sizes m list (values_of new.sight) at.len ((page, bytes) ∷ at.fetched) page
+    given_copied =
+        copied_same mid.sight.opened.sizes m list (values_of mid.sight) (values_of new.sight) at.len at.fetched ((page, bytes) ∷ at.fetched) page
+        (λ p low high.
+        bytes_else at.fetched (values_of new.sight) p page bytes (λ e. omega (arith, e, high))
+        ∙ bytes_same at.fetched (values_of mid.sight) (values_of new.sight) p
+        (given_page p (low, let end = (page_of_read mid.sight.opened.sizes m list base (values_of mid.sight) (pass_of mid.sight) page (Copying page dirty) (STORE m.file ∷ with_if dirty (CLEANUP page) (read_hands mid.sight.opened.sizes (call_of m) m.sized)) at).1 in omega (arith, high, end)) (λ e. omega (arith, e, high))))
+        at.copied
+
+    -- the page has entries, and its bytes are in the room for a page
+    pub given_dirty : dirty ≡ true → (scratch : List ℕ) → take mid.sight.opened.sizes.page scratch ≡ bytes
+        → StandsAt mid.sight.opened.sizes (record m { stage = Bounds page; scratch = scratch }) list base (values_of new.sight) (pass_of new.sight) (Bounds page)
+    given_dirty so scratch room = record {
+      at = record {
+        len = at.len;
+        fetched = (page, bytes) ∷ at.fetched;
+        is = then_is;
+        covers = at.covers;
+        more = at.more;
+        copied = record { from = given_copied.from; till = given_copied.till; rest = given_copied.rest; list_is = given_copied.list_is; count = given_copied.count };
+      };
+      room = room ∙ sym (ap (λ (p : Pass). fetched_bytes p.fetched page) then_is ∙ ap (λ b. if b then bytes else fetched_bytes at.fetched page) (number_self page));
+    }
+      where
+        then_is : pass_of new.sight ≡ reading base (call_of m) (Bounding page) (CLEANUP page ∷ read_hands mid.sight.opened.sizes (call_of m) m.sized) m.sized at.len ((page, bytes) ∷ at.fetched)
+        then_is =
+            given_is
+            ∙ ap (λ b. reading base (call_of m) (if b then Bounding page else Reading (page + 1)) (with_if b (CLEANUP page) (read_hands mid.sight.opened.sizes (call_of m) m.sized)) m.sized at.len ((page, bytes) ∷ at.fetched)) so
+
+    -- it has none, and the read looks on from the next one
+    pub given_clean : dirty ≡ false → 1 ≤ mid.sight.opened.sizes.page → mid.sight.opened.sizes.page ≤ length bytes → (list_then rest scratch : List ℕ)
+        → list_then ≡ take m.copied list ++ (bytes_at bytes ((page_piece mid.sight.opened.sizes m page).at % mid.sight.opened.sizes.page) (page_piece mid.sight.opened.sizes m page).size ++ rest)
+        → IsLooking mid.sight.opened.sizes (record m { copied = m.copied + (page_piece mid.sight.opened.sizes m page).size; scratch = scratch }) list_then base (values_of new.sight) (pass_of new.sight) (page + 1)
+    given_clean so some long list_then rest scratch list_is = record {
+      len = at.len;
+      fetched = (page, bytes) ∷ at.fetched;
+      from = page + 1;
+      is = given_is
+          ∙ ap (λ b. reading base (call_of m) (if b then Bounding page else Reading (page + 1)) (with_if b (CLEANUP page) (read_hands mid.sight.opened.sizes (call_of m) m.sized)) m.sized at.len ((page, bytes) ∷ at.fetched)) so;
+      covers = at.covers;
+      later = omega arith;
+      valid = λ p low high. absurd (omega (arith, low, high));
+      copied = record { from = more.from; till = more.till; rest = more.rest; list_is = more.list_is; count = more.count };
+    }
+      where
+        many : (page_piece mid.sight.opened.sizes m page).size ≡ length (bytes_at bytes ((page_piece mid.sight.opened.sizes m page).at % mid.sight.opened.sizes.page) (page_piece mid.sight.opened.sizes m page).size)
+        many =
+            let lies = read_piece mid.sight.opened.sizes m page some at.copied.from (piece_there mid.sight.opened.sizes m list (values_of mid.sight) at.len at.fetched page some at.covers at.more at.copied) in
+            let taken = length-take (page_piece mid.sight.opened.sizes m page).size (drop ((page_piece mid.sight.opened.sizes m page).at % mid.sight.opened.sizes.page) bytes) in
+            let after = length-drop ((page_piece mid.sight.opened.sizes m page).at % mid.sight.opened.sizes.page) bytes in
+            omega (arith, lies, taken, after, long)
+
+        bytes_are : bytes_at bytes ((page_piece mid.sight.opened.sizes m page).at % mid.sight.opened.sizes.page) (page_piece mid.sight.opened.sizes m page).size
+            ≡ bytes_at (page_bytes ((page, bytes) ∷ at.fetched) (values_of new.sight) page) ((page_piece mid.sight.opened.sizes m page).at % mid.sight.opened.sizes.page) (page_piece mid.sight.opened.sizes m page).size
+        bytes_are =
+            ap (λ b. bytes_at (if b then bytes else page_bytes at.fetched (values_of new.sight) page) ((page_piece mid.sight.opened.sizes m page).at % mid.sight.opened.sizes.page) (page_piece mid.sight.opened.sizes m page).size) (sym (number_self page))
+
+        more : HasCopied mid.sight.opened.sizes (record m { copied = m.copied + (page_piece mid.sight.opened.sizes m page).size }) list_then (values_of new.sight) at.len ((page, bytes) ∷ at.fetched) (page + 1)
+        more =
+            copied_more mid.sight.opened.sizes m list (values_of new.sight) at.len ((page, bytes) ∷ at.fetched) page some at.covers at.more given_copied
+            (bytes_at bytes ((page_piece mid.sight.opened.sizes m page).at % mid.sight.opened.sizes.page) (page_piece mid.sight.opened.sizes m page).size) rest list_then (page_piece mid.sight.opened.sizes m page).size bytes_are many list_is
+
+-- ---- a read that failed
+
+module _ (m : ReadMachine) (list : List ℕ) (base : Pass) (mid : PassState) (page : ℕ) (dirty : Bool) (at : IsCopying m list base mid page dirty) (store : IsStore (values_of mid.sight (STORE m.file))) where
+  -- STOP may be set after it
+  pub fail_due : (faults : ℕ) → Rose (faults_of (values_of mid.sight (STORE m.file))) faults
+      → Carries mid.sight.opened.sizes (λ value. value) (with_word (values_of mid.sight) (STORE m.file) (called (Reads 0 []) (Failed false faults) (values_of mid.sight (STORE m.file)))) (carried (pass_of mid.sight)) mid.now
+      → (due : IsDue mid None Stops) × HasFailedFetch due.works
+  fail_due faults rose carries = (
+    record {
+      works = work ∷ [];
+      due = (may, tt);
+      begins = tt;
+      may = subst (λ (p : Pass). IsFailing (stage_worked mid.sight.opened.sizes p (Failed false faults) p.stage)) (sym at.is) tt;
+      staying = ap (λ (p : Pass). p.left) at.is;
+      holds = carries_kept mid.sight.opened.sizes (λ value. value) (with_word (values_of mid.sight) (STORE m.file) (called (Reads 0 []) (Failed false faults) (values_of mid.sight (STORE m.file))))
+          (values_then mid.sight None Stops (work ∷ [])) (carried (pass_of mid.sight)) mid.now
+          (λ cell some. ap (λ v. with_word (values_of mid.sight) (STORE m.file) v cell) (called_any (values_of mid.sight (STORE m.file)) start faults said.0 store)) carries;
+    },
+    record { file = m.file; at = start; bytes = said.0; faults = faults; is = refl },
+  )
+    where
+      start : ℕ
+      start = (page - m.file * mid.sight.opened.sizes.pages) * mid.sight.opened.sizes.page
+
+      said : (bytes : List ℕ) × SaysOf mid.sight.opened.sizes start bytes (values_of mid.sight (STORE m.file))
+      said = bytes_said mid.sight.opened.sizes start (values_of mid.sight (STORE m.file)) store
+
+      work : Work
+      work = record { cell = STORE m.file; job = Reads start said.0; ending = Failed false faults }
+
+      may : MayWork mid.sight.opened.sizes (values_of mid.sight) (pass_of mid.sight) work
+      may = record {
+        due = subst (λ (p : Pass). IsWorkDue mid.sight.opened.sizes (values_of mid.sight) p work p.stage) (sym at.is) (record { bytes = said.0; cell = refl; job = refl; says = said.1 });
+        ends = fail_end (values_of mid.sight (STORE m.file)) faults store rose;
+        leaves = fail_leave (values_of mid.sight (STORE m.file)) start faults said.0 store;
+        here = ap (λ (p : Pass). times (STORE m.file) p.hands) at.is ∙ store_once mid.sight.opened.sizes (call_of m) m.sized dirty page m.file;
+      }

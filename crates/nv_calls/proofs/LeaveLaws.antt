@@ -1,0 +1,136 @@
+-- Leaves: a refused read gives back what it holds, the last taken first.
+use Rattle.std.proofs.Common.{◌≡◌, ◌≢◌, ℕ, zero, suc, ◌+◌, ◌-◌, ◌<◌, Bool, true, false, List, [], ◌∷◌, refl, sym, ap, subst, ◌∙◌, arith}
+use Rattle.std.specs.Prelude.{Option, Some, None}
+use Rattle.nv_plain.specs.declared.call.FileCall.{FileCall}
+use Rattle.nv_core.specs.Words.{Sizes, Word, SIZE, STORE, PAGE, CLEANUP, page_total}
+use Rattle.nv_core.specs.Passes.{Pass, Leaving, first_page, file_of, without, IsLastTaken}
+use Rattle.nv_core.specs.Deeds.{Gives}
+use Rattle.nv_core.specs.Events.{Does}
+use Rattle.nv_core.specs.Core.{values_given}
+use Rattle.nv_core.specs.Opening.{IsMount}
+use Rattle.nv_core.specs.Order.{MayGive}
+use Rattle.nv_core.specs.Others.{StepsAreOnWords}
+use Rattle.nv_core.specs.Stages.{leaving}
+use Rattle.nv_table.specs.Opened.{mount_of, IsRunOf, state_of}
+use Rattle.nv_table.specs.Ready.{Stepped}
+use Rattle.nv_table.specs.Sights.{pass_of}
+use Rattle.nv_table.specs.States.{PassState}
+use Rattle.nv_table.specs.Turns.{IsDue}
+use Rattle.nv_mount.specs.declared.fds.Fd.{Fd}
+use Rattle.nv_calls.specs.declared.answers.Refusal.{Refusal}
+use Rattle.nv_calls.specs.declared.machine.Progress.{Progress}
+use Rattle.nv_calls.specs.declared.reading.Held.{Held}
+use Rattle.nv_calls.specs.declared.reading.ReadMachine.{ReadMachine}
+use Rattle.nv_calls.specs.declared.reading.ReadStage.TheVariants.{Leaves}
+use Rattle.nv_calls.specs.Ends.{BeginsWithin}
+use Rattle.nv_calls.specs.Reads.{call_of, pages_from, with_if, with_cleanup, held_cells, reading, IsAt, InCall, IsOnWayAt, Refuses, ReadGoes}
+use Rattle.nv_calls.proofs.EndLaws.{without_first}
+use Rattle.nv_calls.proofs.ReadLaws.{refused_goes}
+use Rattle.nv_calls.proofs.WayLaws.{IsCalls, still_due, reading_on, unplaced_by, quiet_on, tells_none, by_sizes}
+
+pub calls_leaving : IsCalls Leaving
+calls_leaving = record { loads = λ word. refl; takes = λ word. refl; gives = λ word. refl }
+
+-- ---- what is taken last
+
+-- the locks that a read on its way out may hold
+abbrev IsLeft : Word → Type 0
+IsLeft (SIZE file) = Unit {0}
+IsLeft (STORE file) = Unit {0}
+IsLeft (PAGE page) = Unit {0}
+IsLeft (CLEANUP page) = Unit {0}
+IsLeft word = ⊥
+
+-- some hands begin with one of them
+record BeginsLeft (hands : List Word) : Type 0 where
+  cell : Word
+  rest : List Word
+  is : hands ≡ cell ∷ rest
+  left : IsLeft cell
+
+begins_left : (sizes : Sizes) (call : FileCall) (pages : ℕ) (sized : Bool) (cleanup : Option ℕ) (stored : Bool)
+    → held_cells sizes call record { pages = pages; sized = sized; cleanup = cleanup; stored = stored } ≢ [] → BeginsLeft (held_cells sizes call record { pages = pages; sized = sized; cleanup = cleanup; stored = stored })
+begins_left sizes call zero false None false some = absurd (some refl)
+begins_left sizes call (suc pages) false None false some = record { cell = PAGE (first_page sizes call + pages); rest = pages_from (first_page sizes call) pages; is = refl; left = tt }
+begins_left sizes call pages true None false some = record { cell = SIZE (file_of call); rest = pages_from (first_page sizes call) pages; is = refl; left = tt }
+begins_left sizes call pages sized (Some page) false some = record { cell = CLEANUP page; rest = with_if sized (SIZE (file_of call)) (pages_from (first_page sizes call) pages); is = refl; left = tt }
+begins_left sizes call pages sized cleanup true some =
+    record { cell = STORE (file_of call); rest = with_cleanup cleanup (with_if sized (SIZE (file_of call)) (pages_from (first_page sizes call) pages)); is = refl; left = tt }
+
+may_leave : (pass : Pass) (cell : Word) → IsLeft cell → IsLastTaken cell pass.hands → MayGive pass cell Leaving
+may_leave pass (SIZE file) left last = last
+may_leave pass (STORE file) left last = last
+may_leave pass (PAGE page) left last = last
+may_leave pass (CLEANUP page) left last = last
+may_leave pass cell left last = absurd left
+
+-- pages begin with the last of them, which is one of the mount where the first cell is
+pub last_page : (sizes : Sizes) (first pages : ℕ) → BeginsWithin sizes (pages_from first pages)
+    → (pages_from first pages ≡ PAGE (first + (pages - 1)) ∷ pages_from first (pages - 1)) × (first + (pages - 1) < page_total sizes)
+last_page sizes first zero begins = absurd begins
+last_page sizes first (suc pages) begins =
+    subst (λ n. (PAGE (first + pages) ∷ pages_from first pages ≡ PAGE (first + n) ∷ pages_from first n) × (first + n < page_total sizes)) (let e : pages ≡ suc pages - 1 = omega arith in e) (refl, begins)
+
+-- what is held, by what was taken
+pub held_size : (sizes : Sizes) (call : FileCall) (held : Held) → held.stored ≡ false → held.cleanup ≡ None → held.sized ≡ true
+    → held_cells sizes call held ≡ SIZE (file_of call) ∷ held_cells sizes call (record held { sized = false })
+held_size sizes call held unstored unlocked sized =
+    let pages = pages_from (first_page sizes call) held.pages in
+    let before : (cells : List Word) → with_if held.stored (STORE (file_of call)) (with_cleanup held.cleanup cells) ≡ cells =
+    λ cells. ap (λ b. with_if b (STORE (file_of call)) (with_cleanup held.cleanup cells)) unstored ∙ ap (λ o. with_cleanup o cells) unlocked in
+    before (with_if held.sized (SIZE (file_of call)) pages) ∙ ap (λ b. with_if b (SIZE (file_of call)) pages) sized ∙ ap (λ cells. SIZE (file_of call) ∷ cells) (sym (before pages))
+
+pub held_pages : (sizes : Sizes) (call : FileCall) (held : Held) (count : ℕ) → held.stored ≡ false → held.cleanup ≡ None → held.sized ≡ false
+    → held_cells sizes call (record held { pages = count }) ≡ pages_from (first_page sizes call) count
+held_pages sizes call held count unstored unlocked unsized =
+    let pages = pages_from (first_page sizes call) count in
+    ap (λ b. with_if b (STORE (file_of call)) (with_cleanup held.cleanup (with_if held.sized (SIZE (file_of call)) pages))) unstored
+    ∙ ap (λ o. with_cleanup o (with_if held.sized (SIZE (file_of call)) pages)) unlocked ∙ ap (λ b. with_if b (SIZE (file_of call)) pages) unsized
+
+-- ---- what is given back
+
+module _ (fds : List Fd) (m : ReadMachine) (list : List ℕ) (start now : PassState) (held : Held) (refusal : Refusal) (way : IsOnWayAt fds m list start now (Leaves held refusal)) where
+  here : IsAt m way.base (pass_of now.sight) Leaving (held_cells now.sight.opened.sizes (call_of m) held) way.stands.1
+  here = way.stands.2
+
+  pub leave_stands : (pass_of now.sight).stage ≡ Leaving
+  leave_stands = ap (λ (p : Pass). p.stage) here.is
+
+  first_left : BeginsLeft (held_cells now.sight.opened.sizes (call_of m) held)
+  first_left = begins_left now.sight.opened.sizes (call_of m) held.pages held.sized held.cleanup held.stored way.stands.0
+
+  pub leave_may : (cell : Word) (rest : List Word) → held_cells now.sight.opened.sizes (call_of m) held ≡ cell ∷ rest → MayGive (pass_of now.sight) cell (pass_of now.sight).stage
+  leave_may cell rest cells =
+      let same : first_left.cell ≡ cell = first_is (sym first_left.is ∙ cells) in
+      subst (MayGive (pass_of now.sight) cell) (sym leave_stands)
+      (may_leave (pass_of now.sight) cell (subst IsLeft same first_left.left) (subst (IsLastTaken cell) (sym (ap (λ (p : Pass). p.hands) here.is ∙ cells)) refl))
+    where
+      first_is : {one other : Word} {after_one after_other : List Word} → one ∷ after_one ≡ other ∷ after_other → one ≡ other
+      first_is e = cc
+
+  pub leave_due : (cell : Word) (rest : List Word) → held_cells now.sight.opened.sizes (call_of m) held ≡ cell ∷ rest → IsDue now None (Gives cell)
+  leave_due cell rest cells =
+      still_due now (Gives cell) way.called.still (ap (λ (p : Pass). p.left) here.is) (λ kept. ap (λ s. values_given (pass_of now.sight) s kept) leave_stands) (leave_may cell rest cells)
+
+  -- the cells that it holds begin with a word of the mount
+  pub leave_within : StepsAreOnWords → IsMount (mount_of now.sight.opened) → IsRunOf now.sight.opened now.sight.run → BeginsWithin now.sight.opened.sizes (held_cells now.sight.opened.sizes (call_of m) held)
+  leave_within words mount is_run =
+      subst (BeginsWithin now.sight.opened.sizes) (sym first_left.is)
+      (words (mount_of now.sight.opened) now.sight.run now.sight.number (Does (Gives first_left.cell) ((state_of now.sight.opened now.sight.run).words first_left.cell)) mount is_run
+      record { may = leave_may first_left.cell first_left.rest first_left.is; is = refl })
+
+  pub left : (next : ReadMachine) (progress : Progress) (rest : Held) (cell : Word) (found : ℕ) (new : PassState) → held_cells now.sight.opened.sizes (call_of m) held ≡ cell ∷ held_cells now.sight.opened.sizes (call_of m) rest
+      → Stepped now None (Gives cell) found new → Refuses m rest refusal next progress → ReadGoes fds start next list new progress
+  left next progress rest cell found new cells is refuses =
+      refused_goes fds m next list rest refusal progress start new way.base here.len way.stands.1 refuses
+      (subst (λ p. InCall fds m.fd (call_of m) (Some refusal) p m.faulted start new) way.placed
+      (quiet_on fds m.fd (call_of m) (Some refusal) m.place m.faulted start now new (Gives cell) found way.called is refl refl refl))
+      way.placed way.room
+      (unplaced_by start now new way.base (call_of m) (call_of m) _ _ _ _ m.sized m.sized here.len here.len way.stands.1 way.stands.1 (tells_none m.place m.file m.at m.copied list start.sight now.sight way.placed way.tells) here.is then_is)
+      (by_sizes now new None (Gives cell) found is
+      (λ sizes. pass_of new.sight ≡ reading way.base (call_of m) (leaving (held_cells sizes (call_of m) rest)) (held_cells sizes (call_of m) rest) m.sized here.len way.stands.1) then_is)
+    where
+      then_is : pass_of new.sight ≡ reading way.base (call_of m) (leaving (held_cells now.sight.opened.sizes (call_of m) rest)) (held_cells now.sight.opened.sizes (call_of m) rest) m.sized here.len way.stands.1
+      then_is =
+          reading_on now new (Gives cell) found way.base (call_of m) Leaving _ m.sized here.len way.stands.1 here.is (λ sizes values pass work due. due) is
+          ∙ ap (λ h. reading way.base (call_of m) (leaving h) h m.sized here.len way.stands.1) (ap (without cell) cells ∙ without_first cell (held_cells now.sight.opened.sizes (call_of m) rest))

@@ -1,0 +1,138 @@
+-- Places: a read takes its place with the bytes that it has, and gives back what it holds.
+use Rattle.std.proofs.Common.{◌≡◌, ℕ, ◌-◌, ◌||◌, Bool, true, false, if◌then◌else◌, List, [], ◌∷◌, ◌++◌, refl, sym, ap, subst, ◌∙◌, arith}
+use Rattle.std.specs.Prelude.{Some, None}
+use Rattle.nv_plain.specs.Histories.{Answered, GoesOnLegally}
+use Rattle.nv_plain.specs.declared.call.FileCall.TheVariants.{Read}
+use Rattle.nv_plain.specs.declared.call.Reply.TheVariants.{Bytes}
+use Rattle.nv_core.specs.Words.{Sizes, SIZE}
+use Rattle.nv_core.specs.Passes.{Stage, Pass, Placing, Reading, Releasing, first_page, end_page, page_count}
+use Rattle.nv_core.specs.Content.{RunsKeepContent}
+use Rattle.nv_core.specs.Deeds.{Places}
+use Rattle.nv_core.specs.Opening.{IsMount}
+use Rattle.nv_core.specs.Order.{Values, MayPlace}
+use Rattle.nv_core.specs.Stages.{giving}
+use Rattle.nv_table.specs.Opened.{mount_of, state_of}
+use Rattle.nv_table.specs.Ready.{Stepped}
+use Rattle.nv_table.specs.Sights.{pass_of, values_of}
+use Rattle.nv_table.specs.States.{PassState}
+use Rattle.nv_table.specs.Turns.{IsPlaced, place_deed, reply_at}
+use Rattle.nv_table.proofs.CallLaws.{IsCallFree}
+use Rattle.nv_mount.specs.declared.fds.Fd.{Fd}
+use Rattle.nv_calls.specs.declared.machine.Progress.{Progress}
+use Rattle.nv_calls.specs.declared.reading.ReadMachine.{ReadMachine}
+use Rattle.nv_calls.specs.declared.reading.ReadStage.TheVariants.{Places as TakesPlace, Releases}
+use Rattle.nv_calls.specs.Answers.{IsDone, HasRead}
+use Rattle.nv_calls.specs.Ends.{GivesFrom}
+use Rattle.nv_calls.specs.Reads.{call_of, pages_from, with_if, read_hands, reading, IsAt, MayEnd, InCall, IsOnWayAt, ReadGoes}
+use Rattle.nv_calls.specs.Steps.{either_of}
+use Rattle.nv_calls.proofs.DoneLaws.{done_plainly}
+use Rattle.nv_calls.proofs.EndLaws.{giving_at, giving_first, pages_all, gives_on}
+use Rattle.nv_calls.proofs.WayLaws.{reading_on, in_call_on, between_self, tells_none, by_sizes}
+
+-- ---- the reply
+
+reply_is : (sizes : Sizes) (values : Values) (pass : Pass) (bytes : List ℕ) (stage : Stage) → MayPlace sizes values pass (Bytes bytes) stage → reply_at sizes values pass stage ≡ Bytes bytes
+reply_is sizes values pass bytes Placing may = sym may
+reply_is sizes values pass bytes (Reading page) may = sym may.1
+reply_is sizes values pass bytes stage may = absurd may
+
+place_free : (sizes : Sizes) (values : Values) (pass : Pass) (bytes : List ℕ) (stage : Stage) → MayPlace sizes values pass (Bytes bytes) stage → IsCallFree stage
+place_free sizes values pass bytes Placing may = λ sizes values pass work due. due
+place_free sizes values pass bytes (Reading page) may = λ sizes values pass work due. due
+place_free sizes values pass bytes stage may = absurd may
+
+or_none : (b : Bool) → b || false ≡ b
+or_none true = refl
+or_none false = refl
+
+module _ (fds : List Fd) (m : ReadMachine) (list : List ℕ) (start now : PassState) (way : IsOnWayAt fds m list start now TakesPlace) where
+  abbrev here : MayEnd now.sight.opened.sizes m list way.base (values_of now.sight) (pass_of now.sight)
+  here = way.stands
+
+  stands : (pass_of now.sight).stage ≡ here.stage
+  stands = ap (λ (p : Pass). p.stage) here.is
+
+  pub place_is : (place : ℕ) (new : PassState) → Stepped now None (place_deed now.sight) place new → Stepped now None (Places (Bytes here.bytes)) place new
+  place_is place new is =
+      subst (λ reply. Stepped now None (Places reply) place new)
+      (ap (reply_at now.sight.opened.sizes (values_of now.sight) (pass_of now.sight)) stands ∙ reply_is now.sight.opened.sizes (values_of now.sight) (pass_of now.sight) here.bytes here.stage here.may) is
+
+  free : IsCallFree here.stage
+  free = place_free now.sight.opened.sizes (values_of now.sight) (pass_of now.sight) here.bytes here.stage here.may
+
+  -- ---- it has its place
+
+  module _ (place : ℕ) (new : PassState) (is : Stepped now None (Places (Bytes here.bytes)) place new) (placed : IsPlaced now.sight new.sight place) (content : RunsKeepContent) (legally : GoesOnLegally)
+      (mount : IsMount (mount_of now.sight.opened)) where
+    answer : Answered
+    answer = record { caller = now.sight.number; call = call_of m; reply = Bytes here.bytes }
+
+    -- what the pass was before, with what it has seen and made then
+    base : Pass
+    unfolding answer
+    base = record way.base { seen = (state_of now.sight.opened is.steps.run).history ++ answer ∷ []; mine = way.base.mine ++ answer ∷ [] }
+
+    then_is : pass_of new.sight ≡ reading base (call_of m) (if m.sized then Releasing else giving now.sight.opened.sizes (call_of m)) (read_hands now.sight.opened.sizes (call_of m) m.sized) m.sized here.len here.fetched
+    unfolding answer base
+    then_is = reading_on now new (Places (Bytes here.bytes)) place way.base (call_of m) here.stage _ m.sized here.len here.fetched here.is free is
+
+    called : InCall fds m.fd (call_of m) None (Some place) m.faulted start new
+    called = in_call_on fds m.fd (call_of m) None None m.place (Some place) m.faulted m.faulted start now now new (Places (Bytes here.bytes)) place way.called (between_self now) is refl
+        (ap (λ p. either_of p (Some place)) way.placed) (or_none m.faulted)
+
+    done : IsDone start.sight new.sight (call_of m) (Bytes here.bytes) place
+    done = done_plainly start now new (call_of m) (Bytes here.bytes) place way.called.later (tells_none m.place m.file m.at m.copied list start.sight now.sight way.placed way.tells) (ap (λ (p : Pass). p.call) here.is)
+        (subst IsCallFree (sym stands) free) is placed content legally mount way.called.mount
+
+    has_read : HasRead m.file m.at list start.sight new.sight record { place = place; len = m.copied }
+    has_read = record {
+      bytes = here.bytes;
+      rest = here.rest;
+      list_is = here.list_is;
+      count = here.count;
+      placed = subst (λ len. IsDone start.sight new.sight (Read m.file m.at len) (Bytes here.bytes) place) (sym way.room) done;
+    }
+
+    -- SIZE is given back first, where it was taken
+    pub place_sized : m.sized ≡ true → IsOnWayAt fds (record m { stage = Releases; place = Some place }) list start new Releases
+    place_sized sized = record {
+      called = called;
+      base = base;
+      stands = by_sizes now new None (Places (Bytes here.bytes)) place is
+          (λ sizes. (m.sized ≡ true) × (fetched : List (ℕ × List ℕ)) × IsAt (record m { stage = Releases; place = Some place }) base (pass_of new.sight) Releasing (read_hands sizes (call_of m) m.sized) fetched) (
+            sized,
+            here.fetched,
+            record {
+              len = here.len;
+              is = then_is
+                  ∙ ap (λ b. reading base (call_of m) (if b then Releasing else giving now.sight.opened.sizes (call_of m)) (read_hands now.sight.opened.sizes (call_of m) m.sized) m.sized here.len here.fetched) sized;
+            },
+          );
+      placed = (place, refl);
+      tells = has_read;
+      room = way.room;
+    }
+
+    -- or else the pages
+    pub place_unsized : (next : ReadMachine) (progress : Progress) (page : ℕ) → m.sized ≡ false → page ≡ first_page new.sight.opened.sizes (call_of m)
+        → GivesFrom new.sight.opened.sizes (record m { place = Some place }) page next progress → ReadGoes fds start next list new progress
+    place_unsized next progress page unsized at gives =
+        gives_on fds (record m { place = Some place }) next list (first_page new.sight.opened.sizes (call_of m)) progress start new base here.len here.fetched
+        (record { called = called; tells = has_read; room = way.room }) (place, refl) (omega arith) (omega arith)
+        (by_sizes now new None (Places (Bytes here.bytes)) place is
+        (λ sizes. pass_of new.sight ≡ reading base (call_of m) (giving_at sizes m (first_page sizes (call_of m))) (pages_from (first_page sizes (call_of m)) (end_page sizes (call_of m) - first_page sizes (call_of m))) m.sized here.len here.fetched)
+        gives_pages)
+        (subst (λ p. GivesFrom new.sight.opened.sizes (record m { place = Some place }) p next progress) at gives)
+      where
+        sizes : Sizes
+        sizes = now.sight.opened.sizes
+
+        gives_pages : pass_of new.sight
+            ≡ reading base (call_of m) (giving_at now.sight.opened.sizes m (first_page now.sight.opened.sizes (call_of m)))
+            (pages_from (first_page now.sight.opened.sizes (call_of m)) (end_page now.sight.opened.sizes (call_of m) - first_page now.sight.opened.sizes (call_of m))) m.sized here.len here.fetched
+        gives_pages =
+            then_is
+            ∙ ap (λ s. reading base (call_of m) s (read_hands now.sight.opened.sizes (call_of m) m.sized) m.sized here.len here.fetched)
+            (ap (λ b. if b then Releasing else giving now.sight.opened.sizes (call_of m)) unsized ∙ giving_first now.sight.opened.sizes m)
+            ∙ ap (λ h. reading base (call_of m) (giving_at now.sight.opened.sizes m (first_page now.sight.opened.sizes (call_of m))) h m.sized here.len here.fetched)
+            (ap (λ b. with_if b (SIZE m.file) (pages_from (first_page now.sight.opened.sizes (call_of m)) (page_count now.sight.opened.sizes (call_of m)))) unsized ∙ pages_all now.sight.opened.sizes m)

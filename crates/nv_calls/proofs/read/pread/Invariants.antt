@@ -1,0 +1,17 @@
+-- The tries so far have placed nothing.
+use Rattle.std.proofs.Common.{◌≡◌}
+use Rattle.nv_table.specs.Idle.{IsIdle, IsLater}
+use Rattle.nv_table.specs.States.{IsOf}
+use Rattle.nv_calls.specs.Answers.{IsUnplaced}
+use Rattle.nv_calls.proofs.read.pread.Given as goal
+
+abbrev pub invariant-loop : goal.invariant-loop
+invariant-loop g l = record {
+  board : IsOf l.mount.board l.pass;
+  idle : IsIdle l.pass;
+  later : IsLater l.initial.pass l.pass;
+  spare : l.pass.spare ≡ l.initial.pass.spare;
+  unplaced : IsUnplaced l.initial.pass.sight l.pass.sight;
+  next : (goal.iterator-loop g).can_next l.iterator';
+  finite : (goal.iterator-loop g).is_finite l.iterator';
+}

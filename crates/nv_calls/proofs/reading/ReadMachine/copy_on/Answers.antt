@@ -1,0 +1,136 @@
+-- Each page whose buffer counts is copied behind those before it.
+use Rattle.std.proofs.Common.{◌≡◌, ◌-◌, ◌%◌, ◌<◌, ◌≤◌, [], sym, ap, subst, ◌∙◌, arith}
+use Rattle.std.specs.Prelude.{Some, None}
+use Rattle.nv_core.specs.Words.{Sizes, PAGE, page_total}
+use Rattle.nv_core.specs.Passes.{first_page, end_read, times}
+use Rattle.nv_plain.specs.Pieces.{Piece, pages_touched}
+use Rattle.nv_table.specs.Keys.{sizes_of}
+use Rattle.nv_table.specs.Opened.{Opened}
+use Rattle.nv_table.specs.Sights.{Sight, pass_of, values_of, slot_times}
+use Rattle.nv_table.specs.States.{BoardState}
+use Rattle.nv_pages.specs.PageWork.{page_slot}
+use Rattle.nv_pages.proofs.AlterLaws.{altered_then}
+use Rattle.nv_calls.specs.Copied.{IsPut}
+use Rattle.nv_calls.specs.Reads.{call_of, page_piece, IsLooking}
+use Rattle.nv_calls.proofs.BelowLaws.{fetched_below}
+use Rattle.nv_calls.proofs.LookLaws.{read_page_there, altered_none, still_altered, of_kept, page_carried, piece_is, looking_there, looking_few, looking_left, looking_held, looking_most, looking_more}
+use Rattle.nv_calls.proofs.reading.ReadMachine.copy_on.Goals as goal
+
+pub loop-page-init : goal.loop-page-init
+loop-page-init g c = record { on = omega arith; same = altered_none c.args.pass.now; looking = λ base is. is }
+
+pub overflow_sub-page : goal.overflow_sub-page
+overflow_sub-page g c =
+    let at = c.loop-page.invariant.looking c.requires.looking.0 c.requires.looking.1 in
+    let low = at.copied.from in
+    let first = c.first_page-first.ensures ∙ ap (λ (s : Sizes). first_page s (call_of c.args.self.now)) c.layout_of-layout.ensures in
+    omega (arith, low, first)
+
+pub cut-span-requires-clause-piece : goal.cut-span-requires-clause-piece
+cut-span-requires-clause-piece g c =
+    let m = c.args.self.now in
+    let at = c.loop-page.invariant.looking c.requires.looking.0 c.requires.looking.1 in
+    let end = c.end_read-end.ensures at.len at.covers in
+    let less = c.loop-page-test.true in
+    let first = c.first_page-first.ensures in
+    let low = at.copied.from in
+    let start = ap (λ (s : Sizes). first_page s (call_of m)) c.layout_of-layout.ensures in
+    subst (λ n. c.loop-page.page - c.first_page-first.result < pages_touched m.at n c.layout_of-layout.result.page) (sym at.covers) (omega (arith, end, less, first, low, start))
+
+pub copy_part-requires-clause-page : goal.copy_part-requires-clause-page
+copy_part-requires-clause-page g c =
+    let sizes = c.args.pass.now.sight.opened.sizes in
+    let m = c.args.self.now in
+    let page = c.loop-page.page in
+    let at = c.loop-page.invariant.looking c.requires.looking.0 c.requires.looking.1 in
+    let more = subst (λ n. page < n) (c.end_read-end.ensures at.len at.covers ∙ ap (λ (s : Sizes). end_read s (call_of m) at.len) c.layout_of-layout.ensures) c.loop-page-test.true in
+    let some = subst (λ (s : Sizes). 1 ≤ s.page) c.layout_of-layout.ensures (let least = c.layout_of-layout.result.limits.least_page in omega (arith, least)) in
+    subst (λ (b : BoardState). page < page_total b.opened.sizes) (sym c.board.ensures)
+    (subst (λ (o : Opened). page < page_total o.sizes) c.requires.board.same_mount
+    (read_page_there sizes m page c.requires.allowed (looking_few sizes m c.loop-page.list c.requires.looking.0 (values_of c.args.pass.now.sight) (pass_of c.args.pass.now.sight) page c.loop-page.copied at) at.copied.from
+    (looking_there sizes m c.loop-page.list c.requires.looking.0 (values_of c.args.pass.now.sight) (pass_of c.args.pass.now.sight) page c.loop-page.copied at some more)))
+
+pub copy_part-requires-clause-carries : goal.copy_part-requires-clause-carries
+copy_part-requires-clause-carries g c =
+    let old = c.args.pass.now in
+    let now = c.loop-page.pass in
+    let sizes = old.sight.opened.sizes in
+    let m = c.args.self.now in
+    let page = c.loop-page.page in
+    let at = c.loop-page.invariant.looking c.requires.looking.0 c.requires.looking.1 in
+    let more = subst (λ n. page < n) (c.end_read-end.ensures at.len at.covers ∙ ap (λ (s : Sizes). end_read s (call_of m) at.len) c.layout_of-layout.ensures) c.loop-page-test.true in
+    let some = subst (λ (s : Sizes). 1 ≤ s.page) c.layout_of-layout.ensures (let least = c.layout_of-layout.result.limits.least_page in omega (arith, least)) in
+    let there = read_page_there sizes m page c.requires.allowed (looking_few sizes m c.loop-page.list c.requires.looking.0 (values_of old.sight) (pass_of old.sight) page c.loop-page.copied at) at.copied.from
+    (looking_there sizes m c.loop-page.list c.requires.looking.0 (values_of old.sight) (pass_of old.sight) page c.loop-page.copied at some more) in
+    let held = looking_held sizes m c.loop-page.list c.requires.looking.0 (values_of old.sight) (pass_of old.sight) page c.loop-page.copied at some more in
+    subst (λ (b : BoardState). slot_times (page_slot b.opened.sizes page) now.now ≡ 1) (sym c.board.ensures)
+    (subst (λ (o : Opened). slot_times (page_slot o.sizes page) now.now ≡ 1) (ap (λ (v : Sight). v.opened) c.loop-page.invariant.same.sight ∙ c.requires.board.same_mount)
+    (page_carried now page (still_altered old now c.loop-page.invariant.same c.requires.still)
+    (subst (λ (v : Sight). (pass_of v).left ≡ []) (sym c.loop-page.invariant.same.sight) (looking_left sizes m c.loop-page.list c.requires.looking.0 (values_of old.sight) (pass_of old.sight) page c.loop-page.copied at))
+    (subst (λ (v : Sight). times (PAGE page) (pass_of v).hands ≡ 1) (sym c.loop-page.invariant.same.sight) held)
+    (subst (λ (v : Sight). page < page_total v.opened.sizes) (sym c.loop-page.invariant.same.sight) there)))
+
+pub copy_part-requires-clause-room : goal.copy_part-requires-clause-room
+copy_part-requires-clause-room g c =
+    let old = c.args.pass.now in
+    let sizes = old.sight.opened.sizes in
+    let m = c.args.self.now in
+    let page = c.loop-page.page in
+    let at = c.loop-page.invariant.looking c.requires.looking.0 c.requires.looking.1 in
+    let more = subst (λ n. page < n) (c.end_read-end.ensures at.len at.covers ∙ ap (λ (s : Sizes). end_read s (call_of m) at.len) c.layout_of-layout.ensures) c.loop-page-test.true in
+    let some = subst (λ (s : Sizes). 1 ≤ s.page) c.layout_of-layout.ensures (let least = c.layout_of-layout.result.limits.least_page in omega (arith, least)) in
+    let most = looking_most sizes m c.loop-page.list c.requires.looking.0 (values_of old.sight) (pass_of old.sight) page c.loop-page.copied at some more in
+    let few = looking_few sizes m c.loop-page.list c.requires.looking.0 (values_of old.sight) (pass_of old.sight) page c.loop-page.copied at in
+    let from = c.cut-span.ensures.from ∙ ap (λ (p : Piece). p.from) (piece_is sizes (sizes_of c.layout_of-layout.result) m page c.first_page-first.result c.layout_of-layout.ensures c.first_page-first.ensures) in
+    let inside = c.cut-span.ensures.inside in
+    let long = c.loop-page.auto.list in
+    let room = c.requires.room in
+    omega (arith, most, few, from, inside, long, room)
+
+pub loop-page-preserved : goal.loop-page-preserved
+loop-page-preserved g c =
+    let old = c.args.pass.now in
+    let sizes = old.sight.opened.sizes in
+    let m = c.args.self.now in
+    let page = c.loop-page.page in
+    let some = subst (λ (s : Sizes). 1 ≤ s.page) c.layout_of-layout.ensures (let least = c.layout_of-layout.result.limits.least_page in omega (arith, least)) in
+    let piece = piece_is sizes (sizes_of c.layout_of-layout.result) m page c.first_page-first.result c.layout_of-layout.ensures c.first_page-first.ensures in
+    let put = of_kept old c.loop-page.pass (λ kept. IsPut (kept (PAGE page)) (c.cut-span.result.at % c.layout_of-layout.result.page) c.loop-page.copied c.cut-span.result.size c.loop-page.list c.copy_part.new.list (Some c.in-Some.count))
+    c.loop-page.invariant.same c.requires.still c.in-Some.ensures.copied in
+    record {
+      on = let on = c.loop-page.invariant.on in omega (arith, on);
+      same = altered_then (λ kept. kept) (λ kept. kept) old c.loop-page.pass c.copy_part.new.pass c.loop-page.invariant.same c.in-Some.ensures.same;
+      looking = λ base is.
+          let at = c.loop-page.invariant.looking base is in
+          let more = subst (λ n. page < n) (c.end_read-end.ensures at.len at.covers ∙ ap (λ (s : Sizes). end_read s (call_of m) at.len) c.layout_of-layout.ensures) c.loop-page-test.true in
+          looking_more sizes m c.loop-page.list base (values_of old.sight) (pass_of old.sight) page c.loop-page.copied at some more
+          (fetched_below old.sight.opened old.sight.run old.sight.number c.sees_a_run.ensures.run)
+          (c.cut-span.result.at % c.layout_of-layout.result.page) c.cut-span.result.size c.in-Some.count c.copy_part.new.list
+          (ap (λ n. n % c.layout_of-layout.result.page) (c.cut-span.ensures.at ∙ ap (λ (p : Piece). p.at) piece) ∙ ap (λ (s : Sizes). (page_piece sizes m page).at % s.page) c.layout_of-layout.ensures)
+          (c.cut-span.ensures.size ∙ ap (λ (p : Piece). p.size) piece) put;
+    }
+
+pub returns-after-loop-page-clause-missed : goal.returns-after-loop-page-clause-missed
+returns-after-loop-page-clause-missed g c len covers more =
+    let m = c.args.self.now in
+    let at = c.loop-page.invariant.looking c.requires.looking.0 c.requires.looking.1 in
+    let here = c.end_read-end.ensures at.len at.covers ∙ ap (λ (s : Sizes). end_read s (call_of m) at.len) c.layout_of-layout.ensures in
+    let there = c.end_read-end.ensures len covers ∙ ap (λ (s : Sizes). end_read s (call_of m) len) c.layout_of-layout.ensures in
+    let till = at.copied.till in
+    let past = c.loop-page-test.false in
+    absurd (more (omega (arith, here, there, till, past)))
+
+pub returns-in_default-clause-same : goal.returns-in_default-clause-same
+returns-in_default-clause-same g c = altered_then (λ kept. kept) (λ kept. kept) c.args.pass.now c.loop-page.pass c.copy_part.new.pass c.loop-page.invariant.same c.copy_part.ensures.same
+
+pub returns-in_default-clause-looking : goal.returns-in_default-clause-looking
+returns-in_default-clause-looking g c base is =
+    let old = c.args.pass.now in
+    let put = of_kept old c.loop-page.pass (λ kept. IsPut (kept (PAGE c.loop-page.page)) (c.cut-span.result.at % c.layout_of-layout.result.page) c.loop-page.copied c.cut-span.result.size c.loop-page.list c.copy_part.new.list None)
+    c.loop-page.invariant.same c.requires.still c.in_default.ensures.copied in
+    subst (λ list. IsLooking old.sight.opened.sizes (record c.args.self.now { copied = c.loop-page.copied }) list base (values_of old.sight) (pass_of old.sight) c.loop-page.page) (sym put.1) (c.loop-page.invariant.looking base is)
+
+pub returns-in_default-clause-missed : goal.returns-in_default-clause-missed
+returns-in_default-clause-missed g c len covers more =
+    (of_kept c.args.pass.now c.loop-page.pass (λ kept. IsPut (kept (PAGE c.loop-page.page)) (c.cut-span.result.at % c.layout_of-layout.result.page) c.loop-page.copied c.cut-span.result.size c.loop-page.list c.copy_part.new.list None)
+    c.loop-page.invariant.same c.requires.still c.in_default.ensures.copied).0

@@ -1,0 +1,47 @@
+-- The store goes first, then CLEANUP of a page, SIZE, and the pages, the last of them first.
+use Rattle.std.proofs.Common.{◌+◌, ◌-◌, ◌∷◌, sym, ap, subst, ◌∙◌, arith}
+use Rattle.std.proofs.Math.Nat.{mul-le-mul_left}
+use Rattle.nv_core.specs.Words.{SIZE, PAGE, place}
+use Rattle.nv_core.specs.Passes.{first_page}
+use Rattle.nv_table.specs.Keys.{sizes_of}
+use Rattle.nv_calls.specs.Ends.{BeginsWithin}
+use Rattle.nv_calls.specs.Reads.{call_of}
+use Rattle.nv_calls.proofs.LeaveLaws.{last_page, held_size, held_pages}
+use Rattle.nv_calls.proofs.reading.ReadMachine.last_held.Goals as goal
+
+pub returns-then-held-2 : goal.returns-then-held-2
+returns-then-held-2 c =
+    record { cell = SIZE c.args.self.now.file; at_is = c.size.ensures; cells = held_size (sizes_of c.args.layout) (call_of c.args.self.now) c.args.held c.if-held.false c.in_default.is c.if-held-2.true }
+
+pub overflow_add-first_page : goal.overflow_add-first_page
+overflow_add-first_page c =
+    let sizes = sizes_of c.args.layout in
+    let call = call_of c.args.self.now in
+    let held = c.args.held in
+    let last = last_page sizes (first_page sizes call) held.pages (subst (BeginsWithin sizes) (held_pages sizes call held held.pages c.if-held.false c.in_default.is c.if-held-2.false) c.requires.within) in
+    let first = c.first_page.ensures in
+    let low = last.1 in
+    omega (arith, first, low, mul-le-mul_left c.args.layout.files c.args.layout.limits.most_pages, c.args.layout.limits.most_files)
+
+pub page_lock-requires : goal.page_lock-requires
+page_lock-requires c =
+    let sizes = sizes_of c.args.layout in
+    let call = call_of c.args.self.now in
+    let held = c.args.held in
+    let last = last_page sizes (first_page sizes call) held.pages (subst (BeginsWithin sizes) (held_pages sizes call held held.pages c.if-held.false c.in_default.is c.if-held-2.false) c.requires.within) in
+    let first = c.first_page.ensures in
+    let low = last.1 in
+    record { there = omega (arith, first, low) }
+
+pub returns : goal.returns
+returns c =
+    let sizes = sizes_of c.args.layout in
+    let call = call_of c.args.self.now in
+    let held = c.args.held in
+    let all = held_pages sizes call held held.pages c.if-held.false c.in_default.is c.if-held-2.false in
+    let last = last_page sizes (first_page sizes call) held.pages (subst (BeginsWithin sizes) all c.requires.within) in
+    record {
+      cell = PAGE (first_page sizes call + (held.pages - 1));
+      at_is = c.page_lock.ensures ∙ ap (λ first. place sizes (PAGE (first + (held.pages - 1)))) c.first_page.ensures;
+      cells = all ∙ last.0 ∙ ap (λ rest. PAGE (first_page sizes call + (held.pages - 1)) ∷ rest) (sym (held_pages sizes call held (held.pages - 1) c.if-held.false c.in_default.is c.if-held-2.false));
+    }
