@@ -1,6 +1,6 @@
 -- The header's part has room where no cleaner moves its tail, and comes to have it by a move: each event keeps this.
-use Rattle.std.proofs.Common.{◌≡◌, ◌≢◌, ◌⊎◌, ℕ, zero, suc, ◌+◌, ◌<◌, ◌≤◌, ◌==◌, Bool, false, List, [], ◌∷◌, length, drop, inl, inr, refl, sym, ap, subst, ◌∙◌, arith}
-use Rattle.std.specs.Prelude.{slice_index_or, Some, None}
+use Rattle.std.proofs.Common.{◌≡◌, ◌≢◌, ◌⊎◌, ℕ, zero, suc, ◌+◌, ◌≤◌, ◌==◌, Bool, false, List, [], ◌∷◌, length, drop, drop-cons, inl, inr, refl, sym, ap, subst, ◌∙◌, arith}
+use Rattle.std.specs.Prelude.{Some, None}
 use Rattle.std.proofs.Math.Numerals.{add-one}
 use Rattle.std.proofs.lemmas.Bool.{eqb-true, cases_eq}
 use Rattle.std.proofs.lemmas.List.{drop_all}
@@ -67,11 +67,6 @@ none_refused step left (APart device before) leaves = leaves
 none_refused step left Bare leaves = leaves
 none_refused step left (AStore device) leaves = leaves
 none_refused step left (ABuffer buffer) leaves = leaves
-
-next_due : (steps : List Step) (calls : ℕ) (step : Step) → calls < length steps → slice_index_or steps calls step ≡ step → drop calls steps ≡ step ∷ drop (suc calls) steps
-next_due [] calls step less is = absurd (omega (arith, less))
-next_due (one ∷ steps) zero step less is = ap (λ s. s ∷ steps) is
-next_due (one ∷ steps) (suc calls) step less is = next_due steps calls step (omega (arith, less)) is
 
 -- ---- what a stage owes
 
@@ -266,7 +261,7 @@ module _ (sizes : Sizes) (first : Values) (by : ℕ) (core : Core) (work : Work)
     after_call : work.ending ≡ Made → EndsRoomy (drop (suc calls) (tail_steps batch.reached)) ((after_work sizes by work core).values HEADER)
     after_call made = subst (EndsRoomy (drop (suc calls) (tail_steps batch.reached))) (sym (value_now ∙ ap (λ how. called (Writes due.step due.spares) how (core.values HEADER)) made))
         (one_comes due.step due.spares (drop (suc calls) (tail_steps batch.reached)) (core.values HEADER)
-        (subst (λ list. EndsRoomy list (core.values HEADER)) (next_due (tail_steps batch.reached) calls due.step due.there due.at) before_call)
+        (subst (λ list. EndsRoomy list (core.values HEADER)) (drop-cons (tail_steps batch.reached) calls due.step due.there ∙ ap (λ step. step ∷ drop (suc calls) (tail_steps batch.reached)) due.at) before_call)
         (subst (MayLeave (core.values HEADER) (Writes due.step due.spares)) made leaves))
 
     -- where the cleaner stands then

@@ -23,6 +23,7 @@ pub mod KeepsWindow
 pub mod Inherits
 pub mod KeepsStop
 pub mod KeepsSearches
+pub mod FilledParts
 pub mod KeepsRooms
 pub mod KeepsNumbers
 pub mod KeepsLoaded

@@ -26,7 +26,7 @@ use Rattle.nv_core.proofs.SweepDeeds.{frees_hand}
 use Rattle.nv_core.proofs.SweepReadied.{FreesNone, cleaned_was, lifts_rekind, drops_rekind, cleans_rekind, freed_swept, still_swept, now_swept, freed_worked}
 use Rattle.nv_core.proofs.KeepsLocks.{ready_is}
 use Rattle.nv_core.proofs.WindowLaws.{apart_within}
-use Rattle.nv_core.proofs.Rekinded.{holds_rekind, returns_rekind, rekind_still, rekind_before}
+use Rattle.nv_core.proofs.Rekinded.{holds_rekind, returns_rekind, rekind_still, rekind_before, rekind_free}
 
 pub same_chore : (one other : Chore) → Some one ≡ Some other → one ≡ other
 same_chore one other e = cc
@@ -109,31 +109,62 @@ module _ (sizes : Sizes) (first : Values) (by : ℕ) (core : Core) (found : ℕ)
       let at : HasDrawn sizes (core.passes by).call (core.passes by).entries × IsAmong (core.passes by).first (core.passes by).entries next = subst (StandsAt sizes (core.passes by)) may.may (sound.standing by).at in
       sound.window.unseized_is by next (subst (λ s. IsUnseized s (core.passes by).first (core.passes by).entries next) (sym may.may) (omega arith, at.1.1))
 
-  -- one that says after a step that its entry was made ready said so before, or the step has made it ready
-  abbrev SaidBefore : Deed → (n : ℕ) → Type 0
-  SaidBefore deed n = was_readied (entry_at sizes (after_step sizes by deed found core) n) ≡ true → (was_readied (entry_at sizes core n) ≡ true) ⊎ (deed ≡ Readies n)
+  frees_was : (n : ℕ) → MayFind sizes by core (Tends (Frees n)) found → was_readied (entry_at sizes core n) ≡ true
+  frees_was n may = cleaned_was (entry_at sizes core n) (frees_hand sizes first core sound by found n may).kind_is
 
-  said_same : (deed : Deed) (n : ℕ) → (after_step sizes by deed found core).words (ENTRY (slot_of sizes n)) ≡ core.words (ENTRY (slot_of sizes n)) → SaidBefore deed n
-  said_same deed n same kind = inl (ap was_readied (sym same) ∙ kind)
+  -- a word that says after a step that its entry was made ready said so before, or the step has made it ready
+  abbrev SaidBefore : Deed → (slot : ℕ) → Type 0
+  SaidBefore deed slot = was_readied ((after_step sizes by deed found core).words (ENTRY slot)) ≡ true → (was_readied (core.words (ENTRY slot)) ≡ true) ⊎ ((next : ℕ) × (deed ≡ Readies next) × (slot ≡ slot_of sizes next))
 
-  said_none : (slot value : ℕ) → was_readied value ≢ true → (word : Word) → was_readied (with_word core.words (ENTRY slot) value word) ≡ true → was_readied (core.words word) ≡ true
-  said_none slot value not_so = by_word (λ word v. was_readied v ≡ true → was_readied (core.words word) ≡ true) core.words (ENTRY slot) value (λ e. absurd (not_so e)) (λ word ne e. e)
+  said_same : (deed : Deed) (slot : ℕ) → (after_step sizes by deed found core).words (ENTRY slot) ≡ core.words (ENTRY slot) → SaidBefore deed slot
+  said_same deed slot same kind = inl (ap was_readied (sym same) ∙ kind)
 
-  pub said_before : (deed : Deed) → MayFind sizes by core deed found → (n : ℕ) → InWindow core n → SaidBefore deed n
-  said_before (Readies next) may n within kind = elim (cases_eq n next) [
-    | inl same ↦ inr (ap Readies (sym same))
-    | inr ne ↦ inl (ap was_readied (sym (word_else core.words (ENTRY (slot_of sizes next)) (ready_word sizes (core.passes by) next) (ENTRY (slot_of sizes n)) (λ e. apart_within sizes core sound.window n next within (ready_within next may) ne (ap index e)))) ∙ kind)
+  -- after a word was set to a value of which something fails, it holds only where it held before
+  set_otherwise : (P : ℕ → Type 0) (slot value : ℕ) → (P value → ⊥) → (word : Word) → P (with_word core.words (ENTRY slot) value word) → P (core.words word)
+  set_otherwise P slot value never = by_word (λ word v. P v → P (core.words word)) core.words (ENTRY slot) value (λ is. absurd (never is)) (λ word ne is. is)
+
+  pub slot_before : (deed : Deed) → MayFind sizes by core deed found → (slot : ℕ) → SaidBefore deed slot
+  slot_before (Readies next) may slot kind = elim (cases_eq slot (slot_of sizes next)) [
+    | inl same ↦ inr (next, refl, same)
+    | inr ne ↦ inl (ap was_readied (sym (word_else core.words (ENTRY (slot_of sizes next)) (ready_word sizes (core.passes by) next) (ENTRY slot) (λ e. ne (ap index e)))) ∙ kind)
   ]
-  said_before (Seizes next) may n within kind = inl (said_none (slot_of sizes next) filling (λ e. not_both e refl) (ENTRY (slot_of sizes n)) kind)
-  said_before (Breaks next) may n within kind = inl (said_none (slot_of sizes next) broken (λ e. not_both e refl) (ENTRY (slot_of sizes n)) kind)
-  said_before (Holds next) may n within kind = inl (rekind_before sizes core next (found + 1) (holds_rekind sizes first by core found next sound may) (ENTRY (slot_of sizes n)) kind)
-  said_before (Returns next) may n within kind = inl (rekind_before sizes core next (found - 1) (returns_rekind sizes first by core found next sound may) (ENTRY (slot_of sizes n)) kind)
-  said_before (Tends (Lifts next)) may n within kind = inl (rekind_before sizes core next (found + 1) (lifts_rekind sizes first by core found next sound may) (ENTRY (slot_of sizes n)) kind)
-  said_before (Tends (Drops next)) may n within kind = inl (rekind_before sizes core next (found - 1) (drops_rekind sizes first by core found next sound may) (ENTRY (slot_of sizes n)) kind)
-  said_before (Tends (Cleans next)) may n within kind = inl (rekind_before sizes core next (found + 1) (cleans_rekind sizes first by core found next sound may) (ENTRY (slot_of sizes n)) kind)
-  said_before (Tends (Frees next)) may n within kind = inl (said_none (slot_of sizes next) free (λ e. not_both e refl) (ENTRY (slot_of sizes n)) kind)
-  said_before (Tends chore) may n within kind = said_same (Tends chore) n (untouched sizes by core (Tends chore) found may (ENTRY (slot_of sizes n)) refl) kind
-  said_before deed may n within kind = said_same deed n (untouched sizes by core deed found may (ENTRY (slot_of sizes n)) refl) kind
+  slot_before (Seizes next) may slot kind = inl (set_otherwise (λ v. was_readied v ≡ true) (slot_of sizes next) filling (λ e. not_both e refl) (ENTRY slot) kind)
+  slot_before (Breaks next) may slot kind = inl (set_otherwise (λ v. was_readied v ≡ true) (slot_of sizes next) broken (λ e. not_both e refl) (ENTRY slot) kind)
+  slot_before (Holds next) may slot kind = inl (rekind_before sizes core next (found + 1) (holds_rekind sizes first by core found next sound may) (ENTRY slot) kind)
+  slot_before (Returns next) may slot kind = inl (rekind_before sizes core next (found - 1) (returns_rekind sizes first by core found next sound may) (ENTRY slot) kind)
+  slot_before (Tends (Lifts next)) may slot kind = inl (rekind_before sizes core next (found + 1) (lifts_rekind sizes first by core found next sound may) (ENTRY slot) kind)
+  slot_before (Tends (Drops next)) may slot kind = inl (rekind_before sizes core next (found - 1) (drops_rekind sizes first by core found next sound may) (ENTRY slot) kind)
+  slot_before (Tends (Cleans next)) may slot kind = inl (rekind_before sizes core next (found + 1) (cleans_rekind sizes first by core found next sound may) (ENTRY slot) kind)
+  slot_before (Tends (Frees next)) may slot kind = inl (set_otherwise (λ v. was_readied v ≡ true) (slot_of sizes next) free (λ e. not_both e refl) (ENTRY slot) kind)
+  slot_before (Tends chore) may slot kind = said_same (Tends chore) slot (untouched sizes by core (Tends chore) found may (ENTRY slot) refl) kind
+  slot_before deed may slot kind = said_same deed slot (untouched sizes by core deed found may (ENTRY slot) refl) kind
+
+  pub said_before : (deed : Deed) → MayFind sizes by core deed found → (n : ℕ) → InWindow core n → was_readied (entry_at sizes (after_step sizes by deed found core) n) ≡ true → (was_readied (entry_at sizes core n) ≡ true) ⊎ (deed ≡ Readies n)
+  said_before deed may n within kind = elim (slot_before deed may (slot_of sizes n) kind) [
+    | inl old ↦ inl old
+    | inr made ↦ elim (cases_eq n made.0) [
+      | inl same ↦ inr (made.1 ∙ ap Readies (sym same))
+      | inr ne ↦ absurd (apart_within sizes core sound.window n made.0 within (ready_within made.0 (subst (λ d. MayFind sizes by core d found) made.1 may)) ne made.2)
+    ]
+  ]
+
+  -- one that says that its entry is free said so before, or the step has freed the entry, which was made ready
+  abbrev FreeBefore : Deed → (slot : ℕ) → Type 0
+  FreeBefore deed slot = (after_step sizes by deed found core).words (ENTRY slot) ≡ free → (core.words (ENTRY slot) ≡ free) ⊎ (was_readied (core.words (ENTRY slot)) ≡ true)
+
+  pub free_before : (deed : Deed) → MayFind sizes by core deed found → (slot : ℕ) → FreeBefore deed slot
+  free_before (Readies next) may slot is = inl (set_otherwise (λ v. v ≡ free) (slot_of sizes next) (ready_word sizes (core.passes by) next)
+      (λ e. not_both (ap was_readied (sym e) ∙ ready_is (if next == (core.passes by).first then (core.passes by).entries else 0) (page_at sizes (core.passes by) next)) refl) (ENTRY slot) is)
+  free_before (Seizes next) may slot is = inl (set_otherwise (λ v. v ≡ free) (slot_of sizes next) filling (λ e. omega (arith, e)) (ENTRY slot) is)
+  free_before (Breaks next) may slot is = inl (set_otherwise (λ v. v ≡ free) (slot_of sizes next) broken (λ e. omega (arith, e)) (ENTRY slot) is)
+  free_before (Holds next) may slot is = inl (rekind_free sizes core next (found + 1) (holds_rekind sizes first by core found next sound may) (ENTRY slot) is)
+  free_before (Returns next) may slot is = inl (rekind_free sizes core next (found - 1) (returns_rekind sizes first by core found next sound may) (ENTRY slot) is)
+  free_before (Tends (Lifts next)) may slot is = inl (rekind_free sizes core next (found + 1) (lifts_rekind sizes first by core found next sound may) (ENTRY slot) is)
+  free_before (Tends (Drops next)) may slot is = inl (rekind_free sizes core next (found - 1) (drops_rekind sizes first by core found next sound may) (ENTRY slot) is)
+  free_before (Tends (Cleans next)) may slot is = inl (rekind_free sizes core next (found + 1) (cleans_rekind sizes first by core found next sound may) (ENTRY slot) is)
+  free_before (Tends (Frees next)) may slot is = by_word (λ word v. v ≡ free → (core.words word ≡ free) ⊎ (was_readied (core.words word) ≡ true)) core.words (ENTRY (slot_of sizes next)) free (λ e. inr (frees_was next may)) (λ word ne e. inl e) (ENTRY slot) is
+  free_before (Tends chore) may slot is = inl (sym (untouched sizes by core (Tends chore) found may (ENTRY slot) refl) ∙ is)
+  free_before deed may slot is = inl (sym (untouched sizes by core deed found may (ENTRY slot) refl) ∙ is)
 
   -- one that said so says so after the step, or it has freed the entry
   abbrev SaysStill : Deed → (n : ℕ) → Type 0
@@ -163,9 +194,6 @@ module _ (sizes : Sizes) (first : Values) (by : ℕ) (core : Core) (found : ℕ)
   says_still deed may n within kind = says_same deed n (untouched sizes by core deed found may (ENTRY (slot_of sizes n)) refl) kind
 
   -- ---- both
-
-  frees_was : (n : ℕ) → MayFind sizes by core (Tends (Frees n)) found → was_readied (entry_at sizes core n) ≡ true
-  frees_was n may = cleaned_was (entry_at sizes core n) (frees_hand sizes first core sound by found n may).kind_is
 
   pub frees_now : (n : ℕ) → MayFind sizes by core (Tends (Frees n)) found → (m : ℕ) × IsFreed ((after_step sizes by (Tends (Frees n)) found core).passes m).stage n
   frees_now n may =
