@@ -1,5 +1,5 @@
 -- Copies, as advances: what the read of a page and the step after it come to together.
-use Rattle.std.proofs.Common.{◌≡◌, ℕ, ◌+◌, ◌-◌, ◌*◌, ◌%◌, ◌≤◌, Bool, true, false, List, [], ◌++◌, length, take, refl, sym, ap, subst, ◌∙◌, arith, append_assoc}
+use Rattle.std.proofs.Common.{◌≡◌, ℕ, ◌+◌, ◌-◌, ◌*◌, ◌%◌, ◌≤◌, Bool, true, false, List, [], ◌++◌, length, take, drop, refl, sym, ap, subst, ◌∙◌, arith, append_assoc}
 use Rattle.std.specs.Prelude.{None}
 use Rattle.std.proofs.lemmas.List.{length-take}
 use Rattle.nv_plain.specs.Faults.{Rose}
@@ -18,7 +18,8 @@ use Rattle.nv_table.specs.States.{PassState}
 use Rattle.nv_table.specs.Turns.{IsDue}
 use Rattle.nv_mount.specs.declared.fds.Fd.{Fd}
 use Rattle.nv_pages.specs.Altered.{IsAltered}
-use Rattle.nv_pages.specs.PageWork.{HasFailed}
+use Rattle.nv_pages.specs.PageWork.{HasFailed, with_page}
+use Rattle.nv_pages.proofs.AlterLaws.{altered_then}
 use Rattle.nv_calls.specs.declared.answers.Refusal.TheVariants.{StoreFault}
 use Rattle.nv_calls.specs.declared.machine.Progress.{Progress}
 use Rattle.nv_calls.specs.declared.machine.Progress.TheVariants.{More}
@@ -26,10 +27,10 @@ use Rattle.nv_calls.specs.declared.reading.Held.{Held}
 use Rattle.nv_calls.specs.declared.reading.ReadMachine.{ReadMachine}
 use Rattle.nv_calls.specs.declared.reading.ReadStage.TheVariants.{Copies, Bounds}
 use Rattle.nv_calls.specs.Advances.{IsSameRead, IsAdvance}
-use Rattle.nv_calls.specs.Kinds.{read_kind}
 use Rattle.nv_calls.specs.PageReads.{page_read, HasFailedFetch}
 use Rattle.nv_calls.specs.Reads.{IsLook, IsLooking, IsOnWayAt, StandsAt, Refuses, ReadGoes, page_piece}
 use Rattle.nv_calls.specs.Steps.{IsBetween}
+use Rattle.nv_calls.proofs.ArmLaws.{at_stage, arm_after}
 use Rattle.nv_calls.proofs.CopyLaws.{copying_on, read_values, read_due, fail_due, given_dirty, given_clean}
 use Rattle.nv_calls.proofs.CopyWays.{look_open, look_placed, look_goes, given_way, fail_goes, refused_faulted}
 use Rattle.nv_calls.proofs.FetchLaws.{fetching_held}
@@ -65,7 +66,7 @@ fail_advance fds m list now mid page dirty stage_is failed unfaulted new stepped
     kind = λ kept. absurd (clash (sym (refused_faulted failing next held StoreFault progress refuses) ∙ kept ∙ unfaulted));
   };
   goes = λ start way.
-      fail_goes fds m list start now mid page dirty (subst (IsOnWayAt fds m list start now) stage_is way) between stepped.0 new stepped.1 stepped.2 unfaulted scratch next progress
+      fail_goes fds m list start now mid page dirty (at_stage way stage_is) between stepped.0 new stepped.1 stepped.2 unfaulted scratch next progress
       (subst (λ h. Refuses failing h StoreFault next progress) held_is refuses);
 }
   where
@@ -85,6 +86,30 @@ fail_advance fds m list now mid page dirty stage_is failed unfaulted new stepped
     clash e = cc
 
 -- ---- the read went well
+
+-- of a page with entries: its cells keep what they kept
+pub kept_so : {now mid : PassState} {dirty : Bool} (page : ℕ) (bytes : List ℕ) → dirty ≡ true → IsAltered (λ kept. kept) now mid → IsAltered (read_values dirty page bytes) now mid
+kept_so {now = now} {mid = mid} page bytes so same = subst (λ b. IsAltered (read_values b page bytes) now mid) (sym so) same
+
+-- of one without: its bytes have come into its buffer
+pub filled_so : {now seen mid : PassState} {dirty : Bool} (page : ℕ) (scratch : List ℕ) → dirty ≡ false → IsAltered (λ kept. kept) now seen → IsAltered (with_page page (take seen.sight.opened.sizes.page scratch)) seen mid
+    → IsAltered (read_values dirty page (take now.sight.opened.sizes.page scratch)) now mid
+filled_so {now = now} {seen = seen} {mid = mid} page scratch so one other =
+    subst (λ b. IsAltered (read_values b page (take now.sight.opened.sizes.page scratch)) now mid) (sym so)
+    (altered_then (λ kept. kept) (with_page page (take now.sight.opened.sizes.page scratch)) now seen mid one
+    (subst (λ (v : Sight). IsAltered (with_page page (take v.opened.sizes.page scratch)) seen mid) one.sight other))
+
+-- its machine has copied them
+pub finished_so : (m read s : ReadMachine) (now seen : PassState) (page : ℕ) (scratch : List ℕ) → seen.sight ≡ now.sight → read ≡ record m { scratch = scratch } → s ≡ record read { copied = read.copied + (page_piece seen.sight.opened.sizes read page).size }
+    → s ≡ record m { copied = m.copied + (page_piece now.sight.opened.sizes m page).size; scratch = scratch }
+finished_so m read s now seen page scratch same is then_is =
+    then_is ∙ ap (λ (x : ReadMachine). record x { copied = x.copied + (page_piece seen.sight.opened.sizes x page).size }) is
+    ∙ ap (λ (v : Sight). record m { copied = m.copied + (page_piece v.opened.sizes m page).size; scratch = scratch }) same
+
+-- and its list has them
+abbrev pub finished_list : Sizes → ReadMachine → List ℕ → (page : ℕ) → List ℕ
+finished_list sizes m list page =
+    take m.copied list ++ bytes_at (take sizes.page m.scratch) ((page_piece sizes m page).at % sizes.page) (page_piece sizes m page).size ++ drop (m.copied + (page_piece sizes m page).size) list
 
 -- a step by which the store is given back, after such a read, as the code's machine has it
 abbrev pub GivenBy : (x : ReadMachine) (mid : PassState) (page : ℕ) (new : PassState) → Type 0
@@ -117,31 +142,34 @@ module _ (fds : List Fd) (m : ReadMachine) (list : List ℕ) (now mid : PassStat
 
   module _ (new : PassState) (stage_is : m.stage ≡ Copies page dirty) where
     dirty_by : dirty ≡ true → GivenBy (record m { scratch = scratch }) mid page new → IsAdvance fds m (record m { stage = Bounds page; scratch = scratch }) list list now new More
-    dirty_by so stepped = record {
-      same = record { fd = refl; at = refl; len = refl };
-      one = record {
-        step = record { opens = None; works = stepped.1.works; deed = Gives (STORE m.file); found = stepped.0 };
-        is = taken_by now mid new None (Gives (STORE m.file)) stepped.0 between stepped.1;
-        kind = λ kept. ap (read_kind m.len) (sym stage_is);
-      };
-      goes = λ start way_is.
-          let way = subst (IsOnWayAt fds m list start now) stage_is way_is in
-          given_way fds m list start now mid page dirty way between ((page - m.file * mid.sight.opened.sizes.pages) * mid.sight.opened.sizes.page) (take mid.sight.opened.sizes.page scratch) store_mid stepped.0 new stepped.1 stepped.2
-          list (Bounds page) m.copied scratch way.room refl way.placed
-          (given_dirty m list way.base mid page dirty (copying_on m list way.base now mid page dirty altered.sight way.stands) ((page - m.file * mid.sight.opened.sizes.pages) * mid.sight.opened.sizes.page) (take mid.sight.opened.sizes.page scratch) store_mid
-          stepped.0 new stepped.1 stepped.2 so scratch refl)
-          way.placed;
-    }
+    dirty_by so stepped =
+        arm_after stage_is record { fd = refl; at = refl; len = refl } between stepped.1 refl
+        (λ start way.
+        given_way fds m list start now mid page dirty way between ((page - m.file * mid.sight.opened.sizes.pages) * mid.sight.opened.sizes.page) (take mid.sight.opened.sizes.page scratch) store_mid stepped.0 new stepped.1 stepped.2
+        list (Bounds page) m.copied scratch way.room refl way.placed
+        (given_dirty m list way.base mid page dirty (copying_on m list way.base now mid page dirty altered.sight way.stands) ((page - m.file * mid.sight.opened.sizes.pages) * mid.sight.opened.sizes.page) (take mid.sight.opened.sizes.page scratch) store_mid
+        stepped.0 new stepped.1 stepped.2 so scratch refl)
+        way.placed)
 
     -- the page has entries
     pub dirty_advance : dirty ≡ true → (s : ReadMachine) → s ≡ record m { scratch = scratch } → GivenBy s mid page new → IsAdvance fds m (record s { stage = Bounds page }) list list now new More
     dirty_advance so s s_is stepped =
         subst (λ (x : ReadMachine). GivenBy x mid page new → IsAdvance fds m (record x { stage = Bounds page }) list list now new More) (sym s_is) (dirty_by so) stepped
 
-    -- it has none: its bytes are in front of the list
-    module _ (so : dirty ≡ false) (some : 1 ≤ now.sight.opened.sizes.page) (long : now.sight.opened.sizes.page ≤ length scratch) (s : ReadMachine)
-        (s_is : s ≡ record m { copied = m.copied + (page_piece now.sight.opened.sizes m page).size; scratch = scratch }) (stepped_s : GivenBy s mid page new) (list_then rest : List ℕ)
-        (list_is : list_then ≡ take m.copied list ++ bytes_at (take now.sight.opened.sizes.page scratch) ((page_piece now.sight.opened.sizes m page).at % now.sight.opened.sizes.page) (page_piece now.sight.opened.sizes m page).size ++ rest) where
+    -- it has none, and it was finished: its bytes are in front of the list
+    module _ (so : dirty ≡ false) (some : 1 ≤ now.sight.opened.sizes.page) (long : now.sight.opened.sizes.page ≤ length scratch) (read s : ReadMachine) (seen : PassState) (same : seen.sight ≡ now.sight)
+        (read_is : read ≡ record m { scratch = scratch }) (copied_is : s ≡ record read { copied = read.copied + (page_piece seen.sight.opened.sizes read page).size }) (stepped_s : GivenBy s mid page new) (list_then : List ℕ)
+        (put_is : list_then ≡ finished_list seen.sight.opened.sizes read list page) where
+      s_is : s ≡ record m { copied = m.copied + (page_piece now.sight.opened.sizes m page).size; scratch = scratch }
+      s_is = finished_so m read s now seen page scratch same read_is copied_is
+
+      abbrev rest : List ℕ
+      rest = drop (m.copied + (page_piece now.sight.opened.sizes m page).size) list
+
+      list_is : list_then ≡ finished_list now.sight.opened.sizes (record m { scratch = scratch }) list page
+      list_is =
+          put_is ∙ ap (λ (x : ReadMachine). finished_list seen.sight.opened.sizes x list page) read_is ∙ ap (λ (v : Sight). finished_list v.opened.sizes (record m { scratch = scratch }) list page) same
+
       stepped : GivenBy (record m { copied = m.copied + (page_piece now.sight.opened.sizes m page).size; scratch = scratch }) mid page new
       stepped = subst (λ (x : ReadMachine). GivenBy x mid page new) s_is stepped_s
 
@@ -174,24 +202,17 @@ module _ (fds : List Fd) (m : ReadMachine) (list : List ℕ) (now mid : PassStat
           → ((base : Pass) → IsLooking new.sight.opened.sizes s list_then base (values_of new.sight) (pass_of new.sight) (page + 1)
           → StandsAt new.sight.opened.sizes next list_last base (values_of new.sight) (pass_of new.sight) next.stage)
           → IsAdvance fds m next list list_last now later More
-      clean_advance later after list_last room next next_of look stands = record {
-        same = record { fd = ap (λ (n : ReadMachine). n.fd) next_is; at = ap (λ (n : ReadMachine). n.at) next_is; len = ap (λ (n : ReadMachine). n.len) next_is };
-        one = record {
-          step = record { opens = None; works = stepped.1.works; deed = Gives (STORE m.file); found = stepped.0 };
-          is = taken_by now mid later None (Gives (STORE m.file)) stepped.0 between is_later;
-          kind = λ kept. ap (read_kind m.len) (sym stage_is);
-        };
-        goes = λ start way_is.
-            let way = subst (IsOnWayAt fds m list start now) stage_is way_is in
-            subst (λ (n : ReadMachine). ReadGoes fds start n list_last later More) (sym next_is)
-            (look_goes fds (record m { stage = next.stage; copied = next.copied; scratch = scratch }) list_last start later next.stage look
-            (given_way fds m list start now mid page dirty way between ((page - m.file * mid.sight.opened.sizes.pages) * mid.sight.opened.sizes.page) (take mid.sight.opened.sizes.page scratch) store_mid stepped.0 later is_later stepped.2
-            list_last next.stage next.copied scratch room (look_open next.stage look) (look_placed next.stage m.place look way.placed)
-            (subst (λ (v : Sight). StandsAt mid.sight.opened.sizes (record m { stage = next.stage; copied = next.copied; scratch = scratch }) list_last way.base (values_of v) (pass_of v) next.stage) (sym after.sight)
-            (subst (λ (o : Opened). StandsAt o.sizes (record m { stage = next.stage; copied = next.copied; scratch = scratch }) list_last way.base (values_of new.sight) (pass_of new.sight) next.stage) given_opened
-            (subst (λ (n : ReadMachine). StandsAt new.sight.opened.sizes n list_last way.base (values_of new.sight) (pass_of new.sight) next.stage) next_is (stands way.base (clean_looking start way)))))
-            way.placed));
-      }
+      clean_advance later after list_last room next next_of look stands =
+          arm_after stage_is record { fd = ap (λ (n : ReadMachine). n.fd) next_is; at = ap (λ (n : ReadMachine). n.at) next_is; len = ap (λ (n : ReadMachine). n.len) next_is } between is_later refl
+          (λ start way.
+          subst (λ (n : ReadMachine). ReadGoes fds start n list_last later More) (sym next_is)
+          (look_goes fds (record m { stage = next.stage; copied = next.copied; scratch = scratch }) list_last start later next.stage look
+          (given_way fds m list start now mid page dirty way between ((page - m.file * mid.sight.opened.sizes.pages) * mid.sight.opened.sizes.page) (take mid.sight.opened.sizes.page scratch) store_mid stepped.0 later is_later stepped.2
+          list_last next.stage next.copied scratch room (look_open next.stage look) (look_placed next.stage m.place look way.placed)
+          (subst (λ (v : Sight). StandsAt mid.sight.opened.sizes (record m { stage = next.stage; copied = next.copied; scratch = scratch }) list_last way.base (values_of v) (pass_of v) next.stage) (sym after.sight)
+          (subst (λ (o : Opened). StandsAt o.sizes (record m { stage = next.stage; copied = next.copied; scratch = scratch }) list_last way.base (values_of new.sight) (pass_of new.sight) next.stage) given_opened
+          (subst (λ (n : ReadMachine). StandsAt new.sight.opened.sizes n list_last way.base (values_of new.sight) (pass_of new.sight) next.stage) next_is (stands way.base (clean_looking start way)))))
+          way.placed)))
         where
           next_is : next ≡ record m { stage = next.stage; copied = next.copied; scratch = scratch }
           next_is = next_of ∙ ap (λ (x : ReadMachine). record x { stage = next.stage; copied = next.copied }) s_is

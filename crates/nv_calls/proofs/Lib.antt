@@ -2,6 +2,7 @@ pub mod HistoryLaws
 pub mod SyncLaws
 pub mod MachineLaws
 pub mod WayLaws
+pub mod ArmLaws
 pub mod ReadLaws
 pub mod LockLaws
 pub mod FrontLaws

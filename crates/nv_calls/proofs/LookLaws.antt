@@ -17,6 +17,7 @@ use Rattle.nv_core.proofs.CrashPieces.{piece_page, piece_next}
 use Rattle.nv_core.proofs.PageLaws.{read_within}
 use Rattle.nv_core.proofs.StepWords.{page_within}
 use Rattle.nv_table.specs.Between.{IsStill}
+use Rattle.nv_table.specs.Limits.{IsWithinLimits}
 use Rattle.nv_table.specs.Sights.{Sight, pass_of, values_of, carried, slot_times, Carries}
 use Rattle.nv_table.specs.States.{BoardState, PassState, IsOf}
 use Rattle.nv_pages.specs.Altered.{IsAltered}
@@ -26,6 +27,7 @@ use Rattle.nv_calls.specs.declared.reading.ReadMachine.{ReadMachine}
 use Rattle.nv_calls.specs.Copied.{IsPut}
 use Rattle.nv_calls.specs.declared.reading.ReadStage.TheVariants.{Turns, Looks, Places}
 use Rattle.nv_calls.specs.Reads.{call_of, front, read_hands, HasCopied, IsAtPage, IsLooking, StandsAt, page_piece}
+use Rattle.nv_calls.proofs.ArmLaws.{some_page}
 use Rattle.nv_calls.proofs.HeldLaws.{page_held, slot_carried}
 use Rattle.nv_calls.proofs.LockLaws.{some_bytes}
 use Rattle.nv_calls.proofs.BelowLaws.{AreBelow, IsBelow, bound, bytes_above}
@@ -246,3 +248,30 @@ module _ (sizes : Sizes) (m : ReadMachine) (list : List ℕ) (base : Pass) (valu
       where
         again : IsAtPage sizes (record m { stage = Looks page; copied = copied }) list base values pass page (Reading at.from) (read_hands sizes (call_of m) m.sized)
         again = record { len = at.len; fetched = at.fetched; is = at.is; covers = at.covers; more = within; copied = record { from = at.copied.from; till = at.copied.till; rest = at.copied.rest; list_is = at.copied.list_is; count = at.copied.count } }
+
+-- ---- a page that it looks at
+
+-- the code finds the end of what is read by a layout, and the page is not behind it
+module _ (m : ReadMachine) (list : List ℕ) (base : Pass) (old : PassState) (page copied : ℕ) (at : IsLooking old.sight.opened.sizes (record m { copied = copied }) list base (values_of old.sight) (pass_of old.sight) page) {layout : Sizes}
+    (limits : IsWithinLimits layout) (same : layout ≡ old.sight.opened.sizes) (end : ℕ) (is : (len : ℕ) → m.covered ≡ covered (call_of m) len → end ≡ end_read layout (call_of m) len) (ne : page ≢ end) where
+  pub looked_before : page < end_read old.sight.opened.sizes (call_of m) at.len
+  looked_before =
+      let end_is = is at.len at.covers ∙ ap (λ (s : Sizes). end_read s (call_of m) at.len) same in
+      let till = at.copied.till in
+      omega (arith, end_is, till, ne)
+
+  -- it is one of the mount
+  pub looked_there : IsAllowed old.sight.opened.sizes (call_of m) → page < page_total old.sight.opened.sizes
+  looked_there allowed =
+      read_page_there old.sight.opened.sizes m page allowed (looking_few old.sight.opened.sizes m list base (values_of old.sight) (pass_of old.sight) page copied at) at.copied.from
+      (looking_there old.sight.opened.sizes m list base (values_of old.sight) (pass_of old.sight) page copied at (some_page limits same) looked_before)
+
+  -- and its slot is carried, after some looks too
+  pub looked_carried : IsAllowed old.sight.opened.sizes (call_of m) → (now : PassState) → IsAltered (λ kept. kept) old now → IsStill old → slot_times (page_slot old.sight.opened.sizes page) now.now ≡ 1
+  looked_carried allowed now altered still =
+      subst (λ (v : Sight). slot_times (page_slot v.opened.sizes page) now.now ≡ 1) altered.sight
+      (page_carried now page (still_altered old now altered still)
+      (subst (λ (v : Sight). (pass_of v).left ≡ []) (sym altered.sight) (looking_left old.sight.opened.sizes m list base (values_of old.sight) (pass_of old.sight) page copied at))
+      (subst (λ (v : Sight). times (PAGE page) (pass_of v).hands ≡ 1) (sym altered.sight)
+      (looking_held old.sight.opened.sizes m list base (values_of old.sight) (pass_of old.sight) page copied at (some_page limits same) looked_before))
+      (subst (λ (v : Sight). page < page_total v.opened.sizes) (sym altered.sight) (looked_there allowed)))

@@ -20,13 +20,12 @@ use Rattle.nv_calls.specs.declared.reading.Held.{Held}
 use Rattle.nv_calls.specs.declared.reading.ReadMachine.{ReadMachine}
 use Rattle.nv_calls.specs.declared.reading.ReadStage.{ReadStage}
 use Rattle.nv_calls.specs.declared.reading.ReadStage.TheVariants.{Turns, Looks, Places}
-use Rattle.nv_calls.specs.Advances.{IsOneStep, IsSameRead}
+use Rattle.nv_calls.specs.Advances.{IsSameRead}
 use Rattle.nv_calls.specs.Answers.{IsUnplaced}
-use Rattle.nv_calls.specs.Kinds.{kind_of, read_kind}
 use Rattle.nv_calls.specs.Reads.{call_of, reading, held_cells, InCall, IsOnWay, IsOnWayAt, IsUnderWayAt, IsLook, StandsAt, PlacedAt, Tells, refusal_at, Refuses, ReadGoes}
 use Rattle.nv_calls.specs.Steps.{refused_by, place_by, is_stop}
 use Rattle.nv_calls.proofs.ReadLaws.{refused_goes}
-use Rattle.nv_calls.proofs.WayLaws.{opened_same, by_sizes, quiet_on, refusing_on, tells_none, none_tells, between_self, taken_by}
+use Rattle.nv_calls.proofs.WayLaws.{opened_same, by_sizes, quiet_on, refusing_on, tells_none, none_tells}
 
 -- a read that is not refused, and has no place yet
 pub record IsOpen (fds : List Fd) (m : ReadMachine) (list : List ℕ) (start now : PassState) : Type 0 where
@@ -77,25 +76,15 @@ stepped_altered old new then_ opens deed found altered is = record {
 
 -- ---- the same read
 
--- a read that has looked at its pages
-pub looked_same : (m next : ReadMachine) (stage : ReadStage) (copied : ℕ) → next ≡ record m { stage = stage; copied = copied } → IsSameRead m next
-looked_same m next stage copied is = record { fd = ap (λ (n : ReadMachine). n.fd) is; at = ap (λ (n : ReadMachine). n.at) is; len = ap (λ (n : ReadMachine). n.len) is }
+-- a read that stands elsewhere
+pub same_on : {m next : ReadMachine} {stage : ReadStage} → next ≡ record m { stage = stage } → IsSameRead m next
+same_on is = record { fd = ap (λ (n : ReadMachine). n.fd) is; at = ap (λ (n : ReadMachine). n.at) is; len = ap (λ (n : ReadMachine). n.len) is }
 
--- ---- one step
+-- one that has looked at its pages
+pub looked_same : {m next : ReadMachine} {stage : ReadStage} {copied : ℕ} → next ≡ record m { stage = stage; copied = copied } → IsSameRead m next
+looked_same is = record { fd = ap (λ (n : ReadMachine). n.fd) is; at = ap (λ (n : ReadMachine). n.at) is; len = ap (λ (n : ReadMachine). n.len) is }
 
--- with no device call before it
-pub one_step : (m next : ReadMachine) (old new : PassState) (deed : Deed) (found : ℕ) (stage : ReadStage) → m.stage ≡ stage → kind_of deed ≡ read_kind m.len stage → Stepped old None deed found new
-    → IsOneStep m next old new
-one_step m next old new deed found stage at kind is = record {
-  step = record { opens = None; works = is.works; deed = deed; found = found };
-  is = taken_by old old new None deed found (between_self old) is;
-  kind = λ same. kind ∙ ap (read_kind m.len) (sym at);
-}
-
--- or, where the pass has then touched what it carries
-pub one_step_altered : (m next : ReadMachine) (old new then_ : PassState) (deed : Deed) (found : ℕ) (stage : ReadStage) → m.stage ≡ stage → kind_of deed ≡ read_kind m.len stage → IsAltered (λ kept. kept) new then_
-    → Stepped old None deed found new → IsOneStep m next old then_
-one_step_altered m next old new then_ deed found stage at kind altered is = one_step m next old then_ deed found stage at kind (stepped_altered old new then_ None deed found altered is)
+-- ---- after a step
 
 module _ (fds : List Fd) (m : ReadMachine) (list : List ℕ) (start now new : PassState) (deed : Deed) (found : ℕ) (is : Stepped now None deed found new) (base base_then : Pass) (at then_at : Stage) (hands hands_then : List Word)
     (sized_then : Bool) (len len_then : ℕ) (fetched fetched_then : List (ℕ × List ℕ)) (open_ : IsOpen fds m list start now) (old : pass_of now.sight ≡ reading base (call_of m) at hands m.sized len fetched)

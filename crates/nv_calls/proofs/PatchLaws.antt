@@ -25,7 +25,6 @@ use Rattle.nv_calls.specs.declared.machine.Progress.TheVariants.{More}
 use Rattle.nv_calls.specs.declared.reading.ReadMachine.{ReadMachine}
 use Rattle.nv_calls.specs.declared.reading.ReadStage.{ReadStage}
 use Rattle.nv_calls.specs.declared.reading.ReadStage.TheVariants.{Bounds, Starts, Scans, Grasps, Patches, Unlocks}
-use Rattle.nv_calls.specs.Advances.{IsSameRead}
 use Rattle.nv_calls.specs.Answers.{IsUnplaced}
 use Rattle.nv_calls.specs.Reads.{call_of, read_hands, reading, HasCopied, IsPatchingAt, StandsAt, PlacedAt, InCall, IsOnWayAt, ReadGoes, refusal_at}
 use Rattle.nv_calls.specs.Steps.{IsBetween, refused_by, place_by, is_stop}
@@ -80,10 +79,6 @@ module _ (fds : List Fd) (m : ReadMachine) (list : List ℕ) (start now before n
         (unplaced_on start now new seen mine (tells_none m.place m.file m.at m.copied list start.sight now.sight unplaced way.tells));
     room = way.room;
   }
-
--- a machine that stands elsewhere is at the same read
-pub same_on : (m next : ReadMachine) (stage : ReadStage) → next ≡ record m { stage = stage } → IsSameRead m next
-same_on m next stage is = record { fd = ap (λ (n : ReadMachine). n.fd) is; at = ap (λ (n : ReadMachine). n.at) is; len = ap (λ (n : ReadMachine). n.len) is }
 
 -- ---- a page with entries, from step to step
 

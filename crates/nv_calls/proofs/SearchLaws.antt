@@ -37,7 +37,6 @@ use Rattle.nv_calls.specs.declared.machine.Progress.TheVariants.{More}
 use Rattle.nv_calls.specs.declared.reading.ReadMachine.{ReadMachine}
 use Rattle.nv_calls.specs.declared.reading.ReadStage.{ReadStage}
 use Rattle.nv_calls.specs.declared.reading.ReadStage.TheVariants.{Turns as RaisesHand, Hints as LoadsHint, Seeks, Robs, Points, Looks}
-use Rattle.nv_calls.specs.Advances.{IsSameRead}
 use Rattle.nv_calls.specs.Answers.{IsUnplaced}
 use Rattle.nv_calls.specs.Reads.{call_of, read_hands, reading, IsAtPage, IsVictim, StandsAt, refusal_at, InCall, PlacedAt, IsOnWayAt, ReadGoes}
 use Rattle.nv_calls.specs.Steps.{IsBetween, refused_by, place_by, is_stop}
@@ -200,10 +199,6 @@ search_free pass page tries search is = subst IsCallFree (sym is) (λ sizes valu
 
 abbrev pub again : (buffers page tries : ℕ) → ReadStage
 again buffers page tries = if nat_lt tries (2 * buffers) then RaisesHand page tries else Looks page
-
--- it is the same read
-pub again_same : (m next : ReadMachine) (stage : ReadStage) → next ≡ record m { stage = stage } → IsSameRead m next
-again_same m next stage is = record { fd = ap (λ (n : ReadMachine). n.fd) is; at = ap (λ (n : ReadMachine). n.at) is; len = ap (λ (n : ReadMachine). n.len) is }
 
 -- by the sizes of a layout
 pub again_as : (fds : List Fd) (m next : ReadMachine) (list : List ℕ) (start new : PassState) (layout sizes : Sizes) (page tries : ℕ) → next ≡ record m { stage = again layout.buffers page tries } → layout ≡ sizes

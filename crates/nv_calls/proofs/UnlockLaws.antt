@@ -40,7 +40,6 @@ use Rattle.nv_calls.specs.declared.reading.Held.{Held}
 use Rattle.nv_calls.specs.declared.reading.ReadMachine.{ReadMachine}
 use Rattle.nv_calls.specs.declared.reading.ReadStage.{ReadStage}
 use Rattle.nv_calls.specs.declared.reading.ReadStage.TheVariants.{Begins, Restores, Unlocks, Leaves}
-use Rattle.nv_calls.specs.Advances.{IsSameRead}
 use Rattle.nv_calls.specs.Answers.{IsUnplaced}
 use Rattle.nv_calls.specs.Ranks.{IsLess, most_looks, pages_left, rank_at, rank, look_rank}
 use Rattle.nv_calls.specs.Reads.{call_of, read_hands, held_cells, reading, front, page_piece, HasCopied, IsAt, IsAtPage, IsLooking, IsLook, StandsAt, refusal_at, InCall, IsOnWay, IsOnWayAt, IsUnderWayAt, Refuses, ReadGoes}
@@ -229,9 +228,6 @@ module _ (sizes : Sizes) (m : ReadMachine) (list : List ℕ) (values : Values) (
 pub looked_machine : (sizes : Sizes) (m copied next : ReadMachine) (page : ℕ) → copied ≡ finished sizes m page → next ≡ record copied { stage = next.stage; copied = next.copied }
     → next ≡ record m { stage = next.stage; copied = next.copied }
 looked_machine sizes m copied next page is looked = looked ∙ ap (λ (n : ReadMachine). record n { stage = next.stage; copied = next.copied }) is
-
-pub looked_same : (m next : ReadMachine) → next ≡ record m { stage = next.stage; copied = next.copied } → IsSameRead m next
-looked_same m next is = record { fd = ap (λ (n : ReadMachine). n.fd) is; at = ap (λ (n : ReadMachine). n.at) is; len = ap (λ (n : ReadMachine). n.len) is }
 
 -- where a list keeps its length when some bytes come into it, there are as many of these as they take the place of
 part_length : (copied size : ℕ) (list part : List ℕ) → copied + size ≤ length list → length (take copied list ++ part ++ drop (copied + size) list) ≡ length list → length part ≡ size

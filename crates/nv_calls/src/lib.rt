@@ -7,6 +7,7 @@ mod machine;
 mod read;
 mod read_begin;
 mod read_ends;
+mod read_faults;
 mod read_pages;
 mod read_patch;
 mod read_search;

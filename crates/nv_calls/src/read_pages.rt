@@ -1,5 +1,5 @@
 //! The pages of a read: what their buffers have, and what the store has.
-ghost use Rattle.std.specs.Prelude.{◌≡◌, ◌≢◌, ℕ, ◌+◌, ◌-◌, ◌*◌, ◌%◌, ◌<◌, ◌≤◌, ◌++◌, length, take, drop, List, Some, None, OnOk, OnErr, false};
+ghost use Rattle.std.specs.Prelude.{◌≡◌, ◌≢◌, ℕ, ◌+◌, ◌-◌, ◌*◌, ◌%◌, ◌<◌, ◌≤◌, ◌++◌, length, take, drop, Some, None, OnOk, OnErr, false};
 ghost use Rattle.nv_table.specs.States.{IsOf, PassState};
 ghost use Rattle.nv_calls.specs.Advances.{IsAdvance};
 ghost use Rattle.nv_calls.specs.Ranks.{IsLess, look_rank, rank};
@@ -8,23 +8,22 @@ ghost use Rattle.nv_calls.specs.declared.reading.ReadStage.TheVariants.{Looks, W
 ghost use Rattle.nv_core.specs.Passes.{Pass as PassOfCore, IsAllowed, IsOneOf, Copying, covered, end_read, first_page};
 ghost use Rattle.nv_core.specs.Values.{Buffer, ABuffer, is_valid};
 ghost use Rattle.nv_core.specs.Words.{PAGE, STORE, page_total};
-ghost use Rattle.nv_core.specs.Deeds.{Gives, Stops};
-ghost use Rattle.nv_core.specs.Order.{SaysOf, Work};
+ghost use Rattle.nv_core.specs.Deeds.{Gives};
+ghost use Rattle.nv_core.specs.Order.{SaysOf};
 ghost use Rattle.nv_core.specs.Shapes.{IsStore, HaveShapes};
 ghost use Rattle.nv_plain.specs.Files.{bytes_at};
 ghost use Rattle.nv_plain.specs.Pieces.{pages_touched};
 ghost use Rattle.nv_pages.specs.PageWork.{OfKept, HasFailed, page_slot, store_slot, with_page};
 ghost use Rattle.nv_calls.specs.Copied.{IsPut};
-ghost use Rattle.nv_calls.specs.PageReads.{HasFailedFetch, page_read};
 ghost use Rattle.nv_pages.specs.Altered.{IsAltered};
 ghost use Rattle.nv_table.specs.Between.{IsStill};
 ghost use Rattle.nv_table.specs.Keys.{sizes_of};
-ghost use Rattle.nv_table.specs.Layout.{word_at};
 ghost use Rattle.nv_table.specs.Opened.{mount_of};
 ghost use Rattle.nv_table.specs.Ready.{Stepped};
-ghost use Rattle.nv_table.specs.Turns.{IsDue, give_deed};
+ghost use Rattle.nv_table.specs.Turns.{IsDue};
 ghost use Rattle.nv_table.specs.Sights.{pass_of, slot_times, values_of};
 
+use crate::read_faults::stop_after;
 use crate::read_steps::layout_of;
 use crate::{Held, Progress, ReadMachine, ReadStage, Refusal};
 use nv_core::{cells_keep_their_shapes, runs_are_sound};
@@ -33,9 +32,7 @@ use nv_mount::Mount;
 use nv_pages::{copy_page, fill_page, lacks_buffer, read_store};
 use nv_pmem::Lines;
 use nv_store::{Backing, StoreFault};
-use nv_table::{
-    Board, Busy, Change, Layout, Marks, Moves, Pass, STOP, give_after, load_word, step, take,
-};
+use nv_table::{Board, Busy, Layout, Pass, Says, give_after, load_word, take};
 use std::marker::Brand;
 
 // Puts some bytes into a list, from a place on.
@@ -67,41 +64,6 @@ fn copy_part<L: Lines + Drop, B: Backing + Drop>(
 {
     let end = from + size;
     copy_page(board, pass, page, at, &mut list[from..end])
-}
-
-// Gives a store back, of which a page was read: where it begins in the file, and its bytes.
-fn give_read<L: Lines, B: Backing>(
-    board: &Board<L, B>,
-    pass: &mut Pass<L, B>,
-    cell: u64,
-    _file: u64,
-    _at: u64,
-    _bytes: &[u8],
-)
-    ghost reads: { List Work }
-    requires board { IsOf board.now pass.old }
-    requires due { (due : IsDue pass.old None (give_deed (pass_of pass.old.sight).stage (word_at pass.old.sight.opened.sizes cell))) × (due.works ≡ reads) }
-    ensures board { IsOf board.now pass.new }
-    ensures stepped { (found : ℕ) × (stepped : Stepped pass.old None (give_deed (pass_of pass.old.sight).stage (word_at pass.old.sight.opened.sizes cell)) found pass.new) × (stepped.works ≡ reads) }
-{
-    give_after::<Brand, L, B>(board, pass, cell);
-}
-
-// Sets STOP, where the read of a page from its store has failed.
-fn stop_fetching<L: Lines, B: Backing>(board: &Board<L, B>, pass: &mut Pass<L, B>)
-    requires board { IsOf board.now pass.old }
-    requires due { (due : IsDue pass.old None Stops) × HasFailedFetch due.works }
-    ensures board { IsOf board.now pass.new }
-    ensures stepped { (found : ℕ) × (stepped : Stepped pass.old None Stops found pass.new) × HasFailedFetch stepped.works }
-{
-    step::<Brand, L, B>(
-        board,
-        pass,
-        STOP as usize,
-        Change::Set(1),
-        Moves::Stays,
-        Marks::Stops,
-    );
 }
 
 impl ReadMachine {
@@ -306,37 +268,24 @@ impl ReadMachine {
         read_store(board, pass, self.file, at, &mut self.scratch[..size])
     }
 
-    // Gives the store back, of which a page was read into the room for a page.
-    fn give_store<L: Lines + Drop, B: Backing + Drop>(
+    // Gives the store back. What is said of the read of the page before is so of the calls that the step tells.
+    fn give_store<W: Says, L: Lines + Drop, B: Backing + Drop>(
         &self,
         mount: &Mount<L, B>,
         pass: &mut Pass<L, B>,
-        page: u64,
+        _page: u64,
         _dirty: bool,
     )
         requires board { IsOf mount.now.board pass.old }
         requires file { self.now.file < pass.old.sight.opened.sizes.files }
-        requires low { self.now.file * pass.old.sight.opened.sizes.pages ≤ page }
-        requires high { page < page_total pass.old.sight.opened.sizes }
-        requires stage { (pass_of pass.old.sight).stage ≡ Copying page _dirty }
-        requires due { (due : IsDue pass.old None (Gives (STORE self.now.file)))
-            × (due.works ≡ page_read self.now.file ((page - self.now.file * pass.old.sight.opened.sizes.pages) * pass.old.sight.opened.sizes.page) (take pass.old.sight.opened.sizes.page self.now.scratch)) }
+        requires stage { (pass_of pass.old.sight).stage ≡ Copying _page _dirty }
+        requires due { (due : IsDue pass.old None (Gives (STORE self.now.file))) × W.said due.works }
         ensures board { IsOf mount.now.board pass.new }
-        ensures stepped { (found : ℕ) × (stepped : Stepped pass.old None (Gives (STORE self.now.file)) found pass.new)
-            × (stepped.works ≡ page_read self.now.file ((page - self.now.file * pass.old.sight.opened.sizes.pages) * pass.old.sight.opened.sizes.page) (take pass.old.sight.opened.sizes.page self.now.scratch)) }
+        ensures stepped { (found : ℕ) × (stepped : Stepped pass.old None (Gives (STORE self.now.file)) found pass.new) × W.said stepped.works }
     {
         let layout = layout_of(mount, pass);
         let cell = layout.store(self.file);
-        let at = (page - self.file * layout.pages) * layout.page;
-        let size = layout.page as usize;
-        give_read(
-            mount.board(),
-            pass,
-            cell,
-            self.file,
-            at,
-            &self.scratch[..size],
-        );
+        give_after::<W, L, B>(mount.board(), pass, cell);
     }
 
     // The store is read, and given back. After a fault STOP is set.
@@ -364,18 +313,18 @@ impl ReadMachine {
         };
         match self.read_page(mount, pass, page) {
             Err(_fault) => {
-                stop_fetching(mount.board(), pass);
+                stop_after::<Brand, L, B>(mount.board(), pass);
                 self.faulted = true;
                 self.refuse(held, Refusal::StoreFault)
             }
             Ok(()) => {
                 if dirty {
-                    self.give_store(mount, pass, page, dirty);
+                    self.give_store::<Brand, L, B>(mount, pass, page, dirty);
                     self.stage = ReadStage::Bounds { page };
                     return Progress::More;
                 }
                 self.finish_page(mount, pass, list, page);
-                self.give_store(mount, pass, page, dirty);
+                self.give_store::<Brand, L, B>(mount, pass, page, dirty);
                 self.look_on(mount, pass, list, page + 1);
                 Progress::More
             }

@@ -1,18 +1,17 @@
 //! A page that has entries in the log: what the store has of it, with the pieces of these entries laid over it.
-ghost use Rattle.std.specs.Prelude.{◌≡◌, ℕ, ◌+◌, ◌≤◌, nat_lt, if◌then◌else◌, List, length, take, None};
+ghost use Rattle.std.specs.Prelude.{◌≡◌, ℕ, ◌+◌, ◌≤◌, nat_lt, if◌then◌else◌, length, take, None};
 ghost use Rattle.nv_plain.specs.Files.{overwritten};
-ghost use Rattle.nv_core.specs.Deeds.{Returns, Stops};
-ghost use Rattle.nv_core.specs.Order.{Work};
+ghost use Rattle.nv_core.specs.Deeds.{Returns};
 ghost use Rattle.nv_core.specs.Words.{ready, is_entry_of};
 ghost use Rattle.nv_table.specs.Ready.{Stepped};
 ghost use Rattle.nv_table.specs.States.{IsOf, PassState};
 ghost use Rattle.nv_table.specs.Turns.{IsDue};
 ghost use Rattle.nv_calls.specs.Advances.{IsAdvance};
-ghost use Rattle.nv_calls.specs.PieceReads.{HasFailedRead};
 ghost use Rattle.nv_calls.specs.Ranks.{IsLess};
 ghost use Rattle.nv_calls.specs.Reads.{IsOnWay};
 ghost use Rattle.nv_calls.specs.declared.reading.ReadStage.TheVariants.{Bounds, Starts, Scans, Grasps, Patches, Restores, Unlocks};
 
+use crate::read_faults::stop_after;
 use crate::read_steps::layout_of;
 use crate::{Held, MOST_PAGE, Progress, ReadMachine, ReadStage, Refusal};
 use nv_core::{cells_keep_their_shapes, held_pieces_fit, runs_are_sound};
@@ -20,7 +19,7 @@ use nv_mount::Mount;
 use nv_pages::{hold_entry, patch, read_entry, return_entry};
 use nv_pmem::Lines;
 use nv_store::Backing;
-use nv_table::{Board, Change, HEAD, Marks, Moves, Pass, STOP, TAIL, give, load_word, step};
+use nv_table::{Board, HEAD, Pass, Says, TAIL, give, load_word};
 use std::marker::Brand;
 
 // The kind of an entry that is ready, in its word.
@@ -33,38 +32,20 @@ fn is_ready_of(word: u64, page: u64) -> bool
     word % 8 == READY && word / 1024 == page
 }
 
-// Returns an entry, whose piece was read: where it begins, and its bytes.
-fn return_read<L: Lines, B: Backing>(
+// Returns an entry, whose piece was read: where it begins, and its bytes. What is said of the read is so of the calls that the step tells.
+fn return_read<W: Says, L: Lines, B: Backing>(
     board: &Board<L, B>,
     pass: &mut Pass<L, B>,
     number: u64,
     _at: u64,
     _bytes: &[u8],
 )
-    ghost reads: { List Work }
     requires board { IsOf board.now pass.old }
-    requires due { (due : IsDue pass.old None (Returns number)) × (due.works ≡ reads) }
+    requires due { (due : IsDue pass.old None (Returns number)) × W.said due.works }
     ensures board { IsOf board.now pass.new }
-    ensures stepped { (found : ℕ) × (stepped : Stepped pass.old None (Returns number) found pass.new) × (stepped.works ≡ reads) }
+    ensures stepped { (found : ℕ) × (stepped : Stepped pass.old None (Returns number) found pass.new) × W.said stepped.works }
 {
-    return_entry::<Brand, L, B>(board, pass, number);
-}
-
-// Sets STOP, where the read of an entry's piece has failed.
-fn stop_reading<L: Lines, B: Backing>(board: &Board<L, B>, pass: &mut Pass<L, B>)
-    requires board { IsOf board.now pass.old }
-    requires due { (due : IsDue pass.old None Stops) × HasFailedRead due.works }
-    ensures board { IsOf board.now pass.new }
-    ensures stepped { (found : ℕ) × (stepped : Stepped pass.old None Stops found pass.new) × HasFailedRead stepped.works }
-{
-    step::<Brand, L, B>(
-        board,
-        pass,
-        STOP as usize,
-        Change::Set(1),
-        Moves::Stays,
-        Marks::Stops,
-    );
+    return_entry::<W, L, B>(board, pass, number);
 }
 
 impl ReadMachine {
@@ -203,7 +184,7 @@ impl ReadMachine {
         let mut room = [0; MOST_PAGE];
         let into = &mut room[..size];
         let Ok(piece) = read_entry(board, pass, number, into) else {
-            stop_reading(board, pass);
+            stop_after::<Brand, L, B>(board, pass);
             self.faulted = true;
             self.stage = ReadStage::Restores { page, number };
             return Progress::More;
@@ -211,7 +192,7 @@ impl ReadMachine {
         let at = (piece.at % layout.page) as usize;
         let bytes = &into[..piece.size as usize];
         self.lay(size, at, bytes);
-        return_read(board, pass, number, piece.at, bytes);
+        return_read::<Brand, L, B>(board, pass, number, piece.at, bytes);
         self.scan_on(page, number + 1);
         Progress::More
     }

@@ -16,6 +16,7 @@ use Rattle.nv_calls.specs.declared.reading.ReadStage.TheVariants.{Locks, Measure
 use Rattle.nv_calls.specs.Barred.{barred, IsAdmitted}
 use Rattle.nv_calls.specs.Reads.{IsUnbegun, ReadGoes}
 use Rattle.nv_calls.proofs.BeginLaws.{begun_last, begun_next, begun_busy, stop_clear, stop_set, kind_stop, kind_take, first_step, first_none}
+use Rattle.nv_calls.proofs.OnwardLaws.{first_of}
 use Rattle.nv_calls.proofs.reading.ReadMachine.begin.Goals as goal
 use Rattle.nv_calls.proofs.reading.ReadMachine.begin.Goals.{then-page-end_page, else-page-end_page}
 
@@ -25,6 +26,14 @@ begin_with_stop-requires-clause-idle g c = let way = c.requires.way.1 in subst I
 pub begin_with_page-requires-clause-idle : goal.begin_with_page-requires-clause-idle
 begin_with_page-requires-clause-idle g c = let way = c.requires.way.1 in subst IsIdle (sym way.same) way.idle
 
+-- by the sizes of the mount
+admitted_by : {fds : List Fd} {layout sizes : Sizes} {fd at len file : ℕ} → layout ≡ sizes → IsAdmitted layout fds fd at len file → IsAdmitted sizes fds fd at len file
+admitted_by {fds = fds} {fd = fd} {at = at} {len = len} {file = file} same is = subst (λ (s : Sizes). IsAdmitted s fds fd at len file) same is
+
+-- a read of no bytes has loaded STOP
+stop_read : (old new : PassState) (file at len found : ℕ) → len ≡ 0 → Stepped old (Some (Read file at 0)) (Loads STOP) found new → Stepped old (Some (Read file at len)) (Loads STOP) found new
+stop_read old new file at len found none is = subst (λ n. Stepped old (Some (Read file at n)) (Loads STOP) found new) (sym none) is
+
 pub returns-in-Err-clause-advance : goal.returns-in-Err-clause-advance
 returns-in-Err-clause-advance g c =
     let m = c.args.self.now in
@@ -33,17 +42,14 @@ returns-in-Err-clause-advance g c =
 
 pub returns-then-begin_with_stop-ne0-clause-advance : goal.returns-then-begin_with_stop-ne0-clause-advance
 returns-then-begin_with_stop-ne0-clause-advance g c =
+    let fds = c.args.mount.now.fds in
     let m = c.args.self.now in
     let file = c.in-Ok.file in
-    let old = c.args.pass.now in
-    let new = c.begin_with_stop.new.pass in
     let found = c.begin_with_stop.result in
-    let admitted = subst (λ (s : Sizes). IsAdmitted s c.args.mount.now.fds m.fd m.at m.len file) c.layout_of-layout.ensures c.in-Ok.ensures in
-    let is : Stepped old (Some (Read file m.at m.len)) (Loads STOP) found new =
-    subst (λ n. Stepped old (Some (Read file m.at n)) (Loads STOP) found new) (sym c.if-self-eq0.true) c.begin_with_stop.ensures.stepped in
-    first_step c.args.mount.now.fds m (record m { file = file }) c.args._list.now old new _ (Read file m.at m.len) (Loads STOP) found is record { fd = refl; at = refl; len = refl }
+    let is = stop_read c.args.pass.now c.begin_with_stop.new.pass file m.at m.len found c.if-self-eq0.true c.begin_with_stop.ensures.stepped in
+    first_step fds m (record m { file = file }) c.args._list.now c.args.pass.now c.begin_with_stop.new.pass _ (Read file m.at m.len) (Loads STOP) found is record { fd = refl; at = refl; len = refl }
     (kind_stop m c.requires.stage c.if-self-eq0.true)
-    (λ way. (way.unplaced, stop_set c.args.mount.now.fds m c.args._list.now file old new way admitted c.if-self-eq0.true found c.if-begin_with_stop-ne0.true is))
+    (λ way. (way.unplaced, stop_set fds m _ file _ _ way (admitted_by c.layout_of-layout.ensures c.in-Ok.ensures) c.if-self-eq0.true found c.if-begin_with_stop-ne0.true is))
 
 pub returns-then-self-eq0-clause-advance : goal.returns-then-self-eq0-clause-advance
 returns-then-self-eq0-clause-advance g c =
@@ -51,14 +57,12 @@ returns-then-self-eq0-clause-advance g c =
     let file = c.in-Ok.file in
     let old = c.args.pass.now in
     let new = c.begin_with_stop.new.pass in
-    let found = c.begin_with_stop.result in
-    let admitted = subst (λ (s : Sizes). IsAdmitted s c.args.mount.now.fds m.fd m.at m.len file) c.layout_of-layout.ensures c.in-Ok.ensures in
     let is : Stepped old (Some (Read file m.at m.len)) (Loads STOP) 0 new =
     subst (λ n. Stepped old (Some (Read file m.at m.len)) (Loads STOP) n new) c.if-begin_with_stop-ne0.false
-    (subst (λ n. Stepped old (Some (Read file m.at n)) (Loads STOP) found new) (sym c.if-self-eq0.true) c.begin_with_stop.ensures.stepped) in
+    (stop_read old new file m.at m.len c.begin_with_stop.result c.if-self-eq0.true c.begin_with_stop.ensures.stepped) in
     first_step c.args.mount.now.fds m _ c.args._list.now old new More (Read file m.at m.len) (Loads STOP) 0 is record { fd = refl; at = refl; len = refl }
     (kind_stop m c.requires.stage c.if-self-eq0.true)
-    (λ way. stop_clear c.args.mount.now.fds m c.args._list.now file old new way admitted c.if-self-eq0.true is)
+    (λ way. stop_clear c.args.mount.now.fds m c.args._list.now file old new way (admitted_by c.layout_of-layout.ensures c.in-Ok.ensures) c.if-self-eq0.true is)
 
 -- what comes next, by whether it was the last page
 locked : (fds : List Fd) (m : ReadMachine) (list : List ℕ) (file : ℕ) (old new : PassState) (page : ℕ) → IsUnbegun m list old old → IsAdmitted old.sight.opened.sizes fds m.fd m.at m.len file
@@ -79,8 +83,8 @@ returns-after-page-end_page-clause-advance g c =
     let old = c.args.pass.now in
     let new = c.begin_with_page.new.pass in
     let page = c.first_page-page.result in
-    let admitted = subst (λ (s : Sizes). IsAdmitted s fds m.fd m.at m.len file) c.layout_of-layout.ensures c.in-Ok.ensures in
-    let first = c.first_page-page.ensures ∙ ap (λ (s : Sizes). first_page s (Read file m.at m.len)) c.layout_of-layout.ensures in
+    let admitted = admitted_by c.layout_of-layout.ensures c.in-Ok.ensures in
+    let first = first_of (record m { file = file }) _ old.sight.opened.sizes page c.first_page-page.ensures c.layout_of-layout.ensures in
     let end_is = c.end_page.ensures ∙ ap (λ (s : Sizes). end_page s (Read file m.at m.len)) c.layout_of-layout.ensures in
     let is : Stepped old (Some (Read file m.at m.len)) (Takes (PAGE page)) 0 new = c.in-Ok-begin_with_page.ensures.stepped in
     let some : 0 < m.len = omega (arith, c.if-self-eq0.false) in
@@ -93,16 +97,15 @@ returns-after-page-end_page-clause-advance g c =
 
 pub returns-in-Err-begin_with_page-clause-advance : goal.returns-in-Err-begin_with_page-clause-advance
 returns-in-Err-begin_with_page-clause-advance g c =
-    let fds = c.args.mount.now.fds in
     let m = c.args.self.now in
-    let list = c.args._list.now in
     let file = c.in-Ok.file in
-    let old = c.args.pass.now in
-    let new = c.begin_with_page.new.pass in
     let page = c.first_page-page.result in
-    let admitted = subst (λ (s : Sizes). IsAdmitted s fds m.fd m.at m.len file) c.layout_of-layout.ensures c.in-Ok.ensures in
-    let first = c.first_page-page.ensures ∙ ap (λ (s : Sizes). first_page s (Read file m.at m.len)) c.layout_of-layout.ensures in
-    let is : Stepped old (Some (Read file m.at m.len)) (Takes (PAGE page)) 1 new = c.in-Err-begin_with_page.ensures.stepped in
+    let is = c.in-Err-begin_with_page.ensures.stepped in
     let some : 0 < m.len = omega (arith, c.if-self-eq0.false) in
-    first_step fds m (record m { file = file }) list old new _ (Read file m.at m.len) (Takes (PAGE page)) 1 is record { fd = refl; at = refl; len = refl } (kind_take m page c.requires.stage c.if-self-eq0.false)
-    (λ way. (way.unplaced, begun_busy fds m list file old way admitted page first some new c.in-Err-begin_with_page.field-0.cell c.in-Err-begin_with_page.ensures.busy is))
+    first_step c.args.mount.now.fds m (record m { file = file }) c.args._list.now c.args.pass.now c.begin_with_page.new.pass _ (Read file m.at m.len) (Takes (PAGE page)) 1 is record { fd = refl; at = refl; len = refl }
+    (kind_take m page c.requires.stage c.if-self-eq0.false)
+    (λ way. (
+      way.unplaced,
+      begun_busy _ m _ file _ way (admitted_by c.layout_of-layout.ensures c.in-Ok.ensures) page (first_of (record m { file = file }) _ c.args.pass.now.sight.opened.sizes page c.first_page-page.ensures c.layout_of-layout.ensures)
+          some _ c.in-Err-begin_with_page.field-0.cell c.in-Err-begin_with_page.ensures.busy is,
+    ))

@@ -1,19 +1,19 @@
 -- Each page whose buffer counts is copied behind those before it.
-use Rattle.std.proofs.Common.{◌≡◌, ◌-◌, ◌%◌, ◌<◌, ◌≤◌, [], sym, ap, subst, ◌∙◌, arith}
+use Rattle.std.proofs.Common.{◌≡◌, ◌≢◌, ℕ, ◌-◌, ◌%◌, ◌<◌, sym, ap, subst, ◌∙◌, arith}
 use Rattle.std.specs.Prelude.{Some, None}
 use Rattle.nv_core.specs.Words.{Sizes, PAGE, page_total}
-use Rattle.nv_core.specs.Passes.{first_page, end_read, times}
+use Rattle.nv_core.specs.Passes.{first_page, end_read}
 use Rattle.nv_plain.specs.Pieces.{Piece, pages_touched}
 use Rattle.nv_table.specs.Keys.{sizes_of}
 use Rattle.nv_table.specs.Opened.{Opened}
-use Rattle.nv_table.specs.Sights.{Sight, pass_of, values_of, slot_times}
-use Rattle.nv_table.specs.States.{BoardState}
+use Rattle.nv_table.specs.Sights.{pass_of, values_of, slot_times}
 use Rattle.nv_pages.specs.PageWork.{page_slot}
 use Rattle.nv_pages.proofs.AlterLaws.{altered_then}
 use Rattle.nv_calls.specs.Copied.{IsPut}
 use Rattle.nv_calls.specs.Reads.{call_of, page_piece, IsLooking}
+use Rattle.nv_calls.proofs.ArmLaws.{some_page, opened_by}
 use Rattle.nv_calls.proofs.BelowLaws.{fetched_below}
-use Rattle.nv_calls.proofs.LookLaws.{read_page_there, altered_none, still_altered, of_kept, page_carried, piece_is, looking_there, looking_few, looking_left, looking_held, looking_most, looking_more}
+use Rattle.nv_calls.proofs.LookLaws.{altered_none, of_kept, piece_is, looking_few, looking_most, looking_more, looked_there, looked_carried}
 use Rattle.nv_calls.proofs.reading.ReadMachine.copy_on.Goals as goal
 
 pub loop-page-init : goal.loop-page-init
@@ -37,38 +37,24 @@ cut-span-requires-clause-piece g c =
     let start = ap (λ (s : Sizes). first_page s (call_of m)) c.layout_of-layout.ensures in
     subst (λ n. c.loop-page.page - c.first_page-first.result < pages_touched m.at n c.layout_of-layout.result.page) (sym at.covers) (omega (arith, end, less, first, low, start))
 
+-- a page before the end is not the end
+apart : (page end : ℕ) → page < end → page ≢ end
+apart page end less e = omega (arith, less, e)
+
 pub copy_part-requires-clause-page : goal.copy_part-requires-clause-page
 copy_part-requires-clause-page g c =
-    let sizes = c.args.pass.now.sight.opened.sizes in
-    let m = c.args.self.now in
     let page = c.loop-page.page in
-    let at = c.loop-page.invariant.looking c.requires.looking.0 c.requires.looking.1 in
-    let more = subst (λ n. page < n) (c.end_read-end.ensures at.len at.covers ∙ ap (λ (s : Sizes). end_read s (call_of m) at.len) c.layout_of-layout.ensures) c.loop-page-test.true in
-    let some = subst (λ (s : Sizes). 1 ≤ s.page) c.layout_of-layout.ensures (let least = c.layout_of-layout.result.limits.least_page in omega (arith, least)) in
-    subst (λ (b : BoardState). page < page_total b.opened.sizes) (sym c.board.ensures)
-    (subst (λ (o : Opened). page < page_total o.sizes) c.requires.board.same_mount
-    (read_page_there sizes m page c.requires.allowed (looking_few sizes m c.loop-page.list c.requires.looking.0 (values_of c.args.pass.now.sight) (pass_of c.args.pass.now.sight) page c.loop-page.copied at) at.copied.from
-    (looking_there sizes m c.loop-page.list c.requires.looking.0 (values_of c.args.pass.now.sight) (pass_of c.args.pass.now.sight) page c.loop-page.copied at some more)))
+    subst (λ (o : Opened). page < page_total o.sizes) (opened_by c.requires.board c.board.ensures)
+    (looked_there c.args.self.now c.loop-page.list c.requires.looking.0 c.args.pass.now page c.loop-page.copied (c.loop-page.invariant.looking c.requires.looking.0 c.requires.looking.1)
+    c.layout_of-layout.result.limits c.layout_of-layout.ensures c.end_read-end.result c.end_read-end.ensures (apart page c.end_read-end.result c.loop-page-test.true) c.requires.allowed)
 
 pub copy_part-requires-clause-carries : goal.copy_part-requires-clause-carries
 copy_part-requires-clause-carries g c =
-    let old = c.args.pass.now in
-    let now = c.loop-page.pass in
-    let sizes = old.sight.opened.sizes in
-    let m = c.args.self.now in
     let page = c.loop-page.page in
-    let at = c.loop-page.invariant.looking c.requires.looking.0 c.requires.looking.1 in
-    let more = subst (λ n. page < n) (c.end_read-end.ensures at.len at.covers ∙ ap (λ (s : Sizes). end_read s (call_of m) at.len) c.layout_of-layout.ensures) c.loop-page-test.true in
-    let some = subst (λ (s : Sizes). 1 ≤ s.page) c.layout_of-layout.ensures (let least = c.layout_of-layout.result.limits.least_page in omega (arith, least)) in
-    let there = read_page_there sizes m page c.requires.allowed (looking_few sizes m c.loop-page.list c.requires.looking.0 (values_of old.sight) (pass_of old.sight) page c.loop-page.copied at) at.copied.from
-    (looking_there sizes m c.loop-page.list c.requires.looking.0 (values_of old.sight) (pass_of old.sight) page c.loop-page.copied at some more) in
-    let held = looking_held sizes m c.loop-page.list c.requires.looking.0 (values_of old.sight) (pass_of old.sight) page c.loop-page.copied at some more in
-    subst (λ (b : BoardState). slot_times (page_slot b.opened.sizes page) now.now ≡ 1) (sym c.board.ensures)
-    (subst (λ (o : Opened). slot_times (page_slot o.sizes page) now.now ≡ 1) (ap (λ (v : Sight). v.opened) c.loop-page.invariant.same.sight ∙ c.requires.board.same_mount)
-    (page_carried now page (still_altered old now c.loop-page.invariant.same c.requires.still)
-    (subst (λ (v : Sight). (pass_of v).left ≡ []) (sym c.loop-page.invariant.same.sight) (looking_left sizes m c.loop-page.list c.requires.looking.0 (values_of old.sight) (pass_of old.sight) page c.loop-page.copied at))
-    (subst (λ (v : Sight). times (PAGE page) (pass_of v).hands ≡ 1) (sym c.loop-page.invariant.same.sight) held)
-    (subst (λ (v : Sight). page < page_total v.opened.sizes) (sym c.loop-page.invariant.same.sight) there)))
+    subst (λ (o : Opened). slot_times (page_slot o.sizes page) c.loop-page.pass.now ≡ 1) (opened_by c.requires.board c.board.ensures)
+    (looked_carried c.args.self.now c.loop-page.list c.requires.looking.0 c.args.pass.now page c.loop-page.copied (c.loop-page.invariant.looking c.requires.looking.0 c.requires.looking.1)
+    c.layout_of-layout.result.limits c.layout_of-layout.ensures c.end_read-end.result c.end_read-end.ensures (apart page c.end_read-end.result c.loop-page-test.true) c.requires.allowed
+    c.loop-page.pass c.loop-page.invariant.same c.requires.still)
 
 pub copy_part-requires-clause-room : goal.copy_part-requires-clause-room
 copy_part-requires-clause-room g c =
@@ -78,7 +64,7 @@ copy_part-requires-clause-room g c =
     let page = c.loop-page.page in
     let at = c.loop-page.invariant.looking c.requires.looking.0 c.requires.looking.1 in
     let more = subst (λ n. page < n) (c.end_read-end.ensures at.len at.covers ∙ ap (λ (s : Sizes). end_read s (call_of m) at.len) c.layout_of-layout.ensures) c.loop-page-test.true in
-    let some = subst (λ (s : Sizes). 1 ≤ s.page) c.layout_of-layout.ensures (let least = c.layout_of-layout.result.limits.least_page in omega (arith, least)) in
+    let some = some_page c.layout_of-layout.result.limits c.layout_of-layout.ensures in
     let most = looking_most sizes m c.loop-page.list c.requires.looking.0 (values_of old.sight) (pass_of old.sight) page c.loop-page.copied at some more in
     let few = looking_few sizes m c.loop-page.list c.requires.looking.0 (values_of old.sight) (pass_of old.sight) page c.loop-page.copied at in
     let from = c.cut-span.ensures.from ∙ ap (λ (p : Piece). p.from) (piece_is sizes (sizes_of c.layout_of-layout.result) m page c.first_page-first.result c.layout_of-layout.ensures c.first_page-first.ensures) in
@@ -93,7 +79,7 @@ loop-page-preserved g c =
     let sizes = old.sight.opened.sizes in
     let m = c.args.self.now in
     let page = c.loop-page.page in
-    let some = subst (λ (s : Sizes). 1 ≤ s.page) c.layout_of-layout.ensures (let least = c.layout_of-layout.result.limits.least_page in omega (arith, least)) in
+    let some = some_page c.layout_of-layout.result.limits c.layout_of-layout.ensures in
     let piece = piece_is sizes (sizes_of c.layout_of-layout.result) m page c.first_page-first.result c.layout_of-layout.ensures c.first_page-first.ensures in
     let put = of_kept old c.loop-page.pass (λ kept. IsPut (kept (PAGE page)) (c.cut-span.result.at % c.layout_of-layout.result.page) c.loop-page.copied c.cut-span.result.size c.loop-page.list c.copy_part.new.list (Some c.in-Some.count))
     c.loop-page.invariant.same c.requires.still c.in-Some.ensures.copied in

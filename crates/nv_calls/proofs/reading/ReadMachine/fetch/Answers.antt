@@ -1,76 +1,51 @@
 -- The lock of the store is due, and a read of it follows, or the read is refused.
-use Rattle.std.proofs.Common.{◌≡◌, ◌<◌, false, refl, sym, ap, subst, ◌∙◌}
-use Rattle.std.specs.Prelude.{None}
+use Rattle.std.proofs.Common.{◌≡◌, ℕ, ◌<◌, Bool, false, List, refl, sym, ap, subst, ◌∙◌}
 use Rattle.nv_core.specs.Words.{Sizes, STORE, place}
-use Rattle.nv_core.specs.Deeds.{Takes}
 use Rattle.nv_core.specs.Passes.{Fetching, IsAllowed}
-use Rattle.nv_table.specs.Ready.{Stepped}
+use Rattle.nv_table.specs.States.{PassState}
+use Rattle.nv_mount.specs.declared.fds.Fd.{Fd}
 use Rattle.nv_calls.specs.declared.answers.Refusal.TheVariants.{Busy}
 use Rattle.nv_calls.specs.declared.reading.Held.{Held}
-use Rattle.nv_calls.specs.Kinds.{read_kind}
+use Rattle.nv_calls.specs.declared.reading.ReadMachine.{ReadMachine}
+use Rattle.nv_calls.specs.declared.reading.ReadStage.TheVariants.{Fetches}
 use Rattle.nv_calls.specs.Reads.{IsOnWayAt, Refuses, call_of}
+use Rattle.nv_calls.proofs.ArmLaws.{at_stage, Finds, due_to_take, has_taken, arm}
 use Rattle.nv_calls.proofs.FetchLaws.{fetching_held, fetching_is, fetch_calls, fetch_stands, fetch_due, fetch_taken, fetch_refused}
 use Rattle.nv_calls.proofs.ReadLaws.{refused_same}
-use Rattle.nv_calls.proofs.WayLaws.{word_is, take_due, taken, taken_by, between_self}
+use Rattle.nv_calls.proofs.WayLaws.{word_is}
 use Rattle.nv_calls.proofs.reading.ReadMachine.fetch.Goals as goal
 
+-- the store of the file is at this place
+finds_store : {fds : List Fd} {m : ReadMachine} {list : List ℕ} {start old : PassState} {page cell : ℕ} {dirty : Bool} {layout : Sizes} → IsOnWayAt fds m list start old (Fetches page dirty)
+    → layout ≡ old.sight.opened.sizes → cell ≡ place layout (STORE m.file) → Finds old (Fetching page dirty) (STORE m.file) cell
+finds_store {m = m} way same is = record { calls = fetch_calls _ _ _ _ _ _ _ way; stands = fetch_stands _ _ _ _ _ _ _ way; there = word_is _ _ (STORE m.file) _ same way.called.allowed.known is }
+
 pub store-requires : goal.store-requires
-store-requires g c =
-    let way = subst (IsOnWayAt c.args.mount.now.fds c.args.self.now c.args._list.now c.requires.way.0 c.args.pass.now) c.requires.stage c.requires.way.1 in
-    record { there = subst (λ (s : Sizes). c.args.self.now.file < s.files) (sym c.layout_of-layout.ensures) way.called.allowed.known }
+store-requires g c = record { there = subst (λ (s : Sizes). c.args.self.now.file < s.files) (sym c.layout_of-layout.ensures) c.requires.way.1.called.allowed.known }
 
 pub take-requires-clause-due : goal.take-requires-clause-due
 take-requires-clause-due g c =
-    let way = subst (IsOnWayAt c.args.mount.now.fds c.args.self.now c.args._list.now c.requires.way.0 c.args.pass.now) c.requires.stage c.requires.way.1 in
-    let sizes = c.args.pass.now.sight.opened.sizes in
-    take_due c.args.pass.now (Fetching c.args.page c.args.dirty) (STORE c.args.self.now.file) c.store.result (fetch_calls _ _ _ _ _ _ _ way) (fetch_stands _ _ _ _ _ _ _ way)
-    (word_is _ sizes (STORE c.args.self.now.file) c.store.result c.layout_of-layout.ensures way.called.allowed.known c.store.ensures)
-    (fetch_due _ _ _ _ _ _ _ way)
+    let way = at_stage c.requires.way.1 c.requires.stage in
+    due_to_take (finds_store way c.layout_of-layout.ensures c.store.ensures) (fetch_due _ _ _ _ _ _ _ way)
 
 pub all_held-requires : goal.all_held-requires
-all_held-requires g c =
-    let way = subst (IsOnWayAt c.args.mount.now.fds c.args.self.now c.args._list.now c.requires.way.0 c.args.pass.now) c.requires.stage c.requires.way.1 in
-    subst (λ (s : Sizes). IsAllowed s (call_of c.args.self.now)) (sym c.layout_of-layout.ensures) way.called.allowed
+all_held-requires g c = subst (λ (s : Sizes). IsAllowed s (call_of c.args.self.now)) (sym c.layout_of-layout.ensures) c.requires.way.1.called.allowed
 
 pub returns-in-Ok-clause-advance : goal.returns-in-Ok-clause-advance
 returns-in-Ok-clause-advance g c =
-    let fds = c.args.mount.now.fds in
-    let m = c.args.self.now in
-    let list = c.args._list.now in
-    let old = c.args.pass.now in
-    let new = c.take.new.pass in
-    let page = c.args.page in
-    let dirty = c.args.dirty in
-    let sizes = old.sight.opened.sizes in
-    let first = subst (IsOnWayAt fds m list c.requires.way.0 old) c.requires.stage c.requires.way.1 in
-    let there = word_is _ sizes (STORE m.file) c.store.result c.layout_of-layout.ensures first.called.allowed.known c.store.ensures in
-    let is : Stepped old None (Takes (STORE m.file)) 0 new =
-    taken old (Fetching page dirty) (STORE m.file) c.store.result (fetch_calls fds m list c.requires.way.0 old page dirty first) (fetch_stands fds m list c.requires.way.0 old page dirty first) there new 0 c.in-Ok.ensures.stepped in
-    record {
-      same = record { fd = refl; at = refl; len = refl };
-      one = record { step = record { opens = None; works = is.works; deed = Takes (STORE m.file); found = 0 }; is = taken_by old old new None (Takes (STORE m.file)) 0 (between_self old) is; kind = λ same. ap (read_kind m.len) (sym c.requires.stage) };
-      goes = λ start way. fetch_taken fds m list start old page dirty (subst (IsOnWayAt fds m list start old) c.requires.stage way) new is;
-    }
+    let is = has_taken (finds_store (at_stage c.requires.way.1 c.requires.stage) c.layout_of-layout.ensures c.store.ensures) c.take.new.pass 0 c.in-Ok.ensures.stepped in
+    arm c.requires.stage record { fd = refl; at = refl; len = refl } is refl (λ start at. fetch_taken _ _ _ _ _ _ _ at _ is)
 
 pub returns-in-Err-clause-advance : goal.returns-in-Err-clause-advance
 returns-in-Err-clause-advance g c =
-    let fds = c.args.mount.now.fds in
     let m = c.args.self.now in
-    let list = c.args._list.now in
-    let old = c.args.pass.now in
-    let new = c.take.new.pass in
     let page = c.args.page in
     let dirty = c.args.dirty in
-    let sizes = old.sight.opened.sizes in
-    let first = subst (IsOnWayAt fds m list c.requires.way.0 old) c.requires.stage c.requires.way.1 in
-    let there = word_is _ sizes (STORE m.file) c.store.result c.layout_of-layout.ensures first.called.allowed.known c.store.ensures in
-    let is : Stepped old None (Takes (STORE m.file)) 1 new =
-    taken old (Fetching page dirty) (STORE m.file) c.store.result (fetch_calls fds m list c.requires.way.0 old page dirty first) (fetch_stands fds m list c.requires.way.0 old page dirty first) there new 1 c.in-Err.ensures.stepped in
-    let cell_is : c.in-Err.field-0.cell ≡ place sizes (STORE m.file) = c.in-Err.ensures.busy ∙ c.store.ensures ∙ ap (λ (s : Sizes). place s (STORE m.file)) c.layout_of-layout.ensures in
-    let refuses = subst (λ h. Refuses m h (Busy c.in-Err.field-0.cell) c.refuse.new.self c.refuse.result)
+    let sizes = c.args.pass.now.sight.opened.sizes in
+    let cell = c.in-Err.field-0.cell in
+    let is = has_taken (finds_store (at_stage c.requires.way.1 c.requires.stage) c.layout_of-layout.ensures c.store.ensures) c.take.new.pass 1 c.in-Err.ensures.stepped in
+    let cell_is : cell ≡ place sizes (STORE m.file) = c.in-Err.ensures.busy ∙ c.store.ensures ∙ ap (λ (s : Sizes). place s (STORE m.file)) c.layout_of-layout.ensures in
+    let refuses = subst (λ h. Refuses m h (Busy cell) c.refuse.new.self c.refuse.result)
     (fetching_is _ sizes m page dirty false c.all_held.result.stored c.all_held.result c.then_some.result c.layout_of-layout.ensures c.all_held.ensures c.then_some.ensures (ap (λ (h : Held). h.stored) c.all_held.ensures)) c.refuse.ensures in
-    record {
-      same = refused_same m c.refuse.new.self (fetching_held sizes m page dirty false) (Busy c.in-Err.field-0.cell) c.refuse.result refuses;
-      one = record { step = record { opens = None; works = is.works; deed = Takes (STORE m.file); found = 1 }; is = taken_by old old new None (Takes (STORE m.file)) 1 (between_self old) is; kind = λ same. ap (read_kind m.len) (sym c.requires.stage) };
-      goes = λ start way. fetch_refused fds m list start old page dirty (subst (IsOnWayAt fds m list start old) c.requires.stage way) c.refuse.new.self c.refuse.result c.in-Err.field-0.cell new is cell_is refuses;
-    }
+    arm c.requires.stage (refused_same m c.refuse.new.self (fetching_held sizes m page dirty false) (Busy cell) c.refuse.result refuses) is refl
+    (λ start at. fetch_refused _ _ _ _ _ _ _ at c.refuse.new.self c.refuse.result cell _ is cell_is refuses)

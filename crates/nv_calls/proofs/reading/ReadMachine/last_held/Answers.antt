@@ -1,13 +1,22 @@
 -- The store goes first, then CLEANUP of a page, SIZE, and the pages, the last of them first.
-use Rattle.std.proofs.Common.{◌+◌, ◌-◌, ◌∷◌, sym, ap, subst, ◌∙◌, arith}
+use Rattle.std.proofs.Common.{◌≡◌, ◌+◌, ◌-◌, ◌<◌, false, ◌∷◌, sym, ap, subst, ◌∙◌, arith}
+use Rattle.std.specs.Prelude.{None}
 use Rattle.std.proofs.Math.Nat.{mul-le-mul_left}
-use Rattle.nv_core.specs.Words.{SIZE, PAGE, place}
+use Rattle.nv_plain.specs.declared.call.FileCall.{FileCall}
+use Rattle.nv_core.specs.Words.{Sizes, SIZE, PAGE, place, page_total}
 use Rattle.nv_core.specs.Passes.{first_page}
 use Rattle.nv_table.specs.Keys.{sizes_of}
+use Rattle.nv_calls.specs.declared.reading.Held.{Held}
 use Rattle.nv_calls.specs.Ends.{BeginsWithin}
-use Rattle.nv_calls.specs.Reads.{call_of}
+use Rattle.nv_calls.specs.Reads.{call_of, pages_from, held_cells}
 use Rattle.nv_calls.proofs.LeaveLaws.{last_page, held_size, held_pages}
 use Rattle.nv_calls.proofs.reading.ReadMachine.last_held.Goals as goal
+
+-- the last of the pages that are held, where nothing else is
+last_of : (sizes : Sizes) (call : FileCall) (held : Held) → held.stored ≡ false → held.cleanup ≡ None → held.sized ≡ false → BeginsWithin sizes (held_cells sizes call held)
+    → (pages_from (first_page sizes call) held.pages ≡ PAGE (first_page sizes call + (held.pages - 1)) ∷ pages_from (first_page sizes call) (held.pages - 1)) × (first_page sizes call + (held.pages - 1) < page_total sizes)
+last_of sizes call held unstored unlocked unsized within =
+    last_page sizes (first_page sizes call) held.pages (subst (BeginsWithin sizes) (held_pages sizes call held held.pages unstored unlocked unsized) within)
 
 pub returns-then-held-2 : goal.returns-then-held-2
 returns-then-held-2 c =
@@ -16,9 +25,7 @@ returns-then-held-2 c =
 pub overflow_add-first_page : goal.overflow_add-first_page
 overflow_add-first_page c =
     let sizes = sizes_of c.args.layout in
-    let call = call_of c.args.self.now in
-    let held = c.args.held in
-    let last = last_page sizes (first_page sizes call) held.pages (subst (BeginsWithin sizes) (held_pages sizes call held held.pages c.if-held.false c.in_default.is c.if-held-2.false) c.requires.within) in
+    let last = last_of sizes (call_of c.args.self.now) c.args.held c.if-held.false c.in_default.is c.if-held-2.false c.requires.within in
     let first = c.first_page.ensures in
     let low = last.1 in
     omega (arith, first, low, mul-le-mul_left c.args.layout.files c.args.layout.limits.most_pages, c.args.layout.limits.most_files)
@@ -26,9 +33,7 @@ overflow_add-first_page c =
 pub page_lock-requires : goal.page_lock-requires
 page_lock-requires c =
     let sizes = sizes_of c.args.layout in
-    let call = call_of c.args.self.now in
-    let held = c.args.held in
-    let last = last_page sizes (first_page sizes call) held.pages (subst (BeginsWithin sizes) (held_pages sizes call held held.pages c.if-held.false c.in_default.is c.if-held-2.false) c.requires.within) in
+    let last = last_of sizes (call_of c.args.self.now) c.args.held c.if-held.false c.in_default.is c.if-held-2.false c.requires.within in
     let first = c.first_page.ensures in
     let low = last.1 in
     record { there = omega (arith, first, low) }
@@ -39,7 +44,7 @@ returns c =
     let call = call_of c.args.self.now in
     let held = c.args.held in
     let all = held_pages sizes call held held.pages c.if-held.false c.in_default.is c.if-held-2.false in
-    let last = last_page sizes (first_page sizes call) held.pages (subst (BeginsWithin sizes) all c.requires.within) in
+    let last = last_of sizes call held c.if-held.false c.in_default.is c.if-held-2.false c.requires.within in
     record {
       cell = PAGE (first_page sizes call + (held.pages - 1));
       at_is = c.page_lock.ensures ∙ ap (λ first. place sizes (PAGE (first + (held.pages - 1)))) c.first_page.ensures;

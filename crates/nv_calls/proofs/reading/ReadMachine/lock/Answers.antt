@@ -13,33 +13,39 @@ use Rattle.nv_calls.specs.declared.machine.Progress.TheVariants.{More}
 use Rattle.nv_calls.specs.declared.reading.ReadMachine.{ReadMachine}
 use Rattle.nv_calls.specs.declared.reading.ReadStage.{ReadStage}
 use Rattle.nv_calls.specs.declared.reading.ReadStage.TheVariants.{Locks, Measures}
-use Rattle.nv_calls.specs.Kinds.{read_kind}
 use Rattle.nv_calls.specs.Reads.{IsOnWayAt, ReadGoes, Refuses, call_of}
+use Rattle.nv_calls.proofs.ArmLaws.{at_stage, Finds, due_to_take, has_taken, arm}
 use Rattle.nv_calls.proofs.LockLaws.{lock_due, lock_stands, lock_page, lock_last, lock_next, lock_refused, calls_locking}
+use Rattle.nv_calls.proofs.OnwardLaws.{first_of}
 use Rattle.nv_calls.proofs.RankLaws.{IsBefore, less_by, lock_less, measure_less, refused_less}
 use Rattle.nv_calls.proofs.ReadLaws.{refused_same}
-use Rattle.nv_calls.proofs.WayLaws.{word_is, take_due, taken, taken_by, between_self}
+use Rattle.nv_calls.proofs.WayLaws.{word_is}
 use Rattle.nv_calls.proofs.reading.ReadMachine.lock.Goals as goal
 use Rattle.nv_calls.proofs.reading.ReadMachine.lock.Goals.{then-page-end_page, else-page-end_page}
 
+-- the page's lock is at this place
+finds_page : {fds : List Fd} {m : ReadMachine} {list : List ℕ} {start old : PassState} {page cell : ℕ} {layout : Sizes} → IsOnWayAt fds m list start old (Locks page)
+    → layout ≡ old.sight.opened.sizes → cell ≡ place layout (PAGE page) → Finds old (Locking page) (PAGE page) cell
+finds_page {m = m} {page = page} way same is = record {
+  calls = calls_locking page;
+  stands = lock_stands _ _ _ _ _ _ way;
+  there = word_is _ _ (PAGE page) _ same (page_within _ (call_of m) page way.called.allowed (lock_page _ _ _ _ _ _ way)) is;
+}
+
 pub page_lock-requires : goal.page_lock-requires
 page_lock-requires g c =
-    let way = subst (IsOnWayAt c.args.mount.now.fds c.args.self.now c.args._list.now c.requires.way.0 c.args.pass.now) c.requires.stage c.requires.way.1 in
+    let way = at_stage c.requires.way.1 c.requires.stage in
     record { there = subst (λ (s : Sizes). c.args.page < s.files * s.pages) (sym c.layout_of-layout.ensures) (page_within c.args.pass.now.sight.opened.sizes (call_of c.args.self.now) c.args.page way.called.allowed (lock_page _ _ _ _ _ _ way)) }
 
 pub take-requires-clause-due : goal.take-requires-clause-due
 take-requires-clause-due g c =
-    let way = subst (IsOnWayAt c.args.mount.now.fds c.args.self.now c.args._list.now c.requires.way.0 c.args.pass.now) c.requires.stage c.requires.way.1 in
-    let sizes = c.args.pass.now.sight.opened.sizes in
-    take_due c.args.pass.now (Locking c.args.page) (PAGE c.args.page) c.page_lock.result (calls_locking c.args.page) (lock_stands _ _ _ _ _ _ way)
-    (word_is _ sizes (PAGE c.args.page) c.page_lock.result c.layout_of-layout.ensures (page_within sizes (call_of c.args.self.now) c.args.page way.called.allowed (lock_page _ _ _ _ _ _ way)) c.page_lock.ensures)
-    (lock_due _ _ _ _ _ _ way)
+    let way = at_stage c.requires.way.1 c.requires.stage in
+    due_to_take (finds_page way c.layout_of-layout.ensures c.page_lock.ensures) (lock_due _ _ _ _ _ _ way)
 
 pub overflow_sub-held : goal.overflow_sub-held
 overflow_sub-held g c =
-    let way = subst (IsOnWayAt c.args.mount.now.fds c.args.self.now c.args._list.now c.requires.way.0 c.args.pass.now) c.requires.stage c.requires.way.1 in
-    let low = (lock_page _ _ _ _ _ _ way).0 in
-    let first = c.first_page-first.ensures ∙ ap (λ (s : Sizes). first_page s (call_of c.args.self.now)) c.layout_of-layout.ensures in
+    let low = (lock_page _ _ _ _ _ _ (at_stage c.requires.way.1 c.requires.stage)).0 in
+    let first = first_of c.args.self.now _ c.args.pass.now.sight.opened.sizes _ c.first_page-first.ensures c.layout_of-layout.ensures in
     omega (arith, low, first)
 
 -- what comes next, by whether it was the last page
@@ -57,44 +63,26 @@ returns-after-page-end_page-clause-advance g c =
     let old = c.args.pass.now in
     let new = c.take.new.pass in
     let page = c.args.page in
-    let sizes = old.sight.opened.sizes in
-    let first = subst (IsOnWayAt fds m list c.requires.way.0 old) c.requires.stage c.requires.way.1 in
-    let there = word_is _ sizes (PAGE page) c.page_lock.result c.layout_of-layout.ensures (page_within sizes (call_of m) page first.called.allowed (lock_page fds m list c.requires.way.0 old page first)) c.page_lock.ensures in
-    let is : Stepped old None (Takes (PAGE page)) 0 new =
-    taken old (Locking page) (PAGE page) c.page_lock.result (calls_locking page) (lock_stands fds m list c.requires.way.0 old page first) there new 0 c.in-Ok.ensures.stepped in
+    let is = has_taken (finds_page (at_stage c.requires.way.1 c.requires.stage) c.layout_of-layout.ensures c.page_lock.ensures) new 0 c.in-Ok.ensures.stepped in
     let end_is = c.end_page.ensures ∙ ap (λ (s : Sizes). end_page s (call_of m)) c.layout_of-layout.ensures in
-    record {
-      same = record { fd = refl; at = refl; len = refl };
-      one = record { step = record { opens = None; works = is.works; deed = Takes (PAGE page); found = 0 }; is = taken_by old old new None (Takes (PAGE page)) 0 (between_self old) is; kind = λ same. ap (read_kind m.len) (sym c.requires.stage) };
-      goes = λ start way.
-          let at = subst (IsOnWayAt fds m list start old) c.requires.stage way in
-          elim c.if-page-end_page.branch [
-            | then-page-end_page w ↦ locked fds m list start old new page at is true (w.if-page-end_page.true ∙ end_is) c.if-page-end_page.self w.self-is
-            | else-page-end_page w ↦ locked fds m list start old new page at is false (λ e. w.if-page-end_page.false (e ∙ sym end_is)) c.if-page-end_page.self w.self-is
-          ];
-    }
+    arm c.requires.stage record { fd = refl; at = refl; len = refl } is refl
+    (λ start at. elim c.if-page-end_page.branch [
+      | then-page-end_page w ↦ locked fds m list start old new page at is true (w.if-page-end_page.true ∙ end_is) c.if-page-end_page.self w.self-is
+      | else-page-end_page w ↦ locked fds m list start old new page at is false (λ e. w.if-page-end_page.false (e ∙ sym end_is)) c.if-page-end_page.self w.self-is
+    ])
 
 pub returns-in-Err-clause-advance : goal.returns-in-Err-clause-advance
 returns-in-Err-clause-advance g c =
-    let fds = c.args.mount.now.fds in
     let m = c.args.self.now in
-    let list = c.args._list.now in
-    let old = c.args.pass.now in
-    let new = c.take.new.pass in
     let page = c.args.page in
-    let sizes = old.sight.opened.sizes in
-    let first = subst (IsOnWayAt fds m list c.requires.way.0 old) c.requires.stage c.requires.way.1 in
-    let there = word_is _ sizes (PAGE page) c.page_lock.result c.layout_of-layout.ensures (page_within sizes (call_of m) page first.called.allowed (lock_page fds m list c.requires.way.0 old page first)) c.page_lock.ensures in
-    let is : Stepped old None (Takes (PAGE page)) 1 new =
-    taken old (Locking page) (PAGE page) c.page_lock.result (calls_locking page) (lock_stands fds m list c.requires.way.0 old page first) there new 1 c.in-Err.ensures.stepped in
-    let first_is = c.first_page-first.ensures ∙ ap (λ (s : Sizes). first_page s (call_of m)) c.layout_of-layout.ensures in
-    let cell_is : c.in-Err.field-0.cell ≡ place sizes (PAGE page) = c.in-Err.ensures.busy ∙ c.page_lock.ensures ∙ ap (λ (s : Sizes). place s (PAGE page)) c.layout_of-layout.ensures in
-    let refuses = subst (λ n. Refuses m record { pages = page - n; sized = false; cleanup = None; stored = false } (Busy c.in-Err.field-0.cell) c.refuse.new.self c.refuse.result) first_is c.refuse.ensures in
-    record {
-      same = refused_same m c.refuse.new.self record { pages = page - first_page sizes (call_of m); sized = false; cleanup = None; stored = false } (Busy c.in-Err.field-0.cell) c.refuse.result refuses;
-      one = record { step = record { opens = None; works = is.works; deed = Takes (PAGE page); found = 1 }; is = taken_by old old new None (Takes (PAGE page)) 1 (between_self old) is; kind = λ same. ap (read_kind m.len) (sym c.requires.stage) };
-      goes = λ start way. lock_refused fds m list start old page (subst (IsOnWayAt fds m list start old) c.requires.stage way) c.refuse.new.self c.refuse.result c.in-Err.field-0.cell new is cell_is refuses;
-    }
+    let sizes = c.args.pass.now.sight.opened.sizes in
+    let cell = c.in-Err.field-0.cell in
+    let is = has_taken (finds_page (at_stage c.requires.way.1 c.requires.stage) c.layout_of-layout.ensures c.page_lock.ensures) c.take.new.pass 1 c.in-Err.ensures.stepped in
+    let first_is = first_of m _ sizes _ c.first_page-first.ensures c.layout_of-layout.ensures in
+    let cell_is : cell ≡ place sizes (PAGE page) = c.in-Err.ensures.busy ∙ c.page_lock.ensures ∙ ap (λ (s : Sizes). place s (PAGE page)) c.layout_of-layout.ensures in
+    let refuses = subst (λ n. Refuses m record { pages = page - n; sized = false; cleanup = None; stored = false } (Busy cell) c.refuse.new.self c.refuse.result) first_is c.refuse.ensures in
+    arm c.requires.stage (refused_same m c.refuse.new.self record { pages = page - first_page sizes (call_of m); sized = false; cleanup = None; stored = false } (Busy cell) c.refuse.result refuses) is refl
+    (λ start at. lock_refused _ _ _ _ _ _ at c.refuse.new.self c.refuse.result cell _ is cell_is refuses)
 
 -- there is less before it
 
@@ -103,7 +91,7 @@ returns-after-page-end_page-clause-less g c =
     let m = c.args.self.now in
     let page = c.args.page in
     let sizes = c.args.pass.now.sight.opened.sizes in
-    let way = subst (IsOnWayAt c.args.mount.now.fds m c.args._list.now c.requires.way.0 c.args.pass.now) c.requires.stage c.requires.way.1 in
+    let way = at_stage c.requires.way.1 c.requires.stage in
     let within = (lock_page _ _ _ _ _ _ way).1 in
     elim c.if-page-end_page.branch [
       | then-page-end_page w ↦ less_by sizes m Measures (Locks page) c.if-page-end_page.self c.requires.stage w.self-is (measure_less sizes m page)
@@ -114,7 +102,7 @@ pub returns-in-Err-clause-less : goal.returns-in-Err-clause-less
 returns-in-Err-clause-less g c =
     let m = c.args.self.now in
     let sizes = c.args.pass.now.sight.opened.sizes in
-    let way = subst (IsOnWayAt c.args.mount.now.fds m c.args._list.now c.requires.way.0 c.args.pass.now) c.requires.stage c.requires.way.1 in
+    let way = at_stage c.requires.way.1 c.requires.stage in
     let within = (lock_page _ _ _ _ _ _ way).1 in
     let first_is = c.first_page-first.ensures ∙ ap (λ (s : Sizes). first_page s (call_of m)) c.layout_of-layout.ensures in
     let few : c.args.page - c.first_page-first.result ≤ page_count sizes (call_of m) = omega (arith, within, first_is) in

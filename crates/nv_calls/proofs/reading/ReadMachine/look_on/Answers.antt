@@ -1,67 +1,38 @@
 -- It goes on with its place, or with the first page whose buffer doesn't count.
-use Rattle.std.proofs.Common.{◌≡◌, ◌≢◌, ◌+◌, ◌-◌, ◌*◌, ◌<◌, ◌≤◌, [], inl, inr, sym, ap, subst, ◌∙◌, arith}
+use Rattle.std.proofs.Common.{◌≡◌, ◌≢◌, ◌+◌, ◌-◌, ◌*◌, ◌<◌, ◌≤◌, inl, inr, sym, ap, subst, ◌∙◌, arith}
 use Rattle.nv_core.specs.Words.{Sizes, PAGE, page_total}
-use Rattle.nv_core.specs.Passes.{first_page, end_read, times}
+use Rattle.nv_core.specs.Passes.{first_page, end_read}
 use Rattle.nv_core.specs.Values.{lacks_buffer}
 use Rattle.nv_plain.specs.Pieces.{pages_touched}
 use Rattle.nv_table.specs.Opened.{Opened}
-use Rattle.nv_table.specs.Sights.{Sight, pass_of, values_of, slot_times}
-use Rattle.nv_table.specs.States.{BoardState}
+use Rattle.nv_table.specs.Sights.{pass_of, values_of, slot_times}
 use Rattle.nv_pages.specs.Altered.{IsAltered}
 use Rattle.nv_pages.specs.PageWork.{page_slot}
 use Rattle.nv_pages.proofs.AlterLaws.{altered_then}
 use Rattle.nv_calls.specs.Reads.{call_of, StandsAt}
 use Rattle.nv_calls.specs.Ranks.{rank, look_rank, most_scans}
+use Rattle.nv_calls.proofs.ArmLaws.{opened_by}
 use Rattle.nv_calls.proofs.RankLaws.{look_from, looks_few, place_from, tries_few}
-use Rattle.nv_calls.proofs.LookLaws.{read_page_there, still_altered, of_kept, page_carried, looking_there, looking_few, looking_left, looking_held, looked_all, looked_lacking, looked_up}
+use Rattle.nv_calls.proofs.LookLaws.{of_kept, looked_all, looked_lacking, looked_up, looked_there, looked_carried}
 use Rattle.nv_calls.proofs.reading.ReadMachine.look_on.Goals as goal
 use Rattle.nv_calls.proofs.reading.ReadMachine.look_on.Goals.{then-page-end_read, else-page-end_read+then-layout-gt0+then-lacks_buffer, else-page-end_read+else-layout-gt0, else-layout-gt0-via-then-layout-gt0+else-lacks_buffer, else-layout-gt0-via-else-layout-gt0}
 
 pub lacks_buffer-requires-clause-page : goal.lacks_buffer-requires-clause-page
 lacks_buffer-requires-clause-page g c =
-    let old = c.args.pass.now in
-    let sizes = old.sight.opened.sizes in
-    let m = c.args.self.now in
     let page = c.copy_on-page.result.0 in
-    let copied = c.copy_on-page.result.1 in
     let base = c.requires.looking.0 in
-    let at = c.copy_on-page.ensures.looking base c.requires.looking.1 in
-    let end = c.end_read.ensures at.len at.covers ∙ ap (λ (s : Sizes). end_read s (call_of m) at.len) c.layout_of-layout.ensures in
-    let till = at.copied.till in
-    let ne = c.if-page-end_read.false in
-    let more : page < end_read sizes (call_of m) at.len = omega (arith, end, till, ne) in
-    let some = subst (λ (s : Sizes). 1 ≤ s.page) c.layout_of-layout.ensures (let least = c.layout_of-layout.result.limits.least_page in omega (arith, least)) in
-    subst (λ (b : BoardState). page < page_total b.opened.sizes) (sym c.board.ensures)
-    (subst (λ (o : Opened). page < page_total o.sizes) c.requires.board.same_mount
-    (read_page_there sizes m page c.requires.allowed (looking_few sizes m c.copy_on-page.new.list base (values_of old.sight) (pass_of old.sight) page copied at) at.copied.from
-    (looking_there sizes m c.copy_on-page.new.list base (values_of old.sight) (pass_of old.sight) page copied at some more)))
+    subst (λ (o : Opened). page < page_total o.sizes) (opened_by c.requires.board c.board.ensures)
+    (looked_there c.args.self.now c.copy_on-page.new.list base c.args.pass.now page c.copy_on-page.result.1 (c.copy_on-page.ensures.looking base c.requires.looking.1)
+    c.layout_of-layout.result.limits c.layout_of-layout.ensures c.end_read.result c.end_read.ensures c.if-page-end_read.false c.requires.allowed)
 
 pub lacks_buffer-requires-clause-carries : goal.lacks_buffer-requires-clause-carries
 lacks_buffer-requires-clause-carries g c =
-    let old = c.args.pass.now in
     let now = c.copy_on-page.new.pass in
-    let sizes = old.sight.opened.sizes in
-    let m = c.args.self.now in
-    let list = c.copy_on-page.new.list in
     let page = c.copy_on-page.result.0 in
-    let copied = c.copy_on-page.result.1 in
     let base = c.requires.looking.0 in
-    let at = c.copy_on-page.ensures.looking base c.requires.looking.1 in
-    let end = c.end_read.ensures at.len at.covers ∙ ap (λ (s : Sizes). end_read s (call_of m) at.len) c.layout_of-layout.ensures in
-    let till = at.copied.till in
-    let ne = c.if-page-end_read.false in
-    let more : page < end_read sizes (call_of m) at.len = omega (arith, end, till, ne) in
-    let some = subst (λ (s : Sizes). 1 ≤ s.page) c.layout_of-layout.ensures (let least = c.layout_of-layout.result.limits.least_page in omega (arith, least)) in
-    let there = read_page_there sizes m page c.requires.allowed (looking_few sizes m list base (values_of old.sight) (pass_of old.sight) page copied at) at.copied.from
-    (looking_there sizes m list base (values_of old.sight) (pass_of old.sight) page copied at some more) in
-    let held = looking_held sizes m list base (values_of old.sight) (pass_of old.sight) page copied at some more in
-    let same = c.copy_on-page.ensures.same in
-    subst (λ (b : BoardState). slot_times (page_slot b.opened.sizes page) now.now ≡ 1) (sym c.board.ensures)
-    (subst (λ (o : Opened). slot_times (page_slot o.sizes page) now.now ≡ 1) (ap (λ (v : Sight). v.opened) same.sight ∙ c.requires.board.same_mount)
-    (page_carried now page (still_altered old now same c.requires.still)
-    (subst (λ (v : Sight). (pass_of v).left ≡ []) (sym same.sight) (looking_left sizes m list base (values_of old.sight) (pass_of old.sight) page copied at))
-    (subst (λ (v : Sight). times (PAGE page) (pass_of v).hands ≡ 1) (sym same.sight) held)
-    (subst (λ (v : Sight). page < page_total v.opened.sizes) (sym same.sight) there)))
+    subst (λ (o : Opened). slot_times (page_slot o.sizes page) now.now ≡ 1) (opened_by c.requires.board c.board.ensures)
+    (looked_carried c.args.self.now c.copy_on-page.new.list base c.args.pass.now page c.copy_on-page.result.1 (c.copy_on-page.ensures.looking base c.requires.looking.1)
+    c.layout_of-layout.result.limits c.layout_of-layout.ensures c.end_read.result c.end_read.ensures c.if-page-end_read.false c.requires.allowed now c.copy_on-page.ensures.same c.requires.still)
 
 pub returns-clause-same : goal.returns-clause-same
 returns-clause-same g c =

@@ -1,7 +1,11 @@
--- One call was made, which read the piece.
+-- One call was made, which read the piece, or has failed.
+use Rattle.std.proofs.Common.{◌≡◌}
 use Rattle.nv_core.specs.Values.{Made}
-use Rattle.nv_calls.specs.PieceReads.{piece_read}
+use Rattle.nv_calls.specs.PieceReads.{piece_read, HasFailedRead}
 use Rattle.nv_calls.proofs.reading.ReadMachine.patch.Given as goal
 
-abbrev pub ghost-return_read : goal.ghost-return_read
-ghost-return_read g a = piece_read a.pass.now.sight.opened.sizes a.number a._at a._bytes.now Made
+abbrev pub ghosts-stop_after : goal.ghosts-stop_after
+ghosts-stop_after g a = record { said = HasFailedRead }
+
+abbrev pub ghosts-return_read : goal.ghosts-return_read
+ghosts-return_read g a = record { said = λ works. works ≡ piece_read a.pass.now.sight.opened.sizes a.number a._at a._bytes.now Made }

@@ -1,0 +1,28 @@
+//! What a read does where a device call has failed: it sets STOP.
+ghost use Rattle.std.specs.Prelude.{ℕ, None};
+ghost use Rattle.nv_core.specs.Deeds.{Stops};
+ghost use Rattle.nv_table.specs.Ready.{Stepped};
+ghost use Rattle.nv_table.specs.States.{IsOf};
+ghost use Rattle.nv_table.specs.Turns.{IsDue};
+
+use nv_pmem::Lines;
+use nv_store::Backing;
+use nv_table::{Board, Change, Marks, Moves, Pass, STOP, Says, step};
+use std::marker::Brand;
+
+// Sets STOP. What is said of the device call that has failed is so of the calls that the step tells.
+pub(crate) fn stop_after<W: Says, L: Lines, B: Backing>(board: &Board<L, B>, pass: &mut Pass<L, B>)
+    requires board { IsOf board.now pass.old }
+    requires due { (due : IsDue pass.old None Stops) × W.said due.works }
+    ensures board { IsOf board.now pass.new }
+    ensures stepped { (found : ℕ) × (stepped : Stepped pass.old None Stops found pass.new) × W.said stepped.works }
+{
+    step::<Brand, L, B>(
+        board,
+        pass,
+        STOP as usize,
+        Change::Set(1),
+        Moves::Stays,
+        Marks::Stops,
+    );
+}
