@@ -1,6 +1,9 @@
 -- Beginnings: the first step of a read, or its refusal before any.
-use Rattle.std.proofs.Common.{◌≡◌, ◌≢◌, ℕ, zero, suc, ◌+◌, ◌-◌, ◌/◌, ◌<◌, ◌==◌, false, if◌then◌else◌, List, [], ◌∷◌, inl, inr, refl, sym, ap, subst, ◌∙◌, arith, eq-eqb, ne_eqb}
-use Rattle.std.specs.Prelude.{Option, Some, None, Err, min}
+use Rattle.std.proofs.Common.{◌≡◌, ◌≢◌, ℕ, zero, suc, ◌+◌, ◌-◌, ◌/◌, ◌<◌, ◌==◌, false, if◌then◌else◌, List, [], ◌∷◌, inl, inr, refl, sym, ap, subst, ◌∙◌, arith, eq-eqb, ne_eqb, ◌*◌}
+use Rattle.std.specs.Prelude.{Option, Some, None, Err, min, nat_lt}
+use Rattle.std.specs.List.{slice_get}
+use Rattle.nv_plain.specs.Layouts.{version_1}
+use Rattle.nv_plain.specs.Modes.{can_read}
 use Rattle.nv_plain.specs.Pieces.{pages_touched}
 use Rattle.nv_plain.specs.declared.call.FileCall.{FileCall}
 use Rattle.nv_plain.specs.declared.call.FileCall.TheVariants.{Read}
@@ -20,7 +23,7 @@ use Rattle.nv_table.specs.Turns.{IsDue}
 use Rattle.nv_table.proofs.CallLaws.{IsBare, IsCallFree, bare_carries, bare_there, page_due, page_refused, stepped_there, later_by}
 use Rattle.nv_mount.specs.declared.fds.Fd.{Fd}
 use Rattle.nv_calls.specs.declared.answers.Refusal.{Refusal}
-use Rattle.nv_calls.specs.declared.answers.Refusal.TheVariants.{Busy, Stopped}
+use Rattle.nv_calls.specs.declared.answers.Refusal.TheVariants.{Busy, Stopped, BadFd, TooFar, TooLong}
 use Rattle.nv_calls.specs.declared.kinds.Kind.TheVariants.{Load, Take}
 use Rattle.nv_calls.specs.declared.machine.Progress.{Progress}
 use Rattle.nv_calls.specs.declared.machine.Progress.TheVariants.{Ended}
@@ -28,13 +31,13 @@ use Rattle.nv_calls.specs.declared.reading.ReadMachine.{ReadMachine}
 use Rattle.nv_calls.specs.declared.reading.ReadStage.TheVariants.{Begins, Locks, Measures, Orders}
 use Rattle.nv_calls.specs.Advances.{IsSameRead, IsFirstAdvance}
 use Rattle.nv_calls.specs.Answers.{IsUnplaced}
-use Rattle.nv_calls.specs.Barred.{barred, IsAdmitted}
+use Rattle.nv_calls.specs.Barred.{barred, IsAdmitted, barred_range, barred_fd}
 use Rattle.nv_calls.specs.Kinds.{kind_of, read_kind}
-use Rattle.nv_calls.specs.Reads.{ReadGoes, pages_from, with_if, read_hands, reading, IsAt, IsMeasured, InCall, IsOnWayAt, IsUnbegun, IsReadOver, IsOverBy}
+use Rattle.nv_calls.specs.Reads.{ReadGoes, pages_from, with_if, read_hands, reading, IsAt, IsMeasured, InCall, IsOnWayAt, IsUnbegun, IsReadOver, IsOverBy, is_fault}
 use Rattle.nv_calls.specs.Steps.{Step, refused_by, place_by, is_stop}
 use Rattle.nv_calls.proofs.LockLaws.{page_among}
 use Rattle.nv_calls.proofs.ReadLaws.{over_from}
-use Rattle.nv_calls.proofs.WayLaws.{opened_same, by_sizes, taken_by, between_self, none_tells, word_is}
+use Rattle.nv_calls.proofs.WayLaws.{opened_same, by_sizes, taken_by, between_self, none_tells, word_is, if_no_fault, no_fault}
 
 -- ---- pages
 
@@ -88,6 +91,19 @@ barred_over fds m list refusal start now way is =
     (sym (ap (barred start.sight.opened.sizes fds m.fd m.at) way.room ∙ ap (λ (p : PassState). barred p.sight.opened.sizes fds m.fd m.at m.len) (sym way.same) ∙ is))
     (refl, way.same)
 
+-- that is for no device fault
+range_no_fault : (sizes : Sizes) (at len : ℕ) → is_fault (barred_range sizes at len) ≡ false
+range_no_fault sizes at len =
+    let long = nat_lt (min version_1.group_limit sizes.entries) (pages_touched at len sizes.page) in
+    if_no_fault (nat_lt (sizes.page * sizes.pages) (at + len)) (Some TooFar) (if long then Some TooLong else None) refl (if_no_fault long (Some TooLong) None refl refl)
+
+fd_no_fault : (sizes : Sizes) (fd : Option Fd) (at len : ℕ) → is_fault (barred_fd sizes fd at len) ≡ false
+fd_no_fault sizes None at len = refl
+fd_no_fault sizes (Some one) at len = if_no_fault (can_read one.mode) (barred_range sizes at len) (Some BadFd) (range_no_fault sizes at len) refl
+
+barred_no_fault : (sizes : Sizes) (fds : List Fd) (fd at len : ℕ) → is_fault (barred sizes fds fd at len) ≡ false
+barred_no_fault sizes fds fd at len = fd_no_fault sizes (slice_get fds fd) at len
+
 -- ---- after the first step
 
 -- a pass with a call that has just begun
@@ -113,6 +129,7 @@ module _ (fds : List Fd) (m : ReadMachine) (list : List ℕ) (file : ℕ) (old :
     refused = ap (λ (o : Opened). refused_by o.sizes call is.works deed found) opened ∙ refuses;
     placed = places ∙ sym way.unplaced;
     stopped = stops ∙ sym way.unfaulted;
+    faults = way.unfaulted ∙ sym (ap is_fault (sym refuses) ∙ no_fault old.sight.opened.sizes call is.works deed found stops);
     mount = opened;
     later = later_by old new (Some call) deed found is;
     spare = is.spare;
@@ -284,5 +301,5 @@ pub first_none : (fds : List Fd) (m : ReadMachine) (list : List ℕ) (old : Pass
 first_none fds m list old refusal is = record {
   same = record { fd = refl; at = refl; len = refl };
   one = inl record { refusal = refusal; barred_is = is; answer = refl; same = refl };
-  goes = λ start way. (way.unplaced, barred_over fds m list refusal start old way is);
+  goes = λ start way. (way.unplaced, way.unfaulted ∙ sym (ap is_fault (sym is) ∙ barred_no_fault old.sight.opened.sizes fds m.fd m.at m.len), barred_over fds m list refusal start old way is);
 }

@@ -36,7 +36,7 @@ use Rattle.nv_calls.proofs.CopyWays.{look_open, look_placed, look_goes, given_wa
 use Rattle.nv_calls.proofs.FetchLaws.{fetching_held}
 use Rattle.nv_calls.proofs.OnwardLaws.{stepped_altered}
 use Rattle.nv_calls.proofs.ReadLaws.{refused_same}
-use Rattle.nv_calls.proofs.WayLaws.{opened_same, taken_by}
+use Rattle.nv_calls.proofs.WayLaws.{opened_same, taken_by, set_clash}
 
 module _ (m : ReadMachine) (now : PassState) (store : IsStore (values_of now.sight (STORE m.file))) (mid : PassState) (same : mid.sight ≡ now.sight) where
   store_on : IsStore (values_of mid.sight (STORE m.file))
@@ -63,10 +63,10 @@ fail_advance fds m list now mid page dirty stage_is failed unfaulted new stepped
   one = record {
     step = record { opens = None; works = stepped.1.works; deed = Stops; found = stepped.0 };
     is = taken_by now mid new None Stops stepped.0 between stepped.1;
-    kind = λ kept. absurd (clash (sym (refused_faulted failing next held StoreFault progress refuses) ∙ kept ∙ unfaulted));
+    kind = λ kept. absurd (set_clash (sym (refused_faulted failing next held StoreFault progress refuses) ∙ kept ∙ unfaulted));
   };
   goes = λ start way.
-      fail_goes fds m list start now mid page dirty (at_stage way stage_is) between stepped.0 new stepped.1 stepped.2 unfaulted scratch next progress
+      fail_goes fds m list start now mid page dirty (at_stage way stage_is) between stepped.0 new stepped.1 stepped.2 scratch next progress
       (subst (λ h. Refuses failing h StoreFault next progress) held_is refuses);
 }
   where
@@ -81,9 +81,6 @@ fail_advance fds m list now mid page dirty stage_is failed unfaulted new stepped
 
     between : IsBetween now mid
     between = record { table = failed.altered.table; sight = failed.altered.sight; spare = failed.altered.spare }
-
-    clash : true ≡ false → ⊥
-    clash e = cc
 
 -- ---- the read went well
 

@@ -1,5 +1,5 @@
 -- Copies: a page is read from its store, which is given back, or STOP is set where it has failed.
-use Rattle.std.proofs.Common.{◌≡◌, ◌≢◌, ℕ, ◌+◌, ◌-◌, ◌*◌, ◌%◌, ◌<◌, ◌≤◌, ◌||◌, Bool, true, false, if◌then◌else◌, List, [], ◌∷◌, ◌++◌, length, take, drop, refl, sym, ap, subst, ◌∙◌, arith, replicate}
+use Rattle.std.proofs.Common.{◌≡◌, ◌≢◌, ℕ, ◌+◌, ◌-◌, ◌*◌, ◌%◌, ◌<◌, ◌≤◌, Bool, true, false, if◌then◌else◌, List, [], ◌∷◌, ◌++◌, length, take, drop, refl, sym, ap, subst, ◌∙◌, arith, replicate}
 use Rattle.std.specs.Prelude.{Option, Some, None}
 use Rattle.std.proofs.lemmas.List.{length-take, length-drop, length-replicate}
 use Rattle.nv_plain.specs.Faults.{Rose}
@@ -9,26 +9,22 @@ use Rattle.nv_store.specs.Store.{Store}
 use Rattle.nv_core.specs.Words.{Sizes, Word, PAGE, SIZE, STORE, CLEANUP, page_total, same}
 use Rattle.nv_core.specs.Values.{Value, AStore, Reads, Made, Failed, called, faults_of, filled}
 use Rattle.nv_core.specs.Passes.{Pass, Reading, Copying, Bounding, fetched_bytes, times, without}
-use Rattle.nv_core.specs.Deeds.{Deed, Gives, Stops}
+use Rattle.nv_core.specs.Deeds.{Gives, Stops}
 use Rattle.nv_core.specs.Order.{Values, Work, MayWork, MayEnd, MayLeave, MayGive, IsFailing, IsDue as IsWorkDue, SaysPage, SaysOf, page_bytes}
-use Rattle.nv_core.specs.Stepped.{stepped, faulted_after}
+use Rattle.nv_core.specs.Stepped.{stepped}
 use Rattle.nv_core.specs.Core.{worked, values_worked, values_given, with_word, stage_worked}
 use Rattle.nv_core.specs.Shapes.{HasShape, IsStore}
 use Rattle.nv_core.specs.Standing.{IsPage}
-use Rattle.nv_core.specs.Opening.{IsMount}
-use Rattle.nv_core.specs.Laws.{RunsAreSound}
-use Rattle.nv_core.specs.Broken.{HasChecked}
 use Rattle.nv_core.proofs.Changes.{word_else, by_word, same_self, number_self}
 use Rattle.nv_core.proofs.LockLaws.{times_here, times_else}
 use Rattle.nv_core.proofs.StepWords.{page_within}
-use Rattle.nv_table.specs.Acts.{pass_before, pass_worked, values_then, with_call}
-use Rattle.nv_table.specs.Opened.{mount_of, IsRunOf, state_of}
+use Rattle.nv_table.specs.Acts.{pass_before, values_then}
+use Rattle.nv_table.specs.Opened.{state_of}
 use Rattle.nv_table.specs.Ready.{Stepped}
 use Rattle.nv_table.specs.Sights.{Sight, pass_of, values_of, carried, slot_times, Carries}
 use Rattle.nv_table.specs.States.{BoardState, PassState}
 use Rattle.nv_table.specs.Turns.{IsDue}
 use Rattle.nv_table.proofs.CarryLaws.{carries_kept}
-use Rattle.nv_table.proofs.DrawnLaws.{calls_leave}
 use Rattle.nv_mount.specs.declared.fds.Fd.{Fd}
 use Rattle.nv_pages.specs.PageWork.{store_slot, with_page}
 use Rattle.nv_pages.proofs.AlterLaws.{at_store}
@@ -36,7 +32,6 @@ use Rattle.nv_calls.specs.declared.reading.ReadMachine.{ReadMachine}
 use Rattle.nv_calls.specs.declared.reading.ReadStage.TheVariants.{Copies, Bounds}
 use Rattle.nv_calls.specs.PageReads.{page_read, HasFailedFetch}
 use Rattle.nv_calls.specs.Reads.{call_of, with_if, read_hands, reading, HasCopied, IsAtPage, IsLooking, IsOnWayAt, StandsAt, page_piece}
-use Rattle.nv_calls.specs.Steps.{Step, HasMade, is_stop, stops_in}
 use Rattle.nv_calls.proofs.FetchLaws.{page_of_read}
 use Rattle.nv_calls.proofs.FrontLaws.{copied_same, bytes_same, bytes_else}
 use Rattle.nv_calls.proofs.HeldLaws.{page_held, other_not_held, slot_carried}
@@ -126,29 +121,6 @@ page_once sizes call sized dirty page file p is = times_else (PAGE p) (STORE fil
     rest true = times_else (PAGE p) (CLEANUP page) (read_hands sizes call sized) (λ e. clash_cleanup e) ∙ page_held sizes call sized p is
     rest false = page_held sizes call sized p is
 
--- ---- no device call has failed before
-
-none_faulted : (deed : Deed) (pass : Pass) → faulted_after pass deed ≡ [] → (is_stop deed ≡ false) × (pass.faulted ≡ [])
-none_faulted Stops pass none = absurd (let n = ap length none in omega (arith, n))
-none_faulted deed pass none = (refl, none)
-
-call_faulted : (sizes : Sizes) (opens : Option FileCall) (pass : Pass) → (with_call sizes opens pass).faulted ≡ pass.faulted
-call_faulted sizes None pass = refl
-call_faulted sizes (Some call) pass = refl
-
--- a pass that no fault has ended a call of has not set STOP
-pub none_stopped : (steps : List Step) (start now : PassState) → HasMade steps start now → (pass_of now.sight).faulted ≡ [] → stops_in steps ≡ false
-none_stopped [] start now made none = refl
-none_stopped (step ∷ earlier) start now made none =
-    let taken = made.2 in
-    let before = taken.before in
-    let sizes = before.sight.opened.sizes in
-    let works = taken.stepped.works in
-    let was = none_faulted step.deed (pass_before before.sight step.opens works) (sym (ap (λ (p : Pass). p.faulted) taken.stepped.pass) ∙ none) in
-    let clear : (pass_of before.sight).faulted ≡ [] =
-    sym (calls_leave (λ p. p.faulted) (λ sizes work pass. refl) sizes works (pass_of before.sight)) ∙ sym (call_faulted sizes step.opens (pass_worked sizes works (pass_of before.sight))) ∙ was.1 in
-    ap (λ b. b || is_stop step.deed) (none_stopped earlier start made.0 made.1 (ap (λ (v : Sight). (pass_of v).faulted) (sym taken.between.sight) ∙ clear)) ∙ was.0
-
 -- ---- a read that is about to read a page from its store
 
 module _ (fds : List Fd) (m : ReadMachine) (list : List ℕ) (start now : PassState) (page : ℕ) (dirty : Bool) (way : IsOnWayAt fds m list start now (Copies page dirty)) where
@@ -181,11 +153,6 @@ module _ (fds : List Fd) (m : ReadMachine) (list : List ℕ) (start now : PassSt
       slot_carried now (store_slot now.sight.opened.sizes m.file) (STORE m.file) way.called.still (ap (λ (p : Pass). p.left) at_copies.is) (omega (arith, known))
       (at_store board now m.file (store_slot now.sight.opened.sizes m.file) (record { same_table = refl; same_mount = refl }) known refl)
       ∙ ap (λ (p : Pass). times (STORE m.file) p.hands) at_copies.is ∙ store_once now.sight.opened.sizes (call_of m) m.sized dirty page m.file
-
-  pub copy_unfaulted : RunsAreSound → IsMount (mount_of now.sight.opened) → IsRunOf now.sight.opened now.sight.run → m.faulted ≡ false
-  copy_unfaulted runs mount run =
-      let sound = runs (mount_of now.sight.opened) now.sight.run mount run in
-      sym way.called.stopped ∙ none_stopped way.called.steps start now way.called.made (sound.broken.passed now.sight.number (subst HasChecked (sym copy_stands) tt))
 
 -- ---- what the cells keep after a read that went well
 

@@ -81,7 +81,7 @@ module _ (fds : List Fd) (m : ReadMachine) (list : List ℕ) (start now mid : Pa
 -- ---- STOP was set
 
 module _ (fds : List Fd) (m : ReadMachine) (list : List ℕ) (start now mid : PassState) (page : ℕ) (dirty : Bool) (way : IsOnWayAt fds m list start now (Copies page dirty)) (between : IsBetween now mid)
-    (found : ℕ) (new : PassState) (is : Stepped mid None Stops found new) (told : HasFailedFetch is.works) (unfaulted : m.faulted ≡ false) where
+    (found : ℕ) (new : PassState) (is : Stepped mid None Stops found new) (told : HasFailedFetch is.works) where
   abbrev at_failed : IsCopying m list way.base mid page dirty
   at_failed = copying_on m list way.base now mid page dirty between.sight way.stands
 
@@ -102,7 +102,7 @@ module _ (fds : List Fd) (m : ReadMachine) (list : List ℕ) (start now mid : Pa
 
   called : InCall fds m.fd (call_of m) (Some StoreFault) None true start new
   called =
-      in_call_on fds m.fd (call_of m) None (Some StoreFault) m.place None m.faulted true start now mid new Stops found way.called between is (ap fault_in told.is) (ap (λ p. either_of p None) way.placed) (ap (λ b. b || true) unfaulted)
+      in_call_on fds m.fd (call_of m) None (Some StoreFault) m.place None m.faulted true start now mid new Stops found way.called between is (ap fault_in told.is) (ap (λ p. either_of p None) way.placed) (ap (λ b. b || true) way.called.faults) refl
 
   pub fail_goes : (scratch : List ℕ) (next : ReadMachine) (progress : Progress) → Refuses (record m { faulted = true; scratch = scratch }) (fetching_held now.sight.opened.sizes m page dirty true) StoreFault next progress → ReadGoes fds start next list new progress
   fail_goes scratch next progress refuses =

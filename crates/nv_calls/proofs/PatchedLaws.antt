@@ -1,6 +1,6 @@
 -- Patched pages: what follows the read of a piece.
 use Rattle.std.proofs.Common.{◌≡◌, ℕ, ◌+◌, ◌<◌, ◌≤◌, ◌%◌, ◌||◌, nat_lt, Bool, true, false, if◌then◌else◌, List, [], ◌∷◌, ◌++◌, take, length, refl, sym, ap, subst, ◌∙◌, arith, eq-eqb}
-use Rattle.std.specs.Prelude.{Option, Some, None}
+use Rattle.std.specs.Prelude.{Some, None}
 use Rattle.std.proofs.lemmas.List.{take_at}
 use Rattle.nv_plain.specs.Files.{overwritten}
 use Rattle.nv_core.specs.Words.{Sizes, Word, ENTRY, PAGE, CLEANUP}
@@ -12,10 +12,7 @@ use Rattle.nv_core.specs.Stepped.{stepped}
 use Rattle.nv_core.specs.Order.{Work}
 use Rattle.nv_core.proofs.LockLaws.{times_else}
 use Rattle.nv_table.specs.Acts.{pass_before, values_then}
-use Rattle.nv_core.specs.Opening.{IsMount}
-use Rattle.nv_core.specs.Laws.{RunsAreSound}
-use Rattle.nv_core.specs.Broken.{HasChecked}
-use Rattle.nv_table.specs.Opened.{Opened, mount_of, IsRunOf, state_of}
+use Rattle.nv_table.specs.Opened.{Opened, state_of}
 use Rattle.nv_table.specs.Ready.{Stepped}
 use Rattle.nv_table.specs.Sights.{pass_of, values_of}
 use Rattle.nv_table.specs.States.{PassState}
@@ -28,16 +25,12 @@ use Rattle.nv_calls.specs.declared.reading.ReadStage.TheVariants.{Scans, Patches
 use Rattle.nv_calls.specs.Advances.{IsSameRead}
 use Rattle.nv_calls.specs.PieceReads.{piece_read, HasFailedRead}
 use Rattle.nv_calls.specs.Reads.{call_of, read_hands, reading, IsAtPage, IsPatchingAt, StandsAt, IsOnWayAt, ReadGoes}
-use Rattle.nv_calls.specs.Steps.{IsBetween, either_of, fault_in}
+use Rattle.nv_calls.specs.Steps.{IsBetween, fault_in}
 use Rattle.nv_calls.proofs.FrontLaws.{copied_same, bytes_same, bytes_else}
 use Rattle.nv_calls.proofs.PatchLaws.{page_beside, page_before, way_on, copied_as, scan_either, unplaced_on}
 use Rattle.nv_calls.proofs.PieceLaws.{entry_held}
-use Rattle.nv_calls.proofs.CopyLaws.{none_stopped}
 use Rattle.nv_calls.proofs.EndLaws.{without_first}
-use Rattle.nv_calls.proofs.WayLaws.{in_call_on, opened_same, tells_none, none_tells}
-
-pub set_clash : true ≡ false → ⊥
-set_clash e = cc
+use Rattle.nv_calls.proofs.WayLaws.{in_call_on, opened_same, tells_none, none_tells, either_none}
 
 -- the front of the room for a page, whose size is the mount's
 pub room_by : (sizes : Sizes) (page at : ℕ) (scratch old bytes : List ℕ) → page ≡ sizes.page → take page scratch ≡ overwritten (take page old) (at % page) bytes
@@ -68,12 +61,6 @@ module _ (fds : List Fd) (m : ReadMachine) (list : List ℕ) (start now : PassSt
 
   pub patch_stands : (pass_of now.sight).stage ≡ Patching page number
   patch_stands = ap (λ (p : Pass). p.stage) here.is
-
-  -- no device has failed in it yet
-  pub patch_unfaulted : RunsAreSound → IsMount (mount_of now.sight.opened) → IsRunOf now.sight.opened now.sight.run → m.faulted ≡ false
-  patch_unfaulted runs mount run =
-      let sound = runs (mount_of now.sight.opened) now.sight.run mount run in
-      sym way.called.stopped ∙ none_stopped way.called.steps start now way.called.made (sound.broken.passed now.sight.number (subst HasChecked (sym patch_stands) tt))
 
   pub patch_left : (pass_of now.sight).left ≡ []
   patch_left = ap (λ (p : Pass). p.left) here.is
@@ -175,10 +162,6 @@ module _ (fds : List Fd) (m : ReadMachine) (list : List ℕ) (start now : PassSt
         ∙ ap (λ w. stepped sizes now.sight.number (state_of now.sight.opened is.steps.run).history Stops found (pass_before now.sight None w)) failed.is
         ∙ ap (λ p. stepped sizes now.sight.number (state_of now.sight.opened is.steps.run).history Stops found (worked sizes failed_work p)) here.is
 
-    either_none : {T : Type 0} (one : Option T) → either_of one None ≡ one
-    either_none (Some one) = refl
-    either_none None = refl
-
     or_true : (b : Bool) → b || true ≡ true
     or_true true = refl
     or_true false = refl
@@ -186,7 +169,7 @@ module _ (fds : List Fd) (m : ReadMachine) (list : List ℕ) (start now : PassSt
     pub patch_failed : IsOnWayAt fds (record m { faulted = true; stage = Restores page number }) list start new (Restores page number)
     patch_failed = record {
       called = in_call_on fds m.fd (call_of m) None (Some RegionFault) m.place m.place m.faulted true start now (record mid { sight = now.sight }) new Stops found way.called between is
-          fault_is (either_none m.place) (or_true m.faulted);
+          fault_is (either_none m.place) (or_true m.faulted) refl;
       base = base_then;
       stands = subst (λ (o : Opened). StandsAt o.sizes (record m { faulted = true; stage = Restores page number }) list base_then (values_of new.sight) (pass_of new.sight) (Restores page number))
           (sym (opened_same (record mid { sight = now.sight }) new None Stops found is)) (here.fetched, record { len = here.len; is = stopped_is });

@@ -1,5 +1,5 @@
 -- Places: a read takes its place with the bytes that it has, and gives back what it holds.
-use Rattle.std.proofs.Common.{◌≡◌, ℕ, ◌-◌, ◌||◌, Bool, true, false, if◌then◌else◌, List, [], ◌∷◌, ◌++◌, refl, sym, ap, subst, ◌∙◌, arith}
+use Rattle.std.proofs.Common.{◌≡◌, ℕ, ◌-◌, true, false, if◌then◌else◌, List, [], ◌∷◌, ◌++◌, refl, sym, ap, subst, ◌∙◌, arith}
 use Rattle.std.specs.Prelude.{Some, None}
 use Rattle.nv_plain.specs.Histories.{Answered, GoesOnLegally}
 use Rattle.nv_plain.specs.declared.call.FileCall.TheVariants.{Read}
@@ -27,7 +27,7 @@ use Rattle.nv_calls.specs.Reads.{call_of, pages_from, with_if, read_hands, readi
 use Rattle.nv_calls.specs.Steps.{either_of}
 use Rattle.nv_calls.proofs.DoneLaws.{done_plainly}
 use Rattle.nv_calls.proofs.EndLaws.{giving_at, giving_first, pages_all, gives_on}
-use Rattle.nv_calls.proofs.WayLaws.{reading_on, in_call_on, between_self, tells_none, by_sizes}
+use Rattle.nv_calls.proofs.WayLaws.{reading_on, in_call_on, or_none, between_self, tells_none, by_sizes}
 
 -- ---- the reply
 
@@ -40,10 +40,6 @@ place_free : (sizes : Sizes) (values : Values) (pass : Pass) (bytes : List ℕ) 
 place_free sizes values pass bytes Placing may = λ sizes values pass work due. due
 place_free sizes values pass bytes (Reading page) may = λ sizes values pass work due. due
 place_free sizes values pass bytes stage may = absurd may
-
-or_none : (b : Bool) → b || false ≡ b
-or_none true = refl
-or_none false = refl
 
 module _ (fds : List Fd) (m : ReadMachine) (list : List ℕ) (start now : PassState) (way : IsOnWayAt fds m list start now TakesPlace) where
   abbrev here : MayEnd now.sight.opened.sizes m list way.base (values_of now.sight) (pass_of now.sight)
@@ -78,7 +74,7 @@ module _ (fds : List Fd) (m : ReadMachine) (list : List ℕ) (start now : PassSt
 
     called : InCall fds m.fd (call_of m) None (Some place) m.faulted start new
     called = in_call_on fds m.fd (call_of m) None None m.place (Some place) m.faulted m.faulted start now now new (Places (Bytes here.bytes)) place way.called (between_self now) is refl
-        (ap (λ p. either_of p (Some place)) way.placed) (or_none m.faulted)
+        (ap (λ p. either_of p (Some place)) way.placed) (or_none m.faulted) way.called.faults
 
     done : IsDone start.sight new.sight (call_of m) (Bytes here.bytes) place
     done = done_plainly start now new (call_of m) (Bytes here.bytes) place way.called.later (tells_none m.place m.file m.at m.copied list start.sight now.sight way.placed way.tells) (ap (λ (p : Pass). p.call) here.is)

@@ -23,7 +23,7 @@ use Rattle.nv_calls.specs.declared.reading.ReadStage.TheVariants.{Leaves}
 use Rattle.nv_calls.specs.Advances.{IsSameRead}
 use Rattle.nv_calls.specs.Answers.{IsUnplaced}
 use Rattle.nv_calls.specs.Barred.{barred}
-use Rattle.nv_calls.specs.Reads.{call_of, pages_from, with_if, with_cleanup, held_cells, reading, InCall, Tells, IsOnWay, IsReadOver, IsOverBy, IsOver, HasTold, refusal_of, place_of, IsNothing, Refuses, ReadGoes}
+use Rattle.nv_calls.specs.Reads.{call_of, pages_from, with_if, with_cleanup, held_cells, reading, InCall, Tells, IsOnWay, IsReadOver, IsOverBy, IsOver, HasTold, refusal_of, place_of, IsNothing, Refuses, ReadGoes, is_fault}
 use Rattle.nv_calls.specs.Steps.{refusal_in}
 
 -- ---- the end of a call
@@ -114,7 +114,7 @@ refused_goes fds m next list held refusal (Ended result) start new base len fetc
     (subst (λ hands. pass_of new.sight ≡ reading base (call_of m) (leaving hands) hands m.sized len fetched) none is) refl in
     let ended : IsReadOver fds m.fd m.at list start new (Err refusal) =
     over_from fds m list (Some refusal) None m.faulted start new (Err refusal) called room refl refl told idle in
-    subst (λ n. ReadGoes fds start n list new (Ended result)) (sym refuses.1) (unplaced ∙ ap place_of (sym refuses.2), subst (λ r. IsReadOver fds m.fd m.at list start new r) (sym refuses.2) ended)
+    subst (λ n. ReadGoes fds start n list new (Ended result)) (sym refuses.1) (unplaced ∙ ap place_of (sym refuses.2), called.faults ∙ ap (λ r. is_fault (refusal_of r)) (sym refuses.2), subst (λ r. IsReadOver fds m.fd m.at list start new r) (sym refuses.2) ended)
 
 -- it is the same read
 pub refused_same : (m next : ReadMachine) (held : Held) (refusal : Refusal) (progress : Progress) → Refuses m held refusal next progress → IsSameRead m next

@@ -14,7 +14,7 @@ use Rattle.nv_table.specs.Sights.{Sight, pass_of, values_of}
 use Rattle.nv_table.specs.States.{PassState}
 use Rattle.nv_table.specs.Turns.{IsPlaced, load_deed, place_deed, reply_at}
 use Rattle.nv_table.proofs.CallLaws.{IsCallFree, IsAt, stepped_there}
-use Rattle.nv_calls.specs.Answers.{IsDone, IsUnplaced}
+use Rattle.nv_calls.specs.Answers.{IsSynced, IsUnplaced}
 use Rattle.nv_calls.proofs.DoneLaws.{done_so}
 
 -- ---- loads leave the history
@@ -52,6 +52,6 @@ place_is old new file found at is = subst (λ reply. Stepped old None (Places re
 
 -- a sync that has gone on by two loads has its place
 pub done_by : (old loaded new : PassState) (file place : ℕ) → IsLater old loaded → IsUnplaced old.sight loaded.sight → IsAt loaded Placing (Sync file)
-    → Stepped loaded None (Places Done) place new → IsPlaced loaded.sight new.sight place → IsDone old.sight new.sight (Sync file) Done place
+    → Stepped loaded None (Places Done) place new → IsPlaced loaded.sight new.sight place → IsSynced (Some file) old.sight new.sight place
 done_by old loaded new file place later still at is placed =
-    done_so old loaded new (Sync file) Done place later still at.makes (subst IsCallFree (sym at.stands) (λ sizes values pass work due. due)) is placed (λ files tail log opens. refl)
+    (done_so old loaded new (Sync file) Done place later still at.makes (subst IsCallFree (sym at.stands) (λ sizes values pass work due. due)) is placed (λ files tail log opens. refl), λ files. refl)

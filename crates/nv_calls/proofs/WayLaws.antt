@@ -1,12 +1,13 @@
 -- Ways: what a step of a read adds to what is known of it.
-use Rattle.std.proofs.Common.{◌≡◌, ℕ, ◌||◌, Bool, true, false, List, [], ◌∷◌, refl, sym, ap, subst, ◌∙◌}
-use Rattle.std.specs.Prelude.{Option, Some, None}
+use Rattle.std.proofs.Common.{◌≡◌, ℕ, ◌==◌, ◌^◌, ◌||◌, if◌then◌else◌, Bool, true, false, List, [], ◌∷◌, refl, sym, ap, subst, ◌∙◌}
+use Rattle.std.specs.Prelude.{Option, Some, None, nat_lt}
 use Rattle.nv_plain.specs.declared.call.FileCall.{FileCall}
-use Rattle.nv_core.specs.Words.{Sizes, Word, place, IsWord}
-use Rattle.nv_core.specs.Passes.{Stage, Pass, IsAllowed}
-use Rattle.nv_core.specs.Deeds.{Deed, Loads, Takes, Gives}
+use Rattle.nv_core.specs.Words.{Sizes, Word, place, IsWord, STOP, ORDER, PAGE}
+use Rattle.nv_core.specs.Passes.{Stage, Pass, IsAllowed, first_page, end_page}
+use Rattle.nv_core.specs.Deeds.{Deed, Loads, Takes, Gives, Stops}
+use Rattle.nv_core.specs.Holding.{is_among}
 use Rattle.nv_core.specs.Stepped.{stepped}
-use Rattle.nv_core.specs.Order.{Values, MayStep}
+use Rattle.nv_core.specs.Order.{Values, MayStep, Work}
 use Rattle.nv_core.specs.Core.{values_stepped}
 use Rattle.nv_table.specs.Between.{IsStill}
 use Rattle.nv_table.specs.Layout.{word_at}
@@ -20,9 +21,10 @@ use Rattle.nv_table.proofs.CallLaws.{IsCallFree, stepped_there, later_by, later_
 use Rattle.nv_table.proofs.LayoutLaws.{place_there}
 use Rattle.nv_mount.specs.declared.fds.Fd.{Fd}
 use Rattle.nv_calls.specs.declared.answers.Refusal.{Refusal}
+use Rattle.nv_calls.specs.declared.answers.Refusal.TheVariants.{Busy, Stopped, Spent}
 use Rattle.nv_calls.specs.Answers.{IsUnplaced}
-use Rattle.nv_calls.specs.Reads.{reading, InCall, Tells}
-use Rattle.nv_calls.specs.Steps.{HasTaken, IsBetween, either_of, refused_by, refusal_in, place_by, is_stop}
+use Rattle.nv_calls.specs.Reads.{reading, InCall, Tells, is_fault}
+use Rattle.nv_calls.specs.Steps.{HasTaken, IsBetween, either_of, refused_by, refusal_in, place_by, is_stop, if_own, busy_at}
 
 -- ---- words by their places
 
@@ -123,9 +125,9 @@ taken_by old before new opens deed found between is = record { before = before; 
 -- a step goes on with a call
 pub in_call_on : (fds : List Fd) (fd : ℕ) (call : FileCall) (refusal refusal_then : Option Refusal) (at at_then : Option ℕ) (faulted faulted_then : Bool) (start now before new : PassState) (deed : Deed) (found : ℕ)
     → InCall fds fd call refusal at faulted start now → IsBetween now before → (is : Stepped before None deed found new)
-    → either_of refusal (refused_by now.sight.opened.sizes call is.works deed found) ≡ refusal_then → either_of at (place_by deed found) ≡ at_then → faulted || is_stop deed ≡ faulted_then
+    → either_of refusal (refused_by now.sight.opened.sizes call is.works deed found) ≡ refusal_then → either_of at (place_by deed found) ≡ at_then → faulted || is_stop deed ≡ faulted_then → faulted_then ≡ is_fault refusal_then
     → InCall fds fd call refusal_then at_then faulted_then start new
-in_call_on fds fd call refusal refusal_then at at_then faulted faulted_then start now before new deed found called between is refuses places stops = record {
+in_call_on fds fd call refusal refusal_then at at_then faulted faulted_then start now before new deed found called between is refuses places stops faults = record {
   idle = called.idle;
   unbarred = called.unbarred;
   file = called.file;
@@ -136,6 +138,7 @@ in_call_on fds fd call refusal refusal_then at at_then faulted faulted_then star
       (ap (λ r. either_of r (refused_by now.sight.opened.sizes call is.works deed found)) called.refused ∙ refuses);
   placed = ap (λ p. either_of p (place_by deed found)) called.placed ∙ places;
   stopped = ap (λ b. b || is_stop deed) called.stopped ∙ stops;
+  faults = faults;
   mount = opened ∙ called.mount;
   later = later_on start now new called.later (later_on now before new (later_between now before between) (later_by before new None deed found is));
   spare = is.spare ∙ between.spare ∙ called.spare;
@@ -154,13 +157,31 @@ in_call_on fds fd call refusal refusal_then at at_then faulted faulted_then star
 
 -- ---- steps that refuse nothing, and steps that refuse the call
 
-or_none : (b : Bool) → b || false ≡ b
+pub or_none : (b : Bool) → b || false ≡ b
 or_none true = refl
 or_none false = refl
 
-either_none : {T : Type 0} (one : Option T) → either_of one None ≡ one
+pub either_none : {T : Type 0} (one : Option T) → either_of one None ≡ one
 either_none (Some one) = refl
 either_none None = refl
+
+pub if_no_fault : (b : Bool) (one other : Option Refusal) → is_fault one ≡ false → is_fault other ≡ false → is_fault (if b then one else other) ≡ false
+if_no_fault true one other first second = first
+if_no_fault false one other first second = second
+
+pub set_clash : true ≡ false → ⊥
+set_clash e = cc
+
+-- only a step that sets STOP refuses for a device fault
+pub no_fault : (sizes : Sizes) (call : FileCall) (works : List Work) (deed : Deed) (found : ℕ) → is_stop deed ≡ false → is_fault (refused_by sizes call works deed found) ≡ false
+no_fault sizes call works (Takes (PAGE page)) found goes_on =
+    let busy = if_no_fault (found == 0) None (Some (Busy (place sizes (PAGE page)))) refl refl in
+    if_no_fault (found == 0) None (if_own sizes call page (busy_at sizes (PAGE page) found)) refl (if_no_fault (is_among (first_page sizes call) (end_page sizes call) page) (busy_at sizes (PAGE page) found) None busy refl)
+no_fault sizes call works (Takes cell) found goes_on = if_no_fault (found == 0) None (Some (Busy (place sizes cell))) refl refl
+no_fault sizes call works (Loads STOP) found goes_on = if_no_fault (found == 0) None (Some Stopped) refl refl
+no_fault sizes call works (Loads ORDER) found goes_on = if_no_fault (nat_lt found (2 ^ 60)) None (Some (Spent found)) refl refl
+no_fault sizes call works Stops found goes_on = absurd (set_clash goes_on)
+no_fault sizes call works deed found goes_on = refl
 
 -- after some device calls
 pub quiet_after : (fds : List Fd) (fd : ℕ) (call : FileCall) (refusal : Option Refusal) (at : Option ℕ) (faulted : Bool) (start now before new : PassState) (deed : Deed) (found : ℕ)
@@ -168,7 +189,7 @@ pub quiet_after : (fds : List Fd) (fd : ℕ) (call : FileCall) (refusal : Option
     → place_by deed found ≡ None → is_stop deed ≡ false → InCall fds fd call refusal at faulted start new
 quiet_after fds fd call refusal at faulted start now before new deed found called between is refuses places stops =
     in_call_on fds fd call refusal refusal at at faulted faulted start now before new deed found called between is
-    (ap (either_of refusal) refuses ∙ either_none refusal) (ap (either_of at) places ∙ either_none at) (ap (λ b. faulted || b) stops ∙ or_none faulted)
+    (ap (either_of refusal) refuses ∙ either_none refusal) (ap (either_of at) places ∙ either_none at) (ap (λ b. faulted || b) stops ∙ or_none faulted) called.faults
 
 -- after none
 pub quiet_on : (fds : List Fd) (fd : ℕ) (call : FileCall) (refusal : Option Refusal) (at : Option ℕ) (faulted : Bool) (start now new : PassState) (deed : Deed) (found : ℕ)
@@ -183,6 +204,7 @@ pub refusing_on : (fds : List Fd) (fd : ℕ) (call : FileCall) (refusal : Refusa
 refusing_on fds fd call refusal at faulted start now new deed found called is refuses places stops =
     in_call_on fds fd call None (Some refusal) at at faulted faulted start now now new deed found called (between_self now) is
     refuses (ap (either_of at) places ∙ either_none at) (ap (λ b. faulted || b) stops ∙ or_none faulted)
+    (called.faults ∙ sym (ap is_fault (sym refuses) ∙ no_fault now.sight.opened.sizes call is.works deed found stops))
 
 -- ---- what a read tells before its place
 

@@ -28,9 +28,9 @@ pub record IsDone (old new : Sight) (call : FileCall) (reply : Reply) (place : �
   pub mine : (pass_of new).mine ≡ (pass_of old).mine ++ answered_by old call reply ∷ []
   pub plain : (files : Files) (tail : ℕ) → OpensLog (mount_of old.opened) tail → Opens (mount_of old.opened) files → reply ≡ reply_of call (after before files)
 
--- a sync of the file, if there is one, has its place
+-- A sync of the file, if there is one, has its place, and plain files answer it so whatever they are: over any devices.
 abbrev pub IsSynced : Option ℕ → (old new : Sight) → (place : ℕ) → Type 0
-IsSynced (Some file) old new place = IsDone old new (Sync file) Done place
+IsSynced (Some file) old new place = IsDone old new (Sync file) Done place × ((files : Files) → Done ≡ reply_of (Sync file) files)
 IsSynced None old new place = ⊥
 
 -- The call has no place: the pass has seen what it had, and has the calls that it had.

@@ -21,7 +21,7 @@ use Rattle.nv_table.specs.States.{PassState}
 use Rattle.nv_mount.specs.declared.fds.Fd.{Fd}
 use Rattle.nv_calls.specs.declared.answers.Done.{Done}
 use Rattle.nv_calls.specs.declared.answers.Refusal.{Refusal}
-use Rattle.nv_calls.specs.declared.answers.Refusal.TheVariants.{RegionFault}
+use Rattle.nv_calls.specs.declared.answers.Refusal.TheVariants.{RegionFault, StoreFault}
 use Rattle.nv_calls.specs.declared.machine.Progress.{Progress}
 use Rattle.nv_calls.specs.declared.machine.Progress.TheVariants.{More, Ended}
 use Rattle.nv_calls.specs.declared.reading.Held.{Held}
@@ -219,6 +219,12 @@ refusal_at (Leaves held refusal) = Some refusal
 refusal_at (Restores page number) = Some RegionFault
 refusal_at stage = None
 
+-- a refusal for a device fault
+abbrev pub is_fault : Option Refusal → Bool
+is_fault (Some StoreFault) = true
+is_fault (Some RegionFault) = true
+is_fault refusal = false
+
 -- What its pass has made since the start, and what came of it: the refusal on the way, the place, and whether a device call has failed.
 pub record InCall (fds : List Fd) (fd : ℕ) (call : FileCall) (refusal : Option Refusal) (place : Option ℕ) (faulted : Bool) (start now : PassState) : Type 0 where
   pub idle : IsIdle start
@@ -230,6 +236,7 @@ pub record InCall (fds : List Fd) (fd : ℕ) (call : FileCall) (refusal : Option
   pub refused : refusal_in now.sight.opened.sizes call steps ≡ refusal
   pub placed : place_in steps ≡ place
   pub stopped : stops_in steps ≡ faulted
+  pub faults : faulted ≡ is_fault refusal
   pub mount : now.sight.opened ≡ start.sight.opened
   pub later : IsLater start now
   pub spare : now.spare ≡ start.spare
@@ -334,7 +341,7 @@ abbrev pub Refuses : ReadMachine → Held → Refusal → (next : ReadMachine) �
 Refuses m held refusal next More = (IsNothing held → ⊥) × (next ≡ record m { stage = Leaves held refusal })
 Refuses m held refusal next (Ended result) = IsNothing held × (next ≡ m) × (result ≡ Err refusal)
 
--- how a read goes on from a start, and what it has told when it is over, of which its machine keeps the place
+-- how a read goes on from a start, and what it has told when it is over, of which its machine keeps the place, and whether it is a device fault
 abbrev pub ReadGoes : List Fd → (start : PassState) → ReadMachine → (list : List ℕ) → (now : PassState) → Progress → Type 0
 ReadGoes fds start m list now More = IsUnderWay fds m list start now
-ReadGoes fds start m list now (Ended result) = (m.place ≡ place_of result) × IsReadOver fds m.fd m.at list start now result
+ReadGoes fds start m list now (Ended result) = (m.place ≡ place_of result) × (m.faulted ≡ is_fault (refusal_of result)) × IsReadOver fds m.fd m.at list start now result

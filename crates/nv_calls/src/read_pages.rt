@@ -26,7 +26,7 @@ ghost use Rattle.nv_table.specs.Sights.{pass_of, slot_times, values_of};
 use crate::read_faults::stop_after;
 use crate::read_steps::layout_of;
 use crate::{Held, Progress, ReadMachine, ReadStage, Refusal};
-use nv_core::{cells_keep_their_shapes, runs_are_sound};
+use nv_core::cells_keep_their_shapes;
 use nv_entry::{cut, piece_count};
 use nv_mount::Mount;
 use nv_pages::{copy_page, fill_page, lacks_buffer, read_store};
@@ -304,8 +304,6 @@ impl ReadMachine {
         ensures advance { IsAdvance mount.now.fds self.old self.new list.old list.new pass.old pass.new result }
         ensures less { IsLess pass.old.sight.opened.sizes self.old self.new result }
     {
-        runs_are_sound();
-        pass.sees_a_run();
         let held = Held {
             cleanup: dirty.then_some(page),
             stored: true,

@@ -8,24 +8,24 @@ pub returns-in-Ended-clause-over : goal.returns-in-Ended-clause-over
 returns-in-Ended-clause-over g c =
     let fds = c.args.mount.now.fds in
     let list = c.advance.new.list in
-    let goes = (c.in-Ended.ensures.goes c.args.pass.now c.loop-result.invariant.way).1 in
+    let goes = (c.in-Ended.ensures.goes c.args.pass.now c.loop-result.invariant.way).2 in
     subst (λ at. IsReadOver fds c.args.fd at list c.args.pass.now c.advance.new.pass c.in-Ended.result) (c.advance.ensures.same.at ∙ c.loop-result.invariant.at)
     (subst (λ fd. IsReadOver fds fd c.advance.new.self.at list c.args.pass.now c.advance.new.pass c.in-Ended.result) (c.advance.ensures.same.fd ∙ c.loop-result.invariant.fd) goes)
 
 pub returns-in-Ended-clause-idle : goal.returns-in-Ended-clause-idle
 returns-in-Ended-clause-idle g c =
     (over_told c.args.mount.now.fds c.advance.new.self.fd c.advance.new.self.at c.advance.new.list c.args.pass.now c.advance.new.pass c.in-Ended.result c.requires.idle
-    (c.in-Ended.ensures.goes c.args.pass.now c.loop-result.invariant.way).1).idle
+    (c.in-Ended.ensures.goes c.args.pass.now c.loop-result.invariant.way).2).idle
 
 pub returns-in-Ended-clause-later : goal.returns-in-Ended-clause-later
 returns-in-Ended-clause-later g c =
     (over_told c.args.mount.now.fds c.advance.new.self.fd c.advance.new.self.at c.advance.new.list c.args.pass.now c.advance.new.pass c.in-Ended.result c.requires.idle
-    (c.in-Ended.ensures.goes c.args.pass.now c.loop-result.invariant.way).1).later
+    (c.in-Ended.ensures.goes c.args.pass.now c.loop-result.invariant.way).2).later
 
 pub returns-in-Ended-clause-spare : goal.returns-in-Ended-clause-spare
 returns-in-Ended-clause-spare g c =
     (over_told c.args.mount.now.fds c.advance.new.self.fd c.advance.new.self.at c.advance.new.list c.args.pass.now c.advance.new.pass c.in-Ended.result c.requires.idle
-    (c.in-Ended.ensures.goes c.args.pass.now c.loop-result.invariant.way).1).spare
+    (c.in-Ended.ensures.goes c.args.pass.now c.loop-result.invariant.way).2).spare
 
 pub returns-in-Ended-clause-done : goal.returns-in-Ended-clause-done
 returns-in-Ended-clause-done g c =
@@ -35,7 +35,7 @@ returns-in-Ended-clause-done g c =
 pub returns-in-Ended-clause-kept : goal.returns-in-Ended-clause-kept
 returns-in-Ended-clause-kept g c =
     (over_told c.args.mount.now.fds c.advance.new.self.fd c.advance.new.self.at c.advance.new.list c.args.pass.now c.advance.new.pass c.in-Ended.result c.requires.idle
-    (c.in-Ended.ensures.goes c.args.pass.now c.loop-result.invariant.way).1).kept
+    (c.in-Ended.ensures.goes c.args.pass.now c.loop-result.invariant.way).2).kept
 
 pub loop-result-preserved : goal.loop-result-preserved
 loop-result-preserved g c = record {

@@ -13,12 +13,12 @@ pub returns-in-Ended-clause-idle : goal.returns-in-Ended-clause-idle
 returns-in-Ended-clause-idle g c =
     let start = c.requires.way.0 in
     (over_told c.args.mount.now.fds c.advance.new.self.fd c.advance.new.self.at c.advance.new.list start c.advance.new.pass c.in-Ended.result c.requires.way.1
-    (c.in-Ended.ensures.goes start (c.loop-result.invariant.since start c.requires.way.2)).1).idle
+    (c.in-Ended.ensures.goes start (c.loop-result.invariant.since start c.requires.way.2)).2).idle
 
 pub returns-in-Ended-clause-later : goal.returns-in-Ended-clause-later
 returns-in-Ended-clause-later g c start idle way =
     (over_told c.args.mount.now.fds c.advance.new.self.fd c.advance.new.self.at c.advance.new.list start c.advance.new.pass c.in-Ended.result idle
-    (c.in-Ended.ensures.goes start (c.loop-result.invariant.since start way)).1).later
+    (c.in-Ended.ensures.goes start (c.loop-result.invariant.since start way)).2).later
 
 pub loop-result-preserved : goal.loop-result-preserved
 loop-result-preserved g c = record {

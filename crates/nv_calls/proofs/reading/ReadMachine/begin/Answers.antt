@@ -49,7 +49,7 @@ returns-then-begin_with_stop-ne0-clause-advance g c =
     let is = stop_read c.args.pass.now c.begin_with_stop.new.pass file m.at m.len found c.if-self-eq0.true c.begin_with_stop.ensures.stepped in
     first_step fds m (record m { file = file }) c.args._list.now c.args.pass.now c.begin_with_stop.new.pass _ (Read file m.at m.len) (Loads STOP) found is record { fd = refl; at = refl; len = refl }
     (kind_stop m c.requires.stage c.if-self-eq0.true)
-    (λ way. (way.unplaced, stop_set fds m _ file _ _ way (admitted_by c.layout_of-layout.ensures c.in-Ok.ensures) c.if-self-eq0.true found c.if-begin_with_stop-ne0.true is))
+    (λ way. (way.unplaced, way.unfaulted, stop_set fds m _ file _ _ way (admitted_by c.layout_of-layout.ensures c.in-Ok.ensures) c.if-self-eq0.true found c.if-begin_with_stop-ne0.true is))
 
 pub returns-then-self-eq0-clause-advance : goal.returns-then-self-eq0-clause-advance
 returns-then-self-eq0-clause-advance g c =
@@ -106,6 +106,7 @@ returns-in-Err-begin_with_page-clause-advance g c =
     (kind_take m page c.requires.stage c.if-self-eq0.false)
     (λ way. (
       way.unplaced,
+      way.unfaulted,
       begun_busy _ m _ file _ way (admitted_by c.layout_of-layout.ensures c.in-Ok.ensures) page (first_of (record m { file = file }) _ c.args.pass.now.sight.opened.sizes page c.first_page-page.ensures c.layout_of-layout.ensures)
           some _ c.in-Err-begin_with_page.field-0.cell c.in-Err-begin_with_page.ensures.busy is,
     ))

@@ -9,7 +9,7 @@ use Rattle.nv_calls.specs.declared.reading.ReadMachine.{ReadMachine}
 use Rattle.nv_calls.specs.declared.reading.ReadStage.TheVariants.{Copies}
 use Rattle.nv_calls.specs.Reads.{IsOnWayAt, page_piece}
 use Rattle.nv_calls.proofs.ArmLaws.{some_page, at_stage}
-use Rattle.nv_calls.proofs.CopyLaws.{copying_on, store_carried, copy_stands, copy_high, copy_once, copy_most, copy_unfaulted}
+use Rattle.nv_calls.proofs.CopyLaws.{copying_on, store_carried, copy_stands, copy_high, copy_once, copy_most}
 use Rattle.nv_calls.proofs.CopyAdvances.{fail_ready, fail_advance, kept_so, filled_so, finished_so, give_ready, dirty_advance, clean_looking, clean_advance}
 use Rattle.nv_calls.proofs.FetchLaws.{fetching_is}
 use Rattle.nv_calls.proofs.LookLaws.{still_altered, page_carried}
@@ -41,7 +41,7 @@ returns-in-Err-clause-advance g c =
     let page = c.args.page in
     let dirty = c.args.dirty in
     fail_advance c.args.mount.now.fds m c.args.list.now old c.read_page.new.pass page dirty c.requires.stage c.in-Err.ensures.failed
-    (copy_unfaulted _ _ _ _ _ _ _ (at_stage c.requires.way.1 c.requires.stage) c.runs_are_sound.ensures.runs c.sees_a_run.ensures.mount c.sees_a_run.ensures.run)
+    (at_stage c.requires.way.1 c.requires.stage).called.faults
     c.stop_after.new.pass c.stop_after.ensures.stepped c.read_page.new.self c.read_page.new.self.scratch c.in-Err.ensures.machine
     _ (fetching_is _ old.sight.opened.sizes m page dirty true true c.all_held.result c.then_some.result c.layout_of.ensures c.all_held.ensures c.then_some.ensures refl)
     c.refuse.new.self c.refuse.result c.refuse.ensures

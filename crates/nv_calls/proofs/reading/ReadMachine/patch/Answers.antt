@@ -23,9 +23,9 @@ use Rattle.nv_calls.specs.PieceReads.{piece_read, HasFailedRead}
 use Rattle.nv_calls.specs.Reads.{IsOnWayAt}
 use Rattle.nv_calls.proofs.ArmLaws.{some_page, some_entry, opened_by, at_stage, arm_after}
 use Rattle.nv_calls.proofs.PatchLaws.{piece_small}
-use Rattle.nv_calls.proofs.PatchedLaws.{patch_stands, patch_left, patch_once, patch_next, patch_failed, patch_unfaulted, set_clash, same_patched, room_by}
+use Rattle.nv_calls.proofs.PatchedLaws.{patch_stands, patch_left, patch_once, patch_next, patch_failed, same_patched, room_by}
 use Rattle.nv_calls.proofs.PieceLaws.{readable, slot_held, slot_keeps, return_due, stop_due, from_mid, between_mid}
-use Rattle.nv_calls.proofs.WayLaws.{taken_by}
+use Rattle.nv_calls.proofs.WayLaws.{taken_by, set_clash}
 use Rattle.nv_calls.proofs.reading.ReadMachine.patch.Goals as goal
 
 -- the part of the entry is in its slot, and its piece may be read
@@ -81,7 +81,7 @@ returns-in_default-clause-advance g c =
       one = record {
         step = record { opens = None; works = stepped.0.works; deed = Stops; found = found };
         is = taken_by old before new None Stops found between stepped.0;
-        kind = λ kept. absurd (set_clash (kept ∙ patch_unfaulted _ _ _ _ _ _ _ (at_stage c.requires.way.1 c.requires.stage) c.runs_are_sound.ensures.runs c.sees_a_run.ensures.mount c.sees_a_run.ensures.run));
+        kind = λ kept. absurd (set_clash (kept ∙ (at_stage c.requires.way.1 c.requires.stage).called.faults));
       };
       goes = λ start way. patch_failed _ _ _ _ _ _ _ (at_stage way c.requires.stage) mid new found between stepped.0 stepped.1;
     }
