@@ -21,7 +21,7 @@ use Rattle.nv_core.specs.InFlight.{placed_after}
 use Rattle.nv_core.specs.Tails.{Tails, still, tails_after}
 use Rattle.nv_core.specs.PersistentTail.{LiesInPieces}
 use Rattle.nv_core.specs.LogContent.{LogContent, OpeningHasTheLog, EventsKeepTheLog, RunsKeepTheLog, tails_after_run, log_after_run, placed_after_run}
-use Rattle.nv_core.specs.Crash.{HasRegion, EventsKeepRegion, OpeningHasRegion, StatesSurviveCrashes, RunsSurviveCrashes}
+use Rattle.nv_core.specs.Crash.{HasRegion, EventsKeepRegion, OpeningHasRegion, StatesSurviveCrashes, RunsSurviveCrashes, RunsKeepRegion}
 use Rattle.nv_core.specs.Sound.{Sound}
 use Rattle.nv_core.specs.Laws.{OpeningIsSound, EventsKeepSound, RunsAreSound}
 use Rattle.nv_core.proofs.Choices.{not_both}
@@ -59,6 +59,11 @@ region_run sounds logs keeps sizes page_is first opened names tails (event ∷ l
     region_run sounds logs keeps sizes page_is first opened names (tails_after event core tails) later (log_after sizes event core log) (placed_after sizes event core placed) (after_event sizes event core)
     (sounds sizes first core event sound run.0) (logs sizes first opened tails log placed core event page_is sound content run.0)
     (keeps sizes first opened names tails log placed core event sound content region run.0) run.1
+
+pub runs_keep_region : OpeningIsSound → EventsKeepSound → OpeningHasTheLog → EventsKeepTheLog → OpeningHasRegion → EventsKeepRegion → RunsKeepRegion
+runs_keep_region opens_sound sounds opens_log logs opened region_keeps mount files names log placed events is opens has region run =
+    region_run sounds logs region_keeps mount.sizes opens.page mount.values files names (still mount.next) events log placed (opening mount) (opens_sound mount is)
+    (opens_log mount files mount.next log placed opens has) (opened mount files names log opens has region) run
 
 pub runs_survive : OpeningIsSound → EventsKeepSound → OpeningHasTheLog → EventsKeepTheLog → RunsAreSound → RunsKeepTheLog → OpeningHasRegion → EventsKeepRegion → StatesSurviveCrashes → RunsSurviveCrashes
 runs_survive opens_sound sounds opens_log logs sound keeps opened region_keeps survive mount files names log placed events is opens has region run =

@@ -1,5 +1,5 @@
 -- An empty log has nothing that its stores lack.
-use Rattle.std.proofs.Common.{◌≡◌, ℕ, ◌+◌, ◌-◌, ◌<◌, ◌≤◌, false, List, [], ◌++◌, length, Some, inl, inr, refl, sym, ap, ap₂, subst, ◌∙◌, arith}
+use Rattle.std.proofs.Common.{◌≡◌, ℕ, suc, ◌+◌, ◌-◌, ◌<◌, ◌≤◌, false, List, [], ◌++◌, length, Some, inl, inr, refl, sym, ap, ap₂, subst, ◌∙◌, arith}
 use Rattle.std.proofs.lemmas.Bool.{cases_eq, cases_lt}
 use Rattle.std.proofs.lemmas.List.{append-nil, ext_get_or}
 use Rattle.nv_plain.specs.declared.call.FileCall.{FileCall}
@@ -8,7 +8,9 @@ use Rattle.nv_pmem.specs.Images.{IsQuiet}
 use Rattle.nv_header.specs.Laws.{after_some_tail}
 use Rattle.nv_store.specs.Store.{Store, IsQuiet as IsDurable, is_unsynced}
 use Rattle.nv_core.specs.Words.{Sizes, STOP, HEAD, TAIL, ENTRY, HEADER}
-use Rattle.nv_core.specs.Passes.{Idle}
+use Rattle.nv_core.specs.Sweeps.{Moving, Failing}
+use Rattle.nv_core.specs.Passes.{Stage, Pass, Cleaning, times}
+use Rattle.nv_core.specs.Holding.{Holding, HoldsLocks}
 use Rattle.nv_core.specs.Order.{Values}
 use Rattle.nv_core.specs.Core.{Core}
 use Rattle.nv_core.specs.LogWindow.{InWindow}
@@ -31,9 +33,15 @@ no_number core empty n within = let e = empty.none in let l = within.0 in let h 
 no_pieces : (sizes : Sizes) (log : Log) (core : Core) → IsEmpty core → live_pieces sizes log core ≡ []
 no_pieces sizes log core empty = ap (rising (λ n. call_if (is_live sizes log core n) (piece_call sizes (log.group n) n)) (core.words TAIL)) (let e = empty.none in let z : core.words HEAD - core.words TAIL ≡ 0 = omega (arith, e) in z)
 
-none_to_place : (core : Core) → IsEmpty core → to_place core ≡ []
-none_to_place core empty = rising_none (λ by. call_if (is_waiting (core.passes by) (core.passes by).stage) (core.passes by).call) 0 (core.made + 1)
-    (λ by low high. ap (λ s. call_if (is_waiting (core.passes by) s) (core.passes by).call) (empty.idle by))
+-- a cleaner that moves the tail, or has met a fault, holds HEADER
+holds_header : (sizes : Sizes) (pass : Pass) (stage : Stage) → HoldsLocks sizes pass stage → IsMoving stage → times HEADER pass.hands ≡ 1
+holds_header sizes pass (Cleaning batch (Moving (suc calls))) held moves = held HEADER (λ slot e. cc)
+holds_header sizes pass (Cleaning batch (Failing many)) held moves = held HEADER (λ slot e. cc)
+holds_header sizes pass (Cleaning batch sweep) held moves = absurd moves
+holds_header sizes pass stage held moves = absurd moves
+
+none_held : (sizes : Sizes) (pass : Pass) → Holding sizes pass → pass.hands ≡ [] → IsMoving pass.stage → ⊥
+none_held sizes pass held none moves = let h = holds_header sizes pass pass.stage held.locks moves in let z : times HEADER pass.hands ≡ 0 = ap (times HEADER) none in omega (arith, h, z)
 
 -- a store of which no byte lies in a piece is durable
 durable : (sizes : Sizes) (tail : ℕ) (log : Log) (core : Core) (file : ℕ) (store : Store) → IsEmpty core → LiesInPieces sizes tail log core file store → IsDurable store
@@ -54,8 +62,7 @@ durable sizes tail log core file store empty lies = record {
 pub empty_logs_rest : EmptyLogsRest
 empty_logs_rest sizes first opened names tails log placed core sound content region empty = record {
   files =
-      ap (λ c. after_calls c opened) (sym (append-nil (calls_of core.history)) ∙ ap (λ p. calls_of core.history ++ p) (sym (none_to_place core empty)))
-      ∙ content.live.files
+      content.live.files
       ∙ ap (λ c. after_calls c (store_files sizes core.values)) (no_pieces sizes log core empty);
   stores = λ file store less told. durable sizes tails.next log core file store empty (region.persistent.stores file store less told);
   header = λ part is. let moved = content.header.moved part is in subst IsQuiet (sym (moved.is ∙ ap (λ c. after_some_tail tails.next c moved.before) unmoved ∙ none_moved tails.next moved.before)) moved.quiet;
@@ -68,6 +75,6 @@ empty_logs_rest sizes first opened names tails log placed core sound content reg
       | inl e ↦ e
       | inr ne ↦ absurd (elim (content.retired.begun ne) [
         | inl stopped ↦ let g = empty.going in omega (arith, stopped, g)
-        | inr moving ↦ subst IsMoving (empty.idle moving.0) moving.1
+        | inr moving ↦ none_held sizes (core.passes moving.0) (sound.holding moving.0) (empty.idle moving.0) moving.1
       ])
     ]

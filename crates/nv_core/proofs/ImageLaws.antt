@@ -14,7 +14,7 @@ use Rattle.nv_pmem.specs.Laws.{LoadsAreAnImage}
 use Rattle.nv_pmem.specs.Rows.{row_after, IsRowImage}
 use Rattle.nv_pmem.specs.Runs.{run}
 use Rattle.nv_entry.specs.Group.{group_steps, IsUncommitted, IsWhole, IsUncommittedOrWhole, HoldsEntry, StoresOnly}
-use Rattle.nv_entry.specs.Commits.{IsOpen, after_some, after_group, GroupsAreAtomic, GroupsBecomeWhole, GroupsEndQuiet, GroupsStoreNothingElse}
+use Rattle.nv_entry.specs.Commits.{IsOpen, after_some, after_group, GroupsAreAtomic, GroupsStayOpen, GroupsBecomeWhole, GroupsEndQuiet, GroupsStoreNothingElse}
 use Rattle.nv_core.specs.Words.{Sizes, HEAD, TAIL, ENTRY, kind_of, free, filling, cleaned}
 use Rattle.nv_core.specs.Values.{Value, Bare, APart, AStore, ABuffer}
 use Rattle.nv_core.specs.Passes.{Stage, Seizing, Committing, Pledging, Readying, Pass, IsAmong, IsUnseized, IsFilling, page_count}
@@ -104,6 +104,10 @@ module _ (loads : LoadsAreAnImage) (sizes : Sizes) (values : Values) (tail first
     | inr whole ↦ inr (whole_as sizes.page first file at bytes (row_image (length now) (entries_from sizes image first)) (entries_from sizes image first) some_pages (same_row image) whole)
   ]
 
+  reads_still : GroupsStayOpen → tail ≤ first → calls + 3 ≤ length (group_steps sizes.page first file at bytes) → InEachImageOf sizes values (λ image. IsUncommitted first (pages_touched at (length bytes) sizes.page) (entries_from sizes image first))
+  reads_still stay low few image region = open_as first (pages_touched at (length bytes) sizes.page) (row_image (length now) (entries_from sizes image first)) (entries_from sizes image first) (same_row image)
+      (stay sizes.page first file at bytes written.before calls written.fit (is_open low) few (row_image (length now) (entries_from sizes image first)) (is_row loads sizes values first now image some region written.now))
+
   reads_open : tail ≤ first → calls ≡ 0 → InEachImageOf sizes values (λ image. IsUncommitted first (pages_touched at (length bytes) sizes.page) (entries_from sizes image first))
   reads_open low none image region = open_as first (pages_touched at (length bytes) sizes.page) (row_image (length now) (entries_from sizes image first)) (entries_from sizes image first) (same_row image)
       (is_open low (row_image (length now) (entries_from sizes image first))
@@ -130,6 +134,11 @@ module _ (loads : LoadsAreAnImage) (sizes : Sizes) (values : Values) (tail : ℕ
   call_reads atomic (Write file at bytes) first calls written low = reads loads sizes values tail first file at bytes calls some written atomic low
   call_reads atomic (Read file at len) first calls written low = absurd written
   call_reads atomic (Sync file) first calls written low = absurd written
+
+  pub call_still : GroupsStayOpen → (call : FileCall) (first calls : ℕ) → IsWritten sizes values tail call first calls → tail ≤ first → calls + 3 ≤ commit_length sizes call first → InEachImageOf sizes values (ReadsOpen sizes call first)
+  call_still stay (Write file at bytes) first calls written low few = reads_still loads sizes values tail first file at bytes calls some written stay low few
+  call_still stay (Read file at len) first calls written low few = absurd written
+  call_still stay (Sync file) first calls written low few = absurd written
 
   call_open : (call : FileCall) (first calls : ℕ) → IsWritten sizes values tail call first calls → tail ≤ first → calls ≡ 0 → InEachImageOf sizes values (ReadsOpen sizes call first)
   call_open (Write file at bytes) first calls written low none = reads_open loads sizes values tail first file at bytes calls some written low none

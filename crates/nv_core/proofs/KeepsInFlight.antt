@@ -93,7 +93,7 @@ not_given sizes pass cell (Unlocking page) may = λ z. z
 not_given sizes pass cell (Searching page tries search) may = λ z. z
 not_given sizes pass cell stage may = absurd may
 
-flying_as : (old new : Pass) (stage : Stage) → new.call ≡ old.call → IsFlying new stage → IsFlying old stage
+pub flying_as : (old new : Pass) (stage : Stage) → new.call ≡ old.call → IsFlying new stage → IsFlying old stage
 flying_as old new (Seizing number) same is = tt
 flying_as old new (Committing calls) same is = tt
 flying_as old new (Pledging page) same is = tt
@@ -230,7 +230,7 @@ module _ (sizes : Sizes) (log : Log) (placed next : ℕ → Bool) (core now : Co
       was n is = (let l = is.0 in omega (arith, l, tail), subst (λ h. n < h) head is.1)
 
 -- the passes after a step that draws nothing
-flew_all : (sizes : Sizes) (by : ℕ) (core : Core) (deed : Deed) (found : ℕ)
+pub flew_all : (sizes : Sizes) (by : ℕ) (core : Core) (deed : Deed) (found : ℕ)
     → (IsFlying (changed sizes by core deed found) (changed sizes by core deed found).stage → IsFlying (core.passes (changes by core.made deed)) (core.passes (changes by core.made deed)).stage × (group_of (changed sizes by core deed found) ≡ group_of (core.passes (changes by core.made deed))))
     → (n : ℕ) → IsFlying ((after_step sizes by deed found core).passes n) ((after_step sizes by deed found core).passes n).stage → IsFlying (core.passes n) (core.passes n).stage × (group_of ((after_step sizes by deed found core).passes n) ≡ group_of (core.passes n))
 flew_all sizes by core deed found here = by_number (λ n (p : Pass). IsFlying p p.stage → IsFlying (core.passes n) (core.passes n).stage × (group_of p ≡ group_of (core.passes n))) core.passes (changes by core.made deed) (changed sizes by core deed found) here (λ n ne is. (is, refl))
@@ -358,7 +358,7 @@ no_reading (Read file at len) write read = not_both write refl
 no_reading (Write file at bytes) write read = not_both read refl
 no_reading (Sync file) write read = not_both write refl
 
-placing : (sizes : Sizes) (values : Values) (pass : Pass) (reply : Reply) (stage : Stage) → StandsAt sizes pass stage → MayPlace sizes values pass reply stage → is_write pass.call ≡ true → IsFlying pass stage
+pub placing : (sizes : Sizes) (values : Values) (pass : Pass) (reply : Reply) (stage : Stage) → StandsAt sizes pass stage → MayPlace sizes values pass reply stage → is_write pass.call ≡ true → IsFlying pass stage
 placing sizes values pass reply Placing at may write = write
 placing sizes values pass reply (Reading page) at may write = absurd (no_reading pass.call write at.0)
 placing sizes values pass reply stage at may write = absurd may
@@ -644,7 +644,7 @@ flight_begin sizes log placed by core call flight may = flight_kept sizes log pl
     none : IsFlying (begun sizes call (core.passes by)) (begun sizes call (core.passes by)).stage → ⊥
     none = if_both (λ s. IsFlying (begun sizes call (core.passes by)) s → ⊥) (page_count sizes call == 0) Checking (Locking (first_page sizes call)) (λ _ z. z) (λ _ z. z)
 
-worked_flew : (sizes : Sizes) (values : Values) (pass one : Pass) (work : Work) (stage : Stage) (how : Ending) → IsDue sizes values pass work stage → IsFlying one (stage_worked sizes pass how stage) → IsFlying pass stage
+pub worked_flew : (sizes : Sizes) (values : Values) (pass one : Pass) (work : Work) (stage : Stage) (how : Ending) → IsDue sizes values pass work stage → IsFlying one (stage_worked sizes pass how stage) → IsFlying pass stage
 worked_flew sizes values pass one work (Committing calls) how due is = tt
 worked_flew sizes values pass one work (Copying page dirty) Made due is = absurd is
 worked_flew sizes values pass one work (Copying page dirty) (Failed came faults) due is = absurd is

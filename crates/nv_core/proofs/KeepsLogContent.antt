@@ -4,7 +4,7 @@ use Rattle.nv_plain.specs.Files.{Files}
 use Rattle.nv_plain.specs.declared.call.FileCall.{FileCall}
 use Rattle.nv_pmem.specs.Limits.{IsPageSize}
 use Rattle.nv_pmem.specs.Laws.{LoadsAreAnImage}
-use Rattle.nv_entry.specs.Commits.{GroupsAreAtomic, GroupsBecomeWhole, GroupsEndQuiet, GroupsStoreNothingElse, GroupsEndReady}
+use Rattle.nv_entry.specs.Commits.{GroupsAreAtomic, GroupsStayOpen, GroupsBecomeWhole, GroupsEndQuiet, GroupsStoreNothingElse, GroupsEndReady}
 use Rattle.nv_core.specs.Words.{Sizes}
 use Rattle.nv_core.specs.Deeds.{Deed, Tends}
 use Rattle.nv_core.specs.Stepped.{begun}
@@ -16,14 +16,14 @@ use Rattle.nv_core.specs.Groups.{Log, log_stepped, log_worked, log_acted, log_af
 use Rattle.nv_core.specs.InFlight.{placed_stepped, placed_acted, placed_after}
 use Rattle.nv_core.specs.Tails.{Tails, still, tails_worked, tails_acted, tails_after}
 use Rattle.nv_core.specs.LivePieces.{LivePieces}
-use Rattle.nv_core.specs.LogContent.{LogContent, EventsKeepTheLog, tails_after_run, log_after_run, placed_after_run, RunsKeepTheLog, GroupsAreInImages, NoOldWordCounts}
+use Rattle.nv_core.specs.LogContent.{LogContent, EventsKeepTheLog, tails_after_run, log_after_run, placed_after_run, RunsKeepTheLog, GroupsAreInImages, GroupsComeLate, NoOldWordCounts}
 use Rattle.nv_core.specs.Sound.{Sound}
 use Rattle.nv_core.proofs.PlainLaws.{PlainLaws}
 use Rattle.nv_core.proofs.LogLaws.{LogLaws}
 use Rattle.nv_core.proofs.Changes.{number_here}
 use Rattle.nv_core.proofs.Reach.{sound_begin, events_keep_sound, opening_is_sound}
 use Rattle.nv_core.proofs.OpeningLogContent.{opening_has_the_log}
-use Rattle.nv_core.proofs.ImageLaws.{entry_images, stale_words}
+use Rattle.nv_core.proofs.ImageLaws.{call_still, entry_images, stale_words}
 use Rattle.nv_core.proofs.KeepsGroups.{groups_step, groups_begin, groups_work}
 use Rattle.nv_core.proofs.KeepsWritten.{written_step, written_begin, written_work}
 use Rattle.nv_core.proofs.KeepsHeader.{header_step, header_work}
@@ -37,6 +37,7 @@ use Rattle.nv_core.proofs.KeepsRetired.{retired_step, retired_begin}
 use Rattle.nv_core.proofs.RetiredWork.{retired_work}
 use Rattle.nv_core.proofs.KeepsStores.{tells_step, tells_work}
 use Rattle.nv_core.proofs.KeepsLeaders.{leaders_step, leaders_begin, leaders_work}
+use Rattle.nv_core.proofs.KeepsFaults.{faults_step, faults_begin, faults_work}
 
 -- a call that begins
 pub log_begin : (sizes : Sizes) (first : Values) (opened : Files) (tails : Tails) (log : Log) (placed : ℕ → Bool) (by : ℕ) (core : Core) (call : FileCall)
@@ -52,6 +53,7 @@ log_begin sizes first opened tails log placed by core call sound content may = r
   progress = progress_begin sizes log by core call content.progress;
   retired = retired_begin sizes tails log by core call may content.retired;
   leaders = leaders_begin sizes log by core call content.leaders;
+  faults = faults_begin sizes log placed by core call may content.faults;
   tell = content.tell;
 }
 
@@ -78,6 +80,7 @@ module _ (laws : LogLaws) (plain : PlainLaws) (sizes : Sizes) (page_is : IsPageS
     progress = progress_step sizes first by core found sound log content.groups content.pieces content.progress deed may;
     retired = retired_step sizes first tails log by core found sound content.groups content.retired deed may;
     leaders = leaders_step sizes first log by core deed found sound content.groups content.progress content.leaders may;
+    faults = faults_step sizes first log placed by core deed found sound content.groups content.flight content.unready content.faults may;
     tell = tells_step sizes (core.passes by) deed core.values content.tell;
   }
 
@@ -94,6 +97,7 @@ module _ (laws : LogLaws) (plain : PlainLaws) (sizes : Sizes) (page_is : IsPageS
     progress = progress_work sizes log by core work content.progress may;
     retired = retired_work laws plain sizes first tails log by core work page_some sound content.groups content.pieces content.progress content.written content.tell content.retired may;
     leaders = leaders_work sizes log by core work content.leaders;
+    faults = faults_work sizes log placed by core work content.faults may;
     tell = tells_work sizes (core.passes by) work core.values may.leaves content.tell;
   }
 
@@ -128,6 +132,10 @@ module _ (laws : LogLaws) (plain : PlainLaws) where
       (opening_has_the_log laws.one_image mount files tail log placed opens has) run
 
 -- ---- what a power failure may leave
+
+pub groups_come_late : LoadsAreAnImage → GroupsStayOpen → GroupsComeLate
+groups_come_late loads stay sizes first opened tails log placed core number some sound content within low leads few =
+    call_still loads sizes core.values tails.least some stay (log.group number).call number (log.calls number) (content.written.groups number within leads) low few
 
 pub groups_are_in_images : LoadsAreAnImage → GroupsAreAtomic → GroupsBecomeWhole → GroupsEndQuiet → GroupsAreInImages
 groups_are_in_images loads atomic becomes ends sizes first opened tails log placed core some sound content =

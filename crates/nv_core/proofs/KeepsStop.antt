@@ -13,13 +13,13 @@ use Rattle.nv_core.specs.Deeds.{Deed, Loads, Takes, Gives, Places, Stops, Draws,
 use Rattle.nv_core.specs.Stages.{stage_after, after_stop, after_tending, leaving}
 use Rattle.nv_core.specs.Stepped.{stopped_after}
 use Rattle.nv_core.specs.Order.{Values, Work, MayWork, MayStep, MayTend, IsDue, IsChoreDue, IsFailing, MayEnd, commit_steps}
-use Rattle.nv_core.specs.Core.{Core, changes, changed, after_step, after_begin, after_work, stage_worked, values_worked, values_stepped}
+use Rattle.nv_core.specs.Core.{made_stepped, Core, changes, changed, after_step, after_begin, after_work, stage_worked, values_worked, values_stepped}
 use Rattle.nv_core.specs.Events.{MayDo, MayFind, MayBegin}
 use Rattle.nv_core.specs.Stop.{HasFailed, IsHalting, Stop}
 use Rattle.nv_core.specs.BuffersKept.{BuffersKept}
 use Rattle.nv_core.specs.Devices.{Devices}
 use Rattle.nv_core.specs.Sound.{Sound}
-use Rattle.nv_core.proofs.Changes.{by_number, word_here}
+use Rattle.nv_core.proofs.Changes.{number_here, by_number, word_here}
 use Rattle.nv_core.proofs.Choices.{if_both, not_both}
 use Rattle.nv_core.proofs.ClearLaws.{IsClear, clear_to, clear_leaving}
 use Rattle.nv_core.proofs.WordLaws.{untouched, touches}
@@ -158,6 +158,38 @@ halts_now sizes first by core deed found sound may = by_number (λ n (p : Pass).
 up : (sizes : Sizes) (first : Values) (by : ℕ) (core : Core) (deed : Deed) → Sound sizes first core → (cell : Word) → faults_of (first cell) ≤ faults_of (values_stepped sizes (core.passes by) deed core.values cell)
 up sizes first by core deed sound cell = le_trans (sound.stop.never_fell cell) (same_faults sizes (core.passes by) deed core.values cell)
 
+-- a pass that has seen STOP as 1 goes on having seen it
+keeps_stopped : (pass : Pass) (deed : Deed) (found : ℕ) → pass.stopped ≡ true → stopped_after pass deed found ≡ true
+keeps_stopped pass (Loads word) found is = on word
+  where
+    on : (word : Word) → stopped_after pass (Loads word) found ≡ true
+    on STOP = if_both (λ b. b ≡ true) (found == 0) pass.stopped true (λ _. is) (λ _. refl)
+    on word = is
+keeps_stopped pass Stops found is = refl
+keeps_stopped pass (Tends chore) found is = tends chore
+  where
+    on : (word : Word) → stopped_after pass (Tends (Looks word)) found ≡ true
+    on STOP = if_both (λ b. b ≡ true) (found == 0) pass.stopped true (λ _. is) (λ _. refl)
+    on word = is
+
+    tends : (chore : Chore) → stopped_after pass (Tends chore) found ≡ true
+    tends (Looks word) = on word
+    tends Halts = refl
+    tends chore = is
+keeps_stopped pass deed found is = is
+
+still_made : (deed : Deed) (made : ℕ) → made ≤ made_stepped deed made
+still_made Splits made = omega arith
+still_made deed made = omega arith
+
+-- and one of those that are made does so after a step
+known_on : (sizes : Sizes) (by : ℕ) (core : Core) (deed : Deed) (found n : ℕ) → n ≤ core.made → (core.passes n).stopped ≡ true → ((after_step sizes by deed found core).passes n).stopped ≡ true
+known_on sizes by core deed found n low is = by_number (λ n (p : Pass). n ≤ core.made → (core.passes n).stopped ≡ true → p.stopped ≡ true) core.passes (changes by core.made deed) (changed sizes by core deed found) (here deed) (λ m ne low is. is) n low is
+  where
+    here : (deed : Deed) → changes by core.made deed ≤ core.made → (core.passes (changes by core.made deed)).stopped ≡ true → (changed sizes by core deed found).stopped ≡ true
+    here Splits low is = absurd (omega (arith, low))
+    here deed low is = keeps_stopped (core.passes by) deed found is
+
 -- a step that leaves STOP
 stop_else : (sizes : Sizes) (first : Values) (by : ℕ) (core : Core) (deed : Deed) (found : ℕ) → Sound sizes first core → MayFind sizes by core deed found → touches deed STOP ≡ false → Stop first (after_step sizes by deed found core)
 stop_else sizes first by core deed found sound may other =
@@ -170,30 +202,33 @@ stop_else sizes first by core deed found sound may other =
       never_fell = up sizes first by core deed sound;
       stays = by_number (λ n (p : Pass). p.stopped ≡ true → (after_step sizes by deed found core).words STOP ≡ 1) core.passes (changes by core.made deed) (changed sizes by core deed found)
           (λ is. same ∙ stop_stays sizes first by core found deed may sound other is) (λ n ne is. same ∙ sound.stop.stays n is);
+      known = λ is. let k = sound.stop.known (sym same ∙ is) in (k.0, le_trans k.1 (still_made deed core.made), known_on sizes by core deed found k.0 k.1 k.2);
     }
 
-pub stop_step : (sizes : Sizes) (first : Values) (by : ℕ) (core : Core) (deed : Deed) (found : ℕ) → Sound sizes first core → MayFind sizes by core deed found → Stop first (after_step sizes by deed found core)
-stop_step sizes first by core Stops found sound may = record {
+pub stop_step : (sizes : Sizes) (first : Values) (by : ℕ) (core : Core) (deed : Deed) (found : ℕ) → Sound sizes first core → by ≤ core.made → MayFind sizes by core deed found → Stop first (after_step sizes by deed found core)
+stop_step sizes first by core Stops found sound made may = record {
   bit = subst (λ n. n ≤ 1) (sym (word_here core.words STOP 1)) (omega arith);
   stopped = λ is. sound.stop.failing by may.may;
   failing = fails_now sizes first by core Stops found sound may;
   halting = halts_now sizes first by core Stops found sound may;
   never_fell = sound.stop.never_fell;
   stays = λ n is. word_here core.words STOP 1;
+  known = λ is. (by, made, ap (λ (p : Pass). p.stopped) (number_here core.passes by (changed sizes by core Stops found)));
 }
-stop_step sizes first by core (Tends Halts) found sound may = record {
+stop_step sizes first by core (Tends Halts) found sound made may = record {
   bit = subst (λ n. n ≤ 1) (sym (word_here core.words STOP 1)) (omega arith);
   stopped = λ is. sound.stop.halting by (subst IsHalting (sym (t.stage ∙ ap (Cleaning t.batch) t.made.1)) tt);
   failing = fails_now sizes first by core (Tends Halts) found sound may;
   halting = halts_now sizes first by core (Tends Halts) found sound may;
   never_fell = sound.stop.never_fell;
   stays = λ n is. word_here core.words STOP 1;
+  known = λ is. (by, made, ap (λ (p : Pass). p.stopped) (number_here core.passes by (changed sizes by core (Tends Halts) found)));
 }
   where
     t : IsTending (core.passes by) Halts
     t = tending sizes (core.passes by) Halts tt may.may
-stop_step sizes first by core (Tends chore) found sound may = stop_else sizes first by core (Tends chore) found sound may refl
-stop_step sizes first by core deed found sound may = stop_else sizes first by core deed found sound may refl
+stop_step sizes first by core (Tends chore) found sound made may = stop_else sizes first by core (Tends chore) found sound may refl
+stop_step sizes first by core deed found sound made may = stop_else sizes first by core deed found sound may refl
 
 pub stop_begin : (sizes : Sizes) (first : Values) (by : ℕ) (core : Core) (call : FileCall) → Sound sizes first core → MayBegin sizes call (core.passes by) → Stop first (after_begin sizes by call core)
 stop_begin sizes first by core call sound may = record {
@@ -205,6 +240,7 @@ stop_begin sizes first by core call sound may = record {
       (if_both (λ s. IsHalting s → HasFailed first core.values) (page_count sizes call == 0) Checking (Locking (first_page sizes call)) (λ _ z. absurd z) (λ _ z. absurd z)) (λ n ne is. sound.stop.halting n is);
   never_fell = sound.stop.never_fell;
   stays = by_number (λ n (p : Pass). p.stopped ≡ true → core.words STOP ≡ 1) core.passes by _ (sound.stop.stays by) (λ n ne is. sound.stop.stays n is);
+  known = λ is. let k = sound.stop.known is in (k.0, k.1, by_number (λ n (p : Pass). (core.passes n).stopped ≡ true → p.stopped ≡ true) core.passes by _ (λ x. x) (λ n ne x. x) k.0 k.2);
 }
 
 -- ---- a device call
@@ -269,6 +305,7 @@ stop_work sizes first by core work sound may = record {
       (λ is. failed (worked_halts sizes core.values (core.passes by) work may.due is)) (λ n ne is. rises (sound.stop.halting n is));
   never_fell = λ cell. le_trans (sound.stop.never_fell cell) (faults_worked (core.passes by) work core.values may.ends cell);
   stays = by_number (λ n (p : Pass). p.stopped ≡ true → core.words STOP ≡ 1) core.passes by _ (sound.stop.stays by) (λ n ne is. sound.stop.stays n is);
+  known = λ is. let k = sound.stop.known is in (k.0, k.1, by_number (λ n (p : Pass). (core.passes n).stopped ≡ true → p.stopped ≡ true) core.passes by _ (λ x. x) (λ n ne x. x) k.0 k.2);
 }
   where
     rises : HasFailed first core.values → HasFailed first (values_worked (core.passes by) work core.values)

@@ -100,11 +100,11 @@ still_of : (core now : Core) (group : Group) → KeepsFaults core now → IsOfFa
 still_of core now group keeps is = record { by = is.by; fault = is.fault; ended = keeps is.by is.fault is.ended; is = is.is }
 
 -- a leader that was never made ready is neither ready nor freed
-not_readied : (sizes : Sizes) (log : Log) (core : Core) (n : ℕ) → IsUnready sizes log core n → WasReadied sizes core n → ⊥
+pub not_readied : (sizes : Sizes) (log : Log) (core : Core) (n : ℕ) → IsUnready sizes log core n → WasReadied sizes core n → ⊥
 not_readied sizes log core n is (inl kind) = is.unready kind
 not_readied sizes log core n is (inr freed) = is.unfreed freed.0 freed.1
 
-none_readied : (sizes : Sizes) (log : Log) (core : Core) (n : ℕ) → InWindow core n → (log.group n).first ≡ n → (WasReadied sizes core n → ⊥) → IsUnready sizes log core n
+pub none_readied : (sizes : Sizes) (log : Log) (core : Core) (n : ℕ) → InWindow core n → (log.group n).first ≡ n → (WasReadied sizes core n → ⊥) → IsUnready sizes log core n
 none_readied sizes log core n within leads none = record { within = within; leads = leads; unready = λ kind. none (inl kind); unfreed = λ by freed. none (inr (by, freed)) }
 
 module _ (sizes : Sizes) (log : Log) (placed next : ℕ → Bool) (core now : Core) (head : now.words HEAD ≡ core.words HEAD) (window : core.words TAIL ≤ now.words TAIL) where

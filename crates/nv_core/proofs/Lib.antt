@@ -72,6 +72,8 @@ pub mod RetiredWork
 pub mod KeepsPieces
 pub mod KeepsInFlight
 pub mod KeepsUnready
+pub mod KeepsFaults
+pub mod FaultFates
 pub mod LiveLaws
 pub mod SweepLive
 pub mod KeepsLive

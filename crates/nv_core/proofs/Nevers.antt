@@ -1,5 +1,5 @@
 -- What no sound state allows.
-use Rattle.std.proofs.Common.{◌≡◌, ◌≢◌, ℕ, inl, inr, refl, sym, subst, arith, true, ◌∙◌}
+use Rattle.std.proofs.Common.{◌≡◌, ◌≢◌, ℕ, ◌+◌, List, [], ◌∷◌, inl, inr, refl, sym, subst, arith, true, ◌∙◌}
 use Rattle.std.proofs.lemmas.Bool.{cases_eq}
 use Rattle.nv_core.specs.Words.{Word, PAGE, ENTRY, CLEANUP, ready, is_entry_of}
 use Rattle.nv_core.specs.Passes.{Stage, Seizing, Committing, Pledging, Readying, Placing, WriteFailing, IsUnseized, IsFilling, IsAmong, times, Leaving, Searching, Seeking, Robbing, Cleaning}
@@ -8,7 +8,11 @@ use Rattle.nv_core.specs.Deeds.{Draws, slot_of}
 use Rattle.nv_core.specs.Order.{MayPlace}
 use Rattle.nv_core.specs.Standing.{StandsAt, HasDrawn, IsPage}
 use Rattle.nv_core.specs.Holding.{HoldsLocks, lock_held, cleanup_held}
-use Rattle.nv_core.specs.Never.{IsCommitting, IsInFlight, NoPlaceBeforeTheFence, NoPageBeforeThePlace, StoppedAfterAFault, NoLeaderBeforeAFollower, NoGrowthBeforeThePlace, NoTwoWritesOfAPage, NoStopWithoutAFault, NoSeizureOfAHeldEntry, NoHoldOfAnUnreadyEntry, NoEntryHeldTwice, NoOtherCleanup, NoDrawPastTheEnd, IsSought, NoVictimOfTheCall}
+use Rattle.nv_core.proofs.LiveLaws.{writes_apart}
+use Rattle.nv_core.proofs.PageLaws.{write_pages}
+use Rattle.nv_core.specs.Passes.{first_page, Fault, IsOneOf}
+use Rattle.nv_core.specs.Stepped.{fault_of}
+use Rattle.nv_core.specs.Never.{IsCommitting, IsInFlight, NoPlaceBeforeTheFence, NoPageBeforeThePlace, StoppedAfterAFault, NoLeaderBeforeAFollower, NoGrowthBeforeThePlace, NoTwoWritesOfAPage, WritesInFlightAreApart, NoBreakBeforeStop, NoBrokenBeforeStop, NoStopWithoutAFault, NoSeizureOfAHeldEntry, NoHoldOfAnUnreadyEntry, NoEntryHeldTwice, NoOtherCleanup, NoDrawPastTheEnd, IsSought, NoVictimOfTheCall}
 use Rattle.nv_core.proofs.Changes.{differ}
 use Rattle.nv_core.proofs.Choices.{gives_back, IsGivingBack}
 use Rattle.nv_core.proofs.KeepsLoaded.{held_by_one, holds_page}
@@ -112,3 +116,20 @@ no_other_cleanup sizes first core by other page sound owes held = elim (cases_eq
 
 pub no_draw_past_the_end : NoDrawPastTheEnd
 no_draw_past_the_end sizes first core by found sound may = (window_step sizes first by core Draws found sound may).room
+
+pub writes_in_flight_are_apart : WritesInFlightAreApart
+writes_in_flight_are_apart sizes first core one other some sound differs flight flies here there =
+    writes_apart sizes (core.passes one).call (core.passes other).call some here there (write_pages sizes (core.passes one).call here) (write_pages sizes (core.passes other).call there)
+    (λ j less on. differs (no_two_writes_of_a_page sizes first core one other (first_page sizes (core.passes other).call + j) sound flight flies on (omega arith, omega (arith, less))))
+
+some_fault : (faulted : List Fault) (fault : Fault) → IsOneOf faulted fault → faulted ≢ []
+some_fault [] fault is = absurd is
+some_fault (one ∷ rest) fault is = λ e. cc
+
+pub no_break_before_stop : NoBreakBeforeStop
+no_break_before_stop sizes first core by number sound may = sound.stop.stays by (sound.broken.stopped by (some_fault (core.passes by).faulted (fault_of (core.passes by)) (sound.grouped.unready.breaking by number may)))
+
+pub no_broken_before_stop : NoBrokenBeforeStop
+no_broken_before_stop sizes first core number sound within word =
+    let of = sound.grouped.unready.broken number within word in
+    sound.stop.stays of.by (sound.broken.stopped of.by (some_fault (core.passes of.by).faulted of.fault of.ended))

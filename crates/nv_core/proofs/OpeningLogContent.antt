@@ -178,5 +178,6 @@ opening_has_the_log one_image mount files tail log placed opens has = record {
   progress = progress_opening mount.sizes log placed (opening mount) refl (λ n. refl);
   retired = retired_opening mount.sizes log placed (opening mount) refl (λ n. refl) tail opens.low;
   leaders = leaders_opening mount.sizes log placed (opening mount) refl (λ n. refl);
+  faults = record { each = λ by fault is. absurd is };
   tell = has.tell;
 }

@@ -34,7 +34,11 @@ use Rattle.nv_core.proofs.KeepsBounds.{bounds_step, bounds_begin, bounds_work}
 use Rattle.nv_core.proofs.KeepsGroups.{groups_step, groups_begin, groups_work}
 use Rattle.nv_core.proofs.KeepsPieces.{pieces_step, pieces_begin, pieces_work}
 use Rattle.nv_core.proofs.KeepsProgress.{progress_step, progress_begin, progress_work}
-use Rattle.nv_core.proofs.OpeningLogContent.{groups_opening, pieces_opening, progress_opening}
+use Rattle.nv_core.proofs.OpeningLogContent.{groups_opening, pieces_opening, progress_opening, flight_opening, unready_opening, leaders_opening}
+use Rattle.nv_core.specs.InFlight.{placed_stepped}
+use Rattle.nv_core.proofs.KeepsInFlight.{flight_step, flight_begin, flight_work}
+use Rattle.nv_core.proofs.KeepsUnready.{unready_step, unready_begin, unready_work}
+use Rattle.nv_core.proofs.KeepsLeaders.{leaders_step, leaders_begin, leaders_work}
 use Rattle.nv_core.proofs.KeepsSearches.{buffers_step, searches_step, searches_begin, searches_work, first_hints}
 
 sound_step : (sizes : Sizes) (first : Values) (by : ℕ) (core : Core) (deed : Deed) (found : ℕ) → Sound sizes first core → by ≤ core.made → MayFind sizes by core deed found → Sound sizes first (after_step sizes by deed found core)
@@ -47,7 +51,7 @@ sound_step sizes first by core deed found sound made may = record {
   entries = words_step sizes first by core deed found sound sound.entries may;
   dirty = dirty_step sizes first by core deed found sound sound.dirty may;
   loaded = loaded_step sizes first by core deed found sound made may (bounds_step sizes first by core deed found sound may) (looks_step sizes first by core deed found sound may);
-  stop = stop_step sizes first by core deed found sound may;
+  stop = stop_step sizes first by core deed found sound made may;
   broken = broken_step sizes first by core deed found sound sound.broken may;
   broken_lengths = broken_lengths_step sizes first by core deed found sound may;
   history = history_step sizes first by core deed found sound sound.history (broken_step sizes first by core deed found sound sound.broken may) made may;
@@ -60,6 +64,10 @@ sound_step sizes first by core deed found sound made may = record {
     groups = groups_step sizes first by core g.log deed found sound g.groups g.progress may;
     pieces = pieces_step sizes first g.log by core deed found sound g.groups g.pieces g.progress may;
     progress = progress_step sizes first by core found sound g.log g.groups g.pieces g.progress deed may;
+    placed = placed_stepped (core.passes by) deed found g.placed;
+    flight = flight_step sizes first g.log g.placed by core deed found sound g.groups g.flight may;
+    unready = unready_step sizes first g.log g.placed by core deed found sound g.groups g.flight g.unready may;
+    leaders = leaders_step sizes first g.log by core deed found sound g.groups g.progress g.leaders may;
   };
 }
 
@@ -87,6 +95,10 @@ sound_begin sizes first by core call sound made may = record {
     groups = groups_begin sizes by core g.log call g.groups;
     pieces = pieces_begin sizes g.log by core call g.pieces may;
     progress = progress_begin sizes g.log by core call g.progress;
+    placed = g.placed;
+    flight = flight_begin sizes g.log g.placed by core call g.flight may;
+    unready = unready_begin sizes g.log g.placed by core call may g.unready;
+    leaders = leaders_begin sizes g.log by core call g.leaders;
   };
 }
 
@@ -113,6 +125,10 @@ sound_work ends sizes first by core work sound made may = record {
     groups = groups_work sizes by core g.log work g.groups may;
     pieces = pieces_work sizes g.log by core work g.pieces may;
     progress = progress_work sizes g.log by core work g.progress may;
+    placed = g.placed;
+    flight = flight_work sizes g.log g.placed by core work g.flight may;
+    unready = unready_work sizes g.log g.placed by core work g.unready may;
+    leaders = leaders_work sizes g.log by core work g.leaders;
   };
 }
 
@@ -194,7 +210,7 @@ opening_is_sound mount is_mount = record {
     bounds = λ n. tt;
     looks = λ n. tt;
   };
-  stop = record { bit = omega arith; stopped = λ one. absurd (omega arith); failing = λ n fails. absurd fails; halting = λ n halts. absurd halts; never_fell = λ cell. omega arith; stays = λ n stopped. absurd (not_both stopped refl) };
+  stop = record { bit = omega arith; stopped = λ one. absurd (omega arith); failing = λ n fails. absurd fails; halting = λ n halts. absurd halts; never_fell = λ cell. omega arith; stays = λ n stopped. absurd (not_both stopped refl); known = λ one. absurd (omega arith) };
   broken = record { stopped = λ n some. absurd (some refl); once = λ n. omega arith; passed = λ n checked. absurd checked; pages = λ n m page fault is at checked. absurd is };
   broken_lengths = record { files = λ n m fault is at checked. absurd is };
   history = record {
@@ -213,6 +229,10 @@ opening_is_sound mount is_mount = record {
     groups = groups_opening mount.sizes none (λ n. false) (opening mount) refl (λ n. refl);
     pieces = pieces_opening mount.sizes none (λ n. false) (opening mount) refl (λ n. refl);
     progress = progress_opening mount.sizes none (λ n. false) (opening mount) refl (λ n. refl);
+    placed = λ n. false;
+    flight = flight_opening mount.sizes none (λ n. false) (opening mount) refl (λ n. refl);
+    unready = unready_opening mount.sizes none (λ n. false) (opening mount) refl (λ n. refl);
+    leaders = leaders_opening mount.sizes none (λ n. false) (opening mount) refl (λ n. refl);
   };
 }
   where

@@ -11,7 +11,8 @@ use Rattle.nv_header.specs.Regions.{ReadsAs}
 use Rattle.nv_store.specs.Store.{Store, IsQuiet}
 use Rattle.nv_store.specs.Images.{IsImage}
 use Rattle.nv_core.specs.Words.{Sizes, HEAD, TAIL, HEADER, STORE}
-use Rattle.nv_core.specs.Passes.{IsOneOf}
+use Rattle.nv_core.specs.Passes.{IsOneOf, Fault, is_write}
+use Rattle.nv_core.specs.Unready.{group_of_fault}
 use Rattle.nv_core.specs.Deeds.{slot_of}
 use Rattle.nv_core.specs.Order.{Values}
 use Rattle.nv_core.specs.Core.{Core}
@@ -28,7 +29,7 @@ use Rattle.nv_core.specs.Tails.{Tails, still, tails_after}
 use Rattle.nv_core.specs.LivePieces.{rising, call_if, calls_of, is_ready, to_place}
 use Rattle.nv_core.specs.Apart.{after_calls}
 use Rattle.nv_core.specs.PersistentTail.{PersistentTail}
-use Rattle.nv_core.specs.LogContent.{LogContent, OpensLog, log_after_run, placed_after_run}
+use Rattle.nv_core.specs.LogContent.{LogContent, OpensLog, tails_after_run, log_after_run, placed_after_run}
 
 -- ---- what a power failure may leave of the stores
 
@@ -108,6 +109,15 @@ StatesSurviveCrashes =
     → Sound sizes first core → LogContent sizes first opened tails log placed core → HasRegion sizes names tails log core
     → CrashesSurvive sizes opened log placed core
 
+-- A write that a fault ended is no lower than the first number that is recovered, and is among the groups exactly where it is added; and the
+-- group of its first number is its own.
+abbrev pub FaultsAreFated : Type 0
+FaultsAreFated =
+    (sizes : Sizes) (first : Values) (opened : Files) (names : List (List ℕ)) (tails : Tails) (log : Log) (placed : ℕ → Bool) (core : Core) (by : ℕ) (fault : Fault) (image : Image) (bytes : Files)
+    → Sound sizes first core → LogContent sizes first opened tails log placed core → HasRegion sizes names tails log core
+    → IsRegionImage sizes core.values image → AreStoreImages sizes core.values bytes → IsOneOf (core.passes by).faulted fault → is_write fault.call ≡ true
+    → ((recovered image bytes).first ≤ fault.first) × (IsOneOf (recovered image bytes).groups fault.first ↔ (is_added sizes log placed core image fault.first ≡ true)) × (log.group fault.first ≡ group_of_fault fault)
+
 -- Every event keeps the region.
 abbrev pub EventsKeepRegion : Type 0
 EventsKeepRegion =
@@ -129,6 +139,13 @@ abbrev pub OpeningHasRegion : Type 0
 OpeningHasRegion =
     (mount : Mount) (files : Files) (names : List (List ℕ)) (log : Log)
     → OpensLog mount mount.next → HasFiles mount.sizes mount.values files → OpensRegion mount names → HasRegion mount.sizes names (still mount.next) log (opening mount)
+
+-- And so it is after every run.
+abbrev pub RunsKeepRegion : Type 0
+RunsKeepRegion =
+    (mount : Mount) (files : Files) (names : List (List ℕ)) (log : Log) (placed : ℕ → Bool) (events : List Event)
+    → IsMount mount → OpensLog mount mount.next → HasFiles mount.sizes mount.values files → OpensRegion mount names → IsRun mount.sizes (opening mount) events
+    → HasRegion mount.sizes names (tails_after_run mount.sizes (opening mount) events (still mount.next)) (log_after_run mount.sizes (opening mount) events log) (after mount.sizes (opening mount) events)
 
 -- So each image does after every run from such an opening.
 abbrev pub RunsSurviveCrashes : Type 0

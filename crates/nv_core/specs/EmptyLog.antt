@@ -1,16 +1,15 @@
 -- Empty logs: where no number is in the log, STOP is 0 and no pass is at work, the files are in their stores, and all is quiet.
-use Rattle.std.specs.Prelude.{◌≡◌, ℕ, ◌<◌, Bool, List, Some}
+use Rattle.std.specs.Prelude.{◌≡◌, ℕ, ◌<◌, Bool, List, [], ◌++◌, Some}
 use Rattle.nv_plain.specs.Files.{Files}
 use Rattle.nv_pmem.specs.Part.{Part}
 use Rattle.nv_pmem.specs.Images.{IsQuiet}
 use Rattle.nv_store.specs.Store.{Store, IsQuiet as IsDurable}
 use Rattle.nv_core.specs.Words.{Sizes, STOP, HEAD, TAIL, HEADER, STORE, ENTRY}
-use Rattle.nv_core.specs.Passes.{Idle}
 use Rattle.nv_core.specs.Order.{Values}
 use Rattle.nv_core.specs.Core.{Core}
 use Rattle.nv_core.specs.StorePages.{store_of}
 use Rattle.nv_core.specs.Apart.{after_calls}
-use Rattle.nv_core.specs.LivePieces.{calls_of, store_files}
+use Rattle.nv_core.specs.LivePieces.{calls_of, to_place, store_files}
 use Rattle.nv_core.specs.Tails.{Tails}
 use Rattle.nv_core.specs.Groups.{Log}
 use Rattle.nv_core.specs.Written.{IsPart, IsBlank}
@@ -22,12 +21,12 @@ use Rattle.nv_core.specs.Sound.{Sound}
 pub record IsEmpty (core : Core) : Type 0 where
   pub none : core.words TAIL ≡ core.words HEAD
   pub going : core.words STOP ≡ 0
-  pub idle : (by : ℕ) → (core.passes by).stage ≡ Idle
+  pub idle : (by : ℕ) → (core.passes by).hands ≡ []
 
 -- The stores read as the files after the history, and are durable. The header's part is quiet, with one tail; and so is the part of each
 -- entry, in which no commit word counts.
 pub record HasAllInStores (sizes : Sizes) (opened : Files) (tails : Tails) (core : Core) : Type 0 where
-  pub files : after_calls (calls_of core.history) opened ≡ store_files sizes core.values
+  pub files : after_calls (calls_of core.history ++ to_place core) opened ≡ store_files sizes core.values
   pub stores : (file : ℕ) (store : Store) → file < sizes.files → store_of (core.values (STORE file)) ≡ Some store → IsDurable store
   pub header : (part : Part) → IsPart (core.values HEADER) part → IsQuiet part
   pub tail : tails.next ≡ tails.least

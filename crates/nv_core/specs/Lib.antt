@@ -52,6 +52,7 @@ pub mod InFlight
 pub mod Unready
 pub mod LivePieces
 pub mod Leaders
+pub mod Faults
 pub mod PersistentTail
 pub mod Progress
 pub mod Retiring

@@ -1,5 +1,5 @@
 -- Content of the log: the parts of the invariant about what the devices hold, where all of them tell.
-use Rattle.std.specs.Prelude.{◌≡◌, ℕ, ◌<◌, ◌≤◌, Bool, List, [], ◌∷◌, length}
+use Rattle.std.specs.Prelude.{◌≡◌, ℕ, ◌+◌, ◌<◌, ◌≤◌, Bool, List, [], ◌∷◌, length}
 use Rattle.nv_plain.specs.Files.{Files}
 use Rattle.nv_pmem.specs.Limits.{IsPageSize}
 use Rattle.nv_pmem.specs.Part.{Part, word_of}
@@ -12,8 +12,9 @@ use Rattle.nv_core.specs.Events.{Event, MayCome, after_event, after, IsRun}
 use Rattle.nv_core.specs.Opening.{Mount, IsMount, opening}
 use Rattle.nv_core.specs.Sound.{Sound}
 use Rattle.nv_core.specs.Groups.{Log, log_after, Groups}
-use Rattle.nv_core.specs.Written.{IsPart, IsBlank, Written}
-use Rattle.nv_core.specs.EntryImages.{EntryImages}
+use Rattle.nv_core.specs.Written.{IsPart, IsBlank, Written, commit_length}
+use Rattle.nv_core.specs.EntryImages.{EntryImages, InEachImageOf, ReadsOpen}
+use Rattle.nv_core.specs.LogWindow.{InWindow}
 use Rattle.nv_core.specs.StaleWords.{StaleWords}
 use Rattle.nv_core.specs.HeaderStays.{HeaderStays}
 use Rattle.nv_core.specs.Pieces.{Pieces}
@@ -25,6 +26,7 @@ use Rattle.nv_core.specs.Progress.{Progress}
 use Rattle.nv_core.specs.Retiring.{Retired}
 use Rattle.nv_core.specs.StorePages.{StoresTell, HasFiles}
 use Rattle.nv_core.specs.Leaders.{Leaders}
+use Rattle.nv_core.specs.Faults.{Faults}
 
 -- These parts, over the cells' values and the files at opening, the tails that the header has, the log, and which writes are placed.
 pub record LogContent (sizes : Sizes) (first : Values) (opened : Files) (tails : Tails) (log : Log) (placed : ℕ → Bool) (core : Core) : Type 0 where
@@ -38,6 +40,7 @@ pub record LogContent (sizes : Sizes) (first : Values) (opened : Files) (tails :
   pub progress : Progress sizes log core
   pub retired : Retired sizes tails log core
   pub leaders : Leaders sizes log core
+  pub faults : Faults sizes log placed core
   pub tell : StoresTell sizes core.values
 
 -- ---- events
@@ -109,3 +112,11 @@ abbrev pub NoOldWordCounts : Type 0
 NoOldWordCounts =
     (sizes : Sizes) (first : Values) (opened : Files) (tails : Tails) (log : Log) (placed : ℕ → Bool) (core : Core)
     → 1 ≤ sizes.entries → Sound sizes first core → LogContent sizes first opened tails log placed core → StaleWords sizes tails.least log core
+
+-- A group is in no image before the store of its commit word, the third device call from the end of its commit.
+abbrev pub GroupsComeLate : Type 0
+GroupsComeLate =
+    (sizes : Sizes) (first : Values) (opened : Files) (tails : Tails) (log : Log) (placed : ℕ → Bool) (core : Core) (number : ℕ)
+    → 1 ≤ sizes.entries → Sound sizes first core → LogContent sizes first opened tails log placed core
+    → InWindow core number → tails.least ≤ number → (log.group number).first ≡ number → log.calls number + 3 ≤ commit_length sizes (log.group number).call number
+    → InEachImageOf sizes core.values (ReadsOpen sizes (log.group number).call number)

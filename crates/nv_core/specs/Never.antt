@@ -1,15 +1,16 @@
 -- Never: steps that no sound state allows, and what a step that is allowed has before it.
-use Rattle.std.specs.Prelude.{◌≡◌, ◌≢◌, ℕ, ◌+◌, ◌≤◌, []}
+use Rattle.std.specs.Prelude.{◌≡◌, ◌≢◌, ℕ, ◌+◌, ◌≤◌, [], true}
 use Rattle.nv_plain.specs.declared.call.Reply.{Reply}
-use Rattle.nv_core.specs.Words.{Sizes, Word, STOP, HEAD, TAIL, ENTRY, CLEANUP, free, ready, kind_of}
-use Rattle.nv_core.specs.Passes.{Stage, Seeking, Robbing, Searching, Seizing, Committing, Pledging, Readying, Placing, WriteFailing, Pass, IsHeld, times}
-use Rattle.nv_core.specs.Deeds.{Gives, Places, Stops, Draws, Seizes, Readies, Grows, Holds, slot_of}
+use Rattle.nv_core.specs.Words.{Sizes, Word, STOP, HEAD, TAIL, ENTRY, CLEANUP, free, ready, kind_of, broken}
+use Rattle.nv_core.specs.Passes.{Stage, Seeking, Robbing, Searching, Seizing, Committing, Pledging, Readying, Placing, WriteFailing, Pass, IsHeld, times, is_write}
+use Rattle.nv_core.specs.Deeds.{Gives, Places, Stops, Draws, Seizes, Readies, Grows, Holds, slot_of, Breaks}
 use Rattle.nv_core.specs.Order.{Values, MayStep}
 use Rattle.nv_core.specs.Core.{Core, after_step}
+use Rattle.nv_core.specs.Apart.{AreApart}
 use Rattle.nv_core.specs.Events.{MayFind}
 use Rattle.nv_core.specs.Standing.{IsPage}
 use Rattle.nv_core.specs.Holding.{cleanup_held}
-use Rattle.nv_core.specs.LogWindow.{Fills}
+use Rattle.nv_core.specs.LogWindow.{Fills, InWindow, entry_at}
 use Rattle.nv_core.specs.Stop.{HasFailed}
 use Rattle.nv_core.specs.Sound.{Sound}
 
@@ -58,6 +59,13 @@ NoTwoWritesOfAPage =
     → IsInFlight (core.passes one).stage → IsInFlight (core.passes other).stage
     → IsPage sizes (core.passes one).call page → IsPage sizes (core.passes other).call page → one ≡ other
 
+-- Two writes in flight are apart: in whatever order they are made, they leave the same files.
+abbrev pub WritesInFlightAreApart : Type 0
+WritesInFlightAreApart =
+    (sizes : Sizes) (first : Values) (core : Core) (one other : ℕ) → 1 ≤ sizes.page → Sound sizes first core → one ≢ other
+    → IsInFlight (core.passes one).stage → IsInFlight (core.passes other).stage
+    → is_write (core.passes one).call ≡ true → is_write (core.passes other).call ≡ true → AreApart (core.passes one).call (core.passes other).call
+
 -- STOP is set only where a count rose.
 abbrev pub NoStopWithoutAFault : Type 0
 NoStopWithoutAFault =
@@ -80,6 +88,15 @@ abbrev pub NoVictimOfTheCall : Type 0
 NoVictimOfTheCall =
     (sizes : Sizes) (first : Values) (core : Core) (by page : ℕ) → Sound sizes first core
     → IsSought (core.passes by).stage page → IsPage sizes (core.passes by).call page → ⊥
+
+-- An entry is broken only where STOP is 1, and none is broken before.
+abbrev pub NoBreakBeforeStop : Type 0
+NoBreakBeforeStop =
+    (sizes : Sizes) (first : Values) (core : Core) (by number : ℕ) → Sound sizes first core → MayStep sizes core.values (core.passes by) (Breaks number) → core.words STOP ≡ 1
+
+abbrev pub NoBrokenBeforeStop : Type 0
+NoBrokenBeforeStop =
+    (sizes : Sizes) (first : Values) (core : Core) (number : ℕ) → Sound sizes first core → InWindow core number → entry_at sizes core number ≡ broken → core.words STOP ≡ 1
 
 -- An entry is held where it is ready.
 abbrev pub NoHoldOfAnUnreadyEntry : Type 0

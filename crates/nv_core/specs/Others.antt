@@ -1,12 +1,12 @@
 -- Others: what a pass's events leave alone, what it sees of the core, and what of it its own events tell.
-use Rattle.std.specs.Prelude.{◌≡◌, ◌≢◌, ℕ, ◌≤◌, List, [], ◌++◌}
+use Rattle.std.specs.Prelude.{◌≡◌, ◌≢◌, ◌⊎◌, ℕ, ◌≤◌, true, List, [], ◌++◌, length}
 use Rattle.nv_core.specs.Words.{Sizes, Word, IsWord}
-use Rattle.nv_core.specs.Passes.{Pass, times}
+use Rattle.nv_core.specs.Passes.{Pass, times, IsOneOf}
 use Rattle.nv_core.specs.Deeds.{Deed, word_of}
 use Rattle.nv_core.specs.Holding.{Holding}
 use Rattle.nv_core.specs.Standing.{Standing}
 use Rattle.nv_core.specs.Order.{Values, Work, MayStep, MayWork}
-use Rattle.nv_core.specs.Core.{Core, values_stepped, values_worked, after_begin}
+use Rattle.nv_core.specs.Core.{Core, newcomer, values_stepped, values_worked, after_begin}
 use Rattle.nv_core.specs.Events.{Act, Begins, Does, Calls, Event, MayCome, MayAct, after_event, after, IsRun, own}
 use Rattle.nv_core.specs.Opening.{Mount, IsMount, opening}
 use Rattle.nv_core.specs.Sound.{Sound}
@@ -66,3 +66,14 @@ OwnEventsTell =
     (mount : Mount) (number : ℕ) (run more : List Event)
     → IsMount mount → IsRun mount.sizes (opening mount) (run ++ more) → number ≤ (after mount.sizes (opening mount) run).made → own number more ≡ []
     → Tells number (after mount.sizes (opening mount) run) (after mount.sizes (opening mount) (run ++ more))
+
+-- a pass has seen as much as another: as long a history, HEAD, TAIL, and STOP
+pub record Covers (one other : Pass) : Type 0 where
+  pub seen : length one.seen ≤ length other.seen
+  pub head : one.head ≤ other.head
+  pub tail : one.tail ≤ other.tail
+  pub stopped : one.stopped ≡ true → other.stopped ≡ true
+
+-- A new pass has seen as much as pass 0, and as each pass that this took in.
+abbrev pub NewcomersCover : Type 0
+NewcomersCover = (core : Core) (number : ℕ) → (number ≡ 0) ⊎ IsOneOf core.ended number → Covers (core.passes number) (newcomer core)

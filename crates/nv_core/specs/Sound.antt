@@ -1,5 +1,5 @@
 -- The invariant: what is so of the core in each state that a run leads to.
-use Rattle.std.specs.Prelude.{ℕ}
+use Rattle.std.specs.Prelude.{ℕ, Bool}
 use Rattle.nv_core.specs.Words.{Sizes}
 use Rattle.nv_core.specs.Order.{Values}
 use Rattle.nv_core.specs.Core.{Core}
@@ -22,6 +22,9 @@ use Rattle.nv_core.specs.Rooms.{Rooms}
 use Rattle.nv_core.specs.Groups.{Log, Groups}
 use Rattle.nv_core.specs.Pieces.{Pieces}
 use Rattle.nv_core.specs.Progress.{Progress}
+use Rattle.nv_core.specs.InFlight.{InFlight}
+use Rattle.nv_core.specs.Unready.{Unready}
+use Rattle.nv_core.specs.Leaders.{Leaders}
 
 -- The log's numbers are whole groups by their words, in which cleaners go on; for some log, whatever the devices tell.
 pub record Grouped (sizes : Sizes) (core : Core) : Type 0 where
@@ -29,6 +32,10 @@ pub record Grouped (sizes : Sizes) (core : Core) : Type 0 where
   pub groups : Groups sizes core log
   pub pieces : Pieces sizes log core
   pub progress : Progress sizes log core
+  pub placed : ℕ → Bool
+  pub flight : InFlight sizes log placed core
+  pub unready : Unready sizes log placed core
+  pub leaders : Leaders sizes log core
 
 -- The parts of the invariant, over the cells' values at opening.
 pub record Sound (sizes : Sizes) (first : Values) (core : Core) : Type 0 where

@@ -27,3 +27,4 @@ pub record Stop (first : Values) (core : Core) : Type 0 where
   pub halting : (number : ℕ) → IsHalting (core.passes number).stage → HasFailed first core.values
   pub never_fell : (cell : Word) → faults_of (first cell) ≤ faults_of (core.values cell)
   pub stays : (number : ℕ) → (core.passes number).stopped ≡ true → core.words STOP ≡ 1
+  pub known : core.words STOP ≡ 1 → (number : ℕ) × (number ≤ core.made) × ((core.passes number).stopped ≡ true)

@@ -1,5 +1,5 @@
 ghost use Rattle.nv_core.specs.AtRest.{RegionsAtRestOpen};
-ghost use Rattle.nv_core.specs.Crash.{EventsKeepRegion, OpeningHasRegion, RunsSurviveCrashes, StatesSurviveCrashes};
+ghost use Rattle.nv_core.specs.Crash.{EventsKeepRegion, FaultsAreFated, OpeningHasRegion, RunsKeepRegion, RunsSurviveCrashes, StatesSurviveCrashes};
 ghost use Rattle.nv_core.specs.CrashByHand.{ImagesByHand};
 ghost use Rattle.nv_core.specs.EmptyLog.{EmptyLogsRest};
 ghost use Rattle.nv_core.specs.CrashWalks.{OpenWriteHasTwoFates, PlacedWriteStays, ReadyWriteStays};
@@ -20,6 +20,8 @@ pub fn crashes_leave_whole_writes()
     ensures events { EventsKeepRegion }
     ensures states { StatesSurviveCrashes }
     ensures runs { RunsSurviveCrashes }
+    ensures region { RunsKeepRegion }
+    ensures faults { FaultsAreFated }
 {
     loads_follow_calls();
     images_follow_calls();

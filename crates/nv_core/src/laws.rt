@@ -2,7 +2,7 @@ ghost use Rattle.nv_core.specs.DirtyWalks.{DirtyReadIsWalked};
 ghost use Rattle.nv_core.specs.Laws.{OpeningIsSound, EventsKeepSound, RunsAreSound};
 ghost use Rattle.nv_core.specs.BatchWalks.{BatchIsWalked};
 ghost use Rattle.nv_core.specs.Lengths.{LengthsFollowTheHistory};
-ghost use Rattle.nv_core.specs.Never.{NoPlaceBeforeTheFence, NoPageBeforeThePlace, StoppedAfterAFault, NoLeaderBeforeAFollower, NoGrowthBeforeThePlace, NoTwoWritesOfAPage, NoStopWithoutAFault, NoSeizureOfAHeldEntry, NoHoldOfAnUnreadyEntry, NoEntryHeldTwice, NoOtherCleanup, NoVictimOfTheCall, NoDrawPastTheEnd};
+ghost use Rattle.nv_core.specs.Never.{NoPlaceBeforeTheFence, NoPageBeforeThePlace, StoppedAfterAFault, NoLeaderBeforeAFollower, NoGrowthBeforeThePlace, NoTwoWritesOfAPage, NoStopWithoutAFault, NoSeizureOfAHeldEntry, NoHoldOfAnUnreadyEntry, NoEntryHeldTwice, NoOtherCleanup, NoVictimOfTheCall, NoDrawPastTheEnd, WritesInFlightAreApart, NoBreakBeforeStop, NoBrokenBeforeStop};
 ghost use Rattle.nv_core.specs.Spares.{SparesKeepSteps, SparesTell};
 ghost use Rattle.nv_core.specs.Walks.{WalkBegins, FirstPageIsWord30, ReadIsWalked, WriteIsWalked, FaultIsWalked, SearchIsWalked, TriesAreWalked};
 ghost use Rattle.nv_core.specs.Words.{PlacesDiffer};
@@ -32,6 +32,9 @@ pub fn no_sound_state_allows()
     ensures leader { NoLeaderBeforeAFollower }
     ensures growth { NoGrowthBeforeThePlace }
     ensures writes { NoTwoWritesOfAPage }
+    ensures apart { WritesInFlightAreApart }
+    ensures breaks { NoBreakBeforeStop }
+    ensures broken_ { NoBrokenBeforeStop }
     ensures stop { NoStopWithoutAFault }
     ensures seizure { NoSeizureOfAHeldEntry }
     ensures hold { NoHoldOfAnUnreadyEntry }

@@ -1,5 +1,5 @@
 ghost use Rattle.nv_core.specs.CleaningOrder.{NoCleanBeforeTheStore, NoFreeBeforeTheTail, NoMoveBeforeTheSync, NoSubtractBeforeTheClean};
-ghost use Rattle.nv_core.specs.LogContent.{EventsKeepTheLog, OpeningHasTheLog, RunsKeepTheLog, GroupsAreInImages, NoOldWordCounts};
+ghost use Rattle.nv_core.specs.LogContent.{EventsKeepTheLog, OpeningHasTheLog, RunsKeepTheLog, GroupsAreInImages, GroupsComeLate, NoOldWordCounts};
 ghost use Rattle.nv_core.specs.WalkOpens.{WalkOpensFiles, WalkOpensLog, WalkOpensRegion};
 
 use nv_entry::groups_follow_steps;
@@ -18,6 +18,7 @@ pub fn runs_keep_the_log()
     ensures runs { RunsKeepTheLog }
     ensures images { GroupsAreInImages }
     ensures old { NoOldWordCounts }
+    ensures late { GroupsComeLate }
 {
     loads_follow_calls();
     images_follow_calls();

@@ -1,4 +1,4 @@
-ghost use Rattle.nv_core.specs.Others.{EventsLeaveOthers, PassesSeeTheirHands, StepsAreOnWords, OwnEventsTell};
+ghost use Rattle.nv_core.specs.Others.{EventsLeaveOthers, NewcomersCover, PassesSeeTheirHands, StepsAreOnWords, OwnEventsTell};
 
 use crate::laws::runs_are_sound;
 
@@ -10,6 +10,7 @@ pub fn passes_are_left_alone()
     ensures hands { PassesSeeTheirHands }
     ensures words { StepsAreOnWords }
     ensures own { OwnEventsTell }
+    ensures newcomers { NewcomersCover }
 {
     runs_are_sound();
 }

@@ -1,7 +1,7 @@
 -- Groups: what their steps do to each part, and what a power failure may leave of all of them.
 use Rattle.std.proofs.Common.{◌≡◌, ◌≢◌, ℕ, ◌+◌, ◌-◌, ◌<◌, ◌≤◌, ◌⊎◌, inl, inr, List, [], ◌++◌, length, take, drop, slice_index_or, zero, suc, refl, sym, ap, ◌∙◌, subst, arith, zero-add}
 use Rattle.std.proofs.lemmas.Bool.{cases_eq, cases_lt, eq-eqb, ne_eqb}
-use Rattle.std.proofs.lemmas.List.{append-nil, get_or_past}
+use Rattle.std.proofs.lemmas.List.{append-nil, get_or_past, take-append-le, length-append}
 use Rattle.std.specs.List.{flat_map, range_with_len}
 use Rattle.nv_plain.specs.Images.{PartImage, Image, data_of, lines_for}
 use Rattle.nv_plain.specs.Pieces.{pages_touched, piece_of, piece_bytes}
@@ -236,6 +236,16 @@ module _ (page first file at : ℕ) (bytes : List ℕ) (is_page : IsPageSize pag
         | inl kept ↦ was from.before from.is i below (sym kept ∙ committed)
         | inr one ↦ none i (image i 0 0) below one
       ]
+
+  pub group_open : (parts : List Part) (count : ℕ) → count + 3 ≤ length (group_steps page first file at bytes) → InEachRowImage (IsUncommitted first (pages_touched at (length bytes) page)) parts
+      → InEachRowImage (IsUncommitted first (pages_touched at (length bytes) page)) (run row_after (take count (group_steps page first file at bytes)) parts)
+  unfolding group_steps durable_store
+  group_open parts count few was =
+      let pieces = all_pieces page first file at bytes in
+      let commit = on_part 0 (durable_store 0 0 (first + 1)) in
+      let l : length (pieces ++ commit) ≡ length pieces + 3 = length-append pieces commit in
+      subst (λ these. InEachRowImage (IsUncommitted first (pages_touched at (length bytes) page)) (run row_after these parts)) (sym (take-append-le count pieces commit (omega (arith, few, l))))
+      (uncommitted_still (take count pieces) (λ i found below stored. no_commit_word i found below (stored_by_row-take count pieces i 0 0 found stored)) parts was)
 
   -- ---- after the entries are written
 

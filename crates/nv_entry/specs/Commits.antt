@@ -1,6 +1,6 @@
 -- Commits: what the steps of a group make of its parts, one step after another. These laws are for whatever makes the steps, a call
 -- or a machine: they speak of no device.
-use Rattle.std.specs.Prelude.{◌≡◌, ℕ, ◌<◌, ◌≤◌, List, [], length, take, slice_index, slice_index_or}
+use Rattle.std.specs.Prelude.{◌≡◌, ℕ, ◌+◌, ◌<◌, ◌≤◌, List, [], length, take, slice_index, slice_index_or}
 use Rattle.nv_plain.specs.Pieces.{pages_touched}
 use Rattle.nv_pmem.specs.Limits.{IsPageSize, entry_lines}
 use Rattle.nv_pmem.specs.Part.{Part}
@@ -36,6 +36,13 @@ GroupsAreAtomic =
     (page first file at : ℕ) (bytes : List ℕ) (parts : List Part) (steps : ℕ)
     → AreGroupParts page at bytes parts → IsOpen page first at bytes parts
     → InEachRowImage (IsUncommittedOrWhole page first file at bytes) (after_some page first file at bytes steps parts)
+
+-- Before the store of its commit word, the third step from the end, none of its entries is committed.
+abbrev pub GroupsStayOpen : Type 0
+GroupsStayOpen =
+    (page first file at : ℕ) (bytes : List ℕ) (parts : List Part) (steps : ℕ)
+    → AreGroupParts page at bytes parts → IsOpen page first at bytes parts → steps + 3 ≤ length (group_steps page first file at bytes)
+    → IsOpen page first at bytes (after_some page first file at bytes steps parts)
 
 -- After each step an image is one of before, but for the data, the fields and the leader's commit word: this is the old one or the
 -- group's, and those of the followers are the old ones.

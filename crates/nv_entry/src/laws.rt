@@ -1,4 +1,4 @@
-ghost use Rattle.nv_entry.specs.Commits.{GroupsAreAtomic, GroupsStoreNothingElse, GroupsBecomeWhole, GroupsAreLoaded, GroupsEndQuiet, GroupsEndReady};
+ghost use Rattle.nv_entry.specs.Commits.{GroupsAreAtomic, GroupsStayOpen, GroupsStoreNothingElse, GroupsBecomeWhole, GroupsAreLoaded, GroupsEndQuiet, GroupsEndReady};
 ghost use Rattle.nv_entry.specs.OneAnswer.{WholeIsNotBad, IsBadOnce};
 
 /// What the steps of a group make of its parts, for whatever makes them: after each step the group is there as a whole or
@@ -6,6 +6,7 @@ ghost use Rattle.nv_entry.specs.OneAnswer.{WholeIsNotBad, IsBadOnce};
 /// [`commit_group`](crate::commit_group) say this of its calls.
 pub fn groups_follow_steps()
     ensures atomic { GroupsAreAtomic }
+    ensures stay { GroupsStayOpen }
     ensures only { GroupsStoreNothingElse }
     ensures whole { GroupsBecomeWhole }
     ensures loaded { GroupsAreLoaded }

@@ -9,7 +9,8 @@ use Rattle.nv_core.proofs.KeepsLogContent.{events_keep_the_log, runs_keep_the_lo
 use Rattle.nv_core.proofs.KeepsPersistent.{persistent_goes_on}
 use Rattle.nv_core.proofs.CrashLaws.{states_survive}
 use Rattle.nv_core.proofs.CrashRegions.{events_keep_region}
-use Rattle.nv_core.proofs.CrashRuns.{opening_has_region, runs_survive}
+use Rattle.nv_core.proofs.FaultFates.{faults_are_fated}
+use Rattle.nv_core.proofs.CrashRuns.{opening_has_region, runs_survive, runs_keep_region}
 use Rattle.nv_core.proofs.crash.crashes_leave_whole_writes.Goals as goal
 
 pub returns : goal.returns
@@ -46,5 +47,7 @@ returns c =
       opening = opening;
       events = events;
       states = states;
+      faults = faults_are_fated states;
+      region = runs_keep_region opens_sound sounds opens_log logs opening events;
       runs = runs_survive opens_sound sounds opens_log logs (runs_are_sound_all c.groups_follow_steps.ensures.ready) (runs_keep_the_log_all laws plain c.groups_follow_steps.ensures.ready) opening events states;
     }

@@ -1,7 +1,7 @@
 use Rattle.nv_core.proofs.PlainLaws.{PlainLaws}
 use Rattle.nv_core.proofs.LogLaws.{LogLaws}
 use Rattle.nv_core.proofs.OpeningLogContent.{opening_has_the_log}
-use Rattle.nv_core.proofs.KeepsLogContent.{events_keep_the_log, runs_keep_the_log_all, groups_are_in_images, no_old_word_counts}
+use Rattle.nv_core.proofs.KeepsLogContent.{events_keep_the_log, runs_keep_the_log_all, groups_are_in_images, groups_come_late, no_old_word_counts}
 use Rattle.nv_core.proofs.log.runs_keep_the_log.Goals as goal
 
 pub returns : goal.returns
@@ -32,5 +32,6 @@ returns c =
       events = events_keep_the_log laws plain;
       runs = runs_keep_the_log_all laws plain c.groups_follow_steps.ensures.ready;
       images = groups_are_in_images c.images_follow_calls.ensures.now c.groups_follow_steps.ensures.atomic c.groups_follow_steps.ensures.whole c.groups_follow_steps.ensures.quiet;
+      late = groups_come_late c.images_follow_calls.ensures.now c.groups_follow_steps.ensures.stay;
       old = no_old_word_counts c.images_follow_calls.ensures.now c.groups_follow_steps.ensures.only;
     }

@@ -1,5 +1,6 @@
 use Rattle.nv_core.proofs.OthersLaws.{events_leave_others, own_events_tell}
 use Rattle.nv_core.proofs.HandsLaws.{passes_see_their_hands}
+use Rattle.nv_core.proofs.Inherits.{newcomers_cover}
 use Rattle.nv_core.proofs.StepWords.{steps_are_on_words}
 use Rattle.nv_core.proofs.others.passes_are_left_alone.Goals as goal
 
@@ -14,3 +15,6 @@ returns-clause-words c = steps_are_on_words c.runs_are_sound.ensures.opening c.r
 
 pub returns-clause-own : goal.returns-clause-own
 returns-clause-own c = own_events_tell c.runs_are_sound.ensures.events c.runs_are_sound.ensures.runs
+
+pub returns-clause-newcomers : goal.returns-clause-newcomers
+returns-clause-newcomers c = newcomers_cover
