@@ -2,3 +2,4 @@ mod AskLaws
 mod SplitLaws
 mod HistoryLaws
 mod OpenLaws
+mod ClosedFilesLaws

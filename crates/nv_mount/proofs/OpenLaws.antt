@@ -22,7 +22,7 @@ use Rattle.nv_core.specs.StorePages.{store_of}
 use Rattle.nv_core.specs.Written.{IsPart}
 use Rattle.nv_core.specs.Content.{Opens}
 use Rattle.nv_core.specs.LogContent.{OpensLog}
-use Rattle.nv_core.specs.Crash.{StoresQuiet}
+use Rattle.nv_core.specs.Crash.{StoresQuiet, OpensRegion}
 use Rattle.nv_core.specs.AtRest.{KeepRow, RegionsAtRestOpen}
 use Rattle.nv_table.specs.declared.slot.PageBuffer.{PageBuffer}
 use Rattle.nv_table.specs.Kept.{present, part_value, store_value, buffer_value, slot_value}
@@ -209,3 +209,10 @@ module _ {L B : Type 0} (device : L → ℕ) (history : L → PartHistory) (faul
         let both = opens (mount_of opened) names states at_rest keep_row (names_many ∙ sym (ap (λ (s : Sizes). s.files) is.begun.sizes_are))
         (omega (arith, pages, few_pages)) (stores_quiet quiet) in
         subst (OpensLog (mount_of opened)) is.begun.next_is both.0
+
+    pub opens_region : RegionsAtRestOpen → All (λ one. Tells (store_history one) IsQuiet) stores → OpensRegion (mount_of opened) names
+    opens_region opens quiet =
+        let pages = ap (λ (s : Sizes). s.pages) is.begun.sizes_are in
+        let both = opens (mount_of opened) names states at_rest keep_row (names_many ∙ sym (ap (λ (s : Sizes). s.files) is.begun.sizes_are))
+        (omega (arith, pages, few_pages)) (stores_quiet quiet) in
+        both.1

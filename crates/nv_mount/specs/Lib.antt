@@ -2,3 +2,4 @@ pub mod Fds
 pub mod Mounts
 pub mod OneHistories
 pub mod Telling
+pub mod ClosedFiles

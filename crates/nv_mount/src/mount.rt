@@ -4,6 +4,7 @@ ghost use Rattle.nv_plain.specs.Files.{Files};
 ghost use Rattle.nv_pmem.specs.Moments.{Tells};
 ghost use Rattle.nv_store.specs.Store.{IsQuiet};
 ghost use Rattle.nv_core.specs.Content.{Opens};
+ghost use Rattle.nv_core.specs.Crash.{OpensRegion};
 ghost use Rattle.nv_core.specs.LogContent.{OpensLog};
 ghost use Rattle.nv_table.specs.Begun.{begun_sizes};
 ghost use Rattle.nv_table.specs.Between.{IsStill};
@@ -13,11 +14,12 @@ ghost use Rattle.nv_table.specs.Opened.{mount_of};
 ghost use Rattle.nv_table.specs.Sights.{made_of};
 ghost use Rattle.nv_table.specs.States.{IsOf};
 ghost use Rattle.nv_mount.specs.Mounts.{AreLengths, HasLengthsCause, HasOpenCause, IsOpened};
+ghost use Rattle.nv_mount.specs.ClosedFiles.{ReadAsFiles};
 ghost use Rattle.nv_mount.specs.OneHistories.{HasOneHistory};
 ghost use Rattle.nv_mount.specs.Telling.{AllTell, StoresHave};
 
 use crate::Fds;
-use nv_core::{passes_are_left_alone, regions_at_rest_open, runs_are_sound, runs_keep_content};
+use nv_core::{passes_are_left_alone, regions_at_rest_open, runs_are_sound, runs_keep_content, runs_keep_the_log};
 use nv_header::Region;
 use nv_pmem::{Lines, rows_have_states};
 use nv_store::{Backing, StoreFault};
@@ -135,6 +137,7 @@ impl<L: Lines + Drop, B: Backing + Drop> Mount<L, B> {
             region.next region.parts.items stores.items fds made.0 made.1) }
         ensures files { IfOk result (λ made. (files : Files) → StoresHave (map B.history stores.items) files → Opens (mount_of made.0.board.opened) files) }
         ensures log { IfOk result (λ made. AllTell (map L.history region.parts.items) → OpensLog (mount_of made.0.board.opened) region.next) }
+        ensures region { IfOk result (λ made. AllTell (map L.history region.parts.items) → OpensRegion (mount_of made.0.board.opened) region.names) }
         ensures parts_back { IfErr result (λ failed. failed.region.parts.items ≡ region.parts.items) }
         ensures geometry_back { IfErr result (λ failed. failed.region.geometry ≡ region.geometry) }
         ensures names_back { IfErr result (λ failed. failed.region.names ≡ region.names) }
@@ -195,6 +198,7 @@ impl<L: Lines + Drop, B: Backing + Drop> Mount<L, B> {
             (slot_value (part_value L.device L.history L.fault_count L.room) (store_value B.device B.history B.fault_count))
             self.board pass closed.parts.items closed.stores.items closed.placed closed.tail) }
         ensures history { IfOk result (λ closed. HasOneHistory pass.sight closed.placed) }
+        ensures files { IfOk result (λ closed. ReadAsFiles pass.sight (map B.history closed.stores.items) closed.tail) }
         ensures out { IfErr result (λ failed. length pass.sight.ended < made_of pass.sight) }
         ensures mount_back { IfErr result (λ failed. failed.0 ≡ self) }
         ensures pass_back { IfErr result (λ failed. failed.1 ≡ pass) }
@@ -210,6 +214,7 @@ impl<L: Lines + Drop, B: Backing + Drop> Mount<L, B> {
         drop(fds);
         runs_are_sound();
         runs_keep_content();
+        runs_keep_the_log();
         passes_are_left_alone();
         pass.sees_a_run();
         pass.has_taken_in();

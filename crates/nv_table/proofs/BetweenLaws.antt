@@ -23,7 +23,7 @@ use Rattle.nv_table.specs.Layout.{slot_total, slot_of, cell_of}
 use Rattle.nv_table.specs.Opened.{Opened, mount_of, IsRunOf, state_of}
 use Rattle.nv_table.specs.Passing.{IsKeeper, IsPass}
 use Rattle.nv_table.specs.Seats.{parent, child, past_of, heard, joined, Passed, MayLeave, Left, MayJoin}
-use Rattle.nv_table.specs.Sights.{Sight, Past, pass_of, values_of, made_of, ended_of, carried, numbers, slot_times, AreDistinct, Carries, Knows}
+use Rattle.nv_table.specs.Sights.{SeesAll, Sight, Past, pass_of, values_of, made_of, ended_of, carried, numbers, slot_times, AreDistinct, Carries, Knows}
 use Rattle.nv_table.specs.States.{PassState, shown_in}
 use Rattle.nv_table.proofs.CarryLaws.{carried_none, carries_some}
 use Rattle.nv_table.proofs.Counting.{few_there}
@@ -351,8 +351,8 @@ passed_in old last now new found now_is passed = subst (λ (v : Sight). Passed v
 
 pub is_taken_in : {S : Type 0} (shown : S → Value) (table table_now : TableId) (me me_now : Me S Sight) {spare : List Value} (pass other : PassState) (last : Sight) (cells : List (Word × ℕ)) (found : ℕ)
     → record { table = table; sight = me.0; now = shown_in shown me.1; spare = spare } ≡ pass → PutsBack cells other.sight last → table_now ≡ table → me_now.1 ≡ me.1
-    → Passed (joined me.0 last) (Joins last.number) found me_now.0 → IsTakenIn pass other record { table = table_now; sight = me_now.0; now = shown_in shown me_now.1; spare = spare }
-is_taken_in shown table table_now me me_now {spare = spare} pass other last cells found view back table_is slots_are passed = record {
+    → Passed (joined me.0 last) (Joins last.number) found me_now.0 → SeesAll last.number last.run me_now.0.run → IsTakenIn pass other record { table = table_now; sight = me_now.0; now = shown_in shown me_now.1; spare = spare }
+is_taken_in shown table table_now me me_now {spare = spare} pass other last cells found view back table_is slots_are passed all = record {
   cells = cells;
   last = last;
   back = back;
@@ -363,4 +363,5 @@ is_taken_in shown table table_now me me_now {spare = spare} pass other last cell
   is = ap (λ t. record { table = t; sight = me_now.0; now = shown_in shown me_now.1; spare = spare }) table_is
       ∙ ap (λ slots. record { table = table; sight = me_now.0; now = shown_in shown slots; spare = spare }) slots_are
       ∙ ap (λ (p : PassState). record p { sight = me_now.0 }) view;
+  behind = subst (λ n. SeesAll n last.run me_now.0.run) (puts_number cells other.sight last back) all;
 }

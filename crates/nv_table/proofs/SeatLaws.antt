@@ -17,7 +17,7 @@ use Rattle.nv_core.proofs.Changes.{by_number, number_here, number_else}
 use Rattle.nv_core.proofs.LockLaws.{only_holder, times_without, times_without_else}
 use Rattle.nv_table.specs.Layout.{slot_total, slot_of, cell_of}
 use Rattle.nv_table.specs.Opened.{Opened, mount_of, state_of}
-use Rattle.nv_table.specs.Sights.{Past, Sight, pass_of, values_of, made_of, numbers, carried, Carries, AreDistinct}
+use Rattle.nv_table.specs.Sights.{SeesAll, Past, Sight, pass_of, values_of, made_of, numbers, carried, Carries, AreDistinct}
 use Rattle.nv_table.specs.Acts.{went, IsFirst}
 use Rattle.nv_table.specs.Shows.{IsKept, AtHome, Out, IsOver, Keeps, Shows}
 use Rattle.nv_table.specs.Seats.{after_passing, Passed, MaySplit, MayLeave, Left, MayJoin}
@@ -26,7 +26,7 @@ use Rattle.nv_table.proofs.LayoutLaws.{cell_there}
 use Rattle.nv_table.proofs.LeftLaws.{times_left, carried_in_hands, left_within, hands_are_words}
 use Rattle.nv_table.proofs.CarryLaws.{carries_kept, carries_cells, carries_given, cell_apart, cells_apart}
 use Rattle.nv_table.proofs.SightLaws.{made_seen}
-use Rattle.nv_table.proofs.Going.{after_one, told_of}
+use Rattle.nv_table.proofs.Going.{after_one, told_of, sees_more}
 use Rattle.nv_table.proofs.Passing.{kept_same, stop_same, tells_of, is_made, found_is, event_of, then_of, next_of, passed_of, shows_then}
 
 -- ---- what a step gives
@@ -332,7 +332,7 @@ module _ {S : Type 0} (laws : CoreLaws) (shown : S → Value) (s : State S Sight
       let same : old.0 ≡ sight = some-injective old.0 sight (sym at ∙ ap (get_elem? s.views) (sym here) ∙ there) in
       inl (ap (λ ended. past.number ∷ ended) join_ended ∙ sym (ap numbers may.last) ∙ ap (λ (w : Sight). numbers w.ended) same)
 
-  joins_at : Goes (Shows shown old.0.opened) s id old (λ found new. Passed old.0 (Joins past.number) found new.0 × (new.1 ≡ old.1))
+  joins_at : Goes (Shows shown old.0.opened) s id old (λ found new. Passed old.0 (Joins past.number) found new.0 × (new.1 ≡ old.1) × SeesAll past.number past.run new.0.run)
   joins_at = (
     next_of laws shown s id old.0 shows at live (Joins past.number),
     keeps,
@@ -341,12 +341,17 @@ module _ {S : Type 0} (laws : CoreLaws) (shown : S → Value) (s : State S Sight
         (stop_same join_core.words (slice_index s.words 0) (found_is laws shown s id old.0 shows at live))
         (λ slot less. kept_same shown join_core join_then (cell_of old.0.opened.sizes slot) (get_elem? s.homes slot) refl (join_same (cell_of old.0.opened.sizes slot)) (shows.homes slot less))
         join_taken,
-    (passed_of laws shown s id old.0 shows at live (Joins past.number) join_come join_there (number_here join_core.passes old.0.number _) (λ cell. refl), refl),
+    (
+      passed_of laws shown s id old.0 shows at live (Joins past.number) join_come join_there (number_here join_core.passes old.0.number _) (λ cell. refl),
+      refl,
+      sees_more past.number past.run shows.run (event_of laws shown s id old.0 shows at live (Joins past.number))
+          (λ same. (let low = join_over.some in let zero = may.zero in omega (arith, low, zero, same))) join_over.all,
+    ),
   )
 
 pub joins_allow : {S : Type 0} (shown : S → Value) (opened : Opened) (slots id : ℕ) (old : Me S Sight) (past : Past) (before : List Past) → CoreLaws → old.0.live ≡ true → MayJoin old.0 past before
-    → Allows (Shows shown opened) slots id old 0 (λ n. n) (λ found new. Passed old.0 (Joins past.number) found new.0 × (new.1 ≡ old.1))
+    → Allows (Shows shown opened) slots id old 0 (λ n. n) (λ found new. Passed old.0 (Joins past.number) found new.0 × (new.1 ≡ old.1) × SeesAll past.number past.run new.0.run)
 joins_allow shown opened slots id old past before laws live may s shows count at small =
     let e = (shows.knows id old.0 at live).mount in
-    subst (λ o. Goes (Shows shown o) s id old (λ found new. Passed old.0 (Joins past.number) found new.0 × (new.1 ≡ old.1))) e
+    subst (λ o. Goes (Shows shown o) s id old (λ found new. Passed old.0 (Joins past.number) found new.0 × (new.1 ≡ old.1) × SeesAll past.number past.run new.0.run)) e
     (joins_at laws shown s id old (subst (λ o. Shows shown o s) (sym e) shows) at live past before may)

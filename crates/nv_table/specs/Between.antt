@@ -6,7 +6,7 @@ use Rattle.nv_core.specs.Deeds.{Splits, Leaves, Joins}
 use Rattle.nv_core.specs.Core.{newcomer}
 use Rattle.nv_core.specs.Events.{Event}
 use Rattle.nv_table.specs.Opened.{state_of}
-use Rattle.nv_table.specs.Sights.{Sight, pass_of, values_of, carried, Carries}
+use Rattle.nv_table.specs.Sights.{SeesAll, Sight, pass_of, values_of, carried, Carries}
 use Rattle.nv_table.specs.Seats.{parent, child, joined, Passed}
 use Rattle.nv_table.specs.States.{PassState}
 
@@ -37,6 +37,7 @@ pub record IsTakenIn (old other new : PassState) : Type 0 where
   pub sight : Sight
   pub taken : Passed (joined old.sight last) (Joins other.sight.number) found sight
   pub is : new ≡ record old { sight = sight }
+  pub behind : SeesAll other.sight.number last.run sight.run
 
 -- ---- notes
 

@@ -3,7 +3,7 @@ ghost use Rattle.std.specs.Prelude.{◌≡◌, ◌≢◌, ◌+◌, ◌<◌, true
 ghost use Rattle.nv_core.specs.Words.{Word, STOP, keeps_something};
 ghost use Rattle.nv_core.specs.Passes.{times};
 ghost use Rattle.nv_core.specs.Deeds.{Splits, Joins};
-ghost use Rattle.nv_table.specs.Sights.{Past, pass_of, made_of, ended_of, carried, numbers};
+ghost use Rattle.nv_table.specs.Sights.{Past, SeesAll, pass_of, made_of, ended_of, carried, numbers};
 ghost use Rattle.nv_table.specs.Seats.{parent, child, note, heard, joined, spent, Passed, MaySplit, MayLeave, Left, MayJoin};
 
 use crate::laws::laws_of_the_core;
@@ -96,7 +96,7 @@ pub struct TakenIn<E> {
 }
 
 impl<E: Joining, S> Play<S, View> for TakenIn<E> {
-    ghost then = { λ step old found new. Passed old.0 (Joins E.past.number) found new.0 × (new.1 ≡ old.1) };
+    ghost then = { λ step old found new. Passed old.0 (Joins E.past.number) found new.0 × (new.1 ≡ old.1) × SeesAll E.past.number E.past.run new.0.run };
 }
 
 /// Pass 0 takes in the pass whose seat it has taken last.
@@ -112,6 +112,7 @@ pub(crate) fn join<E: Joining, S: Shown>(
     ensures seat { seat.new.id ≡ seat.old.id }
     ensures passed { Passed seat.old.me.0 (Joins E.past.number) result seat.new.me.0 }
     ensures slots { seat.new.me.1 ≡ seat.old.me.1 }
+    ensures behind { SeesAll E.past.number E.past.run seat.new.me.0.run }
 {
     laws_of_the_core();
     shared.load::<TakenIn<E>>(seat, 0)

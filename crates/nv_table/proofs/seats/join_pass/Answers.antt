@@ -1,9 +1,9 @@
 use Rattle.std.proofs.Common.{◌∙◌, sym, ap, subst, arith}
 use Rattle.nv_table.specs.Between.{PutsBack}
 use Rattle.nv_table.specs.Kept.{part_value, store_value, slot_value}
-use Rattle.nv_table.specs.Sights.{Sight, pass_of, slot_times}
+use Rattle.nv_table.specs.Sights.{SeesAll, Sight, pass_of, slot_times}
 use Rattle.nv_table.specs.States.{PassState}
-use Rattle.nv_table.proofs.BetweenLaws.{puts_number, none_shown, carries_none, few_taken, joined_pass, may_join, passed_in, is_taken_in}
+use Rattle.nv_table.proofs.BetweenLaws.{last_taken, puts_number, none_shown, carries_none, few_taken, joined_pass, may_join, passed_in, is_taken_in}
 use Rattle.nv_table.proofs.PassLaws.{same_places}
 use Rattle.nv_table.proofs.seats.join_pass.Goals as goal
 
@@ -52,5 +52,6 @@ returns g c =
           (subst (λ (p : PassState). PutsBack c.put_back.ensures.back.0 c.args.other.sight p.sight) (sym c.other.view_is) c.put_back.ensures.back.1)
           (c.join.ensures.table ∙ c.take_in.ensures.table)
           (c.join.ensures.slots ∙ ap (λ me. me.1) c.take_in.ensures.joined)
-          (passed_in c.pass.inside.seat.me.0 c.other.inside.seat.me.0 c.take_in.new.seat.me.0 c.join.new.seat.me.0 c.join.result (ap (λ me. me.0) c.take_in.ensures.joined) c.join.ensures.passed);
+          (passed_in c.pass.inside.seat.me.0 c.other.inside.seat.me.0 c.take_in.new.seat.me.0 c.join.new.seat.me.0 c.join.result (ap (λ me. me.0) c.take_in.ensures.joined) c.join.ensures.passed)
+          (subst (λ (v : Sight). SeesAll (last_taken v.ended).number (last_taken v.ended).run c.join.new.seat.me.0.run) (ap (λ me. me.0) c.take_in.ensures.joined) c.join.ensures.behind);
     }

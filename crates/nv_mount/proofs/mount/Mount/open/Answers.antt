@@ -2,7 +2,7 @@ use Rattle.std.proofs.Common.{◌+◌, ◌≤◌, length, map, refl, arith}
 use Rattle.std.proofs.lemmas.Grind.{common_steps}
 use Rattle.std.proofs.lemmas.List.{length-map}
 use Rattle.nv_table.specs.Begun.{begun_sizes}
-use Rattle.nv_mount.proofs.OpenLaws.{opens_files, opens_log}
+use Rattle.nv_mount.proofs.OpenLaws.{opens_files, opens_log, opens_region}
 use Rattle.nv_mount.proofs.mount.Mount.open.Goals as goal
 
 pub returns-in-Ok-new-clause-opened : goal.returns-in-Ok-new-clause-opened
@@ -23,6 +23,17 @@ returns-in-Ok-new-clause-log g c tell =
     let enough : 1 + sizes.entries ≤ length region.parts.items = omega (arith, region.is_region.parts.count, length-map region.parts.items g.L.Lines.room) in
     let states = c.rows_have_states.ensures.some (map g.L.Lines.history region.parts.items) tell in
     opens_log g.L.Lines.device g.L.Lines.history g.L.Lines.fault_count g.L.Lines.room g.B.Backing.device g.B.Backing.history g.B.Backing.fault_count
+    sizes region.next region.parts.items c.args.stores.items c.args.fds _ c.in-Ok-new.pass (returns-in-Ok-new-clause-opened g c) enough c.requires.stores
+    region.names refl c.requires.few_pages region.is_region g.met.L.Lines.told_lines c.rows_have_states.ensures.each states.states states.are
+    c.regions_at_rest_open.ensures c.requires.quiet
+
+pub returns-in-Ok-new-clause-region : goal.returns-in-Ok-new-clause-region
+returns-in-Ok-new-clause-region g c tell =
+    let region = c.args.region in
+    let sizes = begun_sizes region.geometry.page region.geometry.entries (length region.names) c.args.pages c.args.cache in
+    let enough : 1 + sizes.entries ≤ length region.parts.items = omega (arith, region.is_region.parts.count, length-map region.parts.items g.L.Lines.room) in
+    let states = c.rows_have_states.ensures.some (map g.L.Lines.history region.parts.items) tell in
+    opens_region g.L.Lines.device g.L.Lines.history g.L.Lines.fault_count g.L.Lines.room g.B.Backing.device g.B.Backing.history g.B.Backing.fault_count
     sizes region.next region.parts.items c.args.stores.items c.args.fds _ c.in-Ok-new.pass (returns-in-Ok-new-clause-opened g c) enough c.requires.stores
     region.names refl c.requires.few_pages region.is_region g.met.L.Lines.told_lines c.rows_have_states.ensures.each states.states states.are
     c.regions_at_rest_open.ensures c.requires.quiet
