@@ -361,3 +361,65 @@ module _ (Bars : Fault → Word → Type 0) (early : (fault : Fault) (cell : Wor
 
   pub barred_work : (sizes : Sizes) (by : ℕ) (core : Core) (work : Work) → MayWork sizes core.values (core.passes by) work → AreBarred core → AreBarred (after_work sizes by work core)
   barred_work sizes by core work may = barred_one core by (worked sizes work (core.passes by)) (values_worked (core.passes by) work core.values) refl (λ checked. (worked_checked sizes core.values (core.passes by) work may.due checked, refl, worked_lent sizes core.values (core.passes by) work (core.passes by).stage may.due))
+
+  -- ---- cells that two faults would bar
+
+  -- no two passes have faults that bar one cell
+  abbrev pub AreSole : Core → Type 0
+  AreSole core = (n m : ℕ) (cell : Word) (fault more : Fault) → IsOneOf (core.passes n).faulted fault → IsOneOf (core.passes m).faulted more → Bars fault cell → Bars more cell → n ≡ m
+
+  -- a fault after a step is one that its pass had, or that of the call which it ends
+  faulted_was : (sizes : Sizes) (by : ℕ) (core : Core) (deed : Deed) (found n : ℕ) (fault : Fault) → IsOneOf ((after_step sizes by deed found core).passes n).faulted fault
+      → IsOneOf (core.passes n).faulted fault ⊎ ((n ≡ by) × (deed ≡ Stops) × (fault ≡ fault_of (core.passes by)))
+  faulted_was sizes by core deed found n fault = by_number (λ n (p : Pass). IsOneOf p.faulted fault → IsOneOf (core.passes n).faulted fault ⊎ ((n ≡ by) × (deed ≡ Stops) × (fault ≡ fault_of (core.passes by))))
+      core.passes (changes by core.made deed) (changed sizes by core deed found) (here deed) (λ n ne is. inl is) n
+    where
+      here : (deed : Deed) → IsOneOf (changed sizes by core deed found).faulted fault
+          → IsOneOf (core.passes (changes by core.made deed)).faulted fault ⊎ ((changes by core.made deed ≡ by) × (deed ≡ Stops) × (fault ≡ fault_of (core.passes by)))
+      here Splits is = absurd is
+      here Stops is = elim is [ inl new ↦ inr (refl, refl, new) | inr old ↦ inl old ]
+      here deed is = inl is
+
+  -- a call that a fault ends holds its cells, and none that another fault bars
+  ends_sole : (sizes : Sizes) (first : Values) (by : ℕ) (core : Core) → Sound sizes first core → IsFailing (core.passes by).stage → ((cell : Word) → Bars (fault_of (core.passes by)) cell → times cell (core.passes by).hands ≡ 1) → AreBarred core
+      → (m : ℕ) (cell : Word) (fault more : Fault) → fault ≡ fault_of (core.passes by) → IsOneOf (core.passes m).faulted more → Bars fault cell → Bars more cell → by ≡ m
+  ends_sole sizes first by core sound fails holds was m cell fault more e is a b =
+      let one = holds cell (subst (λ f. Bars f cell) e a) in
+      let most = was m by cell more is b (failing_checked (core.passes by).stage fails) in
+      let none = lent_none (core.passes by).stage (fail_none (core.passes by).stage fails) cell in
+      absurd (omega (arith, one, most, none))
+    where
+      failing_checked : (stage : Stage) → IsFailing stage → HasChecked stage
+      failing_checked (ReadFailing page dirty) fails = tt
+      failing_checked (PieceFailing page next) fails = tt
+      failing_checked WriteFailing fails = tt
+      failing_checked stage fails = absurd fails
+
+  pub sole_step : (sizes : Sizes) (first : Values) (by : ℕ) (core : Core) (deed : Deed) (found : ℕ) → Sound sizes first core → MayFind sizes by core deed found
+      → (IsFailing (core.passes by).stage → (cell : Word) → Bars (fault_of (core.passes by)) cell → times cell (core.passes by).hands ≡ 1) → AreBarred core → AreSole core → AreSole (after_step sizes by deed found core)
+  sole_step sizes first by core deed found sound may holds was sole n m cell fault more is too a b = elim (faulted_was sizes by core deed found n fault is) [
+    | inl old ↦ elim (faulted_was sizes by core deed found m more too) [
+      | inl other ↦ sole n m cell fault more old other a b
+      | inr new ↦ let f = fails deed new.1 may in sym (new.0 ∙ ends_sole sizes first by core sound f (holds f) was n cell more fault new.2 old b a)
+    ]
+    | inr new ↦ elim (faulted_was sizes by core deed found m more too) [
+      | inl other ↦ let f = fails deed new.1 may in new.0 ∙ ends_sole sizes first by core sound f (holds f) was m cell fault more new.2 other a b
+      | inr also ↦ new.0 ∙ sym also.0
+    ]
+  ]
+    where
+      fails : (deed : Deed) → deed ≡ Stops → MayFind sizes by core deed found → IsFailing (core.passes by).stage
+      fails deed e may = (subst (λ d. MayFind sizes by core d found) e may).may
+
+  -- a pass with the same faults
+  sole_one : (core : Core) (by : ℕ) (pass : Pass) (values : Values) → pass.faulted ≡ (core.passes by).faulted → AreSole core → AreSole record core { values = values; passes = (λ n. if n == by then pass else core.passes n) }
+  sole_one core by pass values same sole n m cell fault more is too = sole n m cell fault more (had n fault is) (had m more too)
+    where
+      had : (n : ℕ) (fault : Fault) → IsOneOf (if n == by then pass else core.passes n).faulted fault → IsOneOf (core.passes n).faulted fault
+      had n fault = by_number (λ n (p : Pass). IsOneOf p.faulted fault → IsOneOf (core.passes n).faulted fault) core.passes by pass (λ is. subst (λ f. IsOneOf f fault) same is) (λ n ne is. is) n
+
+  pub sole_begin : (sizes : Sizes) (by : ℕ) (core : Core) (call : FileCall) → AreSole core → AreSole (after_begin sizes by call core)
+  sole_begin sizes by core call = sole_one core by (begun sizes call (core.passes by)) core.values refl
+
+  pub sole_work : (sizes : Sizes) (by : ℕ) (core : Core) (work : Work) → AreSole core → AreSole (after_work sizes by work core)
+  sole_work sizes by core work = sole_one core by (worked sizes work (core.passes by)) (values_worked (core.passes by) work core.values) refl

@@ -1,8 +1,8 @@
 -- Each event keeps what became of broken writes.
-use Rattle.std.proofs.Common.{◌≡◌, ◌≢◌, ℕ, ◌≤◌, ◌==◌, Bool, true, false, List, [], ◌∷◌, length, refl, sym, ap, subst, arith}
+use Rattle.std.proofs.Common.{◌≡◌, ◌≢◌, ℕ, ◌≤◌, ◌==◌, Bool, true, false, List, [], ◌∷◌, length, refl, sym, ap, subst, ◌∙◌, arith}
 use Rattle.std.proofs.lemmas.Bool.{true≢false}
 use Rattle.nv_plain.specs.declared.call.FileCall.{FileCall}
-use Rattle.nv_core.specs.Words.{Sizes, Word, STOP, STORE, ENTRY, PAGE, CLEANUP}
+use Rattle.nv_core.specs.Words.{Sizes, Word, STOP, STORE, ENTRY, PAGE, CLEANUP, index}
 use Rattle.nv_core.specs.Passes.{Stage, ReadFailing, WriteFailing, Fault, Pass, IsOneOf, times, PieceFailing}
 use Rattle.nv_core.specs.Deeds.{Deed, Loads, Stops, Splits, Leaves, Joins, Tends}
 use Rattle.nv_core.specs.Sweeps.{Looks, Halts}
@@ -17,7 +17,7 @@ use Rattle.nv_core.specs.Sound.{Sound}
 use Rattle.nv_core.proofs.Changes.{by_number, differ}
 use Rattle.nv_core.proofs.Choices.{if_both}
 use Rattle.nv_core.proofs.KeepsLoaded.{holds_page}
-use Rattle.nv_core.proofs.BarredLaws.{lent, IsTakenBefore, before, unstopped, found_open, first_unchecked, worked_checked, barred_step, barred_begin, barred_work}
+use Rattle.nv_core.proofs.BarredLaws.{lent, IsTakenBefore, before, unstopped, found_open, first_unchecked, worked_checked, AreSole, barred_step, barred_begin, barred_work, sole_step, sole_begin, sole_work}
 
 -- ---- the parts
 
@@ -86,6 +86,13 @@ early sizes fault cell is = subst IsTakenBefore (sym is.1) record { store = λ f
 were_barred : (sizes : Sizes) (core : Core) → Broken sizes core → (n m : ℕ) (cell : Word) (fault : Fault) → IsOneOf (core.passes n).faulted fault → Bars sizes fault cell → HasChecked (core.passes m).stage → times cell (core.passes m).hands ≤ lent (core.passes m).stage cell
 were_barred sizes core broken n m cell fault is at checked = subst (λ c. times c (core.passes m).hands ≤ lent (core.passes m).stage c) (sym at.1) (broken.pages n m at.0 fault is at.2 checked)
 
+were_sole : (sizes : Sizes) (core : Core) → Broken sizes core → AreSole (Bars sizes) (early sizes) core
+were_sole sizes core broken n m cell fault more is too a b = broken.one n m a.0 fault more is too a.2 (subst (IsPage sizes more.call) (sym (ap index (sym a.1 ∙ b.1))) b.2)
+
+pages_once : (sizes : Sizes) (core : Core) → AreSole (Bars sizes) (early sizes) core → (n m page : ℕ) (fault more : Fault) → IsOneOf (core.passes n).faulted fault → IsOneOf (core.passes m).faulted more
+    → IsPage sizes fault.call page → IsPage sizes more.call page → n ≡ m
+pages_once sizes core sole n m page fault more is too a b = sole n m (PAGE page) fault more is too (page, refl, a) (page, refl, b)
+
 pub broken_step : (sizes : Sizes) (first : Values) (by : ℕ) (core : Core) (deed : Deed) (found : ℕ) → Sound sizes first core → Broken sizes core → MayFind sizes by core deed found → Broken sizes (after_step sizes by deed found core)
 broken_step sizes first by core deed found sound broken may = record {
   stopped = by_number (λ n (p : Pass). p.faulted ≢ [] → p.stopped ≡ true) core.passes who now (stopped_here sizes by core found deed broken) (λ n ne. broken.stopped n);
@@ -94,6 +101,9 @@ broken_step sizes first by core deed found sound broken may = record {
   pages = λ n m page fault is at. barred_step (Bars sizes) (early sizes) sizes first by core deed found sound may
       (λ fails cell own. subst (λ c. times c (core.passes by).hands ≡ 1) (sym own.1) (failing_page sizes (core.passes by) own.0 (core.passes by).stage fails (sound.holding by).locks own.2))
       (were_barred sizes core broken) n m (PAGE page) fault is (page, refl, at);
+  one = pages_once sizes (after_step sizes by deed found core) (sole_step (Bars sizes) (early sizes) sizes first by core deed found sound may
+      (λ fails cell own. subst (λ c. times c (core.passes by).hands ≡ 1) (sym own.1) (failing_page sizes (core.passes by) own.0 (core.passes by).stage fails (sound.holding by).locks own.2))
+      (were_barred sizes core broken) (were_sole sizes core broken));
 }
   where
     who : ℕ
@@ -110,6 +120,7 @@ broken_begin sizes first by core call sound broken may = record {
   once = by_number (λ n (p : Pass). length p.faulted ≤ 1) core.passes by (begun sizes call (core.passes by)) (broken.once by) (λ n ne. broken.once n);
   passed = by_number (λ n (p : Pass). HasChecked p.stage → p.faulted ≡ []) core.passes by (begun sizes call (core.passes by)) (λ is. absurd (first_unchecked sizes call is)) (λ n ne. broken.passed n);
   pages = λ n m page fault is at. barred_begin (Bars sizes) (early sizes) sizes by core call (were_barred sizes core broken) n m (PAGE page) fault is (page, refl, at);
+  one = pages_once sizes (after_begin sizes by call core) (sole_begin (Bars sizes) (early sizes) sizes by core call (were_sole sizes core broken));
 }
 
 pub broken_work : (sizes : Sizes) (first : Values) (by : ℕ) (core : Core) (work : Work) → Sound sizes first core → Broken sizes core → MayWork sizes core.values (core.passes by) work → Broken sizes (after_work sizes by work core)
@@ -118,4 +129,5 @@ broken_work sizes first by core work sound broken may = record {
   once = by_number (λ n (p : Pass). length p.faulted ≤ 1) core.passes by (worked sizes work (core.passes by)) (broken.once by) (λ n ne. broken.once n);
   passed = by_number (λ n (p : Pass). HasChecked p.stage → p.faulted ≡ []) core.passes by (worked sizes work (core.passes by)) (λ is. broken.passed by (worked_checked sizes core.values (core.passes by) work may.due is)) (λ n ne. broken.passed n);
   pages = λ n m page fault is at. barred_work (Bars sizes) (early sizes) sizes by core work may (were_barred sizes core broken) n m (PAGE page) fault is (page, refl, at);
+  one = pages_once sizes (after_work sizes by work core) (sole_work (Bars sizes) (early sizes) sizes by core work (were_sole sizes core broken));
 }

@@ -1,9 +1,9 @@
 -- Each event keeps what became of the lengths of broken writes.
-use Rattle.std.proofs.Common.{◌≡◌, ℕ, ◌+◌, ◌≤◌, nat_lt, true, refl, sym, subst, arith}
+use Rattle.std.proofs.Common.{◌≡◌, ℕ, ◌+◌, ◌≤◌, nat_lt, true, refl, sym, ap, subst, ◌∙◌, arith}
 use Rattle.std.proofs.lemmas.Bool.{and_from, lt-ltb, true≢false}
 use Rattle.nv_plain.specs.declared.call.FileCall.{FileCall}
 use Rattle.nv_plain.specs.declared.call.FileCall.TheVariants.{Read, Write, Sync}
-use Rattle.nv_core.specs.Words.{Sizes, Word, SIZE, STORE, ENTRY, CLEANUP}
+use Rattle.nv_core.specs.Words.{Sizes, Word, SIZE, STORE, ENTRY, CLEANUP, index}
 use Rattle.nv_core.specs.Passes.{Fault, Stage, ReadFailing, WriteFailing, IsOneOf, file_of, at_of, len_of, is_write, times, PieceFailing}
 use Rattle.nv_core.specs.Deeds.{Deed}
 use Rattle.nv_core.specs.Stepped.{fault_of}
@@ -16,7 +16,7 @@ use Rattle.nv_core.specs.Loaded.{HasMeasured}
 use Rattle.nv_core.specs.Sound.{Sound}
 use Rattle.nv_core.proofs.Changes.{differ}
 use Rattle.nv_core.proofs.KeepsLoaded.{holds_size}
-use Rattle.nv_core.proofs.BarredLaws.{lent, IsTakenBefore, barred_step, barred_begin, barred_work}
+use Rattle.nv_core.proofs.BarredLaws.{lent, IsTakenBefore, AreSole, barred_step, barred_begin, barred_work, sole_step, sole_begin, sole_work}
 
 -- the SIZE of its file, which the fault of an extending write bars
 abbrev Bars : Fault → Word → Type 0
@@ -31,7 +31,6 @@ were_barred core was n m cell fault is at checked = subst (λ c. times c (core.p
 none : (count : ℕ) → count ≤ 0 → count ≡ 0
 none count least = omega arith
 
--- a pass whose extending write fails holds SIZE
 some_bytes : (call : FileCall) → is_write call ≡ true → nat_lt 0 (len_of call) ≡ true
 some_bytes (Write file at bytes) write = write
 some_bytes (Read file at len) write = absurd (true≢false (sym write))
@@ -43,23 +42,38 @@ failing_measured (PieceFailing page next) fails = tt
 failing_measured WriteFailing fails = tt
 failing_measured stage fails = absurd fails
 
-failing_size : (sizes : Sizes) (first : Values) (core : Core) (by : ℕ) → Sound sizes first core → IsFailing (core.passes by).stage → IsExtending (fault_of (core.passes by)) → times (SIZE (file_of (core.passes by).call)) (core.passes by).hands ≡ 1
-failing_size sizes first core by sound fails extends =
-    let measured = failing_measured (core.passes by).stage fails in
+-- a pass whose write makes its file longer holds SIZE, once it has measured
+pub extending_size : (sizes : Sizes) (first : Values) (core : Core) (by : ℕ) → Sound sizes first core → HasMeasured (core.passes by).stage → IsExtending (fault_of (core.passes by)) → times (SIZE (file_of (core.passes by).call)) (core.passes by).hands ≡ 1
+extending_size sizes first core by sound measured extends =
     let end = at_of (core.passes by).call + len_of (core.passes by).call in
     holds_size sizes (core.passes by) (core.passes by).stage measured (sound.holding by).locks
     (sound.loaded.sized by measured (and_from (nat_lt 0 (len_of (core.passes by).call)) (nat_lt (core.passes by).length end)
     (some_bytes (core.passes by).call extends.0) (lt-ltb (core.passes by).length end extends.1)))
+
+failing_size : (sizes : Sizes) (first : Values) (core : Core) (by : ℕ) → Sound sizes first core → IsFailing (core.passes by).stage → IsExtending (fault_of (core.passes by)) → times (SIZE (file_of (core.passes by).call)) (core.passes by).hands ≡ 1
+failing_size sizes first core by sound fails = extending_size sizes first core by sound (failing_measured (core.passes by).stage fails)
+
+were_sole : (core : Core) → BrokenLengths core → AreSole Bars early core
+were_sole core was n m cell fault more is too a b = was.one n m fault more is too a.1 b.1 (size_file (sym a.0 ∙ b.0))
+  where
+    size_file : {one other : ℕ} → SIZE one ≡ SIZE other → one ≡ other
+    size_file e = ap index e
+
+sizes_once : (core : Core) → AreSole Bars early core → (n m : ℕ) (fault more : Fault) → IsOneOf (core.passes n).faulted fault → IsOneOf (core.passes m).faulted more → IsExtending fault → IsExtending more → file_of fault.call ≡ file_of more.call → n ≡ m
+sizes_once core sole n m fault more is too a b same = sole n m (SIZE (file_of fault.call)) fault more is too (refl, a) (ap SIZE same, b)
 
 pub broken_lengths_step : (sizes : Sizes) (first : Values) (by : ℕ) (core : Core) (deed : Deed) (found : ℕ) → Sound sizes first core → MayFind sizes by core deed found → BrokenLengths (after_step sizes by deed found core)
 broken_lengths_step sizes first by core deed found sound may = record {
   files = λ n m fault is at checked. none _ (barred_step Bars early sizes first by core deed found sound may
       (λ fails cell own. subst (λ c. times c (core.passes by).hands ≡ 1) (sym own.0) (failing_size sizes first core by sound fails own.1))
       (were_barred core sound.broken_lengths) n m (SIZE (file_of fault.call)) fault is (refl, at) checked);
+  one = sizes_once (after_step sizes by deed found core) (sole_step Bars early sizes first by core deed found sound may
+      (λ fails cell own. subst (λ c. times c (core.passes by).hands ≡ 1) (sym own.0) (failing_size sizes first core by sound fails own.1))
+      (were_barred core sound.broken_lengths) (were_sole core sound.broken_lengths));
 }
 
 pub broken_lengths_begin : (sizes : Sizes) (by : ℕ) (core : Core) (call : FileCall) → BrokenLengths core → BrokenLengths (after_begin sizes by call core)
-broken_lengths_begin sizes by core call was = record { files = λ n m fault is at checked. none _ (barred_begin Bars early sizes by core call (were_barred core was) n m (SIZE (file_of fault.call)) fault is (refl, at) checked) }
+broken_lengths_begin sizes by core call was = record { files = λ n m fault is at checked. none _ (barred_begin Bars early sizes by core call (were_barred core was) n m (SIZE (file_of fault.call)) fault is (refl, at) checked); one = sizes_once (after_begin sizes by call core) (sole_begin Bars early sizes by core call (were_sole core was)) }
 
 pub broken_lengths_work : (sizes : Sizes) (by : ℕ) (core : Core) (work : Work) → BrokenLengths core → MayWork sizes core.values (core.passes by) work → BrokenLengths (after_work sizes by work core)
-broken_lengths_work sizes by core work was may = record { files = λ n m fault is at checked. none _ (barred_work Bars early sizes by core work may (were_barred core was) n m (SIZE (file_of fault.call)) fault is (refl, at) checked) }
+broken_lengths_work sizes by core work was may = record { files = λ n m fault is at checked. none _ (barred_work Bars early sizes by core work may (were_barred core was) n m (SIZE (file_of fault.call)) fault is (refl, at) checked); one = sizes_once (after_work sizes by work core) (sole_work Bars early sizes by core work (were_sole core was)) }

@@ -98,6 +98,33 @@ flying_is pass (Readying number) is = tt
 flying_is pass Placing is = tt
 flying_is pass stage is = absurd is
 
+-- a write that a fault is about to end: its first number is in the window, its own, and was never made ready
+module _ (sizes : Sizes) (first : Values) (log : Log) (by : ℕ) (core : Core) (sound : Sound sizes first core) (groups : Groups sizes core log) (at : (core.passes by).stage ≡ WriteFailing) where
+  pub failing_drawn : HasDrawn sizes (core.passes by).call (core.passes by).entries
+  failing_drawn = subst (StandsAt sizes (core.passes by)) at (sound.standing by).at
+
+  failing_among : IsAmong (core.passes by).first (core.passes by).entries (core.passes by).first
+  failing_among = let s = failing_drawn.some in (omega arith, omega (arith, s))
+
+  failing_fill : Fills (core.passes by) (core.passes by).first
+  failing_fill = subst (λ s. IsFilling s (core.passes by).first (core.passes by).entries (core.passes by).first) (sym at) failing_among
+
+  failing_within : InWindow core (core.passes by).first
+  failing_within = sound.window.filling_in by (core.passes by).first failing_fill
+
+  pub failing_own : IsOwn core log (core.passes by) (core.passes by).first
+  failing_own = groups.own by (subst HasGroup (sym at) tt) (core.passes by).first failing_among
+
+  pub failing_unready : IsUnready sizes log core (core.passes by).first
+  failing_unready =
+      let f = sound.window.filling_is by (core.passes by).first failing_fill in
+      record {
+        within = failing_within;
+        leads = ap (λ g. g.first) failing_own.group;
+        unready = λ kind. let z : was_readied (entry_at sizes core (core.passes by).first) ≡ false = ap was_readied f in not_both kind z;
+        unfreed = λ n freed. let z = sound.window.freed_is n (core.passes by).first freed in omega (arith, f, z);
+      }
+
 stopped_fault : (sizes : Sizes) (first : Values) (log : Log) (placed : ℕ → Bool) (by : ℕ) (core : Core) (found : ℕ) → Sound sizes first core → Groups sizes core log → InFlight sizes log placed core → Unready sizes log placed core → Faults sizes log placed core → MayFind sizes by core Stops found
     → (fault : Fault) → IsOneOf (changed sizes by core Stops found).faulted fault → is_write fault.call ≡ true → IsOneOf (core.passes by).faulted fault ⊎ IsRecorded sizes log placed (after_step sizes by Stops found core) fault
 stopped_fault sizes first log placed by core found sound groups flight unready faults may fault (inr old) w = inl old
@@ -109,12 +136,12 @@ stopped_fault sizes first log placed by core found sound groups flight unready f
   other = by_number (λ n (p : Pass). IsFlying p p.stage → p.first ≢ (core.passes by).first) core.passes by (changed sizes by core Stops found)
       (λ is. absurd (still (flew sizes core.values (core.passes by) found Stops refl may.may (flying_as (core.passes by) (changed sizes by core Stops found) (changed sizes by core Stops found).stage refl is))))
       (λ n ne is same. ne (
-        let theirs = flight.own n is (core.passes n).first (let s = (flight.drawn n is).some in (omega arith, omega (arith, s))) in
-        let g : group_of (core.passes n) ≡ group_of (core.passes by) = sym theirs.group ∙ ap log.group same ∙ own.group in
-        let s = drawn.some in let m = drawn.many in
-        let on : IsPage sizes (core.passes by).call (first_page sizes (core.passes by).call) = (omega arith, omega (arith, s, m)) in
-        no_two_writes_of_a_page sizes first core n by (first_page sizes (core.passes by).call) sound (flying_is (core.passes n) (core.passes n).stage is) (subst IsInFlight (sym at) tt)
-        (subst (λ c. IsPage sizes c (first_page sizes (core.passes by).call)) (sym (ap (λ g. g.call) g)) on) on));
+      let theirs = flight.own n is (core.passes n).first (let s = (flight.drawn n is).some in (omega arith, omega (arith, s))) in
+      let g : group_of (core.passes n) ≡ group_of (core.passes by) = sym theirs.group ∙ ap log.group same ∙ own.group in
+      let s = drawn.some in let m = drawn.many in
+      let on : IsPage sizes (core.passes by).call (first_page sizes (core.passes by).call) = (omega arith, omega (arith, s, m)) in
+      no_two_writes_of_a_page sizes first core n by (first_page sizes (core.passes by).call) sound (flying_is (core.passes n) (core.passes n).stage is) (subst IsInFlight (sym at) tt)
+      (subst (λ c. IsPage sizes c (first_page sizes (core.passes by).call)) (sym (ap (λ g. g.call) g)) on) on));
 })
   where
     write : is_write (core.passes by).call ≡ true
@@ -127,25 +154,16 @@ stopped_fault sizes first log placed by core found sound groups flight unready f
     still is = subst (IsFlying (core.passes by)) at is
 
     drawn : HasDrawn sizes (core.passes by).call (core.passes by).entries
-    drawn = subst (StandsAt sizes (core.passes by)) at (sound.standing by).at
-
-    among : IsAmong (core.passes by).first (core.passes by).entries (core.passes by).first
-    among = let s = drawn.some in (omega arith, omega (arith, s))
-
-    fill : Fills (core.passes by) (core.passes by).first
-    fill = subst (λ s. IsFilling s (core.passes by).first (core.passes by).entries (core.passes by).first) (sym at) among
-
-    within : InWindow core (core.passes by).first
-    within = sound.window.filling_in by (core.passes by).first fill
-
-    fills : entry_at sizes core (core.passes by).first ≡ filling
-    fills = sound.window.filling_is by (core.passes by).first fill
-
-    own : IsOwn core log (core.passes by) (core.passes by).first
-    own = groups.own by (subst HasGroup (sym at) tt) (core.passes by).first among
+    drawn = failing_drawn sizes first log by core sound groups at
 
     was : IsUnready sizes log core (core.passes by).first
-    was = record { within = within; leads = ap (λ g. g.first) own.group; unready = λ kind. let f = fills in let z : was_readied (entry_at sizes core (core.passes by).first) ≡ false = ap was_readied f in not_both kind z; unfreed = λ n freed. let f = fills in let z = sound.window.freed_is n (core.passes by).first freed in omega (arith, f, z) }
+    was = failing_unready sizes first log by core sound groups at
+
+    within : InWindow core (core.passes by).first
+    within = was.within
+
+    own : IsOwn core log (core.passes by) (core.passes by).first
+    own = failing_own sizes first log by core sound groups at
 
 -- a leader that is made ready is not a fault's
 not_its : (sizes : Sizes) (first : Values) (log : Log) (placed : ℕ → Bool) (by : ℕ) (core : Core) (found next : ℕ) → Sound sizes first core → Groups sizes core log → MayFind sizes by core (Readies next) found → (fault : Fault) → IsRecorded sizes log placed core fault → Readies next ≢ Readies fault.first
@@ -196,30 +214,32 @@ drawn_faults sizes first log placed by core found sound faults may = go (found =
     old n less = when_false (is_among found (found + page_count sizes (core.passes by).call) n) group (log.group n) (among_below found (found + page_count sizes (core.passes by).call) n (let f = may.is in omega (arith, less, f)))
 
     all : (next_log : Log) (next : ℕ → Bool) → ((fault : Fault) → IsRecorded sizes log placed core fault → IsRecorded sizes next_log next now fault) → Faults sizes next_log next now
-    all next_log next each = record { each = by_number (λ n (p : Pass). (fault : Fault) → IsOneOf p.faulted fault → is_write fault.call ≡ true → IsRecorded sizes next_log next now fault) core.passes by (changed sizes by core Draws found)
-        (λ fault is w. each fault (faults.each by fault is w)) (λ n ne fault is w. each fault (faults.each n fault is w)) }
+    all next_log next each = record {
+      each = by_number (λ n (p : Pass). (fault : Fault) → IsOneOf p.faulted fault → is_write fault.call ≡ true → IsRecorded sizes next_log next now fault) core.passes by (changed sizes by core Draws found)
+          (λ fault is w. each fault (faults.each by fault is w)) (λ n ne fault is w. each fault (faults.each n fault is w));
+    }
 
     go : (b : Bool) → (found == (core.passes by).head) ≡ b → Faults sizes (log_stepped sizes (core.passes by) Draws found log) (placed_stepped (core.passes by) Draws found placed) now
     go false e = subst (λ l. Faults sizes l (placed_stepped (core.passes by) Draws found placed) now) (sym (when_false (found == (core.passes by).head) (with_group group log) log e))
         (subst (λ p. Faults sizes log p now) (sym (when_false (found == (core.passes by).head) (with_number placed found false) placed e))
         (all log placed (record_kept sizes log log placed placed core now
-          (let h = word_here core.words HEAD (if found == (core.passes by).head then found + page_count sizes (core.passes by).call else found) ∙ when_false (found == (core.passes by).head) (found + page_count sizes (core.passes by).call) found e in let f = may.is in omega (arith, h, f))
-          (λ fault is. unready_on sizes first log placed by core Draws found sound faults may fault.first is.unready is.unready.within.0 (let h = word_here core.words HEAD (if found == (core.passes by).head then found + page_count sizes (core.passes by).call else found) ∙ when_false (found == (core.passes by).head) (found + page_count sizes (core.passes by).call) found e in let f = may.is in let b = is.below in omega (arith, h, f, b)) (not_made Draws refl fault.first))
-          (λ n less. refl) (λ fault is. is.unplaced)
-          (by_number (λ n (p : Pass). IsFlying p p.stage → (fault : Fault) → IsRecorded sizes log placed core fault → p.first ≢ fault.first) core.passes by (changed sizes by core Draws found)
-            (λ flies. absurd (subst (λ s. IsFlying (changed sizes by core Draws found) s → ⊥) (sym (when_false (found == (core.passes by).head) (Seizing found) (leaving (core.passes by).hands) e)) (not_leaving (changed sizes by core Draws found) (core.passes by).hands) flies))
-            (λ n ne flies fault is. is.other n flies)))))
+        (let h = word_here core.words HEAD (if found == (core.passes by).head then found + page_count sizes (core.passes by).call else found) ∙ when_false (found == (core.passes by).head) (found + page_count sizes (core.passes by).call) found e in let f = may.is in omega (arith, h, f))
+        (λ fault is. unready_on sizes first log placed by core Draws found sound faults may fault.first is.unready is.unready.within.0 (let h = word_here core.words HEAD (if found == (core.passes by).head then found + page_count sizes (core.passes by).call else found) ∙ when_false (found == (core.passes by).head) (found + page_count sizes (core.passes by).call) found e in let f = may.is in let b = is.below in omega (arith, h, f, b)) (not_made Draws refl fault.first))
+        (λ n less. refl) (λ fault is. is.unplaced)
+        (by_number (λ n (p : Pass). IsFlying p p.stage → (fault : Fault) → IsRecorded sizes log placed core fault → p.first ≢ fault.first) core.passes by (changed sizes by core Draws found)
+        (λ flies. absurd (subst (λ s. IsFlying (changed sizes by core Draws found) s → ⊥) (sym (when_false (found == (core.passes by).head) (Seizing found) (leaving (core.passes by).hands) e)) (not_leaving (changed sizes by core Draws found) (core.passes by).hands) flies))
+        (λ n ne flies fault is. is.other n flies)))))
     go true e = subst (λ l. Faults sizes l (placed_stepped (core.passes by) Draws found placed) now) (sym (when_true (found == (core.passes by).head) (with_group group log) log e))
         (subst (λ p. Faults sizes (with_group group log) p now) (sym (when_true (found == (core.passes by).head) (with_number placed found false) placed e))
         (all (with_group group log) (with_number placed found false) (record_kept sizes log (with_group group log) placed (with_number placed found false) core now
-          (let h = word_here core.words HEAD (if found == (core.passes by).head then found + page_count sizes (core.passes by).call else found) ∙ when_true (found == (core.passes by).head) (found + page_count sizes (core.passes by).call) found e in let f = may.is in omega (arith, h, f))
-          (λ fault is. let on = unready_on sizes first log placed by core Draws found sound faults may fault.first is.unready is.unready.within.0 (let h = word_here core.words HEAD (if found == (core.passes by).head then found + page_count sizes (core.passes by).call else found) ∙ when_true (found == (core.passes by).head) (found + page_count sizes (core.passes by).call) found e in let f = may.is in let b = is.below in omega (arith, h, f, b)) (not_made Draws refl fault.first) in
-            record { within = on.within; leads = ap (λ g. g.first) (old fault.first is.below) ∙ on.leads; unready = on.unready; unfreed = on.unfreed })
-          (λ n less. when_false (is_among found (found + page_count sizes (core.passes by).call) n) group (log.group n) (among_below found (found + page_count sizes (core.passes by).call) n (let f = may.is in omega (arith, less, f))))
-          (λ fault is. number_else placed found false fault.first (λ same. let l = is.below in let f = may.is in omega (arith, same, l, f)) ∙ is.unplaced)
-          (by_number (λ n (p : Pass). IsFlying p p.stage → (fault : Fault) → IsRecorded sizes log placed core fault → p.first ≢ fault.first) core.passes by (changed sizes by core Draws found)
-            (λ flies fault is same. let from : (changed sizes by core Draws found).first ≡ found = when_true (found == (core.passes by).head) found (core.passes by).first e in let l = is.below in let f = may.is in omega (arith, from, same, l, f))
-            (λ n ne flies fault is. is.other n flies)))))
+        (let h = word_here core.words HEAD (if found == (core.passes by).head then found + page_count sizes (core.passes by).call else found) ∙ when_true (found == (core.passes by).head) (found + page_count sizes (core.passes by).call) found e in let f = may.is in omega (arith, h, f))
+        (λ fault is. let on = unready_on sizes first log placed by core Draws found sound faults may fault.first is.unready is.unready.within.0 (let h = word_here core.words HEAD (if found == (core.passes by).head then found + page_count sizes (core.passes by).call else found) ∙ when_true (found == (core.passes by).head) (found + page_count sizes (core.passes by).call) found e in let f = may.is in let b = is.below in omega (arith, h, f, b)) (not_made Draws refl fault.first) in
+        record { within = on.within; leads = ap (λ g. g.first) (old fault.first is.below) ∙ on.leads; unready = on.unready; unfreed = on.unfreed })
+        (λ n less. when_false (is_among found (found + page_count sizes (core.passes by).call) n) group (log.group n) (among_below found (found + page_count sizes (core.passes by).call) n (let f = may.is in omega (arith, less, f))))
+        (λ fault is. number_else placed found false fault.first (λ same. let l = is.below in let f = may.is in omega (arith, same, l, f)) ∙ is.unplaced)
+        (by_number (λ n (p : Pass). IsFlying p p.stage → (fault : Fault) → IsRecorded sizes log placed core fault → p.first ≢ fault.first) core.passes by (changed sizes by core Draws found)
+        (λ flies fault is same. let from : (changed sizes by core Draws found).first ≡ found = when_true (found == (core.passes by).head) found (core.passes by).first e in let l = is.below in let f = may.is in omega (arith, from, same, l, f))
+        (λ n ne flies fault is. is.other n flies)))))
 
 -- ---- all steps
 

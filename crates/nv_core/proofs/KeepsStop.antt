@@ -30,6 +30,7 @@ use Rattle.nv_core.proofs.KeepsProgress.{IsCall, step_call}
 use Rattle.nv_core.proofs.SweepDeeds.{IsTending, tending}
 use Rattle.nv_core.proofs.SweepLands.{IsLanding, tended_lands}
 use Rattle.nv_core.proofs.SweepStages.{swept_worked}
+use Rattle.nv_core.proofs.WorkWords.{worked_word}
 
 -- ---- no step leads to a fault
 
@@ -93,8 +94,8 @@ rose_from before was now low rose = record { never_falls = le_trans low rose.nev
     least : (before was : ℕ) → before ≤ was → (most : ℕ) → min (before + 1) most ≤ min (was + 1) most
     least before was low most = omega arith
 
-failed_on : (first old new : Values) → ((cell : Word) → faults_of (old cell) ≤ faults_of (new cell)) → HasFailed first old → HasFailed first new
-failed_on first old new up failed = record { cell = failed.cell; rose = rose_on (faults_of (first failed.cell)) (faults_of (old failed.cell)) (faults_of (new failed.cell)) failed.rose (up failed.cell) }
+failed_on : (sizes : Sizes) (first old new : Values) → ((cell : Word) → faults_of (old cell) ≤ faults_of (new cell)) → HasFailed sizes first old → HasFailed sizes first new
+failed_on sizes first old new up failed = record { cell = failed.cell; there = failed.there; rose = rose_on (faults_of (first failed.cell)) (faults_of (old failed.cell)) (faults_of (new failed.cell)) failed.rose (up failed.cell) }
 
 -- ---- a step
 
@@ -102,7 +103,7 @@ same_faults : (sizes : Sizes) (pass : Pass) (deed : Deed) (values : Values) (cel
 same_faults sizes pass deed values cell = let e = steady_stepped faults_of faults_steady faults_robbed sizes pass deed values cell in omega (arith, e)
 
 -- the pass that a step changes
-stop_fails : (sizes : Sizes) (first : Values) (by : ℕ) (core : Core) (found : ℕ) (deed : Deed) → MayDo sizes by core deed → Sound sizes first core → IsFailing (changed sizes by core deed found).stage → HasFailed first core.values
+stop_fails : (sizes : Sizes) (first : Values) (by : ℕ) (core : Core) (found : ℕ) (deed : Deed) → MayDo sizes by core deed → Sound sizes first core → IsFailing (changed sizes by core deed found).stage → HasFailed sizes first core.values
 stop_fails sizes first by core found Splits may sound is = absurd is
 stop_fails sizes first by core found (Leaves cell) may sound is = sound.stop.failing by is
 stop_fails sizes first by core found (Joins number) may sound is = sound.stop.failing by is
@@ -136,23 +137,23 @@ stop_stays sizes first by core found Splits may sound other is = inherits (λ p.
     (λ one two a b both. elim (or_cases one.stopped two.stopped both) [ inl x ↦ a x | inr y ↦ b y ]) sound.stop.stays (λ p is. is) is
 stop_stays sizes first by core found deed may sound other is = sound.stop.stays by is
 
-on : (sizes : Sizes) (first : Values) (by : ℕ) (core : Core) (deed : Deed) → HasFailed first core.values → HasFailed first (values_stepped sizes (core.passes by) deed core.values)
-on sizes first by core deed = failed_on first core.values (values_stepped sizes (core.passes by) deed core.values) (same_faults sizes (core.passes by) deed core.values)
+on : (sizes : Sizes) (first : Values) (by : ℕ) (core : Core) (deed : Deed) → HasFailed sizes first core.values → HasFailed sizes first (values_stepped sizes (core.passes by) deed core.values)
+on sizes first by core deed = failed_on sizes first core.values (values_stepped sizes (core.passes by) deed core.values) (same_faults sizes (core.passes by) deed core.values)
 
 fails_now : (sizes : Sizes) (first : Values) (by : ℕ) (core : Core) (deed : Deed) (found : ℕ) → Sound sizes first core → MayFind sizes by core deed found
-    → (n : ℕ) → IsFailing ((after_step sizes by deed found core).passes n).stage → HasFailed first (values_stepped sizes (core.passes by) deed core.values)
-fails_now sizes first by core deed found sound may = by_number (λ n (p : Pass). IsFailing p.stage → HasFailed first (values_stepped sizes (core.passes by) deed core.values)) core.passes (changes by core.made deed) (changed sizes by core deed found)
+    → (n : ℕ) → IsFailing ((after_step sizes by deed found core).passes n).stage → HasFailed sizes first (values_stepped sizes (core.passes by) deed core.values)
+fails_now sizes first by core deed found sound may = by_number (λ n (p : Pass). IsFailing p.stage → HasFailed sizes first (values_stepped sizes (core.passes by) deed core.values)) core.passes (changes by core.made deed) (changed sizes by core deed found)
     (λ is. on sizes first by core deed (stop_fails sizes first by core found deed may.may sound is)) (λ n ne is. on sizes first by core deed (sound.stop.failing n is))
 
-stop_halts : (sizes : Sizes) (first : Values) (by : ℕ) (core : Core) (found : ℕ) (deed : Deed) → MayDo sizes by core deed → Sound sizes first core → IsHalting (changed sizes by core deed found).stage → HasFailed first core.values
+stop_halts : (sizes : Sizes) (first : Values) (by : ℕ) (core : Core) (found : ℕ) (deed : Deed) → MayDo sizes by core deed → Sound sizes first core → IsHalting (changed sizes by core deed found).stage → HasFailed sizes first core.values
 stop_halts sizes first by core found Splits may sound is = absurd is
 stop_halts sizes first by core found (Leaves cell) may sound is = sound.stop.halting by is
 stop_halts sizes first by core found (Joins number) may sound is = sound.stop.halting by is
 stop_halts sizes first by core found deed may sound is = absurd (none_halts sizes core.values (core.passes by) found deed may is)
 
 halts_now : (sizes : Sizes) (first : Values) (by : ℕ) (core : Core) (deed : Deed) (found : ℕ) → Sound sizes first core → MayFind sizes by core deed found
-    → (n : ℕ) → IsHalting ((after_step sizes by deed found core).passes n).stage → HasFailed first (values_stepped sizes (core.passes by) deed core.values)
-halts_now sizes first by core deed found sound may = by_number (λ n (p : Pass). IsHalting p.stage → HasFailed first (values_stepped sizes (core.passes by) deed core.values)) core.passes (changes by core.made deed) (changed sizes by core deed found)
+    → (n : ℕ) → IsHalting ((after_step sizes by deed found core).passes n).stage → HasFailed sizes first (values_stepped sizes (core.passes by) deed core.values)
+halts_now sizes first by core deed found sound may = by_number (λ n (p : Pass). IsHalting p.stage → HasFailed sizes first (values_stepped sizes (core.passes by) deed core.values)) core.passes (changes by core.made deed) (changed sizes by core deed found)
     (λ is. on sizes first by core deed (stop_halts sizes first by core found deed may.may sound is)) (λ n ne is. on sizes first by core deed (sound.stop.halting n is))
 
 up : (sizes : Sizes) (first : Values) (by : ℕ) (core : Core) (deed : Deed) → Sound sizes first core → (cell : Word) → faults_of (first cell) ≤ faults_of (values_stepped sizes (core.passes by) deed core.values cell)
@@ -191,7 +192,7 @@ known_on sizes by core deed found n low is = by_number (λ n (p : Pass). n ≤ c
     here deed low is = keeps_stopped (core.passes by) deed found is
 
 -- a step that leaves STOP
-stop_else : (sizes : Sizes) (first : Values) (by : ℕ) (core : Core) (deed : Deed) (found : ℕ) → Sound sizes first core → MayFind sizes by core deed found → touches deed STOP ≡ false → Stop first (after_step sizes by deed found core)
+stop_else : (sizes : Sizes) (first : Values) (by : ℕ) (core : Core) (deed : Deed) (found : ℕ) → Sound sizes first core → MayFind sizes by core deed found → touches deed STOP ≡ false → Stop sizes first (after_step sizes by deed found core)
 stop_else sizes first by core deed found sound may other =
     let same = untouched sizes by core deed found may STOP other in
     record {
@@ -205,7 +206,7 @@ stop_else sizes first by core deed found sound may other =
       known = λ is. let k = sound.stop.known (sym same ∙ is) in (k.0, le_trans k.1 (still_made deed core.made), known_on sizes by core deed found k.0 k.1 k.2);
     }
 
-pub stop_step : (sizes : Sizes) (first : Values) (by : ℕ) (core : Core) (deed : Deed) (found : ℕ) → Sound sizes first core → by ≤ core.made → MayFind sizes by core deed found → Stop first (after_step sizes by deed found core)
+pub stop_step : (sizes : Sizes) (first : Values) (by : ℕ) (core : Core) (deed : Deed) (found : ℕ) → Sound sizes first core → by ≤ core.made → MayFind sizes by core deed found → Stop sizes first (after_step sizes by deed found core)
 stop_step sizes first by core Stops found sound made may = record {
   bit = subst (λ n. n ≤ 1) (sym (word_here core.words STOP 1)) (omega arith);
   stopped = λ is. sound.stop.failing by may.may;
@@ -230,14 +231,14 @@ stop_step sizes first by core (Tends Halts) found sound made may = record {
 stop_step sizes first by core (Tends chore) found sound made may = stop_else sizes first by core (Tends chore) found sound may refl
 stop_step sizes first by core deed found sound made may = stop_else sizes first by core deed found sound may refl
 
-pub stop_begin : (sizes : Sizes) (first : Values) (by : ℕ) (core : Core) (call : FileCall) → Sound sizes first core → MayBegin sizes call (core.passes by) → Stop first (after_begin sizes by call core)
+pub stop_begin : (sizes : Sizes) (first : Values) (by : ℕ) (core : Core) (call : FileCall) → Sound sizes first core → MayBegin sizes call (core.passes by) → Stop sizes first (after_begin sizes by call core)
 stop_begin sizes first by core call sound may = record {
   bit = sound.stop.bit;
   stopped = sound.stop.stopped;
-  failing = by_number (λ n (p : Pass). IsFailing p.stage → HasFailed first core.values) core.passes by _
-      (if_both (λ s. IsFailing s → HasFailed first core.values) (page_count sizes call == 0) Checking (Locking (first_page sizes call)) (λ _ z. absurd z) (λ _ z. absurd z)) (λ n ne is. sound.stop.failing n is);
-  halting = by_number (λ n (p : Pass). IsHalting p.stage → HasFailed first core.values) core.passes by _
-      (if_both (λ s. IsHalting s → HasFailed first core.values) (page_count sizes call == 0) Checking (Locking (first_page sizes call)) (λ _ z. absurd z) (λ _ z. absurd z)) (λ n ne is. sound.stop.halting n is);
+  failing = by_number (λ n (p : Pass). IsFailing p.stage → HasFailed sizes first core.values) core.passes by _
+      (if_both (λ s. IsFailing s → HasFailed sizes first core.values) (page_count sizes call == 0) Checking (Locking (first_page sizes call)) (λ _ z. absurd z) (λ _ z. absurd z)) (λ n ne is. sound.stop.failing n is);
+  halting = by_number (λ n (p : Pass). IsHalting p.stage → HasFailed sizes first core.values) core.passes by _
+      (if_both (λ s. IsHalting s → HasFailed sizes first core.values) (page_count sizes call == 0) Checking (Locking (first_page sizes call)) (λ _ z. absurd z) (λ _ z. absurd z)) (λ n ne is. sound.stop.halting n is);
   never_fell = sound.stop.never_fell;
   stays = by_number (λ n (p : Pass). p.stopped ≡ true → core.words STOP ≡ 1) core.passes by _ (sound.stop.stays by) (λ n ne is. sound.stop.stays n is);
   known = λ is. let k = sound.stop.known is in (k.0, k.1, by_number (λ n (p : Pass). (core.passes n).stopped ≡ true → p.stopped ≡ true) core.passes by _ (λ x. x) (λ n ne x. x) k.0 k.2);
@@ -295,29 +296,29 @@ worked_halts sizes values pass work due is = go work.ending refl pass.stage due 
     go Refused e (Cleaning batch sweep) due is = absurd (none batch Refused sweep (inr refl) due is)
     go how e stage due is = absurd due
 
-pub stop_work : (sizes : Sizes) (first : Values) (by : ℕ) (core : Core) (work : Work) → Sound sizes first core → MayWork sizes core.values (core.passes by) work → Stop first (after_work sizes by work core)
+pub stop_work : (sizes : Sizes) (first : Values) (by : ℕ) (core : Core) (work : Work) → Sound sizes first core → MayWork sizes core.values (core.passes by) work → Stop sizes first (after_work sizes by work core)
 stop_work sizes first by core work sound may = record {
   bit = sound.stop.bit;
   stopped = λ is. rises (sound.stop.stopped is);
-  failing = by_number (λ n (p : Pass). IsFailing p.stage → HasFailed first (values_worked (core.passes by) work core.values)) core.passes by _
+  failing = by_number (λ n (p : Pass). IsFailing p.stage → HasFailed sizes first (values_worked (core.passes by) work core.values)) core.passes by _
       (λ is. failed (worked_fails sizes core.values (core.passes by) work may.due is)) (λ n ne is. rises (sound.stop.failing n is));
-  halting = by_number (λ n (p : Pass). IsHalting p.stage → HasFailed first (values_worked (core.passes by) work core.values)) core.passes by _
+  halting = by_number (λ n (p : Pass). IsHalting p.stage → HasFailed sizes first (values_worked (core.passes by) work core.values)) core.passes by _
       (λ is. failed (worked_halts sizes core.values (core.passes by) work may.due is)) (λ n ne is. rises (sound.stop.halting n is));
   never_fell = λ cell. le_trans (sound.stop.never_fell cell) (faults_worked (core.passes by) work core.values may.ends cell);
   stays = by_number (λ n (p : Pass). p.stopped ≡ true → core.words STOP ≡ 1) core.passes by _ (sound.stop.stays by) (λ n ne is. sound.stop.stays n is);
   known = λ is. let k = sound.stop.known is in (k.0, k.1, by_number (λ n (p : Pass). (core.passes n).stopped ≡ true → p.stopped ≡ true) core.passes by _ (λ x. x) (λ n ne x. x) k.0 k.2);
 }
   where
-    rises : HasFailed first core.values → HasFailed first (values_worked (core.passes by) work core.values)
-    rises = failed_on first core.values (values_worked (core.passes by) work core.values) (faults_worked (core.passes by) work core.values may.ends)
+    rises : HasFailed sizes first core.values → HasFailed sizes first (values_worked (core.passes by) work core.values)
+    rises = failed_on sizes first core.values (values_worked (core.passes by) work core.values) (faults_worked (core.passes by) work core.values may.ends)
 
-    failed : (came : Bool) × (faults : ℕ) × (work.ending ≡ Failed came faults) → HasFailed first (values_worked (core.passes by) work core.values)
+    failed : (came : Bool) × (faults : ℕ) × (work.ending ≡ Failed came faults) → HasFailed sizes first (values_worked (core.passes by) work core.values)
     failed how =
         let here = subst (λ e. Rose (faults_of (core.values work.cell)) (faults_of (called work.job e (core.values work.cell)))) (sym how.2)
         (faults_rose work.job how.0 how.1 (core.values work.cell) (subst (MayEnd (core.values work.cell)) how.2 may.ends)) in
         let is : faults_of (values_worked (core.passes by) work core.values work.cell) ≡ faults_of (called work.job work.ending (core.values work.cell)) =
         steady_worked faults_of faults_steady (core.passes by) work core.values work.cell ∙ ap faults_of (word_here core.values work.cell (called work.job work.ending (core.values work.cell))) in
-        record { cell = work.cell; rose = rose_from (faults_of (first work.cell)) (faults_of (core.values work.cell)) _ (sound.stop.never_fell work.cell) (subst (Rose (faults_of (core.values work.cell))) (sym is) here) }
+        record { cell = work.cell; there = worked_word sizes first by core work sound may; rose = rose_from (faults_of (first work.cell)) (faults_of (core.values work.cell)) _ (sound.stop.never_fell work.cell) (subst (Rose (faults_of (core.values work.cell))) (sym is) here) }
 
 -- ---- buffers and devices
 

@@ -21,6 +21,7 @@ pub mod KeepsStanding
 pub mod KeepsLocks
 pub mod KeepsWindow
 pub mod Inherits
+pub mod WorkWords
 pub mod KeepsStop
 pub mod KeepsSearches
 pub mod FilledParts
@@ -74,6 +75,7 @@ pub mod KeepsInFlight
 pub mod KeepsUnready
 pub mod KeepsFaults
 pub mod FaultFates
+pub mod FlightLaws
 pub mod LiveLaws
 pub mod SweepLive
 pub mod KeepsLive

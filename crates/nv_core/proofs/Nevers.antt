@@ -12,7 +12,7 @@ use Rattle.nv_core.proofs.LiveLaws.{writes_apart}
 use Rattle.nv_core.proofs.PageLaws.{write_pages}
 use Rattle.nv_core.specs.Passes.{first_page, Fault, IsOneOf}
 use Rattle.nv_core.specs.Stepped.{fault_of}
-use Rattle.nv_core.specs.Never.{IsCommitting, IsInFlight, NoPlaceBeforeTheFence, NoPageBeforeThePlace, StoppedAfterAFault, NoLeaderBeforeAFollower, NoGrowthBeforeThePlace, NoTwoWritesOfAPage, WritesInFlightAreApart, NoBreakBeforeStop, NoBrokenBeforeStop, NoStopWithoutAFault, NoSeizureOfAHeldEntry, NoHoldOfAnUnreadyEntry, NoEntryHeldTwice, NoOtherCleanup, NoDrawPastTheEnd, IsSought, NoVictimOfTheCall}
+use Rattle.nv_core.specs.Never.{IsCommitting, IsInFlight, NoPlaceBeforeTheFence, NoPageBeforeThePlace, StoppedAfterAFault, NoLeaderBeforeAFollower, NoGrowthBeforeThePlace, NoTwoWritesOfAPage, WritesInFlightAreApart, NoBreakBeforeStop, NoBrokenBeforeStop, NoStopWithoutAFault, NoSeizureOfAHeldEntry, NoHoldOfAnUnreadyEntry, NoEntryHeldTwice, NoOtherCleanup, NoDrawPastTheEnd, IsSought, NoVictimOfTheCall, NoBatchPastItsBound}
 use Rattle.nv_core.proofs.Changes.{differ}
 use Rattle.nv_core.proofs.Choices.{gives_back, IsGivingBack}
 use Rattle.nv_core.proofs.KeepsLoaded.{held_by_one, holds_page}
@@ -133,3 +133,6 @@ pub no_broken_before_stop : NoBrokenBeforeStop
 no_broken_before_stop sizes first core number sound within word =
     let of = sound.grouped.unready.broken number within word in
     sound.stop.stays of.by (sound.broken.stopped of.by (some_fault (core.passes of.by).faulted of.fault of.ended))
+
+pub no_batch_past_its_bound : NoBatchPastItsBound
+no_batch_past_its_bound sizes first core by batch sweep sound at footed = (sound.grouped.progress.each by batch sweep at footed).bound

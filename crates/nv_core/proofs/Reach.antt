@@ -39,6 +39,7 @@ use Rattle.nv_core.specs.InFlight.{placed_stepped}
 use Rattle.nv_core.proofs.KeepsInFlight.{flight_step, flight_begin, flight_work}
 use Rattle.nv_core.proofs.KeepsUnready.{unready_step, unready_begin, unready_work}
 use Rattle.nv_core.proofs.KeepsLeaders.{leaders_step, leaders_begin, leaders_work}
+use Rattle.nv_core.proofs.KeepsFaults.{faults_step, faults_begin, faults_work}
 use Rattle.nv_core.proofs.KeepsSearches.{buffers_step, searches_step, searches_begin, searches_work, first_hints}
 
 sound_step : (sizes : Sizes) (first : Values) (by : ℕ) (core : Core) (deed : Deed) (found : ℕ) → Sound sizes first core → by ≤ core.made → MayFind sizes by core deed found → Sound sizes first (after_step sizes by deed found core)
@@ -68,6 +69,7 @@ sound_step sizes first by core deed found sound made may = record {
     flight = flight_step sizes first g.log g.placed by core deed found sound g.groups g.flight may;
     unready = unready_step sizes first g.log g.placed by core deed found sound g.groups g.flight g.unready may;
     leaders = leaders_step sizes first g.log by core deed found sound g.groups g.progress g.leaders may;
+    faults = faults_step sizes first g.log g.placed by core deed found sound g.groups g.flight g.unready g.faults may;
   };
 }
 
@@ -99,6 +101,7 @@ sound_begin sizes first by core call sound made may = record {
     flight = flight_begin sizes g.log g.placed by core call g.flight may;
     unready = unready_begin sizes g.log g.placed by core call may g.unready;
     leaders = leaders_begin sizes g.log by core call g.leaders;
+    faults = faults_begin sizes g.log g.placed by core call may g.faults;
   };
 }
 
@@ -129,6 +132,7 @@ sound_work ends sizes first by core work sound made may = record {
     flight = flight_work sizes g.log g.placed by core work g.flight may;
     unready = unready_work sizes g.log g.placed by core work g.unready may;
     leaders = leaders_work sizes g.log by core work g.leaders;
+    faults = faults_work sizes g.log g.placed by core work g.faults may;
   };
 }
 
@@ -211,8 +215,8 @@ opening_is_sound mount is_mount = record {
     looks = λ n. tt;
   };
   stop = record { bit = omega arith; stopped = λ one. absurd (omega arith); failing = λ n fails. absurd fails; halting = λ n halts. absurd halts; never_fell = λ cell. omega arith; stays = λ n stopped. absurd (not_both stopped refl); known = λ one. absurd (omega arith) };
-  broken = record { stopped = λ n some. absurd (some refl); once = λ n. omega arith; passed = λ n checked. absurd checked; pages = λ n m page fault is at checked. absurd is };
-  broken_lengths = record { files = λ n m fault is at checked. absurd is };
+  broken = record { stopped = λ n some. absurd (some refl); once = λ n. omega arith; passed = λ n checked. absurd checked; pages = λ n m page fault is at checked. absurd is; one = λ n m page fault more is. absurd is };
+  broken_lengths = record { files = λ n m fault is at checked. absurd is; one = λ n m fault more is. absurd is };
   history = record {
     order = refl;
     few = none_open;
@@ -233,6 +237,7 @@ opening_is_sound mount is_mount = record {
     flight = flight_opening mount.sizes none (λ n. false) (opening mount) refl (λ n. refl);
     unready = unready_opening mount.sizes none (λ n. false) (opening mount) refl (λ n. refl);
     leaders = leaders_opening mount.sizes none (λ n. false) (opening mount) refl (λ n. refl);
+    faults = record { each = λ by fault is w. absurd is };
   };
 }
   where

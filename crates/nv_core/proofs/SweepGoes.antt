@@ -21,7 +21,7 @@ use Rattle.nv_core.specs.LogWindow.{InWindow, entry_at}
 use Rattle.nv_core.specs.PagesAfter.{file_of_page}
 use Rattle.nv_core.specs.Groups.{Log, Groups}
 use Rattle.nv_core.specs.Pieces.{page_of_number, Pieces}
-use Rattle.nv_core.specs.Progress.{HasFooted, IsFresh, HasMinded, HasHalted, HasNone, HasStore, HasGroup, KindAt, IsLooked, IsUnderWay}
+use Rattle.nv_core.specs.Progress.{HasFooted, IsFresh, HasMinded, HasHalted, HasNone, HasStore, HasGroup, KindAt, IsLooked, IsBounded, Within, First, Alone, IsUnderWay}
 use Rattle.nv_core.specs.Sound.{Sound}
 use Rattle.nv_core.proofs.Changes.{number_self}
 use Rattle.nv_core.proofs.Choices.{if_both, when_true, when_false, not_both}
@@ -29,7 +29,7 @@ use Rattle.nv_core.proofs.LockLaws.{only_holder}
 use Rattle.nv_core.proofs.KeepsLocks.{ready_was, entry_is}
 use Rattle.nv_core.proofs.FileLaws.{page_place}
 use Rattle.nv_core.proofs.CrashOrder.{leads_next}
-use Rattle.nv_core.proofs.SweepProgress.{AtBatch, At, turned, leaves, finishes, surveys, retreats, goes_next}
+use Rattle.nv_core.proofs.SweepProgress.{AtBatch, At, same_bound, turned, leaves, finishes, surveys, retreats, goes_next}
 
 -- ---- the locks that a cleaner holds
 
@@ -184,7 +184,8 @@ module _ (sizes : Sizes) (first : Values) (core : Core) (sound : Sound sizes fir
       -- ---- ENTRY words are loaded
 
       module _ (i found : ℕ) (at : AtBatch sizes log core batch (Surveying i)) (many : length batch.pages ≡ i) (is : entry_at sizes core (batch.reached + i) ≡ found) (within : InWindow core (batch.reached + i))
-          (was : was_readied found ≡ true) (count : (with_page batch i found).count ≡ (log.group batch.reached).entries) (below : i < (with_page batch i found).count) where
+          (was : was_readied found ≡ true) (count : (with_page batch i found).count ≡ (log.group batch.reached).entries) (below : i < (with_page batch i found).count)
+          (bound : IsBounded log (with_page batch i found)) where
         abbrev more : Batch
         more = with_page batch i found
 
@@ -223,6 +224,7 @@ module _ (sizes : Sizes) (first : Values) (core : Core) (sound : Sound sizes fir
                 stored = λ f. absurd (stored f);
                 files = way.files;
                 stores = way.stores;
+                bound = bound;
               };
               head = at.head;
               fresh = λ f. absurd (old f);
@@ -239,6 +241,14 @@ module _ (sizes : Sizes) (first : Values) (core : Core) (sound : Sound sizes fir
       not_false true e = refl
       not_false false e = absurd (not_both refl e)
 
+      -- a group that the batch may pass
+      first_bound : (found : ℕ) → (batch.reached == batch.tail || nat_le (batch.reached + count_of found) (batch.tail + batch.most)) ≡ true → IsBounded log (with_page batch 0 found)
+      first_bound found may = go (batch.reached == batch.tail) refl may
+        where
+          go : (b : Bool) → (batch.reached == batch.tail) ≡ b → (b || nat_le (batch.reached + count_of found) (batch.tail + batch.most)) ≡ true → IsBounded log (with_page batch 0 found)
+          go true e is = First (eqb-true batch.reached batch.tail e)
+          go false e is = Within (leb-true (batch.reached + count_of found) (batch.tail + batch.most) is)
+
       surveying_on : (hands keys : List Word) (i found : ℕ) → AtBatch sizes log core batch (Surveying i) → StandsSweeping batch keys (Surveying i) → entry_at sizes core (batch.reached + i) ≡ found
           → At sizes log core (after_chore sizes hands batch (Surveying i) found)
       surveying_on hands keys zero found at stands is = if_both (At sizes log core) (zero == 0 && not (may_pass batch found)) (finishing sizes hands batch) (surveyed (with_page batch 0 found) 0)
@@ -251,7 +261,8 @@ module _ (sizes : Sizes) (first : Values) (core : Core) (sound : Sound sizes fir
           let was : was_readied found ≡ true = ready_was found kind in
           let is' : entry_at sizes core batch.reached ≡ found = ap (entry_at sizes core) (sym reached_same) ∙ is in
           let count : count_of found ≡ (log.group batch.reached).entries = ap count_of (sym is') ∙ leader_count batch.reached within (way.leads within) (ap was_readied is' ∙ was) in
-          surveyed_on 0 found at stands.0 is (subst (InWindow core) (sym reached_same) within) was count (let f = (group_few batch.reached within).0 in omega (arith, count, f)))
+          surveyed_on 0 found at stands.0 is (subst (InWindow core) (sym reached_same) within) was count (let f = (group_few batch.reached within).0 in omega (arith, count, f))
+          (first_bound found (and_parts (kind_of found == ready) (batch.reached == batch.tail || nat_le (batch.reached + count_of found) (batch.tail + batch.most)) may).1))
       surveying_on hands keys (suc i) found at stands is = if_both (At sizes log core) (suc i == 0 && not (may_pass batch found)) (finishing sizes hands batch) (surveyed (with_page batch (suc i) found) (suc i))
           (λ e. absurd (let z = eqb-true (suc i) 0 (and_parts (suc i == 0) (not (may_pass batch found)) e).0 in omega (arith, z)))
           (λ _.
@@ -261,19 +272,26 @@ module _ (sizes : Sizes) (first : Values) (core : Core) (sound : Sound sizes fir
           let g = groups.each batch.reached leader.0 in let leads = way.leads leader.0 in let count = way.count some in let top = g.high in let l = leader.0.0 in
           let same : (with_page batch (suc i) found).count ≡ batch.count = when_false (suc i == 0) (count_of found) batch.count (ne_zero i) in
           let was : was_readied (entry_at sizes core (batch.reached + suc i)) ≡ true = pieces.followers batch.reached (batch.reached + suc i) leader.0 leads leader.1 (omega arith, omega (arith, below, count)) in
-          surveyed_on (suc i) found at many is (omega (arith, l), omega (arith, below, count, leads, top)) (ap was_readied (sym is) ∙ was) (same ∙ count) (omega (arith, same, below)))
+          surveyed_on (suc i) found at many is (omega (arith, l), omega (arith, below, count, leads, top)) (ap was_readied (sym is) ∙ was) (same ∙ count) (omega (arith, same, below)) (same_bound log batch (with_page batch (suc i) found) refl refl refl (inl same) way.bound))
         where
           ne_zero : (i : ℕ) → (suc i == 0) ≡ false
           ne_zero i = ne_eqb (suc i) 0 (λ e. omega (arith, e))
 
       -- ---- the group at hand is cleaned
 
+      bounded_next : IsBounded log batch → length batch.pages ≡ batch.count → batch.count ≡ (log.group batch.reached).entries → 0 < length batch.pages → IsBounded log (next_group batch)
+      bounded_next (Within few) whole count some = Within (omega (arith, few, whole))
+      bounded_next (First none) whole count some = Alone refl (let e : batch.reached + length batch.pages ≡ batch.reached + (log.group batch.reached).entries = omega (arith, whole, count) in e ∙ ap (λ n. n + (log.group n).entries) none)
+      bounded_next (Alone none is) whole count some = absurd (omega (arith, none, whole, some))
+
       next_way : (i : ℕ) → IsUnderWay sizes log core batch (Disclaiming i) → 0 < length batch.pages → IsUnderWay sizes log core (next_group batch) Topping
       next_way i way some =
           let leader = leader_looked (Disclaiming i) way some in
           let g = groups.each batch.reached leader.0 in let leads = way.leads leader.0 in let count = way.count some in let top = g.high in let whole = way.whole tt in let low = way.low in
           let e : batch.reached + (log.group batch.reached).entries ≡ batch.reached + length batch.pages = omega (arith, whole, count) in
+          let next_bound : IsBounded log batch → IsBounded log (next_group batch) = λ b. bounded_next b whole count some in
           record {
+            bound = next_bound way.bound;
             tail = way.tail;
             low = omega (arith, low);
             high = omega (arith, whole, count, leads, top);
@@ -331,6 +349,7 @@ module _ (sizes : Sizes) (first : Values) (core : Core) (sound : Sound sizes fir
                 | inr old ↦ way.files file old
               ];
               stores = λ n low high. or_right (group_file sizes batch == file_of_page sizes (page_of_number sizes (log.group n) n)) (holds_store batch (file_of_page sizes (page_of_number sizes (log.group n) n))) (way.stores n low high);
+              bound = same_bound log batch (record batch { files = group_file sizes batch ∷ batch.files }) refl refl refl (inl refl) way.bound;
             };
             head = at.head;
             fresh = λ f. absurd f;
@@ -402,6 +421,7 @@ module _ (sizes : Sizes) (first : Values) (core : Core) (sound : Sound sizes fir
                 stored = λ f. absurd f;
                 files = way.files;
                 stores = way.stores;
+                bound = same_bound log batch (record batch { head = found }) refl refl refl (inl refl) way.bound;
               };
               head = omega (arith, is);
               fresh = λ f. absurd f;
@@ -425,6 +445,7 @@ module _ (sizes : Sizes) (first : Values) (core : Core) (sound : Sound sizes fir
                 stored = λ f. absurd f;
                 files = λ file holds. absurd (not_both holds (ap (λ b. holds_store b file) new));
                 stores = λ n low high. absurd (omega (arith, low, high));
+                bound = First refl;
               };
               head = at.head;
               fresh = λ f. absurd f;

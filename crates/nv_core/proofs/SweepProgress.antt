@@ -15,7 +15,7 @@ use Rattle.nv_core.specs.LogWindow.{InWindow, entry_at, LogWindow}
 use Rattle.nv_core.specs.PagesAfter.{file_of_page}
 use Rattle.nv_core.specs.Groups.{Log}
 use Rattle.nv_core.specs.Pieces.{page_of_number}
-use Rattle.nv_core.specs.Progress.{HasFooted, IsFresh, HasMinded, HasHalted, HasNone, HasStore, HasGroup, KindAt, IsLooked, IsUnderWay, Progress}
+use Rattle.nv_core.specs.Progress.{HasFooted, IsFresh, HasMinded, HasHalted, HasNone, HasStore, HasGroup, KindAt, IsLooked, IsBounded, Within, First, Alone, IsUnderWay, Progress}
 use Rattle.nv_core.proofs.Changes.{word_here, word_else, differ, number_self}
 use Rattle.nv_core.proofs.Choices.{if_both, when_true}
 use Rattle.nv_core.proofs.WindowLaws.{apart_within}
@@ -62,6 +62,13 @@ pub minded : (sweep : Sweep) → HasFooted sweep → HasMinded sweep
 minded Footing footed = tt
 minded sweep footed = footed
 
+-- a batch with the same groups behind it and the same one at hand, or none, keeps to its bound
+pub same_bound : (log : Log) (one other : Batch) → other.tail ≡ one.tail → other.most ≡ one.most → other.reached ≡ one.reached → (other.count ≡ one.count) ⊎ (other.count ≡ 0) → IsBounded log one → IsBounded log other
+same_bound log one other tail most reached count (Within few) = Within (elim count [ inl c ↦ omega (arith, few, tail, most, reached, c) | inr c ↦ omega (arith, few, tail, most, reached, c) ])
+same_bound log one other tail most reached count (First none) = First (reached ∙ none ∙ sym tail)
+same_bound log one other tail most reached count (Alone none is) = Alone (elim count [ inl c ↦ c ∙ none | inr c ↦ c ])
+    (reached ∙ is ∙ sym (ap (λ t. t + (log.group t).entries) tail))
+
 -- ---- the words of the log go on
 
 module _ (sizes : Sizes) (log next : Log) (core now : Core) (tail : now.words TAIL ≡ core.words TAIL) (head : core.words HEAD ≤ now.words HEAD) (stop : core.words STOP ≡ 1 → now.words STOP ≡ 1)
@@ -74,10 +81,19 @@ module _ (sizes : Sizes) (log next : Log) (core now : Core) (tail : now.words TA
       → KindAt t i (kind_of (entry_at sizes now (batch.reached + i))) → IsLooked sizes core batch s i → IsLooked sizes now batch t i
   looked_on batch s t i was page kind looked = record { within = window_on (batch.reached + i) looked.within; readied = was; page = page ∙ looked.page; kind = kind }
 
+  bound_on : (batch : Batch) → batch.tail ≤ batch.reached → batch.reached ≤ core.words HEAD → IsBounded log batch → IsBounded next batch
+  bound_on batch low high (Within few) = Within few
+  bound_on batch low high (First is) = First is
+  bound_on batch low high (Alone none is) = elim (cases_lt batch.tail (core.words HEAD)) [
+    | inl less ↦ Alone none (is ∙ ap (λ g. batch.tail + g.entries) (sym (group batch.tail less)))
+    | inr more ↦ First (omega (arith, low, high, more))
+  ]
+
   pub way_on : (batch : Batch) (s t : Sweep) → ((i : ℕ) → i < length batch.pages → IsLooked sizes core batch s i → IsLooked sizes now batch t i)
       → (HasGroup t → length batch.pages ≡ batch.count) → (HasNone t → length batch.pages ≡ 0) → (HasStore t → holds_store batch (group_file sizes batch) ≡ true)
       → IsUnderWay sizes log core batch s → IsUnderWay sizes next now batch t
   way_on batch s t entry whole none stored way = record {
+    bound = bound_on batch way.low way.high way.bound;
     tail = way.tail ∙ sym tail;
     low = way.low;
     high = let h = way.high in omega (arith, h, head);
@@ -231,6 +247,7 @@ module _ (sizes : Sizes) (log : Log) (core : Core) where
           stored = stored way;
           files = way.files;
           stores = way.stores;
+          bound = way.bound;
         };
         head = at.head;
         fresh = λ f. absurd (old f);
@@ -257,6 +274,7 @@ module _ (sizes : Sizes) (log : Log) (core : Core) where
           stored = λ g. absurd (stored g);
           files = way.files;
           stores = way.stores;
+          bound = same_bound log batch (closed batch) refl refl refl (inr refl) way.bound;
         };
         head = at.head;
         fresh = λ f. absurd (old f);

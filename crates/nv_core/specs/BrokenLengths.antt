@@ -9,7 +9,9 @@ use Rattle.nv_core.specs.Broken.{HasChecked}
 abbrev pub IsExtending : Fault → Type 0
 IsExtending fault = (is_write fault.call ≡ true) × (fault.length < at_of fault.call + len_of fault.call)
 
--- A pass that has loaded STOP as 0 holds no SIZE of a file that a broken write was to make longer.
+-- A pass that has loaded STOP as 0 holds no SIZE of a file that a broken write was to make longer. No two broken writes were to make one file longer.
 pub record BrokenLengths (core : Core) : Type 0 where
   pub files : (number other : ℕ) (fault : Fault) → IsOneOf (core.passes number).faulted fault → IsExtending fault
       → HasChecked (core.passes other).stage → times (SIZE (file_of fault.call)) (core.passes other).hands ≡ 0
+  pub one : (number other : ℕ) (fault more : Fault) → IsOneOf (core.passes number).faulted fault → IsOneOf (core.passes other).faulted more
+      → IsExtending fault → IsExtending more → file_of fault.call ≡ file_of more.call → number ≡ other

@@ -33,6 +33,7 @@ pub mod Sound
 pub mod Opening
 pub mod Laws
 pub mod Never
+pub mod Flights
 pub mod Walks
 pub mod BatchWalks
 pub mod PagesAfter

@@ -2,7 +2,8 @@
 use Rattle.std.specs.Prelude.{◌≡◌, ◌≢◌, ℕ, ◌+◌, ◌≤◌, [], true}
 use Rattle.nv_plain.specs.declared.call.Reply.{Reply}
 use Rattle.nv_core.specs.Words.{Sizes, Word, STOP, HEAD, TAIL, ENTRY, CLEANUP, free, ready, kind_of, broken}
-use Rattle.nv_core.specs.Passes.{Stage, Seeking, Robbing, Searching, Seizing, Committing, Pledging, Readying, Placing, WriteFailing, Pass, IsHeld, times, is_write}
+use Rattle.nv_core.specs.Sweeps.{Batch, Sweep}
+use Rattle.nv_core.specs.Passes.{Stage, Cleaning, Seeking, Robbing, Searching, Seizing, Committing, Pledging, Readying, Placing, WriteFailing, Pass, IsHeld, times, is_write}
 use Rattle.nv_core.specs.Deeds.{Gives, Places, Stops, Draws, Seizes, Readies, Grows, Holds, slot_of, Breaks}
 use Rattle.nv_core.specs.Order.{Values, MayStep}
 use Rattle.nv_core.specs.Core.{Core, after_step}
@@ -11,6 +12,7 @@ use Rattle.nv_core.specs.Events.{MayFind}
 use Rattle.nv_core.specs.Standing.{IsPage}
 use Rattle.nv_core.specs.Holding.{cleanup_held}
 use Rattle.nv_core.specs.LogWindow.{Fills, InWindow, entry_at}
+use Rattle.nv_core.specs.Progress.{HasFooted, IsBounded}
 use Rattle.nv_core.specs.Stop.{HasFailed}
 use Rattle.nv_core.specs.Sound.{Sound}
 
@@ -69,7 +71,7 @@ WritesInFlightAreApart =
 -- STOP is set only where a count rose.
 abbrev pub NoStopWithoutAFault : Type 0
 NoStopWithoutAFault =
-    (sizes : Sizes) (first : Values) (core : Core) (by : ℕ) → Sound sizes first core → MayStep sizes core.values (core.passes by) Stops → HasFailed first core.values
+    (sizes : Sizes) (first : Values) (core : Core) (by : ℕ) → Sound sizes first core → MayStep sizes core.values (core.passes by) Stops → HasFailed sizes first core.values
 
 -- An entry is seized where it is free.
 abbrev pub NoSeizureOfAHeldEntry : Type 0
@@ -121,3 +123,9 @@ abbrev pub NoDrawPastTheEnd : Type 0
 NoDrawPastTheEnd =
     (sizes : Sizes) (first : Values) (core : Core) (by found : ℕ) → Sound sizes first core
     → MayFind sizes by core Draws found → (after_step sizes by Draws found core).words HEAD ≤ core.words TAIL + sizes.entries
+
+-- What a cleaner has cleaned, with the group at hand, is at most its batch; or it is the first group alone.
+abbrev pub NoBatchPastItsBound : Type 0
+NoBatchPastItsBound =
+    (sizes : Sizes) (first : Values) (core : Core) (by : ℕ) (batch : Batch) (sweep : Sweep) (sound : Sound sizes first core)
+    → (core.passes by).stage ≡ Cleaning batch sweep → HasFooted sweep → IsBounded sound.grouped.log batch

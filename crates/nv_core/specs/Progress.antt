@@ -94,8 +94,16 @@ pub record IsLooked (sizes : Sizes) (core : Core) (batch : Batch) (sweep : Sweep
   pub page : page_of (entry_at sizes core (batch.reached + i)) ≡ group_page batch i
   pub kind : KindAt sweep i (kind_of (entry_at sizes core (batch.reached + i)))
 
+-- What a cleaner has cleaned, with the group at hand, is at most its batch; or it has cleaned nothing, so that the group at hand is the first; or
+-- it has cleaned the first group alone, and has none at hand.
+pub data IsBounded (log : Log) (batch : Batch) : Type 0 where
+  Within : batch.reached + batch.count ≤ batch.tail + batch.most → IsBounded log batch
+  First : batch.reached ≡ batch.tail → IsBounded log batch
+  Alone : batch.count ≡ 0 → batch.reached ≡ batch.tail + (log.group batch.tail).entries → IsBounded log batch
+
 -- A batch of a cleaner that has footed: TAIL is as it was loaded. The next number behind the cleaned groups is HEAD or a leader's; the group at
--- hand is that leader's, all of it where it is known whole; and the files of all that was cleaned are among those whose STORE it holds.
+-- hand is that leader's, all of it where it is known whole; the files of all that was cleaned are among those whose STORE it holds; and it keeps
+-- to its batch.
 pub record IsUnderWay (sizes : Sizes) (log : Log) (core : Core) (batch : Batch) (sweep : Sweep) : Type 0 where
   pub tail : batch.tail ≡ core.words TAIL
   pub low : batch.tail ≤ batch.reached
@@ -108,6 +116,7 @@ pub record IsUnderWay (sizes : Sizes) (log : Log) (core : Core) (batch : Batch) 
   pub stored : HasStore sweep → holds_store batch (group_file sizes batch) ≡ true
   pub files : (file : ℕ) → holds_store batch file ≡ true → file < sizes.files
   pub stores : (number : ℕ) → batch.tail ≤ number → number < batch.reached → holds_store batch (file_of_page sizes (page_of_number sizes (log.group number) number)) ≡ true
+  pub bound : IsBounded log batch
 
 -- So it is of every cleaner. One that has not loaded TAIL has a new batch; and once it has found STOP at 0, what is cleaned is its
 -- own. One that has set STOP finds it set.

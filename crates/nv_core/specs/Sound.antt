@@ -25,8 +25,10 @@ use Rattle.nv_core.specs.Progress.{Progress}
 use Rattle.nv_core.specs.InFlight.{InFlight}
 use Rattle.nv_core.specs.Unready.{Unready}
 use Rattle.nv_core.specs.Leaders.{Leaders}
+use Rattle.nv_core.specs.Faults.{Faults}
 
--- The log's numbers are whole groups by their words, in which cleaners go on; for some log, whatever the devices tell.
+-- The log's numbers are whole groups by their words, in which cleaners go on; what is in flight, unready or ended by a fault stands in it so. For some
+-- log, whatever the devices tell.
 pub record Grouped (sizes : Sizes) (core : Core) : Type 0 where
   pub log : Log
   pub groups : Groups sizes core log
@@ -36,6 +38,7 @@ pub record Grouped (sizes : Sizes) (core : Core) : Type 0 where
   pub flight : InFlight sizes log placed core
   pub unready : Unready sizes log placed core
   pub leaders : Leaders sizes log core
+  pub faults : Faults sizes log placed core
 
 -- The parts of the invariant, over the cells' values at opening.
 pub record Sound (sizes : Sizes) (first : Values) (core : Core) : Type 0 where
@@ -47,7 +50,7 @@ pub record Sound (sizes : Sizes) (first : Values) (core : Core) : Type 0 where
   pub entries : EntryWords sizes core.words
   pub dirty : DirtyCounters sizes core
   pub loaded : Loaded sizes core
-  pub stop : Stop first core
+  pub stop : Stop sizes first core
   pub broken : Broken sizes core
   pub broken_lengths : BrokenLengths core
   pub history : OneHistory core

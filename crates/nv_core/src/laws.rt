@@ -1,8 +1,9 @@
 ghost use Rattle.nv_core.specs.DirtyWalks.{DirtyReadIsWalked};
 ghost use Rattle.nv_core.specs.Laws.{OpeningIsSound, EventsKeepSound, RunsAreSound};
 ghost use Rattle.nv_core.specs.BatchWalks.{BatchIsWalked};
+ghost use Rattle.nv_core.specs.Flights.{InFlightAreApart, NoEntryAboveInFlight, NoTwoInFlightOfALength, NoTwoInFlightOfAPage};
 ghost use Rattle.nv_core.specs.Lengths.{LengthsFollowTheHistory};
-ghost use Rattle.nv_core.specs.Never.{NoPlaceBeforeTheFence, NoPageBeforeThePlace, StoppedAfterAFault, NoLeaderBeforeAFollower, NoGrowthBeforeThePlace, NoTwoWritesOfAPage, NoStopWithoutAFault, NoSeizureOfAHeldEntry, NoHoldOfAnUnreadyEntry, NoEntryHeldTwice, NoOtherCleanup, NoVictimOfTheCall, NoDrawPastTheEnd, WritesInFlightAreApart, NoBreakBeforeStop, NoBrokenBeforeStop};
+ghost use Rattle.nv_core.specs.Never.{NoPlaceBeforeTheFence, NoPageBeforeThePlace, StoppedAfterAFault, NoLeaderBeforeAFollower, NoGrowthBeforeThePlace, NoTwoWritesOfAPage, NoStopWithoutAFault, NoSeizureOfAHeldEntry, NoHoldOfAnUnreadyEntry, NoEntryHeldTwice, NoOtherCleanup, NoVictimOfTheCall, NoDrawPastTheEnd, WritesInFlightAreApart, NoBreakBeforeStop, NoBrokenBeforeStop, NoBatchPastItsBound};
 ghost use Rattle.nv_core.specs.Spares.{SparesKeepSteps, SparesTell};
 ghost use Rattle.nv_core.specs.Walks.{WalkBegins, FirstPageIsWord30, ReadIsWalked, WriteIsWalked, FaultIsWalked, SearchIsWalked, TriesAreWalked};
 ghost use Rattle.nv_core.specs.Words.{PlacesDiffer};
@@ -24,7 +25,8 @@ pub fn runs_are_sound()
 /// before STOP is set after a fault, a leader made ready before a follower, a length that grows before its write has its
 /// place, two writes of a page in flight, STOP without a count that rose, an entry seized that isn't free, an entry held that
 /// isn't ready, one held by two reads, CLEANUP of a page while a read looks for its pieces, a search whose victim is a page of
-/// its own call, and numbers drawn past the log's end.
+/// its own call, numbers drawn past the log's end, an entry broken before STOP, and a batch past its bound, but for its first
+/// group.
 pub fn no_sound_state_allows()
     ensures fence { NoPlaceBeforeTheFence }
     ensures page { NoPageBeforeThePlace }
@@ -42,6 +44,16 @@ pub fn no_sound_state_allows()
     ensures cleanup { NoOtherCleanup }
     ensures end { NoDrawPastTheEnd }
     ensures victim { NoVictimOfTheCall }
+    ensures batch { NoBatchPastItsBound }
+{}
+
+/// Of the writes in flight, be a pass at them or be they ended by a fault, no two touch one page, and at most one makes a given
+/// file longer; so it doesn't matter in which order they are made. No entry above one that was made ready is on a page of it.
+pub fn writes_in_flight_keep_apart()
+    ensures pages { NoTwoInFlightOfAPage }
+    ensures lengths { NoTwoInFlightOfALength }
+    ensures apart { InFlightAreApart }
+    ensures above { NoEntryAboveInFlight }
 {}
 
 /// Nothing is lost where the room of a part is said as plain data, by its spares: these tell how many lines there are and what

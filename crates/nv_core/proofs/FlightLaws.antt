@@ -1,0 +1,141 @@
+-- Writes in flight share no page and no growing length, and no entry above one is on a page of it.
+use Rattle.std.proofs.Common.{◌≡◌, ◌≢◌, ◌⊎◌, ℕ, ◌+◌, ◌<◌, ◌≤◌, true, inl, inr, refl, sym, ap, subst, ◌∙◌, arith}
+use Rattle.std.proofs.lemmas.Bool.{cases_eq}
+use Rattle.nv_core.specs.Words.{Sizes, Word, SIZE, PAGE, ENTRY, page_of, was_readied}
+use Rattle.nv_core.specs.Passes.{Stage, Seizing, Committing, Pledging, Readying, Placing, WriteFailing, Fault, Pass, IsOneOf, is_write, file_of, page_count, first_page, times}
+use Rattle.nv_core.specs.Stepped.{fault_of}
+use Rattle.nv_core.specs.Order.{Values}
+use Rattle.nv_core.specs.Core.{Core}
+use Rattle.nv_core.specs.Standing.{IsPage}
+use Rattle.nv_core.specs.Holding.{HoldsLocks}
+use Rattle.nv_core.specs.Loaded.{HasMeasured}
+use Rattle.nv_core.specs.LogWindow.{InWindow, entry_at}
+use Rattle.nv_core.specs.Pieces.{page_of_number}
+use Rattle.nv_core.specs.InFlight.{IsFlying}
+use Rattle.nv_core.specs.Unready.{IsUnready, group_of_fault}
+use Rattle.nv_core.specs.Broken.{HasChecked, victim_held}
+use Rattle.nv_core.specs.BrokenLengths.{IsExtending}
+use Rattle.nv_core.specs.Never.{IsInFlight}
+use Rattle.nv_core.specs.Flights.{HasInFlight, NoTwoInFlightOfAPage, NoTwoInFlightOfALength, InFlightAreApart, NoEntryAboveInFlight}
+use Rattle.nv_core.specs.Sound.{Grouped, Sound}
+use Rattle.nv_core.proofs.Changes.{differ}
+use Rattle.nv_core.proofs.KeepsLoaded.{held_by_one, holds_page}
+use Rattle.nv_core.proofs.KeepsBrokenLengths.{extending_size}
+use Rattle.nv_core.proofs.KeepsFaults.{failing_own, failing_unready}
+use Rattle.nv_core.proofs.LiveLaws.{writes_apart}
+use Rattle.nv_core.proofs.PageLaws.{write_pages}
+use Rattle.nv_core.proofs.PatchSteps.{word_page}
+use Rattle.nv_core.proofs.Nevers.{no_two_writes_of_a_page}
+
+-- ---- a pass that has one
+
+-- what holds where it seizes, commits, pledges, readies, places or fails
+in_flight_at : (P : Stage → Type 0) → ((n : ℕ) → P (Seizing n)) → ((n : ℕ) → P (Committing n)) → ((n : ℕ) → P (Pledging n)) → ((n : ℕ) → P (Readying n)) → P Placing → P WriteFailing → (stage : Stage) → IsInFlight stage → P stage
+in_flight_at P a b c d e f (Seizing n) is = a n
+in_flight_at P a b c d e f (Committing n) is = b n
+in_flight_at P a b c d e f (Pledging n) is = c n
+in_flight_at P a b c d e f (Readying n) is = d n
+in_flight_at P a b c d e f Placing is = e
+in_flight_at P a b c d e f WriteFailing is = f
+in_flight_at P a b c d e f stage is = absurd is
+
+checked : (stage : Stage) → IsInFlight stage → HasChecked stage
+checked = in_flight_at HasChecked (λ n. tt) (λ n. tt) (λ n. tt) (λ n. tt) tt tt
+
+measured : (stage : Stage) → IsInFlight stage → HasMeasured stage
+measured = in_flight_at HasMeasured (λ n. tt) (λ n. tt) (λ n. tt) (λ n. tt) tt tt
+
+no_victim : (page : ℕ) (stage : Stage) → IsInFlight stage → victim_held stage page ≡ 0
+no_victim page = in_flight_at (λ s. victim_held s page ≡ 0) (λ n. refl) (λ n. refl) (λ n. refl) (λ n. refl) refl refl
+
+-- it holds its pages
+holds : (sizes : Sizes) (pass : Pass) (page : ℕ) → IsPage sizes pass.call page → (stage : Stage) → IsInFlight stage → HoldsLocks sizes pass stage → times (PAGE page) pass.hands ≡ 1
+holds sizes pass page on = in_flight_at (λ s. HoldsLocks sizes pass s → times (PAGE page) pass.hands ≡ 1) (λ n. page_at) (λ n. page_at) (λ n. page_at) (λ n. page_at) page_at page_at
+  where
+    page_at : HoldsLocks sizes pass Placing → times (PAGE page) pass.hands ≡ 1
+    page_at held = holds_page sizes pass page on (held (PAGE page) (λ slot. differ (PAGE page) (ENTRY slot) refl))
+
+-- a write that isn't about to be ended by a fault
+flies : (pass : Pass) → is_write pass.call ≡ true → (stage : Stage) → IsInFlight stage → IsFlying pass stage ⊎ (stage ≡ WriteFailing)
+flies pass write = in_flight_at (λ s. IsFlying pass s ⊎ (s ≡ WriteFailing)) (λ n. inl tt) (λ n. inl tt) (λ n. inl tt) (λ n. inl tt) (inl write) (inr refl)
+
+-- ---- the laws
+
+module _ (sizes : Sizes) (first : Values) (core : Core) (sound : Sound sizes first core) where
+  -- one at hand touches no page of one that a fault ended, and makes no file longer that such a one was to
+  beside_page : (by other page : ℕ) (more : Fault) → IsInFlight (core.passes by).stage → IsPage sizes (core.passes by).call page → IsOneOf (core.passes other).faulted more → IsPage sizes more.call page → ⊥
+  beside_page by other page more flight on is there =
+      let most = sound.broken.pages other by page more is there (checked (core.passes by).stage flight) in
+      let none = no_victim page (core.passes by).stage flight in
+      let one = holds sizes (core.passes by) page on (core.passes by).stage flight (sound.holding by).locks in omega (arith, most, none, one)
+
+  beside_length : (by other : ℕ) (more : Fault) → IsInFlight (core.passes by).stage → IsExtending (fault_of (core.passes by)) → IsOneOf (core.passes other).faulted more → IsExtending more → file_of (core.passes by).call ≡ file_of more.call → ⊥
+  beside_length by other more flight extends is too same =
+      let none = sound.broken_lengths.files other by more is too (checked (core.passes by).stage flight) in
+      let one = extending_size sizes first core by sound (measured (core.passes by).stage flight) extends in
+      let z : times (SIZE (file_of (core.passes by).call)) (core.passes by).hands ≡ 0 = subst (λ f. times (SIZE f) (core.passes by).hands ≡ 0) (sym same) none in omega (arith, one, z)
+
+  two_lengths : (one other : ℕ) → IsInFlight (core.passes one).stage → IsInFlight (core.passes other).stage → IsExtending (fault_of (core.passes one)) → IsExtending (fault_of (core.passes other))
+      → file_of (core.passes one).call ≡ file_of (core.passes other).call → one ≡ other
+  two_lengths one other here there a b same = elim (cases_eq other one) [
+    | inl e ↦ sym e
+    | inr ne ↦ absurd (held_by_one sizes first core sound (SIZE (file_of (core.passes one).call)) one other (extending_size sizes first core one sound (measured (core.passes one).stage here) a)
+        (subst (λ f. times (SIZE f) (core.passes other).hands ≡ 1) (sym same) (extending_size sizes first core other sound (measured (core.passes other).stage there) b)) ne)
+  ]
+
+  page_at : (write : Fault) (pass : Pass) (page : ℕ) → write ≡ fault_of pass → IsPage sizes write.call page → IsPage sizes pass.call page
+  page_at write pass page e = subst (λ f. IsPage sizes f.call page) e
+
+pub no_two_in_flight_of_a_page : NoTwoInFlightOfAPage
+no_two_in_flight_of_a_page sizes first core one other page write more sound has also on too = elim has.1 [
+  | inl here ↦ elim also.1 [
+    | inl there ↦ no_two_writes_of_a_page sizes first core one other page sound here.0 there.0 (page_at sizes first core sound write (core.passes one) page here.1 on) (page_at sizes first core sound more (core.passes other) page there.1 too)
+    | inr ended ↦ absurd (beside_page sizes first core sound one other page more here.0 (page_at sizes first core sound write (core.passes one) page here.1 on) ended too)
+  ]
+  | inr ended ↦ elim also.1 [
+    | inl there ↦ absurd (beside_page sizes first core sound other one page write there.0 (page_at sizes first core sound more (core.passes other) page there.1 too) ended on)
+    | inr both ↦ sound.broken.one one other page write more ended both on too
+  ]
+]
+
+pub no_two_in_flight_of_a_length : NoTwoInFlightOfALength
+no_two_in_flight_of_a_length sizes first core one other write more sound has also a b same = elim has.1 [
+  | inl here ↦ elim also.1 [
+    | inl there ↦ two_lengths sizes first core sound one other here.0 there.0 (subst IsExtending here.1 a) (subst IsExtending there.1 b) (sym (ap (λ f. file_of f.call) here.1) ∙ same ∙ ap (λ f. file_of f.call) there.1)
+    | inr ended ↦ absurd (beside_length sizes first core sound one other more here.0 (subst IsExtending here.1 a) ended b (sym (ap (λ f. file_of f.call) here.1) ∙ same))
+  ]
+  | inr ended ↦ elim also.1 [
+    | inl there ↦ absurd (beside_length sizes first core sound other one write there.0 (subst IsExtending there.1 b) ended a (sym (ap (λ f. file_of f.call) there.1) ∙ sym same))
+    | inr both ↦ sound.broken_lengths.one one other write more ended both a b same
+  ]
+]
+
+pub in_flight_are_apart : InFlightAreApart
+in_flight_are_apart sizes first core one other write more some sound differs has also =
+    writes_apart sizes write.call more.call some has.0 also.0 (write_pages sizes write.call has.0) (write_pages sizes more.call also.0)
+    (λ j less on. differs (no_two_in_flight_of_a_page sizes first core one other (first_page sizes more.call + j) write more sound has also on (omega arith, omega (arith, less))))
+
+pub no_entry_above_in_flight : NoEntryAboveInFlight
+no_entry_above_in_flight sizes first core by number write sound has within above was on = elim has.1 [
+  | inl here ↦ at_hand here.0 here.1
+  | inr ended ↦ let is = g.faults.each by write ended has.0 in broken_ write.first is.unready is.group refl
+]
+  where
+    g : Grouped sizes core
+    g = sound.grouped
+
+    on_page : IsPage sizes write.call (page_of_number sizes (g.log.group number) number)
+    on_page = subst (IsPage sizes write.call) (word_page sizes g.log core g.groups g.pieces number within was) on
+
+    broken_ : (n : ℕ) → IsUnready sizes g.log core n → g.log.group n ≡ group_of_fault write → n ≡ write.first → ⊥
+    broken_ n unready group is = g.unready.apart n number unready within (subst (λ k. n + k.entries ≤ number) (sym group) (omega (arith, is, above))) (subst (λ k. IsPage sizes k.call (page_of_number sizes (g.log.group number) number)) (sym group) on_page)
+
+    at_hand : IsInFlight (core.passes by).stage → write ≡ fault_of (core.passes by) → ⊥
+    at_hand flight e = elim (flies (core.passes by) (subst (λ f. is_write f.call ≡ true) e has.0) (core.passes by).stage flight) [
+      | inl flying ↦ g.flight.apart by flying number within (subst (λ f. f.first + f.entries ≤ number) e above) (subst (λ f. IsPage sizes f.call (page_of_number sizes (g.log.group number) number)) e on_page)
+      | inr fails ↦
+          let own = failing_own sizes first g.log by core sound g.groups fails in
+          g.unready.apart (core.passes by).first number (failing_unready sizes first g.log by core sound g.groups fails) within
+          (subst (λ k. (core.passes by).first + k.entries ≤ number) (sym own.group) (subst (λ f. f.first + f.entries ≤ number) e above))
+          (subst (λ k. IsPage sizes k.call (page_of_number sizes (g.log.group number) number)) (sym own.group) (subst (λ f. IsPage sizes f.call (page_of_number sizes (g.log.group number) number)) e on_page))
+    ]

@@ -1,0 +1,43 @@
+-- Writes in flight, be a pass at them or be they ended by a fault: what no two of them share, and what the log has none of above them.
+use Rattle.std.specs.Prelude.{◌≡◌, ◌≢◌, ◌⊎◌, ℕ, ◌+◌, ◌≤◌, true}
+use Rattle.nv_core.specs.Words.{Sizes, page_of, was_readied}
+use Rattle.nv_core.specs.Passes.{Fault, IsOneOf, is_write, file_of}
+use Rattle.nv_core.specs.Stepped.{fault_of}
+use Rattle.nv_core.specs.Order.{Values}
+use Rattle.nv_core.specs.Core.{Core}
+use Rattle.nv_core.specs.Apart.{AreApart}
+use Rattle.nv_core.specs.Standing.{IsPage}
+use Rattle.nv_core.specs.LogWindow.{InWindow, entry_at}
+use Rattle.nv_core.specs.BrokenLengths.{IsExtending}
+use Rattle.nv_core.specs.Never.{IsInFlight}
+use Rattle.nv_core.specs.Sound.{Sound}
+
+-- A pass's write in flight, as a fault keeps one: the pass has drawn it and not placed it, or a fault has ended it.
+abbrev pub HasInFlight : Core → (by : ℕ) → Fault → Type 0
+HasInFlight core by write =
+    (is_write write.call ≡ true) × ((IsInFlight (core.passes by).stage × (write ≡ fault_of (core.passes by))) ⊎ IsOneOf (core.passes by).faulted write)
+
+-- No two of them touch one page.
+abbrev pub NoTwoInFlightOfAPage : Type 0
+NoTwoInFlightOfAPage =
+    (sizes : Sizes) (first : Values) (core : Core) (one other page : ℕ) (write more : Fault) → Sound sizes first core
+    → HasInFlight core one write → HasInFlight core other more → IsPage sizes write.call page → IsPage sizes more.call page → one ≡ other
+
+-- At most one makes a given file longer.
+abbrev pub NoTwoInFlightOfALength : Type 0
+NoTwoInFlightOfALength =
+    (sizes : Sizes) (first : Values) (core : Core) (one other : ℕ) (write more : Fault) → Sound sizes first core
+    → HasInFlight core one write → HasInFlight core other more → IsExtending write → IsExtending more → file_of write.call ≡ file_of more.call → one ≡ other
+
+-- Two of them are apart: in whatever order they are made, they leave the same files.
+abbrev pub InFlightAreApart : Type 0
+InFlightAreApart =
+    (sizes : Sizes) (first : Values) (core : Core) (one other : ℕ) (write more : Fault) → 1 ≤ sizes.page → Sound sizes first core → one ≢ other
+    → HasInFlight core one write → HasInFlight core other more → AreApart write.call more.call
+
+-- No entry above one that was made ready is on a page of it.
+abbrev pub NoEntryAboveInFlight : Type 0
+NoEntryAboveInFlight =
+    (sizes : Sizes) (first : Values) (core : Core) (by number : ℕ) (write : Fault) → Sound sizes first core
+    → HasInFlight core by write → InWindow core number → write.first + write.entries ≤ number → was_readied (entry_at sizes core number) ≡ true
+    → IsPage sizes write.call (page_of (entry_at sizes core number)) → ⊥
