@@ -1,8 +1,13 @@
 -- An empty log has nothing that its stores lack.
-use Rattle.std.proofs.Common.{◌≡◌, ℕ, suc, ◌+◌, ◌-◌, ◌<◌, ◌≤◌, false, List, [], ◌++◌, length, Some, inl, inr, refl, sym, ap, ap₂, subst, ◌∙◌, arith}
-use Rattle.std.proofs.lemmas.Bool.{cases_eq, cases_lt}
+use Rattle.std.proofs.Common.{◌≡◌, ◌≢◌, ℕ, zero, suc, ◌+◌, ◌-◌, ◌<◌, ◌≤◌, ◌==◌, if◌then◌else◌, Bool, true, false, List, [], ◌∷◌, ◌++◌, length, Some, inl, inr, refl, sym, ap, ap₂, subst, ◌∙◌, arith}
+use Rattle.std.specs.Prelude.{filter}
+use Rattle.std.specs.List.{range_with_len}
+use Rattle.std.proofs.lemmas.Bool.{cases_eq, cases_lt, ne_eqb}
+use Rattle.std.proofs.lemmas.Nat.{mod_below}
 use Rattle.std.proofs.lemmas.List.{append-nil, ext_get_or}
 use Rattle.nv_plain.specs.declared.call.FileCall.{FileCall}
+use Rattle.nv_plain.specs.Images.{Entry, entry_at as image_entry}
+use Rattle.nv_plain.specs.Recovered.{committed}
 use Rattle.nv_pmem.specs.Part.{Part}
 use Rattle.nv_pmem.specs.Images.{IsQuiet}
 use Rattle.nv_header.specs.Laws.{after_some_tail}
@@ -20,7 +25,12 @@ use Rattle.nv_core.specs.Tails.{Tails}
 use Rattle.nv_core.specs.Apart.{after_calls}
 use Rattle.nv_core.specs.LivePieces.{rising, call_if, piece_call, is_live, is_waiting, live_pieces, to_place, calls_of, store_files}
 use Rattle.nv_core.specs.PersistentTail.{LiesInPieces}
-use Rattle.nv_core.specs.EmptyLog.{IsEmpty, EmptyLogsRest}
+use Rattle.nv_core.specs.Deeds.{slot_of}
+use Rattle.nv_core.specs.Written.{IsBlank}
+use Rattle.nv_core.specs.EntryImages.{InEachImageOf}
+use Rattle.nv_core.specs.EmptyLog.{IsEmpty, EmptyLogsAreStored, EmptyLogsRest}
+use Rattle.nv_core.proofs.CrashGroups.{some_entries, entry_is}
+use Rattle.nv_core.proofs.CrashHeader.{which_tail}
 use Rattle.nv_core.proofs.Choices.{unless_true}
 use Rattle.nv_core.proofs.LiveLaws.{rising_none}
 use Rattle.nv_core.proofs.KeepsHeader.{none_moved}
@@ -30,8 +40,11 @@ no_number : (core : Core) → IsEmpty core → (n : ℕ) → InWindow core n →
 no_number core empty n within = let e = empty.none in let l = within.0 in let h = within.1 in omega (arith, e, l, h)
 
 -- no live piece, and no write that is to be placed
-no_pieces : (sizes : Sizes) (log : Log) (core : Core) → IsEmpty core → live_pieces sizes log core ≡ []
-no_pieces sizes log core empty = ap (rising (λ n. call_if (is_live sizes log core n) (piece_call sizes (log.group n) n)) (core.words TAIL)) (let e = empty.none in let z : core.words HEAD - core.words TAIL ≡ 0 = omega (arith, e) in z)
+no_pieces : (sizes : Sizes) (log : Log) (core : Core) → core.words TAIL ≡ core.words HEAD → live_pieces sizes log core ≡ []
+no_pieces sizes log core none = ap (rising (λ n. call_if (is_live sizes log core n) (piece_call sizes (log.group n) n)) (core.words TAIL)) (let z : core.words HEAD - core.words TAIL ≡ 0 = omega (arith, none) in z)
+
+pub empty_logs_are_stored : EmptyLogsAreStored
+empty_logs_are_stored sizes first opened tails log placed core content none = content.live.files ∙ ap (λ c. after_calls c (store_files sizes core.values)) (no_pieces sizes log core none)
 
 -- a cleaner that moves the tail, or has met a fault, holds HEADER
 holds_header : (sizes : Sizes) (pass : Pass) (stage : Stage) → HoldsLocks sizes pass stage → IsMoving stage → times HEADER pass.hands ≡ 1
@@ -59,17 +72,41 @@ durable sizes tail log core file store empty lies = record {
       | inr more ↦ let l = lies.no_longer in omega (arith, l, more)
     ]
 
+-- no number passes a test that none meets
+filters_none : (test : ℕ → Bool) (from count : ℕ) → ((n : ℕ) → from ≤ n → test n ≡ false) → filter test (range_with_len from count) ≡ []
+filters_none test from zero none = refl
+filters_none test from (suc count) none = go (filter test (range_with_len (from + 1) count)) (filters_none test (from + 1) count (λ n low. none n (omega (arith, low)))) (test from) (none from (omega arith))
+  where
+    go : (rest : List ℕ) → rest ≡ [] → (b : Bool) → b ≡ false → (if b then from ∷ rest else rest) ≡ []
+    go rest is false e = is
+    go rest is true e = absurd cc
+
 pub empty_logs_rest : EmptyLogsRest
 empty_logs_rest sizes first opened names tails log placed core sound content region empty = record {
-  files =
-      content.live.files
-      ∙ ap (λ c. after_calls c (store_files sizes core.values)) (no_pieces sizes log core empty);
+  files = empty_logs_are_stored sizes first opened tails log placed core content empty.none;
   stores = λ file store less told. durable sizes tails.next log core file store empty (region.persistent.stores file store less told);
   header = λ part is. let moved = content.header.moved part is in subst IsQuiet (sym (moved.is ∙ ap (λ c. after_some_tail tails.next c moved.before) unmoved ∙ none_moved tails.next moved.before)) moved.quiet;
   tail = content.retired.same unmoved;
-  entries = λ slot less. content.written.free slot less (sound.window.others slot less (λ n within. absurd (no_number core empty n within)));
+  entries = blank;
+  committed = none_committed;
 }
   where
+    blank : (slot : ℕ) → slot < sizes.entries → IsBlank sizes (core.values (ENTRY slot)) tails.least slot
+    blank slot less = content.written.free slot less (sound.window.others slot less (λ n within. absurd (no_number core empty n within)))
+
+    none_committed : InEachImageOf sizes core.values (λ image. committed image ≡ [])
+    none_committed image is =
+        let reads = region.header image is in
+        ap₂ (λ t e. filter (λ n. (image_entry image n).commit == n + 1) (range_with_len t e)) reads.tail_is reads.entries_is
+        ∙ filters_none (λ n. (image_entry image n).commit == n + 1) (image 0 1 0) sizes.entries (λ n low. ne_eqb (image_entry image n).commit (n + 1) (λ counts. lacks n low (ap (λ (e : Entry). e.commit) (sym (entry_is sizes names (image 0 1 0) image reads n)) ∙ counts)))
+      where
+        lacks : (n : ℕ) → image 0 1 0 ≤ n → image (1 + slot_of sizes n) 0 0 ≢ n + 1
+        lacks n low =
+            let less = mod_below n sizes.entries (some_entries sizes names (image 0 1 0) image (region.header image is)) in
+            let b = blank (slot_of sizes n) less in
+            b.stale (image (1 + slot_of sizes n)) (is.entries (slot_of sizes n) less b.part b.is) n refl
+            (let o = content.retired.order in elim (which_tail sizes first names tails log core content.header region image is) [ inl e ↦ omega (arith, e, low) | inr e ↦ omega (arith, e, o, low) ])
+
     unmoved : tails.calls ≡ 0
     unmoved = elim (cases_eq tails.calls 0) [
       | inl e ↦ e

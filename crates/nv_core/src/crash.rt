@@ -1,7 +1,7 @@
 ghost use Rattle.nv_core.specs.AtRest.{RegionsAtRestOpen};
 ghost use Rattle.nv_core.specs.Crash.{EventsKeepRegion, FaultsAreFated, OpeningHasRegion, RunsKeepRegion, RunsSurviveCrashes, StatesSurviveCrashes};
 ghost use Rattle.nv_core.specs.CrashByHand.{ImagesByHand};
-ghost use Rattle.nv_core.specs.EmptyLog.{EmptyLogsRest};
+ghost use Rattle.nv_core.specs.EmptyLog.{EmptyLogsAreStored, EmptyLogsRest};
 ghost use Rattle.nv_core.specs.CrashWalks.{OpenWriteHasTwoFates, PlacedWriteStays, ReadyWriteStays};
 
 use nv_entry::groups_follow_steps;
@@ -32,10 +32,12 @@ pub fn crashes_leave_whole_writes()
     the_tail_follows_steps();
 }
 
-/// Where the log is empty, STOP is 0 and no pass has a call or a batch at hand, the stores read as the files after the history and are
-/// durable, the header and the part of each entry are quiet, and no commit word counts in any image.
+/// Where the log is empty the stores read as the files after the history and the writes that are placed next, whatever passes do
+/// and STOP says. Where STOP is 0 too and no pass holds a cell, they are durable, the header and the part of each entry are quiet,
+/// and no image has a committed number.
 pub fn empty_logs_rest()
-    ensures { EmptyLogsRest }
+    ensures stored { EmptyLogsAreStored }
+    ensures rest { EmptyLogsRest }
 {}
 
 /// What the crash law asks of a mount's region is met by every region at rest, as recovery and formatting leave it.
