@@ -21,8 +21,8 @@ use Rattle.nv_core.specs.LogWindow.{InWindow, entry_at}
 use Rattle.nv_core.specs.Loaded.{Looks}
 use Rattle.nv_core.specs.Rooms.{FillsReady, KeepsReady}
 use Rattle.nv_core.specs.Sound.{Sound}
-use Rattle.nv_core.specs.Laws.{OpeningIsSound, EventsKeepSound}
-use Rattle.nv_core.specs.FittingPieces.{FitsTold, PieceFits, HeldPiecesFit}
+use Rattle.nv_core.specs.Laws.{OpeningIsSound, EventsKeepSound, RunsAreSound}
+use Rattle.nv_core.specs.FittingPieces.{FitsTold, PieceFits, ReadyPiecesFit, HeldPiecesFit}
 use Rattle.nv_core.proofs.Choices.{if_both, not_both}
 use Rattle.nv_core.proofs.KeepsLocks.{entry_is, held_was}
 use Rattle.nv_core.proofs.KeepsRooms.{seizes_ready}
@@ -169,16 +169,17 @@ fits_run keeps groups sizes some first (event ∷ later) core run is = fits_run 
   fits = fits_act groups sizes some first event.by core event.act is.sound is.fits run.0.made run.0.act;
 })
 
-pub held_pieces_fit : OpeningIsSound → EventsKeepSound → GroupsFit → HeldPiecesFit
-held_pieces_fit opens keeps groups mount events by page number is_mount some run at =
-    is.fits.made (slot_of mount.sizes number) (held_was (entry_at mount.sizes core number) (entry_is held page (entry_at mount.sizes core number) looks.1).0)
+pub ready_pieces_fit : OpeningIsSound → EventsKeepSound → GroupsFit → ReadyPiecesFit
+ready_pieces_fit opens keeps groups mount events slot is_mount some run =
+    (fits_run keeps groups mount.sizes some mount.values events (opening mount) run
+    (record { sound = opens mount is_mount; fits = record { made = λ slot made. absurd (not_both made refl); filling = λ n s fills. absurd fills } })).fits.made slot
+
+pub held_pieces_fit : RunsAreSound → ReadyPiecesFit → HeldPiecesFit
+held_pieces_fit sound fits mount events by page number is_mount some run at =
+    fits mount events (slot_of mount.sizes number) is_mount some run (held_was (entry_at mount.sizes core number) (entry_is held page (entry_at mount.sizes core number) looks.1).0)
   where
     core : Core
     core = after mount.sizes (opening mount) events
 
-    is : FitsSoundly mount.sizes mount.values (after mount.sizes (opening mount) events)
-    is = fits_run keeps groups mount.sizes some mount.values events (opening mount) run
-        (record { sound = opens mount is_mount; fits = record { made = λ slot made. absurd (not_both made refl); filling = λ n s fills. absurd fills } })
-
     looks : InWindow (after mount.sizes (opening mount) events) number × (is_entry_of held page (entry_at mount.sizes (after mount.sizes (opening mount) events) number) ≡ true)
-    looks = subst (Looks mount.sizes core) at (is.sound.loaded.looks by)
+    looks = subst (Looks mount.sizes core) at ((sound mount events is_mount run).loaded.looks by)

@@ -1,8 +1,8 @@
--- Fitting pieces: what a part says of the entry that a read holds lies in one page.
-use Rattle.std.specs.Prelude.{◌≡◌, ℕ, ◌+◌, ◌%◌, ◌≤◌, List, Option, Some, None}
+-- Fitting pieces: what a part says of an entry that was made ready lies in one page.
+use Rattle.std.specs.Prelude.{◌≡◌, ℕ, ◌+◌, ◌%◌, ◌≤◌, true, List, Option, Some, None}
 use Rattle.nv_plain.specs.Images.{entry_of}
 use Rattle.nv_pmem.specs.Part.{Part, word_of}
-use Rattle.nv_core.specs.Words.{Sizes, ENTRY}
+use Rattle.nv_core.specs.Words.{Sizes, ENTRY, was_readied}
 use Rattle.nv_core.specs.Values.{Value, APart}
 use Rattle.nv_core.specs.Passes.{Patching}
 use Rattle.nv_core.specs.Deeds.{slot_of}
@@ -19,8 +19,16 @@ abbrev pub PieceFits : Sizes → Value → Type 0
 PieceFits sizes (APart device spares) = FitsTold sizes device.told
 PieceFits sizes value = ⊥
 
--- After every run, where a read is about to read the piece of an entry that it holds, the part of that entry says a piece that lies in
--- one page, if it tells anything: whatever other devices tell, and whatever the parts said at opening.
+-- After every run the part of each entry that was made ready says a piece that lies in one page, if it tells anything: whatever other devices
+-- tell, and whatever the parts said at opening.
+abbrev pub ReadyPiecesFit : Type 0
+ReadyPiecesFit =
+    (mount : Mount) (events : List Event) (slot : ℕ)
+    → IsMount mount → 1 ≤ mount.sizes.page → IsRun mount.sizes (opening mount) events
+    → was_readied ((after mount.sizes (opening mount) events).words (ENTRY slot)) ≡ true
+    → PieceFits mount.sizes ((after mount.sizes (opening mount) events).values (ENTRY slot))
+
+-- So it is of the entry whose piece a read is about to read.
 abbrev pub HeldPiecesFit : Type 0
 HeldPiecesFit =
     (mount : Mount) (events : List Event) (by page number : ℕ)

@@ -16,7 +16,7 @@ pub use crash::{
     crashes_leave_whole_writes, empty_logs_rest, images_by_hand, regions_at_rest_open,
     walks_survive_crashes,
 };
-pub use fitting::held_pieces_fit;
+pub use fitting::{held_pieces_fit, ready_pieces_fit};
 pub use laws::{
     a_batch_is_a_run, a_dirty_read_is_a_run, lengths_follow_the_history, no_sound_state_allows,
     runs_are_sound, spares_tell_the_room, walks_are_runs, words_have_places_of_their_own,

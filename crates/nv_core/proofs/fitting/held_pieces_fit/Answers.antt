@@ -1,13 +1,5 @@
-use Rattle.nv_core.proofs.FittingSteps.{LoadLaws, groups_fit}
 use Rattle.nv_core.proofs.FittingLaws.{held_pieces_fit}
 use Rattle.nv_core.proofs.fitting.held_pieces_fit.Goals as goal
 
 pub returns : goal.returns
-returns c =
-    let loads : LoadLaws = record {
-      stored = c.loads_follow_calls.ensures.stored;
-      kept = c.loads_follow_calls.ensures.kept;
-      lines = c.loads_follow_calls.ensures.lines;
-      blank = c.loads_follow_calls.ensures.blank;
-    } in
-    held_pieces_fit c.runs_are_sound.ensures.opening c.runs_are_sound.ensures.events (groups_fit loads)
+returns c = held_pieces_fit c.runs_are_sound.ensures.runs c.ready_pieces_fit.ensures
