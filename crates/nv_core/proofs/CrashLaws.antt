@@ -130,7 +130,7 @@ module _ (plain : PlainLaws) (sizes : Sizes) (first : Values) (opened : Files) (
   committed_if : (n : ℕ) → InWindow core n → tail ≤ n → leads n ≡ true → is_ready sizes core n ≡ true → is_committed sizes image n ≡ true
   committed_if n within low e r = ready_committed plain sizes first opened names tails log placed core sound content region images stale image is which n within low (eqb-true (log.group n).first n e) r
 
-  unready_if : (n : ℕ) → InWindow core n → tail ≤ n → leads n ≡ true → is_ready sizes core n ≡ false → IsUnready sizes log core n
+  pub unready_if : (n : ℕ) → InWindow core n → tail ≤ n → leads n ≡ true → is_ready sizes core n ≡ false → IsUnready sizes log core n
   unready_if n within low e r = record { within = within; leads = eqb-true (log.group n).first n e; unready = λ e. not_both e r; unfreed = λ by. unfreed n by low }
 
   -- a write whose leader was never made ready is apart from each that was, above it

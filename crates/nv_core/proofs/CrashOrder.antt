@@ -5,7 +5,7 @@ use Rattle.std.proofs.lemmas.List.{append-nil}
 use Rattle.nv_plain.specs.Files.{Files}
 use Rattle.nv_plain.specs.declared.call.FileCall.{FileCall}
 use Rattle.nv_core.specs.Words.{Sizes, HEAD, TAIL, kind_of, cleaned, was_readied}
-use Rattle.nv_core.specs.Passes.{IsAmong, first_page}
+use Rattle.nv_core.specs.Passes.{IsAmong, is_write, first_page}
 use Rattle.nv_core.specs.Standing.{IsPage}
 use Rattle.nv_core.specs.SweepNumbers.{IsFreed}
 use Rattle.nv_core.specs.Core.{Core}
@@ -19,11 +19,12 @@ use Rattle.nv_core.proofs.PlainLaws.{PlainLaws}
 use Rattle.nv_core.proofs.ApartLaws.{after_both}
 use Rattle.nv_core.proofs.Choices.{not_both, unless_true}
 use Rattle.nv_core.proofs.LiveLaws.{rising_same, rising_none, rising_split, rising_apart, come_last, AllApart, pieces_after, writes_apart}
+use Rattle.nv_core.proofs.PageLaws.{write_pages}
 use Rattle.nv_core.proofs.KeepsLive.{after_length, and_false}
 
 -- ---- two calls a number, of which the second ones are apart from those above
 
-all_rising : (calls : List FileCall) (others : ℕ → List FileCall) (from count : ℕ) → ((n : ℕ) → from ≤ n → n < from + count → AllApart calls (others n)) → AllApart calls (rising others from count)
+pub all_rising : (calls : List FileCall) (others : ℕ → List FileCall) (from count : ℕ) → ((n : ℕ) → from ≤ n → n < from + count → AllApart calls (others n)) → AllApart calls (rising others from count)
 all_rising [] others from count apart = tt
 all_rising (call ∷ calls) others from count apart =
     (rising_apart call others from count (λ n low high. (apart n low high).0), all_rising calls others from count (λ n low high. (apart n low high).1))
@@ -111,14 +112,12 @@ module _ (sizes : Sizes) (log : Log) (core : Core) (groups : Groups sizes core l
         let f : m ≡ n = sym other ∙ ap (λ x. x.first) e ∙ leads in omega (arith, f, less))
   ]
 
-  -- a write whose leader isn't ready is apart from each above it
-  pub unready_apart : (placed : ℕ → Bool) → Unready sizes log placed core → 1 ≤ sizes.page → (n m : ℕ) → IsUnready sizes log core n → InWindow core m → (log.group m).first ≡ m → n < m → AreApart (log.group n).call (log.group m).call
-  unready_apart placed unready page_is n m is within leads less =
-      let g = groups.each n is.within in
+  -- a write is apart from a group that has no number on one of its pages
+  pub group_apart : 1 ≤ sizes.page → (call : FileCall) → is_write call ≡ true → (m : ℕ) → InWindow core m → (log.group m).first ≡ m
+      → ((k : ℕ) → m ≤ k → InWindow core k → IsPage sizes call (page_of_number sizes (log.group k) k) → ⊥) → AreApart call (log.group m).call
+  group_apart page_is call write m within leads none =
       let h = groups.each m within in
-      let behind = leads_behind n m is.within is.leads leads less in
-      writes_apart sizes (log.group n).call (log.group m).call page_is g.drawn.write h.drawn.write
-      (subst (λ c. 1 ≤ c) g.drawn.many g.drawn.some) (subst (λ c. 1 ≤ c) h.drawn.many h.drawn.some)
+      writes_apart sizes call (log.group m).call page_is write h.drawn.write (write_pages sizes call write) (subst (λ c. 1 ≤ c) h.drawn.many h.drawn.some)
       (λ j inside on.
       let many = h.drawn.many in
       let high = h.high in
@@ -127,7 +126,13 @@ module _ (sizes : Sizes) (log : Log) (core : Core) (groups : Groups sizes core l
       let e : log.group (m + j) ≡ log.group m = h.same (m + j) among in
       let at : page_of_number sizes (log.group (m + j)) (m + j) ≡ first_page sizes (log.group m).call + j =
       ap (λ x. page_of_number sizes x (m + j)) e ∙ ap (λ f. first_page sizes (log.group m).call + (m + j - f)) leads ∙ ap (λ k. first_page sizes (log.group m).call + k) (omega arith) in
-      unready.apart n (m + j) is (omega (arith, low), omega (arith, high, leads, inside, many)) (omega (arith, behind)) (subst (IsPage sizes (log.group n).call) (sym at) on))
+      none (m + j) (omega arith) (omega (arith, low), omega (arith, high, leads, inside, many)) (subst (IsPage sizes call) (sym at) on))
+
+  -- so a write whose leader isn't ready is apart from each above it
+  pub unready_apart : (placed : ℕ → Bool) → Unready sizes log placed core → 1 ≤ sizes.page → (n m : ℕ) → IsUnready sizes log core n → InWindow core m → (log.group m).first ≡ m → n < m → AreApart (log.group n).call (log.group m).call
+  unready_apart placed unready page_is n m is within leads less =
+      let behind = leads_behind n m is.within is.leads leads less in
+      group_apart page_is (log.group n).call (groups.each n is.within).drawn.write m within leads (λ k low there on. unready.apart n k is there (omega (arith, behind, low)) on)
 
   module _ (pieces : Pieces sizes log core) (plain : PlainLaws) (page_is : 1 ≤ sizes.page) where
     abbrev pub ready_write : ℕ → List FileCall

@@ -103,6 +103,7 @@ pub mod CrashOrder
 pub mod CrashStores
 pub mod CrashHeader
 pub mod CrashLaws
+pub mod AddedOrder
 pub mod LiesLaws
 pub mod CrashRegions
 pub mod CarriedPieces

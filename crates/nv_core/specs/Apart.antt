@@ -1,5 +1,5 @@
 -- Writes apart: which calls may be made in another order with the same files.
-use Rattle.std.specs.Prelude.{◌≢◌, ◌⊎◌, ℕ, ◌+◌, ◌≤◌, List, [], ◌∷◌, length}
+use Rattle.std.specs.Prelude.{◌≡◌, ◌≢◌, ◌⊎◌, ℕ, ◌+◌, ◌≤◌, List, [], ◌∷◌, ◌++◌, length}
 use Rattle.nv_plain.specs.declared.call.FileCall.{FileCall}
 use Rattle.nv_plain.specs.declared.call.FileCall.TheVariants.{Write}
 use Rattle.nv_plain.specs.Files.{Files}
@@ -23,3 +23,8 @@ IsApartFrom call (one ∷ others) = AreApart call one × IsApartFrom call others
 abbrev pub after_calls : List FileCall → Files → Files
 after_calls [] files = files
 after_calls (call ∷ later) files = after_calls later (files_after call files)
+
+-- the same calls in another order: each of them stands somewhere, and the others are the same without it
+abbrev pub IsReordered : (calls others : List FileCall) → Type 0
+IsReordered [] others = others ≡ []
+IsReordered (call ∷ rest) others = (before behind : List FileCall) × (others ≡ before ++ call ∷ behind) × IsReordered rest (before ++ behind)

@@ -22,12 +22,12 @@ use Rattle.nv_core.specs.Sound.{Sound}
 use Rattle.nv_core.specs.StorePages.{store_of, HasFiles}
 use Rattle.nv_core.specs.LogWindow.{InWindow}
 use Rattle.nv_core.specs.Groups.{Log, log_after}
-use Rattle.nv_core.specs.Written.{IsPart}
+use Rattle.nv_core.specs.Written.{IsPart, commit_length}
 use Rattle.nv_core.specs.EntryImages.{IsRegionImage, InEachImageOf}
 use Rattle.nv_core.specs.InFlight.{IsWaiting}
 use Rattle.nv_core.specs.Tails.{Tails, still, tails_after}
 use Rattle.nv_core.specs.LivePieces.{rising, call_if, calls_of, is_ready, to_place}
-use Rattle.nv_core.specs.Apart.{after_calls}
+use Rattle.nv_core.specs.Apart.{IsReordered, after_calls}
 use Rattle.nv_core.specs.PersistentTail.{PersistentTail}
 use Rattle.nv_core.specs.LogContent.{LogContent, OpensLog, tails_after_run, log_after_run, placed_after_run}
 
@@ -117,6 +117,22 @@ FaultsAreFated =
     → Sound sizes first core → LogContent sizes first opened tails log placed core → HasRegion sizes names tails log core
     → IsRegionImage sizes core.values image → AreStoreImages sizes core.values bytes → IsOneOf (core.passes by).faulted fault → is_write fault.call ≡ true
     → ((recovered image bytes).first ≤ fault.first) × (IsOneOf (recovered image bytes).groups fault.first ↔ (is_added sizes log placed core image fault.first ≡ true)) × (log.group fault.first ≡ group_of_fault fault)
+
+-- One whose commit failed before the store of its commit word, the third device call from the end, is in no image's groups.
+abbrev pub FaultsAreLost : Type 0
+FaultsAreLost =
+    (sizes : Sizes) (first : Values) (opened : Files) (names : List (List ℕ)) (tails : Tails) (log : Log) (placed : ℕ → Bool) (core : Core) (by : ℕ) (fault : Fault) (image : Image) (bytes : Files)
+    → Sound sizes first core → LogContent sizes first opened tails log placed core → HasRegion sizes names tails log core
+    → IsRegionImage sizes core.values image → AreStoreImages sizes core.values bytes → IsOneOf (core.passes by).faulted fault → is_write fault.call ≡ true
+    → log.calls fault.first + 3 ≤ commit_length sizes fault.call fault.first → IsOneOf (recovered image bytes).groups fault.first → ⊥
+
+-- The writes that an image adds may as well be made in any other order.
+abbrev pub AddedInAnyOrder : Type 0
+AddedInAnyOrder =
+    (sizes : Sizes) (first : Values) (opened : Files) (names : List (List ℕ)) (tails : Tails) (log : Log) (placed : ℕ → Bool) (core : Core) (image : Image) (others : List FileCall)
+    → Sound sizes first core → LogContent sizes first opened tails log placed core → HasRegion sizes names tails log core → IsRegionImage sizes core.values image
+    → IsReordered (added sizes log placed core image) others
+    → after_calls (calls_of core.history ++ others) opened ≡ after_calls (calls_of core.history ++ added sizes log placed core image) opened
 
 -- Every event keeps the region.
 abbrev pub EventsKeepRegion : Type 0

@@ -1,5 +1,5 @@
 ghost use Rattle.nv_core.specs.AtRest.{RegionsAtRestOpen};
-ghost use Rattle.nv_core.specs.Crash.{EventsKeepRegion, FaultsAreFated, OpeningHasRegion, RunsKeepRegion, RunsSurviveCrashes, StatesSurviveCrashes};
+ghost use Rattle.nv_core.specs.Crash.{AddedInAnyOrder, EventsKeepRegion, FaultsAreFated, FaultsAreLost, OpeningHasRegion, RunsKeepRegion, RunsSurviveCrashes, StatesSurviveCrashes};
 ghost use Rattle.nv_core.specs.CrashByHand.{ImagesByHand};
 ghost use Rattle.nv_core.specs.EmptyLog.{EmptyLogsAreStored, EmptyLogsRest};
 ghost use Rattle.nv_core.specs.CrashWalks.{OpenWriteHasTwoFates, PlacedWriteStays, ReadyWriteStays};
@@ -14,7 +14,8 @@ use nv_store::store_images;
 /// after the history and then some of the writes in flight, each whole: all those whose leader was made ready, and of the others
 /// those that read as committed in that image. So it is in every sound state in which the content of the log is right, the
 /// region reads as the mount's, and what of the stores isn't durable lies in live pieces. Each event keeps that, and so it is
-/// after every run from the opening of a region.
+/// after every run from the opening of a region. A write that a fault ended is among the recovered groups exactly where the image
+/// adds it, and in none where its commit failed before its commit word. The writes that an image adds may be made in any order.
 pub fn crashes_leave_whole_writes()
     ensures opening { OpeningHasRegion }
     ensures events { EventsKeepRegion }
@@ -22,6 +23,8 @@ pub fn crashes_leave_whole_writes()
     ensures runs { RunsSurviveCrashes }
     ensures region { RunsKeepRegion }
     ensures faults { FaultsAreFated }
+    ensures lost { FaultsAreLost }
+    ensures order { AddedInAnyOrder }
 {
     loads_follow_calls();
     images_follow_calls();

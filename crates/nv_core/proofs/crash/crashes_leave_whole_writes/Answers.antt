@@ -5,11 +5,12 @@ use Rattle.nv_core.proofs.PlainLaws.{PlainLaws}
 use Rattle.nv_core.proofs.LogLaws.{LogLaws}
 use Rattle.nv_core.proofs.Reach.{opening_is_sound, events_keep_sound, runs_are_sound_all}
 use Rattle.nv_core.proofs.OpeningLogContent.{opening_has_the_log}
-use Rattle.nv_core.proofs.KeepsLogContent.{events_keep_the_log, runs_keep_the_log_all}
+use Rattle.nv_core.proofs.KeepsLogContent.{events_keep_the_log, groups_come_late, runs_keep_the_log_all}
 use Rattle.nv_core.proofs.KeepsPersistent.{persistent_goes_on}
 use Rattle.nv_core.proofs.CrashLaws.{states_survive}
+use Rattle.nv_core.proofs.AddedOrder.{added_in_any_order}
 use Rattle.nv_core.proofs.CrashRegions.{events_keep_region}
-use Rattle.nv_core.proofs.FaultFates.{faults_are_fated}
+use Rattle.nv_core.proofs.FaultFates.{faults_are_fated, faults_are_lost}
 use Rattle.nv_core.proofs.CrashRuns.{opening_has_region, runs_survive, runs_keep_region}
 use Rattle.nv_core.proofs.crash.crashes_leave_whole_writes.Goals as goal
 
@@ -48,6 +49,8 @@ returns c =
       events = events;
       states = states;
       faults = faults_are_fated states;
+      lost = faults_are_lost (groups_come_late c.images_follow_calls.ensures.now c.groups_follow_steps.ensures.stay) (faults_are_fated states);
+      order = added_in_any_order c.images_follow_calls.ensures.now c.groups_follow_steps.ensures.atomic c.groups_follow_steps.ensures.whole c.groups_follow_steps.ensures.quiet c.groups_follow_steps.ensures.only plain;
       region = runs_keep_region opens_sound sounds opens_log logs opening events;
       runs = runs_survive opens_sound sounds opens_log logs (runs_are_sound_all c.groups_follow_steps.ensures.ready) (runs_keep_the_log_all laws plain c.groups_follow_steps.ensures.ready) opening events states;
     }
