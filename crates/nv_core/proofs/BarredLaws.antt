@@ -7,7 +7,7 @@ use Rattle.nv_core.specs.Words.{Sizes, Word, STOP, ORDER, HEAD, TAIL, SIZE, LENG
 use Rattle.nv_core.specs.Sweeps.{Chore}
 use Rattle.nv_core.specs.Passes.{Stage, Locking, Measuring, Sizing, Checking, Ordering, Reading, Fetching, Copying, Returning, Heading, Tailing, Drawing, Seizing, Committing, Pledging, Readying, Placing, Growing, Releasing, Giving, Leaving, ReadFailing, WriteFailing, Breaking, Fault, Pass, IsOneOf, page_count, first_page, end_page, without, times, Searching, Hinting, Seeking, Robbing, Robbed, Nothing, Found, Search, Waiting, Bounding, Starting, Scanning, Grasping, Patching, Restoring, Unlocking, PieceFailing, Cleaning}
 use Rattle.nv_core.specs.Deeds.{Deed, moved, move_of, Comes, Stays, Loads, Takes, Gives, Places, Stops, Draws, Seizes, Pledges, Readies, Grows, Breaks, Splits, Leaves, Joins, slot_of, Turns, Hints, Holds, Returns, Tends, chore_move}
-use Rattle.nv_core.specs.Stages.{stage_after, after_load, after_give, after_stop, leaving, exceeds, after_return}
+use Rattle.nv_core.specs.Stages.{IsBetween, stage_after, after_load, after_give, after_stop, leaving, exceeds, after_return}
 use Rattle.nv_core.specs.Stepped.{fault_of, begun}
 use Rattle.nv_core.specs.Order.{Values, Work, MayWork, MayStep, MayTend, MayLoad, MayTake, MayGive, MayPlace, IsDue, IsFailing, IsMiss, JustNow, AfterTries, IsOver}
 use Rattle.nv_core.specs.Core.{Core, changes, changed, after_step, after_begin, after_work, worked, stage_worked, values_worked}
@@ -173,7 +173,7 @@ place_none sizes values pass reply Placing may = λ _. refl
 place_none sizes values pass reply (Reading page) may = λ _. refl
 place_none sizes values pass reply stage may = absurd may
 
-fail_none : (stage : Stage) → IsFailing stage → RobsNone stage
+pub fail_none : (stage : Stage) → IsFailing stage → RobsNone stage
 fail_none (ReadFailing page dirty) may = λ _. refl
 fail_none (PieceFailing page next) may = λ _. refl
 fail_none WriteFailing may = λ _. refl
@@ -203,7 +203,7 @@ abbrev pub lent : Stage → Word → ℕ
 lent stage (PAGE page) = victim_held stage page
 lent stage cell = 0
 
-lent_none : (stage : Stage) → RobsNone stage → (cell : Word) → lent stage cell ≡ 0
+pub lent_none : (stage : Stage) → RobsNone stage → (cell : Word) → lent stage cell ≡ 0
 lent_none stage none (PAGE page) = none page
 lent_none stage none cell = refl
 
@@ -224,12 +224,30 @@ taken_less : (pass : Pass) (cell other : Word) (found : ℕ) → IsTakenBefore c
 taken_less pass cell other found early is = if_both (λ m. times cell (moved m pass.hands) ≤ times cell pass.hands) (found == 0) (Comes other) Stays
     (λ _. let e = times_else cell other pass.hands (λ e. elim is [ inl late ↦ early.store late.0 (e ∙ late.1) | inr late ↦ early.cleanup late.0 (e ∙ late.1) ]) in omega (arith, e)) (λ _. omega arith)
 
+-- a call takes its locks, or loads LENGTH or STOP next
+abbrev pub IsAtLocks : Stage → Type 0
+IsAtLocks stage = IsBetween 1 3 stage
+
+past_locks : (stage : Stage) → HasChecked stage → IsAtLocks stage → ⊥
+past_locks (Locking page) is at = is
+past_locks Measuring is at = is
+past_locks Sizing is at = is
+past_locks Checking is at = is
+past_locks (Restoring page number true) is at = is
+past_locks (Restoring page number false) is at = at
+past_locks stage is at = at
+
+-- a step of a call, not of a cleaner
+abbrev pub IsOfCall : Deed → Type 0
+IsOfCall (Tends chore) = ⊥
+IsOfCall deed = Unit {0}
+
 -- behind that load it takes no more of them, but as a victim's
-taken_more : (sizes : Sizes) (pass : Pass) (cell other : Word) (found : ℕ) → IsTakenBefore cell → MayTake pass other → HasChecked (stage_after sizes pass (Takes other) found)
+taken_more : (sizes : Sizes) (pass : Pass) (cell other : Word) (found : ℕ) → IsTakenBefore cell → MayTake pass other → (IsAtLocks pass.stage → ⊥)
     → times cell (moved (if found == 0 then Comes other else Stays) pass.hands) ≤ times cell pass.hands + lent (stage_after sizes pass (Takes other) found) cell
-taken_more sizes pass cell (PAGE page) found early may is =
-    tried_next (λ s. HasChecked s → times cell (moved (if found == 0 then Comes (PAGE page) else Stays) pass.hands) ≤ times cell pass.hands + lent s cell) sizes pass page found
-    (λ _ is. absurd (own_page sizes pass page found is)) (λ s _. victim s.page s.tries s.buffer (found == 0)) may is
+taken_more sizes pass cell (PAGE page) found early may past =
+    tried_next (λ s. times cell (moved (if found == 0 then Comes (PAGE page) else Stays) pass.hands) ≤ times cell pass.hands + lent s cell) sizes pass page found
+    (λ at. absurd (past (subst IsAtLocks (sym at) tt))) (λ s. victim s.page s.tries s.buffer (found == 0)) may
   where
     one_more : (missed tries buffer : ℕ) (cell : Word) → times cell (PAGE page ∷ pass.hands) ≤ times cell pass.hands + lent (Searching missed tries (Robbing buffer page)) cell
     one_more missed tries buffer (PAGE own) = omega arith
@@ -239,10 +257,10 @@ taken_more sizes pass cell (PAGE page) found early may is =
         ≤ times cell pass.hands + lent (if free then Searching missed tries (Robbing buffer page) else Searching missed tries Nothing) cell
     victim missed tries buffer true = one_more missed tries buffer cell
     victim missed tries buffer false = omega arith
-taken_more sizes pass cell (SIZE file) found early may is = absurd (own_size pass found is)
-taken_more sizes pass cell (STORE file) found early may is = let less = taken_less pass cell (STORE file) found early (inl (file, refl)) in omega (arith, less)
-taken_more sizes pass cell (CLEANUP page) found early may is = let less = taken_less pass cell (CLEANUP page) found early (inr (page, refl)) in omega (arith, less)
-taken_more sizes pass cell other found early may is = absurd may
+taken_more sizes pass cell (SIZE file) found early may past = absurd (past (subst IsAtLocks (sym may.0) tt))
+taken_more sizes pass cell (STORE file) found early may past = let less = taken_less pass cell (STORE file) found early (inl (file, refl)) in omega (arith, less)
+taken_more sizes pass cell (CLEANUP page) found early may past = let less = taken_less pass cell (CLEANUP page) found early (inr (page, refl)) in omega (arith, less)
+taken_more sizes pass cell other found early may past = absurd may
 
 given_less : (sizes : Sizes) (pass : Pass) (cell other : Word) (stage : Stage) → 1 ≤ times other pass.hands → MayGive pass other stage
     → times cell (without other pass.hands) + lent stage cell ≤ times cell pass.hands + lent (after_give sizes pass other stage) cell
@@ -257,37 +275,37 @@ given_less sizes pass cell (PAGE page) (Searching missed tries (Robbing buffer v
 given_less sizes pass cell other (Searching missed tries (Robbing buffer victim)) some may = absurd may
 given_less sizes pass cell other stage some may = let less = fewer cell other pass.hands in let none = lent_none stage (λ _. refl) cell in omega (arith, less, none)
 
-none_taken : (sizes : Sizes) (values : Values) (pass : Pass) (cell : Word) (found : ℕ) (deed : Deed) → IsTakenBefore cell → ((other : Word) → MayGive pass other pass.stage → 1 ≤ times other pass.hands)
-    → MayStep sizes values pass deed → HasChecked (stage_after sizes pass deed found)
+pub none_taken : (sizes : Sizes) (values : Values) (pass : Pass) (cell : Word) (found : ℕ) (deed : Deed) → IsTakenBefore cell → ((other : Word) → MayGive pass other pass.stage → 1 ≤ times other pass.hands)
+    → MayStep sizes values pass deed → (IsAtLocks pass.stage → ⊥) → IsOfCall deed
     → times cell (moved (move_of sizes deed found) pass.hands) + lent pass.stage cell ≤ times cell pass.hands + lent (stage_after sizes pass deed found) cell
-none_taken sizes values pass cell found (Takes other) early held may is =
-    let more = taken_more sizes pass cell other found early may is in let none = lent_none pass.stage (take_none pass other may) cell in omega (arith, more, none)
-none_taken sizes values pass cell found (Gives other) early held may is = given_less sizes pass cell other pass.stage (held other may) may
-none_taken sizes values pass cell found (Seizes next) early held may is =
+none_taken sizes values pass cell found (Takes other) early held may past call =
+    let more = taken_more sizes pass cell other found early may past in let none = lent_none pass.stage (take_none pass other may) cell in omega (arith, more, none)
+none_taken sizes values pass cell found (Gives other) early held may past call = given_less sizes pass cell other pass.stage (held other may) may
+none_taken sizes values pass cell found (Seizes next) early held may past call =
     let e = times_else cell (ENTRY (slot_of sizes next)) pass.hands (early.entry (slot_of sizes next)) in let none = lent_none pass.stage (step_none sizes values pass (Seizes next) tt may) cell in omega (arith, e, none)
-none_taken sizes values pass cell found (Readies next) early held may is =
+none_taken sizes values pass cell found (Readies next) early held may past call =
     let less = fewer cell (ENTRY (slot_of sizes next)) pass.hands in let none = lent_none pass.stage (step_none sizes values pass (Readies next) tt may) cell in omega (arith, less, none)
-none_taken sizes values pass cell found (Breaks next) early held may is =
+none_taken sizes values pass cell found (Breaks next) early held may past call =
     let less = fewer cell (ENTRY (slot_of sizes next)) pass.hands in let none = lent_none pass.stage (step_none sizes values pass (Breaks next) tt may) cell in omega (arith, less, none)
-none_taken sizes values pass cell found (Holds next) early held may is =
+none_taken sizes values pass cell found (Holds next) early held may past call =
     let e = times_else cell (ENTRY (slot_of sizes next)) pass.hands (early.entry (slot_of sizes next)) in let none = lent_none pass.stage (step_none sizes values pass (Holds next) tt may) cell in omega (arith, e, none)
-none_taken sizes values pass cell found (Returns next) early held may is =
+none_taken sizes values pass cell found (Returns next) early held may past call =
     let less = fewer cell (ENTRY (slot_of sizes next)) pass.hands in let none = lent_none pass.stage (step_none sizes values pass (Returns next) tt may) cell in omega (arith, less, none)
-none_taken sizes values pass cell found (Tends chore) early held may is = absurd (tended_unchecked sizes pass chore found may is)
-none_taken sizes values pass cell found deed early held may is = let none = lent_none pass.stage (step_none sizes values pass deed tt may) cell in omega (arith, none)
+none_taken sizes values pass cell found (Tends chore) early held may past call = absurd call
+none_taken sizes values pass cell found deed early held may past call = let none = lent_none pass.stage (step_none sizes values pass deed tt may) cell in omega (arith, none)
 
 -- a load of STOP that goes on found it 0
 pub found_open : (hands : List Word) (found : ℕ) → HasChecked (if found == 0 then Ordering else leaving hands) → found ≡ 0
 found_open hands found = if_both (λ s. HasChecked s → found ≡ 0) (found == 0) Ordering (leaving hands) (λ e _. eqb-true found 0 e) (λ _ is. absurd (unchecked hands is))
 
 -- a fault that a pass has after a step is one that it had, or that of its call
-old_or_new : (sizes : Sizes) (by : ℕ) (core : Core) (found : ℕ) (deed : Deed) (fault : Fault) → IsOneOf (changed sizes by core deed found).faulted fault
+pub old_or_new : (sizes : Sizes) (by : ℕ) (core : Core) (found : ℕ) (deed : Deed) (fault : Fault) → IsOneOf (changed sizes by core deed found).faulted fault
     → IsOneOf (core.passes by).faulted fault ⊎ ((deed ≡ Stops) × (fault ≡ fault_of (core.passes by)))
 old_or_new sizes by core found Splits fault is = absurd is
 old_or_new sizes by core found Stops fault is = elim is [ inl new ↦ inr (refl, new) | inr old ↦ inl old ]
 old_or_new sizes by core found deed fault is = inl is
 
-some : (faulted : List Fault) (fault : Fault) → IsOneOf faulted fault → faulted ≢ []
+pub some : (faulted : List Fault) (fault : Fault) → IsOneOf faulted fault → faulted ≢ []
 some [] fault is = absurd is
 some (one ∷ more) fault is = λ e. true≢false (ap is_cons e)
   where
@@ -296,7 +314,7 @@ some (one ∷ more) fault is = λ e. true≢false (ap is_cons e)
     is_cons (one ∷ more) = true
 
 -- a pass that makes a device call holds no victim
-worked_lent : (sizes : Sizes) (values : Values) (pass : Pass) (work : Work) (stage : Stage) → IsDue sizes values pass work stage → (cell : Word) → lent stage cell ≡ 0
+pub worked_lent : (sizes : Sizes) (values : Values) (pass : Pass) (work : Work) (stage : Stage) → IsDue sizes values pass work stage → (cell : Word) → lent stage cell ≡ 0
 worked_lent sizes values pass work (Committing calls) due = lent_none (Committing calls) (λ _. refl)
 worked_lent sizes values pass work (Copying page dirty) due = lent_none (Copying page dirty) (λ _. refl)
 worked_lent sizes values pass work (Patching page next) due = lent_none (Patching page next) (λ _. refl)
@@ -320,9 +338,11 @@ module _ (Bars : Fault → Word → Type 0) (early : (fault : Fault) (cell : Wor
   old_barred sizes first by core found (Loads STOP) sound was may n cell fault is at checked =
       absurd (let one = sound.stop.stays n (sound.broken.stopped n (some (core.passes n).faulted fault is)) in let zero = found_open (core.passes by).hands found checked in let e = may.is in omega (arith, one, zero, e))
   old_barred sizes first by core found Stops sound was may n cell fault is at checked = absurd (unstopped (core.passes by) (core.passes by).stage may.may checked)
+  old_barred sizes first by core found (Tends chore) sound was may n cell fault is at checked = absurd (tended_unchecked sizes (core.passes by) chore found may.may checked)
   old_barred sizes first by core found deed sound was may n cell fault is at checked =
-      let none = was n by cell fault is at (before sizes core.values (core.passes by) found deed tt may.may checked) in
-      let less = none_taken sizes core.values (core.passes by) cell found deed (early fault cell at) (λ other gives. given_held sizes (core.passes by) other (core.passes by).stage (sound.standing by).at (sound.holding by).locks gives) may.may checked in omega (arith, none, less)
+      let earlier = before sizes core.values (core.passes by) found deed tt may.may checked in
+      let none = was n by cell fault is at earlier in
+      let less = none_taken sizes core.values (core.passes by) cell found deed (early fault cell at) (λ other gives. given_held sizes (core.passes by) other (core.passes by).stage (sound.standing by).at (sound.holding by).locks gives) may.may (past_locks (core.passes by).stage earlier) tt in omega (arith, none, less)
 
   -- a pass that fails holds what its fault will bar
   pub barred_step : (sizes : Sizes) (first : Values) (by : ℕ) (core : Core) (deed : Deed) (found : ℕ) → Sound sizes first core → MayFind sizes by core deed found
@@ -369,7 +389,7 @@ module _ (Bars : Fault → Word → Type 0) (early : (fault : Fault) (cell : Wor
   AreSole core = (n m : ℕ) (cell : Word) (fault more : Fault) → IsOneOf (core.passes n).faulted fault → IsOneOf (core.passes m).faulted more → Bars fault cell → Bars more cell → n ≡ m
 
   -- a fault after a step is one that its pass had, or that of the call which it ends
-  faulted_was : (sizes : Sizes) (by : ℕ) (core : Core) (deed : Deed) (found n : ℕ) (fault : Fault) → IsOneOf ((after_step sizes by deed found core).passes n).faulted fault
+  pub faulted_was : (sizes : Sizes) (by : ℕ) (core : Core) (deed : Deed) (found n : ℕ) (fault : Fault) → IsOneOf ((after_step sizes by deed found core).passes n).faulted fault
       → IsOneOf (core.passes n).faulted fault ⊎ ((n ≡ by) × (deed ≡ Stops) × (fault ≡ fault_of (core.passes by)))
   faulted_was sizes by core deed found n fault = by_number (λ n (p : Pass). IsOneOf p.faulted fault → IsOneOf (core.passes n).faulted fault ⊎ ((n ≡ by) × (deed ≡ Stops) × (fault ≡ fault_of (core.passes by))))
       core.passes (changes by core.made deed) (changed sizes by core deed found) (here deed) (λ n ne is. inl is) n

@@ -70,17 +70,17 @@ once_here sizes by core found Stops broken may = let none = ap length (broken.pa
 once_here sizes by core found deed broken may = broken.once by
 
 -- a pass that fails holds its pages
-failing_page : (sizes : Sizes) (pass : Pass) (page : ℕ) (stage : Stage) → IsFailing stage → HoldsLocks sizes pass stage → IsPage sizes pass.call page → times (PAGE page) pass.hands ≡ 1
+pub failing_page : (sizes : Sizes) (pass : Pass) (page : ℕ) (stage : Stage) → IsFailing stage → HoldsLocks sizes pass stage → IsPage sizes pass.call page → times (PAGE page) pass.hands ≡ 1
 failing_page sizes pass page (ReadFailing other dirty) may held is = holds_page sizes pass page is (held (PAGE page) (λ slot. differ (PAGE page) (ENTRY slot) refl))
 failing_page sizes pass page (PieceFailing other next) may held is = holds_page sizes pass page is (held (PAGE page) (λ slot. differ (PAGE page) (ENTRY slot) refl))
 failing_page sizes pass page WriteFailing may held is = holds_page sizes pass page is (held (PAGE page) (λ slot. differ (PAGE page) (ENTRY slot) refl))
 failing_page sizes pass page stage may held is = absurd may
 
 -- the pages of its call, which a fault bars
-abbrev Bars : Sizes → Fault → Word → Type 0
+abbrev pub Bars : Sizes → Fault → Word → Type 0
 Bars sizes fault cell = (page : ℕ) × (cell ≡ PAGE page) × IsPage sizes fault.call page
 
-early : (sizes : Sizes) (fault : Fault) (cell : Word) → Bars sizes fault cell → IsTakenBefore cell
+pub early : (sizes : Sizes) (fault : Fault) (cell : Word) → Bars sizes fault cell → IsTakenBefore cell
 early sizes fault cell is = subst IsTakenBefore (sym is.1) record { store = λ file. differ (PAGE is.0) (STORE file) refl; cleanup = λ page. differ (PAGE is.0) (CLEANUP page) refl; entry = λ slot. differ (PAGE is.0) (ENTRY slot) refl }
 
 were_barred : (sizes : Sizes) (core : Core) → Broken sizes core → (n m : ℕ) (cell : Word) (fault : Fault) → IsOneOf (core.passes n).faulted fault → Bars sizes fault cell → HasChecked (core.passes m).stage → times cell (core.passes m).hands ≤ lent (core.passes m).stage cell

@@ -19,10 +19,10 @@ use Rattle.nv_core.proofs.KeepsLoaded.{holds_size}
 use Rattle.nv_core.proofs.BarredLaws.{lent, IsTakenBefore, AreSole, barred_step, barred_begin, barred_work, sole_step, sole_begin, sole_work}
 
 -- the SIZE of its file, which the fault of an extending write bars
-abbrev Bars : Fault → Word → Type 0
+abbrev pub Bars : Fault → Word → Type 0
 Bars fault cell = (cell ≡ SIZE (file_of fault.call)) × IsExtending fault
 
-early : (fault : Fault) (cell : Word) → Bars fault cell → IsTakenBefore cell
+pub early : (fault : Fault) (cell : Word) → Bars fault cell → IsTakenBefore cell
 early fault cell is = subst IsTakenBefore (sym is.0) record { store = λ file. differ (SIZE (file_of fault.call)) (STORE file) refl; cleanup = λ page. differ (SIZE (file_of fault.call)) (CLEANUP page) refl; entry = λ slot. differ (SIZE (file_of fault.call)) (ENTRY slot) refl }
 
 were_barred : (core : Core) → BrokenLengths core → (n m : ℕ) (cell : Word) (fault : Fault) → IsOneOf (core.passes n).faulted fault → Bars fault cell → HasChecked (core.passes m).stage → times cell (core.passes m).hands ≤ lent (core.passes m).stage cell
@@ -50,7 +50,7 @@ extending_size sizes first core by sound measured extends =
     (sound.loaded.sized by measured (and_from (nat_lt 0 (len_of (core.passes by).call)) (nat_lt (core.passes by).length end)
     (some_bytes (core.passes by).call extends.0) (lt-ltb (core.passes by).length end extends.1)))
 
-failing_size : (sizes : Sizes) (first : Values) (core : Core) (by : ℕ) → Sound sizes first core → IsFailing (core.passes by).stage → IsExtending (fault_of (core.passes by)) → times (SIZE (file_of (core.passes by).call)) (core.passes by).hands ≡ 1
+pub failing_size : (sizes : Sizes) (first : Values) (core : Core) (by : ℕ) → Sound sizes first core → IsFailing (core.passes by).stage → IsExtending (fault_of (core.passes by)) → times (SIZE (file_of (core.passes by).call)) (core.passes by).hands ≡ 1
 failing_size sizes first core by sound fails = extending_size sizes first core by sound (failing_measured (core.passes by).stage fails)
 
 were_sole : (core : Core) → BrokenLengths core → AreSole Bars early core

@@ -76,6 +76,7 @@ pub mod KeepsUnready
 pub mod KeepsFaults
 pub mod FaultFates
 pub mod FlightLaws
+pub mod GoingBackLaws
 pub mod LiveLaws
 pub mod SweepLive
 pub mod KeepsLive

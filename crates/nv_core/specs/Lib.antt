@@ -34,6 +34,7 @@ pub mod Opening
 pub mod Laws
 pub mod Never
 pub mod Flights
+pub mod GoingBack
 pub mod Walks
 pub mod BatchWalks
 pub mod PagesAfter

@@ -2,6 +2,7 @@ ghost use Rattle.nv_core.specs.DirtyWalks.{DirtyReadIsWalked};
 ghost use Rattle.nv_core.specs.Laws.{OpeningIsSound, EventsKeepSound, RunsAreSound};
 ghost use Rattle.nv_core.specs.BatchWalks.{BatchIsWalked};
 ghost use Rattle.nv_core.specs.Flights.{InFlightAreApart, NoEntryAboveInFlight, NoTwoInFlightOfALength, NoTwoInFlightOfAPage};
+ghost use Rattle.nv_core.specs.GoingBack.{CallsHoldNothingBroken};
 ghost use Rattle.nv_core.specs.Lengths.{LengthsFollowTheHistory};
 ghost use Rattle.nv_core.specs.Never.{NoPlaceBeforeTheFence, NoPageBeforeThePlace, StoppedAfterAFault, NoLeaderBeforeAFollower, NoGrowthBeforeThePlace, NoTwoWritesOfAPage, NoStopWithoutAFault, NoSeizureOfAHeldEntry, NoHoldOfAnUnreadyEntry, NoEntryHeldTwice, NoOtherCleanup, NoVictimOfTheCall, NoDrawPastTheEnd, WritesInFlightAreApart, NoBreakBeforeStop, NoBrokenBeforeStop, NoBatchPastItsBound};
 ghost use Rattle.nv_core.specs.Spares.{SparesKeepSteps, SparesTell};
@@ -55,6 +56,15 @@ pub fn writes_in_flight_keep_apart()
     ensures apart { InFlightAreApart }
     ensures above { NoEntryAboveInFlight }
 {}
+
+/// After every run a call that has loaded STOP as 0 holds no page of another call that a fault ended, but as the victim of its
+/// search, and no SIZE of a file that such a write was to make longer: at each of its stages, also while it gives back after a
+/// refusal.
+pub fn calls_hold_nothing_broken()
+    ensures { CallsHoldNothingBroken }
+{
+    runs_are_sound();
+}
 
 /// Nothing is lost where the room of a part is said as plain data, by its spares: these tell how many lines there are and what
 /// each of them can take, and what a step promises of the room that it leaves, it does of that of the spares.

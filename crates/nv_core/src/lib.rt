@@ -18,7 +18,7 @@ pub use crash::{
 };
 pub use fitting::{held_pieces_fit, ready_pieces_fit};
 pub use laws::{
-    a_batch_is_a_run, a_dirty_read_is_a_run, lengths_follow_the_history, no_sound_state_allows,
+    a_batch_is_a_run, a_dirty_read_is_a_run, calls_hold_nothing_broken, lengths_follow_the_history, no_sound_state_allows,
     runs_are_sound, spares_tell_the_room, walks_are_runs, words_have_places_of_their_own,
     writes_in_flight_keep_apart,
 };
