@@ -22,14 +22,14 @@ use Rattle.nv_core.specs.StaleWords.{StaleWords}
 use Rattle.nv_core.specs.InFlight.{IsFlying}
 use Rattle.nv_core.specs.Unready.{IsUnready}
 use Rattle.nv_core.specs.Never.{IsInFlight}
-use Rattle.nv_core.specs.Apart.{AreApart, IsApartFrom, IsReordered, after_calls}
+use Rattle.nv_core.specs.Apart.{AreApart, IsReordered, after_calls}
 use Rattle.nv_core.specs.LivePieces.{rising, call_if, is_ready, is_waiting, to_place, calls_of}
 use Rattle.nv_core.specs.LogContent.{LogContent}
 use Rattle.nv_core.specs.Crash.{is_in_flight, is_committed, is_added, added_unready, added, HasRegion, AddedInAnyOrder}
 use Rattle.nv_core.specs.Sound.{Sound}
 use Rattle.nv_core.proofs.PlainLaws.{PlainLaws}
 use Rattle.nv_core.proofs.Choices.{not_both}
-use Rattle.nv_core.proofs.ApartLaws.{comes_first, after_both}
+use Rattle.nv_core.proofs.ApartLaws.{IsApartFrom, comes_first, after_both}
 use Rattle.nv_core.proofs.LiveLaws.{AllApart, apart_both}
 use Rattle.nv_core.proofs.KeepsLive.{if_apart}
 use Rattle.nv_core.proofs.KeepsUnready.{not_readied}

@@ -7,7 +7,7 @@ use Rattle.nv_plain.specs.declared.call.FileCall.{FileCall}
 use Rattle.nv_plain.specs.declared.call.FileCall.TheVariants.{Read, Write, Sync}
 use Rattle.nv_plain.specs.Files.{Files, overwritten}
 use Rattle.nv_plain.specs.Calls.{files_after}
-use Rattle.nv_core.specs.Apart.{AreDisjoint, AreApart, IsApartFrom, after_calls}
+use Rattle.nv_core.specs.Apart.{AreDisjoint, AreApart, after_calls}
 use Rattle.nv_core.proofs.PlainLaws.{PlainLaws}
 
 -- ---- two that don't meet, in either order
@@ -117,6 +117,11 @@ calls_apart plain (Write file at bytes) (Write other from others) files apart = 
         (ap (λ c. record { contents = c }) (both_here [] files.contents file (λ c. overwritten c at bytes) (λ c. overwritten c from others) (λ c. overwritten-apart plain c bytes others at from apart)))
 
 -- ---- of a list of calls
+
+-- a call is apart from each of some others
+abbrev pub IsApartFrom : FileCall → List FileCall → Type 0
+IsApartFrom call [] = Unit {0}
+IsApartFrom call (one ∷ others) = AreApart call one × IsApartFrom call others
 
 -- A call that is apart from those before it may as well come first.
 pub comes_first : (plain : PlainLaws) (earlier : List FileCall) (call : FileCall) (later : List FileCall) (files : Files) → IsApartFrom call earlier

@@ -13,10 +13,10 @@ use Rattle.nv_core.specs.LogWindow.{InWindow, entry_at}
 use Rattle.nv_core.specs.Groups.{Log, Groups}
 use Rattle.nv_core.specs.Pieces.{page_of_number, Pieces}
 use Rattle.nv_core.specs.Unready.{IsUnready, Unready}
-use Rattle.nv_core.specs.Apart.{AreApart, IsApartFrom, after_calls}
+use Rattle.nv_core.specs.Apart.{AreApart, after_calls}
 use Rattle.nv_core.specs.LivePieces.{rising, call_if, piece_write, piece_call, is_ready, is_cleaned, is_live}
 use Rattle.nv_core.proofs.PlainLaws.{PlainLaws}
-use Rattle.nv_core.proofs.ApartLaws.{after_both}
+use Rattle.nv_core.proofs.ApartLaws.{IsApartFrom, after_both}
 use Rattle.nv_core.proofs.Choices.{not_both, unless_true}
 use Rattle.nv_core.proofs.LiveLaws.{rising_same, rising_none, rising_split, rising_apart, come_last, AllApart, pieces_after, writes_apart}
 use Rattle.nv_core.proofs.PageLaws.{write_pages}

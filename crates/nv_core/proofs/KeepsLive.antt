@@ -25,7 +25,7 @@ use Rattle.nv_core.specs.LogWindow.{HasUnseized, InWindow, WasReadied, entry_at}
 use Rattle.nv_core.specs.Groups.{Group, Log, group_of, with_group, log_stepped, Groups}
 use Rattle.nv_core.specs.Pieces.{page_of_number, IsReadied, Pieces}
 use Rattle.nv_core.specs.InFlight.{IsFlying, InFlight}
-use Rattle.nv_core.specs.Apart.{AreApart, IsApartFrom, after_calls}
+use Rattle.nv_core.specs.Apart.{AreApart, after_calls}
 use Rattle.nv_core.specs.StorePages.{store_of}
 use Rattle.nv_core.specs.LivePieces.{rising, call_if, piece_write, piece_call, is_ready, is_cleaned, is_live, is_waiting, to_place, calls_of, told_bytes, store_bytes, store_files, LivePieces}
 use Rattle.nv_core.specs.Sound.{Sound}
@@ -42,7 +42,7 @@ use Rattle.nv_core.proofs.ReadiedLaws.{seized, broke, ready_fills, said_before, 
 use Rattle.nv_core.proofs.KeepsInFlight.{not_leaving, not_ending, not_returned, not_loaded, not_taken, not_given, not_placed, not_placing, flew, elsewhere, is_place, is_made, not_made, made_number, place_other, filled_in, flying_pages, one_pass, no_reading}
 use Rattle.nv_core.proofs.KeepsGroups.{group_old}
 use Rattle.nv_core.proofs.KeepsStores.{step_store, work_store, keeps_stores, called_store}
-use Rattle.nv_core.proofs.ApartLaws.{comes_first, after_both}
+use Rattle.nv_core.proofs.ApartLaws.{IsApartFrom, comes_first, after_both}
 use Rattle.nv_core.proofs.LiveLaws.{rising_same, rising_none, rising_split, rising_apart, all_apart, come_last, AllApart, pieces_after, pieces_apart, writes_apart}
 use Rattle.nv_core.proofs.Rekinded.{holds_kinds, returns_kinds}
 

@@ -14,10 +14,10 @@ use Rattle.nv_plain.specs.declared.call.FileCall.TheVariants.{Read, Write, Sync}
 use Rattle.nv_core.specs.Words.{Sizes}
 use Rattle.nv_core.specs.Passes.{is_write, file_of, at_of, page_count, first_page}
 use Rattle.nv_core.specs.Standing.{IsPage}
-use Rattle.nv_core.specs.Apart.{AreApart, IsApartFrom, after_calls}
+use Rattle.nv_core.specs.Apart.{AreApart, after_calls}
 use Rattle.nv_core.specs.LivePieces.{rising, piece_write}
 use Rattle.nv_core.proofs.PlainLaws.{PlainLaws}
-use Rattle.nv_core.proofs.ApartLaws.{comes_first}
+use Rattle.nv_core.proofs.ApartLaws.{IsApartFrom, comes_first}
 
 -- ---- calls in rising number
 

@@ -14,11 +14,6 @@ abbrev pub AreApart : FileCall → FileCall → Type 0
 AreApart (Write file at bytes) (Write other from others) = (file ≢ other) ⊎ AreDisjoint at (length bytes) from (length others)
 AreApart one other = Unit {0}
 
--- a call is apart from each of some others
-abbrev pub IsApartFrom : FileCall → List FileCall → Type 0
-IsApartFrom call [] = Unit {0}
-IsApartFrom call (one ∷ others) = AreApart call one × IsApartFrom call others
-
 -- the files after some calls, the first of them first
 abbrev pub after_calls : List FileCall → Files → Files
 after_calls [] files = files

@@ -1,4 +1,4 @@
--- The header stays: no step and no device call of these kinds changes its part, nor how many lines a part has.
+-- The header stays: but for its tail it reads in each image as at opening, and no part has more or fewer lines.
 use Rattle.std.specs.Prelude.{◌≡◌, ◌≢◌, ◌⊎◌, ℕ, ◌<◌, length}
 use Rattle.nv_pmem.specs.Part.{Part, word_of}
 use Rattle.nv_pmem.specs.Images.{InEachImage, IsQuiet}

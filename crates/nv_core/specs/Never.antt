@@ -23,7 +23,8 @@ IsCommitting (Committing calls) = Unit {0}
 IsCommitting WriteFailing = Unit {0}
 IsCommitting stage = ⊥
 
--- a write has drawn numbers and has no place in the history
+-- A pass is at a write that has drawn numbers and has no place in the history, till it has set STOP where a device failed. (`IsFlying` leaves that
+-- failing out; `HasInFlight` has the writes too that faults ended; `is_in_flight` says by number which they are.)
 abbrev pub IsInFlight : Stage → Type 0
 IsInFlight (Seizing number) = Unit {0}
 IsInFlight (Committing calls) = Unit {0}
