@@ -1,29 +1,25 @@
 -- An empty log has nothing that its stores lack.
-use Rattle.std.proofs.Common.{◌≡◌, ◌≢◌, ℕ, zero, suc, ◌+◌, ◌-◌, ◌<◌, ◌≤◌, ◌==◌, if◌then◌else◌, Bool, true, false, List, [], ◌∷◌, ◌++◌, length, Some, inl, inr, refl, sym, ap, ap₂, subst, ◌∙◌, arith}
+use Rattle.std.proofs.Common.{◌≡◌, ◌≢◌, ℕ, zero, suc, ◌+◌, ◌-◌, ◌<◌, ◌≤◌, ◌==◌, if◌then◌else◌, Bool, true, false, List, [], ◌∷◌, length, inl, inr, refl, sym, ap, ap₂, subst, ◌∙◌, arith}
 use Rattle.std.specs.Prelude.{filter}
 use Rattle.std.specs.List.{range_with_len}
 use Rattle.std.proofs.lemmas.Bool.{cases_eq, cases_lt, ne_eqb}
 use Rattle.std.proofs.lemmas.Nat.{mod_below}
-use Rattle.std.proofs.lemmas.List.{append-nil, ext_get_or}
-use Rattle.nv_plain.specs.declared.call.FileCall.{FileCall}
+use Rattle.std.proofs.lemmas.List.{ext_get_or}
 use Rattle.nv_plain.specs.Images.{Entry, entry_at as image_entry}
 use Rattle.nv_plain.specs.Recovered.{committed}
-use Rattle.nv_pmem.specs.Part.{Part}
 use Rattle.nv_pmem.specs.Images.{IsQuiet}
 use Rattle.nv_header.specs.Laws.{after_some_tail}
 use Rattle.nv_store.specs.Store.{Store, IsQuiet as IsDurable, is_unsynced}
-use Rattle.nv_core.specs.Words.{Sizes, STOP, HEAD, TAIL, ENTRY, HEADER}
+use Rattle.nv_core.specs.Words.{Sizes, HEAD, TAIL, ENTRY, HEADER}
 use Rattle.nv_core.specs.Sweeps.{Moving, Failing}
 use Rattle.nv_core.specs.Passes.{Stage, Pass, Cleaning, times}
 use Rattle.nv_core.specs.Holding.{Holding, HoldsLocks}
-use Rattle.nv_core.specs.Order.{Values}
 use Rattle.nv_core.specs.Core.{Core}
 use Rattle.nv_core.specs.LogWindow.{InWindow}
 use Rattle.nv_core.specs.Groups.{Log}
 use Rattle.nv_core.specs.Rooms.{IsMoving}
-use Rattle.nv_core.specs.Tails.{Tails}
 use Rattle.nv_core.specs.Apart.{after_calls}
-use Rattle.nv_core.specs.LivePieces.{rising, call_if, piece_call, is_live, is_waiting, live_pieces, to_place, calls_of, store_files}
+use Rattle.nv_core.specs.LivePieces.{rising, call_if, piece_call, is_live, live_pieces, store_files}
 use Rattle.nv_core.specs.PersistentTail.{LiesInPieces}
 use Rattle.nv_core.specs.Deeds.{slot_of}
 use Rattle.nv_core.specs.Written.{IsBlank}
@@ -32,7 +28,6 @@ use Rattle.nv_core.specs.EmptyLog.{IsEmpty, EmptyLogsAreStored, EmptyLogsRest}
 use Rattle.nv_core.proofs.CrashGroups.{some_entries, entry_is}
 use Rattle.nv_core.proofs.CrashHeader.{which_tail}
 use Rattle.nv_core.proofs.Choices.{unless_true}
-use Rattle.nv_core.proofs.LiveLaws.{rising_none}
 use Rattle.nv_core.proofs.KeepsHeader.{none_moved}
 
 -- it has no number

@@ -1,9 +1,9 @@
 -- The fate of a write that a fault ended.
-use Rattle.std.proofs.Common.{◌≡◌, ◌≢◌, ◌⊎◌, ◌↔◌, ℕ, ◌+◌, ◌≤◌, nat_le, ◌==◌, ◌&&◌, ◌||◌, not, Bool, true, false, inl, inr, refl, sym, ap, subst, ◌∙◌, arith, le_trans, add-zero}
+use Rattle.std.proofs.Common.{◌≡◌, ◌↔◌, ◌+◌, ◌≤◌, nat_le, ◌==◌, ◌&&◌, ◌||◌, not, Bool, true, false, inl, inr, refl, sym, ap, subst, arith, add-zero}
 use Rattle.std.proofs.lemmas.Bool.{and_from, and_parts, eq-eqb, eqb-true, leb-true}
 use Rattle.nv_plain.specs.Images.{entry_of}
 use Rattle.nv_plain.specs.Recovered.{recovered}
-use Rattle.nv_core.specs.Passes.{IsOneOf, page_count}
+use Rattle.nv_core.specs.Passes.{IsOneOf}
 use Rattle.nv_core.specs.Deeds.{slot_of}
 use Rattle.nv_core.specs.InFlight.{IsFlying}
 use Rattle.nv_core.specs.Unready.{group_of_fault}

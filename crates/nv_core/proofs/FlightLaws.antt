@@ -1,22 +1,21 @@
 -- Writes in flight share no page and no growing length, and no entry above one is on a page of it.
-use Rattle.std.proofs.Common.{◌≡◌, ◌≢◌, ◌⊎◌, ℕ, ◌+◌, ◌<◌, ◌≤◌, true, inl, inr, refl, sym, ap, subst, ◌∙◌, arith}
+use Rattle.std.proofs.Common.{◌≡◌, ◌⊎◌, ℕ, ◌+◌, ◌≤◌, true, inl, inr, refl, sym, ap, subst, ◌∙◌, arith}
 use Rattle.std.proofs.lemmas.Bool.{cases_eq}
-use Rattle.nv_core.specs.Words.{Sizes, Word, SIZE, PAGE, ENTRY, page_of, was_readied}
-use Rattle.nv_core.specs.Passes.{Stage, Seizing, Committing, Pledging, Readying, Placing, WriteFailing, Fault, Pass, IsOneOf, is_write, file_of, page_count, first_page, times}
+use Rattle.nv_core.specs.Words.{Sizes, SIZE, PAGE, ENTRY}
+use Rattle.nv_core.specs.Passes.{Stage, Seizing, Committing, Pledging, Readying, Placing, WriteFailing, Fault, Pass, IsOneOf, is_write, file_of, first_page, times}
 use Rattle.nv_core.specs.Stepped.{fault_of}
 use Rattle.nv_core.specs.Order.{Values}
 use Rattle.nv_core.specs.Core.{Core}
 use Rattle.nv_core.specs.Standing.{IsPage}
 use Rattle.nv_core.specs.Holding.{HoldsLocks}
 use Rattle.nv_core.specs.Loaded.{HasMeasured}
-use Rattle.nv_core.specs.LogWindow.{InWindow, entry_at}
 use Rattle.nv_core.specs.Pieces.{page_of_number}
 use Rattle.nv_core.specs.InFlight.{IsFlying}
 use Rattle.nv_core.specs.Unready.{IsUnready, group_of_fault}
 use Rattle.nv_core.specs.Broken.{HasChecked, victim_held}
 use Rattle.nv_core.specs.BrokenLengths.{IsExtending}
 use Rattle.nv_core.specs.Never.{IsInFlight}
-use Rattle.nv_core.specs.Flights.{HasInFlight, NoTwoInFlightOfAPage, NoTwoInFlightOfALength, InFlightAreApart, NoEntryAboveInFlight}
+use Rattle.nv_core.specs.Flights.{NoTwoInFlightOfAPage, NoTwoInFlightOfALength, InFlightAreApart, NoEntryAboveInFlight}
 use Rattle.nv_core.specs.Sound.{Grouped, Sound}
 use Rattle.nv_core.proofs.Changes.{differ}
 use Rattle.nv_core.proofs.KeepsLoaded.{held_by_one, holds_page}

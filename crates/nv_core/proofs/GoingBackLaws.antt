@@ -1,18 +1,16 @@
 -- A call that has loaded STOP as 0 holds nothing that another's fault bars, to its end.
-use Rattle.std.proofs.Common.{◌≡◌, ◌≢◌, ◌⊎◌, ℕ, ◌+◌, ◌^◌, ◌≤◌, nat_le, nat_lt, ◌==◌, not, ◌&&◌, Bool, true, false, if◌then◌else◌, List, [], ◌∷◌, length, inl, inr, refl, sym, ap, subst, ◌∙◌, arith}
+use Rattle.std.proofs.Common.{◌≡◌, ◌≢◌, ℕ, ◌+◌, ◌^◌, ◌≤◌, nat_le, nat_lt, ◌==◌, ◌&&◌, Bool, true, false, if◌then◌else◌, List, [], ◌∷◌, length, inl, inr, refl, sym, ap, subst, ◌∙◌, arith}
 use Rattle.std.proofs.lemmas.Bool.{eqb-true}
 use Rattle.nv_plain.specs.declared.call.FileCall.{FileCall}
-use Rattle.nv_plain.specs.declared.call.Reply.{Reply}
 use Rattle.nv_core.specs.Words.{Sizes, Word, STOP, ORDER, HEAD, TAIL, LENGTH, SIZE, STORE, ENTRY, HINT, PAGE, CLEANUP, DIRTY, ready, is_entry_of}
 use Rattle.nv_core.specs.Values.{Ending, Made, Failed, Refused}
-use Rattle.nv_core.specs.Passes.{Stage, Idle, Locking, Measuring, Sizing, Checking, Ordering, Reading, Waiting, Fetching, Copying, Returning, Search, Hinting, Seeking, Robbing, Nothing, Searching, Bounding, Starting, Scanning, Grasping, Patching, Restoring, Unlocking, Heading, Tailing, Drawing, Seizing, Committing, Pledging, Readying, Placing, Growing, Releasing, Giving, Leaving, ReadFailing, PieceFailing, WriteFailing, Breaking, Cleaning, Fault, Pass, IsOneOf, file_of, is_write, is_read, page_count, first_page, end_page, without, times}
+use Rattle.nv_core.specs.Passes.{Stage, Idle, Ordering, Reading, Waiting, Fetching, Copying, Returning, Robbing, Nothing, Searching, Bounding, Scanning, Grasping, Patching, Restoring, Unlocking, Heading, Tailing, Drawing, Seizing, Committing, Pledging, Readying, Placing, Growing, Releasing, Giving, Leaving, ReadFailing, PieceFailing, WriteFailing, Breaking, Cleaning, Fault, Pass, IsOneOf, file_of, is_write, is_read, page_count, first_page, end_page, without, times}
 use Rattle.nv_core.specs.Deeds.{Deed, Loads, Takes, Gives, Places, Stops, Draws, Seizes, Pledges, Readies, Grows, Breaks, Holds, Returns, Turns, Hints, Tends, Splits, Leaves, Joins, move_of, chore_move, moved, slot_of}
 use Rattle.nv_core.specs.Stages.{stage_after, after_load, after_head, after_tail, after_look, after_give, after_stop, after_hold, after_return, scanning, leaving, giving, ending, ordered, copying, exceeds}
 use Rattle.nv_core.specs.Stepped.{fault_of, begun}
-use Rattle.nv_core.specs.Holding.{is_among}
-use Rattle.nv_core.specs.Order.{Values, Work, MayWork, MayStep, MayLoad, MayTake, MayPlace, IsDue, IsFailing, commit_steps}
+use Rattle.nv_core.specs.Order.{Values, Work, MayWork, MayStep, MayLoad, MayTake, IsDue, IsFailing, commit_steps}
 use Rattle.nv_core.specs.Core.{Core, with_number, changes, changed, after_step, after_begin, after_work, worked, stage_worked}
-use Rattle.nv_core.specs.Events.{Act, Begins, Does, Calls, Event, MayFind, MayBegin, MayAct, after_act, after_event, after, IsRun}
+use Rattle.nv_core.specs.Events.{Act, Begins, Does, Calls, Event, MayFind, MayAct, after_act, after_event, after, IsRun}
 use Rattle.nv_core.specs.Opening.{opening}
 use Rattle.nv_core.specs.Standing.{has_call}
 use Rattle.nv_core.specs.Sound.{Sound}

@@ -1,14 +1,14 @@
 -- Each event keeps what the log has of faults.
 use Rattle.std.proofs.Common.{◌≡◌, ◌≢◌, ◌⊎◌, ℕ, ◌+◌, ◌<◌, ◌≤◌, ◌==◌, if◌then◌else◌, Bool, true, false, inl, inr, refl, sym, ap, subst, ◌∙◌, arith}
-use Rattle.std.proofs.lemmas.Bool.{eqb-true, cases_eq, cases_lt}
+use Rattle.std.proofs.lemmas.Bool.{cases_lt}
 use Rattle.nv_plain.specs.declared.call.Reply.{Reply}
 use Rattle.nv_core.specs.Holding.{is_among}
-use Rattle.nv_core.specs.Words.{Sizes, HEAD, TAIL, filling, free, was_readied}
-use Rattle.nv_core.specs.Order.{Values, MayStep, IsFailing, Work, MayWork}
-use Rattle.nv_core.specs.Passes.{Stage, Fault, IsOneOf, is_write, page_count, Pass, first_page, ReadFailing, PieceFailing, WriteFailing, Seizing, Drawing, Committing, Pledging, Readying, Placing, IsAmong, IsFilling, Checking, Locking}
+use Rattle.nv_core.specs.Words.{Sizes, HEAD, TAIL, was_readied}
+use Rattle.nv_core.specs.Order.{Values, IsFailing, Work, MayWork}
+use Rattle.nv_core.specs.Passes.{Stage, Fault, IsOneOf, is_write, page_count, Pass, first_page, ReadFailing, PieceFailing, WriteFailing, Seizing, Committing, Pledging, Readying, Placing, IsAmong, IsFilling, Checking, Locking}
 use Rattle.nv_core.specs.Deeds.{Deed, Loads, Takes, Gives, Places, Stops, Draws, Seizes, Pledges, Readies, Grows, Breaks, Splits, Leaves, Joins, Turns, Hints, Holds, Returns, Tends}
 use Rattle.nv_core.specs.Stages.{leaving}
-use Rattle.nv_core.specs.Stepped.{fault_of, begun}
+use Rattle.nv_core.specs.Stepped.{begun}
 use Rattle.nv_plain.specs.declared.call.FileCall.{FileCall}
 use Rattle.nv_core.specs.Standing.{StandsAt, HasDrawn, IsPage}
 use Rattle.nv_core.specs.Core.{Core, changes, changed, with_number, after_step, after_begin, after_work, worked}
@@ -20,7 +20,7 @@ use Rattle.nv_core.specs.Unready.{IsUnready, Unready}
 use Rattle.nv_core.specs.Faults.{IsRecorded, Faults}
 use Rattle.nv_core.specs.Never.{IsInFlight}
 use Rattle.nv_core.specs.Sound.{Sound}
-use Rattle.nv_core.proofs.Changes.{by_number, number_here, number_else, word_here}
+use Rattle.nv_core.proofs.Changes.{by_number, number_else, word_here}
 use Rattle.nv_core.proofs.Choices.{if_both, not_both, when_true, when_false}
 use Rattle.nv_core.proofs.WordLaws.{untouched, touches}
 use Rattle.nv_core.specs.Sweeps.{Chore, Retires}

@@ -1,11 +1,11 @@
 -- Device calls: each is on a cell of the mount.
-use Rattle.std.proofs.Common.{◌≡◌, ℕ, ◌+◌, ◌<◌, ◌≤◌, Bool, true, false, ◌∷◌, length, refl, sym, ap, subst, ◌∙◌, arith}
+use Rattle.std.proofs.Common.{◌≡◌, ℕ, ◌+◌, ◌<◌, ◌≤◌, Bool, true, false, ◌∷◌, refl, sym, ap, subst, ◌∙◌, arith}
 use Rattle.std.proofs.lemmas.Nat.{mod_below}
 use Rattle.nv_plain.specs.declared.call.FileCall.{FileCall}
-use Rattle.nv_core.specs.Words.{Sizes, Word, ENTRY, STORE, IsWord}
+use Rattle.nv_core.specs.Words.{Sizes, STORE, IsWord}
 use Rattle.nv_core.specs.Sweeps.{Batch, Sweep, Peeking, Carrying, Syncing, Moving}
 use Rattle.nv_core.specs.Chores.{holds_store, group_file}
-use Rattle.nv_core.specs.Passes.{Stage, Committing, Copying, Patching, Cleaning, Pass, IsAllowed, page_count, times}
+use Rattle.nv_core.specs.Passes.{Stage, Committing, Copying, Patching, Cleaning, IsAllowed, page_count, times}
 use Rattle.nv_core.specs.Deeds.{slot_of}
 use Rattle.nv_core.specs.Order.{Values, Work, MayWork, IsDue, IsChoreDue}
 use Rattle.nv_core.specs.Core.{Core}

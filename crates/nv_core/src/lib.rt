@@ -18,9 +18,9 @@ pub use crash::{
 };
 pub use fitting::{held_pieces_fit, ready_pieces_fit};
 pub use laws::{
-    a_batch_is_a_run, a_dirty_read_is_a_run, calls_hold_nothing_broken, lengths_follow_the_history, no_sound_state_allows,
-    runs_are_sound, spares_tell_the_room, walks_are_runs, words_have_places_of_their_own,
-    writes_in_flight_keep_apart,
+    a_batch_is_a_run, a_dirty_read_is_a_run, calls_hold_nothing_broken, lengths_follow_the_history,
+    no_sound_state_allows, runs_are_sound, spares_tell_the_room, walks_are_runs,
+    words_have_places_of_their_own, writes_in_flight_keep_apart,
 };
 pub use log::{a_mount_opens_a_file_and_a_log, cleaning_keeps_its_order, runs_keep_the_log};
 pub use others::passes_are_left_alone;
