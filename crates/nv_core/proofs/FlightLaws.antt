@@ -1,23 +1,29 @@
 -- Writes in flight share no page and no growing length, and no entry above one is on a page of it.
-use Rattle.std.proofs.Common.{◌≡◌, ◌⊎◌, ℕ, ◌+◌, ◌≤◌, true, inl, inr, refl, sym, ap, subst, ◌∙◌, arith}
-use Rattle.std.proofs.lemmas.Bool.{cases_eq}
-use Rattle.nv_core.specs.Words.{Sizes, SIZE, PAGE, ENTRY}
-use Rattle.nv_core.specs.Passes.{Stage, Seizing, Committing, Pledging, Readying, Placing, WriteFailing, Fault, Pass, IsOneOf, is_write, file_of, first_page, times}
+use Rattle.std.proofs.Common.{◌≡◌, ◌≢◌, ◌⊎◌, ℕ, ◌+◌, ◌≤◌, ◌==◌, nat_le, not, Bool, true, false, inl, inr, refl, sym, ap, subst, ◌∙◌, arith}
+use Rattle.std.proofs.lemmas.Bool.{cases_eq, and_from, and_parts, eq-eqb, eqb-true, le-leb}
+use Rattle.nv_core.specs.Words.{Sizes, SIZE, PAGE, ENTRY, kind_of, free, filling, ready, cleaned}
+use Rattle.nv_core.specs.Passes.{Stage, Seizing, Committing, Pledging, Readying, Placing, WriteFailing, Breaking, Fault, Pass, IsOneOf, IsAmong, IsUnseized, IsFilling, is_write, file_of, first_page, times}
+use Rattle.nv_core.specs.Deeds.{slot_of}
 use Rattle.nv_core.specs.Stepped.{fault_of}
 use Rattle.nv_core.specs.Order.{Values}
 use Rattle.nv_core.specs.Core.{Core}
-use Rattle.nv_core.specs.Standing.{IsPage}
+use Rattle.nv_core.specs.Standing.{StandsAt, IsPage}
 use Rattle.nv_core.specs.Holding.{HoldsLocks}
 use Rattle.nv_core.specs.Loaded.{HasMeasured}
+use Rattle.nv_core.specs.LogWindow.{InWindow, WasReadied, HasUnseized, Fills, IsNumbered, Drawn, Filling, Freed, Kept, entry_at}
+use Rattle.nv_core.specs.EntryWords.{IsEntryWord, IsFree, IsFilled, IsBroken, IsReady}
+use Rattle.nv_core.specs.Groups.{Log, HasGroup}
 use Rattle.nv_core.specs.Pieces.{page_of_number}
 use Rattle.nv_core.specs.InFlight.{IsFlying}
 use Rattle.nv_core.specs.Unready.{IsUnready, group_of_fault}
 use Rattle.nv_core.specs.Broken.{HasChecked, victim_held}
 use Rattle.nv_core.specs.BrokenLengths.{IsExtending}
 use Rattle.nv_core.specs.Never.{IsInFlight}
-use Rattle.nv_core.specs.Flights.{NoTwoInFlightOfAPage, NoTwoInFlightOfALength, InFlightAreApart, NoEntryAboveInFlight}
+use Rattle.nv_core.specs.Crash.{is_in_flight}
+use Rattle.nv_core.specs.Flights.{HasInFlight, NoTwoInFlightOfAPage, NoTwoInFlightOfALength, InFlightAreApart, NoEntryAboveInFlight, FlightsAreNumbered}
 use Rattle.nv_core.specs.Sound.{Grouped, Sound}
 use Rattle.nv_core.proofs.Changes.{differ}
+use Rattle.nv_core.proofs.KeepsLocks.{kind_is}
 use Rattle.nv_core.proofs.KeepsLoaded.{held_by_one, holds_page}
 use Rattle.nv_core.proofs.KeepsBrokenLengths.{extending_size}
 use Rattle.nv_core.proofs.KeepsFaults.{failing_own, failing_unready}
@@ -138,3 +144,108 @@ no_entry_above_in_flight sizes first core by number write sound has within above
           (subst (λ k. (core.passes by).first + k.entries ≤ number) (sym own.group) (subst (λ f. f.first + f.entries ≤ number) e above))
           (subst (λ k. IsPage sizes k.call (page_of_number sizes (g.log.group number) number)) (sym own.group) (subst (λ f. IsPage sizes f.call (page_of_number sizes (g.log.group number) number)) e on_page))
     ]
+
+-- ---- which numbers they have
+
+module _ (sizes : Sizes) (first : Values) (core : Core) (sound : Sound sizes first core) (number : ℕ) (within : InWindow core number) where
+  abbrev log : Log
+  log = sound.grouped.log
+
+  -- some pass has one of this number
+  abbrev IsSomeFlight : Type 0
+  IsSomeFlight = (by : ℕ) × (write : Fault) × HasInFlight core by write × (write.first ≡ number)
+
+  -- ---- each of them leads a group of the log that has no place
+
+  of_number : (n : ℕ) → n ≡ number → (log.group n).first ≡ n → sound.grouped.placed n ≡ false → is_in_flight log sound.grouped.placed number ≡ true
+  of_number n e leads unplaced = subst (λ m. is_in_flight log sound.grouped.placed m ≡ true) e
+      (and_from ((log.group n).first == n) (not (sound.grouped.placed n)) (eq-eqb (log.group n).first n leads) (ap not unplaced))
+
+  numbered : IsSomeFlight → is_in_flight log sound.grouped.placed number ≡ true
+  numbered has = elim has.2.1 [
+    | inl here ↦
+        let e : (core.passes has.0).first ≡ number = ap (λ f. f.first) (sym here.1) ∙ has.3 in
+        elim (flies (core.passes has.0) (subst (λ f. is_write f.call ≡ true) here.1 has.2.0) (core.passes has.0).stage here.0) [
+          | inl flying ↦
+              let drawn = sound.grouped.flight.drawn has.0 flying in let some = drawn.some in
+              let own = sound.grouped.flight.own has.0 flying (core.passes has.0).first (omega arith, omega (arith, some)) in
+              of_number (core.passes has.0).first e (ap (λ g. g.first) own.group) (sound.grouped.flight.unplaced has.0 flying)
+          | inr fails ↦
+              let is = failing_unready sizes first log has.0 core sound sound.grouped.groups fails in
+              of_number (core.passes has.0).first e is.leads (sound.grouped.unready.unplaced (core.passes has.0).first is)
+        ]
+    | inr ended ↦ let is = sound.grouped.faults.each has.0 has.1 ended has.2.0 in of_number has.1.first has.3 is.unready.leads is.unplaced
+  ]
+
+  -- ---- and there is no other
+
+  module _ (leads : (log.group number).first ≡ number) (unplaced : sound.grouped.placed number ≡ false) where
+    -- the pass that has drawn its group
+    own_first : (by : ℕ) → HasGroup (core.passes by).stage → IsAmong (core.passes by).first (core.passes by).entries number → ((core.passes by).first ≡ number) × (is_write (core.passes by).call ≡ true)
+    own_first by has among =
+        let own = sound.grouped.groups.own by has number among in
+        (sym (ap (λ g. g.first) own.group) ∙ leads, subst (λ g. is_write g.call ≡ true) own.group (sound.grouped.groups.each number within).drawn.write)
+
+    at_hand : (by : ℕ) → HasGroup (core.passes by).stage → IsAmong (core.passes by).first (core.passes by).entries number → IsInFlight (core.passes by).stage → IsSomeFlight
+    at_hand by has among flight = let own = own_first by has among in (by, fault_of (core.passes by), (own.1, inl (flight, refl)), own.0)
+
+    drawn_by : (by : ℕ) → HasUnseized (core.passes by) number → IsSomeFlight
+    drawn_by by = go (core.passes by).stage refl (sound.standing by).at
+      where
+        go : (stage : Stage) → (core.passes by).stage ≡ stage → StandsAt sizes (core.passes by) stage → IsUnseized stage (core.passes by).first (core.passes by).entries number → IsSomeFlight
+        go (Seizing next) e stands is = at_hand by (subst HasGroup (sym e) tt) (let low = stands.1.0 in let a = is.0 in omega (arith, low, a), is.1) (subst IsInFlight (sym e) tt)
+        go stage e stands is = absurd is
+
+    filled_by : (by : ℕ) → Fills (core.passes by) number → IsSomeFlight
+    filled_by by = go (core.passes by).stage refl (sound.standing by).at
+      where
+        go : (stage : Stage) → (core.passes by).stage ≡ stage → StandsAt sizes (core.passes by) stage → IsFilling stage (core.passes by).first (core.passes by).entries number → IsSomeFlight
+        go (Seizing next) e stands is = at_hand by (subst HasGroup (sym e) tt) (is.0, let high = stands.1.1 in let a = is.1 in omega (arith, high, a)) (subst IsInFlight (sym e) tt)
+        go (Committing calls) e stands is = at_hand by (subst HasGroup (sym e) tt) is (subst IsInFlight (sym e) tt)
+        go (Pledging page) e stands is = at_hand by (subst HasGroup (sym e) tt) is (subst IsInFlight (sym e) tt)
+        go (Readying next) e stands is = at_hand by (subst HasGroup (sym e) tt)
+            (elim is [ inl same ↦ (omega (arith, same), let some = stands.0.some in omega (arith, same, some)) | inr more ↦ (let a = more.0 in let b = more.1 in omega (arith, a, b), more.2) ]) (subst IsInFlight (sym e) tt)
+        go WriteFailing e stands is = at_hand by (subst HasGroup (sym e) tt) is (subst IsInFlight (sym e) tt)
+        go (Breaking next) e stands is =
+            let own = own_first by (subst HasGroup (sym e) tt) (let low = stands.1.0 in let a = is.0 in omega (arith, low, a), is.1) in
+            (by, fault_of (core.passes by), (own.1, inr (sound.grouped.unready.breaking by next e)), own.0)
+        go stage e stands is = absurd is
+
+    -- one whose leader was made ready is placed next
+    waiting_by : WasReadied sizes core number → IsSomeFlight
+    waiting_by was = let w = sound.grouped.flight.waiting number within leads was unplaced in let is = w.1 in
+        (w.0, fault_of (core.passes w.0), (is.write, inl (subst IsInFlight (sym is.stage) tt, refl)), is.first)
+
+    kept_as : kind_of (entry_at sizes core number) ≢ free → kind_of (entry_at sizes core number) ≢ filling → IsSomeFlight
+    kept_as not_free not_filling = go (sound.entries.each (slot_of sizes number))
+      where
+        go : IsEntryWord sizes (entry_at sizes core number) → IsSomeFlight
+        go (IsFree e) = absurd (not_free (ap kind_of e))
+        go (IsFilled e) = absurd (not_filling (ap kind_of e))
+        go (IsBroken e) =
+            let of = sound.grouped.unready.broken number within e in
+            (of.by, of.fault, (subst (λ g. is_write g.call ≡ true) of.is (sound.grouped.groups.each number within).drawn.write, inr of.ended), sym (ap (λ g. g.first) of.is) ∙ leads)
+        go (IsReady kind count page low high e few inside) =
+            let k : kind_of (entry_at sizes core number) ≡ kind = ap kind_of e ∙ kind_is kind count page (omega (arith, high)) in
+            waiting_by (inl (and_from (nat_le ready (kind_of (entry_at sizes core number))) (nat_le (kind_of (entry_at sizes core number)) cleaned)
+            (le-leb ready (kind_of (entry_at sizes core number)) (omega (arith, k, low))) (le-leb (kind_of (entry_at sizes core number)) cleaned (omega (arith, k, high)))))
+
+    some_flight : IsSomeFlight
+    some_flight = go (sound.window.each number within)
+      where
+        go : IsNumbered sizes core number → IsSomeFlight
+        go (Drawn by is) = drawn_by by is
+        go (Filling by is) = filled_by by is
+        go (Freed by is) = waiting_by (inr (by, is))
+        go (Kept not_free not_filling) = kept_as not_free not_filling
+
+pub flights_are_numbered : FlightsAreNumbered
+flights_are_numbered sizes first core number sound within = (
+  λ flight. let both = and_parts ((sound.grouped.log.group number).first == number) (not (sound.grouped.placed number)) flight in
+      some_flight sizes first core sound number within (eqb-true (sound.grouped.log.group number).first number both.0) (negated (sound.grouped.placed number) both.1),
+  λ has. numbered sizes first core sound number within has,
+)
+  where
+    negated : (b : Bool) → not b ≡ true → b ≡ false
+    negated true e = sym e
+    negated false e = refl

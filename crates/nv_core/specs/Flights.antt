@@ -1,5 +1,5 @@
 -- Writes in flight, be a pass at them or be they ended by a fault: what no two of them share, and what the log has none of above them.
-use Rattle.std.specs.Prelude.{◌≡◌, ◌≢◌, ◌⊎◌, ℕ, ◌+◌, ◌≤◌, true}
+use Rattle.std.specs.Prelude.{◌≡◌, ◌≢◌, ◌⊎◌, ◌↔◌, ℕ, ◌+◌, ◌≤◌, true}
 use Rattle.nv_core.specs.Words.{Sizes, page_of, was_readied}
 use Rattle.nv_core.specs.Passes.{Fault, IsOneOf, is_write, file_of}
 use Rattle.nv_core.specs.Stepped.{fault_of}
@@ -10,6 +10,7 @@ use Rattle.nv_core.specs.Standing.{IsPage}
 use Rattle.nv_core.specs.LogWindow.{InWindow, entry_at}
 use Rattle.nv_core.specs.BrokenLengths.{IsExtending}
 use Rattle.nv_core.specs.Never.{IsInFlight}
+use Rattle.nv_core.specs.Crash.{is_in_flight}
 use Rattle.nv_core.specs.Sound.{Sound}
 
 -- A pass's write in flight, as a fault keeps one: the pass has drawn it and not placed it, or a fault has ended it.
@@ -41,3 +42,9 @@ NoEntryAboveInFlight =
     (sizes : Sizes) (first : Values) (core : Core) (by number : ℕ) (write : Fault) → Sound sizes first core
     → HasInFlight core by write → InWindow core number → write.first + write.entries ≤ number → was_readied (entry_at sizes core number) ≡ true
     → IsPage sizes write.call (page_of (entry_at sizes core number)) → ⊥
+
+-- By number they are what the crash law calls so: of the numbers of the window, those that lead a group which has no place.
+abbrev pub FlightsAreNumbered : Type 0
+FlightsAreNumbered =
+    (sizes : Sizes) (first : Values) (core : Core) (number : ℕ) (sound : Sound sizes first core) → InWindow core number
+    → (is_in_flight sound.grouped.log sound.grouped.placed number ≡ true) ↔ ((by : ℕ) × (write : Fault) × HasInFlight core by write × (write.first ≡ number))

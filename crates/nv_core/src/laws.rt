@@ -1,7 +1,7 @@
 ghost use Rattle.nv_core.specs.DirtyWalks.{DirtyReadIsWalked};
 ghost use Rattle.nv_core.specs.Laws.{OpeningIsSound, EventsKeepSound, RunsAreSound};
 ghost use Rattle.nv_core.specs.BatchWalks.{BatchIsWalked};
-ghost use Rattle.nv_core.specs.Flights.{InFlightAreApart, NoEntryAboveInFlight, NoTwoInFlightOfALength, NoTwoInFlightOfAPage};
+ghost use Rattle.nv_core.specs.Flights.{FlightsAreNumbered, InFlightAreApart, NoEntryAboveInFlight, NoTwoInFlightOfALength, NoTwoInFlightOfAPage};
 ghost use Rattle.nv_core.specs.GoingBack.{CallsHoldNothingBroken};
 ghost use Rattle.nv_core.specs.Lengths.{LengthsFollowTheHistory};
 ghost use Rattle.nv_core.specs.Never.{NoPlaceBeforeTheFence, NoPageBeforeThePlace, StoppedAfterAFault, NoLeaderBeforeAFollower, NoGrowthBeforeThePlace, NoTwoWritesOfAPage, NoStopWithoutAFault, NoSeizureOfAHeldEntry, NoHoldOfAnUnreadyEntry, NoEntryHeldTwice, NoOtherCleanup, NoVictimOfTheCall, NoDrawPastTheEnd, WritesInFlightAreApart, NoBreakBeforeStop, NoBrokenBeforeStop, NoBatchPastItsBound};
@@ -49,12 +49,14 @@ pub fn no_sound_state_allows()
 {}
 
 /// Of the writes in flight, be a pass at them or be they ended by a fault, no two touch one page, and at most one makes a given
-/// file longer; so it doesn't matter in which order they are made. No entry above one that was made ready is on a page of it.
+/// file longer; so it doesn't matter in which order they are made. No entry above one that was made ready is on a page of it. By
+/// number they are the leaders of the window's groups that have no place, of which the crash law speaks.
 pub fn writes_in_flight_keep_apart()
     ensures pages { NoTwoInFlightOfAPage }
     ensures lengths { NoTwoInFlightOfALength }
     ensures apart { InFlightAreApart }
     ensures above { NoEntryAboveInFlight }
+    ensures numbers { FlightsAreNumbered }
 {}
 
 /// After every run a call that has loaded STOP as 0 holds no page of another call that a fault ended, but as the victim of its
