@@ -36,7 +36,7 @@ InFlightAreApart =
     (sizes : Sizes) (first : Values) (core : Core) (one other : ℕ) (write more : Fault) → 1 ≤ sizes.page → Sound sizes first core → one ≢ other
     → HasInFlight core one write → HasInFlight core other more → AreApart write.call more.call
 
--- No entry above one that was made ready is on a page of it.
+-- No entry that was made ready, numbered above such a write's, is on a page of it.
 abbrev pub NoEntryAboveInFlight : Type 0
 NoEntryAboveInFlight =
     (sizes : Sizes) (first : Values) (core : Core) (by number : ℕ) (write : Fault) → Sound sizes first core

@@ -49,8 +49,8 @@ pub fn no_sound_state_allows()
 {}
 
 /// Of the writes in flight, be a pass at them or be they ended by a fault, no two touch one page, and at most one makes a given
-/// file longer; so it doesn't matter in which order they are made. No entry above one that was made ready is on a page of it. By
-/// number they are the leaders of the window's groups that have no place, of which the crash law speaks.
+/// file longer; so it doesn't matter in which order they are made. No entry that was made ready, numbered above such a write's,
+/// is on a page of it. By number they are the leaders of the window's groups that have no place, of which the crash law speaks.
 pub fn writes_in_flight_keep_apart()
     ensures pages { NoTwoInFlightOfAPage }
     ensures lengths { NoTwoInFlightOfALength }
