@@ -12,10 +12,11 @@ use Rattle.nv_core.specs.Holding.{HoldsLocks}
 use Rattle.nv_core.specs.Loaded.{HasMeasured}
 use Rattle.nv_core.specs.LogWindow.{InWindow, WasReadied, HasUnseized, Fills, IsNumbered, Drawn, Filling, Freed, Kept, entry_at}
 use Rattle.nv_core.specs.EntryWords.{IsEntryWord, IsFree, IsFilled, IsBroken, IsReady}
-use Rattle.nv_core.specs.Groups.{Log, HasGroup}
+use Rattle.nv_core.specs.Groups.{Log, HasGroup, Groups}
 use Rattle.nv_core.specs.Pieces.{page_of_number}
-use Rattle.nv_core.specs.InFlight.{IsFlying}
-use Rattle.nv_core.specs.Unready.{IsUnready, group_of_fault}
+use Rattle.nv_core.specs.InFlight.{IsFlying, InFlight}
+use Rattle.nv_core.specs.Unready.{IsUnready, Unready, group_of_fault}
+use Rattle.nv_core.specs.Faults.{Faults}
 use Rattle.nv_core.specs.Broken.{HasChecked, victim_held}
 use Rattle.nv_core.specs.BrokenLengths.{IsExtending}
 use Rattle.nv_core.specs.Never.{IsInFlight}
@@ -147,47 +148,45 @@ no_entry_above_in_flight sizes first core by number write sound has within above
 
 -- ---- which numbers they have
 
-module _ (sizes : Sizes) (first : Values) (core : Core) (sound : Sound sizes first core) (number : ℕ) (within : InWindow core number) where
-  abbrev log : Log
-  log = sound.grouped.log
-
+module _ (sizes : Sizes) (first : Values) (log : Log) (placed : ℕ → Bool) (core : Core) (sound : Sound sizes first core) (groups : Groups sizes core log) (flight : InFlight sizes log placed core)
+    (unready : Unready sizes log placed core) (faults : Faults sizes log placed core) (number : ℕ) (within : InWindow core number) where
   -- some pass has one of this number
   abbrev IsSomeFlight : Type 0
   IsSomeFlight = (by : ℕ) × (write : Fault) × HasInFlight core by write × (write.first ≡ number)
 
   -- ---- each of them leads a group of the log that has no place
 
-  of_number : (n : ℕ) → n ≡ number → (log.group n).first ≡ n → sound.grouped.placed n ≡ false → is_in_flight log sound.grouped.placed number ≡ true
-  of_number n e leads unplaced = subst (λ m. is_in_flight log sound.grouped.placed m ≡ true) e
-      (and_from ((log.group n).first == n) (not (sound.grouped.placed n)) (eq-eqb (log.group n).first n leads) (ap not unplaced))
+  of_number : (n : ℕ) → n ≡ number → (log.group n).first ≡ n → placed n ≡ false → is_in_flight log placed number ≡ true
+  of_number n e leads unplaced = subst (λ m. is_in_flight log placed m ≡ true) e
+      (and_from ((log.group n).first == n) (not (placed n)) (eq-eqb (log.group n).first n leads) (ap not unplaced))
 
-  numbered : IsSomeFlight → is_in_flight log sound.grouped.placed number ≡ true
+  numbered : IsSomeFlight → is_in_flight log placed number ≡ true
   numbered has = elim has.2.1 [
     | inl here ↦
         let e : (core.passes has.0).first ≡ number = ap (λ f. f.first) (sym here.1) ∙ has.3 in
         elim (flies (core.passes has.0) (subst (λ f. is_write f.call ≡ true) here.1 has.2.0) (core.passes has.0).stage here.0) [
           | inl flying ↦
-              let drawn = sound.grouped.flight.drawn has.0 flying in let some = drawn.some in
-              let own = sound.grouped.flight.own has.0 flying (core.passes has.0).first (omega arith, omega (arith, some)) in
-              of_number (core.passes has.0).first e (ap (λ g. g.first) own.group) (sound.grouped.flight.unplaced has.0 flying)
+              let drawn = flight.drawn has.0 flying in let some = drawn.some in
+              let own = flight.own has.0 flying (core.passes has.0).first (omega arith, omega (arith, some)) in
+              of_number (core.passes has.0).first e (ap (λ g. g.first) own.group) (flight.unplaced has.0 flying)
           | inr fails ↦
-              let is = failing_unready sizes first log has.0 core sound sound.grouped.groups fails in
-              of_number (core.passes has.0).first e is.leads (sound.grouped.unready.unplaced (core.passes has.0).first is)
+              let is = failing_unready sizes first log has.0 core sound groups fails in
+              of_number (core.passes has.0).first e is.leads (unready.unplaced (core.passes has.0).first is)
         ]
-    | inr ended ↦ let is = sound.grouped.faults.each has.0 has.1 ended has.2.0 in of_number has.1.first has.3 is.unready.leads is.unplaced
+    | inr ended ↦ let is = faults.each has.0 has.1 ended has.2.0 in of_number has.1.first has.3 is.unready.leads is.unplaced
   ]
 
   -- ---- and there is no other
 
-  module _ (leads : (log.group number).first ≡ number) (unplaced : sound.grouped.placed number ≡ false) where
+  module _ (leads : (log.group number).first ≡ number) (unplaced : placed number ≡ false) where
     -- the pass that has drawn its group
     own_first : (by : ℕ) → HasGroup (core.passes by).stage → IsAmong (core.passes by).first (core.passes by).entries number → ((core.passes by).first ≡ number) × (is_write (core.passes by).call ≡ true)
     own_first by has among =
-        let own = sound.grouped.groups.own by has number among in
-        (sym (ap (λ g. g.first) own.group) ∙ leads, subst (λ g. is_write g.call ≡ true) own.group (sound.grouped.groups.each number within).drawn.write)
+        let own = groups.own by has number among in
+        (sym (ap (λ g. g.first) own.group) ∙ leads, subst (λ g. is_write g.call ≡ true) own.group (groups.each number within).drawn.write)
 
     at_hand : (by : ℕ) → HasGroup (core.passes by).stage → IsAmong (core.passes by).first (core.passes by).entries number → IsInFlight (core.passes by).stage → IsSomeFlight
-    at_hand by has among flight = let own = own_first by has among in (by, fault_of (core.passes by), (own.1, inl (flight, refl)), own.0)
+    at_hand by has among flies = let own = own_first by has among in (by, fault_of (core.passes by), (own.1, inl (flies, refl)), own.0)
 
     drawn_by : (by : ℕ) → HasUnseized (core.passes by) number → IsSomeFlight
     drawn_by by = go (core.passes by).stage refl (sound.standing by).at
@@ -208,12 +207,12 @@ module _ (sizes : Sizes) (first : Values) (core : Core) (sound : Sound sizes fir
         go WriteFailing e stands is = at_hand by (subst HasGroup (sym e) tt) is (subst IsInFlight (sym e) tt)
         go (Breaking next) e stands is =
             let own = own_first by (subst HasGroup (sym e) tt) (let low = stands.1.0 in let a = is.0 in omega (arith, low, a), is.1) in
-            (by, fault_of (core.passes by), (own.1, inr (sound.grouped.unready.breaking by next e)), own.0)
+            (by, fault_of (core.passes by), (own.1, inr (unready.breaking by next e)), own.0)
         go stage e stands is = absurd is
 
     -- one whose leader was made ready is placed next
     waiting_by : WasReadied sizes core number → IsSomeFlight
-    waiting_by was = let w = sound.grouped.flight.waiting number within leads was unplaced in let is = w.1 in
+    waiting_by was = let w = flight.waiting number within leads was unplaced in let is = w.1 in
         (w.0, fault_of (core.passes w.0), (is.write, inl (subst IsInFlight (sym is.stage) tt, refl)), is.first)
 
     kept_as : kind_of (entry_at sizes core number) ≢ free → kind_of (entry_at sizes core number) ≢ filling → IsSomeFlight
@@ -223,8 +222,8 @@ module _ (sizes : Sizes) (first : Values) (core : Core) (sound : Sound sizes fir
         go (IsFree e) = absurd (not_free (ap kind_of e))
         go (IsFilled e) = absurd (not_filling (ap kind_of e))
         go (IsBroken e) =
-            let of = sound.grouped.unready.broken number within e in
-            (of.by, of.fault, (subst (λ g. is_write g.call ≡ true) of.is (sound.grouped.groups.each number within).drawn.write, inr of.ended), sym (ap (λ g. g.first) of.is) ∙ leads)
+            let of = unready.broken number within e in
+            (of.by, of.fault, (subst (λ g. is_write g.call ≡ true) of.is (groups.each number within).drawn.write, inr of.ended), sym (ap (λ g. g.first) of.is) ∙ leads)
         go (IsReady kind count page low high e few inside) =
             let k : kind_of (entry_at sizes core number) ≡ kind = ap kind_of e ∙ kind_is kind count page (omega (arith, high)) in
             waiting_by (inl (and_from (nat_le ready (kind_of (entry_at sizes core number))) (nat_le (kind_of (entry_at sizes core number)) cleaned)
@@ -240,10 +239,10 @@ module _ (sizes : Sizes) (first : Values) (core : Core) (sound : Sound sizes fir
         go (Kept not_free not_filling) = kept_as not_free not_filling
 
 pub flights_are_numbered : FlightsAreNumbered
-flights_are_numbered sizes first core number sound within = (
-  λ flight. let both = and_parts ((sound.grouped.log.group number).first == number) (not (sound.grouped.placed number)) flight in
-      some_flight sizes first core sound number within (eqb-true (sound.grouped.log.group number).first number both.0) (negated (sound.grouped.placed number) both.1),
-  λ has. numbered sizes first core sound number within has,
+flights_are_numbered sizes first log placed core number sound groups flight unready faults within = (
+  λ flies. let both = and_parts ((log.group number).first == number) (not (placed number)) flies in
+      some_flight sizes first log placed core sound groups flight unready faults number within (eqb-true (log.group number).first number both.0) (negated (placed number) both.1),
+  λ has. numbered sizes first log placed core sound groups flight unready faults number within has,
 )
   where
     negated : (b : Bool) → not b ≡ true → b ≡ false

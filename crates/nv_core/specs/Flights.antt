@@ -1,5 +1,5 @@
 -- Writes in flight, be a pass at them or be they ended by a fault: what no two of them share, and what the log has none of above them.
-use Rattle.std.specs.Prelude.{◌≡◌, ◌≢◌, ◌⊎◌, ◌↔◌, ℕ, ◌+◌, ◌≤◌, true}
+use Rattle.std.specs.Prelude.{◌≡◌, ◌≢◌, ◌⊎◌, ◌↔◌, ℕ, ◌+◌, ◌≤◌, Bool, true}
 use Rattle.nv_core.specs.Words.{Sizes, page_of, was_readied}
 use Rattle.nv_core.specs.Passes.{Fault, IsOneOf, is_write, file_of}
 use Rattle.nv_core.specs.Stepped.{fault_of}
@@ -8,6 +8,10 @@ use Rattle.nv_core.specs.Core.{Core}
 use Rattle.nv_core.specs.Apart.{AreApart}
 use Rattle.nv_core.specs.Standing.{IsPage}
 use Rattle.nv_core.specs.LogWindow.{InWindow, entry_at}
+use Rattle.nv_core.specs.Groups.{Log, Groups}
+use Rattle.nv_core.specs.InFlight.{InFlight}
+use Rattle.nv_core.specs.Unready.{Unready}
+use Rattle.nv_core.specs.Faults.{Faults}
 use Rattle.nv_core.specs.BrokenLengths.{IsExtending}
 use Rattle.nv_core.specs.Never.{IsInFlight}
 use Rattle.nv_core.specs.Crash.{is_in_flight}
@@ -43,8 +47,10 @@ NoEntryAboveInFlight =
     → HasInFlight core by write → InWindow core number → write.first + write.entries ≤ number → was_readied (entry_at sizes core number) ≡ true
     → IsPage sizes write.call (page_of (entry_at sizes core number)) → ⊥
 
--- By number they are what the crash law calls so: of the numbers of the window, those that lead a group which has no place.
+-- In every log in which what is drawn stands as it does, those of the invariant and of the log's content among them, their first numbers are what
+-- the crash law calls in flight: of the numbers of the window, those that lead a group which has no place.
 abbrev pub FlightsAreNumbered : Type 0
 FlightsAreNumbered =
-    (sizes : Sizes) (first : Values) (core : Core) (number : ℕ) (sound : Sound sizes first core) → InWindow core number
-    → (is_in_flight sound.grouped.log sound.grouped.placed number ≡ true) ↔ ((by : ℕ) × (write : Fault) × HasInFlight core by write × (write.first ≡ number))
+    (sizes : Sizes) (first : Values) (log : Log) (placed : ℕ → Bool) (core : Core) (number : ℕ) → Sound sizes first core
+    → Groups sizes core log → InFlight sizes log placed core → Unready sizes log placed core → Faults sizes log placed core → InWindow core number
+    → (is_in_flight log placed number ≡ true) ↔ ((by : ℕ) × (write : Fault) × HasInFlight core by write × (write.first ≡ number))
