@@ -1,9 +1,10 @@
 -- What no sound state allows.
-use Rattle.std.proofs.Common.{◌≡◌, ◌≢◌, ℕ, ◌+◌, List, [], ◌∷◌, inl, inr, refl, sym, subst, arith, true, ◌∙◌}
-use Rattle.std.proofs.lemmas.Bool.{cases_eq}
-use Rattle.nv_core.specs.Words.{Word, PAGE, ENTRY, CLEANUP, ready, is_entry_of}
+use Rattle.std.proofs.Common.{◌≡◌, ◌≢◌, ◌⊎◌, ℕ, ◌+◌, ◌≤◌, ◌==◌, ◌&&◌, ◌||◌, nat_lt, nat_le, not, Bool, true, false, List, [], ◌∷◌, inl, inr, refl, sym, ap, subst, arith, ◌∙◌}
+use Rattle.std.proofs.lemmas.Bool.{cases_eq, and_from, and_parts, eqb-true, eq-eqb, leb-true, le-leb}
+use Rattle.nv_core.specs.Words.{Word, PAGE, ENTRY, CLEANUP, kind_of, ready, is_entry_of}
 use Rattle.nv_core.specs.Passes.{Stage, Seizing, Committing, Pledging, Readying, Placing, WriteFailing, IsUnseized, IsFilling, IsAmong, times, Leaving, Searching, Seeking, Robbing, Cleaning}
-use Rattle.nv_core.specs.Sweeps.{Withdrawing}
+use Rattle.nv_core.specs.Sweeps.{Surveying, Claiming, Withdrawing}
+use Rattle.nv_core.specs.Chores.{after_chore, surveyed, with_page, count_of, may_pass, finishing, withdrawing, syncing, closed, rising_files}
 use Rattle.nv_core.specs.Deeds.{Draws, slot_of}
 use Rattle.nv_core.specs.Order.{MayPlace}
 use Rattle.nv_core.specs.Standing.{StandsAt, HasDrawn, IsPage}
@@ -12,9 +13,9 @@ use Rattle.nv_core.proofs.LiveLaws.{writes_apart}
 use Rattle.nv_core.proofs.PageLaws.{write_pages}
 use Rattle.nv_core.specs.Passes.{first_page, Fault, IsOneOf}
 use Rattle.nv_core.specs.Stepped.{fault_of}
-use Rattle.nv_core.specs.Never.{IsCommitting, IsInFlight, NoPlaceBeforeTheFence, NoPageBeforeThePlace, StoppedAfterAFault, NoLeaderBeforeAFollower, NoGrowthBeforeThePlace, NoTwoWritesOfAPage, WritesInFlightAreApart, NoBreakBeforeStop, NoBrokenBeforeStop, NoStopWithoutAFault, NoSeizureOfAHeldEntry, NoHoldOfAnUnreadyEntry, NoEntryHeldTwice, NoOtherCleanup, NoDrawPastTheEnd, IsSought, NoVictimOfTheCall, NoBatchPastItsBound}
+use Rattle.nv_core.specs.Never.{IsCommitting, IsInFlight, NoPlaceBeforeTheFence, NoPageBeforeThePlace, StoppedAfterAFault, NoLeaderBeforeAFollower, NoGrowthBeforeThePlace, NoTwoWritesOfAPage, WritesInFlightAreApart, NoBreakBeforeStop, NoBrokenBeforeStop, NoStopWithoutAFault, NoSeizureOfAHeldEntry, NoHoldOfAnUnreadyEntry, NoEntryHeldTwice, NoOtherCleanup, NoDrawPastTheEnd, IsSought, NoVictimOfTheCall, NoBatchPastItsBound, GroupsArePassedByTheBound}
 use Rattle.nv_core.proofs.Changes.{differ}
-use Rattle.nv_core.proofs.Choices.{gives_back, IsGivingBack}
+use Rattle.nv_core.proofs.Choices.{if_both, when_true, when_false, not_both, gives_back, IsGivingBack}
 use Rattle.nv_core.proofs.KeepsLoaded.{held_by_one, holds_page}
 use Rattle.nv_core.proofs.BufferLaws.{not_own}
 use Rattle.nv_core.proofs.KeepsWindow.{window_step}
@@ -136,3 +137,55 @@ no_broken_before_stop sizes first core number sound within word =
 
 pub no_batch_past_its_bound : NoBatchPastItsBound
 no_batch_past_its_bound sizes first core by batch sweep sound at footed = (sound.grouped.progress.each by batch sweep at footed).bound
+
+-- a cleaner that looks at a group, or takes its CLEANUPs
+abbrev is_at_group : Stage → Bool
+is_at_group (Cleaning batch (Surveying i)) = true
+is_at_group (Cleaning batch (Claiming i)) = true
+is_at_group stage = false
+
+pub groups_are_passed_by_the_bound : GroupsArePassedByTheBound
+groups_are_passed_by_the_bound sizes hands batch found = (goes (may_pass batch found) refl, comes)
+  where
+    surveys : is_at_group (surveyed (with_page batch 0 found) 0) ≡ true
+    surveys = if_both (λ s. is_at_group s ≡ true) (nat_lt (0 + 1) (with_page batch 0 found).count) (Cleaning (with_page batch 0 found) (Surveying (0 + 1))) (Cleaning (with_page batch 0 found) (Claiming 0)) (λ _. refl) (λ _. refl)
+
+    withdraws : (hands : List Word) → is_at_group (withdrawing hands (closed batch)) ≡ false
+    withdraws [] = refl
+    withdraws (cell ∷ rest) = refl
+
+    syncs : (files : List ℕ) → is_at_group (syncing (closed batch) files) ≡ false
+    syncs [] = refl
+    syncs (file ∷ rest) = refl
+
+    ends : is_at_group (finishing sizes hands batch) ≡ false
+    ends = if_both (λ s. is_at_group s ≡ false) (batch.reached == batch.tail) (withdrawing hands (closed batch)) (syncing (closed batch) (rising_files sizes batch)) (λ _. withdraws hands) (λ _. syncs (rising_files sizes batch))
+
+    -- what a test that holds says, and the other way round
+    first_or_fits : (b : Bool) → (batch.reached == batch.tail) ≡ b → (b || nat_le (batch.reached + count_of found) (batch.tail + batch.most)) ≡ true
+        → (batch.reached ≡ batch.tail) ⊎ (batch.reached + count_of found ≤ batch.tail + batch.most)
+    first_or_fits true e is = inl (eqb-true batch.reached batch.tail e)
+    first_or_fits false e is = inr (leb-true (batch.reached + count_of found) (batch.tail + batch.most) is)
+
+    or_left : (a b : Bool) → a ≡ true → (a || b) ≡ true
+    or_left a b e = ap (λ c. c || b) e
+
+    or_right : (a b : Bool) → b ≡ true → (a || b) ≡ true
+    or_right true b e = refl
+    or_right false b e = e
+
+    goes : (b : Bool) → may_pass batch found ≡ b → after_chore sizes hands batch (Surveying 0) found ≡ surveyed (with_page batch 0 found) 0
+        → (kind_of found ≡ ready) × ((batch.reached ≡ batch.tail) ⊎ (batch.reached + count_of found ≤ batch.tail + batch.most))
+    goes true e is =
+        let both = and_parts (kind_of found == ready) (batch.reached == batch.tail || nat_le (batch.reached + count_of found) (batch.tail + batch.most)) e in
+        (eqb-true (kind_of found) ready both.0, first_or_fits (batch.reached == batch.tail) refl both.1)
+    goes false e is = absurd (not_both surveys (ap is_at_group (sym is ∙ when_true (0 == 0 && not (may_pass batch found)) (finishing sizes hands batch) (surveyed (with_page batch 0 found) 0) (ap not e)) ∙ ends))
+
+    comes : (kind_of found ≡ ready) × ((batch.reached ≡ batch.tail) ⊎ (batch.reached + count_of found ≤ batch.tail + batch.most)) → after_chore sizes hands batch (Surveying 0) found ≡ surveyed (with_page batch 0 found) 0
+    comes is =
+        let test : (batch.reached == batch.tail || nat_le (batch.reached + count_of found) (batch.tail + batch.most)) ≡ true = elim is.1 [
+          | inl same ↦ or_left (batch.reached == batch.tail) (nat_le (batch.reached + count_of found) (batch.tail + batch.most)) (eq-eqb batch.reached batch.tail same)
+          | inr few ↦ or_right (batch.reached == batch.tail) (nat_le (batch.reached + count_of found) (batch.tail + batch.most)) (le-leb (batch.reached + count_of found) (batch.tail + batch.most) few)
+        ] in
+        when_false (0 == 0 && not (may_pass batch found)) (finishing sizes hands batch) (surveyed (with_page batch 0 found) 0)
+        (ap not (and_from (kind_of found == ready) (batch.reached == batch.tail || nat_le (batch.reached + count_of found) (batch.tail + batch.most)) (eq-eqb (kind_of found) ready is.0) test))

@@ -1,8 +1,9 @@
 -- Never: steps that no sound state allows, and what a step that is allowed has before it.
-use Rattle.std.specs.Prelude.{◌≡◌, ◌≢◌, ℕ, ◌+◌, ◌≤◌, [], true}
+use Rattle.std.specs.Prelude.{◌≡◌, ◌≢◌, ◌⊎◌, ◌↔◌, ℕ, ◌+◌, ◌≤◌, List, [], true}
 use Rattle.nv_plain.specs.declared.call.Reply.{Reply}
 use Rattle.nv_core.specs.Words.{Sizes, Word, STOP, HEAD, TAIL, ENTRY, CLEANUP, free, ready, kind_of, broken}
-use Rattle.nv_core.specs.Sweeps.{Batch, Sweep}
+use Rattle.nv_core.specs.Sweeps.{Batch, Sweep, Surveying}
+use Rattle.nv_core.specs.Chores.{after_chore, surveyed, with_page, count_of}
 use Rattle.nv_core.specs.Passes.{Stage, Cleaning, Seeking, Robbing, Searching, Seizing, Committing, Pledging, Readying, Placing, WriteFailing, Pass, IsHeld, times, is_write}
 use Rattle.nv_core.specs.Deeds.{Gives, Places, Stops, Draws, Seizes, Readies, Grows, Holds, slot_of, Breaks}
 use Rattle.nv_core.specs.Order.{Values, MayStep}
@@ -130,3 +131,11 @@ abbrev pub NoBatchPastItsBound : Type 0
 NoBatchPastItsBound =
     (sizes : Sizes) (first : Values) (core : Core) (by : ℕ) (batch : Batch) (sweep : Sweep) (sound : Sound sizes first core)
     → (core.passes by).stage ≡ Cleaning batch sweep → HasFooted sweep → IsBounded sound.grouped.log batch
+
+-- A cleaner goes on with the next group exactly where its leader is ready, and the group is the first or fits the batch: whatever its size the
+-- first one is passed, and of the others each that fits.
+abbrev pub GroupsArePassedByTheBound : Type 0
+GroupsArePassedByTheBound =
+    (sizes : Sizes) (hands : List Word) (batch : Batch) (found : ℕ)
+    → (after_chore sizes hands batch (Surveying 0) found ≡ surveyed (with_page batch 0 found) 0)
+    ↔ ((kind_of found ≡ ready) × ((batch.reached ≡ batch.tail) ⊎ (batch.reached + count_of found ≤ batch.tail + batch.most)))
