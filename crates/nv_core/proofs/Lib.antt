@@ -2,6 +2,7 @@ pub mod Changes
 pub mod LockLaws
 pub mod SearchLaws
 mod Choices
+mod NextSteps
 pub mod SweepStages
 pub mod StandingLaws
 pub mod PageLaws

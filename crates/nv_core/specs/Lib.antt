@@ -9,6 +9,7 @@ pub mod Deeds
 pub mod Stages
 pub mod Stepped
 pub mod Order
+pub mod NextStep
 pub mod Core
 pub mod Events
 pub mod Standing

@@ -8,6 +8,7 @@ mod crash;
 mod fitting;
 mod laws;
 mod log;
+mod order;
 mod others;
 mod shapes;
 
@@ -23,5 +24,6 @@ pub use laws::{
     words_have_places_of_their_own, writes_in_flight_keep_apart,
 };
 pub use log::{a_mount_opens_a_file_and_a_log, cleaning_keeps_its_order, runs_keep_the_log};
+pub use order::steps_follow_one_table;
 pub use others::passes_are_left_alone;
 pub use shapes::cells_keep_their_shapes;
