@@ -2,13 +2,13 @@
 use Rattle.std.specs.Prelude.{◌≡◌, ◌≢◌, ℕ, ◌+◌, ◌≤◌, true, false}
 use Rattle.nv_core.specs.Words.{Sizes, HEAD, TAIL, LENGTH, DIRTY, ready, held, page_of, was_readied, is_entry_of}
 use Rattle.nv_core.specs.Passes.{Stage, Fetching, Copying, Returning, Starting, Scanning, Grasping, Patching, Restoring, PieceFailing, Pass, file_of}
-use Rattle.nv_core.specs.Stages.{IsBetween, exceeds}
+use Rattle.nv_core.specs.Stages.{at_stop, at_growth, IsBetween, exceeds}
 use Rattle.nv_core.specs.Core.{Core}
 use Rattle.nv_core.specs.LogWindow.{InWindow, entry_at}
 
 -- a pass has loaded LENGTH for the last time in its call, and not yet changed it
 abbrev pub HasMeasured : Stage → Type 0
-HasMeasured stage = IsBetween 3 6 stage
+HasMeasured stage = IsBetween at_stop at_growth stage
 
 -- a pass has loaded a page's DIRTY as 0, and its read of the store isn't over
 abbrev pub SawClean : Stage → (page : ℕ) → Type 0

@@ -4,7 +4,7 @@ use Rattle.nv_core.specs.Totals.{total}
 use Rattle.nv_plain.specs.Histories.{Answered}
 use Rattle.nv_core.specs.Words.{ORDER}
 use Rattle.nv_core.specs.Passes.{Stage, Pass}
-use Rattle.nv_core.specs.Stages.{turn}
+use Rattle.nv_core.specs.Stages.{before_place, turn}
 use Rattle.nv_core.specs.Holding.{one_if}
 use Rattle.nv_core.specs.Core.{Core}
 
@@ -18,7 +18,7 @@ calls_by number history = filter (λ answered. answered.caller == number) histor
 
 -- 1 for a call that has loaded ORDER and has no place yet, and else 0
 abbrev pub stage_open : Stage → ℕ
-stage_open stage = one_if (turn stage == 5)
+stage_open stage = one_if (turn stage == before_place)
 
 -- the same of a pass's calls, those that ended by a fault among them: they have no place either
 abbrev pub open_calls : Pass → ℕ

@@ -13,23 +13,47 @@ abbrev pub IsSo : Bool → Type 0
 IsSo true = Unit {0}
 IsSo false = ⊥
 
--- How far a pass is in its call: 1 at its pages, 2 at LENGTH, 3 at STOP, 4 at ORDER, 5 from there to its place in the history, 6 at its
--- new length, 7 at what it gives back then. It is 0 where no call is open, and where one goes back.
+-- How far a pass is in its call. No call is open, or one goes back; it is at its pages; at LENGTH; at STOP; at ORDER; from there to its place in
+-- the history; at its new length; at what it gives back then.
+abbrev pub out_of_call : ℕ
+out_of_call = 0
+
+abbrev pub at_pages : ℕ
+at_pages = 1
+
+abbrev pub at_length : ℕ
+at_length = 2
+
+abbrev pub at_stop : ℕ
+at_stop = 3
+
+abbrev pub at_order : ℕ
+at_order = 4
+
+abbrev pub before_place : ℕ
+before_place = 5
+
+abbrev pub at_growth : ℕ
+at_growth = 6
+
+abbrev pub at_end : ℕ
+at_end = 7
+
 abbrev pub turn : Stage → ℕ
-turn Idle = 0
-turn (Locking page) = 1
-turn Measuring = 2
-turn Sizing = 2
-turn Checking = 3
-turn Ordering = 4
-turn Growing = 6
-turn Releasing = 7
-turn (Giving page) = 7
-turn Leaving = 0
-turn (Breaking number) = 0
-turn (Restoring page number true) = 0
-turn (Cleaning batch sweep) = 0
-turn stage = 5
+turn Idle = out_of_call
+turn (Locking page) = at_pages
+turn Measuring = at_length
+turn Sizing = at_length
+turn Checking = at_stop
+turn Ordering = at_order
+turn Growing = at_growth
+turn Releasing = at_end
+turn (Giving page) = at_end
+turn Leaving = out_of_call
+turn (Breaking number) = out_of_call
+turn (Restoring page number true) = out_of_call
+turn (Cleaning batch sweep) = out_of_call
+turn stage = before_place
 
 -- it is at one of these, both included
 abbrev pub IsBetween : (from to : ℕ) → Stage → Type 0
