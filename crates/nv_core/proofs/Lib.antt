@@ -3,6 +3,7 @@ pub mod LockLaws
 pub mod SearchLaws
 mod Choices
 mod NextSteps
+mod RefusalLaws
 pub mod SweepStages
 pub mod StandingLaws
 pub mod PageLaws

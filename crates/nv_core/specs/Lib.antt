@@ -10,6 +10,7 @@ pub mod Stages
 pub mod Stepped
 pub mod Order
 pub mod NextStep
+pub mod Refusals
 pub mod Core
 pub mod Events
 pub mod Standing

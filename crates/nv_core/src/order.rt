@@ -1,4 +1,5 @@
 ghost use Rattle.nv_core.specs.NextStep.{NextStepsMayCome, NoStepBesideADeviceCall, NoTwoSteps, StepsAreNext};
+ghost use Rattle.nv_core.specs.Refusals.{BatchesAreExact, LastTakenFirst, LengthsAreExact, LoadsAreKept, RefusalsAreExact, SearchesEnd};
 
 /// The order of steps is one table: a step may come exactly where the table has it as the next one, by where its pass stands, or where
 /// an idle pass begins a batch by it. So no pass may ever make one of two steps, but the batch that it begins is of any size, and none
@@ -8,4 +9,18 @@ pub fn steps_follow_one_table()
     ensures come { NextStepsMayCome }
     ensures one { NoTwoSteps }
     ensures alone { NoStepBesideADeviceCall }
+{}
+
+/// The numbers that the order of steps goes by. A call is refused exactly where a lock is shut that is no victim's, where STOP is set, where
+/// ORDER or the numbers to be drawn come past 2^60, where the log has no room for them, by HEAD and TAIL as loaded, or where HEAD is
+/// another one at the draw. Then, and after a fault, what was taken last is given back first. SIZE is taken, and a file grows, exactly where
+/// the call reaches past LENGTH as loaded. A search makes two tries for each buffer, and no more. A cleaner passes its first group, and
+/// further ones as far as its batch has entries.
+pub fn refusals_go_by_their_numbers()
+    ensures refusals { RefusalsAreExact }
+    ensures loads { LoadsAreKept }
+    ensures back { LastTakenFirst }
+    ensures lengths { LengthsAreExact }
+    ensures searches { SearchesEnd }
+    ensures batches { BatchesAreExact }
 {}
