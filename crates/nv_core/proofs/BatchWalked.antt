@@ -10,8 +10,9 @@ use Rattle.nv_core.specs.Values.{APart}
 use Rattle.nv_core.specs.Order.{SaysPieceOf}
 use Rattle.nv_core.specs.Walks.{walk_sizes, walk_bytes, walk_spares}
 use Rattle.nv_core.specs.DirtyWalks.{dirty_core}
-use Rattle.nv_core.specs.BatchWalks.{once_carried, twice_carried, moved_header, batch_core, BatchIsWalked}
-use Rattle.nv_core.proofs.Walked.{comes, any_stays}
+use Rattle.nv_core.specs.BatchWalks.{walk_batch, once_carried, twice_carried, moved_header, batch_core, BatchIsWalked}
+use Rattle.nv_core.proofs.WalkRooms.{any_stays}
+use Rattle.nv_core.proofs.Tabled.{come, tabled}
 
 -- the parts of the two entries have their pieces
 first_says : SaysPieceOf walk_sizes 0 walk_bytes (dirty_core.values (ENTRY 0))
@@ -39,7 +40,7 @@ header_moves = refl
 pub batch_is_walked : BatchIsWalked
 unfolding group_steps pieces_steps piece_steps data_steps field_steps line_stores durable_store
 batch_is_walked = record {
-  is_run = (comes _ 0 _ (omega arith) (λ z. z) refl record { may = tt; is = refl }, (comes _ 0 _ (omega arith) (λ z. z) refl record { may = refl; is = refl }, (comes _ 0 _ (omega arith) (λ z. z) refl record { may = refl; is = refl }, (comes _ 0 _ (omega arith) (λ z. z) refl record { may = refl; is = refl }, (comes _ 0 _ (omega arith) (λ z. z) refl record { may = refl; is = refl }, (comes _ 0 _ (omega arith) (λ z. z) refl record { may = refl; is = refl }, (comes _ 0 _ (omega arith) (λ z. z) refl record { may = refl; is = refl }, (comes _ 0 _ (omega arith) (λ z. z) refl record { may = refl; is = refl }, (comes _ 0 _ (omega arith) (λ z. z) refl record { may = refl; is = refl }, (comes _ 0 _ (omega arith) (λ z. z) refl record { due = record { at = 0; bytes = walk_bytes; cell = refl; job = refl; says = first_says }; ends = tt; leaves = tt; here = refl }, (comes _ 0 _ (omega arith) (λ z. z) refl record { due = record { at = 0; bytes = walk_bytes; left = Some once_carried; cell = refl; job = refl; says = first_says }; ends = tt; leaves = first_leaves; here = refl }, (comes _ 0 _ (omega arith) (λ z. z) refl record { may = refl; is = refl }, (comes _ 0 _ (omega arith) (λ z. z) refl record { may = refl; is = refl }, (comes _ 0 _ (omega arith) (λ z. z) refl record { may = refl; is = refl }, (comes _ 0 _ (omega arith) (λ z. z) refl record { may = refl; is = refl }, (comes _ 0 _ (omega arith) (λ z. z) refl record { may = refl; is = refl }, (comes _ 0 _ (omega arith) (λ z. z) refl record { may = refl; is = refl }, (comes _ 0 _ (omega arith) (λ z. z) refl record { due = record { at = 64; bytes = walk_bytes; cell = refl; job = refl; says = second_says }; ends = tt; leaves = tt; here = refl }, (comes _ 0 _ (omega arith) (λ z. z) refl record { due = record { at = 64; bytes = walk_bytes; left = Some twice_carried; cell = refl; job = refl; says = second_says }; ends = tt; leaves = second_leaves; here = refl }, (comes _ 0 _ (omega arith) (λ z. z) refl record { may = refl; is = refl }, (comes _ 0 _ (omega arith) (λ z. z) refl record { may = refl; is = refl }, (comes _ 0 _ (omega arith) (λ z. z) refl record { may = refl; is = refl }, (comes _ 0 _ (omega arith) (λ z. z) refl record { due = (refl, refl); ends = tt; leaves = tt; here = refl }, (comes _ 0 _ (omega arith) (λ z. z) refl record { due = record { step = StoreWord 1 0 2; there = omega arith; at = refl; cell = refl; spares = walk_spares 18; job = refl }; ends = tt; leaves = any_stays 18 (StoreWord 1 0 2) refl; here = refl }, (comes _ 0 _ (omega arith) (λ z. z) refl record { due = record { step = Flush 1; there = omega arith; at = refl; cell = refl; spares = walk_spares 18; job = refl }; ends = tt; leaves = any_stays 18 (Flush 1) refl; here = refl }, (comes _ 0 _ (omega arith) (λ z. z) refl record { due = record { step = Fence; there = omega arith; at = refl; cell = refl; spares = walk_spares 18; job = refl }; ends = tt; leaves = any_stays 18 Fence refl; here = refl }, (comes _ 0 _ (omega arith) (λ z. z) refl record { may = refl; is = refl }, (comes _ 0 _ (omega arith) (λ z. z) refl record { may = refl; is = refl }, (comes _ 0 _ (omega arith) (λ z. z) refl record { may = refl; is = refl }, (comes _ 0 _ (omega arith) (λ z. z) refl record { may = refl; is = refl }, (comes _ 0 _ (omega arith) (λ z. z) refl record { may = refl; is = refl }, (comes _ 0 _ (omega arith) (λ z. z) refl record { may = refl; is = refl }, tt))))))))))))))))))))))))))))))));
+  is_run = tabled walk_sizes dirty_core walk_batch refl (come walk_sizes 0 _ _ refl (λ none. none) record { due = record { at = 0; bytes = walk_bytes; cell = refl; job = refl; says = first_says }; ends = tt; leaves = tt; here = refl }, (come walk_sizes 0 _ _ refl (λ none. none) record { due = record { at = 0; bytes = walk_bytes; left = Some once_carried; cell = refl; job = refl; says = first_says }; ends = tt; leaves = first_leaves; here = refl }, (come walk_sizes 0 _ _ refl (λ none. none) record { due = record { at = 64; bytes = walk_bytes; cell = refl; job = refl; says = second_says }; ends = tt; leaves = tt; here = refl }, (come walk_sizes 0 _ _ refl (λ none. none) record { due = record { at = 64; bytes = walk_bytes; left = Some twice_carried; cell = refl; job = refl; says = second_says }; ends = tt; leaves = second_leaves; here = refl }, (come walk_sizes 0 _ _ refl (λ none. none) record { due = (refl, refl); ends = tt; leaves = tt; here = refl }, (come walk_sizes 0 _ _ refl (λ none. none) record { due = record { step = StoreWord 1 0 2; there = omega arith; at = refl; cell = refl; spares = walk_spares 18; job = refl }; ends = tt; leaves = any_stays 18 (StoreWord 1 0 2) refl; here = refl }, (come walk_sizes 0 _ _ refl (λ none. none) record { due = record { step = Flush 1; there = omega arith; at = refl; cell = refl; spares = walk_spares 18; job = refl }; ends = tt; leaves = any_stays 18 (Flush 1) refl; here = refl }, (come walk_sizes 0 _ _ refl (λ none. none) record { due = record { step = Fence; there = omega arith; at = refl; cell = refl; spares = walk_spares 18; job = refl }; ends = tt; leaves = any_stays 18 Fence refl; here = refl }, tt))))))));
   words = refl;
   rests = (refl, refl);
   store = refl;

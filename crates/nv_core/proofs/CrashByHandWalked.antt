@@ -5,9 +5,9 @@ use Rattle.nv_plain.specs.Files.{Files, contents_of}
 use Rattle.nv_plain.specs.Images.{Image, Entry, entry_of, PartImage}
 use Rattle.nv_plain.specs.Recovered.{recovered}
 use Rattle.nv_plain.specs.declared.call.FileCall.{FileCall}
-use Rattle.nv_plain.specs.declared.call.FileCall.TheVariants.{Read, Write}
-use Rattle.nv_pmem.specs.Part.{Part, word_of, word_at, newest, stored, with_word as with_word_of, flushed, fenced, fenced_at}
-use Rattle.nv_pmem.specs.Images.{IsImage}
+use Rattle.nv_plain.specs.declared.call.FileCall.TheVariants.{Read, Write, Sync}
+use Rattle.nv_pmem.specs.Part.{Part, line_of, word_of, word_at, newest, stored, with_word as with_word_of, flushed, fenced, fenced_at}
+use Rattle.nv_pmem.specs.Images.{IsImage, MayLeave}
 use Rattle.nv_pmem.specs.Laws as lines
 use Rattle.nv_pmem.specs.Steps.{line_stores, durable_store}
 use Rattle.nv_store.specs.Store.{Store, is_unsynced, durable_byte}
@@ -23,19 +23,35 @@ use Rattle.nv_core.specs.LivePieces.{call_if, calls_of}
 use Rattle.nv_core.specs.Apart.{after_calls}
 use Rattle.nv_core.specs.LogContent.{log_after_run, placed_after_run}
 use Rattle.nv_core.specs.Crash.{AreStoreImages, is_committed, added, RunsSurviveCrashes}
-use Rattle.nv_core.specs.Walks.{walk_sizes, walk_mount, walk_bytes}
+use Rattle.nv_core.specs.Walks.{walk_sizes, walk_mount, walk_bytes, walk_read, walk_write}
 use Rattle.nv_core.specs.WalkOpens.{walk_files, WalkOpensLog}
-use Rattle.nv_core.specs.CrashWalks.{walk_placed, placed_core, written_files}
-use Rattle.nv_core.specs.CrashByHand.{hand_store, hand_clean, hand_next, late_bytes, hand_late, cleaned_core, hand_events, hand_core, hand_entries, torn_files, two_files, three_files, Leaves, ImagesByHand}
+use Rattle.nv_core.specs.CrashByHand.{walk_placed, placed_core, written_files, hand_store, hand_clean, hand_next, late_bytes, hand_late, cleaned_core, hand_events, hand_core, hand_entries, torn_files, two_files, three_files, Leaves, ImagesByHand}
 use Rattle.nv_core.proofs.Choices.{not_both}
-use Rattle.nv_core.proofs.Walked.{walk_begins}
+use Rattle.nv_core.proofs.Walked.{walk_begins, read_is_walked, write_is_walked}
 use Rattle.nv_core.proofs.HandWalked.{clean_run, next_run, late_run}
 use Rattle.nv_core.proofs.WalkOpened.{walk_opens_files, walk_opens_region}
 use Rattle.nv_core.proofs.CrashRegions.{region_of, region_is}
 use Rattle.nv_core.proofs.RunLaws.{run_both}
-use Rattle.nv_core.proofs.CrashWalked.{placed_run, oldest_of, oldest_is, any_log, none_placed}
+
+-- what was last made durable
+abbrev oldest_of : Part → PartImage
+oldest_of part line word = word_at (line_of part line).oldest word
+
+oldest_is : (part : Part) → IsImage part (oldest_of part)
+unfolding MayLeave word_at
+oldest_is part = record { lines = λ line. (0, omega arith, λ word. refl) }
+
+-- whatever log one begins with
+abbrev any_log : Log
+any_log = record { group = λ number. record { call = Sync 0; first = 0; entries = 0 }; calls = λ number. 0 }
+
+abbrev none_placed : ℕ → Bool
+none_placed number = false
 
 -- ---- the run
+
+placed_run : IsRun walk_sizes (opening walk_mount) walk_placed
+placed_run = run_both walk_sizes (opening walk_mount) walk_read walk_write read_is_walked.is_run write_is_walked.is_run
 
 hand_run : IsRun walk_sizes (opening walk_mount) hand_events
 hand_run = run_both walk_sizes (opening walk_mount) walk_placed (hand_clean ++ (hand_next ++ hand_late)) placed_run

@@ -45,6 +45,8 @@ pub mod KeepsHistory
 pub mod KeepsDirty
 pub mod Nevers
 pub mod Places
+mod WalkRooms
+mod Tabled
 pub mod Walked
 pub mod DirtyWalked
 pub mod Placed
@@ -113,7 +115,6 @@ pub mod CarriedPieces
 pub mod KeepsPersistent
 pub mod AtRestLaws
 pub mod CrashRuns
-pub mod CrashWalked
 pub mod HandWalked
 pub mod CrashByHandWalked
 pub mod SweepProgress

@@ -1,17 +1,14 @@
 -- Crashes by hand: one state with a group that is cleaned, one that is ready and not placed and one that is half written; three images of it, and
 -- what each recovers to.
-use Rattle.std.specs.Prelude.{◌≡◌, ◌⊎◌, ℕ, ◌+◌, true, false, List, [], ◌∷◌, ◌++◌, map, replicate, Some, slice_index_or}
+use Rattle.std.specs.Prelude.{◌≡◌, ◌⊎◌, ℕ, ◌+◌, true, false, List, [], ◌∷◌, ◌++◌, map, replicate, take, Some}
 use Rattle.std.specs.List.{range_with_len}
 use Rattle.nv_plain.specs.Files.{Files}
 use Rattle.nv_plain.specs.Images.{Image, Entry, entry_of}
 use Rattle.nv_plain.specs.Recovered.{recovered}
 use Rattle.nv_plain.specs.declared.call.FileCall.TheVariants.{Read, Write}
-use Rattle.nv_pmem.specs.Rows.{RowStep}
-use Rattle.nv_pmem.specs.Steps.{Fence}
 use Rattle.nv_store.specs.Store.{Store}
-use Rattle.nv_entry.specs.Group.{group_steps}
 use Rattle.nv_core.specs.Words.{STOP, ORDER, HEAD, TAIL, LENGTH, HEADER, STORE, ENTRY, PAGE, CLEANUP}
-use Rattle.nv_core.specs.Values.{Writes, Peeks, Carries, Made}
+use Rattle.nv_core.specs.Values.{Peeks, Carries, Made}
 use Rattle.nv_core.specs.Sweeps.{Enters, Looks, Grabs, Lifts, Cleans}
 use Rattle.nv_core.specs.Deeds.{Loads, Takes, Draws, Seizes, Pledges, Readies, Splits, Tends}
 use Rattle.nv_core.specs.Core.{Core}
@@ -20,11 +17,18 @@ use Rattle.nv_core.specs.Opening.{opening}
 use Rattle.nv_core.specs.EntryImages.{IsRegionImage}
 use Rattle.nv_core.specs.LivePieces.{calls_of}
 use Rattle.nv_core.specs.Crash.{AreStoreImages}
-use Rattle.nv_core.specs.Walks.{walk_sizes, walk_mount, walk_spares, walk_bytes, acts}
+use Rattle.nv_core.specs.Walks.{walk_sizes, walk_mount, walk_bytes, walk_read, walk_write, acts, commits}
+use Rattle.nv_core.specs.DirtyWalks.{walk_second}
 use Rattle.nv_core.specs.WalkOpens.{walk_files}
-use Rattle.nv_core.specs.CrashWalks.{walk_placed, placed_core, written_files}
 
 -- ---- the run
+
+-- the walks' read and whole write
+abbrev pub walk_placed : List Event
+walk_placed = walk_read ++ walk_write
+
+abbrev pub placed_core : Core
+placed_core = after walk_sizes (opening walk_mount) walk_placed
 
 -- the store once the first write's piece is written to it, and not synced
 abbrev pub hand_store : Store
@@ -48,30 +52,9 @@ hand_clean =
     ∷ acts 0 (Does (Tends (Cleans 0)) 11)
     ∷ []
 
--- one of the device calls of the commit of a write of one entry, in the order of their steps
-abbrev pub hand_call : (first at : ℕ) → List ℕ → (call : ℕ) → RowStep
-hand_call first at bytes call = slice_index_or (group_steps 64 first 0 at bytes) call record { part = 0; step = Fence }
-
--- the first so many of them
-abbrev pub hand_calls : (by first at : ℕ) → List ℕ → (calls : ℕ) → List Event
-hand_calls by first at bytes calls =
-    map (λ call. acts by (Calls record { cell = ENTRY first; job = Writes (hand_call first at bytes call).step (walk_spares 2); ending = Made })) (range_with_len 0 calls)
-
 -- Pass 1 writes 5 bytes at the start of the second page, up to the step that makes its leader ready.
 abbrev pub hand_next : List Event
-hand_next =
-    acts 1 (Begins (Write 0 64 walk_bytes) (Takes (PAGE 1)) 0)
-    ∷ acts 1 (Does (Loads (LENGTH 0)) 128)
-    ∷ acts 1 (Does (Loads STOP) 0)
-    ∷ acts 1 (Does (Loads ORDER) 2)
-    ∷ acts 1 (Does (Loads HEAD) 1)
-    ∷ acts 1 (Does (Loads TAIL) 0)
-    ∷ acts 1 (Does Draws 1)
-    ∷ acts 1 (Does (Seizes 1) 0)
-    ∷ hand_calls 1 1 64 walk_bytes 19
-    ++ acts 1 (Does (Pledges 1) 0)
-    ∷ acts 1 (Does (Readies 1) 1)
-    ∷ []
+hand_next = take 29 walk_second
 
 abbrev pub late_bytes : List ℕ
 late_bytes = 9 ∷ 8 ∷ 7 ∷ []
@@ -87,7 +70,7 @@ hand_late =
     ∷ acts 2 (Does (Loads TAIL) 0)
     ∷ acts 2 (Does Draws 2)
     ∷ acts 2 (Does (Seizes 2) 0)
-    ∷ hand_calls 2 2 3 late_bytes 17
+    ∷ map (commits 2 2 3 late_bytes Made) (range_with_len 0 17)
 
 -- the cores behind each of these, and all of the events
 abbrev pub cleaned_core : Core
@@ -111,6 +94,10 @@ hand_entries commit =
     ∷ record { commit = 2; file = 0; at = 64; size = 5; count = 1; leader = 1 }
     ∷ record { commit = commit; file = 0; at = 3; size = 3; count = 1; leader = 2 }
     ∷ []
+
+-- the file with the bytes of the first write
+abbrev pub written_files : Files
+written_files = record { contents = (walk_bytes ++ replicate 123 97) ∷ [] }
 
 -- the stores, where the cleaner's write is torn: two bytes of it came, and three others are lost
 abbrev pub torn_files : Files

@@ -1,24 +1,14 @@
 -- Dirty walks: on the walks' mount, a write to the second page, and a read of that page, whose entry its store lacks.
-use Rattle.std.specs.Prelude.{◌≡◌, ℕ, List, [], ◌∷◌, ◌++◌, map, replicate, slice_index_or}
+use Rattle.std.specs.Prelude.{◌≡◌, ℕ, List, [], ◌∷◌, ◌++◌, map, replicate}
 use Rattle.std.specs.List.{range_with_len}
 use Rattle.nv_plain.specs.declared.call.FileCall.TheVariants.{Read, Write}
 use Rattle.nv_plain.specs.declared.call.Reply.TheVariants.{Bytes, Count}
-use Rattle.nv_pmem.specs.Rows.{RowStep}
-use Rattle.nv_pmem.specs.Steps.{Fence}
-use Rattle.nv_entry.specs.Group.{group_steps}
 use Rattle.nv_core.specs.Words.{STOP, ORDER, HEAD, TAIL, LENGTH, STORE, ENTRY, PAGE, CLEANUP, DIRTY}
-use Rattle.nv_core.specs.Values.{Writes, Reads, Peeks, Made, bytes_in}
+use Rattle.nv_core.specs.Values.{Reads, Peeks, Made, bytes_in}
 use Rattle.nv_core.specs.Deeds.{Loads, Takes, Gives, Places, Draws, Seizes, Pledges, Readies, Holds, Returns}
 use Rattle.nv_core.specs.Core.{Core}
 use Rattle.nv_core.specs.Events.{Begins, Does, Calls, Event, after, IsRun}
-use Rattle.nv_core.specs.Walks.{walk_sizes, walk_spares, walk_bytes, rows_after, acts, write_core}
-
--- one of the device calls of the write's commit as entry 1
-abbrev pub second_call : (call : ℕ) → RowStep
-second_call call = slice_index_or (group_steps 64 1 0 64 walk_bytes) call record { part = 0; step = Fence }
-
-abbrev pub calls_second : (call : ℕ) → Event
-calls_second call = acts 1 (Calls record { cell = ENTRY 1; job = Writes (second_call call).step (walk_spares 2); ending = Made })
+use Rattle.nv_core.specs.Walks.{walk_sizes, walk_bytes, rows_after, acts, commits, write_core}
 
 -- After the walks' first write pass 1 writes 5 bytes at the start of the second page, whose buffer doesn't count.
 abbrev pub walk_second : List Event
@@ -31,7 +21,7 @@ walk_second =
     ∷ acts 1 (Does (Loads TAIL) 0)
     ∷ acts 1 (Does Draws 1)
     ∷ acts 1 (Does (Seizes 1) 0)
-    ∷ map calls_second (range_with_len 0 19)
+    ∷ map (commits 1 1 64 walk_bytes Made) (range_with_len 0 19)
     ++ acts 1 (Does (Pledges 1) 0)
     ∷ acts 1 (Does (Readies 1) 1)
     ∷ acts 1 (Does (Places (Count 5)) 2)

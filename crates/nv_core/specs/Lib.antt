@@ -67,7 +67,6 @@ pub mod Content
 pub mod Crash
 pub mod AtRest
 pub mod WalkOpens
-pub mod CrashWalks
 pub mod DirtyWalks
 pub mod CrashByHand
 pub mod CleaningOrder

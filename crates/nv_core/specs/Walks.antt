@@ -95,12 +95,13 @@ pub record ReadIsWalked : Type 0 where
 abbrev pub walk_bytes : List ℕ
 walk_bytes = 1 ∷ 2 ∷ 3 ∷ 4 ∷ 5 ∷ []
 
--- one of the device calls of its commit as entry `first`, in the order of their steps; none of them takes of what the lines can take
-abbrev pub walk_call : (first call : ℕ) → RowStep
-walk_call first call = slice_index_or (group_steps 64 first 0 0 walk_bytes) call record { part = 0; step = Fence }
+-- a device call of the commit of a write from number first on, in the order of their steps; none of them takes of what the lines can take
+abbrev pub commit_call : (first at : ℕ) → List ℕ → (call : ℕ) → RowStep
+commit_call first at bytes call = slice_index_or (group_steps 64 first 0 at bytes) call record { part = 0; step = Fence }
 
-abbrev pub calls_one : (first : ℕ) → Ending → (call : ℕ) → Event
-calls_one first ending call = acts 1 (Calls record { cell = ENTRY first; job = Writes (walk_call first call).step (walk_spares 2); ending = ending })
+abbrev pub commits : (by first at : ℕ) → List ℕ → Ending → (call : ℕ) → Event
+commits by first at bytes ending call =
+    let row = commit_call first at bytes call in acts by (Calls record { cell = ENTRY (first + row.part); job = Writes row.step (walk_spares 2); ending = ending })
 
 -- Pass 0 makes pass 1, which writes.
 abbrev pub walk_write : List Event
@@ -114,7 +115,7 @@ walk_write =
     ∷ acts 1 (Does (Loads TAIL) 0)
     ∷ acts 1 (Does Draws 0)
     ∷ acts 1 (Does (Seizes 0) 0)
-    ∷ map (calls_one 0 Made) (range_with_len 0 19)
+    ∷ map (commits 1 0 0 walk_bytes Made) (range_with_len 0 19)
     ++ acts 1 (Does (Pledges 0) 0)
     ∷ acts 1 (Does (Readies 0) 1)
     ∷ acts 1 (Does (Places (Count 5)) 1)
@@ -152,8 +153,8 @@ walk_fault =
     ∷ acts 1 (Does (Loads TAIL) 0)
     ∷ acts 1 (Does Draws 1)
     ∷ acts 1 (Does (Seizes 1) 0)
-    ∷ map (calls_one 1 Made) (range_with_len 0 9)
-    ++ calls_one 1 (Failed false 1) 9
+    ∷ map (commits 1 1 0 walk_bytes Made) (range_with_len 0 9)
+    ++ commits 1 1 0 walk_bytes (Failed false 1) 9
     ∷ acts 1 (Does Stops 0)
     ∷ acts 1 (Does (Breaks 1) 1)
     ∷ acts 1 (Does (Gives (PAGE 0)) 1)

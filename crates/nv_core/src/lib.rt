@@ -15,7 +15,6 @@ mod shapes;
 pub use content::{pages_are_patched, runs_keep_content};
 pub use crash::{
     crashes_leave_whole_writes, empty_logs_rest, images_by_hand, regions_at_rest_open,
-    walks_survive_crashes,
 };
 pub use fitting::{held_pieces_fit, ready_pieces_fit};
 pub use laws::{
