@@ -96,6 +96,7 @@ pub mod KeepsEntryWords
 pub mod ReachLengths
 pub mod WalkOpened
 pub mod BatchWalked
+mod ShortWalked
 pub mod CoverLaws
 pub mod DropLaws
 pub mod StoreLaws

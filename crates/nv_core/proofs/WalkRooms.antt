@@ -50,7 +50,7 @@ any_stays lines Fence there = (keeps lines, record { spare = λ line. as_fenced 
 pub stays : (step : Step) → has_line 2 step ≡ true → RoomAfter step (room_of (walk_spares 2)) (room_of (walk_spares 2))
 stays = any_stays 2
 
-pub fault_stays : (step : Step) → RoomAfterFault step (room_of (walk_spares 2)) (room_of (walk_spares 2))
-fault_stays (Store line word value) = takes 2 8 line
-fault_stays (Flush line) = keeps 2
-fault_stays Fence = keeps 2
+pub fault_stays : (lines : ℕ) (step : Step) → RoomAfterFault step (room_of (walk_spares lines)) (room_of (walk_spares lines))
+fault_stays lines (Store line word value) = takes lines 8 line
+fault_stays lines (Flush line) = keeps lines
+fault_stays lines Fence = keeps lines

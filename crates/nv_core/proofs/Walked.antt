@@ -44,7 +44,7 @@ fault_is_walked = record {
         come walk_sizes 1 _ _ refl (λ none. none) record {
           due = record { row = commit_call 1 0 walk_bytes 9; there = omega arith; at = refl; cell = refl; spares = walk_spares 2; job = refl };
           ends = record { never_falls = omega arith; more = omega arith };
-          leaves = fault_stays (commit_call 1 0 walk_bytes 9).step;
+          leaves = fault_stays 2 (commit_call 1 0 walk_bytes 9).step;
           here = refl;
         },
         tt,

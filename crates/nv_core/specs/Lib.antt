@@ -39,6 +39,7 @@ pub mod Flights
 pub mod GoingBack
 pub mod Walks
 pub mod BatchWalks
+pub mod ShortWalks
 pub mod PagesAfter
 pub mod StorePages
 pub mod Legal

@@ -23,6 +23,6 @@ pub use laws::{
     words_have_places_of_their_own, writes_in_flight_keep_apart,
 };
 pub use log::{a_mount_opens_a_file_and_a_log, cleaning_keeps_its_order, runs_keep_the_log};
-pub use order::{refusals_go_by_their_numbers, steps_follow_one_table};
+pub use order::{refusals_go_by_their_numbers, short_walks_are_runs, steps_follow_one_table};
 pub use others::passes_are_left_alone;
 pub use shapes::cells_keep_their_shapes;

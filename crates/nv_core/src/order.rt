@@ -1,5 +1,6 @@
 ghost use Rattle.nv_core.specs.NextStep.{NextStepsMayCome, NoStepBesideADeviceCall, NoTwoSteps, StepsAreNext};
 ghost use Rattle.nv_core.specs.Refusals.{BatchesAreExact, LastTakenFirst, LengthsAreExact, LoadsAreKept, RefusalsAreExact, SearchesEnd};
+ghost use Rattle.nv_core.specs.ShortWalks.{ShortWalks};
 
 /// The order of steps is one table: a step may come exactly where the table has it as the next one, by where its pass stands, or where
 /// an idle pass begins a batch by it. So no pass may ever make one of two steps, but the batch that it begins is of any size, and none
@@ -23,4 +24,11 @@ pub fn refusals_go_by_their_numbers()
     ensures lengths { LengthsAreExact }
     ensures searches { SearchesEnd }
     ensures batches { BatchesAreExact }
+{}
+
+/// Short runs by hand, with the words after them: a group of three that makes its file longer; a call refused for each reason but ORDER, and a cleaner
+/// for each of its own; a fault of each device that a write, a read or a cleaner calls, and a store that refuses; a batch whose first group is larger
+/// than the batch; a sync, a call of no bytes, a read of a page whose buffer counts; and passes that are taken in, one of them in mid-call.
+pub fn short_walks_are_runs()
+    ensures { ShortWalks }
 {}

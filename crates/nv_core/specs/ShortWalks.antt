@@ -1,0 +1,441 @@
+-- Short walks: one table of runs by hand, each from a named state, with some words after it. They are of what the other walks don't come to: a group of
+-- three that makes its file longer, each refusal, a fault of each device, a store that refuses, and the taking in of passes.
+use Rattle.std.specs.Prelude.{◌≡◌, ℕ, zero, ◌+◌, ◌-◌, ◌*◌, ◌^◌, ◌≤◌, true, false, List, [], ◌∷◌, ◌++◌, None, map, replicate}
+use Rattle.std.specs.List.{range_with_len}
+use Rattle.nv_plain.specs.declared.call.FileCall.{FileCall}
+use Rattle.nv_plain.specs.declared.call.FileCall.TheVariants.{Read, Write, Sync}
+use Rattle.nv_plain.specs.declared.call.Reply.TheVariants.{Bytes, Count, Done}
+use Rattle.nv_pmem.specs.Steps.{Store as StoreWord, Flush, Fence}
+use Rattle.nv_core.specs.Words.{Sizes, Word, STOP, ORDER, HEAD, TAIL, HAND, CLEANER, HEADER, LENGTH, SIZE, STORE, ENTRY, HINT, PAGE, CLEANUP, DIRTY}
+use Rattle.nv_core.specs.Values.{APart, AStore, Job, Writes, Reads, Peeks, Carries, Syncs, Ending, Made, Failed, Refused}
+use Rattle.nv_core.specs.Sweeps.{Chore, Enters, Looks, Grabs, Yields, Lifts, Drops, Cleans, Subtracts, Frees, Retires, Halts}
+use Rattle.nv_core.specs.Deeds.{Deed, Loads, Takes, Gives, Places, Stops, Draws, Seizes, Pledges, Readies, Grows, Breaks, Holds, Returns, Turns, Hints, Tends, Splits, Leaves, Joins}
+use Rattle.nv_core.specs.Order.{Values}
+use Rattle.nv_core.specs.Core.{Core}
+use Rattle.nv_core.specs.Events.{Begins, Does, Calls, Event, after, IsRun}
+use Rattle.nv_core.specs.Opening.{Mount, IsMount, opening}
+use Rattle.nv_core.specs.Walks.{walk_sizes, walk_spares, walk_values, acts, commits}
+
+-- the walks' mount with a log of four entries, a file of five pages, and devices that tell nothing
+abbrev pub short_sizes : Sizes
+short_sizes = record walk_sizes { entries = 4 }
+
+abbrev pub short_values : Values
+short_values (ENTRY slot) = APart record { told = None; faults = 0; identity = slot + 1 } (walk_spares 2)
+short_values HEADER = APart record { told = None; faults = 0; identity = 0 } (walk_spares 18)
+short_values (STORE zero) = AStore record { told = None; faults = 0; identity = 5 }
+short_values word = walk_values word
+
+abbrev pub short_mount : (next : ℕ) → Mount
+short_mount next = record { sizes = short_sizes; next = next; lengths = λ file. 320; values = short_values }
+
+-- a call that begins, a step, a step of a cleaner, and a device call
+abbrev pub begins : (by : ℕ) → FileCall → Deed → (found : ℕ) → Event
+begins by call deed found = acts by (Begins call deed found)
+
+abbrev pub does : (by : ℕ) → Deed → (found : ℕ) → Event
+does by deed found = acts by (Does deed found)
+
+abbrev pub sweeps : Chore → (found : ℕ) → Event
+sweeps chore found = acts 1 (Does (Tends chore) found)
+
+abbrev pub calls : (by : ℕ) → Word → Job → Ending → Event
+calls by cell job ending = acts by (Calls record { cell = cell; job = job; ending = ending })
+
+-- ---- a group of three that makes its file longer
+
+abbrev pub long_bytes : List ℕ
+long_bytes = replicate 70 7
+
+-- a batch of pass 1 that meets no group, from the load of HEAD on: the log is empty, or the next leader isn't ready
+abbrev pub meets : (head : ℕ) → List Event → List Event
+meets head looks =
+    sweeps (Enters 2) 0
+    ∷ sweeps (Grabs HEADER) 0
+    ∷ sweeps (Looks STOP) 0
+    ∷ sweeps (Looks TAIL) 0
+    ∷ sweeps (Looks HEAD) head
+    ∷ (looks ++ (sweeps (Yields HEADER) 1 ∷ sweeps (Yields CLEANER) 1 ∷ []))
+
+-- Pass 0 makes passes 1 and 2, and writes 70 bytes at 252: to pages 3, 4 and 5, up to 322. A write of pass 1 finds SIZE held meanwhile, and its
+-- batches an empty log, and then a leader that is being filled. Each piece takes 16 device calls, eight stores and a flush of its one line of
+-- data, five fields, a flush and a fence; and the commit word three.
+abbrev pub walk_grows : List Event
+walk_grows =
+    does 0 Splits 0
+    ∷ does 0 Splits 0
+    ∷ meets 0 []
+    ++ begins 0 (Write 0 252 long_bytes) (Takes (PAGE 3)) 0
+    ∷ does 0 (Takes (PAGE 4)) 0
+    ∷ does 0 (Takes (PAGE 5)) 0
+    ∷ does 0 (Loads (LENGTH 0)) 320
+    ∷ does 0 (Takes (SIZE 0)) 0
+    ∷ begins 1 (Write 0 384 (1 ∷ [])) (Takes (PAGE 6)) 0
+    ∷ does 1 (Loads (LENGTH 0)) 320
+    ∷ does 1 (Takes (SIZE 0)) 1
+    ∷ does 1 (Gives (PAGE 6)) 1
+    ∷ does 0 (Loads (LENGTH 0)) 320
+    ∷ does 0 (Loads STOP) 0
+    ∷ does 0 (Loads ORDER) 0
+    ∷ does 0 (Loads HEAD) 0
+    ∷ does 0 (Loads TAIL) 0
+    ∷ does 0 Draws 0
+    ∷ does 0 (Seizes 0) 0
+    ∷ does 0 (Seizes 1) 0
+    ∷ does 0 (Seizes 2) 0
+    ∷ map (commits 0 0 252 long_bytes Made) (range_with_len 0 51)
+    ++ meets 3 (sweeps (Looks (ENTRY 0)) 1 ∷ [])
+    ++ does 0 (Pledges 3) 0
+    ∷ does 0 (Pledges 4) 0
+    ∷ does 0 (Pledges 5) 0
+    ∷ does 0 (Readies 1) 1
+    ∷ does 0 (Readies 2) 1
+    ∷ does 0 (Readies 0) 1
+    ∷ does 0 (Places (Count 70)) 0
+    ∷ does 0 Grows 320
+    ∷ does 0 (Gives (SIZE 0)) 1
+    ∷ does 0 (Gives (PAGE 3)) 1
+    ∷ does 0 (Gives (PAGE 4)) 1
+    ∷ does 0 (Gives (PAGE 5)) 1
+    ∷ []
+
+abbrev pub grown : Core
+grown = after short_sizes (opening (short_mount 0)) walk_grows
+
+-- ---- refusals
+
+-- what a call of pass 0 on two pages loads up to HEAD, and what it gives back where it is refused then, the last taken first
+abbrev pub asks : (length order head : ℕ) → List Event
+asks length order head =
+    begins 0 (Write 0 60 (replicate 8 9)) (Takes (PAGE 0)) 0
+    ∷ does 0 (Takes (PAGE 1)) 0
+    ∷ does 0 (Loads (LENGTH 0)) length
+    ∷ does 0 (Loads STOP) 0
+    ∷ does 0 (Loads ORDER) order
+    ∷ does 0 (Loads HEAD) head
+    ∷ []
+
+abbrev pub gives_two : List Event
+gives_two = does 0 (Gives (PAGE 1)) 1 ∷ does 0 (Gives (PAGE 0)) 1 ∷ []
+
+-- Again: the log of four has three entries, and no room for two more.
+abbrev pub walk_again : List Event
+walk_again = asks 322 1 3 ++ (does 0 (Loads TAIL) 0 ∷ gives_two)
+
+-- Spent: the log's numbers end at 2^60, and HEAD is one below.
+abbrev pub walk_spent : List Event
+walk_spent = asks 320 0 (2 ^ 60 - 1) ++ gives_two
+
+-- Raced: pass 0 draws the number that pass 1 had loaded. Its first device call then fails; so it sets STOP, breaks its entry, and gives back. A
+-- read, a sync and a cleaner find STOP set.
+abbrev pub walk_raced : List Event
+walk_raced =
+    begins 1 (Write 0 0 (1 ∷ [])) (Takes (PAGE 0)) 0
+    ∷ does 1 (Loads (LENGTH 0)) 322
+    ∷ does 1 (Loads STOP) 0
+    ∷ does 1 (Loads ORDER) 1
+    ∷ does 1 (Loads HEAD) 3
+    ∷ does 1 (Loads TAIL) 0
+    ∷ begins 0 (Write 0 64 (1 ∷ [])) (Takes (PAGE 1)) 0
+    ∷ does 0 (Loads (LENGTH 0)) 322
+    ∷ does 0 (Loads STOP) 0
+    ∷ does 0 (Loads ORDER) 1
+    ∷ does 0 (Loads HEAD) 3
+    ∷ does 0 (Loads TAIL) 0
+    ∷ does 0 Draws 3
+    ∷ does 1 Draws 4
+    ∷ does 1 (Gives (PAGE 0)) 1
+    ∷ does 0 (Seizes 3) 0
+    ∷ commits 0 3 64 (1 ∷ []) (Failed false 1) 0
+    ∷ does 0 Stops 0
+    ∷ does 0 (Breaks 3) 1
+    ∷ does 0 (Gives (PAGE 1)) 1
+    ∷ begins 1 (Read 0 0 16) (Takes (PAGE 0)) 0
+    ∷ does 1 (Loads (LENGTH 0)) 322
+    ∷ does 1 (Loads STOP) 1
+    ∷ does 1 (Gives (PAGE 0)) 1
+    ∷ begins 1 (Sync 0) (Loads STOP) 1
+    ∷ sweeps (Enters 2) 0
+    ∷ sweeps (Grabs HEADER) 0
+    ∷ sweeps (Looks STOP) 1
+    ∷ sweeps (Yields HEADER) 1
+    ∷ sweeps (Yields CLEANER) 1
+    ∷ []
+
+-- ---- calls of no page, and passes that are taken in
+
+-- A sync, a read of no bytes and one past the end, which takes SIZE, have their places; then pass 0 takes in pass 1, and pass 2 in mid-call, whose
+-- page stays shut.
+abbrev pub walk_joins : List Event
+walk_joins =
+    begins 0 (Sync 0) (Loads STOP) 0
+    ∷ does 0 (Loads ORDER) 1
+    ∷ does 0 (Places Done) 1
+    ∷ begins 1 (Read 0 0 0) (Loads STOP) 0
+    ∷ does 1 (Loads ORDER) 2
+    ∷ does 1 (Places (Bytes [])) 2
+    ∷ begins 1 (Read 0 330 16) (Takes (PAGE 5)) 0
+    ∷ does 1 (Loads (LENGTH 0)) 322
+    ∷ does 1 (Takes (SIZE 0)) 0
+    ∷ does 1 (Loads (LENGTH 0)) 322
+    ∷ does 1 (Loads STOP) 0
+    ∷ does 1 (Loads ORDER) 3
+    ∷ does 1 (Places (Bytes [])) 3
+    ∷ does 1 (Gives (SIZE 0)) 1
+    ∷ does 1 (Gives (PAGE 5)) 1
+    ∷ does 0 (Joins 1) 0
+    ∷ begins 2 (Read 0 0 16) (Takes (PAGE 0)) 0
+    ∷ does 2 (Leaves (PAGE 0)) 0
+    ∷ does 0 (Joins 2) 0
+    ∷ []
+
+-- ---- a cleaner and its group of three
+
+-- Pass 1 cleans a batch of at most two entries, up to what it claims: the group of three is its first. Its leader is ready, says that there are
+-- three, and is of page 3: 2 + 8 * 3 + 1024 * 3; its followers are of pages 4 and 5.
+abbrev pub surveys : List Event
+surveys =
+    sweeps (Enters 2) 0
+    ∷ sweeps (Grabs HEADER) 0
+    ∷ sweeps (Looks STOP) 0
+    ∷ sweeps (Looks TAIL) 0
+    ∷ sweeps (Looks HEAD) 3
+    ∷ sweeps (Looks (ENTRY 0)) 3098
+    ∷ sweeps (Looks (ENTRY 1)) 4098
+    ∷ sweeps (Looks (ENTRY 2)) 5122
+    ∷ sweeps (Grabs (CLEANUP 3)) 0
+    ∷ []
+
+abbrev pub claims : List Event
+claims = surveys ++ (sweeps (Grabs (CLEANUP 4)) 0 ∷ sweeps (Grabs (CLEANUP 5)) 0 ∷ [])
+
+abbrev pub carries : (at : ℕ) → List ℕ → Ending → Event
+carries at bytes ending = calls 1 (STORE 0) (Carries at bytes None) ending
+
+-- the first entry is held, its piece read, and written to the store
+abbrev pub carries_first : Ending → List Event
+carries_first ending =
+    sweeps (Grabs (STORE 0)) 0
+    ∷ sweeps (Lifts 0) 3098
+    ∷ calls 1 (ENTRY 0) (Peeks 252 (replicate 4 7)) Made
+    ∷ carries 252 (replicate 4 7) ending
+    ∷ []
+
+-- and all three, up to the end of the group
+abbrev pub cleans : List Event
+cleans =
+    sweeps (Lifts 1) 4098
+    ∷ calls 1 (ENTRY 1) (Peeks 256 (replicate 64 7)) Made
+    ∷ carries 256 (replicate 64 7) Made
+    ∷ sweeps (Lifts 2) 5122
+    ∷ calls 1 (ENTRY 2) (Peeks 320 (replicate 2 7)) Made
+    ∷ carries 320 (replicate 2 7) Made
+    ∷ sweeps (Cleans 0) 3099
+    ∷ sweeps (Cleans 1) 4099
+    ∷ sweeps (Cleans 2) 5123
+    ∷ sweeps (Subtracts 3) 1
+    ∷ sweeps (Subtracts 4) 1
+    ∷ sweeps (Subtracts 5) 1
+    ∷ sweeps (Yields (CLEANUP 3)) 1
+    ∷ sweeps (Yields (CLEANUP 4)) 1
+    ∷ sweeps (Yields (CLEANUP 5)) 1
+    ∷ []
+
+abbrev pub cleaned : List Event
+cleaned = claims ++ (carries_first Made ++ cleans)
+
+-- the CLEANUPs are given back, the last taken first; and the rest
+abbrev pub retreats : List Event
+retreats = sweeps (Yields (CLEANUP 5)) 1 ∷ sweeps (Yields (CLEANUP 4)) 1 ∷ sweeps (Yields (CLEANUP 3)) 1 ∷ []
+
+abbrev pub withdraws : List Event
+withdraws = sweeps (Yields HEADER) 1 ∷ sweeps (Yields CLEANER) 1 ∷ []
+
+-- it is synced, the tail is moved, and all three entries are freed
+abbrev pub retires : List Event
+retires =
+    calls 1 (STORE 0) Syncs Made
+    ∷ calls 1 HEADER (Writes (StoreWord 1 0 3) (walk_spares 18)) Made
+    ∷ calls 1 HEADER (Writes (Flush 1) (walk_spares 18)) Made
+    ∷ calls 1 HEADER (Writes Fence (walk_spares 18)) Made
+    ∷ sweeps (Frees 0) 3100
+    ∷ sweeps (Frees 1) 4100
+    ∷ sweeps (Frees 2) 5124
+    ∷ sweeps (Retires 3) 0
+    ∷ sweeps (Yields (STORE 0)) 1
+    ∷ withdraws
+
+-- Another pass finds CLEANER held, and a read CLEANUP of its page. The store then refuses a write for want of memory, and the batch ends with no group.
+abbrev pub walk_refuses : List Event
+walk_refuses =
+    claims
+    ++ (does 2 (Tends (Enters 1)) 1
+    ∷ begins 0 (Read 0 192 16) (Takes (PAGE 3)) 0
+    ∷ does 0 (Loads (LENGTH 0)) 322
+    ∷ does 0 (Loads STOP) 0
+    ∷ does 0 (Loads ORDER) 1
+    ∷ does 0 (Loads (DIRTY 3)) 1
+    ∷ does 0 (Takes (CLEANUP 3)) 1
+    ∷ does 0 (Gives (PAGE 3)) 1
+    ∷ carries_first Refused
+    ++ sweeps (Drops 0) 3099
+    ∷ retreats
+    ++ sweeps (Yields (STORE 0)) 1
+    ∷ withdraws)
+
+-- ---- faults of a cleaner
+
+-- the read of a piece fails; the second write to the store, its work done; the sync; and the move of the header's tail
+abbrev pub walk_peek_fails : List Event
+walk_peek_fails =
+    claims
+    ++ (sweeps (Grabs (STORE 0)) 0
+    ∷ sweeps (Lifts 0) 3098
+    ∷ calls 1 (ENTRY 0) (Peeks 252 (replicate 4 7)) (Failed false 1)
+    ∷ sweeps Halts 0
+    ∷ sweeps (Drops 0) 3099
+    ∷ sweeps (Yields (STORE 0)) 1
+    ∷ retreats
+    ++ withdraws)
+
+abbrev pub walk_carry_fails : List Event
+walk_carry_fails =
+    claims
+    ++ (carries_first Made
+    ++ sweeps (Lifts 1) 4098
+    ∷ calls 1 (ENTRY 1) (Peeks 256 (replicate 64 7)) Made
+    ∷ carries 256 (replicate 64 7) (Failed true 1)
+    ∷ sweeps Halts 0
+    ∷ sweeps (Drops 0) 3099
+    ∷ sweeps (Drops 1) 4099
+    ∷ sweeps (Yields (STORE 0)) 1
+    ∷ retreats
+    ++ withdraws)
+
+abbrev pub walk_sync_fails : List Event
+walk_sync_fails = cleaned ++ (calls 1 (STORE 0) Syncs (Failed false 1) ∷ sweeps Halts 0 ∷ sweeps (Yields (STORE 0)) 1 ∷ withdraws)
+
+abbrev pub walk_move_fails : List Event
+walk_move_fails =
+    cleaned
+    ++ (calls 1 (STORE 0) Syncs Made
+    ∷ calls 1 HEADER (Writes (StoreWord 1 0 3) (walk_spares 18)) (Failed true 1)
+    ∷ sweeps Halts 0
+    ∷ sweeps (Yields (STORE 0)) 1
+    ∷ withdraws)
+
+-- ---- reads
+
+-- what pass 0 loads to read 16 bytes of a page with a buffer, up to its DIRTY
+abbrev pub reads : (page : ℕ) → (dirty : ℕ) → List Event
+reads page dirty =
+    begins 0 (Read 0 (64 * page) 16) (Takes (PAGE page)) 0
+    ∷ does 0 (Loads (LENGTH 0)) 322
+    ∷ does 0 (Loads STOP) 0
+    ∷ does 0 (Loads ORDER) 1
+    ∷ does 0 (Loads (DIRTY page)) dirty
+    ∷ []
+
+-- Pass 0 reads page 0, and holds STORE meanwhile: a cleaner, and a read of pass 2, find it shut. Once it is read, its buffer counts.
+abbrev pub walk_stores_held : List Event
+walk_stores_held =
+    reads 0 0
+    ++ (does 0 (Takes (STORE 0)) 0
+    ∷ claims
+    ++ sweeps (Grabs (STORE 0)) 1
+    ∷ retreats
+    ++ withdraws
+    ++ begins 2 (Read 0 64 16) (Takes (PAGE 1)) 0
+    ∷ does 2 (Loads (LENGTH 0)) 322
+    ∷ does 2 (Loads STOP) 0
+    ∷ does 2 (Loads ORDER) 1
+    ∷ does 2 (Loads (DIRTY 1)) 0
+    ∷ does 2 (Takes (STORE 0)) 1
+    ∷ does 2 (Gives (PAGE 1)) 1
+    ∷ calls 0 (STORE 0) (Reads 0 (replicate 64 97)) Made
+    ∷ does 0 (Gives (STORE 0)) 1
+    ∷ does 0 (Places (Bytes (replicate 16 97))) 1
+    ∷ does 0 (Gives (PAGE 0)) 1
+    ∷ begins 0 (Read 0 0 16) (Takes (PAGE 0)) 0
+    ∷ does 0 (Loads (LENGTH 0)) 322
+    ∷ does 0 (Loads STOP) 0
+    ∷ does 0 (Loads ORDER) 2
+    ∷ does 0 (Places (Bytes (replicate 16 97))) 2
+    ∷ does 0 (Gives (PAGE 0)) 1
+    ∷ [])
+
+-- Pass 0 reads page 4, which has entries and no buffer: it takes that of page 0. A cleaner finds its CLEANUP shut, gives back the one before, and
+-- ends. The read of the store then fails.
+abbrev pub walk_read_fails : List Event
+walk_read_fails =
+    begins 0 (Read 0 256 16) (Takes (PAGE 4)) 0
+    ∷ does 0 (Loads (LENGTH 0)) 322
+    ∷ does 0 (Loads STOP) 0
+    ∷ does 0 (Loads ORDER) 1
+    ∷ does 0 (Turns 4) 0
+    ∷ does 0 (Loads (HINT 0)) 0
+    ∷ does 0 (Takes (PAGE 0)) 0
+    ∷ does 0 (Gives (PAGE 0)) 1
+    ∷ does 0 (Hints 0 4) 0
+    ∷ does 0 (Loads (DIRTY 4)) 1
+    ∷ does 0 (Takes (CLEANUP 4)) 0
+    ∷ surveys
+    ++ sweeps (Grabs (CLEANUP 4)) 1
+    ∷ sweeps (Yields (CLEANUP 3)) 1
+    ∷ withdraws
+    ++ does 0 (Takes (STORE 0)) 0
+    ∷ calls 0 (STORE 0) (Reads 256 (replicate 64 97)) (Failed false 1)
+    ∷ does 0 Stops 0
+    ∷ does 0 (Gives (STORE 0)) 1
+    ∷ does 0 (Gives (CLEANUP 4)) 1
+    ∷ does 0 (Gives (PAGE 4)) 1
+    ∷ []
+
+-- Pass 0 reads page 3, and the piece of its entry can't be read: it sets STOP, and returns the entry.
+abbrev pub walk_piece_fails : List Event
+walk_piece_fails =
+    reads 3 1
+    ++ (does 0 (Takes (CLEANUP 3)) 0
+    ∷ does 0 (Takes (STORE 0)) 0
+    ∷ calls 0 (STORE 0) (Reads 192 (replicate 64 97)) Made
+    ∷ does 0 (Gives (STORE 0)) 1
+    ∷ does 0 (Loads HEAD) 3
+    ∷ does 0 (Loads TAIL) 0
+    ∷ does 0 (Loads (ENTRY 0)) 3098
+    ∷ does 0 (Holds 0) 3098
+    ∷ calls 0 (ENTRY 0) (Peeks 252 (replicate 4 7)) (Failed false 1)
+    ∷ does 0 Stops 0
+    ∷ does 0 (Returns 0) 3099
+    ∷ does 0 (Gives (CLEANUP 3)) 1
+    ∷ does 0 (Gives (PAGE 3)) 1
+    ∷ [])
+
+-- ---- the table
+
+-- they are a run from there, and these words say this then
+pub record IsShort (core : Core) (events : List Event) (words : List Word) (say : List ℕ) : Type 0 where
+  pub is_run : IsRun short_sizes core events
+  pub says : map (after short_sizes core events).words words ≡ say
+
+-- STOP, the group's entries, TAIL, and the locks of a cleaner
+abbrev pub swept : List Word
+swept = STOP ∷ ENTRY 0 ∷ ENTRY 1 ∷ ENTRY 2 ∷ TAIL ∷ CLEANER ∷ HEADER ∷ STORE 0 ∷ CLEANUP 3 ∷ CLEANUP 4 ∷ CLEANUP 5 ∷ []
+
+pub record ShortWalks : Type 0 where
+  pub begins : (next : ℕ) → next ≤ 2 ^ 60 → IsMount (short_mount next)
+  pub grows : IsShort (opening (short_mount 0)) walk_grows (ORDER ∷ HEAD ∷ LENGTH 0 ∷ SIZE 0 ∷ ENTRY 0 ∷ ENTRY 1 ∷ ENTRY 2 ∷ DIRTY 3 ∷ DIRTY 4 ∷ DIRTY 5 ∷ PAGE 3 ∷ PAGE 6 ∷ [])
+      (1 ∷ 3 ∷ 322 ∷ 0 ∷ 3098 ∷ 4098 ∷ 5122 ∷ 1 ∷ 1 ∷ 1 ∷ 0 ∷ 0 ∷ [])
+  pub again : IsShort grown walk_again (HEAD ∷ PAGE 0 ∷ PAGE 1 ∷ []) (3 ∷ 0 ∷ 0 ∷ [])
+  pub spent : IsShort (opening (short_mount (2 ^ 60 - 1))) walk_spent (HEAD ∷ PAGE 0 ∷ PAGE 1 ∷ []) ((2 ^ 60 - 1) ∷ 0 ∷ 0 ∷ [])
+  pub raced : IsShort grown walk_raced (STOP ∷ ORDER ∷ HEAD ∷ ENTRY 3 ∷ PAGE 0 ∷ PAGE 1 ∷ CLEANER ∷ []) (1 ∷ 1 ∷ 4 ∷ 5 ∷ 0 ∷ 0 ∷ 0 ∷ [])
+  pub joins : IsShort grown walk_joins (ORDER ∷ LENGTH 0 ∷ SIZE 0 ∷ PAGE 0 ∷ []) (4 ∷ 322 ∷ 0 ∷ 1 ∷ [])
+  pub taken_in : (after short_sizes grown walk_joins).ended ≡ 2 ∷ 1 ∷ []
+  pub retires : IsShort grown (cleaned ++ retires) swept (0 ∷ 0 ∷ 0 ∷ 0 ∷ 3 ∷ 0 ∷ 0 ∷ 0 ∷ 0 ∷ 0 ∷ 0 ∷ [])
+  pub refuses : IsShort grown walk_refuses swept (0 ∷ 3098 ∷ 4098 ∷ 5122 ∷ 0 ∷ 0 ∷ 0 ∷ 0 ∷ 0 ∷ 0 ∷ 0 ∷ [])
+  pub peek_fails : IsShort grown walk_peek_fails swept (1 ∷ 3098 ∷ 4098 ∷ 5122 ∷ 0 ∷ 0 ∷ 0 ∷ 0 ∷ 0 ∷ 0 ∷ 0 ∷ [])
+  pub carry_fails : IsShort grown walk_carry_fails swept (1 ∷ 3098 ∷ 4098 ∷ 5122 ∷ 0 ∷ 0 ∷ 0 ∷ 0 ∷ 0 ∷ 0 ∷ 0 ∷ [])
+  pub sync_fails : IsShort grown walk_sync_fails swept (1 ∷ 3100 ∷ 4100 ∷ 5124 ∷ 0 ∷ 0 ∷ 0 ∷ 0 ∷ 0 ∷ 0 ∷ 0 ∷ [])
+  pub move_fails : IsShort grown walk_move_fails swept (1 ∷ 3100 ∷ 4100 ∷ 5124 ∷ 0 ∷ 0 ∷ 0 ∷ 0 ∷ 0 ∷ 0 ∷ 0 ∷ [])
+  pub stores_held : IsShort grown walk_stores_held swept (0 ∷ 3098 ∷ 4098 ∷ 5122 ∷ 0 ∷ 0 ∷ 0 ∷ 0 ∷ 0 ∷ 0 ∷ 0 ∷ [])
+  pub read_fails : IsShort grown walk_read_fails swept (1 ∷ 3098 ∷ 4098 ∷ 5122 ∷ 0 ∷ 0 ∷ 0 ∷ 0 ∷ 0 ∷ 0 ∷ 0 ∷ [])
+  pub piece_fails : IsShort grown walk_piece_fails swept (1 ∷ 3098 ∷ 4098 ∷ 5122 ∷ 0 ∷ 0 ∷ 0 ∷ 0 ∷ 0 ∷ 0 ∷ 0 ∷ [])
