@@ -65,7 +65,7 @@ stop_due pass file at allowed idle = record {
   works = [];
   due = tt;
   begins = record { idle = idle.stage; allowed = allowed };
-  may = refl;
+  may = inl refl;
   staying = idle.left;
   holds = bare_carries pass _ (bare_of pass idle);
 }

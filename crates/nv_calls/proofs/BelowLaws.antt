@@ -8,7 +8,8 @@ use Rattle.nv_core.specs.Passes.{Stage, Idle, Locking, Measuring, Sizing, Checki
 use Rattle.nv_core.specs.Deeds.{Deed, Loads, Takes, Gives, Places, Stops, Draws, Seizes, Pledges, Readies, Grows, Breaks, Turns, Hints, Holds, Returns, Tends, Splits, Leaves, Joins, slot_of, chore_move, moved}
 use Rattle.nv_core.specs.Stages.{stage_after, after_load, after_give, after_stop, after_head, after_tail, after_look, after_hold, after_return, scanning, leaving, giving, ending, ordered, copying, exceeds}
 use Rattle.nv_core.specs.Stepped.{begun}
-use Rattle.nv_core.specs.Order.{Values, Work, MayStep, MayLoad, MayTake, MayGive, MayWork, IsDue, IsFailing, IsMiss, JustNow, AfterTries, page_bytes, commit_steps}
+use Rattle.nv_core.specs.Order.{Values, Work, MayStep, MayWork, IsDue, IsFailing, page_bytes, commit_steps}
+use Rattle.nv_core.specs.StepKinds.{MayLoad, MayTake, MayGive, IsMiss, JustNow, AfterTries, MayByKind}
 use Rattle.nv_core.specs.Core.{Core, changes, changed, after_step, after_begin, after_work, worked, stage_worked, fetched_worked}
 use Rattle.nv_core.specs.Events.{Act, Begins, Does, Calls, Event, MayDo, MayAct, after_act, after_event, after, IsRun}
 use Rattle.nv_core.specs.Opening.{opening}
@@ -16,6 +17,7 @@ use Rattle.nv_core.proofs.Changes.{by_number}
 use Rattle.nv_core.proofs.SearchLaws.{hinting_next, tried_next}
 use Rattle.nv_core.proofs.SweepStages.{tended_to, swept_worked}
 use Rattle.nv_table.specs.Opened.{Opened, mount_of, IsRunOf, state_of}
+use Rattle.nv_core.proofs.NextSteps.{next_steps_may_come}
 
 -- no page from one on is among those that a read has fetched
 abbrev pub AreBelow : List (ℕ × List ℕ) → (page : ℕ) → Type 0
@@ -147,7 +149,7 @@ module _ (sizes : Sizes) (values : Values) (pass : Pass) where
   to_stopped WriteFailing may is = tt
   to_stopped stage may is = absurd may
 
-  below_step : (found : ℕ) (deed : Deed) → MayStep sizes values pass deed → P pass.stage → P (stage_after sizes pass deed found)
+  below_step : (found : ℕ) (deed : Deed) → MayByKind sizes values pass deed → P pass.stage → P (stage_after sizes pass deed found)
   below_step found (Loads word) may is = to_loaded word found may is
   below_step found (Takes cell) may is = to_taken cell found may is
   below_step found (Gives cell) may is = to_given cell pass.stage may is
@@ -182,7 +184,7 @@ below_here : (sizes : Sizes) (by : ℕ) (core : Core) (found : ℕ) (deed : Deed
 below_here sizes by core found Splits may is = tt
 below_here sizes by core found (Leaves cell) may is = is
 below_here sizes by core found (Joins number) may is = is
-below_here sizes by core found deed may is = below_step sizes core.values (core.passes by) found deed may is
+below_here sizes by core found deed may is = below_step sizes core.values (core.passes by) found deed (next_steps_may_come sizes core.values (core.passes by) deed may) is
 
 below_work : (sizes : Sizes) (values : Values) (pass : Pass) (work : Work) (how : Ending) (stage : Stage) → IsDue sizes values pass work stage → IsBelow pass.fetched (bound stage)
     → IsBelow (fetched_worked sizes pass work.job how stage) (bound (stage_worked sizes pass how stage))

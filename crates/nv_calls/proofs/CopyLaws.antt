@@ -10,7 +10,8 @@ use Rattle.nv_core.specs.Words.{Sizes, Word, PAGE, SIZE, STORE, CLEANUP, page_to
 use Rattle.nv_core.specs.Values.{Value, AStore, Reads, Made, Failed, called, faults_of, filled}
 use Rattle.nv_core.specs.Passes.{Pass, Reading, Copying, Bounding, fetched_bytes, times, without}
 use Rattle.nv_core.specs.Deeds.{Gives, Stops}
-use Rattle.nv_core.specs.Order.{Values, Work, MayWork, MayEnd, MayLeave, MayGive, IsFailing, IsDue as IsWorkDue, SaysPage, SaysOf, page_bytes}
+use Rattle.nv_core.specs.Order.{Values, Work, MayWork, MayEnd, MayLeave, IsFailing, IsDue as IsWorkDue, SaysPage, SaysOf, page_bytes}
+use Rattle.nv_core.specs.StepKinds.{MayGive}
 use Rattle.nv_core.specs.Stepped.{stepped}
 use Rattle.nv_core.specs.Core.{worked, values_worked, values_given, with_word, stage_worked}
 use Rattle.nv_core.specs.Shapes.{HasShape, IsStore}
@@ -18,7 +19,7 @@ use Rattle.nv_core.specs.Standing.{IsPage}
 use Rattle.nv_core.proofs.Changes.{word_else, by_word, same_self, number_self}
 use Rattle.nv_core.proofs.LockLaws.{times_here, times_else}
 use Rattle.nv_core.proofs.StepWords.{page_within}
-use Rattle.nv_table.specs.Acts.{pass_before, values_then}
+use Rattle.nv_table.specs.Acts.{pass_before, values_then, values_before}
 use Rattle.nv_table.specs.Opened.{state_of}
 use Rattle.nv_table.specs.Ready.{Stepped}
 use Rattle.nv_table.specs.Sights.{Sight, pass_of, values_of, carried, slot_times, Carries}
@@ -36,6 +37,7 @@ use Rattle.nv_calls.proofs.FetchLaws.{page_of_read}
 use Rattle.nv_calls.proofs.FrontLaws.{copied_same, bytes_same, bytes_else}
 use Rattle.nv_calls.proofs.HeldLaws.{page_held, other_not_held, slot_carried}
 use Rattle.nv_calls.proofs.LookLaws.{piece_there, read_piece, copied_most, copied_more}
+use Rattle.nv_core.proofs.NextSteps.{steps_are_next}
 
 -- ---- stores
 
@@ -201,7 +203,7 @@ module _ (m : ReadMachine) (list : List ℕ) (base : Pass) (mid : PassState) (pa
       works = page_read m.file start bytes;
       due = (may, tt);
       begins = tt;
-      may = subst (λ (p : Pass). MayGive (worked mid.sight.opened.sizes work p) (STORE m.file) (stage_worked mid.sight.opened.sizes p Made p.stage)) (sym at.is) refl;
+      may = steps_are_next mid.sight.opened.sizes (values_before mid.sight (page_read m.file start bytes)) (pass_before mid.sight None (page_read m.file start bytes)) (Gives (STORE m.file)) (subst (λ (p : Pass). MayGive (worked mid.sight.opened.sizes work p) (STORE m.file) (stage_worked mid.sight.opened.sizes p Made p.stage)) (sym at.is) refl);
       staying = ap (λ (p : Pass). p.left) at.is;
       holds = carries_kept mid.sight.opened.sizes (λ value. value) (read_values dirty page bytes (values_of mid.sight)) (values_then mid.sight None (Gives (STORE m.file)) (page_read m.file start bytes)) (carried (pass_of mid.sight)) mid.now
           (λ cell some. read_then cell) carries;
@@ -325,7 +327,7 @@ module _ (m : ReadMachine) (list : List ℕ) (base : Pass) (mid : PassState) (pa
       works = work ∷ [];
       due = (may, tt);
       begins = tt;
-      may = subst (λ (p : Pass). IsFailing (stage_worked mid.sight.opened.sizes p (Failed false faults) p.stage)) (sym at.is) tt;
+      may = steps_are_next mid.sight.opened.sizes (values_before mid.sight (work ∷ [])) (pass_before mid.sight None (work ∷ [])) Stops (subst (λ (p : Pass). IsFailing (stage_worked mid.sight.opened.sizes p (Failed false faults) p.stage)) (sym at.is) tt);
       staying = ap (λ (p : Pass). p.left) at.is;
       holds = carries_kept mid.sight.opened.sizes (λ value. value) (with_word (values_of mid.sight) (STORE m.file) (called (Reads 0 []) (Failed false faults) (values_of mid.sight (STORE m.file))))
           (values_then mid.sight None Stops (work ∷ [])) (carried (pass_of mid.sight)) mid.now

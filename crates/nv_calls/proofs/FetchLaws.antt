@@ -6,7 +6,8 @@ use Rattle.nv_plain.specs.declared.call.FileCall.{FileCall}
 use Rattle.nv_core.specs.Words.{Sizes, Word, PAGE, STORE, CLEANUP, DIRTY, place}
 use Rattle.nv_core.specs.Passes.{Stage, Pass, Reading, Waiting, Fetching, Copying, Searching, Search, IsAllowed, first_page, end_page, end_read, page_count, times}
 use Rattle.nv_core.specs.Deeds.{Deed, Loads, Takes}
-use Rattle.nv_core.specs.Order.{Values, Work, IsMiss, JustNow, AfterTries}
+use Rattle.nv_core.specs.Order.{Values, Work}
+use Rattle.nv_core.specs.StepKinds.{IsMiss, JustNow, AfterTries}
 use Rattle.nv_core.specs.Stages.{leaving}
 use Rattle.nv_core.specs.Core.{values_stepped}
 use Rattle.nv_core.specs.Standing.{IsPage}

@@ -8,12 +8,12 @@ use Rattle.nv_core.specs.Deeds.{Gives}
 use Rattle.nv_core.specs.Events.{Does}
 use Rattle.nv_core.specs.Core.{values_given}
 use Rattle.nv_core.specs.Opening.{IsMount}
-use Rattle.nv_core.specs.Order.{MayGive}
+use Rattle.nv_core.specs.StepKinds.{MayGive}
 use Rattle.nv_core.specs.Others.{StepsAreOnWords}
 use Rattle.nv_core.specs.Stages.{leaving}
 use Rattle.nv_table.specs.Opened.{mount_of, IsRunOf, state_of}
 use Rattle.nv_table.specs.Ready.{Stepped}
-use Rattle.nv_table.specs.Sights.{pass_of}
+use Rattle.nv_table.specs.Sights.{pass_of, values_of}
 use Rattle.nv_table.specs.States.{PassState}
 use Rattle.nv_table.specs.Turns.{IsDue}
 use Rattle.nv_mount.specs.declared.fds.Fd.{Fd}
@@ -27,6 +27,7 @@ use Rattle.nv_calls.specs.Reads.{call_of, pages_from, with_if, with_cleanup, hel
 use Rattle.nv_calls.proofs.EndLaws.{without_first}
 use Rattle.nv_calls.proofs.ReadLaws.{refused_goes}
 use Rattle.nv_calls.proofs.WayLaws.{IsCalls, still_due, reading_on, unplaced_by, quiet_on, tells_none, by_sizes}
+use Rattle.nv_core.proofs.NextSteps.{steps_are_next}
 
 pub calls_leaving : IsCalls Leaving
 calls_leaving = record { loads = λ word. refl; takes = λ word. refl; gives = λ word. refl }
@@ -117,7 +118,7 @@ module _ (fds : List Fd) (m : ReadMachine) (list : List ℕ) (start now : PassSt
   leave_within words mount is_run =
       subst (BeginsWithin now.sight.opened.sizes) (sym first_left.is)
       (words (mount_of now.sight.opened) now.sight.run now.sight.number (Does (Gives first_left.cell) ((state_of now.sight.opened now.sight.run).words first_left.cell)) mount is_run
-      record { may = leave_may first_left.cell first_left.rest first_left.is; is = refl })
+      record { may = steps_are_next now.sight.opened.sizes (values_of now.sight) (pass_of now.sight) (Gives first_left.cell) (leave_may first_left.cell first_left.rest first_left.is); is = refl })
 
   pub left : (next : ReadMachine) (progress : Progress) (rest : Held) (cell : Word) (found : ℕ) (new : PassState) → held_cells now.sight.opened.sizes (call_of m) held ≡ cell ∷ held_cells now.sight.opened.sizes (call_of m) rest
       → Stepped now None (Gives cell) found new → Refuses m rest refusal next progress → ReadGoes fds start next list new progress

@@ -12,7 +12,8 @@ use Rattle.nv_pmem.proofs.Ranges.{flat_map-more}
 use Rattle.nv_core.specs.Words.{Sizes, PAGE, page_total}
 use Rattle.nv_core.specs.Values.{is_valid, bytes_in, lacks_buffer}
 use Rattle.nv_core.specs.Passes.{Pass, Reading, IsAllowed, first_page, end_page, end_read, at_of, covered, times}
-use Rattle.nv_core.specs.Order.{Values, AreValid, page_bytes, IsMiss, JustNow, MayPlace}
+use Rattle.nv_core.specs.Order.{Values, page_bytes}
+use Rattle.nv_core.specs.StepKinds.{AreValid, IsMiss, JustNow, MayPlace}
 use Rattle.nv_core.proofs.CrashPieces.{piece_page, piece_next}
 use Rattle.nv_core.proofs.PageLaws.{read_within}
 use Rattle.nv_core.proofs.StepWords.{page_within}

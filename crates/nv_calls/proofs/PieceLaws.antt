@@ -39,6 +39,8 @@ use Rattle.nv_calls.specs.PieceReads.{piece_read, HasFailedRead}
 use Rattle.nv_calls.specs.Steps.{IsBetween}
 use Rattle.nv_calls.proofs.HeldLaws.{slot_carried, other_not_held}
 use Rattle.nv_calls.specs.Reads.{read_hands}
+use Rattle.nv_core.proofs.NextSteps.{steps_are_next}
+use Rattle.nv_table.specs.Acts.{values_before, pass_before}
 
 -- ---- the part of an entry that a read holds
 
@@ -209,7 +211,7 @@ module _ (now mid : PassState) (page number : ℕ) (still : IsStill now) (left :
           works = piece_read now.sight.opened.sizes number at bytes Made;
           due = (may_work at bytes Made (says (values_of now.sight) (carried (pass_of now.sight)) still) (may_end value) (may_leave at bytes value), tt);
           begins = tt;
-          may = (page, false, ap (λ s. stage_worked now.sight.opened.sizes (pass_of now.sight) Made s) stands);
+          may = steps_are_next now.sight.opened.sizes (values_before now.sight (piece_read now.sight.opened.sizes number at bytes Made)) (pass_before now.sight None (piece_read now.sight.opened.sizes number at bytes Made)) (Returns number) ((page, false, ap (λ s. stage_worked now.sight.opened.sizes (pass_of now.sight) Made s) stands));
           staying = left;
           holds = carries_kept now.sight.opened.sizes (λ v. v) (values_of now.sight) (with_word (values_of now.sight) cell (called (Peeks at bytes) Made value)) (carried (pass_of now.sight)) mid.now
               (λ other held. by_word (λ c v. v ≡ values_of now.sight c) (values_of now.sight) cell (called (Peeks at bytes) Made value) (called_made at bytes value) (λ c ne. refl) other)
@@ -232,7 +234,7 @@ module _ (now mid : PassState) (page number : ℕ) (still : IsStill now) (left :
             tt,
           );
           begins = tt;
-          may = subst IsFailing (sym (ap (λ s. stage_worked now.sight.opened.sizes (pass_of now.sight) (Failed false faults) s) stands)) tt;
+          may = steps_are_next now.sight.opened.sizes (values_before now.sight (piece_read now.sight.opened.sizes number piece.at piece.bytes (Failed false faults))) (pass_before now.sight None (piece_read now.sight.opened.sizes number piece.at piece.bytes (Failed false faults))) Stops (subst IsFailing (sym (ap (λ s. stage_worked now.sight.opened.sizes (pass_of now.sight) (Failed false faults) s) stands)) tt);
           staying = left;
           holds = subst (λ v. Carries now.sight.opened.sizes (λ one. one) (with_word (values_of now.sight) cell v) (carried (pass_of now.sight)) mid.now) (sym (called_failed piece.at faults piece.bytes value))
               (failed.altered.carries (values_of now.sight) (carried (pass_of now.sight)) still);

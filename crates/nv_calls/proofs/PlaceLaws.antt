@@ -9,13 +9,14 @@ use Rattle.nv_core.specs.Passes.{Stage, Pass, Placing, Reading, Releasing, first
 use Rattle.nv_core.specs.Content.{RunsKeepContent}
 use Rattle.nv_core.specs.Deeds.{Places}
 use Rattle.nv_core.specs.Opening.{IsMount}
-use Rattle.nv_core.specs.Order.{Values, MayPlace}
+use Rattle.nv_core.specs.Order.{Values}
+use Rattle.nv_core.specs.StepKinds.{MayPlace}
 use Rattle.nv_core.specs.Stages.{giving}
 use Rattle.nv_table.specs.Opened.{mount_of, state_of}
 use Rattle.nv_table.specs.Ready.{Stepped}
 use Rattle.nv_table.specs.Sights.{pass_of, values_of}
 use Rattle.nv_table.specs.States.{PassState}
-use Rattle.nv_table.specs.Turns.{IsPlaced, place_deed, reply_at}
+use Rattle.nv_table.specs.Turns.{IsDue, IsPlaced, place_deed, reply_at}
 use Rattle.nv_table.proofs.CallLaws.{IsCallFree}
 use Rattle.nv_mount.specs.declared.fds.Fd.{Fd}
 use Rattle.nv_calls.specs.declared.machine.Progress.{Progress}
@@ -27,7 +28,7 @@ use Rattle.nv_calls.specs.Reads.{call_of, pages_from, with_if, read_hands, readi
 use Rattle.nv_calls.specs.Steps.{either_of}
 use Rattle.nv_calls.proofs.DoneLaws.{done_plainly}
 use Rattle.nv_calls.proofs.EndLaws.{giving_at, giving_first, pages_all, gives_on}
-use Rattle.nv_calls.proofs.WayLaws.{reading_on, in_call_on, or_none, between_self, tells_none, by_sizes}
+use Rattle.nv_calls.proofs.WayLaws.{still_due, reading_on, in_call_on, or_none, between_self, tells_none, by_sizes}
 
 -- ---- the reply
 
@@ -52,6 +53,13 @@ module _ (fds : List Fd) (m : ReadMachine) (list : List ℕ) (start now : PassSt
   place_is place new is =
       subst (λ reply. Stepped now None (Places reply) place new)
       (ap (reply_at now.sight.opened.sizes (values_of now.sight) (pass_of now.sight)) stands ∙ reply_is now.sight.opened.sizes (values_of now.sight) (pass_of now.sight) here.bytes here.stage here.may) is
+
+  pub place_due : IsDue now None (place_deed now.sight)
+  place_due =
+      let sizes = now.sight.opened.sizes in let values = values_of now.sight in let pass = pass_of now.sight in
+      still_due now (place_deed now.sight) way.called.still (ap (λ (p : Pass). p.left) here.is) (λ kept. refl)
+      (subst (λ s. MayPlace sizes values pass (reply_at sizes values pass s) s) (sym stands)
+      (subst (λ reply. MayPlace sizes values pass reply here.stage) (sym (reply_is sizes values pass here.bytes here.stage here.may)) here.may))
 
   free : IsCallFree here.stage
   free = place_free now.sight.opened.sizes (values_of now.sight) (pass_of now.sight) here.bytes here.stage here.may

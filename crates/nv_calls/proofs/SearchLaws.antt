@@ -10,7 +10,8 @@ use Rattle.nv_core.specs.Deeds.{Deed, Loads, Takes, Gives, Turns, Hints}
 use Rattle.nv_core.specs.Holding.{is_among}
 use Rattle.nv_core.specs.Laws.{RunsAreSound}
 use Rattle.nv_core.specs.Opening.{IsMount}
-use Rattle.nv_core.specs.Order.{Values, Work, IsOver, IsMiss, JustNow, AfterTries, MayTurn, MayGive}
+use Rattle.nv_core.specs.Order.{Values, Work}
+use Rattle.nv_core.specs.StepKinds.{IsOver, IsMiss, JustNow, AfterTries, MayTurn, MayGive}
 use Rattle.nv_core.specs.Core.{with_word, values_stepped, values_given}
 use Rattle.nv_core.specs.Stages.{tries_of}
 use Rattle.nv_core.specs.Standing.{IsPage}
@@ -19,7 +20,7 @@ use Rattle.nv_core.proofs.LockLaws.{times_here, times_else}
 use Rattle.nv_core.proofs.PageLaws.{read_within}
 use Rattle.nv_core.proofs.SearchLaws.{turned_at}
 use Rattle.nv_core.proofs.StepWords.{page_within}
-use Rattle.nv_table.specs.Acts.{AreDue, values_then}
+use Rattle.nv_table.specs.Acts.{AreDue, values_then, values_before, pass_before}
 use Rattle.nv_table.specs.Layout.{word_at}
 use Rattle.nv_table.specs.Opened.{Opened, mount_of}
 use Rattle.nv_table.specs.Ready.{Stepped}
@@ -44,6 +45,7 @@ use Rattle.nv_calls.proofs.FrontLaws.{copied_same, bytes_same}
 use Rattle.nv_calls.proofs.HeldLaws.{index_is, page_held, page_not_held, slot_carried}
 use Rattle.nv_calls.proofs.LockLaws.{page_among}
 use Rattle.nv_calls.proofs.WayLaws.{IsCalls, word_is, still_due, reading_on, unplaced_by, quiet_after, between_self, tells_none, none_tells, by_sizes, opened_same}
+use Rattle.nv_core.proofs.NextSteps.{steps_are_next}
 
 -- ---- pages in a row
 
@@ -441,7 +443,7 @@ module _ (fds : List Fd) (m : ReadMachine) (list : List ℕ) (start now : PassSt
       works = [];
       due = tt;
       begins = tt;
-      may = subst (MayGive (pass_of before.sight) (PAGE victim)) (sym rob_before) refl;
+      may = steps_are_next before.sight.opened.sizes (values_before before.sight []) (pass_before before.sight None []) (Gives (PAGE victim)) (subst (MayGive (pass_of before.sight) (PAGE victim)) (sym rob_before) refl);
       staying = ap (λ (v : Sight). (pass_of v).left) altered.sight ∙ ap (λ (q : Pass). q.left) rob_at.is;
       holds = subst (λ (v : Sight). Carries v.opened.sizes (λ value. value) (values_given (pass_of v) (pass_of v).stage (values_of v)) (carried (pass_of v)) before.now) (sym altered.sight)
           (subst (λ s. Carries now.sight.opened.sizes (λ value. value) (values_given (pass_of now.sight) s (values_of now.sight)) (carried (pass_of now.sight)) before.now) (sym rob_stands)

@@ -13,7 +13,8 @@ use Rattle.nv_core.specs.Values.{Buffer, Value, Bare, APart, AStore, ABuffer, fi
 use Rattle.nv_core.specs.Passes.{Pass, Reading, Restoring, Unlocking, IsOneOf, fetched_bytes, first_page, end_read, page_count, at_of, covered, times, without}
 use Rattle.nv_core.specs.Deeds.{Deed, Gives, Returns, slot_of}
 use Rattle.nv_core.specs.Opening.{IsMount}
-use Rattle.nv_core.specs.Order.{Values, MayGive, page_bytes}
+use Rattle.nv_core.specs.Order.{Values, page_bytes}
+use Rattle.nv_core.specs.StepKinds.{MayGive}
 use Rattle.nv_core.specs.Core.{values_given}
 use Rattle.nv_core.specs.Shapes.{HasShape, HaveShapes, CellsKeepShapes}
 use Rattle.nv_core.specs.Stages.{leaving}
@@ -53,6 +54,8 @@ use Rattle.nv_calls.proofs.RankLaws.{IsBefore, refused_less}
 use Rattle.nv_calls.proofs.ReadLaws.{refused_goes}
 use Rattle.nv_calls.proofs.SearchLaws.{kept_by, page_is}
 use Rattle.nv_calls.proofs.WayLaws.{IsCalls, word_is, still_due, reading_on, unplaced_by, quiet_after, quiet_on, tells_none, none_tells, by_sizes, opened_same}
+use Rattle.nv_core.proofs.NextSteps.{steps_are_next}
+use Rattle.nv_table.specs.Acts.{values_before, pass_before}
 
 pub calls_unlocking : (page : ℕ) → IsCalls (Unlocking page)
 calls_unlocking page = record { loads = λ word. refl; takes = λ word. refl; gives = λ word. refl }
@@ -350,7 +353,7 @@ module _ (fds : List Fd) (m : ReadMachine) (list : List ℕ) (start now : PassSt
       works = [];
       due = tt;
       begins = tt;
-      may = subst (MayGive (pass_of before.sight) (CLEANUP page)) (sym unlock_before) refl;
+      may = steps_are_next before.sight.opened.sizes (values_before before.sight []) (pass_before before.sight None []) (Gives (CLEANUP page)) (subst (MayGive (pass_of before.sight) (CLEANUP page)) (sym unlock_before) refl);
       staying = ap (λ (v : Sight). (pass_of v).left) altered.sight ∙ ap (λ (q : Pass). q.left) unlock_at.is;
       holds = subst (λ (v : Sight). Carries v.opened.sizes (λ value. value) (values_given (pass_of v) (pass_of v).stage (values_of v)) (carried (pass_of v)) before.now) (sym altered.sight)
           (subst (λ s. Carries now.sight.opened.sizes (λ value. value) (values_given (pass_of now.sight) s (values_of now.sight)) (carried (pass_of now.sight)) before.now) (sym unlock_stands)

@@ -7,7 +7,7 @@ use Rattle.nv_core.specs.Passes.{Stage, Pass, IsAllowed, first_page, end_page}
 use Rattle.nv_core.specs.Deeds.{Deed, Loads, Takes, Gives, Stops}
 use Rattle.nv_core.specs.Holding.{is_among}
 use Rattle.nv_core.specs.Stepped.{stepped}
-use Rattle.nv_core.specs.Order.{Values, MayStep, Work}
+use Rattle.nv_core.specs.Order.{Values, Work}
 use Rattle.nv_core.specs.Core.{values_stepped}
 use Rattle.nv_table.specs.Between.{IsStill}
 use Rattle.nv_table.specs.Layout.{word_at}
@@ -25,6 +25,8 @@ use Rattle.nv_calls.specs.declared.answers.Refusal.TheVariants.{Busy, Stopped, S
 use Rattle.nv_calls.specs.Answers.{IsUnplaced}
 use Rattle.nv_calls.specs.Reads.{reading, InCall, Tells, is_fault}
 use Rattle.nv_calls.specs.Steps.{HasTaken, IsBetween, either_of, refused_by, refusal_in, place_by, is_stop, if_own, busy_at}
+use Rattle.nv_core.proofs.NextSteps.{steps_are_next}
+use Rattle.nv_core.specs.StepKinds.{MayByKind}
 
 -- ---- words by their places
 
@@ -74,12 +76,12 @@ module _ (now : PassState) (stage : Stage) (word : Word) (cell : ℕ) (calls : I
 -- a step with no device call before it, that leaves what its cells keep, is due where it may come
 pub still_due : (now : PassState) (deed : Deed) → IsStill now → (pass_of now.sight).left ≡ []
     → ((kept : Values) → values_stepped now.sight.opened.sizes (pass_of now.sight) deed kept ≡ kept)
-    → MayStep now.sight.opened.sizes (values_of now.sight) (pass_of now.sight) deed → IsDue now None deed
+    → MayByKind now.sight.opened.sizes (values_of now.sight) (pass_of now.sight) deed → IsDue now None deed
 still_due now deed still left same may = record {
   works = [];
   due = tt;
   begins = tt;
-  may = may;
+  may = steps_are_next now.sight.opened.sizes (values_of now.sight) (pass_of now.sight) deed may;
   staying = left;
   holds = subst (λ kept. Carries now.sight.opened.sizes (λ value. value) kept (carried (pass_of now.sight)) now.now) (sym (same (values_of now.sight))) still;
 }

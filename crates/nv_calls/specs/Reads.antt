@@ -12,7 +12,8 @@ use Rattle.nv_core.specs.Passes.{Stage, Locking, Measuring, Sizing, Checking, Or
 use Rattle.nv_core.specs.Deeds.{slot_of}
 use Rattle.nv_core.specs.Stages.{tries_of}
 use Rattle.nv_core.specs.Holding.{is_among}
-use Rattle.nv_core.specs.Order.{Values, MayPlace, MayTurn, MayLookUp, AreValid, page_bytes}
+use Rattle.nv_core.specs.Order.{Values, page_bytes}
+use Rattle.nv_core.specs.StepKinds.{MayPlace, MayTurn, MayLookUp, AreValid}
 use Rattle.nv_core.specs.Standing.{IsPage}
 use Rattle.nv_table.specs.Between.{IsStill}
 use Rattle.nv_table.specs.Idle.{IsIdle, IsLater}

@@ -5,7 +5,8 @@ use Rattle.nv_core.specs.Words.{Sizes, Word, STOP, ORDER, HEAD, TAIL, SIZE, LENG
 use Rattle.nv_core.specs.Passes.{Stage, Idle, Locking, Measuring, Sizing, Checking, Ordering, Reading, Waiting, Fetching, Returning, Bounding, Starting, Scanning, Grasping, Restoring, Unlocking, Searching, Heading, Tailing, Drawing, Seizing, Committing, Pledging, Readying, Placing, Growing, Releasing, Giving, Leaving, PieceFailing, WriteFailing, Breaking, Cleaning, Pass, is_read, is_write, page_count, first_page, end_page, without}
 use Rattle.nv_core.specs.Deeds.{Deed, Loads, Takes, Gives, Places, Stops, Draws, Seizes, Pledges, Readies, Grows, Breaks, Turns, Hints, Holds, Returns, Tends, Splits, Leaves, Joins, slot_of}
 use Rattle.nv_core.specs.Stages.{stage_after, after_load, after_head, after_tail, after_look, after_take, after_page, refused, hinted, after_give, after_stop, after_hold, after_return, scanning, leaving, giving, ending, ordered, copying, exceeds}
-use Rattle.nv_core.specs.Order.{Values, MayStep, MayLoad, MayTake, MayPlace, IsFailing}
+use Rattle.nv_core.specs.Order.{Values, IsFailing}
+use Rattle.nv_core.specs.StepKinds.{MayLoad, MayTake, MayPlace, MayByKind as MayStep}
 use Rattle.nv_core.specs.SweepNumbers.{IsCleaned, IsFreed}
 use Rattle.nv_core.proofs.Choices.{if_both, leaving_both, IsGivingBack, gives_back}
 use Rattle.nv_core.proofs.SearchLaws.{looked_at, turned_at, hinting_at, hinted_at, tried_at}

@@ -9,9 +9,10 @@ use Rattle.nv_core.specs.Passes.{Stage, Locking, Measuring, Sizing, Checking, Or
 use Rattle.nv_core.specs.Deeds.{Deed, moved, move_of, Comes, Stays, Loads, Takes, Gives, Places, Stops, Draws, Seizes, Pledges, Readies, Grows, Breaks, Splits, Leaves, Joins, slot_of, Turns, Hints, Holds, Returns, Tends, chore_move}
 use Rattle.nv_core.specs.Stages.{IsBetween, stage_after, after_load, after_give, after_stop, leaving, exceeds, after_return}
 use Rattle.nv_core.specs.Stepped.{fault_of, begun}
-use Rattle.nv_core.specs.Order.{Values, Work, MayWork, MayStep, MayTend, MayLoad, MayTake, MayGive, MayPlace, IsDue, IsFailing, IsMiss, JustNow, AfterTries, IsOver}
+use Rattle.nv_core.specs.Order.{Values, Work, MayWork, IsDue, IsFailing}
+use Rattle.nv_core.specs.StepKinds.{MayTend, MayLoad, MayTake, MayGive, MayPlace, IsMiss, JustNow, AfterTries, IsOver, MayByKind as MayStep}
 use Rattle.nv_core.specs.Core.{Core, changes, changed, after_step, after_begin, after_work, worked, stage_worked, values_worked}
-use Rattle.nv_core.specs.Events.{MayFind}
+use Rattle.nv_core.proofs.ByKind.{MayFind}
 use Rattle.nv_core.specs.Broken.{HasChecked, victim_held}
 use Rattle.nv_core.specs.Sound.{Sound}
 use Rattle.nv_core.proofs.Changes.{by_number}

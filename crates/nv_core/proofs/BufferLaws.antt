@@ -9,7 +9,8 @@ use Rattle.nv_core.specs.Deeds.{Deed, Loads, Takes, Gives, Places, Stops, Draws,
 use Rattle.nv_core.specs.Sweeps.{Batch, Sweep, Barring, Claiming, Storing, Discharging, Withdrawing, Chore, Enters, Grabs, Yields, Lifts, Drops, Cleans}
 use Rattle.nv_core.specs.Chores.{next_chore, group_page, group_file}
 use Rattle.nv_core.specs.Stages.{stage_after, after_load, after_give, after_stop, after_head, after_tail, after_look, after_hold, after_return, scanning, leaving, giving, ending, ordered, copying, exceeds}
-use Rattle.nv_core.specs.Order.{Values, MayStep, MayLoad, MayTake, MayGive, MayTend, IsFailing}
+use Rattle.nv_core.specs.Order.{Values, IsFailing}
+use Rattle.nv_core.specs.StepKinds.{MayLoad, MayTake, MayGive, MayTend, MayByKind as MayStep}
 use Rattle.nv_core.specs.Standing.{IsPage, StandsAt, IsElsewhere}
 use Rattle.nv_core.specs.Holding.{one_if, is_among, HoldsLocks}
 use Rattle.nv_core.specs.ValidBuffers.{patched_page, with_own}

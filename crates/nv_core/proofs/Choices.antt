@@ -6,7 +6,8 @@ use Rattle.nv_plain.specs.declared.call.Reply.{Reply}
 use Rattle.nv_core.specs.Passes.{Stage, Idle, Locking, Measuring, Reading, Leaving, Releasing, Giving, Returning, Robbing, Search, Nothing, Searching, Placing, ReadFailing, PieceFailing, WriteFailing, Pass, end_page, Unlocking}
 use Rattle.nv_core.specs.Deeds.{Deed, Loads, Takes, Gives, Places, Stops, Draws, Seizes, Pledges, Readies, Grows, Breaks, Turns, Hints, Holds, Returns, Tends}
 use Rattle.nv_core.specs.Stages.{stage_after, leaving}
-use Rattle.nv_core.specs.Order.{Values, MayStep, MayLoad, MayTake, MayGive, MayPlace, IsFailing}
+use Rattle.nv_core.specs.Order.{Values, IsFailing}
+use Rattle.nv_core.specs.StepKinds.{MayLoad, MayTake, MayGive, MayPlace, MayByKind as MayStep}
 use Rattle.nv_core.specs.Standing.{has_call}
 use Rattle.nv_core.proofs.SearchLaws.{looked_at, turned_at, tried_at, tried_next}
 

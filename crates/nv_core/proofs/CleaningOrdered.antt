@@ -1,6 +1,6 @@
 -- What a step of a cleaner has before it, by what its stage says.
 use Rattle.std.proofs.Common.{◌≡◌, ◌+◌, ◌<◌, length, sym, ap, subst, ◌∙◌, arith}
-use Rattle.nv_core.specs.Sweeps.{Setting, Subtracting, Moving, Freeing, Cleans, Subtracts}
+use Rattle.nv_core.specs.Sweeps.{Setting, Subtracting, Moving, Freeing, Cleans, Subtracts, Frees}
 use Rattle.nv_core.specs.Passes.{Cleaning}
 use Rattle.nv_core.specs.Standing.{StandsAt}
 use Rattle.nv_core.specs.PagesAfter.{file_of_page}
@@ -8,10 +8,13 @@ use Rattle.nv_core.specs.Pieces.{page_of_number}
 use Rattle.nv_core.specs.Retiring.{IsWrittenBack, IsSynced, TailsAt}
 use Rattle.nv_core.specs.CleaningOrder.{NoCleanBeforeTheStore, NoSubtractBeforeTheClean, NoMoveBeforeTheSync, NoFreeBeforeTheTail}
 use Rattle.nv_core.proofs.SweepDeeds.{tending, frees_hand}
+use Rattle.nv_core.proofs.ByKind.{find_kind}
+use Rattle.nv_core.proofs.NextSteps.{next_steps_may_come}
+use Rattle.nv_core.specs.Deeds.{Tends}
 
 pub no_clean_before_the_store : NoCleanBeforeTheStore
 no_clean_before_the_store sizes first opened tails log placed core by number found sound content may =
-    let t = tending sizes (core.passes by) (Cleans number) tt may.may in
+    let t = tending sizes (core.passes by) (Cleans number) tt (next_steps_may_come sizes core.values (core.passes by) (Tends (Cleans number)) may.may) in
     let here : (core.passes by).stage ≡ Cleaning t.batch (Setting t.made.0) = t.stage ∙ ap (Cleaning t.batch) t.made.1 in
     let inside : t.made.0 < length t.batch.pages = subst (StandsAt sizes (core.passes by)) here (sound.standing by).at in
     let at = t.made.2 in
@@ -19,7 +22,7 @@ no_clean_before_the_store sizes first opened tails log placed core by number fou
 
 pub no_subtract_before_the_clean : NoSubtractBeforeTheClean
 no_subtract_before_the_clean sizes first core by page found sound may =
-    let t = tending sizes (core.passes by) (Subtracts page) tt may.may in
+    let t = tending sizes (core.passes by) (Subtracts page) tt (next_steps_may_come sizes core.values (core.passes by) (Tends (Subtracts page)) may.may) in
     let here : (core.passes by).stage ≡ Cleaning t.batch (Subtracting t.made.0) = t.stage ∙ ap (Cleaning t.batch) t.made.1 in
     let inside : t.made.0 < length t.batch.pages = subst (StandsAt sizes (core.passes by)) here (sound.standing by).at in
     let looked = (sound.grouped.progress.each by t.batch (Subtracting t.made.0) here tt).looked t.made.0 inside in
@@ -32,6 +35,6 @@ no_move_before_the_sync sizes first opened tails log placed core by calls number
 
 pub no_free_before_the_tail : NoFreeBeforeTheTail
 no_free_before_the_tail sizes first opened tails log placed core by number found sound content may =
-    let hand = frees_hand sizes first core sound by found number may in
+    let hand = frees_hand sizes first core sound by found number (find_kind sizes by core (Tends (Frees number)) found may) in
     let at : TailsAt tails (Cleaning hand.batch (Freeing number)) = subst (TailsAt tails) hand.stage (content.retired.at by) in
     let least = at.0 in let high = hand.high in (omega (arith, least, high), at.1)

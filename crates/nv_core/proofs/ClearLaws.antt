@@ -5,7 +5,8 @@ use Rattle.nv_core.specs.Words.{Sizes, Word, STOP, ORDER, HEAD, TAIL, SIZE, LENG
 use Rattle.nv_core.specs.Passes.{Stage, Idle, Measuring, Sizing, Checking, Ordering, Reading, Fetching, Returning, Waiting, Searching, Heading, Tailing, Drawing, Seizing, Committing, Pledging, Readying, Placing, Growing, Releasing, Giving, Leaving, ReadFailing, WriteFailing, Breaking, Pass, is_read, is_write, page_count, first_page, end_page, without, times, IsUnseized, IsFilling, Bounding, Scanning, Grasping, Patching, Restoring, Unlocking, PieceFailing, IsHeld, Cleaning}
 use Rattle.nv_core.specs.Deeds.{Deed, Loads, Takes, Gives, Places, Grows, Turns, Hints, Stays, Comes, moved, move_of, chore_move, Holds, Returns, slot_of, Tends}
 use Rattle.nv_core.specs.Stages.{stage_after, after_load, after_give, leaving, giving, ending, ordered, copying, exceeds, scanning, after_head, after_tail, after_look, after_hold, after_return}
-use Rattle.nv_core.specs.Order.{Values, MayStep, MayLoad, MayTake, MayGive, MayPlace}
+use Rattle.nv_core.specs.Order.{Values}
+use Rattle.nv_core.specs.StepKinds.{MayLoad, MayTake, MayGive, MayPlace, MayByKind as MayStep}
 use Rattle.nv_core.proofs.Choices.{if_both, leaving_both, IsGivingBack, gives_back, page_tried}
 use Rattle.nv_core.proofs.SweepStages.{tended, tended_to}
 use Rattle.nv_core.proofs.Changes.{differ}

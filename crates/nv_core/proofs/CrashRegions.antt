@@ -19,7 +19,8 @@ use Rattle.nv_core.specs.Deeds.{Deed, Tends}
 use Rattle.nv_core.specs.Stepped.{begun}
 use Rattle.nv_core.specs.Order.{Values}
 use Rattle.nv_core.specs.Core.{Core, with_word, after_step, after_begin, after_work, values_stepped, values_worked}
-use Rattle.nv_core.specs.Events.{Act, Begins, Does, Calls, Event, after_act, after_event, MayFind, MayAct, MayCome}
+use Rattle.nv_core.specs.Events.{Act, Begins, Does, Calls, Event, after_act, after_event, MayCome}
+use Rattle.nv_core.proofs.ByKind.{MayFind, MayAct, act_kind}
 use Rattle.nv_core.specs.Groups.{Log, log_acted, log_after}
 use Rattle.nv_core.specs.Written.{IsPart}
 use Rattle.nv_core.specs.Tails.{Tails, still, tails_moved, tails_worked, tails_acted, tails_after}
@@ -258,5 +259,5 @@ module _ (laws : LogLaws) (sizes : Sizes) (first : Values) (opened : Files) (nam
 
 pub events_keep_region : LogLaws → PersistentGoesOn → EventsKeepRegion
 events_keep_region laws goes_on sizes first opened names tails log placed core event sound content region may =
-    region_act laws sizes first opened names tails log placed core sound content region event.by event.act may.act
+    region_act laws sizes first opened names tails log placed core sound content region event.by event.act (act_kind sizes event.by core event.act may.act)
     (goes_on sizes first opened names tails log placed core event sound content region may)

@@ -17,7 +17,7 @@ use Rattle.nv_core.specs.Stages.{after_stop, leaving}
 use Rattle.nv_core.specs.Stepped.{begun}
 use Rattle.nv_core.specs.Order.{Values, Work, MayWork, MayLeave, IsDue, IsChoreDue, IsNextCall, IsFailing, commit_steps, IsPieceRead}
 use Rattle.nv_core.specs.Core.{Core, changes, changed, after_step, after_begin, after_work, worked, stage_worked, values_worked}
-use Rattle.nv_core.specs.Events.{MayFind}
+use Rattle.nv_core.proofs.ByKind.{MayFind}
 use Rattle.nv_core.specs.Standing.{StandsAt, HasDrawn}
 use Rattle.nv_core.specs.LogWindow.{Fills}
 use Rattle.nv_core.specs.Sound.{Sound}

@@ -14,7 +14,8 @@ use Rattle.nv_core.specs.Passes.{Stage, Seizing, Committing, Pledging, Readying,
 use Rattle.nv_core.specs.Deeds.{Deed, slot_of, Seizes}
 use Rattle.nv_core.specs.Order.{Values, Work, MayWork, commit_steps}
 use Rattle.nv_core.specs.Core.{Core, changed, after_step, after_begin, after_work}
-use Rattle.nv_core.specs.Events.{Act, Begins, Does, Calls, Event, MayFind, MayAct, after_act, after_event, after, IsRun}
+use Rattle.nv_core.specs.Events.{Act, Begins, Does, Calls, Event, after_act, after_event, after, IsRun}
+use Rattle.nv_core.proofs.ByKind.{MayFind, MayAct, act_kind}
 use Rattle.nv_core.specs.Opening.{opening}
 use Rattle.nv_core.specs.Standing.{StandsAt, HasDrawn}
 use Rattle.nv_core.specs.LogWindow.{InWindow, entry_at}
@@ -166,7 +167,7 @@ fits_run : EventsKeepSound → GroupsFit → (sizes : Sizes) → 1 ≤ sizes.pag
 fits_run keeps groups sizes some first [] core run is = is
 fits_run keeps groups sizes some first (event ∷ later) core run is = fits_run keeps groups sizes some first later (after_event sizes event core) run.1 (record {
   sound = keeps sizes first core event is.sound run.0;
-  fits = fits_act groups sizes some first event.by core event.act is.sound is.fits run.0.made run.0.act;
+  fits = fits_act groups sizes some first event.by core event.act is.sound is.fits run.0.made (act_kind sizes event.by core event.act run.0.act);
 })
 
 pub ready_pieces_fit : OpeningIsSound → EventsKeepSound → GroupsFit → ReadyPiecesFit

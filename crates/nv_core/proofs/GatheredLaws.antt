@@ -8,7 +8,8 @@ use Rattle.nv_core.specs.Values.{is_valid, bytes_in}
 use Rattle.nv_core.specs.Passes.{Stage, Idle, Locking, Measuring, Sizing, Checking, Ordering, Reading, Fetching, Copying, Returning, Bounding, Starting, Scanning, Grasping, Patching, Restoring, Unlocking, Waiting, Heading, Tailing, Drawing, Seizing, Committing, Pledging, Readying, Placing, Growing, Releasing, Giving, Leaving, ReadFailing, PieceFailing, WriteFailing, Breaking, Pass, is_write, is_read, page_count, first_page, end_page, without, times, Searching, Hinting, Seeking, Robbing, Robbed, Nothing}
 use Rattle.nv_core.specs.Deeds.{Deed, Loads, Takes, Gives, Places, Stops, Draws, Seizes, Pledges, Readies, Grows, Breaks, Holds, Returns, slot_of, Turns, Hints, Tends, chore_move, moved}
 use Rattle.nv_core.specs.Stages.{stage_after, after_load, after_give, after_stop, after_head, after_tail, after_look, after_hold, after_return, scanning, leaving, giving, ending, ordered, copying, exceeds}
-use Rattle.nv_core.specs.Order.{Values, MayStep, MayLoad, MayTake, IsFailing, page_bytes, IsMiss, JustNow, AfterTries}
+use Rattle.nv_core.specs.Order.{Values, IsFailing, page_bytes}
+use Rattle.nv_core.specs.StepKinds.{MayLoad, MayTake, IsMiss, JustNow, AfterTries, MayByKind as MayStep}
 use Rattle.nv_core.specs.Standing.{StandsAt, IsPage}
 use Rattle.nv_core.specs.Holding.{HoldsLocks}
 use Rattle.nv_core.specs.ValidBuffers.{Gathered, Halfway, GatheredAt}

@@ -8,9 +8,11 @@ use Rattle.nv_core.specs.Passes.{Stage, Idle, Ordering, Reading, Waiting, Fetchi
 use Rattle.nv_core.specs.Deeds.{Deed, Loads, Takes, Gives, Places, Stops, Draws, Seizes, Pledges, Readies, Grows, Breaks, Holds, Returns, Turns, Hints, Tends, Splits, Leaves, Joins, move_of, chore_move, moved, slot_of}
 use Rattle.nv_core.specs.Stages.{stage_after, after_load, after_head, after_tail, after_look, after_give, after_stop, after_hold, after_return, scanning, leaving, giving, ending, ordered, copying, exceeds}
 use Rattle.nv_core.specs.Stepped.{fault_of, begun}
-use Rattle.nv_core.specs.Order.{Values, Work, MayWork, MayStep, MayLoad, MayTake, IsDue, IsFailing, commit_steps}
+use Rattle.nv_core.specs.Order.{Values, Work, MayWork, IsDue, IsFailing, commit_steps}
+use Rattle.nv_core.specs.StepKinds.{MayLoad, MayTake, MayByKind as MayStep}
 use Rattle.nv_core.specs.Core.{Core, with_number, changes, changed, after_step, after_begin, after_work, worked, stage_worked}
-use Rattle.nv_core.specs.Events.{Act, Begins, Does, Calls, Event, MayFind, MayAct, after_act, after_event, after, IsRun}
+use Rattle.nv_core.specs.Events.{Act, Begins, Does, Calls, Event, after_act, after_event, after, IsRun}
+use Rattle.nv_core.proofs.ByKind.{MayFind, MayAct, act_kind}
 use Rattle.nv_core.specs.Opening.{opening}
 use Rattle.nv_core.specs.Standing.{has_call}
 use Rattle.nv_core.specs.Sound.{Sound}
@@ -255,7 +257,7 @@ module _ (Bars : Fault → Word → Type 0) (early : (fault : Fault) (cell : Wor
   kept_run keep sizes first holds [] core passed sound kept run = kept
   kept_run keep sizes first holds (event ∷ later) core passed sound kept run =
       kept_run keep sizes first holds later (after_event sizes event core) (passed_acted event.by event.act passed) (keep sizes first core event sound run.0)
-      (kept_act sizes first holds event.by core event.act passed sound kept run.0.made run.0.act) run.1
+      (kept_act sizes first holds event.by core event.act passed sound kept run.0.made (act_kind sizes event.by core event.act run.0.act)) run.1
 
 pub calls_hold_nothing_broken : OpeningIsSound → EventsKeepSound → CallsHoldNothingBroken
 calls_hold_nothing_broken opens keep mount events by other fault is_mount run call has ne ended = record {

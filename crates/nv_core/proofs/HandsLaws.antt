@@ -10,7 +10,8 @@ use Rattle.nv_core.specs.Values.{Value, Job, Reads, Ending, Made, called, is_val
 use Rattle.nv_core.specs.Sweeps.{Batch, Sweep, Peeking, Carrying}
 use Rattle.nv_core.specs.Passes.{Stage, Reading, Copying, Patching, Robbing, Robbed, Search, Searching, Unlocking, Placing, Cleaning, Pass, IsHeld, at_of, covered, end_read, first_page, times, fetched_bytes}
 use Rattle.nv_core.specs.Deeds.{Deed, Loads, Gives, Places, Pledges, Turns, Hints, slot_of, patched_by}
-use Rattle.nv_core.specs.Order.{Values, Work, MayStep, MayLoad, MayPlace, MayTurn, MayLookUp, MayHint, MayWork, MayEnd, MayLeave, IsMissed, IsMiss, JustNow, AfterTries, IsOver, IsDue, IsChoreDue, IsPieceRead, SaysOf, SaysPieceOf, gathered, page_bytes, page_start}
+use Rattle.nv_core.specs.Order.{Values, Work, MayWork, MayEnd, MayLeave, IsDue, IsChoreDue, IsPieceRead, SaysOf, SaysPieceOf, gathered, page_bytes, page_start}
+use Rattle.nv_core.specs.StepKinds.{MayLoad, MayPlace, MayTurn, MayLookUp, MayHint, IsMissed, IsMiss, JustNow, AfterTries, IsOver, MayByKind as MayStep}
 use Rattle.nv_core.specs.Core.{with_word, values_read, values_worked, values_given, values_stepped}
 use Rattle.nv_core.specs.Standing.{Standing, StandsAt}
 use Rattle.nv_core.specs.Holding.{Holding, HoldsLocks}
@@ -20,6 +21,7 @@ use Rattle.nv_core.proofs.PageLaws.{read_within}
 use Rattle.nv_core.proofs.BufferLaws.{whole_holds, searching_holds}
 use Rattle.nv_core.proofs.GatheredLaws.{page_bytes_same}
 use Rattle.nv_core.proofs.KeepsLocks.{given_held}
+use Rattle.nv_core.proofs.NextSteps.{steps_are_next, next_steps_may_come}
 
 -- a change in one place that is the same wherever the place is in the hands
 with_same : (pass : Pass) (v w : Values) (word : Word) (x y : Value) → AgreeOn pass v w → (times word pass.hands ≢ 0 → x ≡ y) → AgreeOn pass (with_word v word x) (with_word w word y)
@@ -183,7 +185,7 @@ module _ (sizes : Sizes) (pass : Pass) (one other : Values) (holds : Holding siz
       (with_same pass one other work.cell (called work.job work.ending (one work.cell)) (called work.job work.ending (other work.cell)) agree (λ has. ap (called work.job work.ending) (agree work.cell has)))
 
   sees : SeesItsHands sizes pass one other
-  sees = record { steps = may_step; stepped = λ deed may. stepped_same deed; works = may_work; worked = λ work may. worked_same work }
+  sees = record { steps = λ deed may. steps_are_next sizes other pass deed (may_step deed (next_steps_may_come sizes one pass deed may)); stepped = λ deed may. stepped_same deed; works = may_work; worked = λ work may. worked_same work }
 
 pub passes_see_their_hands : PassesSeeTheirHands
 passes_see_their_hands sizes pass one other holds stands agree = sees sizes pass one other holds stands agree

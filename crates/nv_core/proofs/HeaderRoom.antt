@@ -20,9 +20,11 @@ use Rattle.nv_core.specs.Passes.{Stage, Idle, Locking, Checking, Committing, Cop
 use Rattle.nv_core.specs.Deeds.{Deed, Stops, Tends, Splits, Leaves, Joins, slot_of, chore_move, moved}
 use Rattle.nv_core.specs.Stages.{stage_after, after_tending}
 use Rattle.nv_core.specs.Stepped.{begun}
-use Rattle.nv_core.specs.Order.{Values, Work, MayWork, MayTend, MayLeave, IsDue, IsChoreDue, IsTailCall, commit_steps}
+use Rattle.nv_core.specs.Order.{Values, Work, MayWork, MayLeave, IsDue, IsChoreDue, IsTailCall, commit_steps}
+use Rattle.nv_core.specs.StepKinds.{MayTend}
 use Rattle.nv_core.specs.Core.{Core, with_word, changes, changed, after_step, after_begin, after_work, worked, stage_worked, values_worked}
-use Rattle.nv_core.specs.Events.{MayFind, MayBegin}
+use Rattle.nv_core.specs.Events.{MayBegin}
+use Rattle.nv_core.proofs.ByKind.{MayFind}
 use Rattle.nv_core.specs.Standing.{has_call}
 use Rattle.nv_core.specs.Rooms.{EndsRoomy, KeepsRoomy, IsMoving, IsUnmoved, MovesRoomy, Rooms}
 use Rattle.nv_core.specs.Sound.{Sound}

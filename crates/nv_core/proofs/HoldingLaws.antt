@@ -7,7 +7,8 @@ use Rattle.nv_core.specs.Passes.{Stage, Idle, Locking, Measuring, Sizing, Checki
 use Rattle.nv_core.specs.Deeds.{Deed, Stays, Comes, moved, slot_of, Loads, Takes, Gives, Places, Stops, Draws, Seizes, Pledges, Readies, Grows, Breaks, Turns, Hints, Holds, Returns, Tends}
 use Rattle.nv_core.specs.Stages.{copying, stage_after, after_load, after_give, after_stop, leaving, giving, ending, ordered, exceeds, scanning, after_head, after_tail, after_look, after_hold, after_return}
 use Rattle.nv_core.specs.Stepped.{stepped}
-use Rattle.nv_core.specs.Order.{Values, MayStep, MayLoad, MayTake, MayGive, MayPlace, IsFailing, IsOver, IsMiss, JustNow, AfterTries, IsSeeking}
+use Rattle.nv_core.specs.Order.{Values, IsFailing}
+use Rattle.nv_core.specs.StepKinds.{MayLoad, MayTake, MayGive, MayPlace, IsOver, IsMiss, JustNow, AfterTries, IsSeeking, MayByKind as MayStep}
 use Rattle.nv_core.specs.Standing.{IsPage, StandsAt, Standing}
 use Rattle.nv_core.specs.Holding.{one_if, is_among, page_held, size_held, lock_held, HoldsLocks, cleanup_held, store_times, cleaner_held, header_held}
 use Rattle.nv_core.proofs.Changes.{differ, same_true}

@@ -10,7 +10,8 @@ use Rattle.nv_core.specs.Sweeps.{Batch, Sweep}
 use Rattle.nv_core.specs.Deeds.{Deed, moved, move_of, slot_of, Loads, Takes, Gives, Places, Stops, Draws, Seizes, Pledges, Readies, Grows, Breaks, Turns, Hints, Holds, Returns, Tends}
 use Rattle.nv_core.specs.Stages.{stage_after, after_stop, leaving, scanning, after_hold, after_return}
 use Rattle.nv_core.specs.Stepped.{stepped, begun, first_after, entries_after}
-use Rattle.nv_core.specs.Order.{Values, Work, MayWork, IsDue, commit_steps, MayStep, IsFailing}
+use Rattle.nv_core.specs.Order.{Values, Work, MayWork, IsDue, commit_steps, IsFailing}
+use Rattle.nv_core.specs.StepKinds.{MayByKind as MayStep}
 use Rattle.nv_core.specs.Core.{worked, stage_worked}
 use Rattle.nv_core.specs.Standing.{IsPage, HasDrawn, StandsAt, Standing, has_call}
 use Rattle.nv_core.specs.Holding.{one_if, is_among, lock_held, HoldsLocks, Holding}

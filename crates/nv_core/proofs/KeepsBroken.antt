@@ -9,7 +9,8 @@ use Rattle.nv_core.specs.Sweeps.{Looks, Halts}
 use Rattle.nv_core.specs.Stepped.{stopped_after, begun}
 use Rattle.nv_core.specs.Order.{Values, Work, MayWork, IsFailing}
 use Rattle.nv_core.specs.Core.{Core, changes, changed, after_step, after_begin, after_work, worked}
-use Rattle.nv_core.specs.Events.{MayDo, MayFind, MayBegin}
+use Rattle.nv_core.specs.Events.{MayBegin}
+use Rattle.nv_core.proofs.ByKind.{MayDo, MayFind}
 use Rattle.nv_core.specs.Standing.{IsPage}
 use Rattle.nv_core.specs.Holding.{HoldsLocks}
 use Rattle.nv_core.specs.Broken.{HasChecked, Broken}

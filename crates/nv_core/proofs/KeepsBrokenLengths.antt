@@ -9,7 +9,7 @@ use Rattle.nv_core.specs.Deeds.{Deed}
 use Rattle.nv_core.specs.Stepped.{fault_of}
 use Rattle.nv_core.specs.Order.{Values, Work, MayWork, IsFailing}
 use Rattle.nv_core.specs.Core.{Core, after_step, after_begin, after_work}
-use Rattle.nv_core.specs.Events.{MayFind}
+use Rattle.nv_core.proofs.ByKind.{MayFind}
 use Rattle.nv_core.specs.Broken.{HasChecked}
 use Rattle.nv_core.specs.BrokenLengths.{IsExtending, BrokenLengths}
 use Rattle.nv_core.specs.Loaded.{HasMeasured}

@@ -10,7 +10,8 @@ use Rattle.nv_core.specs.Deeds.{Deed}
 use Rattle.nv_core.specs.Stepped.{begun}
 use Rattle.nv_core.specs.Order.{Values, Work, MayWork}
 use Rattle.nv_core.specs.Core.{Core, after_step, after_begin, after_work}
-use Rattle.nv_core.specs.Events.{Event, Act, Begins, Does, Calls, MayAct, MayFind, MayBegin, after_act, after_event, after, IsRun}
+use Rattle.nv_core.specs.Events.{Event, Act, Begins, Does, Calls, MayBegin, after_act, after_event, after, IsRun}
+use Rattle.nv_core.proofs.ByKind.{MayAct, MayFind, act_kind}
 use Rattle.nv_core.specs.Opening.{opening}
 use Rattle.nv_core.specs.Sound.{Sound}
 use Rattle.nv_core.specs.StorePages.{HasFiles}
@@ -85,7 +86,7 @@ content_act plain parts sizes first files tails log placed by core (Does deed fo
 content_act plain parts sizes first files tails log placed by core (Calls work) has sound logged was made may = content_work plain parts sizes first files tails log placed by core work has sound logged was may
 
 pub events_keep_content : PlainLaws → PartLaws → EventsKeepContent
-events_keep_content plain parts sizes first files tails log placed core event has sound logged was may = content_act plain parts sizes first files tails log placed event.by core event.act has sound logged was may.made may.act
+events_keep_content plain parts sizes first files tails log placed core event has sound logged was may = content_act plain parts sizes first files tails log placed event.by core event.act has sound logged was may.made (act_kind sizes event.by core event.act may.act)
 
 -- ---- at opening, and through runs
 

@@ -8,12 +8,14 @@ use Rattle.nv_core.specs.Deeds.{Deed, slot_of, page_at, ready_word, Loads, Takes
 use Rattle.nv_core.specs.Values.{Ending, Made, Failed, Refused}
 use Rattle.nv_core.specs.Stages.{stage_after, after_tending, leaving, after_stop}
 use Rattle.nv_core.specs.Stepped.{stepped, begun}
-use Rattle.nv_core.specs.Order.{Values, Work, MayWork, MayStep, IsDue, IsChoreDue, IsFailing, commit_steps}
+use Rattle.nv_core.specs.Order.{Values, Work, MayWork, IsDue, IsChoreDue, IsFailing, commit_steps}
+use Rattle.nv_core.specs.StepKinds.{MayByKind as MayStep}
 use Rattle.nv_core.proofs.ClearLaws.{IsClear, IsPlain, clear_from, clear_to, clear_leaving}
 use Rattle.nv_core.proofs.HoldingSteps.{few_entries}
 use Rattle.std.proofs.lemmas.Nat.{mod_below}
 use Rattle.nv_core.specs.Core.{Core, changes, changed, with_word, with_number, after_step, after_begin, after_work, worked, stage_worked}
-use Rattle.nv_core.specs.Events.{MayFind, MayBegin}
+use Rattle.nv_core.specs.Events.{MayBegin}
+use Rattle.nv_core.proofs.ByKind.{MayFind}
 use Rattle.nv_core.specs.Standing.{StandsAt, IsPage, HasDrawn, has_call}
 use Rattle.nv_core.specs.Holding.{one_if, is_among, HoldsLocks}
 use Rattle.nv_core.specs.Locks.{Locks}

@@ -10,7 +10,7 @@ use Rattle.nv_core.specs.Passes.{IsAmong, IsAllowed, is_write, at_of, len_of, fi
 use Rattle.nv_core.specs.Deeds.{Deed, slot_of, page_at, ready_word, Seizes, Readies, Breaks, Holds, Returns, Tends}
 use Rattle.nv_core.specs.Order.{Values}
 use Rattle.nv_core.specs.Core.{Core, with_word, after_step}
-use Rattle.nv_core.specs.Events.{MayFind}
+use Rattle.nv_core.proofs.ByKind.{MayFind}
 use Rattle.nv_core.specs.Standing.{StandsAt, HasDrawn}
 use Rattle.nv_core.specs.EntryWords.{IsEntryWord, IsFilled, IsBroken, IsReady, EntryWords, IsFree}
 use Rattle.nv_core.specs.Sound.{Sound}

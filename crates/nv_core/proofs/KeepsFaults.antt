@@ -12,7 +12,8 @@ use Rattle.nv_core.specs.Stepped.{begun}
 use Rattle.nv_plain.specs.declared.call.FileCall.{FileCall}
 use Rattle.nv_core.specs.Standing.{StandsAt, HasDrawn, IsPage}
 use Rattle.nv_core.specs.Core.{Core, changes, changed, with_number, after_step, after_begin, after_work, worked}
-use Rattle.nv_core.specs.Events.{MayFind, MayBegin}
+use Rattle.nv_core.specs.Events.{MayBegin}
+use Rattle.nv_core.proofs.ByKind.{MayFind}
 use Rattle.nv_core.specs.LogWindow.{entry_at, Fills, InWindow}
 use Rattle.nv_core.specs.Groups.{Group, Log, Groups, IsOwn, HasGroup, group_of, with_group, log_stepped, log_worked}
 use Rattle.nv_core.specs.InFlight.{placed_stepped, IsFlying, InFlight}

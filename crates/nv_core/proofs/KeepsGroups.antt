@@ -8,9 +8,10 @@ use Rattle.nv_core.specs.Passes.{Stage, Locking, Checking, Copying, Seizing, Com
 use Rattle.nv_core.specs.Deeds.{Deed, Loads, Takes, Gives, Places, Stops, Draws, Seizes, Pledges, Readies, Grows, Breaks, Splits, Leaves, Joins, Turns, Hints, Holds, Returns, Tends}
 use Rattle.nv_core.specs.Stages.{stage_after, after_stop, leaving}
 use Rattle.nv_core.specs.Stepped.{begun}
-use Rattle.nv_core.specs.Order.{Values, Work, MayWork, IsDue, IsFailing, MayStep}
+use Rattle.nv_core.specs.Order.{Values, Work, MayWork, IsDue, IsFailing}
+use Rattle.nv_core.specs.StepKinds.{MayByKind as MayStep}
 use Rattle.nv_core.specs.Core.{Core, changes, changed, after_step, after_begin, after_work, worked, stage_worked}
-use Rattle.nv_core.specs.Events.{MayFind}
+use Rattle.nv_core.proofs.ByKind.{MayFind}
 use Rattle.nv_core.specs.Standing.{StandsAt, HasDrawn, IsSmall, HasRoom}
 use Rattle.nv_core.specs.Holding.{is_among}
 use Rattle.nv_core.specs.Sweeps.{Retiring, Retires}

@@ -11,9 +11,11 @@ use Rattle.nv_core.specs.Passes.{Stage, Idle, Locking, Measuring, Sizing, Checki
 use Rattle.nv_core.specs.Deeds.{Deed, Loads, Takes, Gives, Places, Stops, Draws, Seizes, Pledges, Readies, Grows, Breaks, Splits, Leaves, Joins, slot_of, Turns, Hints, Holds, Returns, Tends, chore_move, moved}
 use Rattle.nv_core.specs.Stages.{stage_after, after_load, after_give, after_stop, leaving, giving, ending, exceeds, ordered, after_return}
 use Rattle.nv_core.specs.Stepped.{stepped, added, begun}
-use Rattle.nv_core.specs.Order.{Values, Work, MayWork, MayStep, MayLoad, MayTake, MayPlace, IsDue, IsFailing}
+use Rattle.nv_core.specs.Order.{Values, Work, MayWork, IsDue, IsFailing}
+use Rattle.nv_core.specs.StepKinds.{MayLoad, MayTake, MayPlace, MayByKind as MayStep}
 use Rattle.nv_core.specs.Core.{Core, changes, changed, made_stepped, after_step, after_begin, after_work, worked, stage_worked, with_number}
-use Rattle.nv_core.specs.Events.{MayFind, MayBegin}
+use Rattle.nv_core.specs.Events.{MayBegin}
+use Rattle.nv_core.proofs.ByKind.{MayFind}
 use Rattle.nv_core.specs.OneHistory.{Begins, calls_by, stage_open, open_calls, open_count, OneHistory}
 use Rattle.nv_core.specs.Broken.{HasChecked, Broken}
 use Rattle.nv_core.specs.Sound.{Sound}

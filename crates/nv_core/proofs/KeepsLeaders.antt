@@ -12,7 +12,7 @@ use Rattle.nv_core.specs.Deeds.{Deed, slot_of, page_at, ready_word, Takes, Gives
 use Rattle.nv_core.specs.Stages.{leaving}
 use Rattle.nv_core.specs.Order.{Values, Work}
 use Rattle.nv_core.specs.Core.{Core, changed, with_word, after_step, after_begin, after_work}
-use Rattle.nv_core.specs.Events.{MayFind}
+use Rattle.nv_core.proofs.ByKind.{MayFind}
 use Rattle.nv_core.specs.Standing.{StandsAt, HasDrawn, IsSmall, HasRoom}
 use Rattle.nv_core.specs.LogWindow.{HasUnseized, InWindow, entry_at}
 use Rattle.nv_core.specs.Groups.{Group, Log, group_of, with_group, log_stepped, log_worked, HasGroup, IsOwn, Groups}

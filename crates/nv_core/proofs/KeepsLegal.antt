@@ -14,9 +14,10 @@ use Rattle.nv_plain.specs.declared.call.Reply.TheVariants.{Bytes}
 use Rattle.nv_core.specs.Words.{Sizes, SIZE}
 use Rattle.nv_core.specs.Passes.{Stage, Reading, Placing, Growing, IsAllowed, file_of, at_of, len_of, is_read, page_count, first_page, end_read, covered, page_number, times}
 use Rattle.nv_core.specs.Deeds.{Deed, Places}
-use Rattle.nv_core.specs.Order.{Values, MayPlace, page_bytes, plain_reply}
+use Rattle.nv_core.specs.Order.{Values, page_bytes, plain_reply}
+use Rattle.nv_core.specs.StepKinds.{MayPlace}
 use Rattle.nv_core.specs.Core.{Core, after_step}
-use Rattle.nv_core.specs.Events.{MayFind}
+use Rattle.nv_core.proofs.ByKind.{MayFind}
 use Rattle.nv_core.specs.Standing.{StandsAt, IsPage}
 use Rattle.nv_core.specs.Loaded.{HasMeasured}
 use Rattle.nv_core.specs.PagesAfter.{files_now, page_in, page_from, page_now}

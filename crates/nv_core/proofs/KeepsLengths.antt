@@ -13,9 +13,11 @@ use Rattle.nv_core.specs.Passes.{Stage, Idle, Locking, Measuring, Sizing, Checki
 use Rattle.nv_core.specs.Deeds.{Deed, Loads, Takes, Gives, Places, Stops, Draws, Seizes, Pledges, Readies, Grows, Breaks, Splits, Leaves, Joins, slot_of, Turns, Hints, Holds, Returns, Tends, chore_move, moved}
 use Rattle.nv_core.specs.Stages.{stage_after, after_load, after_give, after_stop, leaving, giving, ending, ordered, copying, exceeds, scanning, after_head, after_tail, after_look, after_hold, after_return}
 use Rattle.nv_core.specs.Stepped.{added}
-use Rattle.nv_core.specs.Order.{Values, Work, MayWork, MayStep, MayLoad, MayTake, MayPlace, IsDue, IsFailing, commit_steps}
+use Rattle.nv_core.specs.Order.{Values, Work, MayWork, IsDue, IsFailing, commit_steps}
+use Rattle.nv_core.specs.StepKinds.{MayLoad, MayTake, MayPlace, MayByKind as MayStep}
 use Rattle.nv_core.specs.Core.{Core, changes, changed, after_step, after_begin, after_work, stage_worked}
-use Rattle.nv_core.specs.Events.{MayFind, MayBegin}
+use Rattle.nv_core.specs.Events.{MayBegin}
+use Rattle.nv_core.proofs.ByKind.{MayFind}
 use Rattle.nv_core.specs.Standing.{has_call}
 use Rattle.nv_core.specs.Loaded.{HasMeasured}
 use Rattle.nv_core.specs.PagesAfter.{files_now}

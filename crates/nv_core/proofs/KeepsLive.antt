@@ -16,9 +16,11 @@ use Rattle.nv_core.specs.Passes.{Stage, Idle, Locking, Checking, Reading, Seizin
 use Rattle.nv_core.specs.Deeds.{Deed, slot_of, page_at, ready_word, Loads, Takes, Gives, Places, Stops, Draws, Seizes, Pledges, Readies, Grows, Breaks, Turns, Hints, Holds, Returns, Tends, Splits, Leaves, Joins, moved, chore_move}
 use Rattle.nv_core.specs.Stages.{stage_after, after_hold, after_return, leaving}
 use Rattle.nv_core.specs.Stepped.{added, begun}
-use Rattle.nv_core.specs.Order.{Values, Work, MayStep, MayPlace, IsFailing}
+use Rattle.nv_core.specs.Order.{Values, Work, IsFailing}
+use Rattle.nv_core.specs.StepKinds.{MayPlace, MayByKind as MayStep}
 use Rattle.nv_core.specs.Core.{Core, changes, changed, with_word, after_step, after_begin, values_worked}
-use Rattle.nv_core.specs.Events.{MayFind, MayBegin}
+use Rattle.nv_core.specs.Events.{MayBegin}
+use Rattle.nv_core.proofs.ByKind.{MayFind}
 use Rattle.nv_core.specs.Numbers.{Numbers}
 use Rattle.nv_core.specs.Standing.{StandsAt, HasDrawn, IsPage, IsSmall, HasRoom, has_call}
 use Rattle.nv_core.specs.LogWindow.{HasUnseized, InWindow, WasReadied, entry_at}

@@ -7,9 +7,10 @@ use Rattle.nv_core.specs.Passes.{Stage, Leaving, Releasing, Giving, Returning, R
 use Rattle.nv_core.specs.Deeds.{Deed, Stays, Comes, moved, move_of, slot_of, page_at, ready_word, Loads, Takes, Gives, Places, Stops, Draws, Seizes, Pledges, Readies, Grows, Breaks, Turns, Hints, Splits, Leaves, Joins, word_of, value_after, Holds, Returns, Tends, chore_move}
 use Rattle.nv_core.specs.Sweeps.{Setting, Dropping, Undoing, Chore, Enters, Looks as LooksAt, Grabs, Yields, Lifts, Drops, Cleans, Subtracts, Frees, Retires, Halts}
 use Rattle.nv_core.specs.Chores.{chore_word, chore_value}
-use Rattle.nv_core.specs.Order.{Values, Work, MayTake, MayGive, MayTend}
+use Rattle.nv_core.specs.Order.{Values, Work}
+use Rattle.nv_core.specs.StepKinds.{MayTake, MayGive, MayTend}
 use Rattle.nv_core.specs.Core.{Core, changes, changed, after_step, after_begin, after_work}
-use Rattle.nv_core.specs.Events.{MayFind}
+use Rattle.nv_core.proofs.ByKind.{MayFind}
 use Rattle.nv_core.specs.Standing.{StandsAt}
 use Rattle.nv_core.specs.Holding.{one_if, is_among, HoldsLocks}
 use Rattle.nv_core.specs.Locks.{Keyed, Locks}

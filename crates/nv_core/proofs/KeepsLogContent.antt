@@ -10,7 +10,8 @@ use Rattle.nv_core.specs.Deeds.{Deed, Tends}
 use Rattle.nv_core.specs.Stepped.{begun}
 use Rattle.nv_core.specs.Order.{Values, Work, MayWork}
 use Rattle.nv_core.specs.Core.{Core, after_step, after_begin, after_work}
-use Rattle.nv_core.specs.Events.{Act, Begins, Does, Calls, Event, after_act, after_event, after, IsRun, MayFind, MayBegin, MayAct}
+use Rattle.nv_core.specs.Events.{Act, Begins, Does, Calls, Event, after_act, after_event, after, IsRun, MayBegin}
+use Rattle.nv_core.proofs.ByKind.{MayFind, MayAct, act_kind}
 use Rattle.nv_core.specs.Opening.{opening}
 use Rattle.nv_core.specs.Groups.{Log, log_stepped, log_worked, log_acted, log_after}
 use Rattle.nv_core.specs.InFlight.{placed_stepped, placed_acted, placed_after}
@@ -115,7 +116,7 @@ module _ (laws : LogLaws) (plain : PlainLaws) where
   -- Each event keeps them.
   pub events_keep_the_log : EventsKeepTheLog
   events_keep_the_log sizes first opened tails log placed core event page_is sound content may =
-      content_act sizes page_is first opened tails log placed event.by core event.act sound may.made content may.act
+      content_act sizes page_is first opened tails log placed event.by core event.act sound may.made content (act_kind sizes event.by core event.act may.act)
 
   run_keeps : GroupsEndReady → (sizes : Sizes) → IsPageSize sizes.page → (first : Values) (opened : Files) (tails : Tails) (events : List Event) (log : Log) (placed : ℕ → Bool) (core : Core)
       → Sound sizes first core → LogContent sizes first opened tails log placed core → IsRun sizes core events

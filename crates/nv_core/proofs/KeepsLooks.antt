@@ -11,9 +11,10 @@ use Rattle.nv_core.specs.Passes.{Stage, Idle, Locking, Measuring, Sizing, Checki
 use Rattle.nv_core.specs.Deeds.{Deed, Loads, Takes, Gives, Places, Stops, Draws, Seizes, Pledges, Readies, Grows, Breaks, Holds, Returns, Splits, Leaves, Joins, slot_of, value_after, Turns, Hints, Tends, moved, chore_move}
 use Rattle.nv_core.specs.Stages.{stage_after, scanning, after_head, after_tail, after_look, after_load, after_give, after_stop, after_hold, after_return, leaving, giving, ending, ordered, copying, exceeds}
 use Rattle.nv_core.specs.Stepped.{begun}
-use Rattle.nv_core.specs.Order.{Values, Work, MayWork, MayStep, MayLoad, MayTake, IsDue, IsFailing, commit_steps}
+use Rattle.nv_core.specs.Order.{Values, Work, MayWork, IsDue, IsFailing, commit_steps}
+use Rattle.nv_core.specs.StepKinds.{MayLoad, MayTake, MayByKind as MayStep}
 use Rattle.nv_core.specs.Core.{Core, changes, changed, after_step, after_begin, after_work, worked, stage_worked}
-use Rattle.nv_core.specs.Events.{MayFind}
+use Rattle.nv_core.proofs.ByKind.{MayFind}
 use Rattle.nv_core.specs.Standing.{StandsAt, HasDrawn, ReadsPage}
 use Rattle.nv_core.specs.Holding.{HoldsLocks}
 use Rattle.nv_core.specs.LogWindow.{InWindow, entry_at, LogWindow}

@@ -5,7 +5,7 @@ use Rattle.nv_core.specs.Passes.{Pass}
 use Rattle.nv_core.specs.Deeds.{Deed, Splits, Joins}
 use Rattle.nv_core.specs.Order.{Values}
 use Rattle.nv_core.specs.Core.{Core, with_number, after_step}
-use Rattle.nv_core.specs.Events.{MayDo}
+use Rattle.nv_core.proofs.ByKind.{MayDo}
 use Rattle.nv_core.specs.Numbers.{IsUnborn, Numbers}
 use Rattle.nv_core.proofs.Changes.{by_number}
 

@@ -15,9 +15,10 @@ use Rattle.nv_core.specs.Passes.{Stage, Idle, Locking, Measuring, Sizing, Checki
 use Rattle.nv_core.specs.Deeds.{Deed, Loads, Takes, Gives, Places, Stops, Draws, Seizes, Pledges, Readies, Grows, Breaks, Holds, Returns, Splits, Leaves, Joins, slot_of, Turns, Hints, Tends, chore_move, moved}
 use Rattle.nv_core.specs.Stages.{stage_after, after_load, after_give, after_stop, after_head, after_tail, after_look, after_hold, after_return, scanning, leaving, giving, ending, ordered, copying, exceeds}
 use Rattle.nv_core.specs.Stepped.{head_after, begun}
-use Rattle.nv_core.specs.Order.{Values, Work, MayWork, MayStep, MayTake, IsFailing, IsDue, IsPageRead, IsPieceRead, SaysPiece, SaysPieceOf, page_start, commit_steps, MayLeave}
+use Rattle.nv_core.specs.Order.{Values, Work, MayWork, IsFailing, IsDue, IsPageRead, IsPieceRead, SaysPiece, SaysPieceOf, page_start, commit_steps, MayLeave}
+use Rattle.nv_core.specs.StepKinds.{MayTake, MayByKind as MayStep}
 use Rattle.nv_core.specs.Core.{Core, changes, changed, after_step, after_begin, after_work, worked, stage_worked, fetched_worked}
-use Rattle.nv_core.specs.Events.{MayFind}
+use Rattle.nv_core.proofs.ByKind.{MayFind}
 use Rattle.nv_core.specs.Standing.{StandsAt, ReadsPage, StandsSweeping}
 use Rattle.nv_core.specs.Holding.{HoldsLocks, one_if}
 use Rattle.nv_core.specs.LogWindow.{InWindow, entry_at}

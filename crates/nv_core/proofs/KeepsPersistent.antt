@@ -19,7 +19,8 @@ use Rattle.nv_core.specs.Stepped.{begun}
 use Rattle.nv_core.specs.Standing.{StandsAt}
 use Rattle.nv_core.specs.Order.{Values, Work, MayWork, MayLeave, IsDue, IsCarried}
 use Rattle.nv_core.specs.Core.{Core, with_word, after_step, after_begin, after_work, values_worked}
-use Rattle.nv_core.specs.Events.{Act, Begins, Does, Calls, after_act, MayFind, MayAct}
+use Rattle.nv_core.specs.Events.{Act, Begins, Does, Calls, after_act}
+use Rattle.nv_core.proofs.ByKind.{MayFind, MayAct, act_kind}
 use Rattle.nv_core.specs.StorePages.{store_of}
 use Rattle.nv_core.specs.LogWindow.{InWindow, entry_at}
 use Rattle.nv_core.specs.PagesAfter.{file_of_page}
@@ -298,7 +299,7 @@ groups_on sizes by core deed found log may n less = refl
 
 -- What isn't durable goes on to lie in such pieces.
 pub persistent_goes_on : LoadsAreAnImage → GroupsBecomeWhole → PlainLaws → PersistentGoesOn
-persistent_goes_on loads becomes plain sizes first opened names tails log placed core event sound content region may = go event.act may.act
+persistent_goes_on loads becomes plain sizes first opened names tails log placed core event sound content region may = go event.act (act_kind sizes event.by core event.act may.act)
   where
     go : (act : Act) → MayAct sizes event.by core act → PersistentTail sizes (tails_acted (core.passes event.by).stage act tails).next (log_acted sizes (core.passes event.by) act log) (after_act sizes event.by act core)
     go (Does deed found) may_act = step_persists sizes first opened names tails log placed core sound content region event.by core sound deed found refl refl (log_stepped sizes (core.passes event.by) deed found log)

@@ -9,9 +9,11 @@ use Rattle.nv_core.specs.Passes.{Stage, Locking, Checking, Copying, Seizing, Com
 use Rattle.nv_core.specs.Deeds.{Deed, slot_of, page_at, ready_word, Loads, Takes, Gives, Places, Stops, Draws, Seizes, Pledges, Readies, Grows, Breaks, Splits, Leaves, Joins, Turns, Hints, Holds, Returns, Tends}
 use Rattle.nv_core.specs.Stages.{stage_after, after_stop, leaving}
 use Rattle.nv_core.specs.Stepped.{begun}
-use Rattle.nv_core.specs.Order.{Values, Work, MayWork, IsDue, IsFailing, commit_steps, MayStep}
+use Rattle.nv_core.specs.Order.{Values, Work, MayWork, IsDue, IsFailing, commit_steps}
+use Rattle.nv_core.specs.StepKinds.{MayByKind as MayStep}
 use Rattle.nv_core.specs.Core.{Core, changes, changed, with_word, after_step, after_begin, after_work, worked, stage_worked}
-use Rattle.nv_core.specs.Events.{MayFind, MayBegin}
+use Rattle.nv_core.specs.Events.{MayBegin}
+use Rattle.nv_core.proofs.ByKind.{MayFind}
 use Rattle.nv_core.specs.Standing.{StandsAt, HasDrawn, IsSmall, HasRoom}
 use Rattle.nv_core.specs.Sweeps.{Setting, Freeing, Lifts, Drops, Cleans, Frees, Retires}
 use Rattle.nv_core.specs.SweepNumbers.{IsFreed}

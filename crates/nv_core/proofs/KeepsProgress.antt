@@ -15,9 +15,10 @@ use Rattle.nv_core.specs.Passes.{Stage, Idle, Locking, Checking, Cleaning, Pass,
 use Rattle.nv_core.specs.Deeds.{Deed, slot_of, Loads, Takes, Gives, Places, Stops, Draws, Seizes, Pledges, Readies, Grows, Breaks, Holds, Returns, Turns, Hints, Tends, Splits, Leaves, Joins, chore_move, moved, ready_word, page_at}
 use Rattle.nv_core.specs.Stages.{stage_after, after_stop, after_tending, after_hold, after_return, leaving, scanning}
 use Rattle.nv_core.specs.Stepped.{begun}
-use Rattle.nv_core.specs.Order.{Values, Work, MayWork, MayStep, MayTend, IsDue, IsChoreDue, IsFailing, commit_steps}
+use Rattle.nv_core.specs.Order.{Values, Work, MayWork, IsDue, IsChoreDue, IsFailing, commit_steps}
+use Rattle.nv_core.specs.StepKinds.{MayTend, MayByKind as MayStep}
 use Rattle.nv_core.specs.Core.{Core, with_word, changes, changed, after_step, after_begin, after_work, worked, stage_worked}
-use Rattle.nv_core.specs.Events.{MayFind}
+use Rattle.nv_core.proofs.ByKind.{MayFind}
 use Rattle.nv_core.specs.Standing.{StandsAt, StandsSweeping, HasDrawn, IsSmall, HasRoom}
 use Rattle.nv_core.specs.Holding.{HoldsLocks}
 use Rattle.nv_core.specs.Loaded.{Looks as Sees}

@@ -13,9 +13,11 @@ use Rattle.nv_core.specs.Passes.{Stage, Idle, Locking, Checking, Cleaning, Pass,
 use Rattle.nv_core.specs.Deeds.{Deed, slot_of, ready_word, Stops, Draws, Seizes, Readies, Breaks, Splits, Leaves, Joins, Holds, Returns, Tends, moved, chore_move}
 use Rattle.nv_core.specs.Stages.{stage_after, after_tending}
 use Rattle.nv_core.specs.Stepped.{begun}
-use Rattle.nv_core.specs.Order.{Values, MayTend}
+use Rattle.nv_core.specs.Order.{Values}
+use Rattle.nv_core.specs.StepKinds.{MayTend}
 use Rattle.nv_core.specs.Core.{Core, changes, changed, with_word, after_step, after_begin}
-use Rattle.nv_core.specs.Events.{MayFind, MayBegin}
+use Rattle.nv_core.specs.Events.{MayBegin}
+use Rattle.nv_core.proofs.ByKind.{MayFind}
 use Rattle.nv_core.specs.Standing.{StandsAt, HasDrawn}
 use Rattle.nv_core.specs.Holding.{is_among}
 use Rattle.nv_core.specs.LogWindow.{InWindow, entry_at}

@@ -13,7 +13,8 @@ use Rattle.nv_core.specs.Passes.{Stage, Seizing, Committing, WriteFailing, Break
 use Rattle.nv_core.specs.Deeds.{Deed, slot_of, Seizes}
 use Rattle.nv_core.specs.Order.{Values, Work, MayWork, MayLeave, commit_steps}
 use Rattle.nv_core.specs.Core.{Core, changed, after_step, after_begin, after_work, values_worked}
-use Rattle.nv_core.specs.Events.{MayFind, MayBegin}
+use Rattle.nv_core.specs.Events.{MayBegin}
+use Rattle.nv_core.proofs.ByKind.{MayFind}
 use Rattle.nv_core.specs.Standing.{StandsAt, HasDrawn}
 use Rattle.nv_core.specs.Rooms.{EndsReady, KeepsReady, FillsReady, Rooms}
 use Rattle.nv_core.specs.Sound.{Sound}

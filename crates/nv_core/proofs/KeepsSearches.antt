@@ -10,9 +10,10 @@ use Rattle.nv_core.specs.Passes.{Stage, Idle, Locking, Measuring, Sizing, Checki
 use Rattle.nv_core.specs.Deeds.{Deed, Loads, Takes, Gives, Places, Stops, Draws, Seizes, Pledges, Readies, Grows, Breaks, Turns, Hints, Holds, Returns, Splits, Leaves, Joins, slot_of, patched_by, Tends, chore_move, moved}
 use Rattle.nv_core.specs.Stages.{stage_after, after_load, after_give, after_stop, leaving, giving, ending, ordered, copying, exceeds, scanning, after_head, after_tail, after_look, after_hold, after_return}
 use Rattle.nv_core.specs.Stepped.{begun}
-use Rattle.nv_core.specs.Order.{Values, Work, MayWork, MayStep, MayLoad, MayTake, MayGive, IsDue, IsFailing}
+use Rattle.nv_core.specs.Order.{Values, Work, MayWork, IsDue, IsFailing}
+use Rattle.nv_core.specs.StepKinds.{MayLoad, MayTake, MayGive, MayByKind as MayStep}
 use Rattle.nv_core.specs.Core.{Core, changed, with_word, after_step, after_begin, after_work, worked, stage_worked, values_read, values_worked, values_robbed, values_given, values_stepped}
-use Rattle.nv_core.specs.Events.{MayFind}
+use Rattle.nv_core.proofs.ByKind.{MayFind}
 use Rattle.nv_core.specs.Opening.{Mount, IsMount}
 use Rattle.nv_core.specs.Standing.{StandsAt}
 use Rattle.nv_core.specs.Holding.{HoldsLocks, one_if, is_among}

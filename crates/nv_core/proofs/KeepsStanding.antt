@@ -9,9 +9,11 @@ use Rattle.nv_core.specs.Progress.{HasFooted, HasNone}
 use Rattle.nv_core.specs.Passes.{Stage, Idle, Leaving, Pass, Cleaning, times}
 use Rattle.nv_core.specs.Deeds.{Deed, Stays, Comes, moved, chore_move, Tends, Splits, Leaves, Joins}
 use Rattle.nv_core.specs.Stages.{after_tending}
-use Rattle.nv_core.specs.Order.{Work, MayWork, IsDue, IsChoreDue, MayTend, Values}
+use Rattle.nv_core.specs.Order.{Work, MayWork, IsDue, IsChoreDue, Values}
+use Rattle.nv_core.specs.StepKinds.{MayTend}
 use Rattle.nv_core.specs.Core.{Core, worked, stage_worked, changes, changed, after_step, after_begin, after_work}
-use Rattle.nv_core.specs.Events.{MayDo, MayFind, MayBegin}
+use Rattle.nv_core.specs.Events.{MayBegin}
+use Rattle.nv_core.proofs.ByKind.{MayDo, MayFind}
 use Rattle.nv_core.specs.Standing.{StandsAt, Standing, has_call}
 use Rattle.nv_core.specs.Holding.{lock_held, HoldsLocks, Holding}
 use Rattle.nv_core.specs.Sound.{Sound}

@@ -12,9 +12,11 @@ use Rattle.nv_core.specs.Passes.{Stage, Locking, Checking, Copying, Seizing, Com
 use Rattle.nv_core.specs.Deeds.{Deed, Loads, Takes, Gives, Places, Stops, Draws, Seizes, Pledges, Readies, Grows, Breaks, Splits, Leaves, Joins, slot_of, Turns, Hints, Holds, Returns, Tends, chore_move, moved}
 use Rattle.nv_core.specs.Stages.{stage_after, after_stop, after_tending, leaving}
 use Rattle.nv_core.specs.Stepped.{stopped_after}
-use Rattle.nv_core.specs.Order.{Values, Work, MayWork, MayStep, MayTend, IsDue, IsChoreDue, IsFailing, MayEnd, commit_steps}
+use Rattle.nv_core.specs.Order.{Values, Work, MayWork, IsDue, IsChoreDue, IsFailing, MayEnd, commit_steps}
+use Rattle.nv_core.specs.StepKinds.{MayTend, MayByKind as MayStep}
 use Rattle.nv_core.specs.Core.{made_stepped, Core, changes, changed, after_step, after_begin, after_work, stage_worked, values_worked, values_stepped}
-use Rattle.nv_core.specs.Events.{MayDo, MayFind, MayBegin}
+use Rattle.nv_core.specs.Events.{MayBegin}
+use Rattle.nv_core.proofs.ByKind.{MayDo, MayFind}
 use Rattle.nv_core.specs.Stop.{HasFailed, IsHalting, Stop}
 use Rattle.nv_core.specs.BuffersKept.{BuffersKept}
 use Rattle.nv_core.specs.Devices.{Devices}

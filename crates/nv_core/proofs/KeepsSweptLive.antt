@@ -17,7 +17,7 @@ use Rattle.nv_core.specs.Passes.{Stage, Copying, Committing, Patching, Cleaning,
 use Rattle.nv_core.specs.Deeds.{Deed, Tends, slot_of}
 use Rattle.nv_core.specs.Order.{Values, Work, MayWork, MayLeave, IsDue, IsTornOf, IsCarried}
 use Rattle.nv_core.specs.Core.{Core, after_step, after_work, worked, with_word, values_worked}
-use Rattle.nv_core.specs.Events.{MayFind}
+use Rattle.nv_core.proofs.ByKind.{MayFind}
 use Rattle.nv_core.specs.Standing.{StandsAt}
 use Rattle.nv_core.specs.LogWindow.{InWindow, entry_at}
 use Rattle.nv_core.specs.Groups.{Log, log_worked, Groups}

@@ -10,9 +10,11 @@ use Rattle.nv_core.specs.Passes.{Stage, Locking, Checking, Copying, Drawing, Sei
 use Rattle.nv_core.specs.Deeds.{Deed, slot_of, page_at, ready_word, Loads, Takes, Gives, Places, Stops, Draws, Seizes, Pledges, Readies, Grows, Breaks, Splits, Leaves, Joins, Turns, Hints, Holds, Returns, Tends}
 use Rattle.nv_core.specs.Stages.{leaving}
 use Rattle.nv_core.specs.Stepped.{begun, fault_of}
-use Rattle.nv_core.specs.Order.{Values, Work, MayWork, IsDue, commit_steps, MayPlace}
+use Rattle.nv_core.specs.Order.{Values, Work, MayWork, IsDue, commit_steps}
+use Rattle.nv_core.specs.StepKinds.{MayPlace}
 use Rattle.nv_core.specs.Core.{Core, changes, changed, with_word, with_number, after_step, after_begin, after_work, worked, stage_worked}
-use Rattle.nv_core.specs.Events.{MayDo, MayFind, MayBegin}
+use Rattle.nv_core.specs.Events.{MayBegin}
+use Rattle.nv_core.proofs.ByKind.{MayDo, MayFind}
 use Rattle.nv_core.specs.Standing.{StandsAt, HasDrawn, IsPage, IsSmall, HasRoom}
 use Rattle.nv_core.specs.Holding.{HoldsLocks}
 use Rattle.nv_core.specs.EntryWords.{IsEntryWord, IsFree, IsFilled, IsBroken, IsReady}

@@ -12,9 +12,11 @@ use Rattle.nv_core.specs.Passes.{Stage, Idle, Locking, Checking, Ordering, Readi
 use Rattle.nv_core.specs.Deeds.{Deed, Takes, Gives, Places, Pledges, Splits, Leaves, Joins, moved, Comes, Stays, patched_by, slot_of, Tends}
 use Rattle.nv_core.specs.Stages.{after_give, exceeds, ending}
 use Rattle.nv_core.specs.Stepped.{begun}
-use Rattle.nv_core.specs.Order.{Values, Work, MayWork, MayGive, MayPlace, IsDue, IsPageRead, SaysOf, SaysPage, page_start, page_bytes, commit_steps, MayTend, MayLeave}
+use Rattle.nv_core.specs.Order.{Values, Work, MayWork, IsDue, IsPageRead, SaysOf, SaysPage, page_start, page_bytes, commit_steps, MayLeave}
+use Rattle.nv_core.specs.StepKinds.{MayGive, MayPlace, MayTend}
 use Rattle.nv_core.specs.Core.{Core, changes, changed, with_word, after_step, after_begin, after_work, worked, stage_worked, fetched_worked, values_given, values_stepped, values_read, values_worked, values_robbed}
-use Rattle.nv_core.specs.Events.{MayFind, MayBegin}
+use Rattle.nv_core.specs.Events.{MayBegin}
+use Rattle.nv_core.proofs.ByKind.{MayFind}
 use Rattle.nv_core.specs.Standing.{StandsAt}
 use Rattle.nv_core.specs.Holding.{HoldsLocks}
 use Rattle.nv_core.specs.Loaded.{SawClean}

@@ -11,9 +11,11 @@ use Rattle.nv_core.specs.Passes.{Stage, Locking, Checking, Copying, Seizing, Com
 use Rattle.nv_core.specs.Deeds.{Deed, slot_of, page_at, ready_word, Loads, Takes, Gives, Places, Stops, Draws, Seizes, Pledges, Readies, Grows, Breaks, Splits, Leaves, Joins, value_after, Turns, Hints, Holds, Returns, Tends}
 use Rattle.nv_core.specs.Stages.{stage_after, after_stop, leaving}
 use Rattle.nv_core.specs.Stepped.{stepped, begun}
-use Rattle.nv_core.specs.Order.{Values, Work, MayWork, IsDue, IsFailing, commit_steps, MayStep}
+use Rattle.nv_core.specs.Order.{Values, Work, MayWork, IsDue, IsFailing, commit_steps}
+use Rattle.nv_core.specs.StepKinds.{MayByKind as MayStep}
 use Rattle.nv_core.specs.Core.{Core, changes, changed, with_word, with_number, after_step, after_begin, after_work, worked, stage_worked}
-use Rattle.nv_core.specs.Events.{MayFind, MayBegin}
+use Rattle.nv_core.specs.Events.{MayBegin}
+use Rattle.nv_core.proofs.ByKind.{MayFind}
 use Rattle.nv_core.specs.Standing.{StandsAt, HasDrawn, IsPage, IsSmall, HasRoom}
 use Rattle.nv_core.specs.LogWindow.{HasUnseized, Fills, LogWindow, InWindow, entry_at}
 use Rattle.nv_core.specs.Sound.{Sound}

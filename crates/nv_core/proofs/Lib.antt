@@ -2,7 +2,8 @@ pub mod Changes
 pub mod LockLaws
 pub mod SearchLaws
 mod Choices
-mod NextSteps
+pub mod NextSteps
+pub mod ByKind
 mod RefusalLaws
 pub mod SweepStages
 pub mod StandingLaws

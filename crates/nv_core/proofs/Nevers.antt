@@ -5,8 +5,8 @@ use Rattle.nv_core.specs.Words.{Word, PAGE, ENTRY, CLEANUP, kind_of, ready, is_e
 use Rattle.nv_core.specs.Passes.{Stage, Seizing, Committing, Pledging, Readying, Placing, WriteFailing, IsUnseized, IsFilling, IsAmong, times, Leaving, Searching, Seeking, Robbing, Cleaning}
 use Rattle.nv_core.specs.Sweeps.{Surveying, Claiming, Withdrawing}
 use Rattle.nv_core.specs.Chores.{after_chore, surveyed, with_page, count_of, may_pass, finishing, withdrawing, syncing, closed, rising_files}
-use Rattle.nv_core.specs.Deeds.{Draws, slot_of}
-use Rattle.nv_core.specs.Order.{MayPlace}
+use Rattle.nv_core.specs.Deeds.{Draws, slot_of, Places, Gives, Readies, Grows, Stops, Seizes, Holds, Breaks}
+use Rattle.nv_core.specs.StepKinds.{MayPlace}
 use Rattle.nv_core.specs.Standing.{StandsAt, HasDrawn, IsPage}
 use Rattle.nv_core.specs.Holding.{HoldsLocks, lock_held, cleanup_held}
 use Rattle.nv_core.proofs.LiveLaws.{writes_apart}
@@ -22,9 +22,11 @@ use Rattle.nv_core.proofs.KeepsWindow.{window_step}
 use Rattle.nv_core.specs.LogWindow.{InWindow, entry_at}
 use Rattle.nv_core.specs.Loaded.{Looks}
 use Rattle.nv_core.proofs.KeepsLocks.{entry_is}
+use Rattle.nv_core.proofs.NextSteps.{next_steps_may_come}
+use Rattle.nv_core.proofs.ByKind.{find_kind}
 
 pub no_place_before_the_fence : NoPlaceBeforeTheFence
-no_place_before_the_fence sizes values pass reply committing may = go pass.stage committing may
+no_place_before_the_fence sizes values pass reply committing may = go pass.stage committing (next_steps_may_come sizes values pass (Places reply) may)
   where
     go : (stage : Stage) → IsCommitting stage → MayPlace sizes values pass reply stage → ⊥
     go (Seizing number) is may = may
@@ -33,7 +35,7 @@ no_place_before_the_fence sizes values pass reply committing may = go pass.stage
     go stage is may = is
 
 pub no_page_before_the_place : NoPageBeforeThePlace
-no_page_before_the_place sizes values pass cell flight may = go pass.stage flight (gives_back pass cell pass.stage may)
+no_page_before_the_place sizes values pass cell flight may = go pass.stage flight (gives_back pass cell pass.stage (next_steps_may_come sizes values pass (Gives cell) may))
   where
     go : (stage : Stage) → IsInFlight stage → IsGivingBack stage → ⊥
     go (Seizing number) is may = may
@@ -49,11 +51,11 @@ stopped_after_a_fault sizes first core by sound some = sound.stop.stays by (soun
 
 pub no_leader_before_a_follower : NoLeaderBeforeAFollower
 no_leader_before_a_follower sizes values pass number may fills =
-    let at = subst (λ s. IsFilling s pass.first pass.entries number) may fills in
+    let at = subst (λ s. IsFilling s pass.first pass.entries number) (next_steps_may_come sizes values pass (Readies pass.first) may) fills in
     elim at [ inl leader ↦ leader | inr none ↦ absurd (let x = none.0 in omega (arith, x)) ]
 
 pub no_growth_before_the_place : NoGrowthBeforeThePlace
-no_growth_before_the_place sizes values pass flight may = subst IsInFlight may flight
+no_growth_before_the_place sizes values pass flight may = subst IsInFlight (next_steps_may_come sizes values pass Grows may) flight
 
 pub no_two_writes_of_a_page : NoTwoWritesOfAPage
 no_two_writes_of_a_page sizes first core one other page sound flight flies here there = elim (cases_eq other one) [
@@ -77,10 +79,11 @@ no_two_writes_of_a_page sizes first core one other page sound flight flies here 
         go stage is held = absurd is
 
 pub no_stop_without_a_fault : NoStopWithoutAFault
-no_stop_without_a_fault sizes first core by sound may = sound.stop.failing by may
+no_stop_without_a_fault sizes first core by sound may = sound.stop.failing by (next_steps_may_come sizes core.values (core.passes by) Stops may)
 
 pub no_seizure_of_a_held_entry : NoSeizureOfAHeldEntry
-no_seizure_of_a_held_entry sizes first core by number sound may =
+no_seizure_of_a_held_entry sizes first core by number sound next =
+    let may = next_steps_may_come sizes core.values (core.passes by) (Seizes number) next in
     let at : HasDrawn sizes (core.passes by).call (core.passes by).entries × IsAmong (core.passes by).first (core.passes by).entries number = subst (StandsAt sizes (core.passes by)) may (sound.standing by).at in
     sound.window.unseized_is by number (subst (λ s. IsUnseized s (core.passes by).first (core.passes by).entries number) (sym may) (omega arith, at.1.1))
 
@@ -93,7 +96,8 @@ no_victim_of_the_call sizes first core by page sound = go (core.passes by).stage
     go stage stands is own = is
 
 pub no_hold_of_an_unready_entry : NoHoldOfAnUnreadyEntry
-no_hold_of_an_unready_entry sizes first core by number sound may =
+no_hold_of_an_unready_entry sizes first core by number sound next =
+    let may = next_steps_may_come sizes core.values (core.passes by) (Holds number) next in
     let looks : InWindow core number × (is_entry_of ready may.0 (entry_at sizes core number) ≡ true) = subst (Looks sizes core) may.1 (sound.loaded.looks by) in
     (entry_is ready may.0 (entry_at sizes core number) looks.1).0
 
@@ -116,7 +120,7 @@ no_other_cleanup sizes first core by other page sound owes held = elim (cases_eq
     has stage owes locks = locks (CLEANUP page) (λ slot. differ (CLEANUP page) (ENTRY slot) refl) ∙ owes
 
 pub no_draw_past_the_end : NoDrawPastTheEnd
-no_draw_past_the_end sizes first core by found sound may = (window_step sizes first by core Draws found sound may).room
+no_draw_past_the_end sizes first core by found sound may = (window_step sizes first by core Draws found sound (find_kind sizes by core Draws found may)).room
 
 pub writes_in_flight_are_apart : WritesInFlightAreApart
 writes_in_flight_are_apart sizes first core one other some sound differs flight flies here there =
@@ -128,7 +132,7 @@ some_fault [] fault is = absurd is
 some_fault (one ∷ rest) fault is = λ e. cc
 
 pub no_break_before_stop : NoBreakBeforeStop
-no_break_before_stop sizes first core by number sound may = sound.stop.stays by (sound.broken.stopped by (some_fault (core.passes by).faulted (fault_of (core.passes by)) (sound.grouped.unready.breaking by number may)))
+no_break_before_stop sizes first core by number sound may = sound.stop.stays by (sound.broken.stopped by (some_fault (core.passes by).faulted (fault_of (core.passes by)) (sound.grouped.unready.breaking by number (next_steps_may_come sizes core.values (core.passes by) (Breaks number) may))))
 
 pub no_broken_before_stop : NoBrokenBeforeStop
 no_broken_before_stop sizes first core number sound within word =

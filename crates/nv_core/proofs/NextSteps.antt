@@ -1,5 +1,5 @@
 -- The order of steps is the table of next steps.
-use Rattle.std.proofs.Common.{◌≡◌, ◌≢◌, ◌⊎◌, ℕ, zero, suc, ◌+◌, ◌-◌, ◌*◌, ◌<◌, ◌≤◌, ◌&&◌, nat_lt, Bool, true, false, if◌then◌else◌, List, [], ◌∷◌, Option, Some, None, inl, inr, refl, sym, ap, subst, ◌∙◌, arith}
+use Rattle.std.proofs.Common.{◌≡◌, ◌⊎◌, ℕ, zero, suc, ◌+◌, ◌-◌, ◌*◌, ◌<◌, ◌≤◌, ◌&&◌, nat_lt, Bool, true, false, if◌then◌else◌, List, [], ◌∷◌, Option, Some, None, inl, inr, refl, sym, ap, subst, ◌∙◌, arith}
 use Rattle.std.specs.Prelude.{option_map}
 use Rattle.std.proofs.lemmas.Bool.{ltb-true, ltb-false, lt-ltb, le-ltb, cases_eq, and_parts, and_from}
 use Rattle.nv_plain.specs.declared.call.Reply.{Reply}
@@ -8,22 +8,23 @@ use Rattle.nv_core.specs.Words.{Sizes, Word, STOP, ORDER, HEAD, TAIL, LENGTH, SI
 use Rattle.nv_core.specs.Values.{lacks_buffer, is_valid}
 use Rattle.nv_core.specs.Passes.{Stage, Idle, Locking, Measuring, Sizing, Checking, Ordering, Reading, Waiting, Fetching, Copying, Returning, Search, Hinting, Seeking, Robbing, Robbed, Nothing, Found, Searching, Bounding, Starting, Scanning, Grasping, Patching, Restoring, Unlocking, Heading, Tailing, Drawing, Seizing, Committing, Pledging, Readying, Placing, Growing, Releasing, Giving, Leaving, ReadFailing, PieceFailing, WriteFailing, Breaking, Pass, file_of, end_read, IsLastTaken, Cleaning}
 use Rattle.nv_core.specs.Sweeps.{Batch, Sweep, Peeking, Carrying, Syncing, Moving, Chore, Enters}
-use Rattle.nv_core.specs.Deeds.{Deed, Loads, Takes, Gives, Places, Stops, Draws, Seizes, Pledges, Readies, Grows, Breaks, Turns, Hints, Holds, Returns, slot_of, Tends}
-use Rattle.nv_core.specs.Order.{Values, gathered, plain_reply, AreValid, IsMissed, IsMiss, JustNow, AfterTries, MayTurn, MayLookUp, MayHint, MayLoad, MayTake, MayGive, MayPlace, MayTend, MayStep, IsFailing, Work, MayWork, IsDue}
+use Rattle.nv_core.specs.Deeds.{Deed, Loads, Takes, Gives, Places, Stops, Draws, Seizes, Pledges, Readies, Grows, Breaks, Turns, Hints, Holds, Returns, Tends}
+use Rattle.nv_core.specs.Order.{Values, gathered, plain_reply, miss, read_on, search_on, is_of_calls, give_last, step_at, next_step, IsEntry, MayStep, IsFailing, IsDue}
+use Rattle.nv_core.specs.StepKinds.{AreValid, IsMiss, JustNow, AfterTries, MayTurn, MayLookUp, MayHint, MayLoad, MayTake, MayGive, MayPlace, MayTend, MayByKind}
 use Rattle.nv_core.specs.Chores.{next_chore}
-use Rattle.nv_core.specs.NextStep.{miss, read_on, search_on, is_of_calls, give_last, step_at, next_step, IsEntry, IsNextStep, StepsAreNext, NextStepsMayCome, NoTwoSteps, NoStepBesideADeviceCall}
+use Rattle.nv_core.specs.NextStep.{StepsAreNext, NextStepsMayCome, NoTwoSteps, NoStepBesideADeviceCall}
 use Rattle.nv_core.proofs.Choices.{if_both, when_true, when_false}
 
 -- ---- what is next may come
 
 abbrev Comes : Sizes → Values → Pass → Option Deed → Type 0
 Comes sizes values pass None = Unit {0}
-Comes sizes values pass (Some deed) = MayStep sizes values pass deed
+Comes sizes values pass (Some deed) = MayByKind sizes values pass deed
 
 module _ (sizes : Sizes) (values : Values) (pass : Pass) where
   -- a page that is missed, after so many tries
-  miss_comes : (page tries : ℕ) → IsMiss sizes values pass page tries → MayStep sizes values pass (miss sizes values page tries)
-  miss_comes page tries is = if_both (MayStep sizes values pass) (lacks_buffer (values (PAGE page)) && nat_lt tries (2 * sizes.buffers)) (Turns page) (Loads (DIRTY page))
+  miss_comes : (page tries : ℕ) → IsMiss sizes values pass page tries → MayByKind sizes values pass (miss sizes values page tries)
+  miss_comes page tries is = if_both (MayByKind sizes values pass) (lacks_buffer (values (PAGE page)) && nat_lt tries (2 * sizes.buffers)) (Turns page) (Loads (DIRTY page))
       (λ so. let both = and_parts (lacks_buffer (values (PAGE page))) (nat_lt tries (2 * sizes.buffers)) so in record { tries = tries; miss = is; lacks = both.0; few = ltb-true tries (2 * sizes.buffers) both.1 })
       (λ not_so. record { tries = tries; miss = is; enough = enough (lacks_buffer (values (PAGE page))) not_so })
     where
@@ -33,10 +34,10 @@ module _ (sizes : Sizes) (values : Values) (pass : Pass) where
 
   -- a read that has looked at the pages from one on up to another
   read_comes : (from page count : ℕ) → pass.stage ≡ Reading from → from ≤ page → AreValid values from page → end_read sizes pass.call pass.length - page ≡ count
-      → MayStep sizes values pass (read_on sizes values pass page count)
+      → MayByKind sizes values pass (read_on sizes values pass page count)
   read_comes from page zero at low valid left =
       subst (λ s. MayPlace sizes values pass (Bytes (gathered sizes values pass)) s) (sym at) (λ p above below. valid p above (omega (arith, left, below)), refl)
-  read_comes from page (suc count) at low valid left = if_both (MayStep sizes values pass) (is_valid (values (PAGE page))) (read_on sizes values pass (page + 1) count) (miss sizes values page 0)
+  read_comes from page (suc count) at low valid left = if_both (MayByKind sizes values pass) (is_valid (values (PAGE page))) (read_on sizes values pass (page + 1) count) (miss sizes values page 0)
       (λ so. read_comes from (page + 1) count at (omega (arith, low)) (more so) (omega (arith, left)))
       (λ not_so. miss_comes page 0 (JustNow from record { stage = at; later = low; within = omega (arith, left); passed = valid; missed = not_so } refl))
     where
@@ -46,11 +47,11 @@ module _ (sizes : Sizes) (values : Values) (pass : Pass) where
         | inr ne ↦ valid p above (omega (arith, below, ne))
       ]
 
-  search_comes : (page tries : ℕ) (search : Search) → pass.stage ≡ Searching page tries search → MayStep sizes values pass (search_on sizes values page tries search)
+  search_comes : (page tries : ℕ) (search : Search) → pass.stage ≡ Searching page tries search → MayByKind sizes values pass (search_on sizes values page tries search)
   search_comes page tries (Hinting buffer) at = record { page = page; tries = tries; is = at }
   search_comes page tries (Seeking buffer victim) at = inr record { page = page; tries = tries; buffer = buffer; is = at }
   search_comes page tries (Robbing buffer victim) at = subst (λ s. MayGive pass (PAGE victim) s) (sym at) refl
-  search_comes page tries (Robbed buffer) at = if_both (MayStep sizes values pass) (lacks_buffer (values (PAGE page))) (miss sizes values page tries) (Hints buffer page)
+  search_comes page tries (Robbed buffer) at = if_both (MayByKind sizes values pass) (lacks_buffer (values (PAGE page))) (miss sizes values page tries) (Hints buffer page)
       (λ so. miss_comes page tries (AfterTries (Robbed buffer) at so)) (λ not_so. record { tries = tries; is = at; has = not_so })
   search_comes page tries Nothing at = miss_comes page tries (AfterTries Nothing at tt)
   search_comes page tries Found at = miss_comes page tries (AfterTries Found at tt)
@@ -106,7 +107,7 @@ module _ (sizes : Sizes) (values : Values) (pass : Pass) where
   comes (Cleaning batch sweep) at = chore_comes batch sweep (next_chore sizes pass.hands batch sweep) at refl
   comes stage at = tt
 
-  enters : (deed : Deed) → IsEntry deed pass.stage → MayStep sizes values pass deed
+  enters : (deed : Deed) → IsEntry deed pass.stage → MayByKind sizes values pass deed
   enters (Tends (Enters most)) is = go pass.stage is
     where
       go : (stage : Stage) → IsEntry (Tends (Enters most)) stage → MayTend sizes pass (Enters most) stage
@@ -232,7 +233,7 @@ module _ (sizes : Sizes) (values : Values) (pass : Pass) where
   hints buffer page may = at_stage (Searching page may.tries (Robbed buffer)) may.is
       ∙ ap Some (when_false (lacks_buffer (values (PAGE page))) (miss sizes values page may.tries) (Hints buffer page) may.has)
 
-  tends : (chore : Chore) (stage : Stage) → pass.stage ≡ stage → MayTend sizes pass chore stage → IsNextStep sizes values pass (Tends chore)
+  tends : (chore : Chore) (stage : Stage) → pass.stage ≡ stage → MayTend sizes pass chore stage → MayStep sizes values pass (Tends chore)
   tends chore (Cleaning batch sweep) at may = inl (at_stage (Cleaning batch sweep) at ∙ ap (option_map (λ c. Tends c)) may)
   tends (Enters most) Idle at may = inr (subst (IsEntry (Tends (Enters most))) (sym at) tt)
   tends chore stage at may = absurd may
@@ -269,10 +270,10 @@ pub no_two_steps : NoTwoSteps
 no_two_steps sizes values pass one other busy may can = same_some one other (sym (next one may) ∙ next other can)
   where
     next : (deed : Deed) → MayStep sizes values pass deed → next_step sizes values pass ≡ Some deed
-    next deed step = elim (steps_are_next sizes values pass deed step) [ inl is ↦ is | inr is ↦ absurd (busy (not_idle deed pass.stage is)) ]
+    next deed step = elim step [ inl is ↦ is | inr is ↦ absurd (busy (not_idle deed pass.stage is)) ]
 
 pub no_step_beside_a_device_call : NoStepBesideADeviceCall
-no_step_beside_a_device_call sizes values pass work deed due may = go pass.stage due.due (steps_are_next sizes values pass deed may)
+no_step_beside_a_device_call sizes values pass work deed due may = go pass.stage due.due may
   where
     none : (one : Deed) → None ≡ Some one → ⊥
     none one e = cc

@@ -11,7 +11,8 @@ use Rattle.nv_core.specs.Order.{Values, Work, MayWork}
 use Rattle.nv_core.specs.Core.{Core, with_word, values_read, values_worked, values_robbed, values_given, values_stepped, changes, changed, made_stepped, ended_stepped, after_step, after_begin}
 use Rattle.nv_core.specs.Standing.{StandsAt}
 use Rattle.nv_core.specs.Holding.{HoldsLocks}
-use Rattle.nv_core.specs.Events.{Event, Act, Begins, Does, Calls, MayDo, MayCome, MayAct, after_act, after_event, after, IsRun, own}
+use Rattle.nv_core.specs.Events.{Event, Act, Begins, Does, Calls, after_act, after_event, after, IsRun, own, MayCome}
+use Rattle.nv_core.proofs.ByKind.{MayDo, MayAct, act_kind}
 use Rattle.nv_core.specs.Opening.{opening}
 use Rattle.nv_core.specs.Sound.{Sound}
 use Rattle.nv_core.specs.Laws.{EventsKeepSound, RunsAreSound}
@@ -119,7 +120,7 @@ act_leaves sizes first by core (Calls work) sound made may = record {
 }
 
 pub events_leave_others : EventsLeaveOthers
-events_leave_others sizes first core event sound may = act_leaves sizes first event.by core event.act sound may.made may.act
+events_leave_others sizes first core event sound may = act_leaves sizes first event.by core event.act sound may.made (act_kind sizes event.by core event.act may.act)
 
 -- ---- what a pass's own events tell
 

@@ -22,7 +22,7 @@ use Rattle.nv_core.specs.Order.{Values}
 use Rattle.nv_core.specs.Standing.{StandsAt, HasDrawn, IsSmall, HasRoom, IsPage}
 use Rattle.nv_core.specs.Holding.{HoldsLocks}
 use Rattle.nv_core.specs.Core.{Core, with_word, after_step}
-use Rattle.nv_core.specs.Events.{MayFind}
+use Rattle.nv_core.proofs.ByKind.{MayFind}
 use Rattle.nv_core.specs.LogWindow.{InWindow, entry_at}
 use Rattle.nv_core.specs.Groups.{Group, Log, with_group, log_stepped, HasGroup, Groups}
 use Rattle.nv_core.specs.Pieces.{page_of_number, Pieces}

@@ -6,7 +6,8 @@ use Rattle.nv_core.specs.Words.{Sizes, Word, SIZE, STORE, is_shut, is_lock, CLEA
 use Rattle.nv_core.specs.Deeds.{Deed}
 use Rattle.nv_core.specs.Order.{Values, Work, MayWork}
 use Rattle.nv_core.specs.Core.{Core, after_step, after_begin, after_work}
-use Rattle.nv_core.specs.Events.{Event, Act, Begins, Does, Calls, MayAct, MayFind, MayBegin, after_act, after_event, after, IsRun}
+use Rattle.nv_core.specs.Events.{Event, Act, Begins, Does, Calls, MayBegin, after_act, after_event, after, IsRun}
+use Rattle.nv_core.proofs.ByKind.{MayAct, MayFind, act_kind}
 use Rattle.nv_core.specs.Opening.{Mount, opening, opening_pass, opening_word}
 use Rattle.nv_core.specs.Sound.{Sound}
 use Rattle.nv_core.specs.Groups.{Log, log_stepped, log_worked}
@@ -142,7 +143,7 @@ sound_act ends sizes first by core (Does deed found) sound made may = sound_step
 sound_act ends sizes first by core (Calls work) sound made may = sound_work ends sizes first by core work sound made may
 
 pub events_keep_sound : GroupsEndReady → EventsKeepSound
-events_keep_sound ends sizes first core event sound may = sound_act ends sizes first event.by core event.act sound may.made may.act
+events_keep_sound ends sizes first core event sound may = sound_act ends sizes first event.by core event.act sound may.made (act_kind sizes event.by core event.act may.act)
 
 -- ---- at opening
 

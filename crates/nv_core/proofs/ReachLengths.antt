@@ -6,7 +6,8 @@ use Rattle.nv_core.specs.Words.{Sizes}
 use Rattle.nv_core.specs.Passes.{Idle, Growing}
 use Rattle.nv_core.specs.Order.{Values}
 use Rattle.nv_core.specs.Core.{Core, after_begin}
-use Rattle.nv_core.specs.Events.{Event, Act, Begins, Does, Calls, MayAct, IsRun, after_act, after_event, after}
+use Rattle.nv_core.specs.Events.{Event, Act, Begins, Does, Calls, IsRun, after_act, after_event, after}
+use Rattle.nv_core.proofs.ByKind.{MayAct, act_kind}
 use Rattle.nv_core.specs.Opening.{opening}
 use Rattle.nv_core.specs.Lengths.{Lengths, LengthsFollowTheHistory}
 use Rattle.nv_core.specs.Sound.{Sound}
@@ -24,7 +25,7 @@ module _ (plain : PlainLaws) (ends : GroupsEndReady) (sizes : Sizes) (first : Va
   runs : (events : List Event) (core : Core) → Sound sizes first core → Lengths sizes files core → IsRun sizes core events → Lengths sizes files (after sizes core events)
   runs [] core sound lengths run = lengths
   runs (event ∷ later) core sound lengths run =
-      runs later (after_event sizes event core) (events_keep_sound ends sizes first core event sound run.0) (acts event.by core event.act sound lengths run.0.made run.0.act) run.1
+      runs later (after_event sizes event core) (events_keep_sound ends sizes first core event sound run.0) (acts event.by core event.act sound lengths run.0.made (act_kind sizes event.by core event.act run.0.act)) run.1
 
 grows_not : Idle ≡ Growing → ⊥
 grows_not e = cc

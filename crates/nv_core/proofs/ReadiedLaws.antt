@@ -12,9 +12,11 @@ use Rattle.nv_core.specs.Passes.{Stage, Idle, Locking, Checking, Copying, Commit
 use Rattle.nv_core.specs.Deeds.{Deed, Seizes, Readies, Breaks, Holds, Returns, Tends, Splits, Leaves, Joins, slot_of, ready_word, page_at, moved, chore_move}
 use Rattle.nv_core.specs.Stages.{stage_after, after_tending}
 use Rattle.nv_core.specs.Stepped.{begun}
-use Rattle.nv_core.specs.Order.{Values, Work, MayWork, IsDue, MayTend, commit_steps}
+use Rattle.nv_core.specs.Order.{Values, Work, MayWork, IsDue, commit_steps}
+use Rattle.nv_core.specs.StepKinds.{MayTend}
 use Rattle.nv_core.specs.Core.{Core, changes, changed, with_word, with_number, after_step, after_begin, after_work, worked, stage_worked}
-use Rattle.nv_core.specs.Events.{MayFind, MayBegin}
+use Rattle.nv_core.specs.Events.{MayBegin}
+use Rattle.nv_core.proofs.ByKind.{MayFind}
 use Rattle.nv_core.specs.Standing.{StandsAt, HasDrawn}
 use Rattle.nv_core.specs.LogWindow.{InWindow, Fills, WasReadied, entry_at}
 use Rattle.nv_core.specs.Sound.{Sound}

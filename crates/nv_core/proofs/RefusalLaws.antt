@@ -1,17 +1,17 @@
 -- Refusals, lengths, searches and batches go by exactly these numbers.
 use Rattle.std.proofs.Common.{◌≡◌, ◌≢◌, ◌⊎◌, ℕ, suc, ◌+◌, ◌*◌, ◌%◌, ◌^◌, ◌<◌, ◌≤◌, ◌==◌, nat_lt, nat_le, not, ◌&&◌, ◌||◌, Bool, true, false, if◌then◌else◌, List, [], ◌∷◌, Some, None, inl, inr, refl, sym, ap, subst, ◌∙◌, arith}
-use Rattle.std.proofs.lemmas.Bool.{ltb-true, ltb-false, lt-ltb, le-ltb, leb-true, leb-false, le-leb, lt-leb, eqb-true, eqb-false, eq-eqb, ne_eqb, cases_Bool, cases_lt, and_parts, and_from, and_left, and_right, or_cases, true≢false}
-use Rattle.nv_plain.specs.declared.call.Reply.{Reply}
+use Rattle.std.proofs.lemmas.Bool.{ltb-true, ltb-false, lt-ltb, le-ltb, leb-true, leb-false, le-leb, lt-leb, eqb-true, eqb-false, eq-eqb, ne_eqb, cases_Bool, and_parts, and_from, and_left, and_right, or_cases, true≢false}
 use Rattle.nv_core.specs.Words.{Sizes, Word, STOP, ORDER, HEAD, TAIL, LENGTH, SIZE, STORE, ENTRY, HINT, PAGE, CLEANUP, DIRTY, kind_of, ready, is_entry_of, is_lock}
 use Rattle.nv_core.specs.Values.{lacks_buffer}
-use Rattle.nv_core.specs.Passes.{Stage, Idle, Locking, Measuring, Sizing, Checking, Ordering, Reading, Waiting, Fetching, Copying, Search, Hinting, Seeking, Robbing, Nothing, Searching, Bounding, Starting, Scanning, Grasping, Unlocking, Heading, Tailing, Drawing, Seizing, Placing, Growing, Leaving, Cleaning, Pass, at_of, len_of, is_write, is_read, page_count, first_page, end_page, IsLastTaken}
-use Rattle.nv_core.specs.Sweeps.{Batch, Withdrawing, Yields}
+use Rattle.nv_core.specs.Passes.{Stage, Locking, Measuring, Sizing, Checking, Ordering, Reading, Waiting, Fetching, Copying, Robbing, Nothing, Searching, Bounding, Starting, Scanning, Grasping, Unlocking, Heading, Tailing, Drawing, Seizing, Placing, Growing, Leaving, Pass, at_of, len_of, is_write, is_read, page_count, first_page, end_page, IsLastTaken}
+use Rattle.nv_core.specs.Sweeps.{Batch, Yields}
 use Rattle.nv_core.specs.Chores.{count_of, may_pass, finishing, surveyed, with_page, last_taken}
-use Rattle.nv_core.specs.Deeds.{Deed, Loads, Takes, Gives, Draws, Turns, Tends, slot_of}
-use Rattle.nv_core.specs.Holding.{is_among}
-use Rattle.nv_core.specs.Stages.{out_of_call, turn, leaving, ending, exceeds, ordered, scanning, tries_of, stage_after, after_load, after_look, after_take, after_page, copying, refused}
-use Rattle.nv_core.specs.Order.{Values, MayStep, MayLoad, MayTake, MayGive, MayTend, IsMiss, JustNow, AfterTries}
-use Rattle.nv_core.specs.Refusals.{IsSearching, IsRefusal, IsAsking, IsExact, RefusalsAreExact, LoadsAreKept, BeginsWith, LastTakenFirst, ReachesPast, LengthsAreExact, SearchesEnd, MayPass, BatchesAreExact}
+use Rattle.nv_core.specs.Deeds.{Deed, Loads, Takes, Gives, Draws, Turns, Tends}
+use Rattle.nv_core.specs.Stages.{out_of_call, turn, leaving, ending, exceeds, ordered, scanning, tries_of, stage_after, after_load, after_look, after_page, copying, refused}
+use Rattle.nv_core.specs.Order.{Values}
+use Rattle.nv_core.specs.StepKinds.{MayLoad, MayTake, MayGive, MayTend, IsMiss, JustNow, AfterTries, MayTurn, MayLookUp}
+use Rattle.nv_core.proofs.NextSteps.{next_steps_may_come}
+use Rattle.nv_core.specs.Refusals.{IsSearching, IsRefusal, IsExact, RefusalsAreExact, LoadsAreKept, BeginsWith, LastTakenFirst, ReachesPast, LengthsAreExact, SearchesEnd, MayPass, BatchesAreExact}
 use Rattle.nv_core.proofs.Choices.{if_both, when_true, when_false}
 
 -- ---- refusals
@@ -87,8 +87,8 @@ take_exact sizes pass (CLEANUP page) found may = decided sizes pass (Takes (CLEA
 take_exact sizes pass cell found may = absurd may
 
 pub refusals_are_exact : RefusalsAreExact
-refusals_are_exact sizes values pass (Loads word) found asks may = load_exact sizes values pass word found may
-refusals_are_exact sizes values pass (Takes cell) found asks may = take_exact sizes pass cell found may
+refusals_are_exact sizes values pass (Loads word) found asks may = load_exact sizes values pass word found (next_steps_may_come sizes values pass (Loads word) may)
+refusals_are_exact sizes values pass (Takes cell) found asks may = take_exact sizes pass cell found (next_steps_may_come sizes values pass (Takes cell) may)
 refusals_are_exact sizes values pass Draws found asks may = decided sizes pass Draws found (found == pass.head) (Seizing found) refl (λ r. ne_eqb found pass.head r) (λ no. eqb-false found pass.head no) (on 4)
 refusals_are_exact sizes values pass deed found asks may = absurd asks
 
@@ -104,8 +104,8 @@ first_is cell (first ∷ rest) is = (rest, ap (λ c. c ∷ rest) is)
 pub last_taken_first : LastTakenFirst
 last_taken_first = record {
   taken = λ cell hands. refl;
-  call = λ sizes values pass cell at may. first_is cell pass.hands (at_leaving pass cell (subst (MayGive pass cell) at may));
-  cleaner = λ sizes values pass batch cell at may. yielded pass.hands cell (subst (MayTend sizes pass (Yields cell)) at may);
+  call = λ sizes values pass cell at may. first_is cell pass.hands (at_leaving pass cell (subst (MayGive pass cell) at (next_steps_may_come sizes values pass (Gives cell) may)));
+  cleaner = λ sizes values pass batch cell at may. yielded pass.hands cell (subst (MayTend sizes pass (Yields cell)) at (next_steps_may_come sizes values pass (Tends (Yields cell)) may));
 }
   where
     at_leaving : (pass : Pass) (cell : Word) → MayGive pass cell Leaving → IsLastTaken cell pass.hands
@@ -156,13 +156,19 @@ tries_are : (sizes : Sizes) (values : Values) (pass : Pass) (page tries : ℕ) �
 tries_are sizes values pass page tries (JustNow from miss none) = ap tries_of miss.stage ∙ sym none
 tries_are sizes values pass page tries (AfterTries search is over) = ap tries_of is
 
+few_made : (sizes : Sizes) (values : Values) (pass : Pass) (page : ℕ) → MayTurn sizes values pass page → tries_of pass.stage < 2 * sizes.buffers
+few_made sizes values pass page may = let few = may.few in let is = tries_are sizes values pass page may.tries may.miss in omega (arith, few, is)
+
+all_made : (sizes : Sizes) (values : Values) (pass : Pass) (page : ℕ) → MayLookUp sizes values pass page → lacks_buffer (values (PAGE page)) ≡ true → 2 * sizes.buffers ≤ tries_of pass.stage
+all_made sizes values pass page may lacks = elim may.enough [
+  | inl has ↦ absurd (true≢false (sym lacks ∙ has))
+  | inr many ↦ let is = tries_are sizes values pass page may.tries may.miss in omega (arith, many, is)
+]
+
 pub searches_end : SearchesEnd
 searches_end = record {
-  few = λ sizes values pass page may. let few = may.few in let is = tries_are sizes values pass page may.tries may.miss in omega (arith, few, is);
-  enough = λ sizes values pass page may lacks. elim may.enough [
-    | inl has ↦ absurd (true≢false (sym lacks ∙ has))
-    | inr many ↦ let is = tries_are sizes values pass page may.tries may.miss in omega (arith, many, is)
-  ];
+  few = λ sizes values pass page may. few_made sizes values pass page (next_steps_may_come sizes values pass (Turns page) may);
+  enough = λ sizes values pass page may lacks. all_made sizes values pass page (next_steps_may_come sizes values pass (Loads (DIRTY page)) may) lacks;
   counted = λ sizes pass page found. refl;
   rises = λ sizes pass page found less. omega (arith, less);
   turns = λ sizes pass page found is. ap (λ n. n % 2 ^ 64) is;

@@ -4,7 +4,7 @@ use Rattle.nv_core.specs.Words.{Sizes, Word, ENTRY, free, broken, kind_of, ready
 use Rattle.nv_core.specs.Deeds.{Holds, Returns, slot_of}
 use Rattle.nv_core.specs.Order.{Values}
 use Rattle.nv_core.specs.Core.{Core, with_word}
-use Rattle.nv_core.specs.Events.{MayFind}
+use Rattle.nv_core.proofs.ByKind.{MayFind}
 use Rattle.nv_core.specs.LogWindow.{InWindow, entry_at}
 use Rattle.nv_core.specs.Loaded.{Looks}
 use Rattle.nv_core.specs.Sound.{Sound}

@@ -5,7 +5,8 @@ use Rattle.nv_core.specs.Passes.{Stage, Locking, Measuring, Reading, Search, Hin
 use Rattle.nv_core.specs.Deeds.{Takes}
 use Rattle.nv_core.specs.Stages.{stage_after, after_load, after_page, refused, hinted, leaving}
 use Rattle.nv_core.specs.Holding.{is_among}
-use Rattle.nv_core.specs.Order.{Values, IsMiss, JustNow, AfterTries, MayTurn, MayLookUp, IsHinting, IsSeeking, MayHint, MayTake}
+use Rattle.nv_core.specs.Order.{Values}
+use Rattle.nv_core.specs.StepKinds.{IsMiss, JustNow, AfterTries, MayTurn, MayLookUp, IsHinting, IsSeeking, MayHint, MayTake}
 
 -- what holds of a read that looks at a page, and of one in its search, holds of one that has missed a page
 pub missed_at : (P : Stage → Type 0) (sizes : Sizes) (values : Values) (pass : Pass) (page tries : ℕ) → ((from : ℕ) → P (Reading from)) → ((search : Search) → P (Searching page tries search))

@@ -14,7 +14,8 @@ use Rattle.nv_core.specs.Stages.{leaving}
 use Rattle.nv_core.specs.Stepped.{begun}
 use Rattle.nv_core.specs.Order.{Values, Work, MayWork, IsDue, SaysPage, SaysOf, commit_steps}
 use Rattle.nv_core.specs.Core.{Core, with_word, changes, changed, after_step, after_begin, after_work, worked, stage_worked, fetched_worked, values_read, values_worked, values_robbed, values_given, values_stepped}
-use Rattle.nv_core.specs.Events.{Act, Begins, Does, Calls, Event, MayDo, MayAct, after_act, after_event, after, IsRun}
+use Rattle.nv_core.specs.Events.{Act, Begins, Does, Calls, Event, after_act, after_event, after, IsRun}
+use Rattle.nv_core.proofs.ByKind.{MayDo, MayAct, act_kind}
 use Rattle.nv_core.specs.Opening.{opening}
 use Rattle.nv_core.specs.Shapes.{IsLong, HasShape, HaveShapes, CellsKeepShapes}
 use Rattle.nv_core.proofs.Changes.{by_word, by_number, number_self}
@@ -214,7 +215,7 @@ shaped_act sizes first by core (Calls work) may is = shaped_work sizes first by 
 shaped_run : (sizes : Sizes) (first : Values) (events : List Event) (core : Core) → IsRun sizes core events → Shaped sizes.page first core → Shaped sizes.page first (after sizes core events)
 shaped_run sizes first [] core run is = is
 shaped_run sizes first (event ∷ later) core run is =
-    shaped_run sizes first later (after_event sizes event core) run.1 (shaped_act sizes first event.by core event.act run.0.act is)
+    shaped_run sizes first later (after_event sizes event core) run.1 (shaped_act sizes first event.by core event.act (act_kind sizes event.by core event.act run.0.act) is)
 
 pub cells_keep_shapes : CellsKeepShapes
 cells_keep_shapes mount events is_mount begin run = (shaped_run mount.sizes mount.values events (opening mount) run (record { shapes = begin; full = λ number. tt })).shapes

@@ -1,11 +1,10 @@
 -- The short walks are runs.
-use Rattle.std.proofs.Common.{◌≡◌, ◌≢◌, ℕ, zero, suc, ◌-◌, ◌^◌, ◌<◌, ◌≤◌, true, false, [], ◌∷◌, ◌++◌, None, replicate, inl, inr, refl, sym, arith}
-use Rattle.std.specs.Prelude.{slice_index}
+use Rattle.std.proofs.Common.{◌≡◌, ℕ, zero, suc, ◌-◌, ◌^◌, ◌<◌, ◌≤◌, [], ◌∷◌, ◌++◌, None, replicate, inl, inr, refl, arith}
 use Rattle.nv_plain.specs.declared.call.FileCall.TheVariants.{Write}
 use Rattle.nv_pmem.specs.Steps.{Store as StoreWord, Flush, Fence, line_stores, durable_store}
 use Rattle.nv_entry.specs.Group.{group_steps, pieces_steps, piece_steps, data_steps, field_steps}
 use Rattle.nv_core.specs.Totals.{total}
-use Rattle.nv_core.specs.Words.{Word, STOP, ORDER, HEAD, TAIL, CLEANER, HEADER, LENGTH, SIZE, STORE, ENTRY, PAGE, CLEANUP, DIRTY, keeps_something}
+use Rattle.nv_core.specs.Words.{STOP, ORDER, HEAD, CLEANER, LENGTH, SIZE, ENTRY, PAGE, DIRTY}
 use Rattle.nv_core.specs.Passes.{AreBytes, IsOneOf}
 use Rattle.nv_core.specs.Opening.{IsMount, opening}
 use Rattle.nv_core.specs.Events.{after}

@@ -5,7 +5,8 @@ use Rattle.nv_core.specs.Words.{Sizes, Word, STOP, ORDER, HEAD, TAIL, LENGTH, SI
 use Rattle.nv_core.specs.Passes.{Stage, Idle, Measuring, Sizing, Checking, Ordering, Reading, Waiting, Fetching, Copying, Returning, Bounding, Starting, Scanning, Grasping, Patching, Restoring, Unlocking, Heading, Tailing, Drawing, Seizing, Committing, Pledging, Readying, Placing, Growing, Releasing, Giving, Leaving, ReadFailing, PieceFailing, WriteFailing, Breaking, Cleaning, Searching, Pass, is_write, is_read, page_count, first_page, end_page, without, Locking}
 use Rattle.nv_core.specs.Deeds.{Deed, Loads, Takes, Gives, Places, Stops, Draws, Seizes, Pledges, Readies, Grows, Breaks, Turns, Hints, Holds, Returns, Tends, slot_of, chore_move, moved}
 use Rattle.nv_core.specs.Stages.{stage_after, after_load, after_give, after_stop, after_head, after_tail, after_look, after_hold, after_return, scanning, leaving, giving, ending, ordered, copying, exceeds}
-use Rattle.nv_core.specs.Order.{Values, MayStep, MayLoad, MayTake, IsFailing}
+use Rattle.nv_core.specs.Order.{Values, IsFailing}
+use Rattle.nv_core.specs.StepKinds.{MayLoad, MayTake, MayByKind as MayStep}
 use Rattle.nv_core.proofs.Choices.{if_both, leaving_both, IsGivingBack, gives_back, page_tried}
 use Rattle.nv_core.proofs.SweepStages.{tended_to}
 use Rattle.nv_core.proofs.SearchLaws.{hinting_next}

@@ -13,7 +13,8 @@ use Rattle.nv_core.specs.Stages.{copying, pursued, stage_after, after_load, afte
 use Rattle.nv_core.specs.Stepped.{stepped, begun}
 use Rattle.nv_core.specs.Values.{Ending, Made, Failed, Refused}
 use Rattle.nv_core.specs.Core.{worked, stage_worked}
-use Rattle.nv_core.specs.Order.{Values, Work, MayWork, IsDue, commit_steps, MayStep, MayLoad, MayTake, IsMiss, JustNow, AfterTries, IsFailing, MayTend}
+use Rattle.nv_core.specs.Order.{Values, Work, MayWork, IsDue, commit_steps, IsFailing}
+use Rattle.nv_core.specs.StepKinds.{MayLoad, MayTake, IsMiss, JustNow, AfterTries, MayTend, MayByKind as MayStep}
 use Rattle.nv_core.specs.Standing.{IsPage, HasDrawn, IsSmall, HasRoom, IsElsewhere, StandsAt, StandsSweeping, Standing, ReadsPage, has_call}
 use Rattle.nv_core.specs.Holding.{is_among}
 use Rattle.nv_core.proofs.Choices.{if_both, when_true, not_both, leaving_both, HasCall, step_idle, IsGivingBack, gives_back}

@@ -11,9 +11,11 @@ use Rattle.nv_core.specs.Passes.{Stage, Locking, Checking, Waiting, Scanning, Gr
 use Rattle.nv_core.specs.Deeds.{Deed, Loads, Takes, Gives, Places, Stops, Draws, Seizes, Pledges, Readies, Grows, Breaks, Turns, Hints, Holds, Returns, Tends, Splits, Leaves, Joins, Move, Stays, Comes, Goes, moved, move_of, chore_move, slot_of, word_of}
 use Rattle.nv_core.specs.Stages.{first_stage}
 use Rattle.nv_core.specs.Stepped.{begun}
-use Rattle.nv_core.specs.Order.{Values, MayStep, MayLoad, MayTake, MayGive, MayTend}
+use Rattle.nv_core.specs.Order.{Values}
+use Rattle.nv_core.specs.StepKinds.{MayLoad, MayTake, MayGive, MayTend, MayByKind as MayStep}
 use Rattle.nv_core.specs.Core.{Core, with_number, changes, changed, after_step, after_begin}
-use Rattle.nv_core.specs.Events.{Event, Act, Begins, Does, Calls, MayDo, MayAct, after_act, after_event, after, IsRun}
+use Rattle.nv_core.specs.Events.{Event, Act, Begins, Does, Calls, after_act, after_event, after, IsRun}
+use Rattle.nv_core.proofs.ByKind.{MayDo, MayAct, act_kind}
 use Rattle.nv_core.specs.Opening.{opening}
 use Rattle.nv_core.specs.Standing.{Standing, StandsAt, IsPage}
 use Rattle.nv_core.specs.Holding.{one_if}
@@ -271,9 +273,9 @@ words_act sizes first by core (Calls work) sound made words may = words_still si
 run_words : EventsKeepSound → (sizes : Sizes) (first : Values) (events : List Event) (core : Core) → Sound sizes first core → HandsAreWords sizes core → IsRun sizes core events
     → Sound sizes first (after sizes core events) × HandsAreWords sizes (after sizes core events)
 run_words keep sizes first [] core sound words run = (sound, words)
-run_words keep sizes first (event ∷ later) core sound words run = run_words keep sizes first later (after_event sizes event core) (keep sizes first core event sound run.0) (words_act sizes first event.by core event.act sound run.0.made words run.0.act) run.1
+run_words keep sizes first (event ∷ later) core sound words run = run_words keep sizes first later (after_event sizes event core) (keep sizes first core event sound run.0) (words_act sizes first event.by core event.act sound run.0.made words (act_kind sizes event.by core event.act run.0.act)) run.1
 
 pub steps_are_on_words : OpeningIsSound → EventsKeepSound → StepsAreOnWords
 steps_are_on_words opens keep mount run by act is_mount is may =
     let there = run_words keep mount.sizes mount.values run (opening mount) (opens mount is_mount) (λ number cell has. absurd (omega (arith, has))) is in
-    act_word mount.sizes mount.values (after mount.sizes (opening mount) run) there.0 by (there.1 by) act may
+    act_word mount.sizes mount.values (after mount.sizes (opening mount) run) there.0 by (there.1 by) act (act_kind mount.sizes by (after mount.sizes (opening mount) run) act may)

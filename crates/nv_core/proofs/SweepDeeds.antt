@@ -9,9 +9,10 @@ use Rattle.nv_core.specs.SweepHolding.{count_in, swept_cleanup}
 use Rattle.nv_core.specs.SweepNumbers.{IsCleaned, IsFreed}
 use Rattle.nv_core.specs.Passes.{Stage, Idle, Cleaning, Pass, times}
 use Rattle.nv_core.specs.Deeds.{Tends}
-use Rattle.nv_core.specs.Order.{Values, MayTend}
+use Rattle.nv_core.specs.Order.{Values}
+use Rattle.nv_core.specs.StepKinds.{MayTend}
 use Rattle.nv_core.specs.Core.{Core}
-use Rattle.nv_core.specs.Events.{MayFind}
+use Rattle.nv_core.proofs.ByKind.{MayFind}
 use Rattle.nv_core.specs.Standing.{StandsAt, StandsSweeping}
 use Rattle.nv_core.specs.Holding.{HoldsLocks}
 use Rattle.nv_core.specs.LogWindow.{InWindow, entry_at}

@@ -9,7 +9,7 @@ use Rattle.nv_core.specs.Passes.{Stage, Idle, Cleaning, Pass}
 use Rattle.nv_core.specs.Stages.{after_tending}
 use Rattle.nv_core.specs.SweepHolding.{count_in}
 use Rattle.nv_core.specs.DirtyCounters.{owed}
-use Rattle.nv_core.specs.Order.{MayTend}
+use Rattle.nv_core.specs.StepKinds.{MayTend}
 use Rattle.nv_core.proofs.Choices.{if_both}
 use Rattle.nv_core.proofs.SweepStages.{tended}
 use Rattle.nv_core.proofs.SweepLocks.{count_take, count_drop, count_all, count_none}

@@ -11,7 +11,7 @@ use Rattle.nv_core.specs.Passes.{Stage, Cleaning}
 use Rattle.nv_core.specs.Deeds.{Tends}
 use Rattle.nv_core.specs.Order.{Values}
 use Rattle.nv_core.specs.Core.{Core}
-use Rattle.nv_core.specs.Events.{MayFind}
+use Rattle.nv_core.proofs.ByKind.{MayFind}
 use Rattle.nv_core.specs.LogWindow.{entry_at}
 use Rattle.nv_core.specs.Sound.{Sound}
 use Rattle.nv_core.proofs.Choices.{if_both}

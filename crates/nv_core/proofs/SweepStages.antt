@@ -8,7 +8,7 @@ use Rattle.nv_core.specs.Sweeps.{Batch, Sweep, Barring, Minding, Footing, Toppin
 use Rattle.nv_core.specs.Chores.{next_chore, after_chore, after_chore_work, new_batch, withdrawing, syncing, discharging, finishing, surveying, surveyed, retreating, each_next, claimed, closed, next_group, with_page, may_pass, rising_files, group_file, holds_store}
 use Rattle.nv_core.specs.Passes.{Stage, Idle, Cleaning, Pass}
 use Rattle.nv_core.specs.Stages.{after_tending}
-use Rattle.nv_core.specs.Order.{MayTend}
+use Rattle.nv_core.specs.StepKinds.{MayTend}
 use Rattle.nv_core.proofs.Choices.{if_both}
 
 -- a cleaner that may make a step is idle, and begins a batch, or it is at its batch, and makes the step that is next

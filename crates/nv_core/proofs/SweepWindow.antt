@@ -12,7 +12,7 @@ use Rattle.nv_core.specs.Deeds.{Tends, moved, chore_move}
 use Rattle.nv_core.specs.Stages.{after_tending}
 use Rattle.nv_core.specs.Order.{Values, Work, IsChoreDue}
 use Rattle.nv_core.specs.Core.{Core, changed, after_step}
-use Rattle.nv_core.specs.Events.{MayFind}
+use Rattle.nv_core.proofs.ByKind.{MayFind}
 use Rattle.nv_core.specs.LogWindow.{InWindow, entry_at}
 use Rattle.nv_core.specs.Progress.{IsFresh, IsUnderWay}
 use Rattle.nv_core.specs.Sound.{Sound}

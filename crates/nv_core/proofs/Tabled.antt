@@ -1,6 +1,6 @@
 -- Tabled: a list of events is a run where the table of next steps has each of its steps, and the words were found so. So a walk is shown by
 -- computing two lists, and what is not computed is shown beside it.
-use Rattle.std.proofs.Common.{◌≡◌, ℕ, zero, suc, ◌+◌, ◌<◌, ◌≤◌, ◌==◌, nat_lt, nat_le, not, ◌&&◌, ◌||◌, Bool, true, false, List, [], ◌∷◌, length, Option, Some, None, inl, inr, ◌⊎◌, refl, sym, ap, subst, ◌∙◌, arith}
+use Rattle.std.proofs.Common.{◌≡◌, ℕ, zero, suc, ◌+◌, ◌==◌, nat_lt, nat_le, not, ◌&&◌, ◌||◌, Bool, true, false, List, [], ◌∷◌, length, Option, Some, inl, inr, ◌⊎◌, refl, sym, ap, subst, ◌∙◌}
 use Rattle.std.specs.Prelude.{slice_index_or}
 use Rattle.std.proofs.lemmas.Bool.{ltb-true, leb-true, eqb-true, and_parts, not-true, eq-eqb, true≢false}
 use Rattle.nv_plain.specs.declared.call.FileCall.{FileCall}
@@ -9,14 +9,13 @@ use Rattle.nv_pmem.specs.RoomSteps.{RoomAfter}
 use Rattle.nv_pmem.specs.Steps.{Step, Fence}
 use Rattle.nv_core.specs.Words.{Sizes, Word, ENTRY}
 use Rattle.nv_core.specs.Spares.{Spares, room_of}
-use Rattle.nv_core.specs.Values.{Value, APart, Bare, AStore, ABuffer, Job, Writes, Reads, Peeks, Carries, Syncs, Ending, Made, Failed, Refused}
+use Rattle.nv_core.specs.Values.{Value, APart, Job, Writes, Ending, Made}
 use Rattle.nv_core.specs.Passes.{Stage, Idle, Committing, Pass, IsOneOf, IsAllowed, times}
-use Rattle.nv_core.specs.Sweeps.{Chore, Enters}
-use Rattle.nv_core.specs.Deeds.{Deed, Loads, Takes, Gives, Places, Stops, Draws, Seizes, Pledges, Readies, Grows, Breaks, Holds, Returns, Turns, Hints, Tends, Splits, Leaves, Joins, slot_of, word_of}
-use Rattle.nv_core.specs.Order.{Work, commit_steps, MayStep, MayWork, MayLeave, IsDue, IsNextCall}
-use Rattle.nv_core.specs.NextStep.{next_step, IsEntry}
+use Rattle.nv_core.specs.Sweeps.{Enters}
+use Rattle.nv_core.specs.Deeds.{Deed, Tends, Splits, Leaves, Joins, slot_of, word_of}
+use Rattle.nv_core.specs.Order.{next_step, IsEntry, Work, commit_steps, MayStep, MayLeave, IsDue, IsNextCall}
 use Rattle.nv_core.specs.Core.{Core, after_begin}
-use Rattle.nv_core.specs.Events.{Act, Begins, Does, Calls, Event, MayDo, MayFind, MayAct, MayCome, IsStaying, IsRun, after_event}
+use Rattle.nv_core.specs.Events.{Act, Begins, Does, Calls, Event, MayDo, MayAct, MayCome, IsStaying, IsRun, after_event}
 use Rattle.nv_core.specs.Walks.{acts, walk_spares}
 use Rattle.nv_core.proofs.NextSteps.{next_steps_may_come}
 use Rattle.nv_core.proofs.WalkRooms.{has_line, stays}
@@ -209,9 +208,9 @@ module _ (sizes : Sizes) (by : ℕ) (core : Core) where
   -- ---- each act
 
   may_do : (one : Core) (deed : Deed) → MayStep sizes one.values (one.passes by) deed → MayDo sizes by one deed
-  may_do one Splits may = absurd may
-  may_do one (Leaves cell) may = absurd may
-  may_do one (Joins number) may = absurd may
+  may_do one Splits may = absurd (next_steps_may_come sizes one.values (one.passes by) Splits may)
+  may_do one (Leaves cell) may = absurd (next_steps_may_come sizes one.values (one.passes by) (Leaves cell) may)
+  may_do one (Joins number) may = absurd (next_steps_may_come sizes one.values (one.passes by) (Joins number) may)
   may_do one deed may = may
 
   stays_out : (deed : Deed) (found : ℕ) → (core.passes by).left ≡ [] → IsStaying (Does deed found) (core.passes by)
@@ -224,7 +223,7 @@ module _ (sizes : Sizes) (by : ℕ) (core : Core) where
   steps_on deed found e =
       let pass = core.passes by in let next = entered deed pass.stage (next_step sizes core.values pass) in let word = core.words (word_of sizes pass deed) in
       come sizes by core (Does deed found) (step_may next deed word found (may_act core by) e) (stays_out deed found) record {
-        may = may_do core deed (next_steps_may_come sizes core.values pass deed (next_or_entry deed pass.stage (next_step sizes core.values pass) (step_next next deed word found (may_act core by) e)));
+        may = may_do core deed (next_or_entry deed pass.stage (next_step sizes core.values pass) (step_next next deed word found (may_act core by) e));
         is = step_found next deed word found (may_act core by) e;
       }
 
@@ -237,7 +236,7 @@ module _ (sizes : Sizes) (by : ℕ) (core : Core) where
       come sizes by core (Begins call deed found) parts.0 (λ none. none) (
         record { idle = idle_is (core.passes by).stage parts.1; allowed = allowed },
         record {
-          may = may_do begun deed (next_steps_may_come sizes begun.values (begun.passes by) deed (inl (step_next next deed word found may e)));
+          may = may_do begun deed (inl (step_next next deed word found may e));
           is = step_found next deed word found may e;
         },
       )

@@ -6,9 +6,9 @@ use Rattle.nv_core.specs.Sweeps.{Batch, Sweep, Barring, Claiming, Storing, Discl
 use Rattle.nv_core.specs.Chores.{chore_word, chore_value, next_chore}
 use Rattle.nv_core.specs.Passes.{Stage, Pass}
 use Rattle.nv_core.specs.Deeds.{Deed, Loads, Takes, Gives, Places, Stops, Draws, Seizes, Pledges, Readies, Grows, Breaks, Turns, Hints, Splits, Leaves, Joins, word_of, value_after, Holds, Returns, Tends}
-use Rattle.nv_core.specs.Order.{MayTake, MayGive, MayTend}
+use Rattle.nv_core.specs.StepKinds.{MayTake, MayGive, MayTend}
 use Rattle.nv_core.specs.Core.{Core, with_word}
-use Rattle.nv_core.specs.Events.{MayFind}
+use Rattle.nv_core.proofs.ByKind.{MayFind}
 use Rattle.nv_core.proofs.Changes.{by_word, word_else, number_self}
 use Rattle.nv_core.proofs.Choices.{if_both, not_both}
 use Rattle.nv_core.proofs.SweepStages.{tended}

@@ -10,7 +10,7 @@ use Rattle.nv_store.specs.Store.{Store}
 use Rattle.nv_core.specs.Words.{STOP, ORDER, HEAD, TAIL, LENGTH, HEADER, STORE, ENTRY, PAGE, CLEANUP}
 use Rattle.nv_core.specs.Values.{Peeks, Carries, Made}
 use Rattle.nv_core.specs.Sweeps.{Enters, Looks, Grabs, Lifts, Cleans}
-use Rattle.nv_core.specs.Deeds.{Loads, Takes, Draws, Seizes, Pledges, Readies, Splits, Tends}
+use Rattle.nv_core.specs.Deeds.{Loads, Takes, Draws, Seizes, Splits, Tends}
 use Rattle.nv_core.specs.Core.{Core}
 use Rattle.nv_core.specs.Events.{Begins, Does, Calls, Event, after, IsRun}
 use Rattle.nv_core.specs.Opening.{opening}

@@ -9,6 +9,7 @@ pub mod Deeds
 pub mod Stages
 pub mod Stepped
 pub mod Order
+pub mod StepKinds
 pub mod NextStep
 pub mod Refusals
 pub mod Core

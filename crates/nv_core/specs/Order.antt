@@ -1,5 +1,5 @@
 -- The order of steps: when a step or a device call of a pass may come.
-use Rattle.std.specs.Prelude.{◌≡◌, ◌⊎◌, ℕ, ◌+◌, ◌-◌, ◌*◌, ◌%◌, ◌<◌, ◌≤◌, ◌==◌, Bool, true, false, if◌then◌else◌, List, [], ◌∷◌, length, slice_index_or, Option, Some, None, option_map}
+use Rattle.std.specs.Prelude.{◌≡◌, ◌⊎◌, ℕ, ◌+◌, ◌-◌, ◌*◌, ◌%◌, ◌<◌, ◌≤◌, ◌==◌, Bool, true, false, if◌then◌else◌, List, [], ◌∷◌, length, slice_index_or, Option, Some, None, option_map, zero, suc, nat_lt, ◌&&◌}
 use Rattle.std.specs.List.{flat_map, range_with_len}
 use Rattle.nv_plain.specs.Faults.{Rose}
 use Rattle.nv_plain.specs.Files.{bytes_at, padded}
@@ -20,10 +20,10 @@ use Rattle.nv_entry.specs.Group.{group_steps}
 use Rattle.nv_core.specs.Words.{Sizes, Word, STOP, ORDER, HEAD, TAIL, LENGTH, SIZE, STORE, ENTRY, HINT, PAGE, CLEANUP, DIRTY, HEADER}
 use Rattle.nv_core.specs.Spares.{Spares, room_of}
 use Rattle.nv_core.specs.Values.{Value, APart, AStore, Job, Writes, Reads, Peeks, Ending, Made, Failed, lacks_buffer, is_valid, bytes_in, Carries, Syncs, Refused}
-use Rattle.nv_core.specs.Passes.{Stage, Locking, Measuring, Sizing, Checking, Ordering, Reading, Waiting, Fetching, Copying, Returning, Search, Hinting, Seeking, Robbing, Robbed, Nothing, Found, Searching, Bounding, Starting, Scanning, Grasping, Patching, Restoring, Unlocking, Heading, Tailing, Drawing, Seizing, Committing, Pledging, Readying, Placing, Growing, Releasing, Giving, Leaving, ReadFailing, PieceFailing, WriteFailing, Breaking, Pass, file_of, at_of, covered, end_read, first_page, IsLastTaken, times, Idle, Cleaning}
+use Rattle.nv_core.specs.Passes.{Stage, Locking, Measuring, Sizing, Checking, Ordering, Reading, Waiting, Fetching, Copying, Returning, Search, Hinting, Seeking, Robbing, Robbed, Searching, Bounding, Starting, Scanning, Grasping, Patching, Restoring, Unlocking, Heading, Tailing, Drawing, Seizing, Committing, Pledging, Readying, Placing, Growing, Releasing, Giving, Leaving, ReadFailing, PieceFailing, WriteFailing, Breaking, Pass, file_of, at_of, covered, end_read, first_page, times, Idle, Cleaning}
 use Rattle.nv_core.specs.Deeds.{Deed, Loads, Takes, Gives, Places, Stops, Draws, Seizes, Pledges, Readies, Grows, Breaks, Turns, Hints, Holds, Returns, slot_of, Tends}
 use Rattle.nv_header.specs.HeaderSteps.{tail_steps}
-use Rattle.nv_core.specs.Sweeps.{Batch, Sweep, Peeking, Carrying, Syncing, Moving, Chore, Enters}
+use Rattle.nv_core.specs.Sweeps.{Batch, Sweep, Peeking, Carrying, Syncing, Moving, Enters}
 use Rattle.nv_core.specs.Chores.{group_file, next_chore}
 
 -- what the cells keep, by their words
@@ -45,110 +45,90 @@ gathered sizes values pass =
     bytes_at (page_bytes pass.fetched values (first_page sizes pass.call + i)) (piece.at % sizes.page) piece.size)
     (range_with_len 0 (end_read sizes pass.call pass.length - first_page sizes pass.call))
 
--- the pages of a read from one on, below another, have buffers that count
-abbrev pub AreValid : Values → (from end : ℕ) → Type 0
-AreValid values from end = (page : ℕ) → from ≤ page → page < end → is_valid (values (PAGE page)) ≡ true
-
 -- what a call that reads no page is answered
 abbrev pub plain_reply : FileCall → Reply
 plain_reply (Read file at len) = Bytes []
 plain_reply (Write file at bytes) = Count (length bytes)
 plain_reply (Sync file) = Done
 
--- the reply with which a call may take its place
-abbrev pub MayPlace : Sizes → Values → Pass → Reply → Stage → Type 0
-MayPlace sizes values pass reply Placing = reply ≡ plain_reply pass.call
-MayPlace sizes values pass reply (Reading page) =
-    AreValid values page (end_read sizes pass.call pass.length) × (reply ≡ Bytes (gathered sizes values pass))
-MayPlace sizes values pass reply stage = ⊥
-
 -- ---- steps
 
--- a read looks next at a page whose buffer doesn't count
-pub record IsMissed (sizes : Sizes) (values : Values) (pass : Pass) (page from : ℕ) : Type 0 where
-  pub stage : pass.stage ≡ Reading from
-  pub later : from ≤ page
-  pub within : page < end_read sizes pass.call pass.length
-  pub passed : AreValid values from page
-  pub missed : is_valid (values (PAGE page)) ≡ false
+-- a page that is missed: another try, where it has no buffer and there were fewer than two for each buffer of the mount; else its DIRTY
+abbrev pub miss : Sizes → Values → (page tries : ℕ) → Deed
+miss sizes values page tries = if lacks_buffer (values (PAGE page)) && nat_lt tries (2 * sizes.buffers) then Turns page else Loads (DIRTY page)
 
--- a try of a search is over, and none is under way
-abbrev pub IsOver : Value → Search → Type 0
-IsOver value (Robbed buffer) = lacks_buffer value ≡ true
-IsOver value Nothing = Unit {0}
-IsOver value Found = Unit {0}
-IsOver value search = ⊥
+-- the first of so many pages, from one on, whose buffer doesn't count is missed; where all do, the read takes its place
+abbrev pub read_on : Sizes → Values → Pass → (page count : ℕ) → Deed
+read_on sizes values pass page zero = Places (Bytes (gathered sizes values pass))
+read_on sizes values pass page (suc count) = if is_valid (values (PAGE page)) then read_on sizes values pass (page + 1) count else miss sizes values page 0
 
--- a read has missed a page: just now, or it has made so many tries of its search
-pub data IsMiss (sizes : Sizes) (values : Values) (pass : Pass) (page tries : ℕ) : Type 0 where
-  JustNow : (from : ℕ) → IsMissed sizes values pass page from → tries ≡ 0 → IsMiss sizes values pass page tries
-  AfterTries : (search : Search) → pass.stage ≡ Searching page tries search → IsOver (values (PAGE page)) search → IsMiss sizes values pass page tries
+-- a try of a search goes on, and the page is missed again where it is over
+abbrev pub search_on : Sizes → Values → (page tries : ℕ) → Search → Deed
+search_on sizes values page tries (Hinting buffer) = Loads (HINT buffer)
+search_on sizes values page tries (Seeking buffer victim) = Takes (PAGE victim)
+search_on sizes values page tries (Robbing buffer victim) = Gives (PAGE victim)
+search_on sizes values page tries (Robbed buffer) = if lacks_buffer (values (PAGE page)) then miss sizes values page tries else Hints buffer page
+search_on sizes values page tries search = miss sizes values page tries
 
--- A try may begin where the page has no buffer, and there were fewer than two for each buffer of the mount.
-pub record MayTurn (sizes : Sizes) (values : Values) (pass : Pass) (page : ℕ) : Type 0 where
-  pub tries : ℕ
-  pub miss : IsMiss sizes values pass page tries
-  pub lacks : lacks_buffer (values (PAGE page)) ≡ true
-  pub few : tries < 2 * sizes.buffers
+-- a call that is refused gives back what it took last, of the locks that calls take
+abbrev pub is_of_calls : Word → Bool
+is_of_calls (SIZE file) = true
+is_of_calls (STORE file) = true
+is_of_calls (PAGE page) = true
+is_of_calls (CLEANUP page) = true
+is_of_calls cell = false
 
--- Else the page's DIRTY is loaded.
-pub record MayLookUp (sizes : Sizes) (values : Values) (pass : Pass) (page : ℕ) : Type 0 where
-  pub tries : ℕ
-  pub miss : IsMiss sizes values pass page tries
-  pub enough : (lacks_buffer (values (PAGE page)) ≡ false) ⊎ (2 * sizes.buffers ≤ tries)
+abbrev pub give_last : (hands : List Word) → Option Deed
+give_last [] = None
+give_last (cell ∷ rest) = if is_of_calls cell then Some (Gives cell) else None
 
--- the HINT of a try's buffer is loaded next
-pub record IsHinting (stage : Stage) (buffer : ℕ) : Type 0 where
-  pub page : ℕ
-  pub tries : ℕ
-  pub is : stage ≡ Searching page tries (Hinting buffer)
+-- The step of a pass that stands so; none where a device call is next, or where it is idle.
+abbrev pub step_at : Sizes → Values → Pass → Stage → Option Deed
+step_at sizes values pass (Locking page) = Some (Takes (PAGE page))
+step_at sizes values pass Measuring = Some (Loads (LENGTH (file_of pass.call)))
+step_at sizes values pass Sizing = Some (Takes (SIZE (file_of pass.call)))
+step_at sizes values pass Checking = Some (Loads STOP)
+step_at sizes values pass Ordering = Some (Loads ORDER)
+step_at sizes values pass (Reading page) = Some (read_on sizes values pass page (end_read sizes pass.call pass.length - page))
+step_at sizes values pass (Searching page tries search) = Some (search_on sizes values page tries search)
+step_at sizes values pass (Waiting page) = Some (Takes (CLEANUP page))
+step_at sizes values pass (Fetching page dirty) = Some (Takes (STORE (file_of pass.call)))
+step_at sizes values pass (Returning page dirty) = Some (Gives (STORE (file_of pass.call)))
+step_at sizes values pass (Bounding page) = Some (Loads HEAD)
+step_at sizes values pass (Starting page) = Some (Loads TAIL)
+step_at sizes values pass (Scanning page number) = Some (Loads (ENTRY (slot_of sizes number)))
+step_at sizes values pass (Grasping page number) = Some (Holds number)
+step_at sizes values pass (Restoring page number failed) = Some (Returns number)
+step_at sizes values pass (Unlocking page) = Some (Gives (CLEANUP page))
+step_at sizes values pass Heading = Some (Loads HEAD)
+step_at sizes values pass Tailing = Some (Loads TAIL)
+step_at sizes values pass Drawing = Some Draws
+step_at sizes values pass (Seizing number) = Some (Seizes number)
+step_at sizes values pass (Pledging page) = Some (Pledges page)
+step_at sizes values pass (Readying number) = Some (Readies number)
+step_at sizes values pass Placing = Some (Places (plain_reply pass.call))
+step_at sizes values pass Growing = Some Grows
+step_at sizes values pass Releasing = Some (Gives (SIZE (file_of pass.call)))
+step_at sizes values pass (Giving page) = Some (Gives (PAGE page))
+step_at sizes values pass Leaving = give_last pass.hands
+step_at sizes values pass (ReadFailing page dirty) = Some Stops
+step_at sizes values pass (PieceFailing page number) = Some Stops
+step_at sizes values pass WriteFailing = Some Stops
+step_at sizes values pass (Breaking number) = Some (Breaks number)
+step_at sizes values pass (Cleaning batch sweep) = option_map (λ chore. Tends chore) (next_chore sizes pass.hands batch sweep)
+step_at sizes values pass stage = None
 
--- its victim is tried next
-pub record IsSeeking (stage : Stage) (victim : ℕ) : Type 0 where
-  pub page : ℕ
-  pub tries : ℕ
-  pub buffer : ℕ
-  pub is : stage ≡ Searching page tries (Seeking buffer victim)
+abbrev pub next_step : Sizes → Values → Pass → Option Deed
+next_step sizes values pass = step_at sizes values pass pass.stage
 
--- A HINT may be set where its page has just got the buffer.
-pub record MayHint (values : Values) (stage : Stage) (buffer page : ℕ) : Type 0 where
-  pub tries : ℕ
-  pub is : stage ≡ Searching page tries (Robbed buffer)
-  pub has : lacks_buffer (values (PAGE page)) ≡ false
+-- An idle pass may begin a batch, of any size.
+abbrev pub IsEntry : Deed → Stage → Type 0
+IsEntry (Tends (Enters most)) Idle = Unit {0}
+IsEntry deed stage = ⊥
 
--- a word may be loaded
-abbrev pub MayLoad : Sizes → Values → Pass → Word → Type 0
-MayLoad sizes values pass (LENGTH file) = (pass.stage ≡ Measuring) × (file ≡ file_of pass.call)
-MayLoad sizes values pass STOP = pass.stage ≡ Checking
-MayLoad sizes values pass ORDER = pass.stage ≡ Ordering
-MayLoad sizes values pass HEAD = (pass.stage ≡ Heading) ⊎ ((page : ℕ) × (pass.stage ≡ Bounding page))
-MayLoad sizes values pass TAIL = (pass.stage ≡ Tailing) ⊎ ((page : ℕ) × (pass.stage ≡ Starting page))
-MayLoad sizes values pass (ENTRY slot) = (page number : ℕ) × (pass.stage ≡ Scanning page number) × (slot ≡ slot_of sizes number)
-MayLoad sizes values pass (DIRTY page) = MayLookUp sizes values pass page
-MayLoad sizes values pass (HINT buffer) = IsHinting pass.stage buffer
-MayLoad sizes values pass word = ⊥
-
--- a lock may be tried: a page also as a victim
-abbrev pub MayTake : Pass → Word → Type 0
-MayTake pass (PAGE page) = (pass.stage ≡ Locking page) ⊎ IsSeeking pass.stage page
-MayTake pass (SIZE file) = (pass.stage ≡ Sizing) × (file ≡ file_of pass.call)
-MayTake pass (STORE file) = (page : ℕ) × (dirty : Bool) × (pass.stage ≡ Fetching page dirty) × (file ≡ file_of pass.call)
-MayTake pass (CLEANUP page) = pass.stage ≡ Waiting page
-MayTake pass word = ⊥
-
--- a lock may be given back: by a call that has its place, by one that has read its store or all pieces of a page or robbed a victim, or else
--- in the reverse order of taking
-abbrev pub MayGive : Pass → Word → Stage → Type 0
-MayGive pass (SIZE file) Releasing = file ≡ file_of pass.call
-MayGive pass (PAGE page) (Giving next) = page ≡ next
-MayGive pass (STORE file) (Returning page dirty) = file ≡ file_of pass.call
-MayGive pass (CLEANUP page) (Unlocking next) = page ≡ next
-MayGive pass (PAGE page) (Searching missed tries (Robbing buffer victim)) = page ≡ victim
-MayGive pass (SIZE file) Leaving = IsLastTaken (SIZE file) pass.hands
-MayGive pass (PAGE page) Leaving = IsLastTaken (PAGE page) pass.hands
-MayGive pass (STORE file) Leaving = IsLastTaken (STORE file) pass.hands
-MayGive pass (CLEANUP page) Leaving = IsLastTaken (CLEANUP page) pass.hands
-MayGive pass word stage = ⊥
+-- A step may come where it is the next one, or where an idle pass begins a batch by it.
+abbrev pub MayStep : Sizes → Values → Pass → Deed → Type 0
+MayStep sizes values pass deed = (next_step sizes values pass ≡ Some deed) ⊎ IsEntry deed pass.stage
 
 -- a device has failed
 abbrev pub IsFailing : Stage → Type 0
@@ -156,32 +136,6 @@ IsFailing (ReadFailing page dirty) = Unit {0}
 IsFailing (PieceFailing page number) = Unit {0}
 IsFailing WriteFailing = Unit {0}
 IsFailing stage = ⊥
-
--- a cleaner may make this step: an idle pass may begin a batch, and one that is at its batch makes the step that is next
-abbrev pub MayTend : Sizes → Pass → Chore → Stage → Type 0
-MayTend sizes pass chore (Cleaning batch sweep) = next_chore sizes pass.hands batch sweep ≡ Some chore
-MayTend sizes pass (Enters most) Idle = Unit {0}
-MayTend sizes pass chore stage = ⊥
-
--- a step may come
-abbrev pub MayStep : Sizes → Values → Pass → Deed → Type 0
-MayStep sizes values pass (Loads word) = MayLoad sizes values pass word
-MayStep sizes values pass (Takes cell) = MayTake pass cell
-MayStep sizes values pass (Gives cell) = MayGive pass cell pass.stage
-MayStep sizes values pass (Places reply) = MayPlace sizes values pass reply pass.stage
-MayStep sizes values pass Stops = IsFailing pass.stage
-MayStep sizes values pass Draws = pass.stage ≡ Drawing
-MayStep sizes values pass (Seizes number) = pass.stage ≡ Seizing number
-MayStep sizes values pass (Pledges page) = pass.stage ≡ Pledging page
-MayStep sizes values pass (Readies number) = pass.stage ≡ Readying number
-MayStep sizes values pass Grows = pass.stage ≡ Growing
-MayStep sizes values pass (Breaks number) = pass.stage ≡ Breaking number
-MayStep sizes values pass (Tends chore) = MayTend sizes pass chore pass.stage
-MayStep sizes values pass (Holds number) = (page : ℕ) × (pass.stage ≡ Grasping page number)
-MayStep sizes values pass (Returns number) = (page : ℕ) × (failed : Bool) × (pass.stage ≡ Restoring page number failed)
-MayStep sizes values pass (Turns page) = MayTurn sizes values pass page
-MayStep sizes values pass (Hints buffer page) = MayHint values pass.stage buffer page
-MayStep sizes values pass _ = ⊥
 
 -- ---- device calls
 

@@ -6,7 +6,7 @@ use Rattle.nv_plain.specs.declared.call.FileCall.{FileCall}
 use Rattle.nv_plain.specs.declared.call.FileCall.TheVariants.{Read, Write, Sync}
 use Rattle.nv_plain.specs.declared.call.Reply.TheVariants.{Bytes, Count, Done}
 use Rattle.nv_pmem.specs.Steps.{Store as StoreWord, Flush, Fence}
-use Rattle.nv_core.specs.Words.{Sizes, Word, STOP, ORDER, HEAD, TAIL, HAND, CLEANER, HEADER, LENGTH, SIZE, STORE, ENTRY, HINT, PAGE, CLEANUP, DIRTY}
+use Rattle.nv_core.specs.Words.{Sizes, Word, STOP, ORDER, HEAD, TAIL, CLEANER, HEADER, LENGTH, SIZE, STORE, ENTRY, HINT, PAGE, CLEANUP, DIRTY}
 use Rattle.nv_core.specs.Values.{APart, AStore, Job, Writes, Reads, Peeks, Carries, Syncs, Ending, Made, Failed, Refused}
 use Rattle.nv_core.specs.Sweeps.{Chore, Enters, Looks, Grabs, Yields, Lifts, Drops, Cleans, Subtracts, Frees, Retires, Halts}
 use Rattle.nv_core.specs.Deeds.{Deed, Loads, Takes, Gives, Places, Stops, Draws, Seizes, Pledges, Readies, Grows, Breaks, Holds, Returns, Turns, Hints, Tends, Splits, Leaves, Joins}

@@ -2,9 +2,9 @@ ghost use Rattle.nv_core.specs.NextStep.{NextStepsMayCome, NoStepBesideADeviceCa
 ghost use Rattle.nv_core.specs.Refusals.{BatchesAreExact, LastTakenFirst, LengthsAreExact, LoadsAreKept, RefusalsAreExact, SearchesEnd};
 ghost use Rattle.nv_core.specs.ShortWalks.{ShortWalks};
 
-/// The order of steps is one table: a step may come exactly where the table has it as the next one, by where its pass stands, or where
-/// an idle pass begins a batch by it. So no pass may ever make one of two steps, but the batch that it begins is of any size, and none
-/// where a device call is due.
+/// The order of steps is one table, of the step that is next by where a pass stands. It is the same as the order by the kinds of step: a
+/// step may come where the table has it, or where an idle pass begins a batch by it, and that is exactly where it may by its kind. So
+/// no pass may ever make one of two steps, but the batch that it begins is of any size, and none where a device call is due.
 pub fn steps_follow_one_table()
     ensures next { StepsAreNext }
     ensures come { NextStepsMayCome }

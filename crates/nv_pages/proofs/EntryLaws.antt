@@ -18,8 +18,10 @@ use Rattle.nv_core.specs.Loaded.{Looks}
 use Rattle.nv_core.specs.LogWindow.{InWindow, entry_at}
 use Rattle.nv_core.specs.Sound.{Sound}
 use Rattle.nv_core.proofs.SparesLaws.{spares_tell}
+use Rattle.nv_core.proofs.NextSteps.{next_steps_may_come}
 use Rattle.nv_table.specs.Kept.{present, part_value}
 use Rattle.nv_table.specs.Layout.{cell_of}
+use Rattle.nv_table.specs.Acts.{values_before, pass_before}
 use Rattle.nv_table.specs.Changes.{changed}
 use Rattle.nv_table.specs.Opened.{Opened}
 use Rattle.nv_table.specs.Ready.{IsReady}
@@ -67,7 +69,7 @@ module _ (board : BoardState) (pass : PassState) (entry number : ℕ) (of : IsOf
 
 module _ (pass : PassState) (number at : ℕ) (there : place pass.sight.opened.sizes (ENTRY (slot_of pass.sight.opened.sizes number)) ≡ at) where
   abbrev pub hold_ready : IsDue pass None (Holds number) → IsReady pass None (Holds number) at (changed (Add 1))
-  hold_ready due = record {
+  hold_ready due = let by_kind = next_steps_may_come pass.sight.opened.sizes (values_before pass.sight due.works) (pass_before pass.sight None due.works) (Holds number) due.may in record {
     works = due.works;
     next = record {
       due = due.due;
@@ -75,13 +77,13 @@ module _ (pass : PassState) (number at : ℕ) (there : place pass.sight.opened.s
       may = due.may;
       staying = due.staying;
       word = there;
-      value = λ core sound made is low. held_next pass.sight.opened.sizes _ core pass.sight.number due.may.0 number sound (ap (λ (p : Pass). p.stage) is ∙ due.may.1) low;
+      value = λ core sound made is low. held_next pass.sight.opened.sizes _ core pass.sight.number by_kind.0 number sound (ap (λ (p : Pass). p.stage) is ∙ by_kind.1) low;
     };
     holds = due.holds;
   }
 
   abbrev pub return_ready : IsDue pass None (Returns number) → IsReady pass None (Returns number) at (changed (Subtract 1))
-  return_ready due = record {
+  return_ready due = let by_kind = next_steps_may_come pass.sight.opened.sizes (values_before pass.sight due.works) (pass_before pass.sight None due.works) (Returns number) due.may in record {
     works = due.works;
     next = record {
       due = due.due;
@@ -89,7 +91,7 @@ module _ (pass : PassState) (number at : ℕ) (there : place pass.sight.opened.s
       may = due.may;
       staying = due.staying;
       word = there;
-      value = λ core sound made is low. returned_next pass.sight.opened.sizes _ core pass.sight.number due.may.0 number sound due.may.1 (ap (λ (p : Pass). p.stage) is ∙ due.may.2) low;
+      value = λ core sound made is low. returned_next pass.sight.opened.sizes _ core pass.sight.number by_kind.0 number sound by_kind.1 (ap (λ (p : Pass). p.stage) is ∙ by_kind.2) low;
     };
     holds = due.holds;
   }

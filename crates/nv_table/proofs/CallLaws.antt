@@ -8,10 +8,11 @@ use Rattle.nv_core.specs.Words.{Sizes, STOP, ORDER, PAGE}
 use Rattle.nv_core.specs.Values.{Value}
 use Rattle.nv_core.specs.Passes.{Stage, Pass, IsAllowed, Idle, Locking, Ordering, Releasing, Growing, Placing, is_write}
 use Rattle.nv_core.specs.Deeds.{Deed, Stays, Comes, Loads, Takes, move_of, moved}
-use Rattle.nv_core.specs.Order.{Values, Work, MayStep, IsDue as IsWorkDue, MayPlace}
+use Rattle.nv_core.specs.Order.{Values, Work, MayStep, IsDue as IsWorkDue}
+use Rattle.nv_core.specs.StepKinds.{MayPlace}
 use Rattle.nv_core.specs.Stages.{stage_after, first_stage, after_page, refused, leaving, ordered, exceeds, giving, ending}
 use Rattle.nv_core.specs.Stepped.{stepped, left_after}
-use Rattle.nv_table.specs.Acts.{AreDue, with_call, pass_before}
+use Rattle.nv_table.specs.Acts.{AreDue, with_call, pass_before, values_before}
 use Rattle.nv_table.specs.Between.{IsStill, IsSplit, IsTakenIn}
 use Rattle.nv_table.specs.Idle.{IsIdle, IsLater}
 use Rattle.nv_table.specs.Opened.{Opened, state_of}
@@ -21,6 +22,7 @@ use Rattle.nv_table.specs.Sights.{Sight, newcomer, pass_of, values_of, made_of, 
 use Rattle.nv_table.specs.States.{PassState}
 use Rattle.nv_table.specs.Turns.{IsDue, load_deed, place_deed, reply_at}
 use Rattle.nv_table.proofs.CarryLaws.{slot_here, carried_all}
+use Rattle.nv_core.proofs.NextSteps.{steps_are_next}
 
 -- ---- slots of no cell
 
@@ -133,7 +135,7 @@ sync_due pass file known idle = record {
   works = [];
   due = tt;
   begins = record { idle = idle.stage; allowed = record { known = known; near = omega arith; short = omega arith; bytes = tt } };
-  may = refl;
+  may = inl refl;
   staying = idle.left;
   holds = bare_carries pass _ (idle_bare pass idle);
 }
@@ -160,7 +162,7 @@ order_due pass call at = record {
   works = [];
   due = tt;
   begins = tt;
-  may = subst (λ stage. MayStep pass.sight.opened.sizes (values_of pass.sight) (pass_of pass.sight) (load_deed stage ORDER)) (sym at.stands) at.stands;
+  may = subst (λ stage. MayStep pass.sight.opened.sizes (values_of pass.sight) (pass_of pass.sight) (load_deed stage ORDER)) (sym at.stands) (steps_are_next pass.sight.opened.sizes (values_of pass.sight) (pass_of pass.sight) (Loads ORDER) at.stands);
   staying = at.bare.left;
   holds = bare_carries pass _ at.bare;
 }
@@ -193,7 +195,7 @@ place_due pass call at = record {
   works = [];
   due = tt;
   begins = tt;
-  may = may at.stands;
+  may = steps_are_next pass.sight.opened.sizes (values_of pass.sight) (pass_of pass.sight) (place_deed pass.sight) (may at.stands);
   staying = at.bare.left;
   holds = bare_carries pass _ at.bare;
 }
@@ -232,7 +234,7 @@ page_due pass call page allowed first idle = record {
   works = [];
   due = tt;
   begins = record { idle = idle.stage; allowed = allowed };
-  may = inl first;
+  may = steps_are_next pass.sight.opened.sizes (values_before pass.sight []) (pass_before pass.sight (Some call) []) (Takes (PAGE page)) (inl first);
   staying = idle.left;
   holds = bare_carries pass _ (idle_bare pass idle);
 }

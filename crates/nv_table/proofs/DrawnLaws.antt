@@ -23,6 +23,7 @@ use Rattle.nv_table.specs.declared.acting.Change.TheVariants.{Exchange}
 use Rattle.nv_table.specs.declared.stepping.Marks.{Marks}
 use Rattle.nv_table.specs.declared.stepping.Marks.TheVariants.{Draws as DrawsNumbers}
 use Rattle.nv_table.proofs.Held.{if_both}
+use Rattle.nv_core.proofs.NextSteps.{next_steps_may_come}
 
 -- device calls leave all of a pass that none of them changes
 pub calls_leave : {T : Type 0} (f : Pass → T) → ((sizes : Sizes) (work : Work) (pass : Pass) → f (worked sizes work pass) ≡ f pass)
@@ -84,8 +85,8 @@ module _ (sizes : Sizes) (number : ℕ) (history : List Answered) (found : ℕ) 
   -- a call begins with neither a draw nor a fault
   begins : (call : FileCall) (values : Values) (before : Pass) (deed : Deed) → MayStep sizes values (begun sizes call before) deed
       → Marked (marks_of (Some call) deed) change found (drawn_of pass) (lost_of pass.faulted) (stepped sizes number history deed found (begun sizes call pass))
-  begins call values before Draws may = absurd (if_both (λ (s : Stage). s ≡ Drawing → ⊥) (page_count sizes call == 0) Checking (Locking (first_page sizes call)) (λ e. cc) (λ e. cc) may)
-  begins call values before Stops may = absurd (if_both (λ (s : Stage). IsFailing s → ⊥) (page_count sizes call == 0) Checking (Locking (first_page sizes call)) (λ e. e) (λ e. e) may)
+  begins call values before Draws may = absurd (if_both (λ (s : Stage). s ≡ Drawing → ⊥) (page_count sizes call == 0) Checking (Locking (first_page sizes call)) (λ e. cc) (λ e. cc) (next_steps_may_come sizes values (begun sizes call before) Draws may))
+  begins call values before Stops may = absurd (if_both (λ (s : Stage). IsFailing s → ⊥) (page_count sizes call == 0) Checking (Locking (first_page sizes call)) (λ e. e) (λ e. e) (next_steps_may_come sizes values (begun sizes call before) Stops may))
   begins call values before deed may = record { drawn_is = refl; lost_is = refl }
 
 -- A step tells so, where it might come after some device calls.

@@ -4,12 +4,14 @@ use Rattle.nv_core.specs.Words.{Sizes, Word, ENTRY}
 use Rattle.nv_core.specs.Sweeps.{Setting, Dropping, Undoing, Chore, Enters, Grabs, Yields, Drops, Cleans}
 use Rattle.nv_core.specs.Passes.{Stage, Readying, Breaking, Cleaning, Pass, IsFilling, IsHeld, times}
 use Rattle.nv_core.specs.Deeds.{Deed, Takes, Gives, Readies, Breaks, Returns, Tends, Move, Stays, Comes, Goes, slot_of, move_of, chore_move}
-use Rattle.nv_core.specs.Order.{Values, MayStep, MayTend}
+use Rattle.nv_core.specs.Order.{Values, MayStep}
+use Rattle.nv_core.specs.StepKinds.{MayTend, MayByKind}
 use Rattle.nv_core.specs.Standing.{Standing, StandsAt}
 use Rattle.nv_core.specs.Holding.{Holding, HoldsLocks}
 use Rattle.nv_core.proofs.KeepsLocks.{given_held, readying_next}
 use Rattle.nv_core.proofs.SweepLocks.{yields_held}
 use Rattle.nv_core.proofs.SweepDeeds.{IsTending, IsDropping, Drops_it, Undoes_it, tending}
+use Rattle.nv_core.proofs.NextSteps.{next_steps_may_come}
 
 -- what holds of both branches holds of the choice
 pub if_both : {T : Type 0} (P : T → Type 0) (b : Bool) (one other : T) → P one → P other → P (if b then one else other)
@@ -72,14 +74,17 @@ module _ (sizes : Sizes) (pass : Pass) (holds : Holding sizes pass) (stands : St
   chore_held (Cleans number) found may = holds_one number (cleaned number may)
   chore_held chore found may = tt
 
-  pub goes_held : (values : Values) (deed : Deed) (found : ℕ) → MayStep sizes values pass deed → IsInHands (move_of sizes deed found) pass.hands
-  goes_held values (Takes cell) found may = if_both (λ m. IsInHands m pass.hands) (found == 0) (Comes cell) Stays tt tt
-  goes_held values (Gives cell) found may = given_held sizes pass cell pass.stage stands.at holds.locks may
-  goes_held values (Readies number) found may =
+  by_kind : (values : Values) (deed : Deed) (found : ℕ) → MayByKind sizes values pass deed → IsInHands (move_of sizes deed found) pass.hands
+  by_kind values (Takes cell) found may = if_both (λ m. IsInHands m pass.hands) (found == 0) (Comes cell) Stays tt tt
+  by_kind values (Gives cell) found may = given_held sizes pass cell pass.stage stands.at holds.locks may
+  by_kind values (Readies number) found may =
       fills_one number (subst (λ s. IsFilling s pass.first pass.entries number) (sym may) (readying_next pass.first pass.entries number (stands_at (Readying number) may).1))
-  goes_held values (Breaks number) found may =
+  by_kind values (Breaks number) found may =
       let among = (stands_at (Breaking number) may).1 in
       fills_one number (subst (λ s. IsFilling s pass.first pass.entries number) (sym may) (omega arith, among.1))
-  goes_held values (Returns number) found may = holds_one number (subst (λ s. IsHeld s number) (sym may.2) refl)
-  goes_held values (Tends chore) found may = chore_held chore found may
-  goes_held values deed found may = tt
+  by_kind values (Returns number) found may = holds_one number (subst (λ s. IsHeld s number) (sym may.2) refl)
+  by_kind values (Tends chore) found may = chore_held chore found may
+  by_kind values deed found may = tt
+
+  pub goes_held : (values : Values) (deed : Deed) (found : ℕ) → MayStep sizes values pass deed → IsInHands (move_of sizes deed found) pass.hands
+  goes_held values deed found may = by_kind values deed found (next_steps_may_come sizes values pass deed may)

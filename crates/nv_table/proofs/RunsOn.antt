@@ -19,6 +19,7 @@ use Rattle.nv_core.proofs.Reach.{sound_begin}
 use Rattle.nv_table.specs.Opened.{Opened, mount_of, IsRunOf, state_of}
 use Rattle.nv_table.specs.Acts.{AreDue, pass_worked, values_after, act_of, with_call, MayOpen}
 use Rattle.nv_table.specs.CoreLaws.{CoreLaws}
+use Rattle.nv_core.proofs.NextSteps.{next_steps_may_come}
 
 -- ---- what runs lead to
 
@@ -146,9 +147,9 @@ IsPlain (Joins number) = ⊥
 IsPlain deed = Unit {0}
 
 pub is_plain : (sizes : Sizes) (values : Values) (pass : Pass) (deed : Deed) → MayStep sizes values pass deed → IsPlain deed
-is_plain sizes values pass Splits may = absurd may
-is_plain sizes values pass (Leaves cell) may = absurd may
-is_plain sizes values pass (Joins number) may = absurd may
+is_plain sizes values pass Splits may = absurd (next_steps_may_come sizes values pass Splits may)
+is_plain sizes values pass (Leaves cell) may = absurd (next_steps_may_come sizes values pass (Leaves cell) may)
+is_plain sizes values pass (Joins number) may = absurd (next_steps_may_come sizes values pass (Joins number) may)
 is_plain sizes values pass deed may = tt
 
 -- what it changes

@@ -10,7 +10,8 @@ use Rattle.nv_core.specs.Words.{Sizes, Word, ORDER, SIZE, STORE, PAGE, CLEANUP, 
 use Rattle.nv_core.specs.Passes.{Stage, Pass, Cleaning}
 use Rattle.nv_core.specs.Sweeps.{Grabs}
 use Rattle.nv_core.specs.Deeds.{Deed, Takes, Tends, word_of, value_after}
-use Rattle.nv_core.specs.Order.{Work, MayStep, MayTake}
+use Rattle.nv_core.specs.Order.{Work, MayStep}
+use Rattle.nv_core.specs.StepKinds.{MayTake, MayByKind}
 use Rattle.nv_core.specs.Core.{Core, after_work, after_begin}
 use Rattle.nv_core.specs.Events.{MayAct, after}
 use Rattle.nv_core.specs.Opening.{IsMount, opening}
@@ -29,6 +30,7 @@ use Rattle.nv_table.specs.Turns.{IsDue, IsLoad, IsTake, IsPlaced, give_deed, pla
 use Rattle.nv_table.proofs.DrawnLaws.{calls_leave}
 use Rattle.nv_table.proofs.LayoutLaws.{at_page, word_there}
 use Rattle.nv_table.proofs.RunsOn.{calls}
+use Rattle.nv_core.proofs.NextSteps.{next_steps_may_come}
 
 -- ---- places
 
@@ -111,8 +113,10 @@ ready pass opens deed word value at change due on there fits =
 -- ---- locks
 
 may_be : (pass : PassState) (opens : Option FileCall) (deed is : Deed) → deed ≡ is → (due : IsDue pass opens deed)
-    → MayStep pass.sight.opened.sizes (values_before pass.sight due.works) (pass_before pass.sight opens due.works) is
-may_be pass opens deed is e due = subst (MayStep pass.sight.opened.sizes (values_before pass.sight due.works) (pass_before pass.sight opens due.works)) e due.may
+    → MayByKind pass.sight.opened.sizes (values_before pass.sight due.works) (pass_before pass.sight opens due.works) is
+may_be pass opens deed is e due =
+    let values = values_before pass.sight due.works in let before = pass_before pass.sight opens due.works in
+    subst (MayByKind pass.sight.opened.sizes values before) e (next_steps_may_come pass.sight.opened.sizes values before deed due.may)
 
 taken_lock : (pass : Pass) (cell : Word) → MayTake pass cell → is_lock cell ≡ true
 taken_lock pass (PAGE page) may = refl

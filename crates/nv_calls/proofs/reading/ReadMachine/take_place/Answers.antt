@@ -6,8 +6,11 @@ use Rattle.nv_calls.specs.Ends.{GivesFrom}
 use Rattle.nv_calls.proofs.ArmLaws.{at_stage, arm}
 use Rattle.nv_calls.proofs.EndLaws.{gives_same}
 use Rattle.nv_calls.proofs.OnwardLaws.{first_of}
-use Rattle.nv_calls.proofs.PlaceLaws.{place_is, place_sized, place_unsized}
+use Rattle.nv_calls.proofs.PlaceLaws.{place_due, place_is, place_sized, place_unsized}
 use Rattle.nv_calls.proofs.reading.ReadMachine.take_place.Goals as goal
+
+pub place-requires-clause-due : goal.place-requires-clause-due
+place-requires-clause-due g c = place_due _ _ _ _ _ (at_stage c.requires.way.1 c.requires.stage)
 
 pub returns-then-self-clause-advance : goal.returns-then-self-clause-advance
 returns-then-self-clause-advance g c =

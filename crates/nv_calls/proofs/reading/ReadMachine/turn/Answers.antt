@@ -4,9 +4,12 @@ use Rattle.nv_core.specs.Words.{Sizes}
 use Rattle.nv_calls.specs.declared.machine.Progress.TheVariants.{More}
 use Rattle.nv_calls.specs.declared.reading.ReadStage.TheVariants.{Hints}
 use Rattle.nv_calls.specs.Reads.{ReadGoes}
-use Rattle.nv_calls.proofs.ArmLaws.{arm}
-use Rattle.nv_calls.proofs.SearchLaws.{turn_next}
+use Rattle.nv_calls.proofs.ArmLaws.{at_stage, arm}
+use Rattle.nv_calls.proofs.SearchLaws.{turn_due, turn_next}
 use Rattle.nv_calls.proofs.reading.ReadMachine.turn.Goals as goal
+
+pub turn_hand-found-requires-clause-due : goal.turn_hand-found-requires-clause-due
+turn_hand-found-requires-clause-due g c = turn_due _ _ _ _ _ _ _ (at_stage c.requires.way.1 c.requires.stage)
 
 pub returns-clause-advance : goal.returns-clause-advance
 returns-clause-advance g c =
