@@ -19,7 +19,10 @@ ghost use Rattle.nv_mount.specs.OneHistories.{HasOneHistory};
 ghost use Rattle.nv_mount.specs.Telling.{AllTell, StoresHave};
 
 use crate::Fds;
-use nv_core::{passes_are_left_alone, regions_at_rest_open, runs_are_sound, runs_keep_content, runs_keep_the_log};
+use nv_core::{
+    passes_are_left_alone, regions_at_rest_open, runs_are_sound, runs_keep_content,
+    runs_keep_the_log,
+};
 use nv_header::Region;
 use nv_pmem::{Lines, rows_have_states};
 use nv_store::{Backing, StoreFault};

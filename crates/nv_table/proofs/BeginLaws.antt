@@ -48,7 +48,7 @@ first_pass opened held room mount none places = record {
   mount = mount;
   run = tt;
   known = knows_nothing opened;
-  keeper = λ zero_is. record { made_is = refl; seated = refl; few = omega arith; taken = refl; count = refl };
+  keeper = λ zero_is. record { made_is = refl; seated = refl; few = omega arith; taken = record { same = refl; made = λ past one. absurd one; behind = λ past one. absurd one }; count = refl };
   within = λ slot more. refl;
   each = λ slot less. refl;
   written = sym none;

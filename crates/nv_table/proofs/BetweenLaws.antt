@@ -1,5 +1,5 @@
 -- Between: what is so of a pass after the making, the putting back and the taking in of passes.
-use Rattle.std.proofs.Common.{◌≡◌, ◌≢◌, ℕ, ◌+◌, ◌-◌, ◌<◌, ◌≤◌, ◌^◌, true, List, [], ◌∷◌, ◌++◌, length, take, drop, map, inl, inr, refl, sym, ap, subst, ◌∙◌, arith}
+use Rattle.std.proofs.Common.{◌≡◌, ◌≢◌, ℕ, ◌+◌, ◌-◌, ◌<◌, ◌≤◌, ◌^◌, true, List, [], ◌∷◌, ◌++◌, length, take, drop, map, inl, inr, refl, sym, ap, ap₂, subst, ◌∙◌, arith, append_assoc}
 use Rattle.std.specs.Prelude.{Option, Some, None}
 use Rattle.std.proofs.lemmas.Bool.{cases_eq}
 use Rattle.std.proofs.lemmas.List.{length-append, length-map}
@@ -10,6 +10,7 @@ use Rattle.nv_core.specs.Values.{Value}
 use Rattle.nv_core.specs.Passes.{Pass, IsOneOf, times}
 use Rattle.nv_core.specs.Deeds.{Deed, Splits, Leaves, Joins}
 use Rattle.nv_core.specs.Order.{Values}
+use Rattle.nv_core.specs.OneHistory.{Begins as IsBegun}
 use Rattle.nv_core.specs.Core.{Core, ended_stepped, after_begin, newcomer}
 use Rattle.nv_core.specs.Events.{Act, Begins, Does, Calls, Event, MayDo, MayAct, after_act, after_event, after, IsRun}
 use Rattle.nv_core.specs.Laws.{RunsAreSound}
@@ -21,9 +22,9 @@ use Rattle.nv_table.specs.Between.{IsStill, PutsBack, IsTakenIn}
 use Rattle.nv_table.specs.Drawn.{lost_of, drawn_of}
 use Rattle.nv_table.specs.Layout.{slot_total, slot_of, cell_of}
 use Rattle.nv_table.specs.Opened.{Opened, mount_of, IsRunOf, state_of}
-use Rattle.nv_table.specs.Passing.{IsKeeper, IsPass}
+use Rattle.nv_table.specs.Passing.{IsKeeper, KnowsTaken, IsPass}
 use Rattle.nv_table.specs.Seats.{parent, child, past_of, heard, joined, Passed, MayLeave, Left, MayJoin}
-use Rattle.nv_table.specs.Sights.{SeesAll, Sight, Past, pass_of, values_of, made_of, ended_of, carried, numbers, slot_times, AreDistinct, Carries, Knows}
+use Rattle.nv_table.specs.Sights.{SeesAll, Sight, Past, pass_of, values_of, made_of, ended_of, carried, slot_times, AreDistinct, Carries, Knows}
 use Rattle.nv_table.specs.States.{PassState, shown_in}
 use Rattle.nv_table.proofs.CarryLaws.{carried_none, carries_some}
 use Rattle.nv_table.proofs.Counting.{few_there}
@@ -32,7 +33,25 @@ use Rattle.nv_table.proofs.LayoutLaws.{slot_there, cell_there}
 use Rattle.nv_table.proofs.LeftLaws.{hands_are_words}
 use Rattle.nv_table.proofs.SightLaws.{sees_self}
 use Rattle.nv_table.proofs.StepLaws.{carries_held, carries_shown}
+use Rattle.nv_table.proofs.TakenLaws.{knows_on, knows_joined}
 use Rattle.nv_table.proofs.TurnLaws.{first_slot}
+
+-- ---- what pass 0 knows of those that it took in, after a step between passes by which it took in none
+
+passed_begins : (old new : Sight) (deed : Deed) (found : ℕ) → (passed : Passed old deed found new)
+    → IsBegun old.run (passed.run ++ record { by = old.number; act = Does deed found } ∷ [])
+passed_begins old new deed found passed = (
+  passed.knew.all.rest ++ record { by = old.number; act = Does deed found } ∷ [],
+  ap (λ run. run ++ record { by = old.number; act = Does deed found } ∷ []) passed.knew.all.goes_on ∙ append_assoc old.run passed.knew.all.rest _,
+)
+
+passed_taken : (old new : Sight) (deed : Deed) (found : ℕ) → Passed old deed found new → KnowsTaken old → (then_ : Sight) → then_.opened ≡ new.opened → then_.ended ≡ new.ended → then_.run ≡ new.run
+    → ended_of new ≡ ended_of old → KnowsTaken then_
+passed_taken old new deed found passed knows then_ opened ended run same =
+    knows_on old new.run knows (subst (λ (v : Sight). IsRunOf old.opened v.run) (sym passed.is) passed.is_run)
+    (subst (λ (v : Sight). IsBegun old.run v.run) (sym passed.is) (passed_begins old new deed found passed))
+    then_ (opened ∙ ap (λ (v : Sight). v.opened) passed.is) (ended ∙ ap (λ (v : Sight). v.ended) passed.is) run
+    (ap₂ (λ (o : Opened) (events : List Event). (state_of o events).ended) opened run ∙ same)
 
 -- ---- a pass after a step between passes, whatever pass 0 then keeps of the others
 
@@ -70,7 +89,7 @@ heard_pass sight other slots number made count held room is = record {
   mount = is.mount;
   run = is.run;
   known = let k = is.known in record { mount = k.mount; all = k.all; made = k.made; there = k.there };
-  keeper = λ zero. (let k = is.keeper zero in record { made_is = k.made_is; seated = k.seated; few = k.few; taken = k.taken; count = k.count });
+  keeper = λ zero. (let k = is.keeper zero in record { made_is = k.made_is; seated = k.seated; few = k.few; taken = record { same = k.taken.same; made = k.taken.made; behind = k.taken.behind }; count = k.count });
   within = is.within;
   each = is.each;
   written = is.written;
@@ -102,7 +121,7 @@ module _ {S : Type 0} {drawn lost : Option ℕ} (old middle : Sight) (found : �
         made_is = made_then;
         seated = made_then;
         few = few;
-        taken = passed.ended zero_is ∙ keeper.taken ∙ sym (ap (λ (v : Sight). numbers v.ended) passed.is);
+        taken = passed_taken old middle Splits found passed keeper.taken (parent middle) refl refl refl (passed.ended zero_is);
         count = keeper.count ∙ sym (ap (λ (v : Sight). length v.ended) passed.is);
       })
       is.within (λ slot less. is.each slot less ∙ sym (ap (λ p. times (cell_of old.opened.sizes slot) (carried p)) passed.pass)) is.written is.roomy is.drawn_is is.lost_is
@@ -221,7 +240,7 @@ module _ {S : Type 0} (shown : S → Value) (old new : Me S Sight) (found : ℕ)
         made_is = left.passed.made zero ∙ keeper.made_is;
         seated = ap (λ (v : Sight). v.seated) left.passed.is ∙ keeper.seated;
         few = keeper.few;
-        taken = left.passed.ended zero ∙ keeper.taken ∙ sym (ap (λ (v : Sight). numbers v.ended) left.passed.is);
+        taken = passed_taken old.0 new.0 (Leaves (cell_of old.0.opened.sizes (first_slot old.1))) found left.passed keeper.taken new.0 refl refl refl (left.passed.ended zero);
         count = keeper.count ∙ sym (ap (λ (v : Sight). length v.ended) left.passed.is);
       }))
       (λ slot more. ap (slot_times slot) slots_then ∙ rest_times slot old.1 (is.within slot more))
@@ -242,6 +261,10 @@ puts_number (first ∷ others) old new back = puts_number others back.0 new back
 pub puts_opened : (cells : List (Word × ℕ)) (old new : Sight) → PutsBack cells old new → new.opened ≡ old.opened
 puts_opened [] old new back = ap (λ (v : Sight). v.opened) back
 puts_opened (first ∷ others) old new back = puts_opened others back.0 new back.2 ∙ ap (λ (v : Sight). v.opened) back.1.is
+
+pub puts_hands : (cells : List (Word × ℕ)) (old new : Sight) → PutsBack cells old new → (pass_of new).hands ≡ (pass_of old).hands
+puts_hands [] old new back = ap (λ (v : Sight). (pass_of v).hands) back
+puts_hands (first ∷ others) old new back = puts_hands others back.0 new back.2 ∙ ap (λ (p : Pass). p.hands) back.1.pass
 
 -- pass 0 then knows of as many passes, and of the same that it took in
 pub puts_made : (cells : List (Word × ℕ)) (old new : Sight) → PutsBack cells old new → old.number ≡ 0 → made_of new ≡ made_of old
@@ -314,20 +337,23 @@ few_taken sound sight slots number made joined held room is zero_is =
     let keeper = is.keeper zero_is in
     let few = few_there (ended_of sight) (made_of sight) (distinct_run sight.opened.sizes (opening (mount_of sight.opened)) sight.run is.run tt)
     (sound (mount_of sight.opened) sight.run is.mount is.run).numbers.ended in
-    let many = ap length keeper.taken ∙ length-map sight.ended (λ (past : Past). past.number) in
+    let many = ap length keeper.taken.same ∙ length-map sight.ended (λ (past : Past). past.number) in
     omega (arith, few, many, keeper.count, keeper.made_is)
 
 -- ---- a pass is taken in
 
 pub joined_pass : {S : Type 0} {drawn lost : Option ℕ} (old last new : Sight) (found : ℕ) (slots : List (ℕ × S)) (number made count : ℕ) (held : List ℕ) (room : ℕ)
-    → IsPass old slots number made count held room drawn lost → Passed (joined old last) (Joins last.number) found new → IsPass new slots number made (count + 1) held room drawn lost
-joined_pass old last new found slots number made count held room is passed =
+    → IsPass old slots number made count held room drawn lost → Passed (joined old last) (Joins last.number) found new
+    → last.opened ≡ old.opened → last.number ≤ (state_of last.opened last.run).made → SeesAll last.number last.run new.run → IsPass new slots number made (count + 1) held room drawn lost
+joined_pass old last new found slots number made count held room is passed same_mount last_made all =
     pass_then (joined old last) new (Joins last.number) found passed is.live number is.number_is is.mount new.seated new.ended slots made (count + 1) held room
     (λ zero. (let keeper = is.keeper zero in record {
       made_is = passed.made zero ∙ keeper.made_is;
       seated = ap (λ (v : Sight). v.seated) passed.is ∙ keeper.seated;
       few = keeper.few;
-      taken = passed.ended zero ∙ ap (λ (l : List ℕ). last.number ∷ l) keeper.taken ∙ sym (ap (λ (v : Sight). numbers v.ended) passed.is);
+      taken = knows_joined old new.run keeper.taken (subst (λ (v : Sight). IsRunOf old.opened v.run) (sym passed.is) passed.is_run)
+          (subst (λ (v : Sight). IsBegun old.run v.run) (sym passed.is) (passed_begins (joined old last) new (Joins last.number) found passed))
+          new last (ap (λ (v : Sight). v.opened) passed.is) same_mount (ap (λ (v : Sight). v.ended) passed.is) refl (passed.ended zero) last_made all;
       count = ap (λ n. n + 1) keeper.count ∙ more old.ended ∙ sym (ap (λ (v : Sight). length v.ended) passed.is);
     }))
     is.within (λ slot less. is.each slot less ∙ sym (ap (λ p. times (cell_of old.opened.sizes slot) (carried p)) passed.pass)) is.written is.roomy is.drawn_is is.lost_is
@@ -344,7 +370,7 @@ pub may_join : {S : Type 0} {drawn lost : Option ℕ} (old last now : Sight) (sl
     → now ≡ joined old last → old.number ≡ 0 → (pass_of old).left ≡ [] → MayJoin now (last_taken now.ended) (drop 1 now.ended)
 may_join old last now slots number made count held room is now_is zero_is staying =
     subst (λ (v : Sight). MayJoin v (last_taken v.ended) (drop 1 v.ended)) (sym now_is)
-    record { zero = zero_is; staying = staying; last = refl; fresh = (is.keeper zero_is).taken }
+    record { zero = zero_is; staying = staying; last = refl; fresh = (is.keeper zero_is).taken.same }
 
 pub passed_in : (old last now new : Sight) (found : ℕ) → now ≡ joined old last → Passed now (Joins (last_taken now.ended).number) found new → Passed (joined old last) (Joins last.number) found new
 passed_in old last now new found now_is passed = subst (λ (v : Sight). Passed v (Joins (last_taken v.ended).number) found new) now_is passed

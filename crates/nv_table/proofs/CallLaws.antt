@@ -1,12 +1,12 @@
 -- Calls: when the steps of a call that takes no lock are due, and what the pass is after each.
-use Rattle.std.proofs.Common.{◌≡◌, ◌≢◌, ℕ, ◌+◌, ◌<◌, ◌≤◌, ◌^◌, ◌&&◌, false, if◌then◌else◌, List, [], ◌∷◌, length, inl, refl, sym, ap, subst, ◌∙◌, arith, eq-eqb, ne_eqb}
+use Rattle.std.proofs.Common.{◌≡◌, ◌≢◌, ℕ, ◌+◌, ◌<◌, ◌≤◌, ◌^◌, ◌&&◌, false, if◌then◌else◌, List, [], ◌∷◌, length, inl, inr, refl, sym, ap, subst, ◌∙◌, arith, eq-eqb, ne_eqb}
 use Rattle.std.specs.Prelude.{Option, Some, None}
 use Rattle.std.proofs.lemmas.Bool.{lt-ltb, le-ltb}
 use Rattle.nv_plain.specs.declared.call.FileCall.{FileCall}
 use Rattle.nv_plain.specs.declared.call.FileCall.TheVariants.{Sync}
 use Rattle.nv_core.specs.Words.{Sizes, STOP, ORDER, PAGE}
 use Rattle.nv_core.specs.Values.{Value}
-use Rattle.nv_core.specs.Passes.{Stage, Pass, IsAllowed, Idle, Locking, Ordering, Releasing, Growing, Placing, is_write}
+use Rattle.nv_core.specs.Passes.{Stage, Pass, IsAllowed, IsOneOf, Idle, Locking, Ordering, Releasing, Growing, Placing, is_write}
 use Rattle.nv_core.specs.Deeds.{Deed, Stays, Comes, Loads, Takes, move_of, moved}
 use Rattle.nv_core.specs.Order.{Values, Work, MayStep, IsDue as IsWorkDue}
 use Rattle.nv_core.specs.StepKinds.{MayPlace}
@@ -14,13 +14,14 @@ use Rattle.nv_core.specs.Stages.{stage_after, first_stage, after_page, refused, 
 use Rattle.nv_core.specs.Stepped.{stepped, left_after}
 use Rattle.nv_table.specs.Acts.{AreDue, with_call, pass_before, values_before}
 use Rattle.nv_table.specs.Between.{IsStill, IsSplit, IsTakenIn}
-use Rattle.nv_table.specs.Idle.{IsIdle, IsLater}
+use Rattle.nv_table.specs.Idle.{TakenHoldNothing, IsIdle, IsLater}
 use Rattle.nv_table.specs.Opened.{Opened, state_of}
 use Rattle.nv_table.specs.Ready.{Stepped}
-use Rattle.nv_table.specs.Seats.{parent, past_of}
-use Rattle.nv_table.specs.Sights.{Sight, newcomer, pass_of, values_of, made_of, carried, Carries}
-use Rattle.nv_table.specs.States.{PassState}
+use Rattle.nv_table.specs.Seats.{parent, past_of, joined}
+use Rattle.nv_table.specs.Sights.{Past, Sight, newcomer, pass_of, past_pass, values_of, made_of, carried, Carries}
+use Rattle.nv_table.specs.States.{BoardState, PassState, IsOf}
 use Rattle.nv_table.specs.Turns.{IsDue, load_deed, place_deed, reply_at}
+use Rattle.nv_table.proofs.BetweenLaws.{puts_opened, puts_hands}
 use Rattle.nv_table.proofs.CarryLaws.{slot_here, carried_all}
 use Rattle.nv_core.proofs.NextSteps.{steps_are_next}
 
@@ -44,17 +45,23 @@ carries_no_cell sizes shown kept = record {
 
 -- ---- a pass that has nothing in its hands
 
--- its hands are empty, and it has put nothing back
+-- its hands are empty, it has put nothing back, and those that it took in hold nothing
 pub record IsBare (pass : PassState) : Type 0 where
   pub hands : (pass_of pass.sight).hands ≡ []
   pub left : (pass_of pass.sight).left ≡ []
   pub nothing : pass.now ≡ []
+  pub taken : TakenHoldNothing pass.sight
 
-idle_bare : (pass : PassState) → IsIdle pass → IsBare pass
-idle_bare pass idle = record { hands = idle.hands; left = idle.left; nothing = idle.nothing }
+pub idle_bare : (pass : PassState) → IsIdle pass → IsBare pass
+idle_bare pass idle = record { hands = idle.hands; left = idle.left; nothing = idle.nothing; taken = idle.taken }
 
-idle_of : (pass : PassState) → (pass_of pass.sight).stage ≡ Idle → IsBare pass → IsIdle pass
-idle_of pass stage bare = record { stage = stage; hands = bare.hands; left = bare.left; nothing = bare.nothing }
+pub idle_of : (pass : PassState) → (pass_of pass.sight).stage ≡ Idle → IsBare pass → IsIdle pass
+idle_of pass stage bare = record { stage = stage; hands = bare.hands; left = bare.left; nothing = bare.nothing; taken = bare.taken }
+
+-- a pass that took in the same passes of the same mount
+pub taken_same : (old new : Sight) → new.opened ≡ old.opened → new.ended ≡ old.ended → TakenHoldNothing old → TakenHoldNothing new
+taken_same old new opened ended taken past one =
+    ap (λ (o : Opened). (past_pass o past).hands) opened ∙ taken past (subst (λ (pasts : List Past). IsOneOf pasts past) ended one)
 
 bare_carried : (pass : PassState) → IsBare pass → carried (pass_of pass.sight) ≡ []
 bare_carried pass bare = carried_all (pass_of pass.sight) bare.left ∙ bare.hands
@@ -114,6 +121,7 @@ module _ (old new : PassState) (opens : Option FileCall) (deed : Deed) (found : 
         left = left;
         nothing = none_carried new.sight.opened.sizes (λ value. value) (values_of new.sight) new.now
             (subst (λ cells. Carries new.sight.opened.sizes (λ value. value) (values_of new.sight) cells new.now) (carried_all (pass_of new.sight) left ∙ hands) is.carries);
+        taken = subst TakenHoldNothing (sym is.steps.is) bare.taken;
       }
 
 -- ---- a call that takes no lock
@@ -260,21 +268,24 @@ fresh_is_idle pass opened is nothing = record {
   hands = ap (λ (sight : Sight). (pass_of sight).hands) is;
   left = ap (λ (sight : Sight). (pass_of sight).left) is;
   nothing = nothing;
+  taken = subst TakenHoldNothing (sym is) (λ past one. absurd one);
 }
 
 -- the pass of an idle pass is that of another sight
-idle_on : (old new : PassState) → pass_of new.sight ≡ pass_of old.sight → new.now ≡ old.now → IsIdle old → IsIdle new
-idle_on old new same now idle = record {
+idle_on : (old new : PassState) → pass_of new.sight ≡ pass_of old.sight → new.now ≡ old.now → TakenHoldNothing new.sight → IsIdle old → IsIdle new
+idle_on old new same now taken idle = record {
   stage = ap (λ (p : Pass). p.stage) same ∙ idle.stage;
   hands = ap (λ (p : Pass). p.hands) same ∙ idle.hands;
   left = ap (λ (p : Pass). p.left) same ∙ idle.left;
   nothing = now ∙ idle.nothing;
+  taken = taken;
 }
 
 -- pass 0 has made another pass
 pub parent_is_idle : (old new other : PassState) → IsSplit old new other → IsIdle old → IsIdle new
 parent_is_idle old new other is idle =
-    subst IsIdle (sym is.parent_is) (idle_on old (record old { sight = parent is.middle }) is.made.pass refl idle)
+    subst IsIdle (sym is.parent_is)
+    (idle_on old (record old { sight = parent is.middle }) is.made.pass refl (subst (λ (v : Sight). TakenHoldNothing (parent v)) (sym is.made.is) idle.taken) idle)
 
 pub child_is_idle : (old new other : PassState) → IsSplit old new other → IsIdle other
 child_is_idle old new other is =
@@ -283,6 +294,7 @@ child_is_idle old new other is =
       hands = ap (λ (p : Pass). p.hands) is.fresh;
       left = ap (λ (p : Pass). p.left) is.fresh;
       nothing = refl;
+      taken = λ past one. absurd one;
     })
 
 -- one more is made then, and it has a number of its own
@@ -292,9 +304,20 @@ split_made old new other is zero = ap (λ (p : PassState). made_of p.sight) is.p
 pub child_number : (old new other : PassState) → IsSplit old new other → old.sight.number ≡ 0 → other.sight.number ≡ made_of old.sight + 1
 child_number old new other is zero = ap (λ (p : PassState). p.sight.number) is.child_is ∙ is.made.made zero
 
--- pass 0 has taken another pass in
-pub taker_is_idle : (old other new : PassState) → IsTakenIn old other new → IsIdle old → IsIdle new
-taker_is_idle old other new is idle = subst IsIdle (sym is.is) (idle_on old (record old { sight = is.sight }) is.taken.pass refl idle)
+-- pass 0 has taken another pass in, which held nothing
+pub taker_is_idle : (board : BoardState) (old other new : PassState) → IsOf board old → IsOf board other → IsTakenIn old other new → IsIdle old → (pass_of other.sight).hands ≡ [] → IsIdle new
+taker_is_idle board old other new of of_other is idle bare =
+    subst IsIdle (sym is.is)
+    (idle_on old (record old { sight = is.sight }) is.taken.pass refl (subst TakenHoldNothing (sym is.taken.is) taken) idle)
+  where
+    same_mount : old.sight.opened ≡ is.last.opened
+    same_mount = of.same_mount ∙ sym of_other.same_mount ∙ sym (puts_opened is.cells other.sight is.last is.back)
+
+    taken : TakenHoldNothing (joined old.sight is.last)
+    taken past (inl here) =
+        ap (λ (one : Past). (past_pass old.sight.opened one).hands) here ∙ ap (λ (o : Opened). (past_pass o (past_of is.last)).hands) same_mount
+        ∙ puts_hands is.cells other.sight is.last is.back ∙ bare
+    taken past (inr before) = idle.taken past before
 
 pub taken_made : (old other new : PassState) → IsTakenIn old other new → old.sight.number ≡ 0 → made_of new.sight ≡ made_of old.sight
 taken_made old other new is zero = ap (λ (p : PassState). made_of p.sight) is.is ∙ is.taken.made zero

@@ -29,6 +29,9 @@ pub mod RoomLaws
 pub mod HandLaws
 pub mod BetweenLaws
 pub mod CallLaws
+pub mod TakenLaws
+pub mod StepAt
+pub mod AloneLaws
 pub mod SortLaws
 pub mod ClosedLaws
 pub mod ShapeLaws

@@ -1,5 +1,5 @@
 -- Passes: what keeps a pass between its steps.
-use Rattle.std.proofs.Common.{arith, ◌≡◌, refl, sym, ap, ◌∙◌, subst, inl, inr, ℕ, ◌≤◌, ◌++◌, List, [], ◌∷◌, length, take, drop}
+use Rattle.std.proofs.Common.{arith, ◌≡◌, refl, sym, ap, ◌∙◌, subst, inl, inr, ℕ, ◌≤◌, ◌++◌, List, [], ◌∷◌, length, take, drop, append_assoc}
 use Rattle.std.specs.Prelude.{Option}
 use Rattle.std.proofs.lemmas.Bool.{cases_eq, cases_lt}
 use Rattle.std.proofs.lemmas.List.{length-map}
@@ -12,16 +12,20 @@ use Rattle.nv_core.specs.Deeds.{Deed, move_of}
 use Rattle.nv_core.specs.Laws.{RunsAreSound}
 use Rattle.nv_core.specs.Opening.{IsMount}
 use Rattle.nv_core.proofs.LockLaws.{only_holder}
-use Rattle.nv_table.specs.Acts.{Acted}
+use Rattle.nv_core.specs.OneHistory.{Begins}
+use Rattle.nv_core.specs.Order.{Work}
+use Rattle.nv_core.specs.Events.{Act}
+use Rattle.nv_table.specs.Acts.{Acted, Steps, act_of, events}
 use Rattle.nv_table.specs.Drawn.{lost_of, drawn_of}
 use Rattle.nv_table.specs.Layout.{slot_total, cell_of}
 use Rattle.nv_table.specs.Opened.{Opened, mount_of, IsRunOf}
 use Rattle.nv_table.specs.Passing.{IsKeeper, IsPass, HasPlaces}
-use Rattle.nv_table.specs.Sights.{Sight, Knows, pass_of, carried, numbers, slot_times}
+use Rattle.nv_table.specs.Sights.{Sight, Knows, pass_of, carried, slot_times}
 use Rattle.nv_table.specs.States.{shift_of}
 use Rattle.nv_table.proofs.CarryLaws.{few_left, slot_else}
 use Rattle.nv_table.proofs.ShiftLaws.{shifted, moved_written}
 use Rattle.nv_table.proofs.RoomLaws.{few_of}
+use Rattle.nv_table.proofs.TakenLaws.{knows_on}
 use Rattle.nv_table.proofs.TurnLaws.{times_turned, map_turned}
 
 -- its slots may stand in another order
@@ -57,6 +61,13 @@ none_there (first ∷ rest) slot none = elim (cases_eq slot first.0) [
   | inl is ↦ absurd (none first.1 (inl (ap (λ n. (n, first.1)) is)))
   | inr ne ↦ slot_else slot first.0 first.1 rest ne ∙ none_there rest slot (λ held one. none held (inr one))
 ]
+
+-- its run goes on behind what it had seen
+pub step_begins : (old : Sight) (works : List Work) (act : Act) (new : Sight) → (steps : Steps old works act new) → Begins old.run (steps.run ++ events old.number works act)
+step_begins old works act new steps = (
+  steps.knew.all.rest ++ events old.number works act,
+  ap (λ run. run ++ events old.number works act) steps.knew.all.goes_on ∙ append_assoc old.run steps.knew.all.rest (events old.number works act),
+)
 
 -- A step keeps it, and the pass writes down which slot moved.
 pub pass_acted : {S : Type 0} {drawn lost drawn_now lost_now : Option ℕ} (shown : S → Value) (sight : Sight) (slots : List (ℕ × S)) (number made joined : ℕ) (held : List ℕ) (room : ℕ)
@@ -95,7 +106,8 @@ pass_acted shown sight slots number made joined held room opens deed found new i
           made_is = acted.made number_zero ∙ old.made_is;
           seated = ap (λ (s : Sight). s.seated) acted.steps.is ∙ old.seated;
           few = old.few;
-          taken = acted.ended number_zero ∙ old.taken ∙ ap (λ (s : Sight). numbers s.ended) (sym acted.steps.is);
+          taken = knows_on sight (acted.steps.run ++ events sight.number acted.works (act_of opens deed found)) old.taken acted.steps.is_run
+              (step_begins sight acted.works (act_of opens deed found) new.0 acted.steps) new.0 same_mount (ap (λ (s : Sight). s.ended) acted.steps.is) (ap (λ (s : Sight). s.run) acted.steps.is) (acted.ended number_zero);
           count = old.count ∙ ap (λ (s : Sight). length s.ended) (sym acted.steps.is);
         }
 

@@ -27,3 +27,5 @@ pub mod DeskLends
 pub mod CoreLaws
 pub mod Idle
 pub mod Closing
+pub mod Alone
+pub mod BetweenCalls

@@ -1,19 +1,25 @@
 -- Passing: what is so of a pass between its steps.
 use Rattle.std.specs.Prelude.{◌≡◌, ◌≢◌, ℕ, ◌+◌, ◌<◌, ◌≤◌, ◌^◌, true, List, [], length, map, Option}
 use Rattle.nv_core.specs.Words.{Sizes}
-use Rattle.nv_core.specs.Passes.{times}
+use Rattle.nv_core.specs.Passes.{IsOneOf, times}
 use Rattle.nv_core.specs.Opening.{IsMount}
 use Rattle.nv_table.specs.Drawn.{lost_of, drawn_of}
 use Rattle.nv_table.specs.Layout.{slot_total, cell_of}
-use Rattle.nv_table.specs.Opened.{mount_of, IsRunOf}
-use Rattle.nv_table.specs.Sights.{Sight, Knows, pass_of, made_of, ended_of, carried, numbers, slot_times}
+use Rattle.nv_table.specs.Opened.{mount_of, IsRunOf, state_of}
+use Rattle.nv_table.specs.Sights.{Past, Sight, SeesAll, Knows, pass_of, made_of, ended_of, carried, numbers, slot_times}
+
+-- Those that it took in are those of the core, each is one that was made, and they lie with all their events in what it has seen.
+pub record KnowsTaken (sight : Sight) : Type 0 where
+  pub same : ended_of sight ≡ numbers sight.ended
+  pub made : (past : Past) → IsOneOf sight.ended past → past.number ≤ (state_of sight.opened past.run).made
+  pub behind : (past : Past) → IsOneOf sight.ended past → SeesAll past.number past.run sight.run
 
 -- pass 0 knows how many passes it has made, each of which has got a seat, and those that it took in
 pub record IsKeeper (sight : Sight) (made joined : ℕ) : Type 0 where
   pub made_is : made_of sight ≡ made
   pub seated : sight.seated ≡ made
   pub few : made ≤ 2 ^ 32
-  pub taken : ended_of sight ≡ numbers sight.ended
+  pub taken : KnowsTaken sight
   pub count : joined ≡ length sight.ended
 
 -- The seat is a pass's, and what it has taken are the slots of the cells that its pass carries; it has written down which they are, and has room

@@ -1,4 +1,6 @@
-//! What of the core's laws the table rests on.
+//! What of the core's laws the table rests on, and laws of passes that calls rest on.
+ghost use Rattle.nv_table.specs.Alone.{NothingComesBetween, StaysAlone, NoLockIsHeld, LoadsTellHead, HeadStaysKnown, NoDrawIsLost};
+ghost use Rattle.nv_table.specs.BetweenCalls.{NewPassIsIdle, SplitsLeaveIdle, JoinsLeaveIdle};
 ghost use Rattle.nv_table.specs.CoreLaws.{CoreLaws};
 
 use nv_core::{passes_are_left_alone, runs_are_sound, words_have_places_of_their_own};
@@ -10,4 +12,26 @@ pub(crate) fn laws_of_the_core()
     runs_are_sound();
     passes_are_left_alone();
     words_have_places_of_their_own();
+}
+
+/// A pass is between two calls when it is made; pass 0 stays so when it makes another pass, and when it takes one in that is between two
+/// calls too, but not where that holds a cell.
+pub fn passes_stay_between_calls()
+    ensures new { NewPassIsIdle }
+    ensures split { SplitsLeaveIdle }
+    ensures join { JoinsLeaveIdle }
+{}
+
+/// Where pass 0 has taken in all passes that it made, and none of these holds a cell, nothing comes between two of its steps, which leave it so. So
+/// none of its calls finds a lock held, and a draw finds HEAD as the call has loaded it.
+pub fn a_pass_alone_is_not_refused()
+    ensures next { NothingComesBetween }
+    ensures alone { StaysAlone }
+    ensures locks { NoLockIsHeld }
+    ensures load { LoadsTellHead }
+    ensures head { HeadStaysKnown }
+    ensures draw { NoDrawIsLost }
+{
+    runs_are_sound();
+    passes_are_left_alone();
 }

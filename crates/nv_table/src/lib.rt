@@ -33,6 +33,7 @@ pub use board::{Board, Refused};
 pub use closing::Closed;
 pub use desk::Desk;
 pub use hands::exchange;
+pub use laws::{a_pass_alone_is_not_refused, passes_stay_between_calls};
 pub use layout::{CLEANER, HAND, HEAD, HEADER, Layout, ORDER, STOP, TAIL};
 pub use pass::Pass;
 pub use seats::{Note, hear, join_pass, split_pass, write_note};

@@ -5,7 +5,8 @@ ghost use Rattle.nv_table.specs.Acts.{IsFirst};
 ghost use Rattle.nv_table.specs.Between.{IsStill};
 ghost use Rattle.nv_table.specs.Drawn.{drawn_of};
 ghost use Rattle.nv_table.specs.Opened.{mount_of, IsRunOf};
-ghost use Rattle.nv_table.specs.Sights.{ended_of, numbers, pass_of, slot_times};
+ghost use Rattle.nv_table.specs.Passing.{KnowsTaken};
+ghost use Rattle.nv_table.specs.Sights.{pass_of, slot_times};
 ghost use Rattle.nv_table.specs.Turned.{SameButTurned};
 
 use crate::{Slot, View};
@@ -89,9 +90,9 @@ impl<L: Lines, B: Backing> Pass<L, B> {
         let _ = &self.number;
     }
 
-    /// A law: those that the core has as taken in are those that pass 0 took in.
+    /// A law: those that pass 0 took in are those that the core has as taken in, and all of their events lie in what it has seen.
     pub fn has_taken_in(&self)
-        ensures { self.now.sight.number ≡ 0 → ended_of self.now.sight ≡ numbers self.now.sight.ended }
+        ensures { self.now.sight.number ≡ 0 → KnowsTaken self.now.sight }
     {
         let _ = &self.number;
     }

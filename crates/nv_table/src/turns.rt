@@ -1,11 +1,13 @@
 //! The steps that every call makes, and a cleaner too.
-ghost use Rattle.std.specs.Prelude.{◌≡◌, ◌==◌, ℕ, if◌then◌else◌, List, Option, None, Some, IfErr};
+ghost use Rattle.std.specs.Prelude.{◌≡◌, ◌==◌, ℕ, true, if◌then◌else◌, List, Option, None, Some, IfErr, OnErr};
 ghost use Rattle.nv_core.specs.Order.{Work};
 ghost use Rattle.nv_plain.specs.declared.call.FileCall.{FileCall};
 ghost use Rattle.nv_plain.specs.declared.call.FileCall.TheVariants.{Sync};
 ghost use Rattle.nv_core.specs.Deeds.{Loads, Takes, Stops, Tends};
 ghost use Rattle.nv_core.specs.Sweeps.{Halts};
 ghost use Rattle.nv_core.specs.Words.{STOP as stop_word};
+ghost use Rattle.nv_core.specs.Standing.{has_call};
+ghost use Rattle.nv_table.specs.Alone.{IsAlone};
 ghost use Rattle.nv_table.specs.Found.{found_by};
 ghost use Rattle.nv_table.specs.Layout.{word_at};
 ghost use Rattle.nv_table.specs.Moving.{shift_said};
@@ -14,6 +16,7 @@ ghost use Rattle.nv_table.specs.Sights.{pass_of};
 ghost use Rattle.nv_table.specs.States.{IsOf, Rests, coming, going};
 ghost use Rattle.nv_table.specs.Turns.{IsDue, IsLoad, IsTake, IsPlaced, begins_or_not, load_deed, take_deed, give_deed, place_deed};
 
+use crate::laws::a_pass_alone_is_not_refused;
 use crate::stepping::{Marks, Moves, step};
 use crate::{Board, Change, Does, ORDER, Pass, STOP};
 use nv_core::runs_are_sound;
@@ -108,9 +111,12 @@ fn take_by<E: Does, L: Lines, B: Backing>(
     ensures board { IsOf board.now pass.new }
     ensures stepped { (stepped : Stepped pass.old E.opens E.deed (found_by result) pass.new) × E.said stepped.works }
     ensures busy { IfErr result (λ busy. busy.cell ≡ cell) }
+    ensures alone { IsAlone pass.old.sight → E.deed ≡ Takes (word_at pass.old.sight.opened.sizes cell) → OnErr result ⊥ }
 {
     runs_are_sound();
+    a_pass_alone_is_not_refused();
     pass.sees_a_run();
+    pass.has_taken_in();
     let moves = comes_if_free(board.layout.slot(cell));
     let found = step::<E, L, B>(
         board,
@@ -151,7 +157,7 @@ pub fn begin_with_load<C: Calls, L: Lines, B: Backing>(
 }
 
 /// Takes a lock, by its place, where that is the pass's next step. What its cell keeps comes with it; where the lock is held already
-/// nothing changes.
+/// nothing changes. So it is answered where another pass is out, or where one was taken in that held a cell, and else no call is.
 pub fn take<L: Lines, B: Backing>(
     board: &Board<L, B>,
     pass: &mut Pass<L, B>,
@@ -162,6 +168,7 @@ pub fn take<L: Lines, B: Backing>(
     ensures board { IsOf board.now pass.new }
     ensures stepped { Stepped pass.old None (take_deed (pass_of pass.old.sight).stage (word_at pass.old.sight.opened.sizes cell)) (found_by result) pass.new }
     ensures busy { IfErr result (λ busy. busy.cell ≡ cell) }
+    ensures alone { IsAlone pass.old.sight → has_call (pass_of pass.old.sight).stage ≡ true → OnErr result ⊥ }
 {
     take_by::<Brand, L, B>(board, pass, cell, Marks::Nothing)
 }
@@ -177,6 +184,7 @@ pub fn begin_with_take<C: Calls, L: Lines, B: Backing>(
     ensures board { IsOf board.now pass.new }
     ensures stepped { Stepped pass.old (Some C.call) (Takes (word_at pass.old.sight.opened.sizes cell)) (found_by result) pass.new }
     ensures busy { IfErr result (λ busy. busy.cell ≡ cell) }
+    ensures alone { IsAlone pass.old.sight → OnErr result ⊥ }
 {
     take_by::<Brand, L, B>(board, pass, cell, Marks::Begins)
 }

@@ -39,7 +39,10 @@ invariant_of-pass g c =
     rw (c.join.ensures.slots, c.take_in.ensures.joined) (
       joined_pass c.pass.inside.seat.me.0 c.other.inside.seat.me.0 c.join.new.seat.me.0 c.join.result c.pass.inside.seat.me.1 c.pass.inside.number c.pass.inside.made c.pass.inside.joined
           c.pass.inside.held.items (Rattle.std.specs.Vec.vec_capacity c.pass.inside.held) c.pass.invariant.0
-          (passed_in c.pass.inside.seat.me.0 c.other.inside.seat.me.0 c.take_in.new.seat.me.0 c.join.new.seat.me.0 c.join.result (ap (λ me. me.0) c.take_in.ensures.joined) c.join.ensures.passed),
+          (passed_in c.pass.inside.seat.me.0 c.other.inside.seat.me.0 c.take_in.new.seat.me.0 c.join.new.seat.me.0 c.join.result (ap (λ me. me.0) c.take_in.ensures.joined) c.join.ensures.passed)
+          (ap (λ (p : PassState). p.sight.opened) c.other.view_is ∙ c.put_back.ensures.board.same_mount ∙ sym c.requires.board.same_mount ∙ sym (ap (λ (p : PassState). p.sight.opened) c.pass.view_is))
+          c.other.invariant.0.known.made
+          (subst (λ (v : Sight). SeesAll (last_taken v.ended).number (last_taken v.ended).run c.join.new.seat.me.0.run) (ap (λ me. me.0) c.take_in.ensures.joined) c.join.ensures.behind),
       same_places (ap (λ (s : Sight). s.opened) c.join.ensures.passed.is ∙ ap (λ me. me.0.opened) c.take_in.ensures.joined) c.pass.invariant.1,
     )
 

@@ -1,5 +1,6 @@
 -- A take that is due is ready, and a lock that is not found 0 is found 1.
 use Rattle.std.proofs.Common.{arith, ◌≡◌, subst}
+use Rattle.nv_core.specs.Deeds.{Takes}
 use Rattle.nv_table.specs.Changes.{changed}
 use Rattle.nv_table.specs.Layout.{word_at}
 use Rattle.nv_table.specs.Ready.{Stepped}
@@ -29,3 +30,12 @@ returns-else-found-eq0-clause-stepped g c =
     let low = at.sound.locks.bit cell lock in
     let one : c.step-found.result ≡ 1 = omega (arith, low, at.word_is, c.if-found-eq0.false) in
     subst (λ found. (is : Stepped pass g.E.Does.opens g.E.Does.deed found c.step-found.new.pass) × g.E.Does.said is.works) one c.step-found.ensures.stepped
+
+pub returns-else-found-eq0-clause-alone : goal.returns-else-found-eq0-clause-alone
+returns-else-found-eq0-clause-alone g c = λ alone is.
+    let pass = c.args.pass.now in
+    let cell = word_at pass.sight.opened.sizes c.args.cell in
+    let stepped : Stepped pass g.E.Does.opens (Takes cell) c.step-found.result c.step-found.new.pass =
+    subst (λ deed. Stepped pass g.E.Does.opens deed c.step-found.result c.step-found.new.pass) is c.step-found.ensures.stepped.0 in
+    c.if-found-eq0.false (c.a_pass_alone_is_not_refused.ensures.locks pass c.step-found.new.pass g.E.Does.opens cell c.step-found.result
+    c.sees_a_run.ensures.mount (c.has_taken_in.ensures alone.zero) alone stepped)
