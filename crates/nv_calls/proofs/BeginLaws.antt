@@ -20,7 +20,7 @@ use Rattle.nv_table.specs.Ready.{Stepped}
 use Rattle.nv_table.specs.Sights.{pass_of}
 use Rattle.nv_table.specs.States.{PassState}
 use Rattle.nv_table.specs.Turns.{IsDue}
-use Rattle.nv_table.proofs.CallLaws.{IsBare, IsCallFree, bare_carries, bare_there, page_due, page_refused, stepped_there, later_by}
+use Rattle.nv_table.proofs.CallLaws.{IsBare, IsCallFree, idle_bare, idle_of, bare_carries, bare_there, page_due, page_refused, stepped_there, later_by}
 use Rattle.nv_mount.specs.declared.fds.Fd.{Fd}
 use Rattle.nv_calls.specs.declared.answers.Refusal.{Refusal}
 use Rattle.nv_calls.specs.declared.answers.Refusal.TheVariants.{Busy, Stopped, BadFd, TooFar, TooLong}
@@ -57,9 +57,6 @@ first_locks sizes file at len some =
 
 -- ---- when the first step is due
 
-bare_of : (pass : PassState) → IsIdle pass → IsBare pass
-bare_of pass idle = record { hands = idle.hands; left = idle.left; nothing = idle.nothing }
-
 pub stop_due : (pass : PassState) (file at : ℕ) → IsAllowed pass.sight.opened.sizes (Read file at 0) → IsIdle pass → IsDue pass (Some (Read file at 0)) (Loads STOP)
 stop_due pass file at allowed idle = record {
   works = [];
@@ -67,7 +64,7 @@ stop_due pass file at allowed idle = record {
   begins = record { idle = idle.stage; allowed = allowed };
   may = inl refl;
   staying = idle.left;
-  holds = bare_carries pass _ (bare_of pass idle);
+  holds = bare_carries pass _ (idle_bare pass idle);
 }
 
 pub first_due : (pass : PassState) (file at len page : ℕ) → IsAllowed pass.sight.opened.sizes (Read file at len) → 0 < len → page ≡ first_page pass.sight.opened.sizes (Read file at len) → IsIdle pass
@@ -269,10 +266,10 @@ module _ (fds : List Fd) (m : ReadMachine) (list : List ℕ) (file : ℕ) (old n
   stop_set found some is =
       over_from fds (record m { file = file }) list (Some Stopped) m.place m.faulted old new (Err Stopped)
       (begun_call fds m list file old way admitted new (Loads STOP) found (Some Stopped) is (ap (λ b. if b then None else Some Stopped) (ne_eqb found 0 some)) refl refl) way.room refl way.unplaced (stop_unplaced found is)
-      record { stage = stage; hands = bare.hands; left = bare.left; nothing = bare.nothing }
+      (idle_of new stage bare)
     where
       bare : IsBare new
-      bare = bare_there old new (Some (Read file m.at m.len)) (Loads STOP) found (free fds m list file old way admitted) is (bare_of old way.idle) refl (λ pass. refl)
+      bare = bare_there old new (Some (Read file m.at m.len)) (Loads STOP) found (free fds m list file old way admitted) is (idle_bare old way.idle) refl (λ pass. refl)
 
       stage : (pass_of new.sight).stage ≡ Idle
       stage =

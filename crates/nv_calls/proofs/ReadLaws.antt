@@ -10,7 +10,7 @@ use Rattle.nv_table.specs.Idle.{IsIdle}
 use Rattle.nv_table.specs.Opened.{Opened}
 use Rattle.nv_table.specs.Sights.{pass_of, values_of, Carries}
 use Rattle.nv_table.specs.States.{PassState}
-use Rattle.nv_table.proofs.CallLaws.{none_carried}
+use Rattle.nv_table.proofs.CallLaws.{none_carried, taken_same}
 use Rattle.nv_table.proofs.CarryLaws.{carried_all}
 use Rattle.nv_mount.specs.declared.fds.Fd.{Fd}
 use Rattle.nv_calls.specs.declared.answers.Done.{Done}
@@ -59,6 +59,7 @@ idle_from fds fd call refusal place faulted start now base made stage sized len 
       left = left;
       nothing = none_carried now.sight.opened.sizes (λ value. value) (values_of now.sight) now.now
           (subst (λ cells. Carries now.sight.opened.sizes (λ value. value) (values_of now.sight) cells now.now) (carried_all (pass_of now.sight) left ∙ hands) called.still);
+      taken = taken_same start.sight now.sight called.mount called.later.ended called.idle.taken;
     }
 
 -- ---- a refusal
