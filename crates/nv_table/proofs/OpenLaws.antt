@@ -10,7 +10,7 @@ use Rattle.nv_core.specs.Opening.{IsMount, opening_word, opening}
 use Rattle.nv_table.specs.Layout.{slot_total, cell_of}
 use Rattle.nv_table.specs.Opened.{Opened, mount_of, held_in}
 use Rattle.nv_table.specs.OpeningWords.{worded, AreOpeningWords}
-use Rattle.nv_table.specs.Sights.{Sight, newcomer, Knows}
+use Rattle.nv_table.specs.Sights.{Sight, newcomer, Knows, AllBegin}
 use Rattle.nv_table.specs.Shows.{IsKept, AtHome, Keeps, Shows}
 use Rattle.nv_table.proofs.LayoutLaws.{place_within, place_there, slot_there}
 
@@ -62,7 +62,7 @@ module _ {S : Type 0} (shown : S → Value) (opened : Opened) (words : List ℕ)
     words = λ word is. are.each (place opened.sizes word) (place_within opened.sizes word is)
         ∙ ap (opening_word (worded opened.sizes opened.next opened.lengths)) (place_there opened.sizes word is) ∙ worded_same opened word;
     homes = kept_there many;
-    seen = λ seat sight at. subst (λ (s : Sight). Begins s.run [] × Begins s.told []) (sym (only_seat (newcomer opened) sight seat at).1) (([], refl), ([], refl));
+    seen = λ seat sight at. subst (λ (s : Sight). Begins s.run [] × AllBegin s.told []) (sym (only_seat (newcomer opened) sight seat at).1) (([], refl), tt);
     knows = λ seat sight at live. subst (Knows opened []) (sym (only_seat (newcomer opened) sight seat at).1) (knows_nothing opened);
     apart = λ one other sight sight_other at at_other live live_other is. (only_seat (newcomer opened) sight one at).0 ∙ sym (only_seat (newcomer opened) sight_other other at_other).0;
     keeper = λ seat sight at live zero_is. subst (Keeps opened [] (newcomer opened ∷ [])) (sym (only_seat (newcomer opened) sight seat at).1) keeps_none;

@@ -11,7 +11,7 @@ use Rattle.nv_core.specs.Passes.{IsOneOf, times}
 use Rattle.nv_core.specs.OneHistory.{Begins}
 use Rattle.nv_core.specs.Events.{Event, own}
 use Rattle.nv_table.specs.Opened.{Opened, state_of}
-use Rattle.nv_table.specs.Sights.{Past, Sight, pass_of, made_of, ended_of, numbers, carried, past_pass, Knows}
+use Rattle.nv_table.specs.Sights.{Past, Sight, pass_of, made_of, ended_of, numbers, carried, past_pass, Knows, AllBegin}
 use Rattle.nv_table.specs.Shows.{IsOver, Keeps, Shows}
 use Rattle.nv_table.specs.Seats.{parent, child, note, heard, past_of, joined, spent}
 use Rattle.nv_table.specs.CoreLaws.{CoreLaws}
@@ -23,7 +23,7 @@ use Rattle.nv_table.proofs.Passing.{Was, was_same, was, AreApart, apart_still, k
 
 -- what the rule says of the views
 pub record Views (opened : Opened) (run : List Event) (views : List Sight) : Type 0 where
-  pub seen : (seat : ℕ) (sight : Sight) → get_elem? views seat ≡ some sight → Begins sight.run run × Begins sight.told run
+  pub seen : (seat : ℕ) (sight : Sight) → get_elem? views seat ≡ some sight → Begins sight.run run × AllBegin sight.told run
   pub knows : (seat : ℕ) (sight : Sight) → get_elem? views seat ≡ some sight → sight.live ≡ true → Knows opened run sight
   pub apart : AreApart views
   pub keeper : (seat : ℕ) (sight : Sight) → get_elem? views seat ≡ some sight → sight.live ≡ true → sight.number ≡ 0 → Keeps opened run views sight
@@ -75,7 +75,7 @@ module _ (opened : Opened) (run : List Event) (views : List Sight) (them : Views
   with_note = record {
     seen = λ seat sight there. elim (snoc_cases views (note v) sight seat there) [
       | inl is ↦ them.seen seat sight is
-      | inr is ↦ subst (λ (w : Sight). Begins w.run run × Begins w.told run) is.1 ((them.seen id v at).0, (run, refl))
+      | inr is ↦ subst (λ (w : Sight). Begins w.run run × AllBegin w.told run) is.1 ((them.seen id v at).0, tt)
     ];
     knows = λ seat sight there live. them.knows seat sight (noted seat sight there live) live;
     apart = apart_still views (views ++ note v ∷ []) them.apart noted_were;
@@ -181,10 +181,10 @@ module _ (opened : Opened) (run : List Event) (views : List Sight) (them : Views
   with_parts : Views opened run (slice_set views id (parent v) ++ child v ∷ [])
   with_parts = record {
     seen = λ seat sight there. elim (parted seat sight there) [
-      | inl is ↦ subst (λ (w : Sight). Begins w.run run × Begins w.told run) is.1 (them.seen id v at)
+      | inl is ↦ subst (λ (w : Sight). Begins w.run run × AllBegin w.told run) is.1 (them.seen id v at)
       | inr more ↦ elim more [
         | inl is ↦ them.seen seat sight is.1
-        | inr is ↦ subst (λ (w : Sight). Begins w.run run × Begins w.told run) is.1 ((them.seen id v at).0, (run, refl))
+        | inr is ↦ subst (λ (w : Sight). Begins w.run run × AllBegin w.told run) is.1 ((them.seen id v at).0, tt)
       ]
     ];
     knows = λ seat sight there alive. elim (parted seat sight there) [
@@ -232,11 +232,11 @@ module _ (opened : Opened) (run : List Event) (views : List Sight) (them : Views
     | inr is ↦ is
   ]
 
-  met_seen : Begins both.run run × Begins both.told run → (seat : ℕ) (sight : Sight) → get_elem? (slice_set (slice_set views id both) other spent) seat ≡ some sight → Begins sight.run run × Begins sight.told run
+  met_seen : Begins both.run run × AllBegin both.told run → (seat : ℕ) (sight : Sight) → get_elem? (slice_set (slice_set views id both) other spent) seat ≡ some sight → Begins sight.run run × AllBegin sight.told run
   met_seen seen seat sight there = elim (met seat sight there) [
-    | inl is ↦ subst (λ (one : Sight). Begins one.run run × Begins one.told run) is.1 ((run, refl), (run, refl))
+    | inl is ↦ subst (λ (one : Sight). Begins one.run run × AllBegin one.told run) is.1 ((run, refl), tt)
     | inr more ↦ elim more [
-      | inl is ↦ subst (λ (one : Sight). Begins one.run run × Begins one.told run) is.1 seen
+      | inl is ↦ subst (λ (one : Sight). Begins one.run run × AllBegin one.told run) is.1 seen
       | inr is ↦ them.seen seat sight is.2
     ]
   ]
@@ -266,7 +266,7 @@ module _ (opened : Opened) (run : List Event) (views : List Sight) (them : Views
 
 pub hears : {S : Type 0} (shown : S → Value) (opened : Opened) (id : ℕ) (v : Sight) (other : ℕ) (w : Sight) → v.live ≡ true → w.live ≡ false → JoinsTo (Shows shown opened) id v other w (heard v w) spent
 hears shown opened id v other w live dead s shows at ne there = with_views shown opened s shows (slice_set (slice_set s.views id (heard v w)) other spent) record {
-  seen = met_seen opened shows.run s.views them id v at other w (heard v w) ((shows.seen id v at).0, (shows.seen other w was_at).0);
+  seen = met_seen opened shows.run s.views them id v at other w (heard v w) ((shows.seen id v at).0, ((shows.seen other w was_at).0, (shows.seen id v at).1));
   knows = met_knows opened shows.run s.views them id v at other w (heard v w) (let k = shows.knows id v at live in record { mount = k.mount; all = k.all; made = k.made; there = k.there });
   apart = apart_still s.views (slice_set (slice_set s.views id (heard v w)) other spent) shows.apart were;
   keeper = λ seat sight at_seat alive is_zero. keeps_still opened shows.run s.views (slice_set (slice_set s.views id (heard v w)) other spent) sight were

@@ -17,11 +17,11 @@ use Rattle.nv_core.specs.Others.{Tells}
 use Rattle.nv_core.proofs.Changes.{by_word}
 use Rattle.nv_table.specs.Layout.{slot_total, cell_of}
 use Rattle.nv_table.specs.Opened.{Opened, state_of}
-use Rattle.nv_table.specs.Sights.{Sight, numbers, carried, Knows}
+use Rattle.nv_table.specs.Sights.{Sight, numbers, carried, Knows, AllBegin}
 use Rattle.nv_table.specs.Shows.{IsKept, AtHome, Out, Keeps, Shows}
 use Rattle.nv_table.specs.Seats.{Passed, after_passing}
 use Rattle.nv_table.specs.CoreLaws.{CoreLaws}
-use Rattle.nv_table.proofs.SightLaws.{begins_on, begins_self, sees_self, made_on, made_seen, told_on}
+use Rattle.nv_table.proofs.SightLaws.{begins_on, begins_self, all_begin_on, sees_self, made_on, made_seen, told_on}
 use Rattle.nv_table.proofs.Going.{own_more, sees_more, over_more, after_one, run_one}
 
 -- ---- seats
@@ -179,9 +179,9 @@ module _ {S : Type 0} (laws : CoreLaws) (shown : S → Value) (s : State S Sight
             ap (λ ws. slice_index ws (place v.opened.sizes word)) (set-get_or s.words 0 0) ∙ shows.words word is ∙ sym (words word) ∙ sym (ap (λ (c : Core). c.words word) is_then);
         homes = λ slot less. subst (λ (c : Core). IsKept shown c (cell_of v.opened.sizes slot) (get_elem? homes slot)) (sym is_then) (kept slot less);
         seen = λ seat sight at_now. elim (at_set s.views id seat next_of sight at_now) [
-          | inl is ↦ subst (λ (w : Sight). Begins w.run (shows.run ++ event_of ∷ []) × Begins w.told (shows.run ++ event_of ∷ [])) is.1
-              (begins_self (shows.run ++ event_of ∷ []), begins_on v.told shows.run (event_of ∷ []) (shows.seen id v at).1)
-          | inr is ↦ let seen = shows.seen seat sight is.1 in (begins_on sight.run shows.run (event_of ∷ []) seen.0, begins_on sight.told shows.run (event_of ∷ []) seen.1)
+          | inl is ↦ subst (λ (w : Sight). Begins w.run (shows.run ++ event_of ∷ []) × AllBegin w.told (shows.run ++ event_of ∷ [])) is.1
+              (begins_self (shows.run ++ event_of ∷ []), all_begin_on v.told shows.run (event_of ∷ []) (shows.seen id v at).1)
+          | inr is ↦ let seen = shows.seen seat sight is.1 in (begins_on sight.run shows.run (event_of ∷ []) seen.0, all_begin_on sight.told shows.run (event_of ∷ []) seen.1)
         ];
         knows = λ seat sight at_now live_now. elim (at_set s.views id seat next_of sight at_now) [
           | inl is ↦ subst (Knows v.opened (shows.run ++ event_of ∷ [])) is.1 knows_next

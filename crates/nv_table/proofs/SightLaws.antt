@@ -17,7 +17,7 @@ use Rattle.nv_core.specs.Others.{Tells}
 use Rattle.nv_core.specs.Opening.{IsMount}
 use Rattle.nv_core.proofs.RunLaws.{after_parts}
 use Rattle.nv_table.specs.Opened.{Opened, mount_of, IsRunOf, state_of}
-use Rattle.nv_table.specs.Sights.{Past, Sight, numbers, SeesAll, Knows}
+use Rattle.nv_table.specs.Sights.{Past, Sight, numbers, AllBegin, SeesAll, Knows}
 use Rattle.nv_table.specs.Shows.{IsOver, Keeps, Shows}
 use Rattle.nv_table.specs.CoreLaws.{CoreLaws}
 
@@ -28,6 +28,11 @@ begins_on first whole more begins = (begins.0 ++ more, ap (λ l. l ++ more) begi
 
 pub begins_self : {T : Type 0} (whole : List T) → Begins whole whole
 begins_self whole = ([], sym (append-nil whole))
+
+-- and the runs that it was told of still begin it
+pub all_begin_on : (notes : List (List Event)) (whole more : List Event) → AllBegin notes whole → AllBegin notes (whole ++ more)
+all_begin_on [] whole more all = tt
+all_begin_on (note ∷ rest) whole more all = (begins_on note whole more all.0, all_begin_on rest whole more all.1)
 
 pub own_both : (number : ℕ) (run more : List Event) → own number (run ++ more) ≡ own number run ++ own number more
 own_both number run more = filter-append (λ event. event.by == number) run more
@@ -158,12 +163,12 @@ module _ {S : Type 0} (shown : S → Value) (opened : Opened) (state : State S S
     (more : List Event) (others : (other : ℕ) → other ≢ sight.number → own other more ≡ [])
     (ended : (state_of opened (shows.run ++ more)).ended ≡ (state_of opened shows.run).ended) where
   pub views_seen : (seat : ℕ) (one : Sight) → get_elem? (set state.views id (onto sight shows.run more)) seat ≡ some one
-      → Begins one.run (shows.run ++ more) × Begins one.told (shows.run ++ more)
+      → Begins one.run (shows.run ++ more) × AllBegin one.told (shows.run ++ more)
   views_seen seat one at = elim (at_set state.views id seat (onto sight shows.run more) one at) [
     | inl here ↦
-        subst (λ (s : Sight). Begins s.run (shows.run ++ more) × Begins s.told (shows.run ++ more)) here.1
-        (begins_self (shows.run ++ more), begins_on sight.told shows.run more (shows.seen id sight there).1)
-    | inr else_ ↦ let seen = shows.seen seat one else_.1 in (begins_on one.run shows.run more seen.0, begins_on one.told shows.run more seen.1)
+        subst (λ (s : Sight). Begins s.run (shows.run ++ more) × AllBegin s.told (shows.run ++ more)) here.1
+        (begins_self (shows.run ++ more), all_begin_on sight.told shows.run more (shows.seen id sight there).1)
+    | inr else_ ↦ let seen = shows.seen seat one else_.1 in (begins_on one.run shows.run more seen.0, all_begin_on one.told shows.run more seen.1)
   ]
 
   -- another seat is another pass's

@@ -7,7 +7,6 @@ use Rattle.nv_core.specs.Passes.{Pass}
 use Rattle.nv_core.specs.Deeds.{Deed, Move, Stays, Comes, Goes, word_of, value_after, move_of}
 use Rattle.atomic_table.specs.Table.{Me, rest}
 use Rattle.nv_table.specs.Layout.{slot_of}
-use Rattle.nv_core.specs.OneHistory.{Begins}
 use Rattle.nv_core.specs.Order.{Values, Work, MayStep, MayWork}
 use Rattle.nv_core.specs.Others.{AgreeOn}
 use Rattle.nv_core.specs.Core.{Core, worked, values_worked, values_stepped}
@@ -15,7 +14,7 @@ use Rattle.nv_core.specs.Stepped.{begun, stepped}
 use Rattle.nv_core.specs.Events.{Act, Begins as BeginsCall, Does, Calls, Event, MayBegin}
 use Rattle.nv_core.specs.Sound.{Sound}
 use Rattle.nv_table.specs.Opened.{mount_of, IsRunOf, state_of}
-use Rattle.nv_table.specs.Sights.{Sight, pass_of, values_of, made_of, ended_of, carried, Carries, Knows}
+use Rattle.nv_table.specs.Sights.{Sight, pass_of, values_of, made_of, ended_of, carried, AllBegin, Carries, Knows}
 
 -- ---- device calls before a step
 
@@ -73,12 +72,12 @@ pub record IsNext (sight : Sight) (works : List Work) (opens : Option FileCall) 
       → value_after sight.opened.sizes (pass_before sight opens works) deed (core.words (word_of sight.opened.sizes (pass_before sight opens works) deed))
       ≡ change (core.words (word_of sight.opened.sizes (pass_before sight opens works) deed))
 
--- What a step tells: the run up to it, in which the seat had seen all of its own, and the run of which it was told; and that its events came then.
+-- What a step tells: the run up to it, in which the seat had seen all of its own, and all runs of which it was told; and that its events came then.
 pub record Steps (old : Sight) (works : List Work) (act : Act) (new : Sight) : Type 0 where
   pub run : List Event
   pub is_run : IsRunOf old.opened (run ++ events old.number works act)
   pub knew : Knows old.opened run old
-  pub heard : Begins old.told run
+  pub heard : AllBegin old.told run
   pub is : new ≡ record old { run = run ++ events old.number works act }
 
 -- ---- what a pass carries

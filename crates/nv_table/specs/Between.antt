@@ -46,6 +46,6 @@ pub record NoteState : Type 0 where
   pub table : TableId
   pub run : List Event
 
--- a pass that was told
+-- a pass that was told one more
 abbrev pub told_by : PassState → List Event → PassState
-told_by pass run = record pass { sight = record pass.sight { told = run } }
+told_by pass run = record pass { sight = record pass.sight { told = run ∷ pass.sight.told } }

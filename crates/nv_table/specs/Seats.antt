@@ -7,12 +7,11 @@ use Rattle.nv_core.specs.Passes.{Pass, times}
 use Rattle.nv_core.specs.Stepped.{left_after}
 use Rattle.nv_core.specs.Core.{made_stepped, ended_stepped}
 use Rattle.nv_core.specs.Deeds.{Deed, Leaves}
-use Rattle.nv_core.specs.OneHistory.{Begins}
 use Rattle.nv_core.specs.Others.{AgreeOn}
 use Rattle.nv_core.specs.Events.{Does, Event}
 use Rattle.nv_table.specs.Layout.{slot_of}
 use Rattle.nv_table.specs.Opened.{IsRunOf}
-use Rattle.nv_table.specs.Sights.{Past, Sight, pass_of, values_of, made_of, ended_of, carried, numbers, Carries, Knows}
+use Rattle.nv_table.specs.Sights.{Past, Sight, pass_of, values_of, made_of, ended_of, carried, numbers, AllBegin, Carries, Knows}
 use Rattle.nv_table.specs.Acts.{went, IsFirst}
 
 -- ---- a new pass: pass 0 has made it, and its seat is cut from pass 0's
@@ -29,7 +28,7 @@ abbrev pub note : Sight → Sight
 note sight = record sight { live = false; told = []; seated = 0; ended = [] }
 
 abbrev pub heard : Sight → Sight → Sight
-heard sight other = record sight { told = other.run }
+heard sight other = record sight { told = other.run ∷ sight.told }
 
 -- ---- a pass is taken in
 
@@ -62,7 +61,7 @@ pub record Passed (old : Sight) (deed : Deed) (found : ℕ) (new : Sight) : Type
   pub run : List Event
   pub is_run : IsRunOf old.opened (run ++ record { by = old.number; act = Does deed found } ∷ [])
   pub knew : Knows old.opened run old
-  pub told : Begins old.told run
+  pub told : AllBegin old.told run
   pub is : new ≡ record old { run = run ++ record { by = old.number; act = Does deed found } ∷ [] }
   pub knows : Knows old.opened new.run new
   pub pass : pass_of new ≡ after_passing deed (pass_of old)

@@ -12,7 +12,7 @@ use Rattle.nv_core.specs.Events.{Event, own}
 use Rattle.nv_core.specs.Opening.{IsMount}
 use Rattle.nv_table.specs.Layout.{word_total, slot_total, cell_of}
 use Rattle.nv_table.specs.Opened.{Opened, mount_of, IsRunOf, state_of}
-use Rattle.nv_table.specs.Sights.{Past, Sight, carried, past_pass, numbers, AreDistinct, SeesAll, Knows}
+use Rattle.nv_table.specs.Sights.{Past, Sight, carried, past_pass, numbers, AreDistinct, AllBegin, SeesAll, Knows}
 
 -- A slot is at home, and holds what its cell keeps, where no pass carries the cell; or it is out with a pass.
 pub data IsKept {S : Type 0} (shown : S → Value) (core : Core) (cell : Word) (home : Home (Home S)) : Type 0 where
@@ -48,7 +48,7 @@ pub record Shows {S : Type 0} (shown : S → Value) (opened : Opened) (state : S
   pub count : length state.words ≡ word_total opened.sizes
   pub words : (word : Word) → IsWord opened.sizes word → slice_index state.words (place opened.sizes word) ≡ (state_of opened run).words word
   pub homes : (slot : ℕ) → slot < slot_total opened.sizes → IsKept shown (state_of opened run) (cell_of opened.sizes slot) (get_elem? state.homes slot)
-  pub seen : (seat : ℕ) (sight : Sight) → get_elem? state.views seat ≡ some sight → Begins sight.run run × Begins sight.told run
+  pub seen : (seat : ℕ) (sight : Sight) → get_elem? state.views seat ≡ some sight → Begins sight.run run × AllBegin sight.told run
   pub knows : (seat : ℕ) (sight : Sight) → get_elem? state.views seat ≡ some sight → sight.live ≡ true → Knows opened run sight
   pub apart : (one other : ℕ) (sight sight_other : Sight) → get_elem? state.views one ≡ some sight → get_elem? state.views other ≡ some sight_other
       → sight.live ≡ true → sight_other.live ≡ true → sight.number ≡ sight_other.number → one ≡ other

@@ -4,6 +4,7 @@ use Rattle.nv_core.specs.Words.{Sizes, Word}
 use Rattle.nv_core.specs.Values.{Value}
 use Rattle.nv_core.specs.Passes.{Pass, IsOneOf, times, without}
 use Rattle.nv_core.specs.Order.{Values}
+use Rattle.nv_core.specs.OneHistory.{Begins}
 use Rattle.nv_core.specs.Events.{Event, own}
 use Rattle.nv_table.specs.Layout.{slot_total, cell_of}
 use Rattle.nv_table.specs.Opened.{Opened, state_of}
@@ -13,14 +14,14 @@ pub record Past : Type 0 where
   pub number : ℕ
   pub run : List Event
 
--- How the mount was opened; the number of the seat's pass, and whether it is a pass's at all; the run of all passes up to its last event; a
--- run that it was told of; and for pass 0 how many passes have got a seat, and those that were taken in, the last first.
+-- How the mount was opened; the number of the seat's pass, and whether it is a pass's at all; the run of all passes up to its last event; the
+-- runs that it was told of, the last first; and for pass 0 how many passes have got a seat, and those that were taken in, the last first.
 pub record Sight : Type 0 where
   pub opened : Opened
   pub number : ℕ
   pub live : Bool
   pub run : List Event
-  pub told : List Event
+  pub told : List (List Event)
   pub seated : ℕ
   pub ended : List Past
 
@@ -78,6 +79,11 @@ pub record Carries {S : Type 0} (sizes : Sizes) (shown : S → Value) (kept : Va
   pub shows : (slot : ℕ) (held : S) → IsOneOf slots (slot, held) → shown held ≡ kept (cell_of sizes slot)
 
 -- ---- what a seat knows of a run
+
+-- each of some runs is a first part of it
+abbrev pub AllBegin : List (List Event) → (run : List Event) → Type 0
+AllBegin [] run = Unit {0}
+AllBegin (first ∷ rest) run = Begins first run × AllBegin rest run
 
 -- It has seen a first part of it, behind which no event of its pass comes.
 pub record SeesAll (number : ℕ) (seen run : List Event) : Type 0 where
