@@ -1,5 +1,5 @@
 -- Passes: what keeps a pass between its steps.
-use Rattle.std.proofs.Common.{arith, ◌≡◌, refl, sym, ap, ◌∙◌, subst, inl, inr, ℕ, ◌≤◌, ◌++◌, List, [], ◌∷◌, length, take, drop, append_assoc}
+use Rattle.std.proofs.Common.{arith, ◌≡◌, refl, sym, ap, ap₂, ◌∙◌, subst, inl, inr, ℕ, ◌≤◌, ◌++◌, List, [], ◌∷◌, length, take, drop, append_assoc}
 use Rattle.std.specs.Prelude.{Option}
 use Rattle.std.proofs.lemmas.Bool.{cases_eq, cases_lt}
 use Rattle.std.proofs.lemmas.List.{length-map}
@@ -16,11 +16,12 @@ use Rattle.nv_core.specs.OneHistory.{Begins}
 use Rattle.nv_core.specs.Order.{Work}
 use Rattle.nv_core.specs.Events.{Act}
 use Rattle.nv_table.specs.Acts.{Acted, Steps, act_of, events}
-use Rattle.nv_table.specs.Drawn.{lost_of, drawn_of}
+use Rattle.nv_table.specs.Drawn.{lost_of, drawn_of, or_else, inherited_of}
+use Rattle.nv_table.specs.Seats.{past_of}
 use Rattle.nv_table.specs.Layout.{slot_total, cell_of}
 use Rattle.nv_table.specs.Opened.{Opened, mount_of, IsRunOf}
 use Rattle.nv_table.specs.Passing.{IsKeeper, IsPass, HasPlaces}
-use Rattle.nv_table.specs.Sights.{Sight, Knows, pass_of, carried, slot_times}
+use Rattle.nv_table.specs.Sights.{Sight, Knows, pass_of, past_pass, carried, slot_times}
 use Rattle.nv_table.specs.States.{shift_of}
 use Rattle.nv_table.proofs.CarryLaws.{few_left, slot_else}
 use Rattle.nv_table.proofs.ShiftLaws.{shifted, moved_written}
@@ -52,6 +53,15 @@ pub same_places : {L B : Type 0} {opened now : Opened} {number part_places store
     → HasPlaces opened.sizes number parts part_places stores store_places → HasPlaces now.sizes number parts part_places stores store_places
 same_places {number = number} {part_places = part_places} {store_places = store_places} {parts = parts} {stores = stores} same has =
     subst (λ (o : Opened). HasPlaces o.sizes number parts part_places stores store_places) (sym same) has
+
+-- what it has inherited is that of those that it took in
+pub same_inherited : {inherited : Option ℕ} (old new : Sight) → new.opened ≡ old.opened → new.ended ≡ old.ended → inherited ≡ inherited_of old.opened old.ended → inherited ≡ inherited_of new.opened new.ended
+same_inherited old new opened ended is = is ∙ sym (ap₂ inherited_of opened ended)
+
+pub joined_inherited : {drawn inherited : Option ℕ} (old last new : Sight) → new.opened ≡ old.opened → new.ended ≡ past_of last ∷ old.ended → last.opened ≡ old.opened → drawn ≡ drawn_of (pass_of last)
+    → inherited ≡ inherited_of old.opened old.ended → or_else drawn inherited ≡ inherited_of new.opened new.ended
+joined_inherited old last new opened ended same drawn_is inherited_is =
+    ap₂ or_else (drawn_is ∙ ap (λ (o : Opened). drawn_of (past_pass o (past_of last))) same) inherited_is ∙ sym (ap₂ inherited_of opened ended)
 
 -- ---- a step
 

@@ -152,6 +152,13 @@ is_plain sizes values pass (Leaves cell) may = absurd (next_steps_may_come sizes
 is_plain sizes values pass (Joins number) may = absurd (next_steps_may_come sizes values pass (Joins number) may)
 is_plain sizes values pass deed may = tt
 
+-- what may come by it follows the order of steps
+pub step_of : (sizes : Sizes) (by : ℕ) (core : Core) (deed : Deed) → IsPlain deed → MayDo sizes by core deed → MayStep sizes core.values (core.passes by) deed
+step_of sizes by core Splits is may = absurd is
+step_of sizes by core (Leaves cell) is may = absurd is
+step_of sizes by core (Joins number) is may = absurd is
+step_of sizes by core deed is may = may
+
 -- what it changes
 record Plain (sizes : Sizes) (by : ℕ) (core : Core) (deed : Deed) (found : ℕ) : Type 0 where
   which : changes by core.made deed ≡ by

@@ -15,7 +15,7 @@ use Rattle.nv_core.specs.Sound.{Sound}
 use Rattle.nv_core.proofs.Changes.{number_here, number_else}
 use Rattle.nv_core.proofs.Reach.{sound_begin}
 use Rattle.nv_core.proofs.RunLaws.{run_parts, run_both, after_parts}
-use Rattle.nv_table.specs.Acts.{Steps, act_of, events, pass_worked, with_call}
+use Rattle.nv_table.specs.Acts.{Steps, MayOpen, act_of, events, pass_worked, with_call}
 use Rattle.nv_table.specs.Opened.{mount_of, IsRunOf, state_of}
 use Rattle.nv_table.specs.Sights.{Sight, pass_of}
 use Rattle.nv_table.proofs.Going.{told_of}
@@ -57,6 +57,10 @@ module _ (sizes : Sizes) (by : ℕ) (core : Core) where
   begins_others None other ne = refl
   begins_others (Some call) other ne = number_else core.passes by (begun sizes call (core.passes by)) other ne
 
+  begins_open : (opens : Option FileCall) (deed : Deed) (found : ℕ) → MayAct sizes by core (act_of opens deed found) → MayOpen sizes opens (core.passes by)
+  begins_open None deed found may = tt
+  begins_open (Some call) deed found may = may.0
+
   begins_words : (opens : Option FileCall) → (core_with sizes by opens core).words ≡ core.words
   begins_words None = refl
   begins_words (Some call) = refl
@@ -74,6 +78,7 @@ pub record IsMadeAt (old : Sight) (run : List Event) (works : List Work) (opens 
   pub before : Sound old.opened.sizes (mount_of old.opened).values (state_of old.opened run)
   pub sound : Sound old.opened.sizes (mount_of old.opened).values core
   pub may : MayFind old.opened.sizes old.number core deed found
+  pub begins : MayOpen old.opened.sizes opens (pass_worked old.opened.sizes works (pass_of old))
   pub own : core.passes old.number ≡ with_call old.opened.sizes opens (pass_worked old.opened.sizes works (pass_of old))
   pub others : (other : ℕ) → other ≢ old.number → core.passes other ≡ (state_of old.opened run).passes other
   pub words : core.words ≡ (state_of old.opened run).words
@@ -88,9 +93,9 @@ made_at sound tell old new works opens deed found mount steps =
       before = sound (mount_of old.opened) run mount whole.0;
       sound = begins_soundly sizes by called (mount_of old.opened).values opens deed found sound_called made later.1.0.act;
       may = finds sizes by called opens deed found later.1.0.act;
+      begins = subst (MayOpen sizes opens) own_called (begins_open sizes by called opens deed found later.1.0.act);
       own = begins_own sizes by called opens
-          ∙ ap (with_call sizes opens) (calls_own sizes by works (state_of old.opened run)
-          ∙ ap (pass_worked sizes works) (told_of tell old.opened by old.run run mount whole.0 steps.knew.all steps.knew.made).pass);
+          ∙ ap (with_call sizes opens) own_called;
       others = λ other ne. begins_others sizes by called opens other ne ∙ calls_others sizes by other ne works (state_of old.opened run);
       words = begins_words sizes by called opens ∙ calls_stay sizes by (λ c. c.words) (λ work core. refl) works (state_of old.opened run);
       next = after_parts sizes first run (calls by works ++ event ∷ []) ∙ after_parts sizes (state_of old.opened run) (calls by works) (event ∷ []) ∙ steps_then sizes by called opens deed found;
@@ -123,6 +128,10 @@ made_at sound tell old new works opens deed found mount steps =
     sound_called : Sound sizes (mount_of old.opened).values called
     sound_called = subst (Sound sizes (mount_of old.opened).values) (after_parts sizes first run (calls by works))
         (sound (mount_of old.opened) (run ++ calls by works) mount (run_both sizes first run (calls by works) whole.0 later.0))
+
+    own_called : called.passes by ≡ pass_worked sizes works (pass_of old)
+    own_called = calls_own sizes by works (state_of old.opened run)
+        ∙ ap (pass_worked sizes works) (told_of tell old.opened by old.run run mount whole.0 steps.knew.all steps.knew.made).pass
 
     made : by ≤ called.made
     made = later.1.0.made

@@ -1,5 +1,6 @@
 -- Steps: what a pass carries, as its slots and as what they show.
 use Rattle.std.proofs.Common.{arith, ◌≡◌, refl, sym, ap, ◌∙◌, subst, inl, inr, ℕ, ◌<◌, ◌⊎◌, List, [], ◌∷◌, ◌++◌, take, drop, map, Option}
+use Rattle.std.specs.Prelude.{Some, None}
 use Rattle.std.proofs.lemmas.List.{take-append-drop}
 use Rattle.nv_plain.specs.declared.call.FileCall.{FileCall}
 use Rattle.atomic_table.specs.Seated.{TableId}
@@ -8,16 +9,19 @@ use Rattle.nv_core.specs.Words.{Sizes, Word}
 use Rattle.nv_core.specs.Values.{Value}
 use Rattle.nv_core.specs.Passes.{IsOneOf, times}
 use Rattle.nv_core.specs.Deeds.{Deed, move_of}
-use Rattle.nv_core.specs.Laws.{RunsAreSound}
 use Rattle.nv_core.specs.Order.{Work, Values, MayStep}
 use Rattle.nv_core.specs.Standing.{Standing}
 use Rattle.nv_table.specs.Changes.{changed}
-use Rattle.nv_table.specs.Drawn.{drawn_of, marks_of, IsFromHead, drawn_then, lost_then}
+use Rattle.nv_table.specs.Drawn.{lost_of, drawn_at, drawn_of, marks_of, IsFromHead, drawn_then, lost_then}
 use Rattle.nv_table.specs.Layout.{word_total}
-use Rattle.nv_table.specs.Opened.{mount_of, IsRunOf, state_of}
+use Rattle.nv_table.specs.Opened.{mount_of, state_of}
 use Rattle.nv_table.specs.Passing.{IsPass}
 use Rattle.nv_table.specs.Sights.{Sight, pass_of, values_of, carried, slot_times, Carries}
-use Rattle.nv_table.specs.Acts.{IsInFront, MayAct, Acted, values_then, pass_worked, values_before, with_call}
+use Rattle.nv_plain.specs.Histories.{Answered}
+use Rattle.nv_core.specs.Passes.{Pass, is_write}
+use Rattle.nv_core.specs.Opening.{IsMount}
+use Rattle.nv_core.specs.Stepped.{begun, stepped}
+use Rattle.nv_table.specs.Acts.{IsInFront, MayAct, MayOpen, Acted, values_then, pass_worked, pass_before, values_before, with_call}
 use Rattle.nv_table.specs.Ready.{IsReady, Stepped}
 use Rattle.nv_table.specs.States.{BoardState, PassState, IsOf, Shift, Out, shown_in, shift_of}
 use Rattle.nv_table.specs.Turned.{IsTurned}
@@ -25,11 +29,13 @@ use Rattle.nv_table.specs.declared.acting.Change.{Change}
 use Rattle.nv_table.specs.declared.stepping.Marks.{Marks}
 use Rattle.nv_table.proofs.CarryLaws.{carried_all}
 use Rattle.nv_table.specs.CoreLaws.{CoreLaws}
-use Rattle.nv_table.proofs.DrawnLaws.{marked}
+use Rattle.nv_table.proofs.DrawnLaws.{Marked, calls_leave, worked_drawn, goes_on, begins_closed, begun_marks}
 use Rattle.nv_table.proofs.LayoutLaws.{cell_there, place_within}
 use Rattle.nv_table.proofs.ShiftLaws.{cell_out, shifted}
 use Rattle.nv_table.proofs.Onward.{next_word, next_found, next_on_word, next_held}
 use Rattle.nv_table.proofs.PassLaws.{pass_acted}
+use Rattle.nv_table.proofs.RunsOn.{IsPlain, is_plain, step_of}
+use Rattle.nv_table.proofs.StepAt.{IsMadeAt, made_at}
 use Rattle.nv_table.proofs.TurnLaws.{times_turned, times_shown}
 
 -- ---- one of some
@@ -128,6 +134,61 @@ may_act shown pass me opens deed at change sight turn front said ready so =
     } in
     subst (λ v. (may : MayAct shown (v, me.1) opens deed at change) × said may.works) (sym sight) (may, so)
 
+-- what it makes of the first number of an open write, and of a faulted one
+marked : {S : Type 0} → CoreLaws → (shown : S → Value) (old new : Me S Sight) (opens : Option FileCall) (deed : Deed) (found : ℕ) (change : Change) → IsPlain deed → IsMount (mount_of old.0.opened)
+    → Acted shown old opens deed found new → IsFromHead (marks_of opens deed) change (pass_of old.0).head
+    → Marked (marks_of opens deed) change found (drawn_of (pass_of old.0)) (lost_of (pass_of old.0).faulted) (pass_of new.0)
+marked {S} laws shown old new opens deed found change plain mount acted head =
+    subst (Marked (marks_of opens deed) change found (drawn_of (pass_of old.0)) (lost_of (pass_of old.0).faulted)) (sym acted.pass) (by_call opens refl)
+  where
+    sizes : Sizes
+    sizes = old.0.opened.sizes
+
+    at : IsMadeAt old.0 acted.steps.run acted.works opens deed found
+    at = made_at laws.runs laws.own old.0 new.0 acted.works opens deed found mount acted.steps
+
+    worked_pass : Pass
+    worked_pass = pass_worked sizes acted.works (pass_of old.0)
+
+    history : List Answered
+    history = (state_of old.0.opened acted.steps.run).history
+
+    may : MayStep sizes at.core.values (with_call sizes opens worked_pass) deed
+    may = subst (λ p. MayStep sizes at.core.values p deed) at.own (step_of sizes old.0.number at.core deed plain at.may.may)
+
+    stands : Standing sizes (with_call sizes opens worked_pass)
+    stands = subst (Standing sizes) at.own (at.sound.standing old.0.number)
+
+    same_drawn : drawn_of worked_pass ≡ drawn_of (pass_of old.0)
+    same_drawn = calls_leave drawn_of worked_drawn sizes acted.works (pass_of old.0)
+
+    same_lost : lost_of worked_pass.faulted ≡ lost_of (pass_of old.0).faulted
+    same_lost = calls_leave (λ p. lost_of p.faulted) (λ sizes work pass. refl) sizes acted.works (pass_of old.0)
+
+    by_call : (begins : Option FileCall) → opens ≡ begins
+        → Marked (marks_of opens deed) change found (drawn_of (pass_of old.0)) (lost_of (pass_of old.0).faulted) (stepped sizes old.0.number history deed found (with_call sizes opens worked_pass))
+    by_call None is =
+        subst (λ o. Marked (marks_of o deed) change found (drawn_of (pass_of old.0)) (lost_of (pass_of old.0).faulted) (stepped sizes old.0.number history deed found (with_call sizes o worked_pass))) (sym is)
+        (subst (λ d. Marked (marks_of None deed) change found d (lost_of (pass_of old.0).faulted) (stepped sizes old.0.number history deed found worked_pass)) same_drawn
+        (subst (λ l. Marked (marks_of None deed) change found (drawn_of worked_pass) l (stepped sizes old.0.number history deed found worked_pass)) same_lost
+        (goes_on sizes at.core.values old.0.number history found change worked_pass (subst (λ o. Standing sizes (with_call sizes o worked_pass)) is stands) deed
+        (subst (λ o. MayStep sizes at.core.values (with_call sizes o worked_pass) deed) is may)
+        (subst (λ o. IsFromHead (marks_of o deed) change worked_pass.head) is
+        (subst (IsFromHead (marks_of opens deed) change) (sym (calls_leave (λ p. p.head) (λ sizes work pass. refl) sizes acted.works (pass_of old.0))) head)))))
+    by_call (Some call) is =
+        let first = subst (λ o. MayStep sizes at.core.values (with_call sizes o worked_pass) deed) is may in
+        let none = begun_marks sizes at.core.values call worked_pass deed first in
+        let idle : MayOpen sizes (Some call) worked_pass = subst (λ o. MayOpen sizes o worked_pass) is at.begins in
+        let closed : drawn_of worked_pass ≡ lost_of worked_pass.faulted = ap (drawn_at worked_pass.first (is_write worked_pass.call) (lost_of worked_pass.faulted)) idle.idle in
+        let now = goes_on sizes at.core.values old.0.number history found change (begun sizes call worked_pass) (subst (λ o. Standing sizes (with_call sizes o worked_pass)) is stands) deed first
+        (subst (λ m. IsFromHead m change worked_pass.head) (sym none) tt) in
+        subst (λ o. Marked (marks_of o deed) change found (drawn_of (pass_of old.0)) (lost_of (pass_of old.0).faulted) (stepped sizes old.0.number history deed found (with_call sizes o worked_pass))) (sym is)
+        record {
+          drawn_is = now.drawn_is ∙ ap (λ m. drawn_then m change found (drawn_of (begun sizes call worked_pass)) (lost_of worked_pass.faulted)) none
+              ∙ begins_closed sizes call worked_pass ∙ sym closed ∙ same_drawn;
+          lost_is = now.lost_is ∙ ap (λ m. lost_then m (drawn_of (begun sizes call worked_pass)) (lost_of worked_pass.faulted)) none ∙ same_lost;
+        }
+
 module _ {S : Type 0} {drawn lost : Option ℕ} (pass : PassState) (me : Me S Sight) (number made joined : ℕ) (held : List ℕ) (room : ℕ) (opens : Option FileCall) (deed : Deed) (sight : me.0 ≡ pass.sight)
     (is : IsPass me.0 me.1 number made joined held room drawn lost) where
   -- as the pass's sight
@@ -158,22 +219,20 @@ module _ {S : Type 0} {drawn lost : Option ℕ} (pass : PassState) (me : Me S Si
       ∙ once.1
 
   -- what the pass has written down then
-  pub step_keeps : RunsAreSound → (shown : S → Value) (at : ℕ) (change : Change) (marks : Marks) (found : ℕ) (new : Me S Sight) (shift : Shift) → IsReady pass opens deed at (changed change)
+  pub step_keeps : CoreLaws → (shown : S → Value) (at : ℕ) (change : Change) (marks : Marks) (found : ℕ) (new : Me S Sight) (shift : Shift) → IsReady pass opens deed at (changed change)
       → marks_of opens deed ≡ marks → IsFromHead marks change (pass_of pass.sight).head → Acted shown me opens deed found new
       → shift_of pass.sight.opened.sizes (move_of pass.sight.opened.sizes deed found) ≡ shift
       → IsPass new.0 new.1 number made joined (shifted shift held) room (drawn_then marks change found drawn lost) (lost_then marks drawn lost)
-  step_keeps runs shown at change marks found new shift ready marks_are head acted moves =
-      let same_mount : new.0.opened ≡ me.0.opened = ap (λ (s : Sight). s.opened) acted.steps.is in
-      let now = marked shown me new opens deed found (values_before pass.sight ready.works) (pass_worked pass.sight.opened.sizes ready.works (pass_of pass.sight)) marks change acted
-      (subst (λ o. Standing me.0.opened.sizes ((state_of o new.0.run).passes new.0.number)) (sym same_mount)
-      ((runs (mount_of me.0.opened) new.0.run is.mount (subst (λ (s : Sight). IsRunOf me.0.opened s.run) (sym acted.steps.is) acted.steps.is_run)).standing new.0.number))
-      (subst (λ s. MayStep s.opened.sizes (values_before pass.sight ready.works) (with_call s.opened.sizes opens (pass_worked pass.sight.opened.sizes ready.works (pass_of pass.sight))) deed) (sym sight) ready.next.may)
-      marks_are (subst (λ s. IsFromHead marks change (pass_of s).head) (sym sight) head) in
+  step_keeps laws shown at change marks found new shift ready marks_are head acted moves =
+      let plain = is_plain pass.sight.opened.sizes (values_before pass.sight ready.works) (pass_before pass.sight opens ready.works) deed ready.next.may in
+      let now = marked laws shown me new opens deed found change plain is.mount acted (subst (λ m. IsFromHead m change (pass_of me.0).head) (sym marks_are) (subst (λ s. IsFromHead marks change (pass_of s).head) (sym sight) head)) in
       subst (λ s. IsPass new.0 new.1 number made joined (shifted s held) room (drawn_then marks change found drawn lost) (lost_then marks drawn lost))
       (ap (λ (s : Sight). shift_of s.opened.sizes (move_of s.opened.sizes deed found)) sight ∙ moves)
       (pass_acted shown me.0 me.1 number made joined held room opens deed found new is acted
-      (ap (λ d. drawn_then marks change found d lost) is.drawn_is ∙ ap (drawn_then marks change found (drawn_of (pass_of me.0))) is.lost_is ∙ sym now.drawn_is)
-      (ap (λ d. lost_then marks d lost) is.drawn_is ∙ ap (lost_then marks (drawn_of (pass_of me.0))) is.lost_is ∙ sym now.lost_is))
+      (ap (λ d. drawn_then marks change found d lost) is.drawn_is ∙ ap (drawn_then marks change found (drawn_of (pass_of me.0))) is.lost_is
+      ∙ sym (ap (λ m. drawn_then m change found (drawn_of (pass_of me.0)) (lost_of (pass_of me.0).faulted)) marks_are) ∙ sym now.drawn_is)
+      (ap (λ d. lost_then marks d lost) is.drawn_is ∙ ap (lost_then marks (drawn_of (pass_of me.0))) is.lost_is
+      ∙ sym (ap (λ m. lost_then m (drawn_of (pass_of me.0)) (lost_of (pass_of me.0).faulted)) marks_are) ∙ sym now.lost_is))
 
 -- what the step tells the pass
 pub acted_stepped : {S : Type 0} (shown : S → Value) (pass : PassState) (me : Me S Sight) (opens : Option FileCall) (deed : Deed) (found : ℕ) (new : Me S Sight) (table : TableId) {spare : List Value}

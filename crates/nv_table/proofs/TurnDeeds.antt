@@ -6,7 +6,7 @@ use Rattle.std.proofs.lemmas.Bool.{cases_lt}
 use Rattle.std.proofs.lemmas.Nat.{div-add-mod', mod_below}
 use Rattle.nv_plain.specs.Histories.{Answered}
 use Rattle.nv_plain.specs.declared.call.FileCall.{FileCall}
-use Rattle.nv_core.specs.Words.{Sizes, Word, ORDER, SIZE, STORE, PAGE, CLEANUP, is_lock, place, first_page_word}
+use Rattle.nv_core.specs.Words.{Sizes, Word, STOP, ORDER, SIZE, STORE, PAGE, CLEANUP, is_lock, place, first_page_word}
 use Rattle.nv_core.specs.Passes.{Stage, Pass, Cleaning}
 use Rattle.nv_core.specs.Sweeps.{Grabs}
 use Rattle.nv_core.specs.Deeds.{Deed, Takes, Tends, word_of, value_after}
@@ -26,7 +26,9 @@ use Rattle.nv_table.specs.Opened.{Opened, mount_of, state_of}
 use Rattle.nv_table.specs.Ready.{IsReady, Stepped}
 use Rattle.nv_table.specs.Sights.{Sight, pass_of}
 use Rattle.nv_table.specs.States.{PassState}
-use Rattle.nv_table.specs.Turns.{IsDue, IsLoad, IsTake, IsPlaced, give_deed, place_deed, answered_at}
+use Rattle.nv_table.specs.Drawn.{marks_of}
+use Rattle.nv_table.specs.declared.stepping.Marks.TheVariants.{Nothing, Stops as EndsCall}
+use Rattle.nv_table.specs.Turns.{IsDue, IsLoad, IsTake, IsStop, IsPlaced, give_deed, place_deed, answered_at}
 use Rattle.nv_table.proofs.DrawnLaws.{calls_leave}
 use Rattle.nv_table.proofs.LayoutLaws.{at_page, word_there}
 use Rattle.nv_table.proofs.RunsOn.{calls}
@@ -85,6 +87,30 @@ give_on sizes stage cell = record { word_is = λ pass. refl; value_is = λ pass 
 
 pub place_on : (sizes : Sizes) (sight : Sight) → IsOn sizes (place_deed sight) ORDER (λ found. found + 1)
 place_on sizes sight = record { word_is = λ pass. refl; value_is = λ pass found. refl }
+
+pub stop_on : (sizes : Sizes) (deed : Deed) → IsStop deed → IsOn sizes deed STOP (λ found. 1)
+stop_on sizes deed (inl e) = subst (λ d. IsOn sizes d STOP (λ found. 1)) (sym e) record { word_is = λ pass. refl; value_is = λ pass found. refl }
+stop_on sizes deed (inr e) = subst (λ d. IsOn sizes d STOP (λ found. 1)) (sym e) record { word_is = λ pass. refl; value_is = λ pass found. refl }
+
+-- ---- what they make of the numbers that their pass has drawn
+
+pub load_marks : (opens : Option FileCall) (deed : Deed) (word : Word) → IsLoad deed word → marks_of opens deed ≡ Nothing
+load_marks (Some call) deed word is = refl
+load_marks None deed word (inl e) = ap (marks_of None) e
+load_marks None deed word (inr e) = ap (marks_of None) e
+
+pub take_marks : (opens : Option FileCall) (deed : Deed) (cell : Word) → IsTake deed cell → marks_of opens deed ≡ Nothing
+take_marks (Some call) deed cell is = refl
+take_marks None deed cell (inl e) = ap (marks_of None) e
+take_marks None deed cell (inr e) = ap (marks_of None) e
+
+pub give_marks : (stage : Stage) (cell : Word) → marks_of None (give_deed stage cell) ≡ Nothing
+give_marks (Cleaning batch sweep) cell = refl
+give_marks stage cell = refl
+
+pub stop_marks : (deed : Deed) → IsStop deed → marks_of None deed ≡ EndsCall
+stop_marks deed (inl e) = ap (marks_of None) e
+stop_marks deed (inr e) = ap (marks_of None) e
 
 -- ---- a step that is due is ready
 

@@ -1,28 +1,59 @@
--- Drawn: the first number that a pass's calls drew, and what a step makes of it.
-use Rattle.std.specs.Prelude.{◌≡◌, ℕ, ◌==◌, if◌then◌else◌, List, [], ◌∷◌, Option, Some, None}
+-- Drawn: the first number of a pass's open or faulted write, and what a step makes of it.
+use Rattle.std.specs.Prelude.{◌≡◌, ℕ, ◌==◌, Bool, if◌then◌else◌, List, [], ◌∷◌, Option, Some, None}
 use Rattle.nv_plain.specs.declared.call.FileCall.{FileCall}
-use Rattle.nv_core.specs.Passes.{Fault, Pass}
-use Rattle.nv_core.specs.Deeds.{Deed, Draws, Stops}
+use Rattle.nv_core.specs.Passes.{Fault, Pass, Stage, Seizing, Committing, Pledging, Readying, Placing, WriteFailing, is_write}
+use Rattle.nv_core.specs.Sweeps.{Halts}
+use Rattle.nv_core.specs.Deeds.{Deed, Draws, Places, Stops, Tends}
+use Rattle.nv_table.specs.Opened.{Opened}
+use Rattle.nv_table.specs.Sights.{Past, Sight, pass_of, past_pass}
 use Rattle.nv_table.specs.declared.acting.Change.{Change}
 use Rattle.nv_table.specs.declared.acting.Change.TheVariants.{Exchange}
 use Rattle.nv_table.specs.declared.stepping.Marks.{Marks}
-use Rattle.nv_table.specs.declared.stepping.Marks.TheVariants.{Nothing, Begins, Draws as DrawsNumbers, Stops as EndsCall}
+use Rattle.nv_table.specs.declared.stepping.Marks.TheVariants.{Nothing, Draws as DrawsNumbers, Places as TakesPlace, Stops as EndsCall}
 
--- the first number of the last call that ended by a fault and had drawn some
+-- the first number of the last write that ended by a fault
 abbrev pub lost_of : List Fault → Option ℕ
 lost_of [] = None
-lost_of (fault ∷ before) = if fault.entries == 0 then lost_of before else Some fault.first
+lost_of (fault ∷ before) = if is_write fault.call then Some fault.first else lost_of before
 
--- The first number that the call at hand, or else the last one, drew; where it drew none, that of a call that ended by a fault.
+-- By where a pass stands: of a write that has drawn its numbers and has no place yet, the first one; else that of the last faulted one.
+abbrev pub drawn_at : (first : ℕ) (write : Bool) (lost : Option ℕ) → Stage → Option ℕ
+drawn_at first write lost (Seizing number) = Some first
+drawn_at first write lost (Committing calls) = Some first
+drawn_at first write lost (Pledging page) = Some first
+drawn_at first write lost (Readying number) = Some first
+drawn_at first write lost Placing = if write then Some first else lost
+drawn_at first write lost WriteFailing = Some first
+drawn_at first write lost stage = lost
+
+-- the first number of its open write, or else of its faulted one
 abbrev pub drawn_of : Pass → Option ℕ
-drawn_of pass = if pass.entries == 0 then lost_of pass.faulted else Some pass.first
+drawn_of pass = drawn_at pass.first (is_write pass.call) (lost_of pass.faulted) pass.stage
+
+-- ---- and of those that it took in
+
+-- the one, or else the other
+abbrev pub or_else : Option ℕ → Option ℕ → Option ℕ
+or_else (Some number) other = Some number
+or_else None other = other
+
+-- that of the last one that has an open or faulted write
+abbrev pub inherited_of : Opened → List Past → Option ℕ
+inherited_of opened [] = None
+inherited_of opened (past ∷ before) = or_else (drawn_of (past_pass opened past)) (inherited_of opened before)
+
+-- its own, or else that of those that it took in
+abbrev pub drawn_by : Sight → Option ℕ
+drawn_by sight = or_else (drawn_of (pass_of sight)) (inherited_of sight.opened sight.ended)
 
 -- ---- what a step makes of them
 
 abbrev pub marks_of : Option FileCall → Deed → Marks
-marks_of (Some call) deed = Begins
+marks_of (Some call) deed = Nothing
 marks_of None Draws = DrawsNumbers
+marks_of None (Places reply) = TakesPlace
 marks_of None Stops = EndsCall
+marks_of None (Tends Halts) = EndsCall
 marks_of None deed = Nothing
 
 -- A draw is an exchange from HEAD as the pass saw it last.
@@ -33,8 +64,8 @@ IsFromHead marks change head = Unit {0}
 
 -- both after the step, by what they were and what the word was found as
 abbrev pub drawn_then : Marks → Change → (found : ℕ) → (drawn lost : Option ℕ) → Option ℕ
-drawn_then Begins change found drawn lost = lost
 drawn_then DrawsNumbers (Exchange old new) found drawn lost = if found == old then Some found else drawn
+drawn_then TakesPlace change found drawn lost = lost
 drawn_then marks change found drawn lost = drawn
 
 abbrev pub lost_then : Marks → (drawn lost : Option ℕ) → Option ℕ

@@ -1,20 +1,18 @@
 -- Turns: the steps that every call makes: load, take, give, place, stop. A cleaner makes them too.
-use Rattle.std.specs.Prelude.{◌≡◌, ◌⊎◌, ℕ, List, [], ◌∷◌, ◌++◌, length, Option, Some, None}
+use Rattle.std.specs.Prelude.{◌≡◌, ◌⊎◌, ℕ, List, [], ◌∷◌, ◌++◌, length, Option}
 use Rattle.nv_plain.specs.Histories.{Answered}
 use Rattle.nv_plain.specs.declared.call.FileCall.{FileCall}
 use Rattle.nv_plain.specs.declared.call.Reply.{Reply}
 use Rattle.nv_plain.specs.declared.call.Reply.TheVariants.{Bytes}
 use Rattle.nv_core.specs.Words.{Sizes, Word}
 use Rattle.nv_core.specs.Passes.{Stage, Pass, Placing, Cleaning}
-use Rattle.nv_core.specs.Sweeps.{Looks, Grabs, Yields}
-use Rattle.nv_core.specs.Deeds.{Deed, Loads, Takes, Gives, Places, Tends}
+use Rattle.nv_core.specs.Sweeps.{Looks, Grabs, Yields, Halts}
+use Rattle.nv_core.specs.Deeds.{Deed, Loads, Takes, Gives, Places, Stops, Tends}
 use Rattle.nv_core.specs.Order.{Values, Work, MayStep, plain_reply, gathered}
 use Rattle.nv_table.specs.Sights.{Sight, pass_of, values_of}
 use Rattle.nv_table.specs.Acts.{AreDue, MayOpen, pass_worked, pass_before, values_before}
 use Rattle.nv_table.specs.States.{PassState}
 use Rattle.nv_table.specs.Ready.{Holds}
-use Rattle.nv_table.specs.declared.stepping.Marks.{Marks}
-use Rattle.nv_table.specs.declared.stepping.Marks.TheVariants.{Nothing, Begins}
 
 -- ---- the deeds, by what the pass is at: a cleaner's batch, or a call
 
@@ -51,16 +49,14 @@ pub record IsDue (pass : PassState) (opens : Option FileCall) (deed : Deed) : Ty
 
 -- ---- a step of one of these kinds, by a call or by a cleaner
 
--- it draws no numbers, but it may begin a call
-abbrev pub begins_or_not : Option FileCall → Marks
-begins_or_not None = Nothing
-begins_or_not (Some call) = Begins
-
 abbrev pub IsLoad : Deed → Word → Type 0
 IsLoad deed word = (deed ≡ Loads word) ⊎ (deed ≡ Tends (Looks word))
 
 abbrev pub IsTake : Deed → Word → Type 0
 IsTake deed cell = (deed ≡ Takes cell) ⊎ (deed ≡ Tends (Grabs cell))
+
+abbrev pub IsStop : Deed → Type 0
+IsStop deed = (deed ≡ Stops) ⊎ (deed ≡ Tends Halts)
 
 -- ---- what the place of a call tells
 

@@ -177,6 +177,7 @@ fn board_of<L: Lines + Drop, B: Backing + Drop>(
                 held,
                 drawn: None,
                 lost: None,
+                inherited: None,
                 parts,
                 stores,
             },

@@ -75,6 +75,7 @@ impl<L: Lines + Drop, B: Backing + Drop> Board<L, B> {
             held,
             drawn: _,
             lost: _,
+            inherited: _,
             parts,
             stores,
         } = pass;

@@ -40,8 +40,8 @@ pub use seats::{Note, hear, join_pass, split_pass, write_note};
 pub use slot::{PageBuffer, Shown, Slot};
 pub use stepping::{Marks, Moves, step};
 pub use turns::{
-    Busy, Calls, Says, begin_with_load, begin_with_take, give, give_after, halt, load_word, place,
-    stop, take,
+    Busy, Calls, Says, begin_with_load, begin_with_take, give, give_after, load_word, place, stop,
+    take,
 };
 pub use view::View;
 

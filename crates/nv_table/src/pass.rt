@@ -3,10 +3,10 @@ ghost use Rattle.std.specs.Prelude.{◌≡◌, ◌≢◌, ℕ, ◌<◌, ◌≤�
 ghost use Rattle.nv_core.specs.Opening.{IsMount};
 ghost use Rattle.nv_table.specs.Acts.{IsFirst};
 ghost use Rattle.nv_table.specs.Between.{IsStill};
-ghost use Rattle.nv_table.specs.Drawn.{drawn_of};
+ghost use Rattle.nv_table.specs.Drawn.{drawn_by, or_else as either_number};
 ghost use Rattle.nv_table.specs.Opened.{mount_of, IsRunOf};
 ghost use Rattle.nv_table.specs.Passing.{KnowsTaken};
-ghost use Rattle.nv_table.specs.Sights.{pass_of, slot_times};
+ghost use Rattle.nv_table.specs.Sights.{slot_times};
 ghost use Rattle.nv_table.specs.Turned.{SameButTurned};
 
 use crate::{Slot, View};
@@ -22,8 +22,10 @@ pub struct Pass<L: Lines, B: Backing> {
     pub(crate) made: u64,
     pub(crate) joined: u64,
     pub(crate) held: Vec<usize>,
+    // The first number of its open write, or else of its faulted one, and that alone; and that of the passes that it took in.
     pub(crate) drawn: Option<u64>,
     pub(crate) lost: Option<u64>,
+    pub(crate) inherited: Option<u64>,
     // In pass 0 the vectors that parts and stores came in, with places for all of them: the parts that have no slot, and no store. In the
     // other passes they are empty, without memory. They aren't the board's, since threads share that, and devices need not be shared.
     pub(crate) parts: Vec<L>,
@@ -33,6 +35,8 @@ pub struct Pass<L: Lines, B: Backing> {
 impl<L: Lines, B: Backing> Model for Pass<L, B> {
     ghost use Rattle.std.specs.Prelude.{map, vec_capacity};
     ghost use Rattle.nv_table.specs.States.{PassState, shown_in};
+    ghost use Rattle.std.specs.Prelude.{◌≡◌};
+    ghost use Rattle.nv_table.specs.Drawn.{inherited_of};
     ghost use Rattle.nv_table.specs.Passing.{HasPlaces, IsPass};
     ghost use Rattle.nv_table.specs.Kept.{part_value, store_value, slot_value};
 
@@ -46,7 +50,18 @@ impl<L: Lines, B: Backing> Model for Pass<L, B> {
     } };
 
     ghost invariant = { λ p. IsPass p.seat.me.0 p.seat.me.1 p.number p.made p.joined p.held.items (vec_capacity p.held) p.drawn p.lost
-        × HasPlaces p.seat.me.0.opened.sizes p.number p.parts.items (vec_capacity p.parts) p.stores.items (vec_capacity p.stores) };
+        × HasPlaces p.seat.me.0.opened.sizes p.number p.parts.items (vec_capacity p.parts) p.stores.items (vec_capacity p.stores)
+        × (p.inherited ≡ inherited_of p.seat.me.0.opened p.seat.me.0.ended) };
+}
+
+// The one, or else the other.
+pub(crate) fn or_else(one: Option<u64>, other: Option<u64>) -> Option<u64>
+    ensures { result ≡ either_number one other }
+{
+    match one {
+        Some(number) => Some(number),
+        None => other,
+    }
 }
 
 // Where a slot first stands among some; behind the last where it doesn't.
@@ -97,12 +112,12 @@ impl<L: Lines, B: Backing> Pass<L, B> {
         let _ = &self.number;
     }
 
-    /// The first number of the log that its call at hand drew, or the last one where none is at hand. Where that call drew none, it is
-    /// the first number of the last call that ended by a device fault and had drawn some; `None` where there is no such call.
+    /// The first number of the log that its write drew which has no place yet, be it open or ended by a device fault. Where it has no such
+    /// write, it is that of the passes that it took in, of the last one that has one; `None` where there is none.
     pub fn drawn(&self) -> Option<u64>
-        ensures { result ≡ drawn_of (pass_of self.now.sight) }
+        ensures { result ≡ drawn_by self.now.sight }
     {
-        self.drawn
+        or_else(self.drawn, self.inherited)
     }
 
     // A slot that it carries comes to the front.

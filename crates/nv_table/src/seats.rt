@@ -5,6 +5,7 @@ ghost use Rattle.nv_table.specs.Between.{IsStill, IsSplit, PutsBack, IsTakenIn, 
 ghost use Rattle.nv_table.specs.Sights.{pass_of, made_of};
 ghost use Rattle.nv_table.specs.States.{IsOf};
 
+use crate::pass::or_else;
 use crate::seating::{hear as hear_note, join, leave, part, split, take_in, tell};
 use crate::{Board, Pass, Slot, View};
 use atomic_table::Seat;
@@ -86,6 +87,7 @@ pub fn split_pass<L: Lines + Drop, B: Backing + Drop>(
         held,
         drawn: None,
         lost: None,
+        inherited: None,
         parts: Vec::new(alloc),
         stores: Vec::new(alloc),
     })
@@ -121,8 +123,8 @@ pub(crate) fn put_back<L: Lines, B: Backing>(board: &Board<L, B>, pass: &mut Pas
     }
 }
 
-/// Takes in a pass that pass 0 made, whatever it is at: what it carries goes home first, while the locks of these cells stay shut. No
-/// device call may have come since its last step. Takes no memory.
+/// Takes in a pass that pass 0 made, whatever it is at: what it carries goes home first, while the locks of these cells stay shut, and what it
+/// has drawn for a write that has no place goes over. No device call may have come since its last step. Takes no memory.
 pub fn join_pass<L: Lines + Drop, B: Backing + Drop>(
     board: &Board<L, B>,
     pass: &mut Pass<L, B>,
@@ -145,8 +147,9 @@ pub fn join_pass<L: Lines + Drop, B: Backing + Drop>(
         made: _,
         joined: _,
         held,
-        drawn: _,
+        drawn,
         lost: _,
+        inherited: _,
         parts,
         stores,
     } = other;
@@ -156,6 +159,7 @@ pub fn join_pass<L: Lines + Drop, B: Backing + Drop>(
     take_in(&board.table.shared, &mut pass.seat, seat);
     join::<Brand, Slot<L, B>>(&board.table.shared, &mut pass.seat);
     pass.joined += 1;
+    pass.inherited = or_else(drawn, pass.inherited);
 }
 
 /// Writes down the run of all passes up to a pass's last step.
@@ -170,7 +174,7 @@ pub fn write_note<L: Lines, B: Backing>(board: &Board<L, B>, from: &mut Pass<L, 
     }
 }
 
-/// A pass hears a note: each of its later steps comes behind that run.
+/// A pass hears a note: each of its later steps comes behind that run, and behind those of the notes that it has heard before.
 pub fn hear<L: Lines, B: Backing>(board: &Board<L, B>, to: &mut Pass<L, B>, note: Note<L, B>)
     requires board { IsOf board.now to.old }
     requires note { note.table ≡ board.now.table }

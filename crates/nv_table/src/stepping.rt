@@ -46,27 +46,27 @@ impl Moves {
 pub enum Marks {
     /// They stay.
     Nothing,
-    /// It begins a call, which has drawn none yet.
-    Begins,
     /// It draws some, where HEAD is found as the pass saw it last.
     Draws,
+    /// The call takes its place, and is no open one any more.
+    Places,
     /// A device fault ends the call.
     Stops,
 }
 
 impl Marks {
-    // The first number that its pass has drawn then.
+    // The first number of the open write of its pass then, or else of its faulted one.
     fn drawn(self, change: Change, found: u64, drawn: Option<u64>, lost: Option<u64>) -> Option<u64>
         ensures { result ≡ drawn_then self change found drawn lost }
     {
         match (self, change) {
-            (Marks::Begins, _) => lost,
             (Marks::Draws, Change::Exchange(old, _)) if found == old => Some(found),
+            (Marks::Places, _) => lost,
             _ => drawn,
         }
     }
 
-    // And the one of a call that a fault ended.
+    // And that of its faulted one alone.
     fn lost(self, drawn: Option<u64>, lost: Option<u64>) -> Option<u64>
         ensures { result ≡ lost_then self drawn lost }
     {

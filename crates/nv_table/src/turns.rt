@@ -3,8 +3,7 @@ ghost use Rattle.std.specs.Prelude.{◌≡◌, ◌==◌, ℕ, true, if◌then◌
 ghost use Rattle.nv_core.specs.Order.{Work};
 ghost use Rattle.nv_plain.specs.declared.call.FileCall.{FileCall};
 ghost use Rattle.nv_plain.specs.declared.call.FileCall.TheVariants.{Sync};
-ghost use Rattle.nv_core.specs.Deeds.{Loads, Takes, Stops, Tends};
-ghost use Rattle.nv_core.specs.Sweeps.{Halts};
+ghost use Rattle.nv_core.specs.Deeds.{Loads, Takes};
 ghost use Rattle.nv_core.specs.Words.{STOP as stop_word};
 ghost use Rattle.nv_core.specs.Standing.{has_call};
 ghost use Rattle.nv_table.specs.Alone.{IsAlone};
@@ -14,7 +13,7 @@ ghost use Rattle.nv_table.specs.Moving.{shift_said};
 ghost use Rattle.nv_table.specs.Ready.{Stepped};
 ghost use Rattle.nv_table.specs.Sights.{pass_of};
 ghost use Rattle.nv_table.specs.States.{IsOf, Rests, coming, going};
-ghost use Rattle.nv_table.specs.Turns.{IsDue, IsLoad, IsTake, IsPlaced, begins_or_not, load_deed, take_deed, give_deed, place_deed};
+ghost use Rattle.nv_table.specs.Turns.{IsDue, IsLoad, IsTake, IsStop, IsPlaced, load_deed, take_deed, give_deed, place_deed};
 
 use crate::laws::a_pass_alone_is_not_refused;
 use crate::stepping::{Marks, Moves, step};
@@ -76,13 +75,11 @@ fn load_by<E: Does, L: Lines, B: Backing>(
     board: &Board<L, B>,
     pass: &mut Pass<L, B>,
     word: u64,
-    marks: Marks,
 ) -> u64
     requires board { IsOf board.now pass.old }
     requires deed { IsLoad E.deed (word_at pass.old.sight.opened.sizes word) }
     requires due { IsDue pass.old E.opens E.deed }
     requires said { (works : List Work) → E.said works }
-    requires begins { marks ≡ begins_or_not E.opens }
     ensures board { IsOf board.now pass.new }
     ensures stepped { (stepped : Stepped pass.old E.opens E.deed result pass.new) × E.said stepped.works }
 {
@@ -92,7 +89,7 @@ fn load_by<E: Does, L: Lines, B: Backing>(
         word as usize,
         Change::Load,
         Moves::Stays,
-        marks,
+        Marks::Nothing,
     )
 }
 
@@ -101,13 +98,11 @@ fn take_by<E: Does, L: Lines, B: Backing>(
     board: &Board<L, B>,
     pass: &mut Pass<L, B>,
     cell: u64,
-    marks: Marks,
 ) -> Result<(), Busy>
     requires board { IsOf board.now pass.old }
     requires deed { IsTake E.deed (word_at pass.old.sight.opened.sizes cell) }
     requires due { IsDue pass.old E.opens E.deed }
     requires said { (works : List Work) → E.said works }
-    requires begins { marks ≡ begins_or_not E.opens }
     ensures board { IsOf board.now pass.new }
     ensures stepped { (stepped : Stepped pass.old E.opens E.deed (found_by result) pass.new) × E.said stepped.works }
     ensures busy { IfErr result (λ busy. busy.cell ≡ cell) }
@@ -124,7 +119,7 @@ fn take_by<E: Does, L: Lines, B: Backing>(
         cell as usize,
         Change::Exchange(0, 1),
         moves,
-        marks,
+        Marks::Nothing,
     );
     if found == 0 {
         Ok(())
@@ -140,7 +135,7 @@ pub fn load_word<L: Lines, B: Backing>(board: &Board<L, B>, pass: &mut Pass<L, B
     ensures board { IsOf board.now pass.new }
     ensures stepped { Stepped pass.old None (load_deed (pass_of pass.old.sight).stage (word_at pass.old.sight.opened.sizes word)) result pass.new }
 {
-    load_by::<Brand, L, B>(board, pass, word, Marks::Nothing)
+    load_by::<Brand, L, B>(board, pass, word)
 }
 
 /// Begins a call of no pages with the load of STOP, its first step.
@@ -153,7 +148,7 @@ pub fn begin_with_load<C: Calls, L: Lines, B: Backing>(
     ensures board { IsOf board.now pass.new }
     ensures stepped { Stepped pass.old (Some C.call) (Loads stop_word) result pass.new }
 {
-    load_by::<Brand, L, B>(board, pass, STOP, Marks::Begins)
+    load_by::<Brand, L, B>(board, pass, STOP)
 }
 
 /// Takes a lock, by its place, where that is the pass's next step. What its cell keeps comes with it; where the lock is held already
@@ -170,7 +165,7 @@ pub fn take<L: Lines, B: Backing>(
     ensures busy { IfErr result (λ busy. busy.cell ≡ cell) }
     ensures alone { IsAlone pass.old.sight → has_call (pass_of pass.old.sight).stage ≡ true → OnErr result ⊥ }
 {
-    take_by::<Brand, L, B>(board, pass, cell, Marks::Nothing)
+    take_by::<Brand, L, B>(board, pass, cell)
 }
 
 /// Begins a call with the take of a lock, by its place, where that is the call's first step.
@@ -186,7 +181,7 @@ pub fn begin_with_take<C: Calls, L: Lines, B: Backing>(
     ensures busy { IfErr result (λ busy. busy.cell ≡ cell) }
     ensures alone { IsAlone pass.old.sight → OnErr result ⊥ }
 {
-    take_by::<Brand, L, B>(board, pass, cell, Marks::Begins)
+    take_by::<Brand, L, B>(board, pass, cell)
 }
 
 /// Gives a lock back, by its place, with what its cell keeps, where that is the pass's next step.
@@ -237,40 +232,26 @@ pub fn place<L: Lines, B: Backing>(board: &Board<L, B>, pass: &mut Pass<L, B>) -
         ORDER as usize,
         Change::Add(1),
         Moves::Stays,
-        Marks::Nothing,
+        Marks::Places,
     )
 }
 
-/// Sets STOP after a device fault of a call, where that is the pass's next step.
-pub fn stop<L: Lines, B: Backing>(board: &Board<L, B>, pass: &mut Pass<L, B>)
+/// Sets STOP after a device fault, of a call or of a cleaner's batch, where that is the pass's next step. What is so of the device calls that the
+/// pass has made since its last step, it is of those that the step tells.
+pub fn stop<E: Does, L: Lines, B: Backing>(board: &Board<L, B>, pass: &mut Pass<L, B>)
     requires board { IsOf board.now pass.old }
-    requires due { IsDue pass.old None Stops }
+    requires deed { IsStop E.deed }
+    requires opens { E.opens ≡ None }
+    requires due { (due : IsDue pass.old None E.deed) × E.said due.works }
     ensures board { IsOf board.now pass.new }
-    ensures stepped { (found : ℕ) × Stepped pass.old None Stops found pass.new }
+    ensures stepped { (found : ℕ) × (stepped : Stepped pass.old None E.deed found pass.new) × E.said stepped.works }
 {
-    step::<Brand, L, B>(
+    step::<E, L, B>(
         board,
         pass,
         STOP as usize,
         Change::Set(1),
         Moves::Stays,
         Marks::Stops,
-    );
-}
-
-/// Sets STOP after a device fault of a cleaner's batch, where that is the pass's next step.
-pub fn halt<L: Lines, B: Backing>(board: &Board<L, B>, pass: &mut Pass<L, B>)
-    requires board { IsOf board.now pass.old }
-    requires due { IsDue pass.old None (Tends Halts) }
-    ensures board { IsOf board.now pass.new }
-    ensures stepped { (found : ℕ) × Stepped pass.old None (Tends Halts) found pass.new }
-{
-    step::<Brand, L, B>(
-        board,
-        pass,
-        STOP as usize,
-        Change::Set(1),
-        Moves::Stays,
-        Marks::Nothing,
     );
 }

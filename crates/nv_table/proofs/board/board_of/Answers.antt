@@ -37,6 +37,7 @@ invariant_of-result-in-Ok g c =
         no_part = λ other. absurd (other refl);
         no_store = c.in_ok-slots.ensures.stores;
       },
+      refl,
     )
 
 pub unfill-requires-clause-part_places : goal.unfill-requires-clause-part_places

@@ -9,7 +9,7 @@ use Rattle.nv_table.specs.Turned.{IsTurned}
 use Rattle.std.specs.Prelude.{Some}
 use Rattle.nv_table.proofs.TurnLaws.{first_held}
 use Rattle.nv_table.proofs.HandLaws.{exchanged, pass_exchanged}
-use Rattle.nv_table.proofs.PassLaws.{same_places}
+use Rattle.nv_table.proofs.PassLaws.{same_places, same_inherited}
 use Rattle.nv_table.proofs.hands.exchange.Goals as goal
 
 pub exchange-requires : goal.exchange-requires
@@ -26,6 +26,7 @@ invariant_of-pass g c =
           (pass_exchanged i.seat.me.0 c.args.slot c.exchange.result c.args.new (Rattle.atomic_table.specs.Table.rest i.seat.me.1) i.number i.made i.joined i.held.items (vec_capacity i.held)
           (subst (λ slots. IsPass i.seat.me.0 slots i.number i.made i.joined i.held.items (vec_capacity i.held) i.drawn i.lost) c.exchange.ensures.2 c.pass.invariant.0)),
       same_places (ap (λ me. me.0.opened) c.exchange.ensures.3) c.pass.invariant.1,
+      same_inherited i.seat.me.0 c.exchange.new.seat.me.0 (ap (λ me. me.0.opened) c.exchange.ensures.3) (ap (λ me. me.0.ended) c.exchange.ensures.3) c.pass.invariant.2,
     )
 
 pub returns : goal.returns

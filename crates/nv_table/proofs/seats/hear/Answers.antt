@@ -7,4 +7,5 @@ invariant_of-to g c =
       heard_pass c.to.inside.seat.me.0 c.note.inside.seat.me.0 c.to.inside.seat.me.1 c.to.inside.number c.to.inside.made c.to.inside.joined c.to.inside.held.items
           (Rattle.std.specs.Vec.vec_capacity c.to.inside.held) c.to.invariant.0,
       c.to.invariant.1,
+      c.to.invariant.2,
     )

@@ -4,7 +4,7 @@ use Rattle.nv_table.specs.Kept.{part_value, store_value, slot_value}
 use Rattle.nv_table.specs.Sights.{SeesAll, Sight, pass_of, slot_times}
 use Rattle.nv_table.specs.States.{PassState}
 use Rattle.nv_table.proofs.BetweenLaws.{last_taken, puts_number, none_shown, carries_none, few_taken, joined_pass, may_join, passed_in, is_taken_in}
-use Rattle.nv_table.proofs.PassLaws.{same_places}
+use Rattle.nv_table.proofs.PassLaws.{same_places, joined_inherited}
 use Rattle.nv_table.proofs.seats.join_pass.Goals as goal
 
 pub take_in-requires-clause-other_some : goal.take_in-requires-clause-other_some
@@ -44,6 +44,12 @@ invariant_of-pass g c =
           c.other.invariant.0.known.made
           (subst (λ (v : Sight). SeesAll (last_taken v.ended).number (last_taken v.ended).run c.join.new.seat.me.0.run) (ap (λ me. me.0) c.take_in.ensures.joined) c.join.ensures.behind),
       same_places (ap (λ (s : Sight). s.opened) c.join.ensures.passed.is ∙ ap (λ me. me.0.opened) c.take_in.ensures.joined) c.pass.invariant.1,
+      c.or_else-pass-inside.ensures
+          ∙ joined_inherited c.pass.inside.seat.me.0 c.other.inside.seat.me.0 c.join.new.seat.me.0
+          (ap (λ (s : Sight). s.opened) c.join.ensures.passed.is ∙ ap (λ me. me.0.opened) c.take_in.ensures.joined)
+          (ap (λ (s : Sight). s.ended) c.join.ensures.passed.is ∙ ap (λ me. me.0.ended) c.take_in.ensures.joined)
+          (ap (λ (p : PassState). p.sight.opened) c.other.view_is ∙ c.put_back.ensures.board.same_mount ∙ sym c.requires.board.same_mount ∙ sym (ap (λ (p : PassState). p.sight.opened) c.pass.view_is))
+          c.other.invariant.0.drawn_is c.pass.invariant.2,
     )
 
 pub returns : goal.returns

@@ -8,7 +8,7 @@ use Rattle.nv_table.specs.Seats.{Passed}
 use Rattle.nv_table.specs.Sights.{Sight}
 use Rattle.nv_table.specs.States.{PassState}
 use Rattle.nv_table.proofs.BetweenLaws.{may_leave, still_held, some_held, popped, left_fewer, left_still, left_pass}
-use Rattle.nv_table.proofs.PassLaws.{same_places}
+use Rattle.nv_table.proofs.PassLaws.{same_places, same_inherited}
 use Rattle.nv_table.proofs.TurnLaws.{first_slot}
 use Rattle.nv_table.proofs.seats.put_back_first.Goals as goal
 
@@ -32,6 +32,7 @@ invariant_of-pass g c =
           c.rotate_left.ensures.items c.rotate_left.new.self.ok.0 c.pop.ensures.rest)
           (c.pop.ensures.capacity ∙ c.rotate_left.ensures.capacity),
       same_places (ap (λ (s : Sight). s.opened) c.leave.ensures.left.passed.is) c.pass.invariant.1,
+      same_inherited i.seat.me.0 c.leave.new.seat.me.0 (ap (λ (s : Sight). s.opened) c.leave.ensures.left.passed.is) (ap (λ (s : Sight). s.ended) c.leave.ensures.left.passed.is) c.pass.invariant.2,
     )
 
 pub returns-clause-still : goal.returns-clause-still

@@ -1,4 +1,4 @@
-use Rattle.std.proofs.Common.{rules, ◌≡◌, ◌<◌, ◌∙◌, ◌+◌, ◌^◌, sym, ap, subst, arith}
+use Rattle.std.proofs.Common.{rules, ◌≡◌, ◌<◌, ◌∙◌, ◌+◌, ◌^◌, refl, sym, ap, subst, arith}
 use Rattle.nv_table.specs.Layout.{slot_total}
 use Rattle.nv_table.specs.Opened.{Opened}
 use Rattle.nv_core.specs.Deeds.{Splits}
@@ -6,7 +6,7 @@ use Rattle.nv_table.specs.Seats.{Passed}
 use Rattle.nv_table.specs.Sights.{Sight, made_of}
 use Rattle.nv_table.specs.States.{BoardState, PassState}
 use Rattle.nv_table.proofs.BetweenLaws.{made_fresh, parent_pass, child_pass}
-use Rattle.nv_table.proofs.PassLaws.{same_places}
+use Rattle.nv_table.proofs.PassLaws.{same_places, same_inherited}
 use Rattle.nv_table.proofs.seats.split_pass.Goals as goal
 
 pub invariant_of-result : goal.invariant_of-result
@@ -25,6 +25,7 @@ invariant_of-result g c =
         no_part = λ other. c.new.ensures.items;
         no_store = c.new-2.ensures.items;
       },
+      refl,
     )
 
 pub invariant_of-pass : goal.invariant_of-pass
@@ -36,6 +37,7 @@ invariant_of-pass g c =
       parent_pass c.pass.inside.seat.me.0 c.split.new.seat.me.0 c.split.result c.split.ensures.passed c.pass.inside.seat.me.1 c.pass.inside.number c.pass.inside.made c.pass.inside.joined
           c.pass.inside.held.items (Rattle.std.specs.Vec.vec_capacity c.pass.inside.held) c.pass.invariant.0 zero (omega (arith, made, made_is)),
       same_places (ap (λ (s : Sight). s.opened) c.split.ensures.passed.is) c.pass.invariant.1,
+      same_inherited c.pass.inside.seat.me.0 c.split.new.seat.me.0 (ap (λ (s : Sight). s.opened) c.split.ensures.passed.is) (ap (λ (s : Sight). s.ended) c.split.ensures.passed.is) c.pass.invariant.2,
     )
 
 pub returns-clause-made : goal.returns-clause-made

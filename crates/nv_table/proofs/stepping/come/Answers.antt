@@ -13,7 +13,7 @@ use Rattle.nv_table.specs.Ready.{Stepped}
 use Rattle.nv_table.specs.Sights.{Sight}
 use Rattle.nv_table.specs.States.{BoardState, PassState, Shift, In, Rests, shown_in}
 use Rattle.nv_table.proofs.ShiftLaws.{comes_in, none_out, none_moves, in_front, shifted, written_first}
-use Rattle.nv_table.proofs.PassLaws.{pass_fits, same_places}
+use Rattle.nv_table.proofs.PassLaws.{pass_fits, same_places, same_inherited}
 use Rattle.nv_table.proofs.StepLaws.{may_act, step_fits, step_keeps, acted_stepped}
 use Rattle.nv_table.proofs.stepping.come.Given.{Over}
 use Rattle.nv_table.proofs.stepping.come.Goals.{After-coming}
@@ -47,7 +47,7 @@ kept g c shift said =
     let inside = c.pass.inside in
     let shown = slot_value (part_value g.L.Lines.device g.L.Lines.history g.L.Lines.fault_count g.L.Lines.room) (store_value g.B.Backing.device g.B.Backing.history g.B.Backing.fault_count) in
     step_keeps c.args.pass.now inside.seat.me inside.number inside.made inside.joined inside.held.items (vec_capacity inside.held) g.E.Does.opens g.E.Does.deed
-    (ap (λ (p : PassState). p.sight) c.pass.view_is) c.pass.invariant.0 c.laws_of_the_core.ensures.runs shown c.args.place c.args.change c.args.marks c.act-found.result
+    (ap (λ (p : PassState). p.sight) c.pass.view_is) c.pass.invariant.0 c.laws_of_the_core.ensures shown c.args.place c.args.change c.args.marks c.act-found.result
     c.act-found.new.seat.me shift c.requires.next.0 c.requires.marks c.requires.head c.act-found.ensures.acted.0
     (c.requires.moves c.act-found.result ∙ said)
 
@@ -73,6 +73,7 @@ invariant_of-pass g c =
     ) (
       kept g (goal.at.invariant_of-pass g c).After-coming (In c.in-Some.slot) (comes_in (shift_said c.args.moves c.act-found.result) c.in-Some.slot (c.coming.ensures ∙ c.in-Some.is)),
       same_places (ap (λ (s : Sight). s.opened) c.act-found.ensures.acted.0.steps.is) c.pass.invariant.1,
+      same_inherited c.pass.inside.seat.me.0 c.act-found.new.seat.me.0 (ap (λ (s : Sight). s.opened) c.act-found.ensures.acted.0.steps.is) (ap (λ (s : Sight). s.ended) c.act-found.ensures.acted.0.steps.is) c.pass.invariant.2,
     )
 
 pub invariant_of-pass-in_default : goal.invariant_of-pass-in_default
@@ -80,6 +81,7 @@ invariant_of-pass-in_default g c =
     rw (c.drawn-pass-inside.ensures, c.lost-pass-inside.ensures) (
       kept g (goal.at.invariant_of-pass-in_default g c).After-coming Rests (none_moves c.args.moves c.act-found.result c.requires.stays (c.coming.ensures ∙ c.in_default.is)),
       same_places (ap (λ (s : Sight). s.opened) c.act-found.ensures.acted.0.steps.is) c.pass.invariant.1,
+      same_inherited c.pass.inside.seat.me.0 c.act-found.new.seat.me.0 (ap (λ (s : Sight). s.opened) c.act-found.ensures.acted.0.steps.is) (ap (λ (s : Sight). s.ended) c.act-found.ensures.acted.0.steps.is) c.pass.invariant.2,
     )
 
 -- What the step tells, for both returns.

@@ -9,7 +9,7 @@ use Rattle.nv_table.specs.Kept.{part_value, store_value, slot_value}
 use Rattle.nv_table.specs.Layout.{word_total}
 use Rattle.nv_table.specs.Sights.{Sight}
 use Rattle.nv_table.specs.States.{BoardState, PassState, Out}
-use Rattle.nv_table.proofs.PassLaws.{same_places}
+use Rattle.nv_table.proofs.PassLaws.{same_places, same_inherited}
 use Rattle.nv_table.proofs.ShiftLaws.{same_slot, in_front, struck_out}
 use Rattle.nv_table.proofs.StepLaws.{may_act, step_fits, goes_once, step_keeps, acted_stepped}
 use Rattle.nv_table.proofs.TurnLaws.{first_held}
@@ -51,9 +51,10 @@ invariant_of-pass g c =
     let shown = slot_value (part_value g.L.Lines.device g.L.Lines.history g.L.Lines.fault_count g.L.Lines.room) (store_value g.B.Backing.device g.B.Backing.history g.B.Backing.fault_count) in
     rw (c.drawn-pass-inside.ensures, c.lost-pass-inside.ensures, c.pop.ensures.rest, c.pop.ensures.capacity, c.rotate_left.new.self.ok.0, c.rotate_left.ensures.items, c.rotate_left.ensures.capacity, struck_out inside.held.items) (
       step_keeps c.args.pass.now inside.seat.me inside.number inside.made inside.joined inside.held.items (vec_capacity inside.held) g.E.Does.opens g.E.Does.deed
-          (ap (λ (p : PassState). p.sight) c.pass-2.view_is ∙ c.bring.ensures.same.sight) c.pass-2.invariant.0 c.laws_of_the_core.ensures.runs shown c.args.place c.args.change c.args.marks c.act-found.result c.act-found.new.seat.me (Out c.args.slot)
+          (ap (λ (p : PassState). p.sight) c.pass-2.view_is ∙ c.bring.ensures.same.sight) c.pass-2.invariant.0 c.laws_of_the_core.ensures shown c.args.place c.args.change c.args.marks c.act-found.result c.act-found.new.seat.me (Out c.args.slot)
           c.requires.next.0 c.requires.marks c.requires.head c.act-found.ensures.acted.0 (c.requires.moves c.act-found.result),
       same_places (ap (λ (s : Sight). s.opened) c.act-found.ensures.acted.0.steps.is) c.pass-2.invariant.1,
+      same_inherited c.pass-2.inside.seat.me.0 c.act-found.new.seat.me.0 (ap (λ (s : Sight). s.opened) c.act-found.ensures.acted.0.steps.is) (ap (λ (s : Sight). s.ended) c.act-found.ensures.acted.0.steps.is) c.pass-2.invariant.2,
     )
 
 pub returns-clause-stepped : goal.returns-clause-stepped

@@ -6,7 +6,7 @@ use Rattle.nv_table.specs.Layout.{word_at}
 use Rattle.nv_table.specs.Sights.{pass_of}
 use Rattle.nv_table.specs.Turns.{give_deed}
 use Rattle.nv_table.specs.declared.acting.Change.TheVariants.{Set}
-use Rattle.nv_table.proofs.TurnDeeds.{give_on, place_at, ready}
+use Rattle.nv_table.proofs.TurnDeeds.{give_on, give_marks, place_at, ready}
 use Rattle.nv_table.proofs.turns.give_after.Goals as goal
 
 pub step-requires-clause-next : goal.step-requires-clause-next
@@ -22,3 +22,6 @@ step-requires-clause-next g c =
 
 pub returns-clause-stepped : goal.returns-clause-stepped
 returns-clause-stepped g c = (c.step.result, c.step.ensures.stepped.0, c.step.ensures.stepped.1)
+
+pub step-requires-clause-marks : goal.step-requires-clause-marks
+step-requires-clause-marks g c = give_marks (pass_of c.args.pass.now.sight).stage (word_at c.args.pass.now.sight.opened.sizes c.args.cell)

@@ -5,7 +5,7 @@ use Rattle.nv_table.specs.Changes.{changed}
 use Rattle.nv_table.specs.Layout.{word_at}
 use Rattle.nv_table.specs.Ready.{Stepped}
 use Rattle.nv_table.specs.declared.acting.Change.TheVariants.{Exchange}
-use Rattle.nv_table.proofs.TurnDeeds.{take_on, due_lock, locked, place_at, ready, found_in}
+use Rattle.nv_table.proofs.TurnDeeds.{take_on, take_marks, due_lock, locked, place_at, ready, found_in}
 use Rattle.nv_table.proofs.turns.take_by.Goals as goal
 
 pub step-found-requires-clause-next : goal.step-found-requires-clause-next
@@ -39,3 +39,6 @@ returns-else-found-eq0-clause-alone g c = λ alone is.
     subst (λ deed. Stepped pass g.E.Does.opens deed c.step-found.result c.step-found.new.pass) is c.step-found.ensures.stepped.0 in
     c.if-found-eq0.false (c.a_pass_alone_is_not_refused.ensures.locks pass c.step-found.new.pass g.E.Does.opens cell c.step-found.result
     c.sees_a_run.ensures.mount (c.has_taken_in.ensures alone.zero) alone stepped)
+
+pub step-found-requires-clause-marks : goal.step-found-requires-clause-marks
+step-found-requires-clause-marks g c = take_marks g.E.Does.opens g.E.Does.deed (word_at c.args.pass.now.sight.opened.sizes c.args.cell) c.requires.deed

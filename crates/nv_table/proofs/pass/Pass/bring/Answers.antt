@@ -21,6 +21,7 @@ invariant_of-self g c =
       pass_turned c.self.inside.seat.me.0 c.self.inside.seat.me.1 c.self.inside.number c.self.inside.made c.self.inside.joined c.self.inside.held.items
           (Rattle.std.specs.Vec.vec_capacity c.self.inside.held) c.place_of-place.result c.self.invariant.0,
       c.self.invariant.1,
+      c.self.invariant.2,
     )
 
 pub returns-clause-same : goal.returns-clause-same
