@@ -1,20 +1,17 @@
 -- Laws about what the stores of a closed mount read as.
-use Rattle.std.proofs.Common.{◌≡◌, ℕ, zero, suc, ◌+◌, ◌-◌, ◌<◌, ◌++◌, false, List, [], ◌∷◌, get_or, length, map, refl, sym, ap, subst, ◌∙◌, arith}
-use Rattle.std.proofs.lemmas.List.{get_or-map}
+use Rattle.std.proofs.Common.{◌≡◌, ℕ, zero, suc, ◌-◌, ◌<◌, ◌++◌, false, List, [], ◌∷◌, get_or, length, map, refl, sym, ap, subst, ◌∙◌, arith}
 use Rattle.nv_plain.specs.Files.{Files}
-use Rattle.nv_plain.specs.declared.call.FileCall.{FileCall}
 use Rattle.nv_pmem.specs.Room.{Room}
 use Rattle.nv_pmem.specs.Steps.{History as PartHistory}
 use Rattle.nv_store.specs.Steps.{History}
 use Rattle.nv_core.specs.Words.{HEAD, TAIL, STORE}
 use Rattle.nv_core.specs.Apart.{after_calls}
 use Rattle.nv_core.specs.Core.{Core}
-use Rattle.nv_core.specs.Content.{Opens}
 use Rattle.nv_core.specs.Groups.{Log}
 use Rattle.nv_core.specs.Laws.{RunsAreSound}
 use Rattle.nv_core.specs.LivePieces.{calls_of, store_files, to_place, rising, call_if, is_live, piece_call, LivePieces}
-use Rattle.nv_core.specs.LogContent.{OpensLog, RunsKeepTheLog}
-use Rattle.nv_core.specs.Opening.{IsMount, opening}
+use Rattle.nv_core.specs.LogContent.{RunsKeepTheLog}
+use Rattle.nv_core.specs.Opening.{IsMount}
 use Rattle.nv_core.specs.StorePages.{store_of}
 use Rattle.nv_table.specs.Closing.{IsClosed}
 use Rattle.nv_table.specs.Kept.{present, part_value, store_value, slot_value}

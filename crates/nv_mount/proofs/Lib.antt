@@ -3,3 +3,5 @@ mod SplitLaws
 mod HistoryLaws
 mod OpenLaws
 mod ClosedFilesLaws
+mod CountLaws
+mod StoppedLaws

@@ -3,3 +3,4 @@ pub mod Mounts
 pub mod OneHistories
 pub mod Telling
 pub mod ClosedFiles
+pub mod RisenCounts

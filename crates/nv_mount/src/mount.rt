@@ -1,5 +1,6 @@
 //! The mount: the board of a region and its stores, and the descriptors of its files.
-ghost use Rattle.std.specs.Prelude.{◌≡◌, ◌<◌, ◌≤◌, length, map, sum_by, All, IfOk, IfErr, OnOk};
+ghost use Rattle.std.specs.Prelude.{◌≡◌, ◌+◌, ◌<◌, ◌≤◌, length, map, sum_by, All, IfOk, IfErr, OnOk};
+ghost use Rattle.nv_plain.specs.Faults.{Rose};
 ghost use Rattle.nv_plain.specs.Files.{Files};
 ghost use Rattle.nv_pmem.specs.Moments.{Tells};
 ghost use Rattle.nv_store.specs.Store.{IsQuiet};
@@ -16,6 +17,7 @@ ghost use Rattle.nv_table.specs.States.{IsOf};
 ghost use Rattle.nv_mount.specs.Mounts.{AreLengths, HasLengthsCause, HasOpenCause, IsOpened};
 ghost use Rattle.nv_mount.specs.ClosedFiles.{ReadAsFiles};
 ghost use Rattle.nv_mount.specs.OneHistories.{HasOneHistory};
+ghost use Rattle.nv_mount.specs.RisenCounts.{SawStop, failed_before};
 ghost use Rattle.nv_mount.specs.Telling.{AllTell, StoresHave};
 
 use crate::Fds;
@@ -141,6 +143,7 @@ impl<L: Lines + Drop, B: Backing + Drop> Mount<L, B> {
         ensures files { IfOk result (λ made. (files : Files) → StoresHave (map B.history stores.items) files → Opens (mount_of made.0.board.opened) files) }
         ensures log { IfOk result (λ made. AllTell (map L.history region.parts.items) → OpensLog (mount_of made.0.board.opened) region.next) }
         ensures region { IfOk result (λ made. AllTell (map L.history region.parts.items) → OpensRegion (mount_of made.0.board.opened) region.names) }
+        ensures counts { IfOk result (λ made. failed_before made.1 ≡ sum_by L.fault_count region.parts.items + sum_by B.fault_count stores.items) }
         ensures parts_back { IfErr result (λ failed. failed.region.parts.items ≡ region.parts.items) }
         ensures geometry_back { IfErr result (λ failed. failed.region.geometry ≡ region.geometry) }
         ensures names_back { IfErr result (λ failed. failed.region.names ≡ region.names) }
@@ -187,8 +190,9 @@ impl<L: Lines + Drop, B: Backing + Drop> Mount<L, B> {
     }
 
     /// Ends the mount by pass 0, whatever it is at: what it carries goes home first. Where it has made more passes than it has taken in,
-    /// mount and pass come back unchanged. The calls of all passes have one history, as long as `placed` says. No device call may have
-    /// come since the pass's last step. Takes no memory.
+    /// mount and pass come back unchanged. The calls of all passes have one history, as long as `placed` says. Where one of the passes saw STOP
+    /// set, the devices that come out have failed more often than when the mount was opened. No device call may have come since the pass's last
+    /// step. Takes no memory.
     pub fn close(
         self,
         pass: Pass<L, B>,
@@ -202,6 +206,7 @@ impl<L: Lines + Drop, B: Backing + Drop> Mount<L, B> {
             self.board pass closed.parts.items closed.stores.items closed.placed closed.tail) }
         ensures history { IfOk result (λ closed. HasOneHistory pass.sight closed.placed) }
         ensures files { IfOk result (λ closed. ReadAsFiles pass.sight (map B.history closed.stores.items) closed.tail) }
+        ensures stopped { IfOk result (λ closed. SawStop pass.sight → Rose (failed_before pass) (sum_by L.fault_count closed.parts.items + sum_by B.fault_count closed.stores.items)) }
         ensures out { IfErr result (λ failed. length pass.sight.ended < made_of pass.sight) }
         ensures mount_back { IfErr result (λ failed. failed.0 ≡ self) }
         ensures pass_back { IfErr result (λ failed. failed.1 ≡ pass) }

@@ -115,6 +115,8 @@ module _ {L B : Type 0} (device : L → ℕ) (history : L → List PartState) (f
         let d : 1 + board.opened.sizes.entries ≡ 1 + opened.sizes.entries = ap (λ (o : Opened). 1 + o.sizes.entries) opened_is in
         omega (arith, a, b, c, d);
     many_stores = ap length stores_here ∙ in_order.stores_many ∙ sym (ap (λ (o : Opened). o.sizes.files) opened_is);
+    many_slots = ap (λ (o : Opened). length o.slots) opened_is ∙ ap (length {A = Value}) shows ∙ length-map first shown ∙ slots_counted opened.sizes parts stores first are enough many_stores
+        ∙ sym (ap (λ (o : Opened). slot_total o.sizes) opened_is);
     buffers = in_order.buffers;
     whole = subst (λ (all : List (Slot L B)). IsWhole sight (map shown all) placed tail) (in_order.are ∙ ap₂ (λ ps ss. in_slots ps ss in_order.buffers) (sym first_parts) (sym stores_here)) whole;
     same_parts = ap (map device) parts_here ∙ map-append device in_order.parts spare

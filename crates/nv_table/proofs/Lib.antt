@@ -35,3 +35,4 @@ pub mod AloneLaws
 pub mod SortLaws
 pub mod ClosedLaws
 pub mod ShapeLaws
+pub mod StayLaws

@@ -6,6 +6,7 @@ use Rattle.nv_table.specs.declared.slot.Slot.{Slot}
 use Rattle.nv_table.specs.declared.slot.Slot.TheVariants.{Part}
 use Rattle.nv_table.specs.declared.slot.PageBuffer.{PageBuffer}
 use Rattle.nv_table.specs.Between.{PutsBack}
+use Rattle.nv_table.specs.Layout.{slot_total}
 use Rattle.nv_table.specs.OpeningSlots.{in_slots}
 use Rattle.nv_table.specs.Sights.{Sight}
 use Rattle.nv_table.specs.States.{BoardState, PassState}
@@ -20,6 +21,7 @@ pub record IsClosed {L B : Type 0} (part_device : L → ℕ) (store_device : B �
   pub back : PutsBack cells pass.sight last
   pub many_parts : 1 + board.opened.sizes.entries ≤ length parts
   pub many_stores : length stores ≡ board.opened.sizes.files
+  pub many_slots : length board.opened.slots ≡ slot_total board.opened.sizes
   pub buffers : List (Option PageBuffer)
   pub whole : IsWhole last (map shown (in_slots (take (1 + board.opened.sizes.entries) parts) stores buffers)) placed tail
   pub same_parts : map part_device parts ≡ map identity_of (take (1 + board.opened.sizes.entries) board.opened.slots) ++ map identity_of pass.spare

@@ -4,6 +4,7 @@ use Rattle.nv_mount.specs.Mounts.{MountState}
 use Rattle.nv_table.specs.Sights.{made_of}
 use Rattle.nv_mount.proofs.ClosedFilesLaws.{read_as_files}
 use Rattle.nv_mount.proofs.HistoryLaws.{one_history}
+use Rattle.nv_mount.proofs.StoppedLaws.{counts_rose}
 use Rattle.nv_mount.proofs.mount.Mount.close.Goals as goal
 
 pub returns-clause-history : goal.returns-clause-history
@@ -19,3 +20,9 @@ returns-clause-files g c =
     read_as_files g.L.Lines.device g.L.Lines.history g.L.Lines.fault_count g.L.Lines.room g.B.Backing.device g.B.Backing.history g.B.Backing.fault_count
     c.self.inside.board c.args.pass c.close.result.parts.items c.close.result.stores.items c.close.result.placed c.close.result.tail (subst (λ (m : MountState). IsOf m.board c.args.pass) (sym c.self.view_is) c.requires.board) c.close.ensures
     c.runs_are_sound.ensures.runs c.runs_keep_the_log.ensures.runs c.sees_a_run.ensures.mount
+
+pub returns-clause-stopped : goal.returns-clause-stopped
+returns-clause-stopped g c =
+    counts_rose g.L.Lines.device g.L.Lines.history g.L.Lines.fault_count g.L.Lines.room g.B.Backing.device g.B.Backing.history g.B.Backing.fault_count
+    c.self.inside.board c.args.pass c.close.result.parts.items c.close.result.stores.items c.close.result.placed c.close.result.tail (subst (λ (m : MountState). IsOf m.board c.args.pass) (sym c.self.view_is) c.requires.board) c.close.ensures
+    c.runs_are_sound.ensures.runs c.passes_are_left_alone.ensures.others c.passes_are_left_alone.ensures.words c.sees_a_run.ensures.mount

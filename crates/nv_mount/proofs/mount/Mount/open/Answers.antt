@@ -3,6 +3,7 @@ use Rattle.std.proofs.lemmas.Grind.{common_steps}
 use Rattle.std.proofs.lemmas.List.{length-map}
 use Rattle.nv_table.specs.Begun.{begun_sizes}
 use Rattle.nv_mount.proofs.OpenLaws.{opens_files, opens_log, opens_region}
+use Rattle.nv_mount.proofs.StoppedLaws.{counts_opened}
 use Rattle.nv_mount.proofs.mount.Mount.open.Goals as goal
 
 pub returns-in-Ok-new-clause-opened : goal.returns-in-Ok-new-clause-opened
@@ -37,3 +38,10 @@ returns-in-Ok-new-clause-region g c tell =
     sizes region.next region.parts.items c.args.stores.items c.args.fds _ c.in-Ok-new.pass (returns-in-Ok-new-clause-opened g c) enough c.requires.stores
     region.names refl c.requires.few_pages region.is_region g.met.L.Lines.told_lines c.rows_have_states.ensures.each states.states states.are
     c.regions_at_rest_open.ensures c.requires.quiet
+
+pub returns-in-Ok-new-clause-counts : goal.returns-in-Ok-new-clause-counts
+returns-in-Ok-new-clause-counts g c =
+    let region = c.args.region in
+    counts_opened g.L.Lines.device g.L.Lines.history g.L.Lines.fault_count g.L.Lines.room g.B.Backing.device g.B.Backing.history g.B.Backing.fault_count
+    (begun_sizes region.geometry.page region.geometry.entries (length region.names) c.args.pages c.args.cache) region.next region.parts.items c.args.stores.items c.args.fds _ c.in-Ok-new.pass
+    (returns-in-Ok-new-clause-opened g c)
