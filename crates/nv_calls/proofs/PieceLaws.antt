@@ -24,13 +24,10 @@ use Rattle.nv_core.specs.Order.{Values, MayWork, MayEnd, MayLeave, IsFailing, Is
 use Rattle.nv_core.proofs.Changes.{by_word}
 use Rattle.nv_core.proofs.LockLaws.{times_here, times_else}
 use Rattle.nv_table.specs.Between.{IsStill}
-use Rattle.nv_table.specs.Changes.{changed}
-use Rattle.nv_table.specs.declared.acting.Change.TheVariants.{Set}
 use Rattle.nv_table.specs.Opened.{mount_of, IsRunOf, state_of}
 use Rattle.nv_table.specs.Sights.{pass_of, values_of, carried, slot_times, Carries}
 use Rattle.nv_table.specs.States.{PassState}
 use Rattle.nv_table.specs.Turns.{IsDue}
-use Rattle.nv_table.specs.Ready.{IsReady}
 use Rattle.nv_table.proofs.CarryLaws.{carries_kept}
 use Rattle.nv_table.proofs.LayoutLaws.{cell_there}
 use Rattle.nv_pages.specs.Altered.{IsAltered}
@@ -171,14 +168,6 @@ pub between_mid : (old mid : PassState) (change : Values → Values) → IsAlter
 between_mid old mid change altered = record { table = altered.table; sight = refl; spare = altered.spare }
 
 -- ---- when the next step is due
-
--- STOP that is due to be set is ready for it
-abbrev pub stop_ready : (pass : PassState) → IsDue pass None Stops → IsReady pass None Stops 0 (changed (Set 1))
-stop_ready pass due = record {
-  works = due.works;
-  next = record { due = due.due; begins = due.begins; may = due.may; staying = due.staying; word = refl; value = λ core sound made is low. refl };
-  holds = due.holds;
-}
 
 module _ (now mid : PassState) (page number : ℕ) (still : IsStill now) (left : (pass_of now.sight).left ≡ []) (stands : (pass_of now.sight).stage ≡ Patching page number)
     (once : times (ENTRY (slot_of now.sight.opened.sizes number)) (pass_of now.sight).hands ≡ 1) where

@@ -7,7 +7,7 @@ ghost use Rattle.nv_table.specs.Turns.{IsDue};
 
 use nv_pmem::Lines;
 use nv_store::Backing;
-use nv_table::{Board, Change, Marks, Moves, Pass, STOP, Says, step};
+use nv_table::{Board, Pass, Says, stop};
 use std::marker::Brand;
 
 // Sets STOP. What is said of the device call that has failed is so of the calls that the step tells.
@@ -17,12 +17,5 @@ pub(crate) fn stop_after<W: Says, L: Lines, B: Backing>(board: &Board<L, B>, pas
     ensures board { IsOf board.now pass.new }
     ensures stepped { (found : ℕ) × (stepped : Stepped pass.old None Stops found pass.new) × W.said stepped.works }
 {
-    step::<Brand, L, B>(
-        board,
-        pass,
-        STOP as usize,
-        Change::Set(1),
-        Moves::Stays,
-        Marks::Stops,
-    );
+    stop::<Brand, L, B>(board, pass);
 }
