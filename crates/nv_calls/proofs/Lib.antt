@@ -29,3 +29,4 @@ pub mod FetchLaws
 pub mod PatchLaws
 pub mod PieceLaws
 pub mod PatchedLaws
+pub mod AloneLaws

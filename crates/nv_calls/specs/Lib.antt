@@ -12,3 +12,4 @@ pub mod PieceReads
 pub mod Ranks
 pub mod Reads
 pub mod Steps
+pub mod ReadsAlone

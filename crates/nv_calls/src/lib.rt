@@ -1,6 +1,7 @@
 //! The calls of a mount that threads share, so far reads and fsync: whole, and one step at a time.
 #![tactic(auto)]
 
+mod alone;
 mod answers;
 mod kinds;
 mod machine;
@@ -15,6 +16,7 @@ mod read_steps;
 mod reading;
 mod sync;
 
+pub use alone::a_read_alone_is_not_busy;
 pub use answers::{Done, Refusal};
 pub use kinds::Kind;
 pub use machine::{Progress, SyncMachine, SyncStage};

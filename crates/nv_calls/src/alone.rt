@@ -1,0 +1,11 @@
+//! What calls are answered while no other pass is out.
+ghost use Rattle.nv_calls.specs.ReadsAlone.{NoReadIsBusy};
+
+use nv_table::a_pass_alone_is_not_refused;
+
+/// Where pass 0 has taken in all passes that it made, and none of these holds a cell, no read of it is answered `Busy`.
+pub fn a_read_alone_is_not_busy()
+    ensures { NoReadIsBusy }
+{
+    a_pass_alone_is_not_refused();
+}
