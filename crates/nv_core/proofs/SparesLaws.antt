@@ -5,9 +5,9 @@ use Rattle.std.proofs.lemmas.Bool.{cases_lt}
 use Rattle.std.proofs.lemmas.List.{get_or_past}
 use Rattle.std.proofs.lemmas.List.FromFn.{get_or-map-range_with_len, length-map-range_with_len}
 use Rattle.nv_pmem.specs.Room.{Room, Keeps, Takes, Frees}
-use Rattle.nv_pmem.specs.RoomSteps.{RoomAfter, RoomAfterFault}
+use Rattle.nv_pmem.specs.RoomSteps.{IsOnLine, RoomAfter, RoomAfterFault}
 use Rattle.nv_pmem.specs.Steps.{Step, Store, Flush, Fence}
-use Rattle.nv_core.specs.Spares.{room_of, spares_of, IsOnLine, SparesKeepSteps, SparesTell}
+use Rattle.nv_core.specs.Spares.{room_of, spares_of, SparesKeepSteps, SparesTell}
 
 -- how many lines there are, and what each that is there can take; no other can take any
 lines_told : (room : Room) → length (spares_of room) ≡ room.lines

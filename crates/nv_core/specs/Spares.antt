@@ -2,8 +2,8 @@
 use Rattle.std.specs.Prelude.{◌≡◌, ℕ, ◌<◌, List, length, map, slice_index_or}
 use Rattle.std.specs.List.{range_with_len}
 use Rattle.nv_pmem.specs.Room.{Room}
-use Rattle.nv_pmem.specs.RoomSteps.{RoomAfter, RoomAfterFault}
-use Rattle.nv_pmem.specs.Steps.{Step, Store, Flush, Fence}
+use Rattle.nv_pmem.specs.RoomSteps.{IsOnLine, RoomAfter, RoomAfterFault}
+use Rattle.nv_pmem.specs.Steps.{Step}
 use Rattle.nv_entry.specs.Group.{IsReady}
 use Rattle.nv_header.specs.Regions.{IsRoomy}
 
@@ -24,12 +24,6 @@ abbrev pub spares_of : Room → Spares
 spares_of room = map (λ line. (room.spare line, room.after_fence line)) (range_with_len 0 room.lines)
 
 -- ---- nothing is lost by them
-
--- a step is on a line that is there
-abbrev pub IsOnLine : Step → Room → Type 0
-IsOnLine (Store line word value) room = line < room.lines
-IsOnLine (Flush line) room = line < room.lines
-IsOnLine Fence room = Unit {0}
 
 -- What such a step leaves of a room it leaves of that of its spares; and what one leaves that failed, on whatever line.
 pub record SparesKeep (step : Step) (old new : Room) : Type 0 where

@@ -2,13 +2,15 @@
 use Rattle.std.proofs.Common.{◌≡◌, ℕ, ◌+◌, ◌≤◌, List, ◌∷◌, All, length, map, sym, subst, ◌∙◌, arith}
 use Rattle.std.proofs.lemmas.List.Elements.{All-weaker}
 use Rattle.nv_plain.specs.Pieces.{pages_touched}
+use Rattle.nv_pmem.specs.Calls.{Seen, EndedWell, EndedBadly, OnOne, EachEnded, OneFailed}
 use Rattle.nv_pmem.specs.Limits.{IsPageSize, entry_lines}
 use Rattle.nv_pmem.specs.Part.{Part}
 use Rattle.nv_pmem.specs.Room.{Room}
 use Rattle.nv_pmem.specs.Rows.{on_part, row_after, DidRow, DidSomeRow, RowTells, InEachRowImage, EachRowMoment, row_words, AreQuiet}
 use Rattle.nv_pmem.specs.Steps.{History, durable_store}
+use Rattle.nv_pmem.proofs.CallLaws.{failed_front}
 use Rattle.nv_pmem.proofs.RowLaws.{row_tells_more, row_tells_both, row_tells_itself, row_tells_did, each_row_moment, row_image_of_now}
-use Rattle.nv_pmem.proofs.StepLaws.{did_some_front, Always, always_by_fronts}
+use Rattle.nv_pmem.proofs.StepLaws.{Always, always_by_fronts}
 use Rattle.nv_entry.specs.Group.{pieces_steps, group_steps, IsReady, IsUncommitted, IsWhole, IsUncommittedOrWhole, StoresOnly}
 use Rattle.nv_entry.proofs.Data.{AreBytes}
 use Rattle.nv_entry.proofs.GroupSteps.{all_pieces, HaveLines, group_always, group_whole, group_stores, group_quiet}
@@ -91,15 +93,15 @@ module _ {X : Type 0} (history : X → History) (room : X → Room) (page first 
 
 -- ---- the entries, and then the commit
 
--- The entries of a group, or some of them, are written.
-module _ (page first file at : ℕ) (bytes : List ℕ) {count : ℕ} {old new : List History} (pieces : pages_touched at (length bytes) page ≡ count) where
-  pub some_written : DidSomeRow (pieces_steps page first file at bytes count) old new → DidSomeRow (group_steps page first file at bytes) old new
+-- The calls of a group's entries ended well, or one failed.
+module _ (page first file at : ℕ) (bytes : List ℕ) {count : ℕ} {old new : List Seen} (pieces : pages_touched at (length bytes) page ≡ count) where
+  pub failed_written : OneFailed (OnOne EndedWell) (OnOne EndedBadly) (pieces_steps page first file at bytes count) old new → OneFailed (OnOne EndedWell) (OnOne EndedBadly) (group_steps page first file at bytes) old new
   unfolding group_steps
-  some_written did =
-      let Count : ℕ → Type 0 = λ n. DidSomeRow (pieces_steps page first file at bytes n) old new in
-      did_some_front (on_part 0 (durable_store 0 0 (first + 1))) (subst Count (sym pieces) did)
+  failed_written one =
+      let Count : ℕ → Type 0 = λ n. OneFailed (OnOne EndedWell) (OnOne EndedBadly) (pieces_steps page first file at bytes n) old new in
+      failed_front (on_part 0 (durable_store 0 0 (first + 1))) (subst Count (sym pieces) one)
 
-  pub all_written : DidRow (pieces_steps page first file at bytes count) old new → DidRow (all_pieces page first file at bytes) old new
-  all_written did =
-      let Count : ℕ → Type 0 = λ n. DidRow (pieces_steps page first file at bytes n) old new in
-      subst Count (sym pieces) did
+  pub all_written : EachEnded (OnOne EndedWell) (pieces_steps page first file at bytes count) old new → EachEnded (OnOne EndedWell) (all_pieces page first file at bytes) old new
+  all_written ended =
+      let Count : ℕ → Type 0 = λ n. EachEnded (OnOne EndedWell) (pieces_steps page first file at bytes n) old new in
+      subst Count (sym pieces) ended

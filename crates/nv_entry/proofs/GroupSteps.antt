@@ -5,17 +5,19 @@ use Rattle.std.proofs.lemmas.List.{append-nil, get_or_past, take-append-le, leng
 use Rattle.std.specs.List.{flat_map, range_with_len}
 use Rattle.nv_plain.specs.Images.{PartImage, Image, data_of, lines_for}
 use Rattle.nv_plain.specs.Pieces.{pages_touched, piece_of, piece_bytes}
+use Rattle.nv_pmem.specs.Calls.{Seen, EndedWell, EndedBadly, OnOne, EachEnded, OneFailed}
 use Rattle.nv_pmem.specs.Images.{IsImage, IsQuiet}
 use Rattle.nv_pmem.specs.Limits.{IsPageSize, entry_lines}
 use Rattle.nv_pmem.specs.Part.{Part, word_of}
-use Rattle.nv_pmem.specs.Rows.{RowStep, on_part, row_after, row_grown, DidRow, DidSomeRow, IsRowImage, InEachRowImage, AreQuiet}
+use Rattle.nv_pmem.specs.Rows.{RowStep, on_part, row_after, IsRowImage, InEachRowImage, AreQuiet}
 use Rattle.nv_pmem.specs.Runs.{run}
-use Rattle.nv_pmem.specs.Steps.{Step, History, durable_store}
+use Rattle.nv_pmem.specs.Steps.{Step, durable_store}
+use Rattle.nv_pmem.proofs.CallLaws.{each_none, each_each, each_failed, failed_front}
 use Rattle.nv_pmem.proofs.DurableLaws.{line_settled}
 use Rattle.nv_pmem.proofs.ImageLaws.{IsStoredBy, Mark, quiet_line, open_line, mark_after_all, mark_after_all-append, quiet_image, quiet_after, quiet_blank}
 use Rattle.nv_pmem.proofs.LineLaws.{length-after_steps, word_of-after_steps}
 use Rattle.nv_pmem.proofs.RowLaws.{steps_on, steps_on-append, steps_on-same, steps_on-other, take-on_part, row_at, length-row_after, EachPart, row_image_at, row_image_comes_from, stored_by-append, stored_by-take, stored_by_row-take, row_quiet_still}
-use Rattle.nv_pmem.proofs.StepLaws.{run-append, did_none, did_did, did_did_some, did_some_front, after_steps, Always, always_by_fronts, always_append}
+use Rattle.nv_pmem.proofs.StepLaws.{run-append, after_steps, Always, always_by_fronts, always_append}
 use Rattle.nv_entry.specs.Group.{count_at, data_steps, field_steps, piece_steps, pieces_steps, group_steps, IsUncommitted, HoldsEntry, IsWhole, IsUncommittedOrWhole, StoresOnly}
 use Rattle.nv_entry.proofs.Data.{AreBytes, bytes_taken, bytes_dropped}
 use Rattle.nv_entry.proofs.PieceRanges.{length-piece_bytes, piece_small, lines_fit}
@@ -72,24 +74,24 @@ pieces_steps-split page first file at bytes k count below =
     ∙ ap (λ front. front ++ flat_map steps (range_with_len (0 + (k + 1)) (count - (k + 1)))) (pieces_steps-more page first file at bytes k)
 
 -- no entry
-pub did_no_pieces : (page first file at : ℕ) (bytes : List ℕ) (row : List History) → DidRow (pieces_steps page first file at bytes 0) row row
+pub each_no_pieces : (page first file at : ℕ) (bytes : List ℕ) (row : List Seen) → EachEnded (OnOne EndedWell) (pieces_steps page first file at bytes 0) row row
 unfolding pieces_steps
-did_no_pieces page first file at bytes row = did_none row_grown row
+each_no_pieces page first file at bytes row = each_none
 
--- One entry more is written.
-pub did_pieces_more : (page first file at : ℕ) (bytes : List ℕ) (k : ℕ) {old between new : List History} → DidRow (pieces_steps page first file at bytes k) old between
-    → DidRow (on_part k (piece_steps page first file at bytes k)) between new → DidRow (pieces_steps page first file at bytes (k + 1)) old new
-did_pieces_more page first file at bytes k {old} {between} {new} before one =
-    let Done : List RowStep → Type 0 = λ steps. DidRow steps old new in
-    subst Done (sym (pieces_steps-more page first file at bytes k)) (did_did before one)
+-- The calls of one entry more ended well.
+pub each_pieces_more : (page first file at : ℕ) (bytes : List ℕ) (k : ℕ) {old between new : List Seen} → EachEnded (OnOne EndedWell) (pieces_steps page first file at bytes k) old between
+    → EachEnded (OnOne EndedWell) (on_part k (piece_steps page first file at bytes k)) between new → EachEnded (OnOne EndedWell) (pieces_steps page first file at bytes (k + 1)) old new
+each_pieces_more page first file at bytes k {old} {between} {new} before one =
+    let Ended : List RowStep → Type 0 = λ calls. EachEnded (OnOne EndedWell) calls old new in
+    subst Ended (sym (pieces_steps-more page first file at bytes k)) (each_each before one)
 
--- One more, of those that there are, is begun.
-pub did_some_pieces_more : (page first file at : ℕ) (bytes : List ℕ) (k count : ℕ) {old between new : List History} → k < count → DidRow (pieces_steps page first file at bytes k) old between
-    → DidSomeRow (on_part k (piece_steps page first file at bytes k)) between new → DidSomeRow (pieces_steps page first file at bytes count) old new
-did_some_pieces_more page first file at bytes k count {old} {between} {new} below before one =
-    let Done : List RowStep → Type 0 = λ steps. DidSomeRow steps old new in
-    subst Done (sym (pieces_steps-split page first file at bytes k count below))
-    (did_some_front (pieces_rest page first file at bytes k count) (did_did_some before one))
+-- One of those of one entry more, of those that there are, failed.
+pub failed_pieces_more : (page first file at : ℕ) (bytes : List ℕ) (k count : ℕ) {old between new : List Seen} → k < count → EachEnded (OnOne EndedWell) (pieces_steps page first file at bytes k) old between
+    → OneFailed (OnOne EndedWell) (OnOne EndedBadly) (on_part k (piece_steps page first file at bytes k)) between new → OneFailed (OnOne EndedWell) (OnOne EndedBadly) (pieces_steps page first file at bytes count) old new
+failed_pieces_more page first file at bytes k count {old} {between} {new} below before one =
+    let Failed : List RowStep → Type 0 = λ calls. OneFailed (OnOne EndedWell) (OnOne EndedBadly) calls old new in
+    subst Failed (sym (pieces_steps-split page first file at bytes k count below))
+    (failed_front (pieces_rest page first file at bytes k count) (each_failed before one))
 
 -- The steps of an entry, by what is known of its bytes and its fields.
 pub piece_steps-from : (page first file at : ℕ) (bytes : List ℕ) (i from size piece_at count : ℕ) → from ≡ (piece_of at (length bytes) page i).from → size ≡ (piece_of at (length bytes) page i).size

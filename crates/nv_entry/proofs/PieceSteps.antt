@@ -3,11 +3,13 @@ use Rattle.std.proofs.Common.{◌≡◌, ◌≢◌, ℕ, ◌+◌, ◌-◌, ◌<�
 use Rattle.std.proofs.lemmas.Bool.{cases_eq, cases_lt, eq-eqb, ne_eqb}
 use Rattle.std.specs.List.{flat_map, range_with_len}
 use Rattle.nv_plain.specs.Images.{PartImage, entry_of, data_of, lines_for}
+use Rattle.nv_pmem.specs.Calls.{Seen, EndedWell, EndedBadly, EachEnded, OneFailed}
 use Rattle.nv_pmem.specs.Part.{Part, word_of}
-use Rattle.nv_pmem.specs.Steps.{Step, Store, Flush, History, Did, DidSome, line_stores, word_in}
+use Rattle.nv_pmem.specs.Steps.{Step, Store, Flush, line_stores, word_in}
+use Rattle.nv_pmem.proofs.CallLaws.{each_each, each_failed, failed_front}
 use Rattle.nv_pmem.proofs.ImageLaws.{IsStoredBy, Mark, open_line, noted_line, quiet_line, fenced_more, mark_after_all, mark_after_all-append}
 use Rattle.nv_pmem.proofs.RowLaws.{stored_by-append}
-use Rattle.nv_pmem.proofs.StepLaws.{after_steps, did_did, did_did_some, did_some_front}
+use Rattle.nv_pmem.proofs.StepLaws.{after_steps}
 use Rattle.nv_pmem.proofs.LineLaws.{overlaid, overlaid-append, AreInside, inside_append, word_of-after_steps}
 use Rattle.nv_entry.specs.Group.{data_line, data_steps, field_steps}
 use Rattle.nv_pmem.proofs.Ranges.{flat_map-more, flat_map-split}
@@ -109,26 +111,28 @@ data_steps-split bytes k inside =
     ∙ flat_map-split (line_steps bytes) 0 (k + 1) (lines_for (length bytes) - (k + 1))
     ∙ ap (λ front. front ++ lines_steps bytes (0 + (k + 1)) (lines_for (length bytes) - (k + 1))) (lines_steps-more bytes k)
 
--- All data lines are done.
-pub did_data : (bytes : List ℕ) (count : ℕ) {old new : History} → count ≡ lines_for (length bytes) → Did (lines_steps bytes 0 count) old new → Did (data_steps bytes) old new
+-- The calls of all data lines ended well.
+pub each_data : (bytes : List ℕ) (count : ℕ) {old new : Seen} → count ≡ lines_for (length bytes) → EachEnded EndedWell (lines_steps bytes 0 count) old new → EachEnded EndedWell (data_steps bytes) old new
 unfolding data_steps
-did_data bytes count {old} {new} all did =
-    let Done : ℕ → Type 0 = λ lines. Did (lines_steps bytes 0 lines) old new in subst Done all did
+each_data bytes count {old} {new} all ended =
+    let Ended : ℕ → Type 0 = λ lines. EachEnded EndedWell (lines_steps bytes 0 lines) old new in subst Ended all ended
 
--- One data line more is done.
-pub did_lines_more : (bytes : List ℕ) (k : ℕ) (content : List ℕ) {old between new : History} → content ≡ data_line bytes k → Did (lines_steps bytes 0 k) old between → Did (line_stores (1 + k) content ++ Flush (1 + k) ∷ []) between new → Did (lines_steps bytes 0 (k + 1)) old new
-did_lines_more bytes k content {old} {between} {new} same before line =
-    let Line : List ℕ → Type 0 = λ these. Did (line_stores (1 + k) these ++ Flush (1 + k) ∷ []) between new in
-    let Done : List Step → Type 0 = λ steps. Did steps old new in
-    subst Done (sym (lines_steps-more bytes k)) (did_did before (subst Line same line))
+-- Those of one data line more did.
+pub each_lines_more : (bytes : List ℕ) (k : ℕ) (content : List ℕ) {old between new : Seen} → content ≡ data_line bytes k → EachEnded EndedWell (lines_steps bytes 0 k) old between → EachEnded EndedWell (line_stores (1 + k) content ++ Flush (1 + k) ∷ []) between new
+    → EachEnded EndedWell (lines_steps bytes 0 (k + 1)) old new
+each_lines_more bytes k content {old} {between} {new} same before line =
+    let Line : List ℕ → Type 0 = λ these. EachEnded EndedWell (line_stores (1 + k) these ++ Flush (1 + k) ∷ []) between new in
+    let Ended : List Step → Type 0 = λ steps. EachEnded EndedWell steps old new in
+    subst Ended (sym (lines_steps-more bytes k)) (each_each before (subst Line same line))
 
--- One data line more, of those that there are, is begun.
-pub did_some_lines_more : (bytes : List ℕ) (k : ℕ) (content : List ℕ) {old between new : History} → content ≡ data_line bytes k → k < lines_for (length bytes) → Did (lines_steps bytes 0 k) old between → DidSome (line_stores (1 + k) content ++ Flush (1 + k) ∷ []) between new → DidSome (data_steps bytes) old new
-did_some_lines_more bytes k content {old} {between} {new} same inside before line =
-    let Line : List ℕ → Type 0 = λ these. DidSome (line_stores (1 + k) these ++ Flush (1 + k) ∷ []) between new in
-    let Done : List Step → Type 0 = λ steps. DidSome steps old new in
-    subst Done (sym (data_steps-split bytes k inside))
-    (did_some_front (lines_steps bytes (0 + (k + 1)) (lines_for (length bytes) - (k + 1))) (did_did_some before (subst Line same line)))
+-- One of those of one line more, of those that there are, failed.
+pub failed_lines_more : (bytes : List ℕ) (k : ℕ) (content : List ℕ) {old between new : Seen} → content ≡ data_line bytes k → k < lines_for (length bytes) → EachEnded EndedWell (lines_steps bytes 0 k) old between
+    → OneFailed EndedWell EndedBadly (line_stores (1 + k) content ++ Flush (1 + k) ∷ []) between new → OneFailed EndedWell EndedBadly (data_steps bytes) old new
+failed_lines_more bytes k content {old} {between} {new} same inside before line =
+    let Line : List ℕ → Type 0 = λ these. OneFailed EndedWell EndedBadly (line_stores (1 + k) these ++ Flush (1 + k) ∷ []) between new in
+    let Failed : List Step → Type 0 = λ steps. OneFailed EndedWell EndedBadly steps old new in
+    subst Failed (sym (data_steps-split bytes k inside))
+    (failed_front (lines_steps bytes (0 + (k + 1)) (lines_for (length bytes) - (k + 1))) (each_failed before (subst Line same line)))
 
 overlaid-lines_steps_other : (bytes : List ℕ) (from count i j was : ℕ) → i ≤ from → overlaid (lines_steps bytes from count) i j was ≡ was
 overlaid-lines_steps_other bytes from zero i j was low = refl

@@ -3,6 +3,7 @@ ghost use Rattle.nv_plain.specs.Faults.{HasCause};
 ghost use Rattle.nv_plain.specs.Files.{padded};
 ghost use Rattle.nv_plain.specs.Images.{lines_for};
 ghost use Rattle.nv_plain.specs.Pieces.{pages_touched};
+ghost use Rattle.nv_pmem.specs.Calls.{PartCalls, RowCalls, seen_of};
 ghost use Rattle.nv_pmem.specs.Limits.{IsPageSize};
 ghost use Rattle.nv_pmem.specs.Part.{word_of};
 ghost use Rattle.nv_pmem.specs.Room.{Keeps, Takes};
@@ -40,6 +41,10 @@ pub fn commit_group<L: Lines>(
         (map L.history parts.old.items) (map L.history parts.new.items) }
     ensures done { OnOk result
         (DidRow (group_steps page first file at bytes.now) (map L.history parts.old.items) (map L.history parts.new.items)) }
+
+    // Part by part: each of these calls ended well, or the first so many did and the next one failed, with what it left its part to be.
+    ensures calls { RowCalls (group_steps page first file at bytes.now)
+        (map (seen_of L.history L.room L.fault_count) parts.old.items) (map (seen_of L.history L.room L.fault_count) parts.new.items) result }
 
     // What a power failure may leave: the group as a whole or not at all, and everything else as it was.
     ensures moments { EachRowMoment (InEachRowImage (IsUncommittedOrWhole page first file at bytes.now))
@@ -82,6 +87,8 @@ pub fn write_group<L: Lines>(
     ensures begun { DidSomeRow (group_steps page first file at bytes.now) (map L.history parts.old) (map L.history parts.new) }
     ensures done { OnOk result
         (DidRow (group_steps page first file at bytes.now) (map L.history parts.old) (map L.history parts.new)) }
+    ensures calls { RowCalls (group_steps page first file at bytes.now)
+        (map (seen_of L.history L.room L.fault_count) parts.old) (map (seen_of L.history L.room L.fault_count) parts.new) result }
     ensures ready { OnOk result (All (λ part. IsReady page (L.room part)) parts.new) }
     ensures lines { map (λ part. (L.room part).lines) parts.new ≡ map (λ part. (L.room part).lines) parts.old }
     ensures cause { HasCause (sum_by L.fault_count parts.old) (sum_by L.fault_count parts.new) result }
@@ -104,11 +111,8 @@ fn write_pieces<L: Lines>(
     requires pieces { pages_touched at (length bytes.now) page ≡ length parts.old }
     requires range { at + length bytes.now ≤ 2 ^ 60 }
     requires ready { All (λ part. IsReady page (L.room part)) parts.old }
-    ensures begun { DidSomeRow (pieces_steps page first file at bytes.now (length parts.old))
-        (map L.history parts.old) (map L.history parts.new) }
-    ensures done { OnOk result
-        (DidRow (pieces_steps page first file at bytes.now (length parts.old))
-        (map L.history parts.old) (map L.history parts.new)) }
+    ensures calls { RowCalls (pieces_steps page first file at bytes.now (length parts.old))
+        (map (seen_of L.history L.room L.fault_count) parts.old) (map (seen_of L.history L.room L.fault_count) parts.new) result }
     ensures ready { OnOk result (All (λ part. IsReady page (L.room part)) parts.new) }
     ensures lines { map (λ part. (L.room part).lines) parts.new ≡ map (λ part. (L.room part).lines) parts.old }
     ensures cause { HasCause (sum_by L.fault_count parts.old) (sum_by L.fault_count parts.new) result }
@@ -137,6 +141,8 @@ pub fn write_piece<L: Lines>(
     requires ready { IsReady page (L.room part.old) }
     ensures begun { DidSome (piece_steps page first file at bytes.now i) (L.history part.old) (L.history part.new) }
     ensures done { OnOk result (Did (piece_steps page first file at bytes.now i) (L.history part.old) (L.history part.new)) }
+    ensures calls { PartCalls (piece_steps page first file at bytes.now i)
+        (seen_of L.history L.room L.fault_count part.old) (seen_of L.history L.room L.fault_count part.new) result }
     ensures ready { OnOk result (IsReady page (L.room part.new)) }
     ensures lines { (L.room part.new).lines ≡ (L.room part.old).lines }
     ensures cause { HasCause (L.fault_count part.old) (L.fault_count part.new) result }
@@ -166,10 +172,8 @@ fn group_count(entries: u64, i: u64) -> u64
 fn write_entry<L: Lines>(part: &mut L, head: PieceHead, bytes: &[u8]) -> Result<(), RegionFault>
     requires lines { 1 + lines_for (length bytes.now) ≤ (L.room part.old).lines }
     requires spare { (line : ℕ) → line < 1 + lines_for (length bytes.now) → 15 ≤ (L.room part.old).spare line }
-    ensures begun { DidSome (data_steps bytes.now ++ field_steps head.file head.at head.size head.count head.leader)
-        (L.history part.old) (L.history part.new) }
-    ensures done { OnOk result (Did (data_steps bytes.now ++ field_steps head.file head.at head.size head.count head.leader)
-        (L.history part.old) (L.history part.new)) }
+    ensures calls { PartCalls (data_steps bytes.now ++ field_steps head.file head.at head.size head.count head.leader)
+        (seen_of L.history L.room L.fault_count part.old) (seen_of L.history L.room L.fault_count part.new) result }
     ensures ready { OnOk result (StaysReady (L.room part.old) (L.room part.new)) }
     ensures lines { (L.room part.new).lines ≡ (L.room part.old).lines }
     ensures cause { HasCause (L.fault_count part.old) (L.fault_count part.new) result }
@@ -183,8 +187,8 @@ fn write_entry<L: Lines>(part: &mut L, head: PieceHead, bytes: &[u8]) -> Result<
 fn write_data<L: Lines>(part: &mut L, bytes: &[u8]) -> Result<(), RegionFault>
     requires lines { 1 + lines_for (length bytes.now) ≤ (L.room part.old).lines }
     requires spare { (line : ℕ) → line < 1 + lines_for (length bytes.now) → 15 ≤ (L.room part.old).spare line }
-    ensures begun { DidSome (data_steps bytes.now) (L.history part.old) (L.history part.new) }
-    ensures done { OnOk result (Did (data_steps bytes.now) (L.history part.old) (L.history part.new)) }
+    ensures calls { PartCalls (data_steps bytes.now)
+        (seen_of L.history L.room L.fault_count part.old) (seen_of L.history L.room L.fault_count part.new) result }
     ensures room { OnOk result (WritesLines (lines_for (length bytes.now)) (L.room part.old) (L.room part.new)) }
     ensures lines { (L.room part.new).lines ≡ (L.room part.old).lines }
     ensures cause { HasCause (L.fault_count part.old) (L.fault_count part.new) result }
@@ -202,8 +206,8 @@ fn write_line<L: Lines>(part: &mut L, line: u64, bytes: &[u8]) -> Result<(), Reg
     requires line { line < (L.room part.old).lines }
     requires spare { 8 ≤ (L.room part.old).spare line }
     requires size { length bytes.now ≤ 64 }
-    ensures begun { DidSome (line_stores line (padded bytes.now 64) ++ Flush line ∷ []) (L.history part.old) (L.history part.new) }
-    ensures done { OnOk result (Did (line_stores line (padded bytes.now 64) ++ Flush line ∷ []) (L.history part.old) (L.history part.new)) }
+    ensures calls { PartCalls (line_stores line (padded bytes.now 64) ++ Flush line ∷ [])
+        (seen_of L.history L.room L.fault_count part.old) (seen_of L.history L.room L.fault_count part.new) result }
     ensures room { Takes 8 line (L.room part.old) (L.room part.new) }
     ensures flushed { OnOk result (15 ≤ (L.room part.new).after_fence line) }
     ensures cause { HasCause (L.fault_count part.old) (L.fault_count part.new) result }
@@ -229,8 +233,8 @@ fn with_zeros(bytes: &[u8]) -> [u8; 64]
 fn write_head<L: Lines>(part: &mut L, head: PieceHead) -> Result<(), RegionFault>
     requires lines { 1 ≤ (L.room part.old).lines }
     requires spare { 5 ≤ (L.room part.old).spare 0 }
-    ensures begun { DidSome (field_steps head.file head.at head.size head.count head.leader) (L.history part.old) (L.history part.new) }
-    ensures done { OnOk result (Did (field_steps head.file head.at head.size head.count head.leader) (L.history part.old) (L.history part.new)) }
+    ensures calls { PartCalls (field_steps head.file head.at head.size head.count head.leader)
+        (seen_of L.history L.room L.fault_count part.old) (seen_of L.history L.room L.fault_count part.new) result }
     ensures room { OnOk result (FencesHead (L.room part.old) (L.room part.new)) }
     ensures lines { (L.room part.new).lines ≡ (L.room part.old).lines }
     ensures cause { HasCause (L.fault_count part.old) (L.fault_count part.new) result }
@@ -251,10 +255,8 @@ fn commit<L: Lines>(parts: &mut [L], page: u64, first: u64) -> Result<(), Region
     requires some { 1 ≤ length parts.old }
     requires number { first + 1 ≤ 2 ^ 60 }
     requires ready { All (λ part. IsReady page (L.room part)) parts.old }
-    ensures begun { DidSomeRow (on_part 0 (durable_store 0 0 (first + 1)))
-        (map L.history parts.old) (map L.history parts.new) }
-    ensures done { OnOk result
-        (DidRow (on_part 0 (durable_store 0 0 (first + 1))) (map L.history parts.old) (map L.history parts.new)) }
+    ensures calls { RowCalls (on_part 0 (durable_store 0 0 (first + 1)))
+        (map (seen_of L.history L.room L.fault_count) parts.old) (map (seen_of L.history L.room L.fault_count) parts.new) result }
     ensures ready { OnOk result (All (λ part. IsReady page (L.room part)) parts.new) }
     ensures lines { map (λ part. (L.room part).lines) parts.new ≡ map (λ part. (L.room part).lines) parts.old }
     ensures cause { HasCause (sum_by L.fault_count parts.old) (sum_by L.fault_count parts.new) result }

@@ -10,5 +10,6 @@ pub mod StepLaws
 pub mod ReadLaws
 pub mod PastLaws
 pub mod OneOfRow
+pub mod CallLaws
 pub mod Ranges
 mod RowStateLaws

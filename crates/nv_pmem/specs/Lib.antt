@@ -8,6 +8,7 @@ pub mod Rows
 pub mod Laws
 pub mod Room
 pub mod RoomSteps
+pub mod Calls
 pub mod Limits
 pub mod Draws
 pub mod Picked

@@ -1,7 +1,13 @@
 -- Room after steps: what each step on a part leaves of its room, as the clauses of `Lines` say it of their calls.
-use Rattle.std.specs.Prelude.{◌≡◌, ℕ, ◌≤◌, List, [], ◌∷◌}
+use Rattle.std.specs.Prelude.{◌≡◌, ℕ, ◌<◌, ◌≤◌, List, [], ◌∷◌}
 use Rattle.nv_pmem.specs.Room.{Room, Keeps, Takes, Frees}
 use Rattle.nv_pmem.specs.Steps.{Step, Store, Flush, Fence, line_stores}
+
+-- a step is on a line that is there
+abbrev pub IsOnLine : Step → Room → Type 0
+IsOnLine (Store line word value) room = line < room.lines
+IsOnLine (Flush line) room = line < room.lines
+IsOnLine Fence room = Unit {0}
 
 -- a step that ended well
 abbrev pub RoomAfter : Step → (old new : Room) → Type 0

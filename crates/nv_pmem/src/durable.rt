@@ -1,5 +1,6 @@
 ghost use Rattle.std.specs.Prelude.{◌≡◌, ◌<◌, ◌≤◌, OnOk};
 ghost use Rattle.nv_plain.specs.Faults.{HasCause};
+ghost use Rattle.nv_pmem.specs.Calls.{PartCalls, seen_of};
 ghost use Rattle.nv_pmem.specs.Images.{InEachImage, IsOldOrStored, IsQuiet};
 ghost use Rattle.nv_pmem.specs.Moments.{Tells, EachMoment};
 ghost use Rattle.nv_pmem.specs.Room.{Takes, Settles};
@@ -22,6 +23,8 @@ pub fn store_durably<L: Lines>(
     // The calls that change the part are these, in this order. That there is no load among them is shown by a test.
     ensures begun { DidSome (durable_store line word value) (L.history part.old) (L.history part.new) }
     ensures done { OnOk result (Did (durable_store line word value) (L.history part.old) (L.history part.new)) }
+    ensures calls { PartCalls (durable_store line word value)
+        (seen_of L.history L.room L.fault_count part.old) (seen_of L.history L.room L.fault_count part.new) result }
 
     ensures moments { Tells (L.history part.old) (λ was.
         EachMoment (InEachImage (IsOldOrStored was line word value)) (L.history part.old) (L.history part.new)) }

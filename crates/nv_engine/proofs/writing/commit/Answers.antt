@@ -1,5 +1,8 @@
 -- The entries, and then the commit word in the part of the leader's slot.
-use Rattle.std.proofs.Common.{◌+◌, ◌%◌, ◌<◌, List, length, get_or, map, set, refl, sym, subst, ◌∙◌, arith}
+use Rattle.std.proofs.Common.{ℕ, ◌+◌, ◌%◌, ◌<◌, List, length, get_or, map, set, sum_by, Result, Ok, Err, refl, sym, subst, ◌∙◌, arith}
+use Rattle.std.specs.Prelude.{IsErr}
+use Rattle.std.proofs.lemmas.List.Sums.{sum_by-set, get_or-le-sum_by}
+use Rattle.nv_plain.specs.Faults.{Rose, HasCause}
 use Rattle.nv_pmem.specs.Rows.{RowStep, on_part, DidRow, DidSomeRow}
 use Rattle.nv_pmem.specs.Steps.{durable_store}
 use Rattle.nv_pmem.proofs.OneOfRow.{did_in_row, did_some_in_row, same_in_row}
@@ -10,6 +13,10 @@ use Rattle.nv_engine.specs.Written.{entry_steps}
 use Rattle.nv_engine.proofs.EntrySteps.{write_is}
 use Rattle.nv_engine.proofs.Slots.{parts_count, slot_ready, parts_ready}
 use Rattle.nv_engine.proofs.writing.commit.Goals as goal
+
+has_cause_failed : {A E : Type 0} (before now : ℕ) (result : Result A E) → IsErr result → Rose before now → HasCause before now result
+has_cause_failed before now (Ok value) never rose = cc
+has_cause_failed before now (Err error) failed rose = rose
 
 pub returns-in_err-write_pieces-clause-begun : goal.returns-in_err-write_pieces-clause-begun
 returns-in_err-write_pieces-clause-begun g c =
@@ -44,6 +51,22 @@ returns-in_err-store_durably-clause-begun g c =
     subst Done (sym (write_is c.args.geometry.page entries c.args.number c.args.file c.args.at c.args.bytes.now))
     (did_did_some c.in_ok-write_pieces.ensures.done
     (did_some_in_row g.L.Lines.history parts slot (get_or parts slot item) c.store_durably.new.part item inside refl c.store_durably.ensures.begun))
+
+pub returns-in_err-store_durably-clause-cause : goal.returns-in_err-store_durably-clause-cause
+returns-in_err-store_durably-clause-cause g c =
+    let entries = c.args.geometry.entries in
+    let parts = c.write_pieces.new.parts in
+    let item = c.index-parts-slot.result in
+    let slot = 1 + c.args.number % entries in
+    let below : slot < length parts =
+    omega (arith, c.args.geometry.entries_in_limits.least, parts_count g.L.Lines.room c.args.geometry.page entries parts c.in_ok-write_pieces.ensures.parts) in
+    let sum = sum_by-set g.L.Lines.fault_count parts slot c.store_durably.new.part item below in
+    let part = get_or-le-sum_by g.L.Lines.fault_count parts slot item below in
+    let before = c.in_ok-write_pieces.ensures.cause in
+    let rose = c.in_err-store_durably.ensures.cause in
+    let more : Rose (sum_by g.L.Lines.fault_count c.args.parts.now) (sum_by g.L.Lines.fault_count (set parts slot c.store_durably.new.part)) =
+    record { never_falls = omega (arith, sum, before, rose.never_falls); more = omega (arith, sum, part, before, rose.more) } in
+    has_cause_failed _ _ c.from_residual-in_err-store_durably.result c.from_residual-in_err-store_durably.ensures.0 more
 
 pub returns-in_err-store_durably-clause-devices : goal.returns-in_err-store_durably-clause-devices
 returns-in_err-store_durably-clause-devices g c =

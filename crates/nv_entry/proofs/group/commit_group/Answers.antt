@@ -3,6 +3,7 @@ use Rattle.std.proofs.Common.{◌≡◌, map, arith}
 use Rattle.std.specs.Prelude.{All, OnOk, sum_by}
 use Rattle.std.proofs.lemmas.Result.{on_ok_weaker}
 use Rattle.nv_plain.specs.Faults.{HasCause}
+use Rattle.nv_pmem.specs.Calls.{RowCalls, seen_of}
 use Rattle.nv_pmem.specs.Rows.{DidRow, DidSomeRow}
 use Rattle.nv_pmem.proofs.OneOfRow.{lent}
 use Rattle.nv_entry.specs.Group.{group_steps, IsReady}
@@ -17,6 +18,7 @@ returns g c =
     let file = c.args.file in
     let at = c.args.at in
     let bytes = c.args.bytes.now in
+    let seen = seen_of g.L.Lines.history g.L.Lines.room g.L.Lines.fault_count in
     let back = lent parts.items c.deref_mut.result.now c.write_group.new.parts parts.len c.deref_mut.ensures.value (omega (arith, parts.ok.0)) c.write_group.auto.parts in
     let begun = back (λ old new. DidSomeRow (group_steps page first file at bytes) (map g.L.Lines.history old) (map g.L.Lines.history new)) c.write_group.ensures.begun in
     let ready : AreBegun g.L.Lines.history g.L.Lines.room page first at bytes parts.items parts.len = record {
@@ -33,6 +35,7 @@ returns g c =
     record {
       begun = begun;
       done = done;
+      calls = back (λ old new. RowCalls (group_steps page first file at bytes) (map seen old) (map seen new) c.write_group.result) c.write_group.ensures.calls;
       moments =
           parts_moments g.L.Lines.history g.L.Lines.room page first file at bytes parts.items ready begun;
       others =

@@ -1,6 +1,7 @@
 use Rattle.std.proofs.Common.{[], ◌∷◌, ◌<◌, length, arith}
 use Rattle.std.proofs.lemmas.Result.{on_ok_weaker}
 use Rattle.nv_pmem.specs.Steps.{Flush, Fence, durable_store}
+use Rattle.nv_pmem.proofs.CallLaws.{one_well, one_failed, fence_call, calls_failed, takes_as_line, failed_front, each_failed, each_each, each_then}
 use Rattle.nv_pmem.proofs.DurableLaws.{durable_moments, durable_value, durable_quiet}
 use Rattle.nv_pmem.proofs.StepLaws.{did_did, did_did_some, did_some_front, tells_told}
 use Rattle.nv_pmem.proofs.durable.store_durably.Goals as goal
@@ -40,3 +41,24 @@ returns-clause-durable g c =
 
 pub returns-clause-quiet : goal.returns-clause-quiet
 returns-clause-quiet g c = on_ok_weaker c.fence.result (durable_quiet c.args.line c.args.word c.args.value) (returns-clause-done g c)
+
+pub returns-in_err-store-clause-calls : goal.returns-in_err-store-clause-calls
+unfolding durable_store
+returns-in_err-store-clause-calls g c =
+    calls_failed _ c.from_residual.ensures.0
+    (failed_front (Flush c.args.line ∷ Fence ∷ []) (one_failed c.store.ensures.begun (takes_as_line c.store.ensures.room) c.in_err-store.ensures.cause))
+
+pub returns-in_err-flush-clause-calls : goal.returns-in_err-flush-clause-calls
+unfolding durable_store
+returns-in_err-flush-clause-calls g c =
+    calls_failed _ c.from_residual-in_err-flush.ensures.0
+    (failed_front (Fence ∷ [])
+    (each_failed (one_well c.requires.line c.in_ok-store.ensures.done c.store.ensures.room c.in_ok-store.ensures.cause) (one_failed c.flush.ensures.begun c.flush.ensures.room c.in_err-flush.ensures.cause)))
+
+pub returns-clause-calls : goal.returns-clause-calls
+unfolding durable_store
+returns-clause-calls g c =
+    each_then
+    (each_each (one_well c.requires.line c.in_ok-store.ensures.done c.store.ensures.room c.in_ok-store.ensures.cause)
+    (one_well (omega (arith, c.requires.line, c.store.ensures.room.lines)) c.in_ok-flush.ensures.done (c.flush.ensures.room, c.in_ok-flush.ensures.flushed) c.in_ok-flush.ensures.cause))
+    (fence_call c.fence.result _ _ c.fence.ensures.begun c.fence.ensures.done c.fence.ensures.room c.fence.ensures.freed c.fence.ensures.cause)
