@@ -1,5 +1,5 @@
 -- Beginnings: the first step of a read, or its refusal before any.
-use Rattle.std.proofs.Common.{◌≡◌, ◌≢◌, ℕ, zero, suc, ◌+◌, ◌-◌, ◌/◌, ◌<◌, ◌==◌, false, if◌then◌else◌, List, [], ◌∷◌, inl, inr, refl, sym, ap, subst, ◌∙◌, arith, eq-eqb, ne_eqb, ◌*◌}
+use Rattle.std.proofs.Common.{◌≡◌, ◌≢◌, ℕ, zero, suc, ◌+◌, ◌-◌, ◌/◌, ◌<◌, ◌==◌, false, if◌then◌else◌, List, [], ◌∷◌, inl, inr, refl, sym, ap, subst, ◌∙◌, arith, eq-eqb, ne_eqb, ◌*◌, true}
 use Rattle.std.specs.Prelude.{Option, Some, None, Err, min, nat_lt}
 use Rattle.std.specs.List.{slice_get}
 use Rattle.nv_plain.specs.Layouts.{version_1}
@@ -34,9 +34,10 @@ use Rattle.nv_calls.specs.Answers.{IsUnplaced}
 use Rattle.nv_calls.specs.Barred.{barred, IsAdmitted, barred_range, barred_fd}
 use Rattle.nv_calls.specs.Kinds.{kind_of, read_kind}
 use Rattle.nv_calls.specs.Reads.{ReadGoes, pages_from, with_if, read_hands, reading, IsAt, IsMeasured, InCall, IsOnWayAt, IsUnbegun, IsReadOver, IsOverBy, is_fault}
-use Rattle.nv_calls.specs.Steps.{Step, refused_by, place_by, is_stop}
+use Rattle.nv_calls.specs.Steps.{Step, refused_by, place_by}
+use Rattle.nv_calls.proofs.OwnLaws.{is_quiet, quiet_own, quiet_goes_on}
 use Rattle.nv_calls.proofs.LockLaws.{page_among}
-use Rattle.nv_calls.proofs.ReadLaws.{over_from}
+use Rattle.nv_calls.proofs.ReadLaws.{over_from, none_placed}
 use Rattle.nv_calls.proofs.WayLaws.{opened_same, by_sizes, taken_by, between_self, none_tells, word_is, if_no_fault, no_fault}
 
 -- ---- pages
@@ -115,18 +116,19 @@ module _ (fds : List Fd) (m : ReadMachine) (list : List ℕ) (file : ℕ) (old :
   free = subst IsCallFree (sym way.idle.stage) (λ sizes values pass work due. due)
 
   begun_call : (new : PassState) (deed : Deed) (found : ℕ) (refusal : Option Refusal) → (is : Stepped old (Some call) deed found new) → refused_by old.sight.opened.sizes call is.works deed found ≡ refusal
-      → place_by deed found ≡ None → is_stop deed ≡ false → InCall fds m.fd call refusal m.place m.faulted old new
-  begun_call new deed found refusal is refuses places stops = record {
+      → place_by deed found ≡ None → is_quiet None deed ≡ true → InCall fds m.fd call refusal m.place m.faulted old new
+  begun_call new deed found refusal is refuses places quiet = record {
     idle = way.idle;
     unbarred = admitted.unbarred;
     file = admitted.file_is;
     allowed = subst (λ (o : Opened). IsAllowed o.sizes call) (sym opened) admitted.allowed;
     steps = step ∷ [];
     made = (old, refl, taken_by old old new (Some call) deed found (between_self old) is);
+    own = (refl, quiet_own None deed quiet);
     refused = ap (λ (o : Opened). refused_by o.sizes call is.works deed found) opened ∙ refuses;
     placed = places ∙ sym way.unplaced;
-    stopped = stops ∙ sym way.unfaulted;
-    faults = way.unfaulted ∙ sym (ap is_fault (sym refuses) ∙ no_fault old.sight.opened.sizes call is.works deed found stops);
+    stopped = quiet_goes_on None deed quiet ∙ sym way.unfaulted;
+    faults = way.unfaulted ∙ sym (ap is_fault (sym refuses) ∙ no_fault old.sight.opened.sizes call is.works deed found (quiet_goes_on None deed quiet));
     mount = opened;
     later = later_by old new (Some call) deed found is;
     spare = is.spare;
@@ -298,5 +300,5 @@ pub first_none : (fds : List Fd) (m : ReadMachine) (list : List ℕ) (old : Pass
 first_none fds m list old refusal is = record {
   same = record { fd = refl; at = refl; len = refl };
   one = inl record { refusal = refusal; barred_is = is; answer = refl; same = refl };
-  goes = λ start way. (way.unplaced, way.unfaulted ∙ sym (ap is_fault (sym is) ∙ barred_no_fault old.sight.opened.sizes fds m.fd m.at m.len), barred_over fds m list refusal start old way is);
+  goes = λ start way. (none_placed m way.unplaced, way.unfaulted ∙ sym (ap is_fault (sym is) ∙ barred_no_fault old.sight.opened.sizes fds m.fd m.at m.len), barred_over fds m list refusal start old way is);
 }

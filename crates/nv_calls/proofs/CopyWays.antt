@@ -102,7 +102,7 @@ module _ (fds : List Fd) (m : ReadMachine) (list : List ℕ) (start now mid : Pa
 
   called : InCall fds m.fd (call_of m) (Some StoreFault) None true start new
   called =
-      in_call_on fds m.fd (call_of m) None (Some StoreFault) m.place None m.faulted true start now mid new Stops found way.called between is (ap fault_in told.is) (ap (λ p. either_of p None) way.placed) (ap (λ b. b || true) way.called.faults) refl
+      in_call_on fds m.fd (call_of m) None (Some StoreFault) m.place None m.faulted true start now mid new Stops found way.called between is (ap fault_in told.is) (ap (λ p. either_of p None) way.placed) (ap (λ b. b || true) way.called.faults) refl refl
 
   pub fail_goes : (scratch : List ℕ) (next : ReadMachine) (progress : Progress) → Refuses (record m { faulted = true; scratch = scratch }) (fetching_held now.sight.opened.sizes m page dirty true) StoreFault next progress → ReadGoes fds start next list new progress
   fail_goes scratch next progress refuses =

@@ -1,6 +1,6 @@
 -- Ends: a read that has its place gives back SIZE, and then its pages, the first of them first.
 use Rattle.std.proofs.Common.{◌≡◌, ◌≢◌, ℕ, zero, suc, ◌+◌, ◌-◌, ◌<◌, ◌≤◌, ◌==◌, if◌then◌else◌, List, [], ◌∷◌, length, inl, inr, refl, sym, ap, subst, ◌∙◌, arith, eq-eqb, ne_eqb}
-use Rattle.std.specs.Prelude.{Some, None, Ok}
+use Rattle.std.specs.Prelude.{Some, None, option_map, Ok}
 use Rattle.std.proofs.lemmas.Bool.{cases_eq}
 use Rattle.nv_core.specs.Words.{Sizes, Word, PAGE, SIZE}
 use Rattle.nv_core.specs.Passes.{Stage, Pass, Idle, Releasing, Giving, first_page, end_page, page_count, without}
@@ -20,7 +20,7 @@ use Rattle.nv_calls.specs.declared.reading.ReadStage.TheVariants.{Releases, Give
 use Rattle.nv_calls.specs.Advances.{IsSameRead}
 use Rattle.nv_calls.specs.Answers.{HasRead}
 use Rattle.nv_calls.specs.Ends.{GivesFrom}
-use Rattle.nv_calls.specs.Reads.{call_of, pages_from, with_if, read_hands, reading, IsAt, InCall, IsOnWay, IsOnWayAt, IsReadOver, Tells, ReadGoes, place_of, is_fault, refusal_of}
+use Rattle.nv_calls.specs.Reads.{call_of, pages_from, with_if, read_hands, reading, IsAt, InCall, IsOnWay, IsOnWayAt, IsReadOver, Tells, ReadGoes, done_of, is_fault, refusal_of}
 use Rattle.nv_calls.proofs.HeldLaws.{index_is}
 use Rattle.nv_calls.proofs.ReadLaws.{over_from, idle_from}
 use Rattle.nv_calls.proofs.WayLaws.{IsCalls, reading_on, quiet_on, by_sizes}
@@ -92,7 +92,7 @@ gives_on fds m next list page (Ended result) start new base len fetched placed a
     let told : HasRead m.file m.at list start.sight new.sight record { place = place; len = m.copied } = subst (λ p. Tells p m.file m.at m.copied list start.sight new.sight) gives.3 placed.tells in
     let ended : IsReadOver fds m.fd m.at list start new (Ok record { place = place; len = m.copied }) =
     over_from fds m list None m.place m.faulted start new (Ok record { place = place; len = m.copied }) placed.called placed.room refl gives.3 told idle in
-    subst (λ n. ReadGoes fds start n list new (Ended result)) (sym gives.1) (gives.3 ∙ ap place_of (sym gives.4), placed.called.faults ∙ ap (λ r. is_fault (refusal_of r)) (sym gives.4), subst (λ r. IsReadOver fds m.fd m.at list start new r) (sym gives.4) ended)
+    subst (λ n. ReadGoes fds start n list new (Ended result)) (sym gives.1) (ap (option_map (λ (at : ℕ). record { place = at; len = m.copied })) gives.3 ∙ ap done_of (sym gives.4), placed.called.faults ∙ ap (λ r. is_fault (refusal_of r)) (sym gives.4), subst (λ r. IsReadOver fds m.fd m.at list start new r) (sym gives.4) ended)
 
 -- what is so after its place stays so, as it sees no more of the history
 pub read_on : (file at : ℕ) (list : List ℕ) (start now new : Sight) (answer : Done) → (pass_of new).seen ≡ (pass_of now).seen → (pass_of new).mine ≡ (pass_of now).mine → HasRead file at list start now answer → HasRead file at list start new answer

@@ -1,6 +1,7 @@
 pub mod HistoryLaws
 pub mod SyncLaws
 pub mod MachineLaws
+pub mod OwnLaws
 pub mod WayLaws
 pub mod ArmLaws
 pub mod ReadLaws
@@ -15,6 +16,7 @@ pub mod LeaveLaws
 pub mod MeasureLaws
 pub mod OnwardLaws
 pub mod OrderLaws
+pub mod HeedsLaws
 pub mod OverLaws
 pub mod PlaceLaws
 pub mod RankLaws

@@ -1,5 +1,5 @@
 -- Onward: what a read is after a step that refuses it nothing, and after one that refuses it.
-use Rattle.std.proofs.Common.{◌≡◌, ℕ, Bool, false, List, length, refl, sym, ap, subst, ◌∙◌}
+use Rattle.std.proofs.Common.{◌≡◌, ℕ, Bool, false, List, length, refl, sym, ap, subst, ◌∙◌, true}
 use Rattle.std.specs.Prelude.{Option, Some, None}
 use Rattle.nv_plain.specs.declared.call.FileCall.{FileCall}
 use Rattle.nv_core.specs.Words.{Sizes, Word}
@@ -23,7 +23,8 @@ use Rattle.nv_calls.specs.declared.reading.ReadStage.TheVariants.{Turns, Looks, 
 use Rattle.nv_calls.specs.Advances.{IsSameRead}
 use Rattle.nv_calls.specs.Answers.{IsUnplaced}
 use Rattle.nv_calls.specs.Reads.{call_of, reading, held_cells, InCall, IsOnWay, IsOnWayAt, IsUnderWayAt, IsLook, StandsAt, PlacedAt, Tells, refusal_at, Refuses, ReadGoes}
-use Rattle.nv_calls.specs.Steps.{refused_by, place_by, is_stop}
+use Rattle.nv_calls.specs.Steps.{refused_by, place_by}
+use Rattle.nv_calls.proofs.OwnLaws.{is_quiet}
 use Rattle.nv_calls.proofs.ReadLaws.{refused_goes}
 use Rattle.nv_calls.proofs.WayLaws.{opened_same, by_sizes, quiet_on, refusing_on, tells_none, none_tells}
 
@@ -88,7 +89,7 @@ looked_same is = record { fd = ap (λ (n : ReadMachine). n.fd) is; at = ap (λ (
 
 module _ (fds : List Fd) (m : ReadMachine) (list : List ℕ) (start now new : PassState) (deed : Deed) (found : ℕ) (is : Stepped now None deed found new) (base base_then : Pass) (at then_at : Stage) (hands hands_then : List Word)
     (sized_then : Bool) (len len_then : ℕ) (fetched fetched_then : List (ℕ × List ℕ)) (open_ : IsOpen fds m list start now) (old : pass_of now.sight ≡ reading base (call_of m) at hands m.sized len fetched)
-    (then_is : pass_of new.sight ≡ reading base_then (call_of m) then_at hands_then sized_then len_then fetched_then) (sees : base_then.seen ≡ base.seen) (made : base_then.mine ≡ base.mine) (unplaces : place_by deed found ≡ None) (goes_on : is_stop deed ≡ false) where
+    (then_is : pass_of new.sight ≡ reading base_then (call_of m) then_at hands_then sized_then len_then fetched_then) (sees : base_then.seen ≡ base.seen) (made : base_then.mine ≡ base.mine) (unplaces : place_by deed found ≡ None) (goes_on : is_quiet None deed ≡ true) where
   told_then : IsUnplaced start.sight new.sight
   told_then = record {
     seen = ap (λ (p : Pass). p.seen) then_is ∙ sees ∙ sym (ap (λ (p : Pass). p.seen) old) ∙ open_.told.seen;

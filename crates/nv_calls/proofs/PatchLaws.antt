@@ -27,7 +27,8 @@ use Rattle.nv_calls.specs.declared.reading.ReadStage.{ReadStage}
 use Rattle.nv_calls.specs.declared.reading.ReadStage.TheVariants.{Bounds, Starts, Scans, Grasps, Patches, Unlocks}
 use Rattle.nv_calls.specs.Answers.{IsUnplaced}
 use Rattle.nv_calls.specs.Reads.{call_of, read_hands, reading, HasCopied, IsPatchingAt, StandsAt, PlacedAt, InCall, IsOnWayAt, ReadGoes, refusal_at}
-use Rattle.nv_calls.specs.Steps.{IsBetween, refused_by, place_by, is_stop}
+use Rattle.nv_calls.specs.Steps.{IsBetween, refused_by, place_by}
+use Rattle.nv_calls.proofs.OwnLaws.{is_quiet}
 use Rattle.nv_calls.proofs.FrontLaws.{copied_same, bytes_same}
 use Rattle.nv_calls.proofs.HeldLaws.{page_held}
 use Rattle.nv_calls.proofs.SearchLaws.{no_works}
@@ -63,7 +64,7 @@ unplaced_on start now new seen mine is = record { seen = seen ∙ is.seen; mine 
 -- a step that refuses nothing leads on
 module _ (fds : List Fd) (m : ReadMachine) (list : List ℕ) (start now before new : PassState) (stage : ReadStage) (way : IsOnWayAt fds m list start now stage)
     (deed : Deed) (found : ℕ) (between : IsBetween now before) (is : Stepped before None deed found new) where
-  pub way_on : (head : ℕ) (scratch : List ℕ) (next : ReadStage) (base : Pass) → refused_by now.sight.opened.sizes (call_of m) is.works deed found ≡ None → place_by deed found ≡ None → is_stop deed ≡ false
+  pub way_on : (head : ℕ) (scratch : List ℕ) (next : ReadStage) (base : Pass) → refused_by now.sight.opened.sizes (call_of m) is.works deed found ≡ None → place_by deed found ≡ None → is_quiet (refusal_at stage) deed ≡ true
       → refusal_at next ≡ refusal_at stage → m.place ≡ None → PlacedAt next m.place
       → (pass_of new.sight).seen ≡ (pass_of now.sight).seen → (pass_of new.sight).mine ≡ (pass_of now.sight).mine
       → StandsAt now.sight.opened.sizes (record m { head = head; scratch = scratch; stage = next }) list base (values_of new.sight) (pass_of new.sight) next
@@ -129,7 +130,7 @@ module _ (fds : List Fd) (m : ReadMachine) (list : List ℕ) (start now : PassSt
             ∙ page_beside now.sight.opened.sizes (call_of m) m.sized before page (page_before now.sight.opened.sizes (call_of m) here.at.len page before low less here.at.more)
 
     pub patch_goes : (head : ℕ) (next : ReadStage) (base_then : Pass) (at_then : Stage) (hands : List Word)
-        → refused_by now.sight.opened.sizes (call_of m) is.works deed found ≡ None → place_by deed found ≡ None → is_stop deed ≡ false
+        → refused_by now.sight.opened.sizes (call_of m) is.works deed found ≡ None → place_by deed found ≡ None → is_quiet (refusal_at stage) deed ≡ true
         → refusal_at next ≡ refusal_at stage → m.place ≡ None → PlacedAt next m.place → base_then.seen ≡ way.base.seen → base_then.mine ≡ way.base.mine
         → pass_of new.sight ≡ reading base_then (call_of m) at_then (hands ++ CLEANUP page ∷ read_hands now.sight.opened.sizes (call_of m) m.sized) m.sized here.at.len here.at.fetched
         → (IsPatchingAt now.sight.opened.sizes (record m { head = head; stage = next }) list base_then (values_of new.sight) (pass_of new.sight) page at_then hands
@@ -180,7 +181,7 @@ module _ (fds : List Fd) (m : ReadMachine) (list : List ℕ) (start now : PassSt
     (here : IsPatchingAt now.sight.opened.sizes m list way.base (values_of now.sight) (pass_of now.sight) page at [])
     (deed : Deed) (found : ℕ) (new : PassState) (free : IsCallFree at) (same : (kept : Values) → values_stepped now.sight.opened.sizes (pass_of now.sight) deed kept ≡ kept)
     (is : Stepped now None deed found new) where
-  pub scan_goes : (number : ℕ) (base_then : Pass) → refused_by now.sight.opened.sizes (call_of m) is.works deed found ≡ None → place_by deed found ≡ None → is_stop deed ≡ false
+  pub scan_goes : (number : ℕ) (base_then : Pass) → refused_by now.sight.opened.sizes (call_of m) is.works deed found ≡ None → place_by deed found ≡ None → is_quiet (refusal_at stage) deed ≡ true
       → refusal_at stage ≡ None → m.place ≡ None → base_then.seen ≡ way.base.seen → base_then.mine ≡ way.base.mine → m.head ≡ base_then.head
       → pass_of new.sight ≡ reading base_then (call_of m) (if nat_lt number base_then.head then Scanning page number else Unlocking page)
       (CLEANUP page ∷ read_hands now.sight.opened.sizes (call_of m) m.sized) m.sized here.at.len here.at.fetched

@@ -169,7 +169,7 @@ module _ (fds : List Fd) (m : ReadMachine) (list : List ℕ) (start now : PassSt
     pub patch_failed : IsOnWayAt fds (record m { faulted = true; stage = Restores page number }) list start new (Restores page number)
     patch_failed = record {
       called = in_call_on fds m.fd (call_of m) None (Some RegionFault) m.place m.place m.faulted true start now (record mid { sight = now.sight }) new Stops found way.called between is
-          fault_is (either_none m.place) (or_true m.faulted) refl;
+          fault_is (either_none m.place) (or_true m.faulted) refl refl;
       base = base_then;
       stands = subst (λ (o : Opened). StandsAt o.sizes (record m { faulted = true; stage = Restores page number }) list base_then (values_of new.sight) (pass_of new.sight) (Restores page number))
           (sym (opened_same (record mid { sight = now.sight }) new None Stops found is)) (here.fetched, record { len = here.len; is = stopped_is });

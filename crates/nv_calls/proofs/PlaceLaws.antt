@@ -82,7 +82,7 @@ module _ (fds : List Fd) (m : ReadMachine) (list : List ℕ) (start now : PassSt
 
     called : InCall fds m.fd (call_of m) None (Some place) m.faulted start new
     called = in_call_on fds m.fd (call_of m) None None m.place (Some place) m.faulted m.faulted start now now new (Places (Bytes here.bytes)) place way.called (between_self now) is refl
-        (ap (λ p. either_of p (Some place)) way.placed) (or_none m.faulted) way.called.faults
+        (ap (λ p. either_of p (Some place)) way.placed) (or_none m.faulted) way.called.faults refl
 
     done : IsDone start.sight new.sight (call_of m) (Bytes here.bytes) place
     done = done_plainly start now new (call_of m) (Bytes here.bytes) place way.called.later (tells_none m.place m.file m.at m.copied list start.sight now.sight way.placed way.tells) (ap (λ (p : Pass). p.call) here.is)

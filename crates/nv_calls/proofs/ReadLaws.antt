@@ -1,6 +1,6 @@
 -- Reads: what each step of a read leads to.
 use Rattle.std.proofs.Common.{◌≡◌, ◌≢◌, ℕ, zero, suc, Bool, true, false, List, [], ◌∷◌, length, refl, sym, ap, subst, ◌∙◌, arith}
-use Rattle.std.specs.Prelude.{Option, Some, None, Result, Err}
+use Rattle.std.specs.Prelude.{Option, Some, None, option_map, Result, Err}
 use Rattle.nv_plain.specs.declared.call.FileCall.{FileCall}
 use Rattle.nv_plain.specs.declared.call.FileCall.TheVariants.{Read}
 use Rattle.nv_core.specs.Words.{Sizes, Word, SIZE, STORE}
@@ -23,8 +23,10 @@ use Rattle.nv_calls.specs.declared.reading.ReadStage.TheVariants.{Leaves}
 use Rattle.nv_calls.specs.Advances.{IsSameRead}
 use Rattle.nv_calls.specs.Answers.{IsUnplaced}
 use Rattle.nv_calls.specs.Barred.{barred}
-use Rattle.nv_calls.specs.Reads.{call_of, pages_from, with_if, with_cleanup, held_cells, reading, InCall, Tells, IsOnWay, IsReadOver, IsOverBy, IsOver, HasTold, refusal_of, place_of, IsNothing, Refuses, ReadGoes, is_fault}
+use Rattle.nv_calls.specs.Own.{AreOwn}
+use Rattle.nv_calls.specs.Reads.{call_of, pages_from, with_if, with_cleanup, held_cells, reading, InCall, Tells, IsOnWay, IsReadOver, IsOverBy, IsOver, HasTold, refusal_of, done_of, placed_by, IsNothing, Refuses, ReadGoes, is_fault, place_of}
 use Rattle.nv_calls.specs.Steps.{refusal_in}
+use Rattle.nv_calls.proofs.OwnLaws.{own_are_passing}
 
 -- ---- the end of a call
 
@@ -35,11 +37,17 @@ pub over_from : (fds : List Fd) (m : ReadMachine) (list : List ℕ) (refusal : O
 over_from fds m list refusal place faulted start now result called room refuses places told idle =
     let open_ : barred start.sight.opened.sizes fds m.fd m.at (length list) ≡ None = ap (barred start.sight.opened.sizes fds m.fd m.at) room ∙ called.unbarred in
     let refused = subst (λ (o : Opened). refusal_in o.sizes (call_of m) called.steps ≡ refusal) called.mount called.refused in
+    let own : AreOwn start.sight.opened.sizes (Read m.file m.at (length list)) called.steps =
+    subst (λ n. AreOwn start.sight.opened.sizes (Read m.file m.at n) called.steps) (sym room) (subst (λ (o : Opened). AreOwn o.sizes (call_of m) called.steps) called.mount called.own) in
+    let set = called.stopped ∙ called.faults ∙ ap is_fault refuses in
     let over : IsOver m.file m.at list start now result = record {
       steps = called.steps;
       made = called.made;
+      own = own;
       refused = ap (λ n. refusal_in start.sight.opened.sizes (Read m.file m.at n) called.steps) room ∙ refused ∙ refuses;
       placed = called.placed ∙ places;
+      stopped = set;
+      alone = λ unplaced unfaulted. own_are_passing start.sight.opened.sizes (Read m.file m.at (length list)) called.steps own (called.placed ∙ places ∙ unplaced) (set ∙ unfaulted);
       told = told;
       idle = idle;
       later = called.later;
@@ -90,6 +98,10 @@ held_so sizes call pages sized cleanup true none = absurd (no_cell none)
 pub something_held : (sizes : Sizes) (call : FileCall) (held : Held) → (IsNothing held → ⊥) → held_cells sizes call held ≢ []
 something_held sizes call held some none = some (held_so sizes call held.pages held.sized held.cleanup held.stored none)
 
+-- a machine without a place tells no answer
+pub none_placed : (m : ReadMachine) → m.place ≡ None → placed_by m ≡ None
+none_placed m unplaced = ap (option_map (λ (place : ℕ). record { place = place; len = m.copied })) unplaced
+
 -- a refused read goes on to give back, or is over
 pub refused_goes : (fds : List Fd) (m next : ReadMachine) (list : List ℕ) (held : Held) (refusal : Refusal) (progress : Progress) (start new : PassState) (base : Pass) (len : ℕ) (fetched : List (ℕ × List ℕ))
     → Refuses m held refusal next progress → InCall fds m.fd (call_of m) (Some refusal) None m.faulted start new → m.place ≡ None → length list ≡ m.len → IsUnplaced start.sight new.sight
@@ -115,7 +127,7 @@ refused_goes fds m next list held refusal (Ended result) start new base len fetc
     (subst (λ hands. pass_of new.sight ≡ reading base (call_of m) (leaving hands) hands m.sized len fetched) none is) refl in
     let ended : IsReadOver fds m.fd m.at list start new (Err refusal) =
     over_from fds m list (Some refusal) None m.faulted start new (Err refusal) called room refl refl told idle in
-    subst (λ n. ReadGoes fds start n list new (Ended result)) (sym refuses.1) (unplaced ∙ ap place_of (sym refuses.2), called.faults ∙ ap (λ r. is_fault (refusal_of r)) (sym refuses.2), subst (λ r. IsReadOver fds m.fd m.at list start new r) (sym refuses.2) ended)
+    subst (λ n. ReadGoes fds start n list new (Ended result)) (sym refuses.1) (none_placed m unplaced ∙ ap done_of (sym refuses.2), called.faults ∙ ap (λ r. is_fault (refusal_of r)) (sym refuses.2), subst (λ r. IsReadOver fds m.fd m.at list start new r) (sym refuses.2) ended)
 
 -- it is the same read
 pub refused_same : (m next : ReadMachine) (held : Held) (refusal : Refusal) (progress : Progress) → Refuses m held refusal next progress → IsSameRead m next

@@ -40,7 +40,8 @@ use Rattle.nv_calls.specs.declared.reading.ReadStage.{ReadStage}
 use Rattle.nv_calls.specs.declared.reading.ReadStage.TheVariants.{Turns as RaisesHand, Hints as LoadsHint, Seeks, Robs, Points, Looks}
 use Rattle.nv_calls.specs.Answers.{IsUnplaced}
 use Rattle.nv_calls.specs.Reads.{call_of, read_hands, reading, IsAtPage, IsVictim, StandsAt, refusal_at, InCall, PlacedAt, IsOnWayAt, ReadGoes}
-use Rattle.nv_calls.specs.Steps.{IsBetween, refused_by, place_by, is_stop}
+use Rattle.nv_calls.specs.Steps.{IsBetween, refused_by, place_by}
+use Rattle.nv_calls.proofs.OwnLaws.{is_quiet}
 use Rattle.nv_calls.proofs.FrontLaws.{copied_same, bytes_same}
 use Rattle.nv_calls.proofs.HeldLaws.{index_is, page_held, page_not_held, slot_carried}
 use Rattle.nv_calls.proofs.LockLaws.{page_among}
@@ -114,7 +115,7 @@ module _ (sizes : Sizes) (m : ReadMachine) (list : List ℕ) (base : Pass) (valu
 
 module _ (fds : List Fd) (m : ReadMachine) (list : List ℕ) (start now before new : PassState) (stage next : ReadStage) (deed : Deed) (found : ℕ) (way : IsOnWayAt fds m list start now stage) (between : IsBetween now before) (is : Stepped before None deed found new) where
   -- where it refuses nothing and takes no place, the read is on its way
-  way_on : (refusal_at stage ≡ None) → (refusal_at next ≡ None) → m.place ≡ None → PlacedAt next m.place → refused_by now.sight.opened.sizes (call_of m) is.works deed found ≡ None → place_by deed found ≡ None → is_stop deed ≡ false
+  way_on : (refusal_at stage ≡ None) → (refusal_at next ≡ None) → m.place ≡ None → PlacedAt next m.place → refused_by now.sight.opened.sizes (call_of m) is.works deed found ≡ None → place_by deed found ≡ None → is_quiet (refusal_at next) deed ≡ true
       → IsUnplaced start.sight new.sight → StandsAt new.sight.opened.sizes (record m { stage = next }) list way.base (values_of new.sight) (pass_of new.sight) next
       → IsOnWayAt fds (record m { stage = next }) list start new next
   way_on none none_then unplaced placed refuses places stops told stands = record {
@@ -214,7 +215,7 @@ IsSearching fds m list base new page tries search sizes =
     (next : ReadStage) → IsAtPage sizes (record m { stage = next }) list base (values_of new.sight) (pass_of new.sight) page (Searching page tries search) (read_hands sizes (call_of m) m.sized)
 
 module _ (fds : List Fd) (m : ReadMachine) (list : List ℕ) (start now before new : PassState) (stage : ReadStage) (deed : Deed) (found : ℕ) (way : IsOnWayAt fds m list start now stage) (between : IsBetween now before) (is : Stepped before None deed found new)
-    (none : refusal_at stage ≡ None) (unplaced : m.place ≡ None) (refuses : refused_by now.sight.opened.sizes (call_of m) is.works deed found ≡ None) (places : place_by deed found ≡ None) (stops : is_stop deed ≡ false)
+    (none : refusal_at stage ≡ None) (unplaced : m.place ≡ None) (refuses : refused_by now.sight.opened.sizes (call_of m) is.works deed found ≡ None) (places : place_by deed found ≡ None) (stops : is_quiet None deed ≡ true)
     (told : IsUnplaced start.sight new.sight) (page tries : ℕ) (search : Search) where
   go_again : IsSearching fds m list way.base new page tries search new.sight.opened.sizes → IsOver (values_of new.sight (PAGE page)) search → lacks_buffer (values_of new.sight (PAGE page)) ≡ true
       → (more : Bool) → nat_lt tries (2 * new.sight.opened.sizes.buffers) ≡ more → ReadGoes fds start (record m { stage = if more then RaisesHand page tries else Looks page }) list new More

@@ -44,7 +44,8 @@ use Rattle.nv_calls.specs.declared.reading.ReadStage.TheVariants.{Begins, Restor
 use Rattle.nv_calls.specs.Answers.{IsUnplaced}
 use Rattle.nv_calls.specs.Ranks.{IsLess, most_looks, pages_left, rank_at, rank, look_rank}
 use Rattle.nv_calls.specs.Reads.{call_of, read_hands, held_cells, reading, front, page_piece, HasCopied, IsAt, IsAtPage, IsLooking, IsLook, StandsAt, refusal_at, InCall, IsOnWay, IsOnWayAt, IsUnderWayAt, Refuses, ReadGoes}
-use Rattle.nv_calls.specs.Steps.{IsBetween, refused_by, place_by, is_stop}
+use Rattle.nv_calls.specs.Steps.{IsBetween, refused_by, place_by}
+use Rattle.nv_calls.proofs.OwnLaws.{is_quiet}
 use Rattle.nv_calls.proofs.FrontLaws.{copied_same, bytes_same}
 use Rattle.nv_calls.proofs.HeldLaws.{page_held, slot_carried}
 use Rattle.nv_calls.proofs.LockLaws.{some_bytes}
@@ -125,7 +126,7 @@ look_under fds m list start now stage look way = way
 -- after a step that refuses nothing and takes no place the read goes on with what it has come to
 pub look_goes : (fds : List Fd) (m next : ReadMachine) (list : List ℕ) (start now before new last : PassState) (deed : Deed) (found : ℕ) (base : Pass)
     → InCall fds m.fd (call_of m) None m.place m.faulted start now → IsBetween now before → (is : Stepped before None deed found new) → IsAltered (λ kept. kept) new last
-    → next ≡ record m { stage = next.stage; copied = next.copied } → m.place ≡ None → refused_by now.sight.opened.sizes (call_of m) is.works deed found ≡ None → place_by deed found ≡ None → is_stop deed ≡ false
+    → next ≡ record m { stage = next.stage; copied = next.copied } → m.place ≡ None → refused_by now.sight.opened.sizes (call_of m) is.works deed found ≡ None → place_by deed found ≡ None → is_quiet None deed ≡ true
     → IsUnplaced start.sight new.sight → length list ≡ m.len → IsLook next.stage → StandsAt new.sight.opened.sizes next list base (values_of new.sight) (pass_of new.sight) next.stage
     → ReadGoes fds start next list last More
 look_goes fds m next list start now before new last deed found base called between is same machine unplaced refuses places stops told room look stands =

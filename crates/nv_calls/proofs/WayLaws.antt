@@ -23,10 +23,12 @@ use Rattle.nv_mount.specs.declared.fds.Fd.{Fd}
 use Rattle.nv_calls.specs.declared.answers.Refusal.{Refusal}
 use Rattle.nv_calls.specs.declared.answers.Refusal.TheVariants.{Busy, Stopped, Spent}
 use Rattle.nv_calls.specs.Answers.{IsUnplaced}
+use Rattle.nv_calls.specs.Own.{is_own, AreOwn}
 use Rattle.nv_calls.specs.Reads.{reading, InCall, Tells, is_fault}
 use Rattle.nv_calls.specs.Steps.{HasTaken, IsBetween, either_of, refused_by, refusal_in, place_by, is_stop, if_own, busy_at}
 use Rattle.nv_core.proofs.NextSteps.{steps_are_next}
 use Rattle.nv_core.specs.StepKinds.{MayByKind}
+use Rattle.nv_calls.proofs.OwnLaws.{is_quiet, quiet_own, quiet_goes_on, own_on}
 
 -- ---- words by their places
 
@@ -128,14 +130,16 @@ taken_by old before new opens deed found between is = record { before = before; 
 pub in_call_on : (fds : List Fd) (fd : ℕ) (call : FileCall) (refusal refusal_then : Option Refusal) (at at_then : Option ℕ) (faulted faulted_then : Bool) (start now before new : PassState) (deed : Deed) (found : ℕ)
     → InCall fds fd call refusal at faulted start now → IsBetween now before → (is : Stepped before None deed found new)
     → either_of refusal (refused_by now.sight.opened.sizes call is.works deed found) ≡ refusal_then → either_of at (place_by deed found) ≡ at_then → faulted || is_stop deed ≡ faulted_then → faulted_then ≡ is_fault refusal_then
-    → InCall fds fd call refusal_then at_then faulted_then start new
-in_call_on fds fd call refusal refusal_then at at_then faulted faulted_then start now before new deed found called between is refuses places stops faults = record {
+    → is_own refusal deed ≡ true → InCall fds fd call refusal_then at_then faulted_then start new
+in_call_on fds fd call refusal refusal_then at at_then faulted faulted_then start now before new deed found called between is refuses places stops faults owned = record {
   idle = called.idle;
   unbarred = called.unbarred;
   file = called.file;
   allowed = subst (λ (o : Opened). IsAllowed o.sizes call) (sym opened) called.allowed;
   steps = record { opens = None; works = is.works; deed = deed; found = found } ∷ called.steps;
   made = (now, called.made, taken_by now before new None deed found between is);
+  own = subst (λ (o : Opened). AreOwn o.sizes call (record { opens = None; works = is.works; deed = deed; found = found } ∷ called.steps)) (sym opened)
+      (own_on now.sight.opened.sizes call (record { opens = None; works = is.works; deed = deed; found = found }) called.steps refusal called.own called.refused refl owned);
   refused = subst (λ (o : Opened). refusal_in o.sizes call (record { opens = None; works = is.works; deed = deed; found = found } ∷ called.steps) ≡ refusal_then) (sym opened)
       (ap (λ r. either_of r (refused_by now.sight.opened.sizes call is.works deed found)) called.refused ∙ refuses);
   placed = ap (λ p. either_of p (place_by deed found)) called.placed ∙ places;
@@ -188,25 +192,26 @@ no_fault sizes call works deed found goes_on = refl
 -- after some device calls
 pub quiet_after : (fds : List Fd) (fd : ℕ) (call : FileCall) (refusal : Option Refusal) (at : Option ℕ) (faulted : Bool) (start now before new : PassState) (deed : Deed) (found : ℕ)
     → InCall fds fd call refusal at faulted start now → IsBetween now before → (is : Stepped before None deed found new) → refused_by now.sight.opened.sizes call is.works deed found ≡ None
-    → place_by deed found ≡ None → is_stop deed ≡ false → InCall fds fd call refusal at faulted start new
-quiet_after fds fd call refusal at faulted start now before new deed found called between is refuses places stops =
+    → place_by deed found ≡ None → is_quiet refusal deed ≡ true → InCall fds fd call refusal at faulted start new
+quiet_after fds fd call refusal at faulted start now before new deed found called between is refuses places quiet =
     in_call_on fds fd call refusal refusal at at faulted faulted start now before new deed found called between is
-    (ap (either_of refusal) refuses ∙ either_none refusal) (ap (either_of at) places ∙ either_none at) (ap (λ b. faulted || b) stops ∙ or_none faulted) called.faults
+    (ap (either_of refusal) refuses ∙ either_none refusal) (ap (either_of at) places ∙ either_none at) (ap (λ b. faulted || b) (quiet_goes_on refusal deed quiet) ∙ or_none faulted) called.faults (quiet_own refusal deed quiet)
 
 -- after none
 pub quiet_on : (fds : List Fd) (fd : ℕ) (call : FileCall) (refusal : Option Refusal) (at : Option ℕ) (faulted : Bool) (start now new : PassState) (deed : Deed) (found : ℕ)
     → InCall fds fd call refusal at faulted start now → (is : Stepped now None deed found new) → refused_by now.sight.opened.sizes call is.works deed found ≡ None → place_by deed found ≡ None
-    → is_stop deed ≡ false → InCall fds fd call refusal at faulted start new
-quiet_on fds fd call refusal at faulted start now new deed found called is refuses places stops =
-    quiet_after fds fd call refusal at faulted start now now new deed found called (between_self now) is refuses places stops
+    → is_quiet refusal deed ≡ true → InCall fds fd call refusal at faulted start new
+quiet_on fds fd call refusal at faulted start now new deed found called is refuses places quiet =
+    quiet_after fds fd call refusal at faulted start now now new deed found called (between_self now) is refuses places quiet
 
 pub refusing_on : (fds : List Fd) (fd : ℕ) (call : FileCall) (refusal : Refusal) (at : Option ℕ) (faulted : Bool) (start now new : PassState) (deed : Deed) (found : ℕ)
     → InCall fds fd call None at faulted start now → (is : Stepped now None deed found new) → refused_by now.sight.opened.sizes call is.works deed found ≡ Some refusal → place_by deed found ≡ None
-    → is_stop deed ≡ false → InCall fds fd call (Some refusal) at faulted start new
-refusing_on fds fd call refusal at faulted start now new deed found called is refuses places stops =
+    → is_quiet None deed ≡ true → InCall fds fd call (Some refusal) at faulted start new
+refusing_on fds fd call refusal at faulted start now new deed found called is refuses places quiet =
+    let stops = quiet_goes_on None deed quiet in
     in_call_on fds fd call None (Some refusal) at at faulted faulted start now now new deed found called (between_self now) is
     refuses (ap (either_of at) places ∙ either_none at) (ap (λ b. faulted || b) stops ∙ or_none faulted)
-    (called.faults ∙ sym (ap is_fault (sym refuses) ∙ no_fault now.sight.opened.sizes call is.works deed found stops))
+    (called.faults ∙ sym (ap is_fault (sym refuses) ∙ no_fault now.sight.opened.sizes call is.works deed found stops)) (quiet_own None deed quiet)
 
 -- ---- what a read tells before its place
 

@@ -4,12 +4,15 @@ pub mod Barred
 pub mod Copied
 pub mod Courses
 pub mod Ends
+pub mod Heeds
 pub mod Kinds
 pub mod Late
 pub mod Machines
+pub mod Own
 pub mod PageReads
 pub mod PieceReads
 pub mod Ranks
 pub mod Reads
 pub mod Steps
 pub mod ReadsAlone
+pub mod Tries

@@ -1,5 +1,5 @@
 -- Reads: where a read stands that is made one step at a time.
-use Rattle.std.specs.Prelude.{◌≡◌, ◌≢◌, ℕ, zero, suc, ◌+◌, ◌-◌, ◌%◌, ◌<◌, ◌≤◌, Bool, true, false, List, [], ◌∷◌, ◌++◌, length, take, Option, Some, None, Result, Ok, Err}
+use Rattle.std.specs.Prelude.{◌≡◌, ◌≢◌, ℕ, zero, suc, ◌+◌, ◌-◌, ◌%◌, ◌<◌, ◌≤◌, Bool, true, false, List, [], ◌∷◌, ◌++◌, length, take, Option, Some, None, option_map, Result, Ok, Err}
 use Rattle.std.specs.List.{flat_map, range_with_len}
 use Rattle.nv_plain.specs.Files.{bytes_at}
 use Rattle.nv_plain.specs.Pieces.{Piece, piece_of}
@@ -32,11 +32,16 @@ use Rattle.nv_calls.specs.declared.reading.ReadStage.TheVariants.{Begins, Locks,
 use Rattle.nv_calls.specs.Answers.{IsUnplaced, HasRead}
 use Rattle.nv_calls.specs.Barred.{barred}
 use Rattle.nv_calls.specs.Courses.{file_of}
+use Rattle.nv_calls.specs.Own.{AreOwn, ArePassing}
 use Rattle.nv_calls.specs.Steps.{Step, HasMade, refusal_in, place_in, stops_in}
 
 -- its call
 abbrev pub call_of : ReadMachine → FileCall
 call_of m = Read m.file m.at m.len
+
+-- the answer that it tells, once it has its place
+abbrev pub placed_by : ReadMachine → Option Done
+placed_by m = option_map (λ place. record { place = place; len = m.copied }) m.place
 
 -- ---- what its pass has in its hands, the last taken first
 
@@ -234,6 +239,7 @@ pub record InCall (fds : List Fd) (fd : ℕ) (call : FileCall) (refusal : Option
   pub allowed : IsAllowed now.sight.opened.sizes call
   pub steps : List Step
   pub made : HasMade steps start now
+  pub own : AreOwn now.sight.opened.sizes call steps
   pub refused : refusal_in now.sight.opened.sizes call steps ≡ refusal
   pub placed : place_in steps ≡ place
   pub stopped : stops_in steps ≡ faulted
@@ -300,12 +306,20 @@ abbrev pub HasTold : (file at : ℕ) → (list : List ℕ) → (old new : Sight)
 HasTold file at list old new (Ok done) = HasRead file at list old new done
 HasTold file at list old new (Err refusal) = IsUnplaced old new
 
--- A read of a file is over: by these steps, of which the first refusal and the place are the answer's.
+-- A refused read whose devices have not failed changed nothing that stays.
+abbrev pub LeftAlone : List Step → Result Done Refusal → Type 0
+LeftAlone steps result = place_of result ≡ None → is_fault (refusal_of result) ≡ false → ArePassing steps
+
+-- A read of a file is over: by these steps, all its own, of which the first refusal and the place are the answer's; one has set STOP exactly where
+-- a device has failed.
 pub record IsOver (file at : ℕ) (list : List ℕ) (start now : PassState) (result : Result Done Refusal) : Type 0 where
   pub steps : List Step
   pub made : HasMade steps start now
+  pub own : AreOwn start.sight.opened.sizes (Read file at (length list)) steps
   pub refused : refusal_in start.sight.opened.sizes (Read file at (length list)) steps ≡ refusal_of result
   pub placed : place_in steps ≡ place_of result
+  pub stopped : stops_in steps ≡ is_fault (refusal_of result)
+  pub alone : LeftAlone steps result
   pub told : HasTold file at list start.sight now.sight result
   pub idle : IsIdle now
   pub later : IsLater start now
@@ -342,7 +356,12 @@ abbrev pub Refuses : ReadMachine → Held → Refusal → (next : ReadMachine) �
 Refuses m held refusal next More = (IsNothing held → ⊥) × (next ≡ record m { stage = Leaves held refusal })
 Refuses m held refusal next (Ended result) = IsNothing held × (next ≡ m) × (result ≡ Err refusal)
 
--- how a read goes on from a start, and what it has told when it is over, of which its machine keeps the place, and whether it is a device fault
+-- the answer of a read that has its place
+abbrev pub done_of : Result Done Refusal → Option Done
+done_of (Ok done) = Some done
+done_of (Err refusal) = None
+
+-- how a read goes on from a start, and what it has told when it is over: its machine tells the same answer, and whether it is a device fault
 abbrev pub ReadGoes : List Fd → (start : PassState) → ReadMachine → (list : List ℕ) → (now : PassState) → Progress → Type 0
 ReadGoes fds start m list now More = IsUnderWay fds m list start now
-ReadGoes fds start m list now (Ended result) = (m.place ≡ place_of result) × (m.faulted ≡ is_fault (refusal_of result)) × IsReadOver fds m.fd m.at list start now result
+ReadGoes fds start m list now (Ended result) = (placed_by m ≡ done_of result) × (m.faulted ≡ is_fault (refusal_of result)) × IsReadOver fds m.fd m.at list start now result

@@ -4,6 +4,7 @@
 mod alone;
 mod answers;
 mod kinds;
+mod laws;
 mod machine;
 mod read;
 mod read_begin;
@@ -19,6 +20,7 @@ mod sync;
 pub use alone::a_read_alone_is_not_busy;
 pub use answers::{Done, Refusal};
 pub use kinds::Kind;
+pub use laws::ended_calls_heed_stop;
 pub use machine::{Progress, SyncMachine, SyncStage};
 pub use read::{pread, try_pread};
 pub use reading::{Held, MOST_PAGE, ReadMachine, ReadStage};

@@ -5,12 +5,14 @@ ghost use Rattle.nv_table.specs.States.{IsOf, PassState};
 ghost use Rattle.nv_calls.specs.Advances.{IsAdvance, IsOneOrNone, IsSameRead};
 ghost use Rattle.nv_calls.specs.Answers.{HasRead, IsUnplaced};
 ghost use Rattle.nv_calls.specs.Courses.{file_of};
+ghost use Rattle.nv_calls.specs.Heeds.{HeedsStop};
 ghost use Rattle.nv_calls.specs.Late.{IsLate};
 ghost use Rattle.nv_calls.specs.Ranks.{IsLess};
 ghost use Rattle.nv_calls.specs.Reads.{IsOnWay, IsReadOver, IsUnderWay, ReadGoes};
+ghost use Rattle.nv_calls.specs.Tries.{IsTried};
 ghost use Rattle.nv_calls.specs.declared.answers.Refusal.TheVariants.{Busy};
 
-use crate::{Done, Progress, ReadMachine, ReadStage, Refusal};
+use crate::{Done, Progress, ReadMachine, ReadStage, Refusal, ended_calls_heed_stop};
 use nv_mount::Mount;
 use nv_pmem::Lines;
 use nv_store::Backing;
@@ -126,7 +128,10 @@ pub fn try_pread<L: Lines + Drop, B: Backing + Drop>(
     ensures done { IfOk result (λ done. (file : ℕ) × (file_of mount.now.fds fd ≡ Some file) × HasRead file at buf.new pass.old.sight pass.new.sight done) }
     ensures kept { OnErr result (IsUnplaced pass.old.sight pass.new.sight) }
     ensures over { IsReadOver mount.now.fds fd at buf.new pass.old pass.new result }
+    ensures stop { HeedsStop pass.old pass.new result }
 {
+    ended_calls_heed_stop();
+    pass.sees_a_run();
     let mut machine = ReadMachine::new(fd, at, buf.len() as u64);
     loop {
         if let Progress::Ended(result) = machine.advance(mount, pass, buf) {
@@ -155,6 +160,7 @@ pub fn pread<R: Wait, L: Lines + Drop, B: Backing + Drop>(
     ensures kept { OnErr result (IsUnplaced pass.old.sight pass.new.sight) }
     ensures free { (cell : ℕ) → result ≢ Err (Busy cell) }
     ensures over { (last : PassState) × IsUnplaced pass.old.sight last.sight × IsReadOver mount.now.fds fd at buf.new last pass.new result }
+    ensures tried { IsTried mount.now.fds fd at buf.new pass.old pass.new result }
 {
     for _ in rt.forever() {
         let result = try_pread(mount, pass, fd, at, buf);

@@ -5,8 +5,9 @@ ghost use Rattle.nv_table.specs.Idle.{IsIdle, IsLater};
 ghost use Rattle.nv_table.specs.States.{IsOf};
 ghost use Rattle.nv_calls.specs.Answers.{IsSynced, IsUnplaced};
 ghost use Rattle.nv_calls.specs.Courses.{IsCourse, file_of};
+ghost use Rattle.nv_calls.specs.Heeds.{SyncHeedsStop};
 
-use crate::{Done, Refusal};
+use crate::{Done, Refusal, ended_calls_heed_stop};
 use nv_mount::Mount;
 use nv_pmem::Lines;
 use nv_store::Backing;
@@ -63,7 +64,10 @@ pub fn try_fsync<L: Lines + Drop, B: Backing + Drop>(
     ensures len { IfOk result (λ done. done.len ≡ 0) }
     ensures kept { OnErr result (IsUnplaced pass.old.sight pass.new.sight) }
     ensures course { IsCourse (file_of mount.now.fds fd) pass.old pass.new result }
+    ensures stop { SyncHeedsStop mount.now.fds fd pass.old pass.new result }
 {
+    ended_calls_heed_stop();
+    pass.sees_a_run();
     match mount.fds().get(fd) {
         Some(open) => sync_by::<Brand, L, B>(mount.board(), pass, open.file),
         None => Err(Refusal::BadFd),

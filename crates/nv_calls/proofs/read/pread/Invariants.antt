@@ -1,8 +1,10 @@
--- The tries so far have placed nothing.
-use Rattle.std.proofs.Common.{◌≡◌}
+-- The tries so far were answered Busy, and have placed nothing.
+use Rattle.std.proofs.Common.{◌≡◌, List, length}
 use Rattle.nv_table.specs.Idle.{IsIdle, IsLater}
 use Rattle.nv_table.specs.States.{IsOf}
 use Rattle.nv_calls.specs.Answers.{IsUnplaced}
+use Rattle.nv_calls.specs.Heeds.{HasSeenStop}
+use Rattle.nv_calls.specs.Tries.{Try, WereBusy}
 use Rattle.nv_calls.proofs.read.pread.Given as goal
 
 abbrev pub invariant-loop : goal.invariant-loop
@@ -12,6 +14,8 @@ invariant-loop g l = record {
   later : IsLater l.initial.pass l.pass;
   spare : l.pass.spare ≡ l.initial.pass.spare;
   unplaced : IsUnplaced l.initial.pass.sight l.pass.sight;
+  tried : (tries : List Try) × WereBusy l.mount.fds l.fd l.at (length l.buf) tries l.initial.pass l.pass;
+  stays : HasSeenStop l.initial.pass → HasSeenStop l.pass;
   next : (goal.iterator-loop g).can_next l.iterator';
   finite : (goal.iterator-loop g).is_finite l.iterator';
 }

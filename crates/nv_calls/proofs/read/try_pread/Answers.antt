@@ -12,6 +12,10 @@ returns-in-Ended-clause-over g c =
     subst (λ at. IsReadOver fds c.args.fd at list c.args.pass.now c.advance.new.pass c.in-Ended.result) (c.advance.ensures.same.at ∙ c.loop-result.invariant.at)
     (subst (λ fd. IsReadOver fds fd c.advance.new.self.at list c.args.pass.now c.advance.new.pass c.in-Ended.result) (c.advance.ensures.same.fd ∙ c.loop-result.invariant.fd) goes)
 
+pub returns-in-Ended-clause-stop : goal.returns-in-Ended-clause-stop
+returns-in-Ended-clause-stop g c =
+    c.ended_calls_heed_stop.ensures.reads c.args.mount.now.fds c.args.fd c.args.at c.advance.new.list c.args.pass.now c.advance.new.pass c.in-Ended.result c.sees_a_run.ensures.mount (returns-in-Ended-clause-over g c)
+
 pub returns-in-Ended-clause-idle : goal.returns-in-Ended-clause-idle
 returns-in-Ended-clause-idle g c =
     (over_told c.args.mount.now.fds c.advance.new.self.fd c.advance.new.self.at c.advance.new.list c.args.pass.now c.advance.new.pass c.in-Ended.result c.requires.idle

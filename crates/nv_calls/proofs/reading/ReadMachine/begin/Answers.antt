@@ -17,6 +17,7 @@ use Rattle.nv_calls.specs.Barred.{barred, IsAdmitted}
 use Rattle.nv_calls.specs.Reads.{IsUnbegun, ReadGoes}
 use Rattle.nv_calls.proofs.BeginLaws.{begun_last, begun_next, begun_busy, stop_clear, stop_set, kind_stop, kind_take, first_step, first_none}
 use Rattle.nv_calls.proofs.OnwardLaws.{first_of}
+use Rattle.nv_calls.proofs.ReadLaws.{none_placed}
 use Rattle.nv_calls.proofs.reading.ReadMachine.begin.Goals as goal
 use Rattle.nv_calls.proofs.reading.ReadMachine.begin.Goals.{then-page-end_page, else-page-end_page}
 
@@ -49,7 +50,7 @@ returns-then-begin_with_stop-ne0-clause-advance g c =
     let is = stop_read c.args.pass.now c.begin_with_stop.new.pass file m.at m.len found c.if-self-eq0.true c.begin_with_stop.ensures.stepped in
     first_step fds m (record m { file = file }) c.args._list.now c.args.pass.now c.begin_with_stop.new.pass _ (Read file m.at m.len) (Loads STOP) found is record { fd = refl; at = refl; len = refl }
     (kind_stop m c.requires.stage c.if-self-eq0.true)
-    (λ way. (way.unplaced, way.unfaulted, stop_set fds m _ file _ _ way (admitted_by c.layout_of-layout.ensures c.in-Ok.ensures) c.if-self-eq0.true found c.if-begin_with_stop-ne0.true is))
+    (λ way. (none_placed m way.unplaced, way.unfaulted, stop_set fds m _ file _ _ way (admitted_by c.layout_of-layout.ensures c.in-Ok.ensures) c.if-self-eq0.true found c.if-begin_with_stop-ne0.true is))
 
 pub returns-then-self-eq0-clause-advance : goal.returns-then-self-eq0-clause-advance
 returns-then-self-eq0-clause-advance g c =
@@ -105,7 +106,7 @@ returns-in-Err-begin_with_page-clause-advance g c =
     first_step c.args.mount.now.fds m (record m { file = file }) c.args._list.now c.args.pass.now c.begin_with_page.new.pass _ (Read file m.at m.len) (Takes (PAGE page)) 1 is record { fd = refl; at = refl; len = refl }
     (kind_take m page c.requires.stage c.if-self-eq0.false)
     (λ way. (
-      way.unplaced,
+      none_placed m way.unplaced,
       way.unfaulted,
       begun_busy _ m _ file _ way (admitted_by c.layout_of-layout.ensures c.in-Ok.ensures) page (first_of (record m { file = file }) _ c.args.pass.now.sight.opened.sizes page c.first_page-page.ensures c.layout_of-layout.ensures)
           some _ c.in-Err-begin_with_page.field-0.cell c.in-Err-begin_with_page.ensures.busy is,

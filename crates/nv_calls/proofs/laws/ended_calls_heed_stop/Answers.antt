@@ -1,0 +1,5 @@
+use Rattle.nv_calls.proofs.HeedsLaws.{reads_heed_stop, syncs_heed_stop}
+use Rattle.nv_calls.proofs.laws.ended_calls_heed_stop.Goals as goal
+
+pub returns : goal.returns
+returns c = record { reads = reads_heed_stop c.runs_are_sound.ensures.runs; syncs = syncs_heed_stop c.runs_are_sound.ensures.runs }
