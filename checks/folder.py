@@ -28,6 +28,7 @@ READ = b"0 0 pread 0 0 5 = 68656c6c6f\nfile a 5 68656c6c6f\nend 1 0 0\n"
 USAGE = (b"error usage\n", 1)
 DEVICE = (b"error device\n", 5)
 KEPT = (b"recovered 1 1 0\nfile a 5 68656c6c6f\n", 0)
+NO_HEADER = (b"error region truncated 0 18\n", 7)
 # Killed, or without room, before its region was formatted, a run leaves one with no magic or no parts.
 NOT_YET = (b"error region bad magic", b"error region truncated ")
 RUN = ["run", "--noworker"]
@@ -58,7 +59,7 @@ def refusals(program, folder):
     yield "a folder alone", call(program, [folder]), USAGE
     yield "a stop over real files", call(program, [folder, *RUN, "--stop", "3"], HELLO), USAGE
     yield "no such folder", call(program, [folder + "/none", *RUN], HELLO), DEVICE
-    yield "a region of no part", call(program, [folder, "recover"]), (b"error region truncated 0 18\n", 7)
+    yield "a region of no part", call(program, [folder, "recover"]), NO_HEADER
     os.mkdir(folder + "/region/part-0")
     yield "a part that is a folder", call(program, [folder, *RUN], HELLO), DEVICE
 
@@ -124,6 +125,72 @@ def obstacles(program, folder):
     for name, path, size in ("header", header, 1159), ("part", part, 135):
         with resized(path, size):
             yield f"a {name} with bytes behind its last line", call(program, [folder, "recover"]), KEPT
+
+
+@contextlib.contextmanager
+def taken_from(path, start):
+    """What has this path is put elsewhere in here, and its first bytes are zeros, or it is not there at all for no number of them."""
+    os.rename(path, path + ".away")
+    if start is not None:
+        with open(path + ".away", "rb") as was, open(path, "wb") as file:
+            file.write(bytes(start) + was.read()[start:])
+    yield
+    with contextlib.suppress(FileNotFoundError):
+        os.unlink(path)
+    os.rename(path + ".away", path)
+
+
+def region_of(folder):
+    """What the files of the region hold, by their names."""
+    found = {}
+    for name in sorted(os.listdir(folder + "/region")):
+        with open(f"{folder}/region/{name}", "rb") as file:
+            found[name] = file.read()
+    return found
+
+
+def guarded(program, folder):
+    """A run makes no region anew where something of one is left, or where something else stands, and lets no two names be one file."""
+    header, part = folder + "/region/part-0", folder + "/region/part-1"
+    yield "hello", call(program, [folder, *RUN], HELLO), (REPORT, 0)
+    for name, obstacle, recovered in (
+        ("no header", taken_from(header, None), NO_HEADER),
+        ("a header without its magic", taken_from(header, 8), (b"error region bad magic\n", 7)),
+        ("an empty header", resized(header, 0), (b"error region truncated 0 18\n", 7)),
+    ):
+        with obstacle:
+            was = region_of(folder)
+            yield f"{name}, a run", call(program, [folder, *RUN], HELLO), DEVICE
+            yield f"{name}, a recovery", call(program, [folder, "recover"]), recovered
+            yield f"{name}, the files", region_of(folder) == was, True
+        yield f"{name}, put back", call(program, [folder, "recover"]), KEPT
+    with replaced(folder + "/region/part-2", lambda path: os.link(part, path)):
+        yield "two parts that are one file, a run", call(program, [folder, *RUN], HELLO), DEVICE
+        yield "two parts that are one file, a recovery", call(program, [folder, "recover"]), DEVICE
+    yield "two parts again", call(program, [folder, "recover"]), KEPT
+    for name, make in ("hard", os.link), ("symbolic", os.symlink):
+        make(folder + "/files/a", folder + "/files/b")
+        yield f"a file that is a {name} link to another", call(program, [folder, *RUN], b"file b\n"), DEVICE
+        os.unlink(folder + "/files/b")
+        yield f"a {name} link taken away", call(program, [folder, "recover"]), KEPT
+
+
+def remains(program, folder):
+    """A header that is no region's: of some bytes a run leaves it, of zeros or of a header's fields without the magic it makes a region."""
+    fields = b"".join(word.to_bytes(8, "little") for word in (0, 1, 64, 16, 0, 0, 0, 0))
+    os.mkdir(folder + "/region")
+    for name, held, wanted in (
+        ("bytes and no line", b"notes", DEVICE),
+        ("zeros and then a byte, and no line", bytes(62) + b"!", DEVICE),
+        ("zeros and no line", bytes(63), (REPORT, 0)),
+        ("a header that was cut short while it was made", fields + bytes(1088), (REPORT, 0)),
+    ):
+        for part in region_of(folder):
+            os.unlink(f"{folder}/region/{part}")
+        with open(folder + "/region/part-0", "wb") as file:
+            file.write(held)
+        yield name, call(program, [folder, *RUN], HELLO), wanted
+        yield f"{name}, the file", wanted == (REPORT, 0) or region_of(folder) == {"part-0": held}, True
 
 
 def rights(program, folder):
@@ -276,7 +343,7 @@ def killed(program, folder, writes=WRITES):
 
 
 def main(program, option=None, writes=WRITES):
-    runs = [lives, refusals, obstacles, rights, disks, full_disks, killed]
+    runs = [lives, refusals, obstacles, guarded, remains, rights, disks, full_disks, killed]
     if option == "--killed":
         runs = [lambda program, folder: killed(program, folder, int(writes))]
     passed = failed = 0

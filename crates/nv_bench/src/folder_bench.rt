@@ -5,6 +5,7 @@ ghost use Rattle.nv_bench.specs.Benches.{with_faults, store_lent};
 ghost use Rattle.nv_bench.specs.FolderBench.{folder_named, folder_state, folder_whole, new_folder};
 ghost use Rattle.nv_bench.specs.declared.bench.BenchError.TheVariants.{Failed, NoMemory as NoRoom};
 
+use crate::file_ids::FileIds;
 use crate::folder_parts::{
     faults_of_parts, faults_of_stores, lock_folder, make_folder, open_parts,
 };
@@ -32,6 +33,8 @@ pub struct FolderBench<R> {
     lock: Option<File>,
     // The names of the stores that are lent.
     lent: Vec<String>,
+    // The files of the parts and stores that are lent.
+    ids: FileIds,
     faults: u64,
 }
 
@@ -49,6 +52,7 @@ impl<R: Files<File = File> + Copy> FolderBench<R> {
             is_open: false,
             lock: None,
             lent: Vec::new(alloc),
+            ids: FileIds::new(alloc),
             faults: 0,
         })
     }
@@ -73,6 +77,7 @@ impl<R: Files<File = File> + Copy> FolderBench<R> {
         let path = format!(in self.alloc; "{files}/{name}")?;
         self.lent.reserve(1)?;
         let store = FileStore::open(&self.rt, path.as_str())?;
+        self.ids.note(&self.rt, path.as_str())?;
         self.lent.push_reserved(lent);
         Ok(store)
     }
@@ -117,8 +122,9 @@ impl<R: Files<File = File> + Copy + Drop + Send> Bench for FolderBench<R> {
             Err(_) => return Err(self.refuse(BenchError::Failed)),
         };
         match open_parts(self.rt, self.alloc, self.region.as_str(), want) {
-            Ok(parts) => {
+            Ok((parts, ids)) => {
                 self.lock = Some(lock);
+                self.ids = ids;
                 self.is_open = true;
                 Ok(parts)
             }
@@ -155,6 +161,7 @@ impl<R: Files<File = File> + Copy + Drop + Send> Bench for FolderBench<R> {
         drop(parts);
         drop(stores);
         self.lent.clear();
+        self.ids = FileIds::new(self.alloc);
         self.is_open = false;
         self.lock = None;
     }

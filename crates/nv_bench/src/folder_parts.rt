@@ -4,15 +4,22 @@ ghost use Rattle.nv_pmem.specs.FilePart.{part_faults};
 ghost use Rattle.nv_store.specs.FileStore.{store_faults};
 
 use crate::BenchError;
+use crate::file_ids::FileIds;
 use nv_pmem::{FilePart, Geometry, Lines, PartError, sync_folder_of};
 use nv_store::{Backing, FileStore, StoreFault};
 use std::alloc::{AllocError, AllocFailed, Global};
 use std::fs::{self, File};
-use std::io::{self, ErrorKind};
+use std::io::{self, ErrorKind, Read};
 use std::rt::Files;
 
 /// Lines of the header's part.
 const HEADER_LINES: u64 = 18;
+/// The most entries of a log: a part behind that of this number is no entry's.
+const MOST_ENTRIES: u64 = 1024;
+
+const LINE_BYTES: u64 = 64;
+
+const WORD_BYTES: u64 = 8;
 
 /// Makes a folder where there is none.
 pub(crate) fn make_folder<R: Files>(rt: &R, path: &str) -> io::Result<()> {
@@ -29,19 +36,26 @@ pub(crate) fn lock_folder<R: Files<File = File>>(rt: &R, path: &str) -> io::Resu
     Ok(folder)
 }
 
-/// The parts of the region that stand in a folder; where they are blank and a geometry is wanted, the parts of that.
+/// The parts of the region that stand in a folder, and which files they are; where they are blank and a geometry is wanted, the
+/// parts of that. Refused where two are one file, or where what would be made anew may be the rest of a region.
 pub(crate) fn open_parts<R: Files + Copy>(
     rt: R,
     alloc: Global,
     folder: &str,
     want: Option<Geometry>,
-) -> Result<Vec<FilePart<R>>, BenchError>
-    ensures { IfOk result (λ parts. sum_by part_faults parts.items ≡ 0) }
+) -> Result<(Vec<FilePart<R>>, FileIds), BenchError>
+    ensures { IfOk result (λ opened. sum_by part_faults opened.0.items ≡ 0) }
 {
-    let there = parts_there(rt, alloc, folder)?;
+    let mut ids = FileIds::new(alloc);
+    let there = parts_there(rt, alloc, folder, &mut ids)?;
     match want {
-        Some(geometry) if are_blank(&there) => sized_parts(rt, alloc, folder, geometry),
-        _ => Ok(there),
+        Some(geometry) if are_blank(&there) => {
+            refuse_remains(&rt, alloc, folder, &there)?;
+            let mut ids = FileIds::new(alloc);
+            let parts = sized_parts(rt, alloc, folder, geometry, &mut ids)?;
+            Ok((parts, ids))
+        }
+        _ => Ok((there, ids)),
     }
 }
 
@@ -50,6 +64,7 @@ fn parts_there<R: Files + Copy>(
     rt: R,
     alloc: Global,
     folder: &str,
+    ids: &mut FileIds,
 ) -> Result<Vec<FilePart<R>>, BenchError>
     ensures { IfOk result (λ parts. sum_by part_faults parts.items ≡ 0) }
 {
@@ -60,6 +75,7 @@ fn parts_there<R: Files + Copy>(
             break;
         }
         parts.push(FilePart::open(rt, alloc, path.as_str(), 0)?)?;
+        ids.note(&rt, path.as_str())?;
     }
     Ok(parts)
 }
@@ -72,19 +88,57 @@ fn are_blank<R: Files + Copy>(parts: &[FilePart<R>]) -> bool {
     }
 }
 
+// Refuses to make a region over what may be the rest of one, or of something else: a header that has bytes and no whole line,
+// or an entry that begins with a commit word. A region that was cut short while it was made has none of these: until its
+// magic is durable all bytes of its files are zeros, but for the header's fields behind the magic's place.
+fn refuse_remains<R: Files + Copy>(
+    rt: &R,
+    alloc: Global,
+    folder: &str,
+    parts: &[FilePart<R>],
+) -> Result<(), BenchError> {
+    if let Some(header) = parts.first() {
+        let path = part_path(alloc, folder, 0)?;
+        if header.lines() == 0 && begins_with_bytes(rt, path.as_str(), LINE_BYTES)? {
+            return Err(BenchError::Failed);
+        }
+    }
+    for i in 1..=MOST_ENTRIES {
+        let path = part_path(alloc, folder, i)?;
+        if is_there(rt, path.as_str())? && begins_with_bytes(rt, path.as_str(), WORD_BYTES)? {
+            return Err(BenchError::Failed);
+        }
+    }
+    Ok(())
+}
+
+// Whether a file has a byte that isn't zero among its first ones, of which there are at most so many.
+fn begins_with_bytes<R: Files>(rt: &R, path: &str, most: u64) -> io::Result<bool> {
+    if !fs::metadata(rt, path)?.is_file() {
+        return Err(ErrorKind::Unsupported.into());
+    }
+    for byte in File::open(rt, path)?.take(most).bytes() {
+        if byte? != 0 {
+            return Ok(true);
+        }
+    }
+    Ok(false)
+}
+
 // The parts of a geometry: those that are there are made as long, and those that are too many removed.
 fn sized_parts<R: Files + Copy>(
     rt: R,
     alloc: Global,
     folder: &str,
     geometry: Geometry,
+    ids: &mut FileIds,
 ) -> Result<Vec<FilePart<R>>, BenchError>
     ensures { IfOk result (λ parts. sum_by part_faults parts.items ≡ 0) }
 {
     let mut parts = Vec::new(alloc);
-    parts.push(sized_part(rt, alloc, folder, 0, HEADER_LINES)?)?;
+    parts.push(sized_part(rt, alloc, folder, 0, HEADER_LINES, ids)?)?;
     for i in 0..geometry.entries {
-        let entry = sized_part(rt, alloc, folder, 1 + i, 1 + geometry.page / 64)?;
+        let entry = sized_part(rt, alloc, folder, 1 + i, 1 + geometry.page / 64, ids)?;
         parts.push(entry)?;
     }
     remove_parts(&rt, alloc, folder, 1 + geometry.entries)?;
@@ -97,11 +151,14 @@ fn sized_part<R: Files + Copy>(
     folder: &str,
     i: u64,
     lines: u64,
+    ids: &mut FileIds,
 ) -> Result<FilePart<R>, BenchError>
     ensures { IfOk result (λ part. part_faults part ≡ 0) }
 {
     let path = part_path(alloc, folder, i)?;
-    Ok(FilePart::sized(rt, alloc, path.as_str(), lines)?)
+    let part = FilePart::sized(rt, alloc, path.as_str(), lines)?;
+    ids.note(&rt, path.as_str())?;
+    Ok(part)
 }
 
 // Removes the parts from this number on, up to the first that isn't there.

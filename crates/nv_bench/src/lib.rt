@@ -2,6 +2,7 @@
 #![tactic(auto)]
 
 mod bench;
+mod file_ids;
 mod folder_bench;
 mod folder_parts;
 mod laws;
