@@ -14,8 +14,3 @@ pub use bench::{Bench, BenchError};
 pub use folder_bench::FolderBench;
 pub use laws::power_leaves_an_image;
 pub use mem_bench::MemBench;
-
-#[cfg(test)]
-mod folder_tests;
-#[cfg(test)]
-mod tests;

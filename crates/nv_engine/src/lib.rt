@@ -13,6 +13,3 @@ pub use error::{OpenError, ReadError, WriteError};
 pub use laws::{files_lie_beneath_their_pieces, logs_have_one_meaning, writes_add_one_group};
 pub use log::Log;
 pub use nv_recover::RecoverError;
-
-#[cfg(test)]
-mod tests;

@@ -43,8 +43,3 @@ pub use names::Names;
 pub use read::{is_blank, read_head};
 pub use region::Region;
 pub use tail::move_tail;
-
-#[cfg(test)]
-mod region_tests;
-#[cfg(test)]
-mod tests;

@@ -16,6 +16,3 @@ pub use error::{OpenError, Refusal};
 pub use opened::Opened;
 pub use opening::open;
 pub use recovering::recover_region;
-
-#[cfg(test)]
-mod tests;

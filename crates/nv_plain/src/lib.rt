@@ -8,8 +8,6 @@ mod memory;
 mod mode;
 mod name;
 mod plain_files;
-#[cfg(test)]
-mod tests;
 
 pub use bytes::Bytes;
 pub use call::{FileCall, Reply};

@@ -26,8 +26,3 @@ pub use lines::{LineFault, Lines, RegionFault};
 pub use mem_part::MemPart;
 pub use past::Past;
 pub use picker::{Pick, Picker};
-
-#[cfg(test)]
-mod file_tests;
-#[cfg(test)]
-mod tests;

@@ -19,5 +19,3 @@ pub mod StandLaws
 pub mod RoomLaws
 pub mod FileLaws
 pub mod Interrupted
-pub mod LostPower
-pub mod TestRegions

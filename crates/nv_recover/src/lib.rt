@@ -17,6 +17,3 @@ pub use laws::{
 };
 pub use leaders::Leaders;
 pub use recovering::{Recovered, recover, recover_parts};
-
-#[cfg(test)]
-mod tests;

@@ -28,7 +28,8 @@ impl<F: Read + Write + Seek + OpenFile> FileStore<F> {
         }
     }
 
-    pub(crate) fn over(file: F) -> Self
+    /// The store over an open file, which it is trusted with: what the file holds is to be durable.
+    pub fn over(file: F) -> Self
         ensures { store_faults result ≡ 0 }
     {
         FileStore {

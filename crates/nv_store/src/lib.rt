@@ -12,8 +12,3 @@ pub use backing::{Backing, StoreError, StoreFault};
 pub use file_store::FileStore;
 pub use laws::{store_images, store_writes};
 pub use mem_store::MemStore;
-
-#[cfg(test)]
-mod file_tests;
-#[cfg(test)]
-mod tests;

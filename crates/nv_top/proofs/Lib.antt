@@ -6,7 +6,6 @@ pub mod EndingLemmas
 pub mod FaithfulLemmas
 pub mod FateLemmas
 pub mod FinishLemmas
-pub mod FolderLemmas
 pub mod HeadlineLemmas
 pub mod HomeLemmas
 pub mod LineLemmas
@@ -18,7 +17,6 @@ pub mod RowLemmas
 pub mod RunLemmas
 pub mod StopLemmas
 pub mod StoppingLemmas
-pub mod TestBenches
 pub mod TextLemmas
 pub mod UnrefusedLemmas
 pub mod WordLemmas

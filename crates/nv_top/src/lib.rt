@@ -8,24 +8,14 @@ mod early;
 mod ending;
 mod fates;
 mod files;
-#[cfg(test)]
-mod folder_tests;
 mod gate;
-#[cfg(test)]
-mod group_tests;
-#[cfg(test)]
-mod hostile_tests;
 mod laws;
-#[cfg(test)]
-mod main_tests;
 mod names;
 mod outcome;
 mod recovery;
 mod region_text;
 mod run;
 mod stopping;
-#[cfg(test)]
-mod tests;
 mod text;
 mod words;
 

@@ -8,8 +8,6 @@ mod real_streams;
 mod report;
 mod statement;
 mod streams;
-#[cfg(test)]
-mod tests;
 mod trace;
 
 pub use bad_line::{BadLine, Why};

@@ -1,0 +1,2 @@
+mod LostPower
+mod TestRegions

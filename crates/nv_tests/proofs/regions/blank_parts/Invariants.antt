@@ -1,0 +1,15 @@
+use Rattle.std.proofs.Common.{◌≡◌, ◌+◌, ◌≤◌, length}
+use Rattle.nv_header.proofs.BlankParts.{AreBlank}
+use Rattle.nv_tests.proofs.regions.blank_parts.Given as goal
+
+abbrev pub invariant-loop-entry : goal.invariant-loop-entry
+invariant-loop-entry l = record {
+  count : length l.parts.items ≡ 1 + l._entry;
+  each : AreBlank l.geometry.page l.geometry.entries l.parts.items;
+}
+
+abbrev pub invariant-loop-lines : goal.invariant-loop-lines
+invariant-loop-lines l = record {
+  count : 1 + l.fn.geometry.entries ≤ length l.parts.items;
+  each : AreBlank l.fn.geometry.page l.fn.geometry.entries l.parts.items;
+}

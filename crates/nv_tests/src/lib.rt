@@ -1,0 +1,32 @@
+//! Tests of the crates below by their public calls. It has no code of its own: a crate with tests is proved twice, and this one has
+//! nothing to prove but them.
+#![tactic(auto)]
+
+#[cfg(test)]
+mod benches;
+#[cfg(test)]
+mod file_parts;
+#[cfg(test)]
+mod file_stores;
+#[cfg(test)]
+mod folders;
+#[cfg(test)]
+mod headers;
+#[cfg(test)]
+mod logs;
+#[cfg(test)]
+mod openings;
+#[cfg(test)]
+mod parts;
+#[cfg(test)]
+mod plain_files;
+#[cfg(test)]
+mod reading;
+#[cfg(test)]
+mod recoveries;
+#[cfg(test)]
+mod regions;
+#[cfg(test)]
+mod stores;
+#[cfg(test)]
+mod writing;

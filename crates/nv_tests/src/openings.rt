@@ -1,0 +1,200 @@
+ghost use Rattle.std.specs.Prelude.{◌≡◌, [], false, true, length, IfOk, IfSome, OnOk};
+ghost use Rattle.nv_plain.specs.Layouts.{version_1};
+ghost use Rattle.nv_open.specs.Adding.{AreWanted};
+ghost use Rattle.nv_bench.specs.Holding.{IsQuietHolding};
+ghost use Rattle.nv_bench.specs.MemBench.{mem_state};
+
+use nv_bench::{Bench, MemBench, power_leaves_an_image};
+use nv_header::Names;
+use nv_open::{OpenError, Opened, Refusal, open, recover_region};
+use nv_plain::{Bytes, NoMemory};
+use nv_pmem::{Geometry, MemPart, Pick, images_follow_calls};
+use nv_store::{Backing, MemStore, StoreFault};
+use std::alloc::Global;
+use std::test::Fail;
+
+// The bytes `NVCACHE1`, little-endian.
+const MAGIC: u64 = 0x3145_4843_4143_564e;
+
+// The line of these words, and zeros behind them.
+fn line(words: [u64; 6]) -> [u8; 64] {
+    let mut line = [0; 64];
+    for (i, word) in words.iter().enumerate() {
+        line[8 * i..8 * i + 8].copy_from_slice(&word.to_le_bytes());
+    }
+    line
+}
+
+// The header's part of a region with a page of 64 bytes, two entries, the file `a` and tail 0.
+fn header(magic: u64) -> [u8; 1152] {
+    let mut part = [0; 1152];
+    part[..64].copy_from_slice(&line([magic, 1, 64, 2, 1, 0]));
+    part[128..192].copy_from_slice(&line([1, u64::from(b'a'), 0, 0, 0, 0]));
+    part
+}
+
+// The part of an entry with these words, and these bytes of data.
+fn entry(words: [u64; 6], data: [u8; 3]) -> [u8; 128] {
+    let mut part = [0; 128];
+    part[..64].copy_from_slice(&line(words));
+    part[64..67].copy_from_slice(&data);
+    part
+}
+
+// The names `b` and `a`.
+fn wanted_names(alloc: Global) -> Result<Names, NoMemory>
+    ensures { IfOk result (AreWanted version_1) }
+{
+    let mut names = Names::new(alloc);
+    names.push(Bytes::from_vec(Vec::from_slice(alloc, b"b")?))?;
+    names.push(Bytes::from_vec(Vec::from_slice(alloc, b"a")?))?;
+    Ok(names)
+}
+
+// The bytes of a store, and `#` behind them.
+fn contents(store: &mut MemStore) -> Result<[u8; 8], StoreFault> {
+    let mut bytes = [b'#'; 8];
+    store.pread(0, &mut bytes)?;
+    Ok(bytes)
+}
+
+#[test]
+fn recovers_two_groups(rt: HostRuntime) -> Result<(), Fail> {
+    let first = entry([1, 0, 0, 3, 1, 0], *b"abc");
+    let second = entry([2, 0, 3, 2, 1, 1], *b"de.");
+    let mut bench = MemBench::of(
+        rt.alloc(),
+        &[&header(MAGIC)[..], &first[..], &second[..]],
+        &[("b", b"other"), ("a", b"......")],
+        &[],
+    )?;
+    let (opened, found) = recover_region(rt.alloc(), &mut bench)?;
+    let Opened { region, mut stores } = opened;
+    assert_eq!(rt; (found.first, found.next, region.next()), (0, 2, 2));
+    assert_eq!(rt; found.groups.as_slice(), [0, 1].as_slice());
+    assert_eq!(rt;
+        (region.geometry().page, region.geometry().entries),
+        (64, 2)
+    );
+    assert_eq!(rt; region.names().len(), 1);
+    assert_eq!(rt; stores.len(), 1);
+    for store in &mut stores {
+        assert_eq!(rt; contents(store), Ok(*b"abcde.##"));
+    }
+    Ok(())
+}
+
+// Why the region of a bench isn't recovered.
+fn refusal(alloc: Global, bench: &mut MemBench) -> Option<OpenError>
+    requires closed { (mem_state bench.old).is_open ≡ false }
+    requires home { (mem_state bench.old).lent ≡ [] }
+    requires quiet { IfSome (mem_state bench.old).told IsQuietHolding }
+{
+    recover_region(alloc, bench).err()
+}
+
+#[test]
+fn refuses_a_bad_magic(rt: HostRuntime) -> Result<(), Fail> {
+    let entry = entry([0; 6], [0; 3]);
+    let mut bench = MemBench::of(
+        rt.alloc(),
+        &[&header(MAGIC + 1)[..], &entry[..], &entry[..]],
+        &[],
+        &[],
+    )?;
+    let why = refusal(rt.alloc(), &mut bench);
+    assert_eq!(rt; why, Some(OpenError::Refused(Refusal::BadMagic)));
+    Ok(())
+}
+
+#[test]
+fn refuses_what_is_too_short(rt: HostRuntime) -> Result<(), Fail> {
+    let entry = entry([0; 6], [0; 3]);
+    let mut bench = MemBench::of(
+        rt.alloc(),
+        &[&header(MAGIC)[..], &entry[..], &entry[..64]],
+        &[],
+        &[],
+    )?;
+    let why = refusal(rt.alloc(), &mut bench);
+    let lack = Refusal::Truncated {
+        found: 21,
+        wanted: 22,
+    };
+    assert_eq!(rt; why, Some(OpenError::Refused(lack)));
+    let mut none = new_bench(rt.alloc())?;
+    let why = refusal(rt.alloc(), &mut none);
+    let lack = Refusal::Truncated {
+        found: 0,
+        wanted: 18,
+    };
+    assert_eq!(rt; why, Some(OpenError::Refused(lack)));
+    Ok(())
+}
+
+// A bench of no part and no store.
+fn new_bench(alloc: Global) -> Result<MemBench, NoMemory>
+    ensures closed { IfOk result (λ bench. (mem_state bench).is_open ≡ false) }
+    ensures home { IfOk result (λ bench. (mem_state bench).lent ≡ []) }
+    ensures quiet { IfOk result (λ bench. IfSome (mem_state bench).told IsQuietHolding) }
+{
+    images_follow_calls();
+    MemBench::new(alloc, &[])
+}
+
+// Opens the region with the files `b` and `a`, a page of 64 bytes and two entries.
+fn opened(alloc: Global, bench: &mut MemBench) -> Result<Opened<MemPart, MemStore>, Fail>
+    requires closed { (mem_state bench.old).is_open ≡ false }
+    requires home { (mem_state bench.old).lent ≡ [] }
+    requires quiet { IfSome (mem_state bench.old).told IsQuietHolding }
+    ensures open { OnOk result ((mem_state bench.new).is_open ≡ true) }
+    ensures lent { IfOk result (λ opened. length opened.stores.items ≡ length (mem_state bench.new).lent) }
+{
+    let geometry = Geometry::new(64, 2)?;
+    let wanted = wanted_names(alloc)?;
+    Ok(open(alloc, bench, geometry, &wanted)?)
+}
+
+// Gives all back, and loses power.
+fn close(bench: &mut MemBench, opened: Opened<MemPart, MemStore>) -> Result<(), NoMemory>
+    requires open { (mem_state bench.old).is_open ≡ true }
+    requires lent { length opened.stores.items ≡ length (mem_state bench.old).lent }
+    ensures closed { OnOk result ((mem_state bench.new).is_open ≡ false) }
+    ensures home { OnOk result ((mem_state bench.new).lent ≡ []) }
+    ensures quiet { OnOk result (IfSome (mem_state bench.new).told IsQuietHolding) }
+{
+    let Opened { region, stores } = opened;
+    bench.give_back(region.into_parts(), stores);
+    power_leaves_an_image();
+    bench.power(Pick::New)
+}
+
+// A new bench is formatted; the same bench keeps its names, in their order, and its files.
+#[test]
+fn opens_a_new_bench_and_opens_it_again(rt: HostRuntime) -> Result<(), Fail> {
+    let mut bench = new_bench(rt.alloc())?;
+    let mut first = opened(rt.alloc(), &mut bench)?;
+    assert_eq!(rt; (first.region.next(), first.region.names().len()), (0, 2));
+    assert_eq!(rt;
+        (
+            first.region.geometry().page,
+            first.region.geometry().entries
+        ),
+        (64, 2)
+    );
+    for store in &mut first.stores {
+        assert_eq!(rt; contents(store), Ok(*b"########"));
+        store.pwrite(0, b"hi")?;
+    }
+    close(&mut bench, first)?;
+    let mut again = opened(rt.alloc(), &mut bench)?;
+    let names = again.region.names();
+    assert_eq!(rt; (names.len(), again.stores.len()), (2, 2));
+    for (name, expected) in names.as_slice().iter().zip(b"ba") {
+        assert_eq!(rt; name.as_slice(), [*expected].as_slice());
+    }
+    for store in &mut again.stores {
+        assert_eq!(rt; contents(store), Ok(*b"hi######"));
+    }
+    Ok(())
+}

@@ -1,0 +1,266 @@
+ghost use Rattle.std.specs.Prelude.{◌≡◌, ℕ, ◌+◌, ◌≤◌, map, All};
+ghost use Rattle.nv_pmem.specs.MemPart.{part_history, part_room};
+ghost use Rattle.nv_pmem.specs.Rows.{RowTells, AreQuiet};
+ghost use Rattle.nv_store.specs.MemStore.{store_history};
+ghost use Rattle.nv_recover.specs.Standing.{AreQuietStores};
+
+use nv_header::{Region, check_lines, needed_lines_make_parts, read_head};
+use nv_pmem::{Fuse, Lines, MemPart, Pick, Picker};
+use nv_recover::{RecoverError, Recovered, recover};
+use nv_store::{Backing, MemStore, StoreFault};
+use std::alloc::Global;
+use std::test::Fail;
+
+// More device calls than a recovery makes.
+const UNSTOPPED: u64 = 1 << 32;
+
+// The commit word of an entry, its file, where its bytes go, their size, the count of its group, and its leader.
+type Words = [u64; 6];
+
+// The devices of a region with a page of 64 bytes. Their calls fail as the one fuse says.
+#[derive(Drop)]
+struct Bench {
+    fuse: Fuse,
+    parts: Vec<MemPart>,
+    stores: Vec<MemStore>,
+}
+
+// What `recover` answers of devices in memory.
+type Recovery = Result<(Region<MemPart>, Recovered), (Vec<MemPart>, RecoverError)>;
+
+// A line with these words, and zeros behind them.
+fn line(words: Words) -> [u8; 64] {
+    let mut line = [0; 64];
+    for (i, word) in words.iter().enumerate() {
+        line[8 * i..8 * i + 8].copy_from_slice(&word.to_le_bytes());
+    }
+    line
+}
+
+// The header's part: so many entries, files (of the names `a` and `b`), and this tail.
+fn header(
+    alloc: Global,
+    fuse: &Fuse,
+    entries: u64,
+    files: u64,
+    tail: u64,
+) -> Result<MemPart, Fail> {
+    let mut part = MemPart::fused(alloc, 18, fuse.copy()?)?;
+    let magic = u64::from_le_bytes(*b"NVCACHE1");
+    part.store_line(0, &line([magic, 1, 64, entries, files, 0]))?;
+    part.store_line(1, &line([tail, 0, 0, 0, 0, 0]))?;
+    part.store_line(2, &line([1, u64::from(b'a'), 0, 0, 0, 0]))?;
+    part.store_line(3, &line([1, u64::from(b'b'), 0, 0, 0, 0]))?;
+    part.flush(0)?;
+    part.flush(1)?;
+    part.flush(2)?;
+    part.flush(3)?;
+    part.fence()?;
+    Ok(part)
+}
+
+// The part of an entry with these words, and this byte 64 times.
+fn entry(alloc: Global, fuse: &Fuse, words: Words, byte: u8) -> Result<MemPart, Fail> {
+    let mut part = MemPart::fused(alloc, 2, fuse.copy()?)?;
+    part.store_line(0, &line(words))?;
+    part.store_line(1, &[byte; 64])?;
+    part.flush(0)?;
+    part.flush(1)?;
+    part.fence()?;
+    Ok(part)
+}
+
+// A region of these entries, with so many files and this tail. The store of `a` holds 4 dots, and that of `b` nothing.
+fn bench_of(alloc: Global, files: u64, tail: u64, entries: &[(Words, u8)]) -> Result<Bench, Fail> {
+    let fuse = Fuse::new(alloc, &[])?;
+    let mut parts = Vec::new(alloc);
+    parts.push(header(alloc, &fuse, entries.len() as u64, files, tail)?)?;
+    for (words, byte) in entries {
+        parts.push(entry(alloc, &fuse, *words, *byte)?)?;
+    }
+    let mut stores = Vec::new(alloc);
+    stores.push(MemStore::fused(alloc, b"....", fuse.copy()?)?)?;
+    if files > 1 {
+        stores.push(MemStore::fused(alloc, b"", fuse.copy()?)?)?;
+    }
+    Ok(Bench {
+        fuse,
+        parts,
+        stores,
+    })
+}
+
+// Three groups, of the numbers 0, 1 and 2, and 3 to 5; and two entries that were never written.
+const THREE_GROUPS: [(Words, u8); 8] = [
+    ([1, 0, 1, 3, 1, 0], b'1'),
+    ([2, 1, 60, 4, 2, 1], b'2'),
+    ([0, 1, 64, 4, 0, 1], b'2'),
+    ([4, 0, 2, 62, 3, 3], b'3'),
+    ([0, 0, 64, 64, 0, 3], b'3'),
+    ([0, 0, 128, 4, 0, 3], b'3'),
+    ([0; 6], 0),
+    ([0; 6], 0),
+];
+
+// Their files, as `contents` gives them. The third group writes over the first.
+fn three_groups_files() -> [[u8; 160]; 2] {
+    let mut a = [b'#'; 160];
+    a[..2].copy_from_slice(b".1");
+    a[2..132].copy_from_slice(&[b'3'; 130]);
+    let mut b = [b'#'; 160];
+    b[..60].copy_from_slice(&[0; 60]);
+    b[60..68].copy_from_slice(&[b'2'; 8]);
+    [a, b]
+}
+
+// The bytes of a store, and `#` behind them.
+fn contents(store: &mut MemStore) -> Result<[u8; 160], StoreFault> {
+    let mut bytes = [b'#'; 160];
+    store.pread(0, &mut bytes)?;
+    Ok(bytes)
+}
+
+// The parts lose power, and then the stores.
+fn lose_power(parts: &mut [MemPart], stores: &mut [MemStore], pick: Pick)
+    ensures quiet { RowTells (map part_history parts.new) AreQuiet }
+    ensures spare { All (λ part. (line : ℕ) → (part_room part).spare line ≡ 15) parts.new }
+    ensures synced { RowTells (map store_history stores.new) AreQuietStores }
+{
+    let mut picker = Picker::new(pick);
+    for part in parts {
+        part.image(&mut picker);
+    }
+    for store in stores {
+        store.image(&mut picker);
+    }
+}
+
+// The parts lose power, and then the stores, and what is left is recovered. Device call `stop` of the recovery and the later
+// ones fail. An error where the parts are too few or short, or the stores aren't as many as the header says.
+fn recovery(
+    alloc: Global,
+    parts: Vec<MemPart>,
+    stores: &mut Vec<MemStore>,
+    fuse: &Fuse,
+    pick: Pick,
+    stop: u64,
+) -> Result<Recovery, Fail>
+    requires { 1 ≤ stop }
+{
+    let mut parts = parts;
+    lose_power(&mut parts, stores, pick);
+    let head = read_head(alloc, &mut parts)?;
+    check_lines(&parts, &head)?;
+    needed_lines_make_parts();
+    if stores.len() != head.names.len() {
+        return Err(RecoverError::RegionFault.into());
+    }
+    fuse.arm(stop);
+    let answer = recover(alloc, head, parts, stores);
+    fuse.disarm();
+    Ok(answer)
+}
+
+// The recovery is stopped at this device call, and another one isn't.
+fn recovers_after(alloc: Global, stop: u64) -> Result<(Recovered, Vec<MemStore>), Fail>
+    requires { 1 ≤ stop }
+{
+    let Bench {
+        fuse,
+        parts,
+        mut stores,
+    } = bench_of(alloc, 2, 0, &THREE_GROUPS)?;
+    let parts = match recovery(alloc, parts, &mut stores, &fuse, Pick::New, stop)? {
+        Ok((region, _found)) => region.into_parts(),
+        Err((parts, _error)) => parts,
+    };
+    let answer = recovery(alloc, parts, &mut stores, &fuse, Pick::Torn, UNSTOPPED)?;
+    let (_region, found) = answer.map_err(|failed| failed.1)?;
+    Ok((found, stores))
+}
+
+#[test]
+fn recovers_three_groups(rt: HostRuntime) -> Result<(), Fail> {
+    let alloc = rt.alloc();
+    let Bench {
+        fuse,
+        parts,
+        mut stores,
+    } = bench_of(alloc, 2, 0, &THREE_GROUPS)?;
+    let answer = recovery(alloc, parts, &mut stores, &fuse, Pick::New, UNSTOPPED)?;
+    let (region, found) = answer.map_err(|failed| failed.1)?;
+    assert_eq!(rt; found.first, 0);
+    assert_eq!(rt; found.groups.as_slice(), [0, 1, 3].as_slice());
+    assert_eq!(rt; found.next, 6);
+    assert_eq!(rt; region.next(), 6);
+    for (store, bytes) in stores.iter_mut().zip(three_groups_files()) {
+        assert_eq!(rt; contents(store), Ok(bytes));
+    }
+    Ok(())
+}
+
+// Stopped before its first call, among the writes, and not at all.
+#[test]
+fn recovers_after_a_stop(rt: HostRuntime) -> Result<(), Fail> {
+    for (stop, first) in [(1, 0), (60, 0), (UNSTOPPED, 6)] {
+        let (found, mut stores) = recovers_after(rt.alloc(), stop)?;
+        assert_eq!(rt; found.first, first, "at {stop}");
+        assert_eq!(rt; found.next, 6, "at {stop}");
+        for (store, bytes) in stores.iter_mut().zip(three_groups_files()) {
+            assert_eq!(rt; contents(store), Ok(bytes), "at {stop}");
+        }
+    }
+    Ok(())
+}
+
+// Of tail 4: number 4, committed; number 5, whose commit word isn't stored; number 6, committed; and of an older turn
+// number 3, committed, in place of number 7.
+#[test]
+fn passes_what_is_not_committed(rt: HostRuntime) -> Result<(), Fail> {
+    let alloc = rt.alloc();
+    let entries = [
+        ([5, 0, 0, 1, 1, 4], b'a'),
+        ([0, 0, 1, 1, 1, 5], b'b'),
+        ([7, 0, 2, 1, 1, 6], b'c'),
+        ([4, 0, 3, 1, 1, 3], b'd'),
+    ];
+    let Bench {
+        fuse,
+        parts,
+        mut stores,
+    } = bench_of(alloc, 1, 4, &entries)?;
+    let answer = recovery(alloc, parts, &mut stores, &fuse, Pick::New, UNSTOPPED)?;
+    let (_region, found) = answer.map_err(|failed| failed.1)?;
+    assert_eq!(rt; found.first, 4);
+    assert_eq!(rt; found.groups.as_slice(), [4, 6].as_slice());
+    assert_eq!(rt; found.next, 7);
+    for store in &mut stores {
+        let bytes = contents(store)?;
+        assert_eq!(rt; &bytes[..6], b"a.c.##".as_slice());
+    }
+    Ok(())
+}
+
+#[test]
+fn refuses_bad_entries(rt: HostRuntime) -> Result<(), Fail> {
+    let alloc = rt.alloc();
+    for (first, second, number) in [
+        ([1, 0, 0, 0, 1, 0], [0; 6], 0),
+        ([1, 0, 0, 64, 3, 0], [0; 6], 0),
+        ([1, 0, 0, 64, 2, 0], [0, 0, 64, 1, 0, 7], 1),
+        ([1, 0, 0, 64, 2, 0], [2, 0, 64, 1, 0, 0], 1),
+        ([0; 6], [2, 0, 0, 64, 2, 1], 1),
+        ([1, 1, 0, 1, 1, 0], [0; 6], 0),
+    ] {
+        let entries = [(first, b'x'), (second, b'x')];
+        let Bench {
+            fuse,
+            parts,
+            mut stores,
+        } = bench_of(alloc, 1, 0, &entries)?;
+        let answer = recovery(alloc, parts, &mut stores, &fuse, Pick::New, UNSTOPPED)?;
+        let error = answer.err().map(|failed| failed.1);
+        assert_eq!(rt; error, Some(RecoverError::BadEntry { number }));
+    }
+    Ok(())
+}

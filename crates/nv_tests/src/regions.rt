@@ -1,0 +1,187 @@
+ghost use Rattle.std.specs.Prelude.{map, IfOk};
+ghost use Rattle.nv_plain.specs.Layouts.{version_1};
+ghost use Rattle.nv_pmem.specs.MemPart.{part_history, part_room};
+ghost use Rattle.nv_pmem.specs.Rows.{RowTells};
+ghost use Rattle.nv_header.specs.Regions.{HasParts, IsBlankRow};
+
+use nv_header::{AddError, Region, add_file, format, move_tail, read_head};
+use nv_plain::NoMemory;
+use nv_pmem::{Fuse, Geometry, Lines, MemPart, RegionFault};
+use std::alloc::Global;
+use std::test::Fail;
+
+// The parts of a blank region, and behind them parts of so many lines. Their calls fail as the fuse says.
+fn blank_parts(
+    alloc: Global,
+    geometry: Geometry,
+    fuse: &Fuse,
+    more: &[u64],
+) -> Result<Vec<MemPart>, NoMemory>
+    ensures parts { IfOk result (λ parts. HasParts version_1 geometry.page geometry.entries (map part_room parts.items)) }
+    ensures blank { IfOk result (λ parts. RowTells (map part_history parts.items) IsBlankRow) }
+{
+    let mut parts = Vec::new(alloc);
+    parts.push(MemPart::fused(alloc, 18, fuse.copy()?)?)?;
+    for _entry in 0..geometry.entries {
+        parts.push(MemPart::fused(alloc, 1 + geometry.page / 64, fuse.copy()?)?)?;
+    }
+    for lines in more {
+        parts.push(MemPart::fused(alloc, *lines, fuse.copy()?)?)?;
+    }
+    Ok(parts)
+}
+
+// A region of 2 entries of a page of 64 bytes, formatted, with these parts behind; its calls fail as the fuse says.
+fn formatted(alloc: Global, fuse: &Fuse, more: &[u64]) -> Result<Region<MemPart>, Fail> {
+    let geometry = Geometry::new(64, 2)?;
+    match format(blank_parts(alloc, geometry, fuse, more)?, geometry) {
+        Ok(region) => Ok(region),
+        Err((_, fault)) => Err(fault.into()),
+    }
+}
+
+// A word, where the part has it.
+fn word(part: &mut MemPart, line: u64, word: u64) -> Option<u64> {
+    if line < part.lines() && word < 8 {
+        part.load(line, word).ok()
+    } else {
+        None
+    }
+}
+
+fn faults(parts: &[MemPart]) -> u64 {
+    let mut sum: u64 = 0;
+    for part in parts {
+        sum = sum.saturating_add(part.faults());
+    }
+    sum
+}
+
+#[test]
+fn a_formatted_region_reads_as_one(rt: HostRuntime) -> Result<(), Fail> {
+    let fuse = Fuse::new(rt.alloc(), &[])?;
+    let region = formatted(rt.alloc(), &fuse, &[5])?;
+    assert_eq!(rt; region.next(), 0);
+    assert_eq!(rt; region.names().len(), 0);
+    assert_eq!(rt; region.geometry().page, 64);
+    assert_eq!(rt; region.geometry().entries, 2);
+    let mut parts = region.into_parts();
+    assert_eq!(rt; parts.len(), 4);
+    assert_eq!(rt; parts[3].lines(), 5);
+    for (line, at, value) in [
+        (0, 0, 0x3145_4843_4143_564e),
+        (0, 1, 1),
+        (0, 2, 64),
+        (0, 3, 2),
+        (0, 4, 0),
+        (1, 0, 0),
+    ] {
+        assert_eq!(rt; word(&mut parts[0], line, at), Some(value));
+    }
+    assert_eq!(rt; word(&mut parts[1], 0, 0), Some(0));
+    assert_eq!(rt; word(&mut parts[2], 0, 0), Some(0));
+    let head = read_head(rt.alloc(), &mut parts)?;
+    assert_eq!(rt; head.tail, 0);
+    assert_eq!(rt; head.names.len(), 0);
+    Ok(())
+}
+
+#[test]
+fn names_are_added_up_to_16(rt: HostRuntime) -> Result<(), Fail> {
+    let fuse = Fuse::new(rt.alloc(), &[])?;
+    let mut region = formatted(rt.alloc(), &fuse, &[])?;
+    for i in 0..16 {
+        match add_file(rt.alloc(), region, &[b'a' + i]) {
+            Ok((more, index)) => {
+                assert_eq!(rt; index, u64::from(i));
+                region = more;
+            }
+            Err((_, error)) => return Err(error.into()),
+        }
+    }
+    assert!(rt; region.names().contains(b"p"));
+    match add_file(rt.alloc(), region, b"q") {
+        Ok(_region) => return Err(AddError::TooManyFiles.into()),
+        Err((mut parts, error)) => {
+            assert_eq!(rt; error, AddError::TooManyFiles);
+            assert_eq!(rt; word(&mut parts[0], 0, 4), Some(16));
+            assert_eq!(rt; word(&mut parts[0], 17, 0), Some(1));
+            assert_eq!(rt; word(&mut parts[0], 17, 1), Some(0x70));
+            let names = read_head(rt.alloc(), &mut parts)?.names;
+            assert_eq!(rt; names.len(), 16);
+            assert!(rt; names.contains(b"p"));
+        }
+    }
+    Ok(())
+}
+
+#[test]
+fn a_name_that_is_bad_or_known_is_refused(rt: HostRuntime) -> Result<(), Fail> {
+    for name in [b"".as_slice(), b".a", b"a b", b"known"] {
+        let fuse = Fuse::new(rt.alloc(), &[])?;
+        match add_file(rt.alloc(), formatted(rt.alloc(), &fuse, &[])?, b"known") {
+            Ok((region, _)) => {
+                let error = add_file(rt.alloc(), region, name)
+                    .err()
+                    .map(|failed| failed.1);
+                assert_eq!(rt; error, Some(AddError::BadName { index: 1 }));
+            }
+            Err((_, error)) => return Err(error.into()),
+        }
+    }
+    Ok(())
+}
+
+#[test]
+fn each_call_of_format_may_fail(rt: HostRuntime) -> Result<(), Fail> {
+    let geometry = Geometry::new(64, 2)?;
+    // Three calls for each entry, eight for the fields, and three for the magic.
+    for call in 1..=18 {
+        let fuse = Fuse::new(rt.alloc(), &[call])?;
+        match format(blank_parts(rt.alloc(), geometry, &fuse, &[])?, geometry) {
+            Ok(_region) => assert_eq!(rt; call, 18),
+            Err((parts, fault)) => {
+                assert_eq!(rt; fault, RegionFault);
+                assert_eq!(rt; parts.len(), 3);
+                assert_eq!(rt; faults(&parts), 1);
+            }
+        }
+    }
+    Ok(())
+}
+
+#[test]
+fn each_call_of_add_file_may_fail(rt: HostRuntime) -> Result<(), Fail> {
+    // The record's line, flush and fence, and then the count's.
+    for call in 1..=7 {
+        let fuse = Fuse::new(rt.alloc(), &[17 + call])?;
+        match add_file(rt.alloc(), formatted(rt.alloc(), &fuse, &[])?, b"a") {
+            Ok(_region) => assert_eq!(rt; call, 7),
+            Err((mut parts, error)) => {
+                assert_eq!(rt; error, AddError::RegionFault);
+                assert_eq!(rt; faults(&parts), 1);
+                // The count is stored by the fourth call.
+                let count = if call <= 4 { 0 } else { 1 };
+                assert_eq!(rt; word(&mut parts[0], 0, 4), Some(count));
+            }
+        }
+    }
+    Ok(())
+}
+
+#[test]
+fn each_call_of_move_tail_may_fail(rt: HostRuntime) -> Result<(), Fail> {
+    for call in 1..=4 {
+        let fuse = Fuse::new(rt.alloc(), &[call])?;
+        let mut header = MemPart::fused(rt.alloc(), 18, fuse)?;
+        match move_tail(&mut header, 9) {
+            Ok(()) => assert_eq!(rt; call, 4),
+            Err(fault) => {
+                assert_eq!(rt; fault, RegionFault);
+                let tail = if call == 1 { 0 } else { 9 };
+                assert_eq!(rt; word(&mut header, 1, 0), Some(tail));
+            }
+        }
+    }
+    Ok(())
+}

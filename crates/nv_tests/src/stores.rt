@@ -1,0 +1,199 @@
+use nv_plain::NoMemory;
+use nv_pmem::{Fuse, Pick, Picker};
+use nv_store::{Backing, MemStore, StoreError, StoreFault};
+use std::alloc::Global;
+
+fn may_cross_threads<T: Send>(_store: &T) -> bool {
+    true
+}
+
+#[test]
+fn bytes_are_written_read_and_made_durable(rt: HostRuntime) -> Result<(), NoMemory> {
+    let mut store = MemStore::new(rt.alloc(), &[1, 2, 3])?;
+    assert!(rt; may_cross_threads(&store));
+    assert_eq!(rt; store.len(), Ok(3));
+    assert_eq!(rt; store.pwrite(2, &[8, 9]), Ok(()));
+    assert_eq!(rt; store.len(), Ok(4));
+    let mut buf = [7; 3];
+    assert_eq!(rt; store.pread(1, &mut buf), Ok(3));
+    assert_eq!(rt; buf, [2, 8, 9]);
+    assert_eq!(rt; store.sync(), Ok(()));
+    store.image(&mut Picker::new(Pick::Old));
+    assert_eq!(rt; store.pread(1, &mut buf), Ok(3));
+    assert_eq!(rt; buf, [2, 8, 9]);
+    assert_eq!(rt; store.faults(), 0);
+    Ok(())
+}
+
+#[test]
+fn a_gap_reads_as_zeros_and_no_bytes_change_nothing(rt: HostRuntime) -> Result<(), NoMemory> {
+    let mut store = MemStore::new(rt.alloc(), &[1])?;
+    assert_eq!(rt; store.pwrite(4, &[]), Ok(()));
+    assert_eq!(rt; store.pwrite(u64::MAX, &[]), Ok(()));
+    assert_eq!(rt; store.len(), Ok(1));
+    assert_eq!(rt; store.pwrite(3, &[5]), Ok(()));
+    let mut buf = [7; 4];
+    assert_eq!(rt; store.pread(0, &mut buf), Ok(4));
+    assert_eq!(rt; buf, [1, 0, 0, 5]);
+    assert_eq!(rt; store.pwrite(u64::MAX, &[5]), Err(StoreError::NoMemory));
+    assert_eq!(rt; store.len(), Ok(4));
+    Ok(())
+}
+
+#[test]
+fn a_read_stops_at_the_end(rt: HostRuntime) -> Result<(), NoMemory> {
+    let mut store = MemStore::new(rt.alloc(), &[1, 2, 3])?;
+    for (at, count, bytes) in [
+        (0, 2, [1, 2]),
+        (2, 1, [3, 7]),
+        (3, 0, [7, 7]),
+        (u64::MAX, 0, [7, 7]),
+    ] {
+        let mut buf = [7; 2];
+        assert_eq!(rt; store.pread(at, &mut buf), Ok(count), "at {at}");
+        assert_eq!(rt; buf, bytes, "at {at}");
+    }
+    Ok(())
+}
+
+// The durable bytes are 11 12 13 14 15 16. Then aa bb is written at 1, and cc dd ee at 8, past the end.
+fn written_twice(alloc: Global) -> Result<MemStore, NoMemory> {
+    let mut store = MemStore::new(alloc, &[0x11, 0x12, 0x13, 0x14, 0x15, 0x16])?;
+    for (at, bytes) in [(1, &[0xaa, 0xbb][..]), (8, &[0xcc, 0xdd, 0xee][..])] {
+        if store.pwrite(at, bytes).is_err() {
+            return Err(NoMemory);
+        }
+    }
+    Ok(store)
+}
+
+// So 11 bytes are seen and 6 are durable; those at 1, 2, 8, 9 and 10 aren't synced, and those at 6 and 7 are a gap. A seed's
+// first word w gives the length 6 + w mod 6, and each later word the next of those bytes that lie below it, w mod 256:
+//
+// | Seed | The words | Length | Bytes at 1, 2, 8, 9, 10 |
+// |---|---|---|---|
+// | 0 | e220a8397b1dcdaf, 6e789e6aa1b965f4, 06c45d188009454f | 6 + 1 | f4 4f |
+// | 1 | 910a2dec89025cc1, beeb8da1658eec67, f893a2eefb32555e, 71c18690ee42c90b, 71bb54d8d101b5b9, c34d0bff90150280 | 6 + 5 | 67 5e 0b b9 80 |
+// | 2 | 975835de1c9756ce, bfc846100bfc1e42, 987bbcbfdd7e532f, c3f2827affe7f664, 4fc446b53f17fb29 | 6 + 4 | 42 2f 64 29 |
+// | 3 | 1d0b14e4db018fed, b3466f8a7b81a989, 9cebe8a6d050dd01, 12a764fb66abc9cf | 6 + 3 | 89 01 cf |
+#[test]
+fn a_store_that_loses_power_is_left_as_it_is_picked(rt: HostRuntime) -> Result<(), NoMemory> {
+    let left: [(Pick, &[u8]); 7] = [
+        (Pick::Old, &[0x11, 0x12, 0x13, 0x14, 0x15, 0x16]),
+        (
+            Pick::New,
+            &[0x11, 0xaa, 0xbb, 0x14, 0x15, 0x16, 0, 0, 0xcc, 0xdd, 0xee],
+        ),
+        (
+            Pick::Torn,
+            &[0x11, 0xa5, 0xa5, 0x14, 0x15, 0x16, 0, 0, 0xa5, 0xa5, 0xa5],
+        ),
+        (Pick::Seed(0), &[0x11, 0xf4, 0x4f, 0x14, 0x15, 0x16, 0]),
+        (
+            Pick::Seed(1),
+            &[0x11, 0x67, 0x5e, 0x14, 0x15, 0x16, 0, 0, 0x0b, 0xb9, 0x80],
+        ),
+        (
+            Pick::Seed(2),
+            &[0x11, 0x42, 0x2f, 0x14, 0x15, 0x16, 0, 0, 0x64, 0x29],
+        ),
+        (
+            Pick::Seed(3),
+            &[0x11, 0x89, 0x01, 0x14, 0x15, 0x16, 0, 0, 0xcf],
+        ),
+    ];
+    for (pick, bytes) in left {
+        let mut store = written_twice(rt.alloc())?;
+        store.image(&mut Picker::new(pick));
+        let mut buf = [0; 16];
+        assert_eq!(rt;
+            store.pread(0, &mut buf),
+            Ok(bytes.len() as u64),
+            "at {pick:?}"
+        );
+        assert_eq!(rt; &buf[..bytes.len()], bytes, "at {pick:?}");
+    }
+    Ok(())
+}
+
+// The words that seed 0 draws after the three above begin with f88bb8a8724c81ec.
+#[test]
+fn draws_go_on_behind_a_store_and_pass_a_quiet_one(rt: HostRuntime) -> Result<(), NoMemory> {
+    let mut picker = Picker::new(Pick::Seed(0));
+    let mut quiet = MemStore::new(rt.alloc(), &[1, 2, 3])?;
+    quiet.image(&mut picker);
+    assert_eq!(rt; quiet.len(), Ok(3));
+    written_twice(rt.alloc())?.image(&mut picker);
+    assert_eq!(rt; picker.draw(), 0xf88b_b8a8_724c_81ec);
+    Ok(())
+}
+
+// Makes one call of `Backing`, and says whether it was refused, and how many were. A write for which there is no room is
+// refused before its room is asked for.
+fn refuses(store: &mut MemStore, call: u8) -> (bool, u64) {
+    let mut buf = [7; 1];
+    let refused = match call {
+        0 => store.len().is_err(),
+        1 => store.pread(0, &mut buf).is_err(),
+        2 => store.pwrite(0, &[5]) == Err(StoreError::Fault),
+        3 => store.pwrite(u64::MAX, &[5]) == Err(StoreError::Fault),
+        _ => store.sync().is_err(),
+    };
+    (refused, store.faults())
+}
+
+// The same call three times, on stores that share a fuse through two copies of it.
+fn refusals(alloc: Global, fuse: Fuse, call: u8) -> Result<[(bool, u64); 3], NoMemory> {
+    let mut first = MemStore::fused(alloc, &[1], fuse.copy()?)?;
+    let mut second = MemStore::fused(alloc, &[1], fuse.copy()?)?;
+    let mut third = MemStore::fused(alloc, &[1], fuse)?;
+    Ok([
+        refuses(&mut first, call),
+        refuses(&mut second, call),
+        refuses(&mut third, call),
+    ])
+}
+
+#[test]
+fn each_call_counts_once_at_a_fuse(rt: HostRuntime) -> Result<(), NoMemory> {
+    let (well, refused) = ((false, 0), (true, 1));
+    for call in 0..5 {
+        for (k, listed, armed) in [
+            (1, [refused, well, well], [refused, refused, refused]),
+            (2, [well, refused, well], [well, refused, refused]),
+            (3, [well, well, refused], [well, well, refused]),
+        ] {
+            let fuse = Fuse::new(rt.alloc(), &[k])?;
+            assert_eq!(rt;
+                refusals(rt.alloc(), fuse, call)?,
+                listed,
+                "call {call}, listed {k}"
+            );
+            let fuse = Fuse::new(rt.alloc(), &[])?;
+            fuse.arm(k);
+            assert_eq!(rt;
+                refusals(rt.alloc(), fuse, call)?,
+                armed,
+                "call {call}, armed {k}"
+            );
+        }
+    }
+    Ok(())
+}
+
+#[test]
+fn a_refused_call_leaves_bytes_and_buffer(rt: HostRuntime) -> Result<(), NoMemory> {
+    let fuse = Fuse::new(rt.alloc(), &[1, 2])?;
+    let mut store = MemStore::fused(rt.alloc(), &[1, 2, 3], fuse)?;
+    let mut buf = [7; 4];
+    assert_eq!(rt; store.pread(0, &mut buf), Err(StoreFault));
+    assert_eq!(rt; buf, [7; 4]);
+    assert_eq!(rt; store.pwrite(2, &[8, 9]), Err(StoreError::Fault));
+    assert_eq!(rt; store.pread(0, &mut buf), Ok(3));
+    assert_eq!(rt; buf, [1, 2, 3, 7]);
+    // What there is of the refused write's range isn't synced.
+    store.image(&mut Picker::new(Pick::Torn));
+    assert_eq!(rt; store.pread(0, &mut buf), Ok(3));
+    assert_eq!(rt; buf, [1, 2, 0xa5, 7]);
+    Ok(())
+}
