@@ -1,6 +1,15 @@
 #!/usr/bin/env bash
-# Proves and builds nv_sim, and runs a trace through it: examples/hello.trace, or the one that is named, with further options.
+# Builds nv_sim without its proofs, and runs a trace through it: examples/hello.trace, or the one that is named, with further options.
+# With --proved before them it proves nv_sim and all below it first, which takes long, and leaves the program in crates/nv_sim/out.
 set -eu
+how=try
+if [ "${1:-}" = --proved ]; then
+    how=run
+    shift
+fi
 trace=$(realpath "${1:-$(dirname "$0")/examples/hello.trace}")
 cd "$(dirname "$0")/crates/nv_sim"
-exec rt run -- run --noworker "${@:2}" < "$trace"
+if [ $how = try ]; then
+    echo "hello.sh: built without proof, and not kept (./hello.sh --proved proves it first)" >&2
+fi
+exec rt "$how" -- run --noworker "${@:2}" < "$trace"
