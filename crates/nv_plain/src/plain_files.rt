@@ -1,4 +1,4 @@
-ghost use Rattle.std.specs.Prelude.{◌≡◌, ◌+◌, ◌^◌, ◌<◌, ◌≤◌, length, IfOk, OnOk, OnErr};
+ghost use Rattle.std.specs.Prelude.{◌≡◌, ◌+◌, ◌^◌, ◌<◌, ◌≤◌, length, map, IfOk, OnOk, OnErr};
 ghost use Rattle.nv_plain.specs.Files.{empty_files, contents_of, overwritten};
 ghost use Rattle.nv_plain.specs.Calls.{reply_of, files_after, IsWithin, MayTakeMemory};
 
@@ -37,6 +37,13 @@ impl PlainFiles {
             files.push(Vec::new(alloc))?;
         }
         Ok(PlainFiles { alloc, files })
+    }
+
+    /// Files of these bytes, with numbers from 0 on. Takes no memory; what later writes need comes from `alloc`.
+    pub fn from_vec(alloc: Global, files: Vec<Vec<u8>>) -> Self
+        ensures { result ≡ record { contents = map (λ bytes. bytes.items) files.items } }
+    {
+        PlainFiles { alloc, files }
     }
 
     /// Makes a call on a file that there is, below byte `2^60`. A read copies the bytes that it gives.

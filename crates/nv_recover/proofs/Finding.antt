@@ -14,7 +14,7 @@ use Rattle.nv_recover.specs.Groups.{AreGroups, IsLeastBad}
 use Rattle.nv_recover.specs.declared.group.Group.{Group}
 
 -- a range with one number more
-range_more : (from count : ℕ) → range_with_len from (count + 1) ≡ range_with_len from count ++ (from + count) ∷ []
+pub range_more : (from count : ℕ) → range_with_len from (count + 1) ≡ range_with_len from count ++ (from + count) ∷ []
 range_more from zero = ap (λ n. n ∷ []) (sym (add-zero from))
 range_more from (suc count) =
     let more : suc count + 1 ≡ suc (count + 1) = omega arith in
@@ -22,7 +22,7 @@ range_more from (suc count) =
     ∙ ap (λ rest. from ∷ rest)
     (range_more (from + 1) count ∙ ap (λ n. range_with_len (from + 1) count ++ n ∷ []) (omega arith))
 
-filter_more : (image : Image) (tail number : ℕ) → tail ≤ number → filter (commits_at image) (range_with_len tail (number + 1 - tail)) ≡ filter (commits_at image) (range_with_len tail (number - tail)) ++ filter (commits_at image) (number ∷ [])
+pub filter_more : (image : Image) (tail number : ℕ) → tail ≤ number → filter (commits_at image) (range_with_len tail (number + 1 - tail)) ≡ filter (commits_at image) (range_with_len tail (number - tail)) ++ filter (commits_at image) (number ∷ [])
 filter_more image tail number from =
     let more : number + 1 - tail ≡ number - tail + 1 = omega arith in
     let last : tail + (number - tail) ≡ number = omega arith in

@@ -1,6 +1,8 @@
 -- Causes: when recovery may answer what.
 use Rattle.std.specs.Prelude.{◌≡◌, ℕ, Result, Ok, Err}
 use Rattle.nv_plain.specs.Faults.{Rose}
+use Rattle.nv_store.specs.declared.backing.StoreError.{StoreError}
+use Rattle.nv_store.specs.declared.backing.StoreError.TheVariants.{Fault, NoMemory as NoRoom}
 use Rattle.nv_recover.specs.declared.error.RecoverError.{RecoverError}
 use Rattle.nv_recover.specs.declared.error.RecoverError.TheVariants.{BadEntry, RegionFault, StoreFault, NoMemory}
 
@@ -27,3 +29,8 @@ HasRegionCause before now (Err error) = RegionFailed before now error
 abbrev pub HasStoreCause : {T : Type 0} → ℕ → ℕ → Result T RecoverError → Type 0
 HasStoreCause before now (Ok _) = now ≡ before
 HasStoreCause before now (Err error) = StoresFailed before now error
+
+-- the error that a store's refusal of a write is answered as
+abbrev pub of_store : StoreError → RecoverError
+of_store Fault = StoreFault
+of_store NoRoom = NoMemory

@@ -1,5 +1,6 @@
+use nv_plain::NoMemory;
 use nv_pmem::RegionFault;
-use nv_store::StoreFault;
+use nv_store::{StoreError, StoreFault};
 use std::alloc::{AllocError, AllocFailed};
 use thiserror::Error;
 
@@ -40,6 +41,31 @@ impl From<StoreFault> for RecoverError {
 
     fn from(_: StoreFault) -> Self {
         RecoverError::StoreFault
+    }
+}
+
+impl From<StoreError> for RecoverError {
+    ghost use Rattle.std.specs.Prelude.{◌≡◌};
+    ghost use Rattle.nv_recover.specs.Causes.{of_store};
+
+    ghost from_gives = { λ error e. e ≡ of_store error };
+
+    fn from(error: StoreError) -> Self {
+        match error {
+            StoreError::Fault => RecoverError::StoreFault,
+            StoreError::NoMemory => RecoverError::NoMemory,
+        }
+    }
+}
+
+impl From<NoMemory> for RecoverError {
+    ghost use Rattle.std.specs.Prelude.{◌≡◌};
+    ghost use Rattle.nv_recover.specs.declared.error.RecoverError.TheVariants as error;
+
+    ghost from_gives = { λ _ e. e ≡ error.NoMemory };
+
+    fn from(_: NoMemory) -> Self {
+        RecoverError::NoMemory
     }
 }
 

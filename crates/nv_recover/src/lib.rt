@@ -16,4 +16,4 @@ pub use laws::{
     images_stand_for_files, recoveries_give_the_same_files, rows_of_stores_have_states,
 };
 pub use leaders::Leaders;
-pub use recovering::{Recovered, recover, recover_parts};
+pub use recovering::{Recovered, bounds_of, recover, recover_parts, replay_log};

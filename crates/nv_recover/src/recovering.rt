@@ -99,8 +99,8 @@ pub fn recover<L: Lines + Drop, B: Backing>(
     }
 }
 
-// What a head says of the log.
-fn bounds_of(head: &Head) -> Bounds
+/// What a head says of the log.
+pub fn bounds_of(head: &Head) -> Bounds
     requires { IsWithinLimits version_1 head.now }
     ensures { HasBounds head.now result }
 {
@@ -144,6 +144,33 @@ pub fn recover_parts<L: Lines, B: Backing>(
     let (groups, found) = read_log(alloc, parts, bounds)?;
     replay(alloc, parts, stores, bounds, &groups)?;
     empty_log(parts, bounds, found.next)?;
+    Ok(found)
+}
+
+/// What a recovery makes of the stores, and no more: the pieces of the committed groups are written to them, and they are synced. The
+/// parts are only read, so over copies of its stores this shows the files that a region stands for.
+pub fn replay_log<L: Lines, B: Backing>(
+    alloc: Global,
+    bounds: &Bounds,
+    parts: &mut [L],
+    stores: &mut [B],
+) -> Result<Recovered, RecoverError>
+    requires header { RowTells (map L.history parts.old) (λ told. SaysBounds bounds.now (row_words told)) }
+    requires parts { HasParts version_1 bounds.now.page bounds.now.entries (map L.room parts.old) }
+    requires stores { length stores.old ≡ bounds.now.files }
+    requires synced { RowTells (map B.history stores.old) AreQuietStores }
+    ensures found { IfOk result (λ found. RowTells (map L.history parts.old) (λ told. HasFoundAll (row_words told) found)) }
+    ensures files { OnOk result (AcrossTells (map L.history parts.old) (map B.history stores.old) (map B.history stores.new) HoldRecovered) }
+    ensures bad { (number : ℕ) → result ≡ Err (error.BadEntry number)
+        → RowTells (map L.history parts.old) (λ told. IsLeastBad version_1 (row_words told) number) }
+    ensures read { AreOnlyRead L.history L.room L.device parts.old parts.new }
+    ensures tells { AllTell (map B.history stores.old) → AllTell (map B.history stores.new) }
+    ensures region_cause { HasRegionCause (sum_by L.fault_count parts.old) (sum_by L.fault_count parts.new) result }
+    ensures store_cause { HasStoreCause (sum_by B.fault_count stores.old) (sum_by B.fault_count stores.new) result }
+    ensures devices { map B.device stores.new ≡ map B.device stores.old }
+{
+    let (log, found) = read_log(alloc, parts, bounds)?;
+    replay(alloc, parts, stores, bounds, &log)?;
     Ok(found)
 }
 

@@ -6,3 +6,4 @@ pub mod WriteLaws
 pub mod MomentLaws
 pub mod Overwrites
 mod Untold
+pub mod RowReads

@@ -9,6 +9,7 @@ ghost use Rattle.nv_store.specs.Causes.{HasWriteCause};
 ghost use Rattle.nv_store.specs.declared.backing.StoreError.TheVariants.{NoMemory as NoRoom};
 
 use nv_pmem::Refused;
+use std::alloc::{AllocError, AllocFailed};
 use thiserror::Error;
 
 /// A call of a store failed.
@@ -31,6 +32,39 @@ pub enum StoreError {
     /// There was not enough memory. Nothing is changed.
     #[error("no memory")]
     NoMemory,
+}
+
+impl From<StoreFault> for StoreError {
+    ghost use Rattle.std.specs.Prelude.{◌≡◌};
+    ghost use Rattle.nv_store.specs.declared.backing.StoreError.TheVariants as error;
+
+    ghost from_gives = { λ _ e. e ≡ error.Fault };
+
+    fn from(_: StoreFault) -> Self {
+        StoreError::Fault
+    }
+}
+
+impl<T: Drop> From<AllocFailed<T>> for StoreError {
+    ghost use Rattle.std.specs.Prelude.{◌≡◌};
+    ghost use Rattle.nv_store.specs.declared.backing.StoreError.TheVariants as error;
+
+    ghost from_gives = { λ _ e. e ≡ error.NoMemory };
+
+    fn from(_: AllocFailed<T>) -> Self {
+        StoreError::NoMemory
+    }
+}
+
+impl From<AllocError> for StoreError {
+    ghost use Rattle.std.specs.Prelude.{◌≡◌};
+    ghost use Rattle.nv_store.specs.declared.backing.StoreError.TheVariants as error;
+
+    ghost from_gives = { λ _ e. e ≡ error.NoMemory };
+
+    fn from(_: AllocError) -> Self {
+        StoreError::NoMemory
+    }
 }
 
 /// One file of a disk with a page cache: a growing list of bytes. A write is seen by reads at once, and is durable after
