@@ -1,0 +1,3 @@
+pub mod CopyLaws
+pub mod TextLemmas
+pub mod WalkLaws

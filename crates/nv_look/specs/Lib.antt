@@ -1,0 +1,5 @@
+pub mod Causes
+pub mod Rows
+pub mod Listings
+pub mod Walks
+pub mod Texts

@@ -1,0 +1,20 @@
+-- Rows: which numbers a row of a listing has.
+use Rattle.std.specs.Prelude.{ℕ, ◌+◌, ◌^◌, ◌≤◌, List, All}
+use Rattle.nv_look.specs.declared.listing.Row.{Row}
+use Rattle.nv_look.specs.declared.listing.Row.TheVariants.{Group, Bad}
+
+-- the first number of a row, and the one behind it: a group has all its numbers, a bad number stands by itself
+abbrev pub start_of : Row → ℕ
+start_of (Group leader count file at len) = leader
+start_of (Bad number) = number
+
+abbrev pub end_of : Row → ℕ
+end_of (Group leader count file at len) = leader + count
+end_of (Bad number) = number + 1
+
+-- no row of a log ends past this
+abbrev pub IsInRange : Row → Type 0
+IsInRange row = end_of row ≤ 2 ^ 61
+
+abbrev pub AreInRange : List Row → Type 0
+AreInRange rows = All IsInRange rows
