@@ -1,10 +1,12 @@
-ghost use Rattle.std.specs.Prelude.{◌≡◌, ℕ, ◌+◌, ◌≤◌, map, All};
+ghost use Rattle.std.specs.Prelude.{◌≡◌, ℕ, ◌+◌, ◌<◌, ◌≤◌, length, map, All, IfOk};
 ghost use Rattle.nv_pmem.specs.MemPart.{part_history, part_room};
 ghost use Rattle.nv_pmem.specs.Rows.{RowTells, AreQuiet};
 ghost use Rattle.nv_store.specs.MemStore.{store_history};
 ghost use Rattle.nv_recover.specs.Standing.{AreQuietStores};
 
 use nv_header::{Region, check_lines, needed_lines_make_parts, read_head};
+use nv_look::{Text, dry_files, look};
+use nv_plain::PlainFiles;
 use nv_pmem::{Fuse, Lines, MemPart, Pick, Picker};
 use nv_recover::{RecoverError, Recovered, recover};
 use nv_store::{Backing, MemStore, StoreFault};
@@ -261,6 +263,110 @@ fn refuses_bad_entries(rt: HostRuntime) -> Result<(), Fail> {
         let answer = recovery(alloc, parts, &mut stores, &fuse, Pick::New, UNSTOPPED)?;
         let error = answer.err().map(|failed| failed.1);
         assert_eq!(rt; error, Some(RecoverError::BadEntry { number }));
+    }
+    Ok(())
+}
+
+// The devices lose power, and what is left is listed. An error where the parts are too few or short.
+fn listed(alloc: Global, parts: &mut [MemPart], stores: &mut [MemStore]) -> Result<Text, Fail> {
+    lose_power(parts, stores, Pick::New);
+    let head = read_head(alloc, parts)?;
+    check_lines(parts, &head)?;
+    needed_lines_make_parts();
+    Ok(look(alloc, &head, parts)?)
+}
+
+// What `dry_files` answers of devices in memory.
+type DryRun = Result<PlainFiles, RecoverError>;
+
+// And the files that a recovery of it would leave, one at least. An error also where the stores aren't as many as the header says.
+fn dried(alloc: Global, parts: &mut [MemPart], stores: &mut [MemStore]) -> Result<DryRun, Fail>
+    ensures { IfOk result (λ answer. IfOk answer (λ plain. 0 < length plain.contents)) }
+{
+    lose_power(parts, stores, Pick::New);
+    let head = read_head(alloc, parts)?;
+    check_lines(parts, &head)?;
+    needed_lines_make_parts();
+    if stores.is_empty() || stores.len() != head.names.len() {
+        return Err(RecoverError::RegionFault.into());
+    }
+    Ok(dry_files(alloc, &head, parts, stores))
+}
+
+// A whole group; three of them, one of which goes on at the ring's begin; a hole, and a commit word of an older turn; a group that
+// breaks a rule behind a good one; and one whose follower is committed too, so that both numbers are bad.
+#[test]
+fn regions_are_listed_and_recovered_dry(rt: HostRuntime) -> Result<(), Fail> {
+    let alloc = rt.alloc();
+    let cases: [(u64, u64, &[(Words, u8)], &str, Option<u64>, &[u8]); 5] = [
+        (
+            1,
+            5,
+            &[([0; 6], 0), ([6, 0, 0, 1, 1, 5], 0x2a)],
+            "region 1 64 2 1 5\nname 0 a\ngroup 5 1 0 0 1\nend 1 0\n",
+            None,
+            b"*...",
+        ),
+        (
+            2,
+            0,
+            &THREE_GROUPS,
+            "region 1 64 8 2 0\nname 0 a\nname 1 b\ngroup 0 1 0 1 3\ngroup 1 2 1 60 8\ngroup 3 3 0 2 130\nend 3 0\n",
+            None,
+            &three_groups_files()[0][..132],
+        ),
+        (
+            1,
+            4,
+            &[
+                ([5, 0, 0, 1, 1, 4], b'a'),
+                ([0, 0, 1, 1, 1, 5], b'b'),
+                ([7, 0, 2, 1, 1, 6], b'c'),
+                ([4, 0, 3, 1, 1, 3], b'd'),
+            ],
+            "region 1 64 4 1 4\nname 0 a\ngroup 4 1 0 0 1\nhole 5 6\ngroup 6 1 0 2 1\nend 2 0\n",
+            None,
+            b"a.c.",
+        ),
+        (
+            1,
+            0,
+            &[
+                ([0; 6], 0),
+                ([2, 0, 0, 1, 1, 1], b'a'),
+                ([0; 6], 0),
+                ([4, 0, 0, 0, 1, 3], b'b'),
+            ],
+            "region 1 64 4 1 0\nname 0 a\nhole 0 1\ngroup 1 1 0 0 1\nhole 2 3\nbad 3\nend 1 1\n",
+            Some(3),
+            b"",
+        ),
+        (
+            1,
+            0,
+            &[([1, 0, 0, 64, 2, 0], b'a'), ([2, 0, 64, 1, 0, 0], b'b')],
+            "region 1 64 2 1 0\nname 0 a\nbad 0\nbad 1\nend 0 2\n",
+            Some(1),
+            b"",
+        ),
+    ];
+    for (files, tail, entries, text, bad, bytes) in cases {
+        let Bench {
+            mut parts,
+            mut stores,
+            ..
+        } = bench_of(alloc, files, tail, entries)?;
+        let shown = listed(alloc, &mut parts, &mut stores)?;
+        assert_eq!(rt; shown.as_slice(), text.as_bytes());
+        match dried(alloc, &mut parts, &mut stores)? {
+            Ok(plain) => assert_eq!(rt; plain.bytes(0), bytes),
+            Err(error) => {
+                assert_eq!(rt;
+                    Some(error),
+                    bad.map(|number| RecoverError::BadEntry { number })
+                );
+            }
+        }
     }
     Ok(())
 }
