@@ -152,7 +152,7 @@ pub fn begin_with_load<C: Calls, L: Lines, B: Backing>(
 }
 
 /// Takes a lock, by its place, where that is the pass's next step. What its cell keeps comes with it; where the lock is held already
-/// nothing changes. So it is answered where another pass is out, or where one was taken in that held a cell, and else no call is.
+/// nothing changes. A call finds one held only where another pass is out, or was taken in while it held a cell.
 pub fn take<L: Lines, B: Backing>(
     board: &Board<L, B>,
     pass: &mut Pass<L, B>,
