@@ -8,10 +8,12 @@ use Rattle.nv_core.specs.Words.{Sizes, Word, HEAD, SIZE, STORE, ENTRY, PAGE, CLE
 use Rattle.nv_core.specs.Passes.{Stage, Pass, IsOneOf, Locking, Sizing, Fetching, Waiting, Searching, Seeking, file_of, first_page, times}
 use Rattle.nv_core.specs.Sweeps.{Looks}
 use Rattle.nv_core.specs.Deeds.{Deed, Loads, Takes, Draws, Tends, value_after}
-use Rattle.nv_core.specs.Order.{Work, MayTake}
+use Rattle.nv_core.specs.Order.{Work}
+use Rattle.nv_core.specs.StepKinds.{MayTake}
 use Rattle.nv_core.specs.Core.{Core, after_step}
 use Rattle.nv_core.specs.Stepped.{stepped, head_after}
-use Rattle.nv_core.specs.Events.{Event, MayFind, IsRun, own}
+use Rattle.nv_core.specs.Events.{Event, IsRun, own}
+use Rattle.nv_core.proofs.ByKind.{MayFind, find_kind}
 use Rattle.nv_core.specs.Holding.{Holding, HoldsLocks, one_if, is_among}
 use Rattle.nv_core.specs.Standing.{Standing, StandsAt}
 use Rattle.nv_core.specs.Opening.{IsMount, opening}
@@ -163,7 +165,7 @@ module _ (sound : RunsAreSound) (tell : OwnEventsTell) where
   no_lock_is_held old new opens cell found mount knows alone stepped =
       let at = made_at sound tell old.sight new.sight stepped.works opens (Takes cell) found mount stepped.steps in
       let pass = at.core.passes old.sight.number in
-      let may : MayTake pass cell = at.may.may in
+      let may : MayTake pass cell = (find_kind old.sight.opened.sizes old.sight.number at.core (Takes cell) found at.may).may in
       let own = not_held old.sight.opened.sizes pass (at.sound.holding old.sight.number) (at.sound.standing old.sight.number) cell may in
       let low : at.core.words cell ≤ 1 = at.sound.locks.bit cell (lock pass cell may) in
       let is : at.core.words cell ≡ found = at.may.is in
@@ -216,13 +218,13 @@ module _ (sound : RunsAreSound) (tell : OwnEventsTell) where
   pub loads_tell_head : LoadsTellHead
   loads_tell_head old new opens found mount stepped =
       let one = at old new opens (Loads HEAD) found mount stepped in
-      knows_then old new opens (Loads HEAD) found mount stepped (untouched old.sight.opened.sizes old.sight.number one.core (Loads HEAD) found one.may HEAD refl ∙ one.may.is)
+      knows_then old new opens (Loads HEAD) found mount stepped (untouched old.sight.opened.sizes old.sight.number one.core (Loads HEAD) found (find_kind old.sight.opened.sizes old.sight.number one.core (Loads HEAD) found one.may) HEAD refl ∙ one.may.is)
 
   pub head_stays_known : HeadStaysKnown
   head_stays_known old new opens deed found mount knows alone head stepped =
       let one = at old new opens deed found mount stepped in
       knows_then old new opens deed found mount stepped
-      (head_then old.sight.opened.sizes old.sight.number one.core deed found one.may
+      (head_then old.sight.opened.sizes old.sight.number one.core deed found (find_kind old.sight.opened.sizes old.sight.number one.core deed found one.may)
       (known_at old new opens deed found mount stepped (nothing_comes_between old new opens deed found mount knows alone stepped) head))
 
   pub no_draw_is_lost : NoDrawIsLost

@@ -10,7 +10,8 @@ use Rattle.nv_core.specs.Values.{Ending, Made, Failed, Refused}
 use Rattle.nv_core.specs.Passes.{Stage, Idle, Locking, Measuring, Sizing, Checking, Ordering, Reading, Waiting, Fetching, Copying, Returning, Searching, Heading, Tailing, Drawing, Seizing, Committing, Pledging, Readying, Placing, Growing, Releasing, Giving, Leaving, ReadFailing, PieceFailing, WriteFailing, Breaking, Bounding, Scanning, Grasping, Patching, Unlocking, Cleaning, Pass, is_read, is_write, page_count, first_page, end_page, without}
 use Rattle.nv_core.specs.Sweeps.{Chore, Halts}
 use Rattle.nv_core.specs.Deeds.{Deed, Loads, Takes, Gives, Places, Stops, Draws, Seizes, Pledges, Readies, Grows, Breaks, Holds, Returns, Turns, Hints, Tends, chore_move, moved, slot_of}
-use Rattle.nv_core.specs.Order.{Values, Work, MayStep, MayLoad, MayTake, MayGive, MayPlace, MayTend, IsFailing, commit_steps}
+use Rattle.nv_core.specs.Order.{Values, Work, IsFailing, commit_steps}
+use Rattle.nv_core.specs.StepKinds.{MayLoad, MayTake, MayGive, MayPlace, MayTend, MayByKind as MayStep}
 use Rattle.nv_core.specs.Stages.{stage_after, after_load, after_give, after_stop, leaving, giving, ending, ordered, copying, exceeds, scanning, after_head, after_tail, after_look, after_hold, after_return}
 use Rattle.nv_core.specs.Core.{worked, stage_worked}
 use Rattle.nv_core.specs.Stepped.{stepped, begun}

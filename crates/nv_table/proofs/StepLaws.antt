@@ -10,6 +10,8 @@ use Rattle.nv_core.specs.Values.{Value}
 use Rattle.nv_core.specs.Passes.{IsOneOf, times}
 use Rattle.nv_core.specs.Deeds.{Deed, move_of}
 use Rattle.nv_core.specs.Order.{Work, Values, MayStep}
+use Rattle.nv_core.specs.StepKinds.{MayByKind}
+use Rattle.nv_core.proofs.NextSteps.{next_steps_may_come}
 use Rattle.nv_core.specs.Standing.{Standing}
 use Rattle.nv_table.specs.Changes.{changed}
 use Rattle.nv_table.specs.Drawn.{lost_of, drawn_at, drawn_of, marks_of, IsFromHead, drawn_then, lost_then}
@@ -153,8 +155,9 @@ marked {S} laws shown old new opens deed found change plain mount acted head =
     history : List Answered
     history = (state_of old.0.opened acted.steps.run).history
 
-    may : MayStep sizes at.core.values (with_call sizes opens worked_pass) deed
-    may = subst (λ p. MayStep sizes at.core.values p deed) at.own (step_of sizes old.0.number at.core deed plain at.may.may)
+    may : MayByKind sizes at.core.values (with_call sizes opens worked_pass) deed
+    may = next_steps_may_come sizes at.core.values (with_call sizes opens worked_pass) deed
+        (subst (λ p. MayStep sizes at.core.values p deed) at.own (step_of sizes old.0.number at.core deed plain at.may.may))
 
     stands : Standing sizes (with_call sizes opens worked_pass)
     stands = subst (Standing sizes) at.own (at.sound.standing old.0.number)
@@ -172,11 +175,11 @@ marked {S} laws shown old new opens deed found change plain mount acted head =
         (subst (λ d. Marked (marks_of None deed) change found d (lost_of (pass_of old.0).faulted) (stepped sizes old.0.number history deed found worked_pass)) same_drawn
         (subst (λ l. Marked (marks_of None deed) change found (drawn_of worked_pass) l (stepped sizes old.0.number history deed found worked_pass)) same_lost
         (goes_on sizes at.core.values old.0.number history found change worked_pass (subst (λ o. Standing sizes (with_call sizes o worked_pass)) is stands) deed
-        (subst (λ o. MayStep sizes at.core.values (with_call sizes o worked_pass) deed) is may)
+        (subst (λ o. MayByKind sizes at.core.values (with_call sizes o worked_pass) deed) is may)
         (subst (λ o. IsFromHead (marks_of o deed) change worked_pass.head) is
         (subst (IsFromHead (marks_of opens deed) change) (sym (calls_leave (λ p. p.head) (λ sizes work pass. refl) sizes acted.works (pass_of old.0))) head)))))
     by_call (Some call) is =
-        let first = subst (λ o. MayStep sizes at.core.values (with_call sizes o worked_pass) deed) is may in
+        let first = subst (λ o. MayByKind sizes at.core.values (with_call sizes o worked_pass) deed) is may in
         let none = begun_marks sizes at.core.values call worked_pass deed first in
         let idle : MayOpen sizes (Some call) worked_pass = subst (λ o. MayOpen sizes o worked_pass) is at.begins in
         let closed : drawn_of worked_pass ≡ lost_of worked_pass.faulted = ap (drawn_at worked_pass.first (is_write worked_pass.call) (lost_of worked_pass.faulted)) idle.idle in
