@@ -1,3 +1,4 @@
 pub mod AlterLaws
+pub mod CommitLaws
 pub mod EntryLaws
 pub mod StoreLaws

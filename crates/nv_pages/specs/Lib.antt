@@ -1,2 +1,3 @@
 pub mod Altered
+pub mod CommitCalls
 pub mod PageWork

@@ -4,6 +4,7 @@
 
 mod buffers;
 mod entries;
+mod laws;
 mod search;
 mod slots;
 mod stores;
@@ -11,6 +12,7 @@ mod turns;
 
 pub use buffers::{copy_page, fill_page, lacks_buffer, move_buffer};
 pub use entries::{Piece, patch, read_entry};
+pub use laws::commits_are_due;
 pub use search::{set_hint, turn_hand};
 pub use stores::read_store;
 pub use turns::{hold_entry, return_entry};
