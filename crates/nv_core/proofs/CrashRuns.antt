@@ -1,7 +1,6 @@
 -- Runs keep the region and the stores, so each state of a run survives a power failure.
-use Rattle.std.proofs.Common.{◌≡◌, ℕ, Bool, true, ◌&&◌, List, [], ◌∷◌, length, sym, ap, subst, arith}
+use Rattle.std.proofs.Common.{◌≡◌, ℕ, Bool, List, [], ◌∷◌, length, sym, ap, subst, arith}
 use Rattle.std.specs.Prelude.{slice_index}
-use Rattle.std.proofs.lemmas.Bool.{and_parts}
 use Rattle.nv_plain.specs.Files.{Files}
 use Rattle.nv_plain.specs.Layouts.{version_1}
 use Rattle.nv_pmem.specs.Limits.{IsPageSize}
@@ -12,10 +11,9 @@ use Rattle.nv_header.specs.Regions.{ReadsAs}
 use Rattle.nv_store.specs.Store.{Store, IsQuiet}
 use Rattle.nv_core.specs.Words.{Sizes}
 use Rattle.nv_core.specs.Order.{Values}
-use Rattle.nv_core.specs.Core.{Core, after_begin}
-use Rattle.nv_core.specs.Events.{Act, Begins, Does, Calls, Event, after_act, after_event, after, IsRun}
+use Rattle.nv_core.specs.Core.{Core}
+use Rattle.nv_core.specs.Events.{Event, after_event, after, IsRun}
 use Rattle.nv_core.specs.Opening.{opening}
-use Rattle.nv_core.specs.StorePages.{StoresKept}
 use Rattle.nv_core.specs.Groups.{Log, log_after}
 use Rattle.nv_core.specs.InFlight.{placed_after}
 use Rattle.nv_core.specs.Tails.{Tails, still, tails_after}
@@ -25,7 +23,6 @@ use Rattle.nv_core.specs.Crash.{HasRegion, EventsKeepRegion, OpeningHasRegion, S
 use Rattle.nv_core.specs.Sound.{Sound}
 use Rattle.nv_core.specs.Laws.{OpeningIsSound, EventsKeepSound, RunsAreSound}
 use Rattle.nv_core.proofs.Choices.{not_both}
-use Rattle.nv_core.proofs.KeepsStores.{keeps_stores, stores_step, stores_work}
 use Rattle.nv_core.proofs.CrashRegions.{reads_alike}
 
 -- ---- the region
@@ -71,24 +68,3 @@ runs_survive opens_sound sounds opens_log logs sound keeps opened region_keeps s
     (sound mount events is run) (keeps mount files mount.next log placed events is opens has run)
     (region_run sounds logs region_keeps mount.sizes opens.page mount.values files names (still mount.next) events log placed (opening mount) (opens_sound mount is)
     (opens_log mount files mount.next log placed opens has) (opened mount files names log opens has region) run)
-
--- ---- the stores
-
--- whether it is left what it tells: no cleaner writes to a store or syncs it
-abbrev pub leaves_stores : Act → Bool
-leaves_stores (Calls work) = keeps_stores work.job
-leaves_stores act = true
-
-abbrev pub all_leave_stores : List Event → Bool
-all_leave_stores [] = true
-all_leave_stores (event ∷ later) = leaves_stores event.act && all_leave_stores later
-
-stores_act : (sizes : Sizes) (first : Values) (by : ℕ) (core : Core) (act : Act) → leaves_stores act ≡ true → StoresKept first core.values → StoresKept first (after_act sizes by act core).values
-stores_act sizes first by core (Begins call deed found) leaves kept = stores_step sizes first ((after_begin sizes by call core).passes by) deed core.values kept
-stores_act sizes first by core (Does deed found) leaves kept = stores_step sizes first (core.passes by) deed core.values kept
-stores_act sizes first by core (Calls work) leaves kept = stores_work first (core.passes by) work core.values leaves kept
-
-pub stores_run : (sizes : Sizes) (first : Values) (events : List Event) (core : Core) → all_leave_stores events ≡ true → StoresKept first core.values → StoresKept first (after sizes core events).values
-stores_run sizes first [] core leave kept = kept
-stores_run sizes first (event ∷ later) core leave kept =
-    let both = and_parts (leaves_stores event.act) (all_leave_stores later) leave in stores_run sizes first later (after_event sizes event core) both.1 (stores_act sizes first event.by core event.act both.0 kept)

@@ -10,9 +10,13 @@ use Rattle.nv_core.specs.Passes.{Stage, Copying, Pass}
 use Rattle.nv_core.specs.Deeds.{Deed, Pledges, patched_by, Gives}
 use Rattle.nv_core.specs.Order.{Values, Work, MayLeave, IsTornOf}
 use Rattle.nv_core.specs.Core.{with_word, values_read, values_worked, values_stepped}
-use Rattle.nv_core.specs.StorePages.{store_of, StoresTell, StoresKept}
+use Rattle.nv_core.specs.StorePages.{store_of, StoresTell}
 use Rattle.nv_core.proofs.Changes.{by_word, word_else, differ}
 use Rattle.nv_core.proofs.WrittenLaws.{given_else}
+
+-- each store tells what it told at opening
+pub record StoresKept (first now : Values) : Type 0 where
+  pub each : (file : ℕ) → store_of (now (STORE file)) ≡ store_of (first (STORE file))
 
 pub step_store : (sizes : Sizes) (pass : Pass) (deed : Deed) (values : Values) (file : ℕ) → values_stepped sizes pass deed values (STORE file) ≡ values (STORE file)
 step_store sizes pass (Pledges page) values file = word_else values (PAGE page) (patched_by sizes pass.call page (values (PAGE page))) (STORE file) (differ (STORE file) (PAGE page) refl)

@@ -2,14 +2,14 @@
 use Rattle.std.specs.Prelude.{◌≡◌, ◌≢◌, ℕ, ◌≤◌, true, [], length}
 use Rattle.nv_core.specs.Words.{Sizes, PAGE}
 use Rattle.nv_core.specs.Passes.{Fault, IsOneOf, Stage, Searching, times}
-use Rattle.nv_core.specs.Stages.{IsBetween}
+use Rattle.nv_core.specs.Stages.{at_order, at_end, IsBetween}
 use Rattle.nv_core.specs.Standing.{IsPage}
 use Rattle.nv_core.specs.Holding.{with_victim}
 use Rattle.nv_core.specs.Core.{Core}
 
 -- a pass has loaded STOP as 0 in its call, and has not set it since
 abbrev pub HasChecked : Stage → Type 0
-HasChecked stage = IsBetween 4 7 stage
+HasChecked stage = IsBetween at_order at_end stage
 
 -- how often a pass holds a page as a victim
 abbrev pub victim_held : Stage → (page : ℕ) → ℕ

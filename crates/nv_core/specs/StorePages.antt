@@ -28,10 +28,6 @@ pub record HasFiles (sizes : Sizes) (first : Values) (files : Files) : Type 0 wh
   pub tell : StoresTell sizes first
   pub seen : StoresSeen first files
 
--- each store tells what it told at opening
-pub record StoresKept (first now : Values) : Type 0 where
-  pub each : (file : ℕ) → store_of (now (STORE file)) ≡ store_of (first (STORE file))
-
 -- A page that a read holds and that has no entries is its store's page as it is. (The content of the log gives it.)
 pub record StorePages (sizes : Sizes) (opening : Files) (core : Core) : Type 0 where
   pub clean : (number page : ℕ) (store : Store) → is_read (core.passes number).call ≡ true → times (PAGE page) (core.passes number).hands ≡ 1
