@@ -17,6 +17,7 @@ pub mod RowLemmas
 pub mod RunLemmas
 pub mod StopLemmas
 pub mod StoppingLemmas
+pub mod TestBenches
 pub mod TextLemmas
 pub mod UnrefusedLemmas
 pub mod WordLemmas

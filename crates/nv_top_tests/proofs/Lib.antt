@@ -1,2 +1,1 @@
 mod FolderLemmas
-mod TestBenches

@@ -73,16 +73,16 @@ const TWICE_LOST: &str =
 const TWICE_KEPT: &str =
     "0 0 pwrite 0 0 1 = 1\nopen 0 pwrite 0 0 1: kept\nfile a 1 09\nend 1 0 1\n";
 
-// Commands over a new bench: the words behind `run --noworker`, the trace, and the report, which is a head, two digits so many times,
+// Commands over a new bench: the words, the trace, and the report, which is a head, two digits so many times,
 // and a tail. A write of at most 64 bytes takes 12 device calls, of which the last is the fence of its commit, and the 13th is the
 // read's. Of a group each entry of one line of data takes 9, and the commit word 3: the 19th is the first of the third entry, and the
 // 30th the fence of the commit word.
 const RUNS: [(&[&str], &str, &str, &str, u64, &str); 26] = [
-    (&[], HELLO, WHOLE, "", 0, ""),
-    (&[], "", "end 0 0 0\n", "", 0, ""),
-    (&[], BOUNDS, OUT_OF_BOUNDS, "", 0, ""),
+    (RUN, HELLO, WHOLE, "", 0, ""),
+    (RUN, "", "end 0 0 0\n", "", 0, ""),
+    (RUN, BOUNDS, OUT_OF_BOUNDS, "", 0, ""),
     (
-        &[],
+        RUN,
         "file a\nfd 0 a rw\n0 pwrite 0 0 09\n0 pread 0 60 9\n",
         "0 0 pwrite 0 0 1 = 1\n1 0 pread 0 60 9 = -\nfile a 1 09\nend 2 0 0\n",
         "",
@@ -90,7 +90,7 @@ const RUNS: [(&[&str], &str, &str, &str, u64, &str); 26] = [
         "",
     ),
     (
-        &[],
+        RUN,
         NO_BYTES,
         "0 0 pwrite 0 0 2 = 2\n1 0 pread 0 9 0 = -\n2 0 pwrite 0 9 0 = 0\n3 0 fsync 0 = 0\nfile a 2 0102\nend 4 0 0\n",
         "",
@@ -98,7 +98,7 @@ const RUNS: [(&[&str], &str, &str, &str, u64, &str); 26] = [
         "",
     ),
     (
-        &[],
+        RUN,
         "file a\nfd 0 a r\n0 pwrite 0 0 01\n",
         "refused 0 pwrite 0 0 1: bad descriptor\nfile a 0 -\nend 0 1 0\n",
         "",
@@ -106,7 +106,7 @@ const RUNS: [(&[&str], &str, &str, &str, u64, &str); 26] = [
         "",
     ),
     (
-        &[],
+        RUN,
         ONLY_WRITTEN,
         "0 0 pwrite 0 0 1 = 1\n1 0 fsync 0 = 0\nrefused 0 pread 0 9999 0: bad descriptor\nfile a 1 01\nend 2 1 0\n",
         "",
@@ -114,39 +114,74 @@ const RUNS: [(&[&str], &str, &str, &str, u64, &str); 26] = [
         "",
     ),
     (
-        &[],
+        RUN,
         TWO_FILES,
         "0 0 pwrite 0 0 1 = 1\n1 0 pwrite 1 0 1 = 1\n2 0 pread 2 0 4 = 61\n3 0 pread 1 0 4 = 62\nfile a 1 61\nfile b 1 62\nend 4 0 0\n",
         "",
         0,
         "",
     ),
-    (&[], GAP, GAP_READ, "00", 100, "ff\nend 3 0 0\n"),
+    (RUN, GAP, GAP_READ, "00", 100, "ff\nend 3 0 0\n"),
     // Bytes 62 and 63 are the last ones of a page, and the next two lie behind it.
     (
-        &[],
+        RUN,
         "file a\nfd 0 a rw\n0 pwrite 0 62 01020304\n0 pread 0 60 9\n",
         "0 0 pwrite 0 62 4 = 4\n1 0 pread 0 60 9 = 000001020304\nfile a 66 ",
         "00",
         62,
         "01020304\nend 2 0 0\n",
     ),
-    (&[], MANY_PAGES, SIXTEEN, "07", 1024, "\nend 1 2 0\n"),
+    (RUN, MANY_PAGES, SIXTEEN, "07", 1024, "\nend 1 2 0\n"),
     (
-        &["--pages", "2"],
+        &["run", "--noworker", "--pages", "2"],
         AT_THE_LIMIT,
         UP_TO_THE_LIMIT,
         "00",
         127,
         "09\nend 3 3 0\n",
     ),
-    (&["--entries", "2"], THREE_WRITES, LOG_FULL, "", 0, ""),
-    (&["--stop", "12", "--image", "old"], HELLO, LOST, "", 0, ""),
-    (&["--stop", "12", "--image", "0"], HELLO, KEPT, "", 0, ""),
-    (&["--stop=12", "--image=torn"], HELLO, LOST, "", 0, ""),
-    (&["--stop=12", "--image=new"], HELLO, KEPT, "", 0, ""),
     (
-        &["--stop", "13", "--image", "old"],
+        &["run", "--noworker", "--entries", "2"],
+        THREE_WRITES,
+        LOG_FULL,
+        "",
+        0,
+        "",
+    ),
+    (
+        &["run", "--noworker", "--stop", "12", "--image", "old"],
+        HELLO,
+        LOST,
+        "",
+        0,
+        "",
+    ),
+    (
+        &["run", "--noworker", "--stop", "12", "--image", "0"],
+        HELLO,
+        KEPT,
+        "",
+        0,
+        "",
+    ),
+    (
+        &["run", "--noworker", "--stop=12", "--image=torn"],
+        HELLO,
+        LOST,
+        "",
+        0,
+        "",
+    ),
+    (
+        &["run", "--noworker", "--stop=12", "--image=new"],
+        HELLO,
+        KEPT,
+        "",
+        0,
+        "",
+    ),
+    (
+        &["run", "--noworker", "--stop", "13", "--image", "old"],
         HELLO,
         AT_THE_STORE,
         "",
@@ -154,17 +189,29 @@ const RUNS: [(&[&str], &str, &str, &str, u64, &str); 26] = [
         "",
     ),
     (
-        &["--stop=4294967295", "--image=4294967295"],
+        &[
+            "run",
+            "--noworker",
+            "--stop=4294967295",
+            "--image=4294967295",
+        ],
         HELLO,
         WHOLE,
         "",
         0,
         "",
     ),
-    (&["--stop=1"], HELLO, LOST, "", 0, ""),
-    (&["--image", "1"], HELLO, WHOLE, "", 0, ""),
+    (&["run", "--noworker", "--stop=1"], HELLO, LOST, "", 0, ""),
     (
-        &["--stop", "13", "--image", "new"],
+        &["run", "--noworker", "--image", "1"],
+        HELLO,
+        WHOLE,
+        "",
+        0,
+        "",
+    ),
+    (
+        &["run", "--noworker", "--stop", "13", "--image", "new"],
         TWICE,
         TWICE_LOST,
         "",
@@ -172,7 +219,7 @@ const RUNS: [(&[&str], &str, &str, &str, u64, &str); 26] = [
         "",
     ),
     (
-        &["--stop", "24", "--image", "old"],
+        &["run", "--noworker", "--stop", "24", "--image", "old"],
         TWICE,
         TWICE_LOST,
         "",
@@ -180,7 +227,7 @@ const RUNS: [(&[&str], &str, &str, &str, u64, &str); 26] = [
         "",
     ),
     (
-        &["--stop", "24", "--image", "new"],
+        &["run", "--noworker", "--stop", "24", "--image", "new"],
         TWICE,
         TWICE_KEPT,
         "",
@@ -188,7 +235,7 @@ const RUNS: [(&[&str], &str, &str, &str, u64, &str); 26] = [
         "",
     ),
     (
-        &["--image", "new", "--stop", "19"],
+        &["run", "--noworker", "--image", "new", "--stop", "19"],
         "file a\nfd 0 a rw\n0 pfill 0 0 192 5\n",
         "open 0 pwrite 0 0 192: lost\nfile a 0 -\nend 0 0 1\n",
         "",
@@ -196,7 +243,7 @@ const RUNS: [(&[&str], &str, &str, &str, u64, &str); 26] = [
         "",
     ),
     (
-        &["--image", "new", "--stop", "30"],
+        &["run", "--noworker", "--image", "new", "--stop", "30"],
         "file a\nfd 0 a rw\n0 pfill 0 0 192 5\n",
         "open 0 pwrite 0 0 192: kept\nfile a 192 ",
         "05",
@@ -204,13 +251,6 @@ const RUNS: [(&[&str], &str, &str, &str, u64, &str); 26] = [
         "\nend 0 0 1\n",
     ),
 ];
-
-// These words, behind `run --noworker`.
-fn behind_run<'a>(alloc: Global, words: &[&'a str]) -> Result<Vec<&'a str>, Fail> {
-    let mut all = Vec::from_slice(alloc, RUN)?;
-    all.extend_from_slice(words)?;
-    Ok(all)
-}
 
 // What a command over a new bench answers.
 fn expect<R>(rt: &R, words: &[&str], trace: &str, status: u8, output: &[u8]) -> Result<(), Fail>
@@ -232,9 +272,8 @@ fn reports_of_runs(rt: HostRuntime) -> Result<(), Fail> {
     // The law has no value to look at: that it can be called is all.
     report_has_one_reading();
     for (words, trace, head, digits, count, tail) in &RUNS {
-        let words = behind_run(rt.alloc(), words)?;
         let report = filled(rt.alloc(), head, digits, *count, tail)?;
-        expect(&rt, &words, trace, DONE, &report)?;
+        expect(&rt, words, trace, DONE, &report)?;
     }
     Ok(())
 }
@@ -247,12 +286,23 @@ const BAD_LINES: [(&str, &str); 4] = [
     ("x", "error line 3 form\n"),
 ];
 
-// A failing source, sink and bench, by the numbers of the calls that fail.
-const FAILING: [(&[u64], &[u64], &[u64], u8, &str); 3] = [
-    (&[2], &[], &[], READ_FAULT, "error read\n"),
-    (&[], &[1], &[], WRITE_FAULT, ""),
-    (&[], &[], &[1], DEVICE_FAULT, "error device\n"),
-];
+// What a run of `hello` answers where these reads, writes and device calls fail.
+fn fails<R>(
+    rt: &R,
+    reads: &[u64],
+    writes: &[u64],
+    calls: &[u64],
+    status: u8,
+    output: &[u8],
+) -> Result<(), Fail>
+where
+    R: AllocGlobal + Abort + Threads + Wait + Sync,
+{
+    let mut bench = new_bench(rt.alloc(), calls)?;
+    let (found, text) = call(rt, &mut bench, RUN, HELLO, reads, writes)?;
+    assert_eq!(rt; (found, text.as_slice()), (status, output));
+    Ok(())
+}
 
 #[test]
 fn inputs_and_devices_that_are_refused(rt: HostRuntime) -> Result<(), Fail> {
@@ -260,11 +310,9 @@ fn inputs_and_devices_that_are_refused(rt: HostRuntime) -> Result<(), Fail> {
         let trace = format!(in rt.alloc(); "file a\nfd 0 a rw\n{line}\n")?;
         expect(&rt, RUN, trace.as_str(), BAD_INPUT, output.as_bytes())?;
     }
-    for (reads, writes, calls, status, output) in &FAILING {
-        let mut bench = new_bench(rt.alloc(), calls)?;
-        let (found, text) = call(&rt, &mut bench, RUN, HELLO, reads, writes)?;
-        assert_eq!(rt; (found, text.as_slice()), (*status, output.as_bytes()));
-    }
+    fails(&rt, &[2], &[], &[], READ_FAULT, b"error read\n")?;
+    fails(&rt, &[], &[1], &[], WRITE_FAULT, b"")?;
+    fails(&rt, &[], &[], &[1], DEVICE_FAULT, b"error device\n")?;
     let none = b"error region truncated 0 18\n";
     expect(&rt, RECOVER, "", BAD_REGION, none)
 }
@@ -272,48 +320,43 @@ fn inputs_and_devices_that_are_refused(rt: HostRuntime) -> Result<(), Fail> {
 // A file has as many bytes as its pages. A region that is there keeps its own page, and a run is told how many pages it has.
 #[test]
 fn sizes_of_files(rt: HostRuntime) -> Result<(), Fail> {
-    let mut bench = new_bench(rt.alloc(), &[])?;
-    for (words, trace, head, count, tail) in [
-        (
-            &["run", "--noworker", "--page=128", "--pages", "1"][..],
-            "file a\nfd 0 a rw\n0 pwrite 0 63 0909\n0 pwrite 0 128 09\n",
-            "0 0 pwrite 0 63 2 = 2\nrefused 0 pwrite 0 128 1: too far\nfile a 65 ",
-            63,
-            "0909\nend 1 1 0\n",
-        ),
-        (
-            RUN,
-            "file a\nfd 0 a rw\n0 pwrite 0 63 0808\n0 pread 0 8191 1\n0 pread 0 8192 1\n",
-            "0 0 pwrite 0 63 2 = 2\n1 0 pread 0 8191 1 = -\nrefused 0 pread 0 8192 1: too far\nfile a 65 ",
-            63,
-            "0808\nend 2 1 0\n",
-        ),
-    ] {
-        let (status, text) = call(&rt, &mut bench, words, trace, &[], &[])?;
-        let report = filled(rt.alloc(), head, "00", count, tail)?;
-        assert_eq!(rt; (status, text), (DONE, report));
-        lose_power(&mut bench, Pick::Old)?;
-    }
+    let alloc = rt.alloc();
+    let mut bench = new_bench(alloc, &[])?;
+    let words = &["run", "--noworker", "--page=128", "--pages", "1"];
+    let trace = "file a\nfd 0 a rw\n0 pwrite 0 63 0909\n0 pwrite 0 128 09\n";
+    let made = call(&rt, &mut bench, words, trace, &[], &[])?;
+    let head = "0 0 pwrite 0 63 2 = 2\nrefused 0 pwrite 0 128 1: too far\nfile a 65 ";
+    let report = filled(alloc, head, "00", 63, "0909\nend 1 1 0\n")?;
+    assert_eq!(rt; made, (DONE, report));
+    lose_power(&mut bench, Pick::Old)?;
+    let trace = "file a\nfd 0 a rw\n0 pwrite 0 63 0808\n0 pread 0 8191 1\n0 pread 0 8192 1\n";
+    let kept = call(&rt, &mut bench, RUN, trace, &[], &[])?;
+    let head =
+        "0 0 pwrite 0 63 2 = 2\n1 0 pread 0 8191 1 = -\nrefused 0 pread 0 8192 1: too far\nfile a 65 ";
+    let report = filled(alloc, head, "00", 63, "0808\nend 2 1 0\n")?;
+    assert_eq!(rt; kept, (DONE, report));
     Ok(())
 }
 
 // Options in one word and in two, in any order, and the bytes of a file that they make: a read of no bytes may end there, and no further.
 const SIZES: [(&[&str], u64); 14] = [
-    (&[], 4096),
-    (&["--page=64"], 4096),
-    (&["--page=4096"], 262_144),
-    (&["--page", "+128"], 8192),
-    (&["--page=00192"], 12_288),
-    (&["--entries=2"], 4096),
-    (&["--entries", "1024"], 4096),
-    (&["--cache=1"], 4096),
-    (&["--cache", "16384"], 4096),
-    (&["--batch=1"], 4096),
-    (&["--batch", "1024"], 4096),
-    (&["--pages=1"], 64),
-    (&["--pages", "1024"], 65_536),
+    (RUN, 4096),
+    (&["run", "--noworker", "--page=64"], 4096),
+    (&["run", "--noworker", "--page=4096"], 262_144),
+    (&["run", "--noworker", "--page", "+128"], 8192),
+    (&["run", "--noworker", "--page=00192"], 12_288),
+    (&["run", "--noworker", "--entries=2"], 4096),
+    (&["run", "--noworker", "--entries", "1024"], 4096),
+    (&["run", "--noworker", "--cache=1"], 4096),
+    (&["run", "--noworker", "--cache", "16384"], 4096),
+    (&["run", "--noworker", "--batch=1"], 4096),
+    (&["run", "--noworker", "--batch", "1024"], 4096),
+    (&["run", "--noworker", "--pages=1"], 64),
+    (&["run", "--noworker", "--pages", "1024"], 65_536),
     (
         &[
+            "run",
+            "--noworker",
             "--image",
             "7",
             "--page",
@@ -336,7 +379,6 @@ const SIZES: [(&[&str], u64); 14] = [
 fn sizes_of_runs(rt: HostRuntime) -> Result<(), Fail> {
     let alloc = rt.alloc();
     for (words, limit) in &SIZES {
-        let words = behind_run(alloc, words)?;
         let past = limit.saturating_add(1);
         let trace = format!(in alloc;
             "file a\nfd 0 a r\n0 pread 0 {limit} 0\n0 pread 0 {past} 0\n"
@@ -344,7 +386,7 @@ fn sizes_of_runs(rt: HostRuntime) -> Result<(), Fail> {
         let report = format!(in alloc;
             "0 0 pread 0 {limit} 0 = -\nrefused 0 pread 0 {past} 0: too far\nfile a 0 -\nend 1 1 0\n"
         )?;
-        expect(&rt, &words, trace.as_str(), DONE, report.as_bytes())?;
+        expect(&rt, words, trace.as_str(), DONE, report.as_bytes())?;
     }
     Ok(())
 }

@@ -1,5 +1,5 @@
 use Rattle.nv_bench.specs.MemBench.{mem_state}
-use Rattle.nv_top_tests.proofs.TestBenches.{is_free}
+use Rattle.nv_top.proofs.TestBenches.{is_free}
 use Rattle.nv_top_tests.proofs.commands.call.Goals as goal
 
 pub returns-in_err-to_vec-clause-closed : goal.returns-in_err-to_vec-clause-closed
