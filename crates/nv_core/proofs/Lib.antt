@@ -44,6 +44,7 @@ pub mod KeepsBroken
 pub mod KeepsBrokenLengths
 pub mod KeepsHistory
 pub mod KeepsDirty
+mod DirtyBounds
 pub mod Nevers
 pub mod Places
 mod WalkRooms

@@ -1,7 +1,7 @@
 -- Never: steps that no sound state allows, and what a step that is allowed has before it.
 use Rattle.std.specs.Prelude.{◌≡◌, ◌≢◌, ◌⊎◌, ◌↔◌, ℕ, ◌+◌, ◌≤◌, List, [], true}
 use Rattle.nv_plain.specs.declared.call.Reply.{Reply}
-use Rattle.nv_core.specs.Words.{Sizes, Word, STOP, HEAD, TAIL, ENTRY, CLEANUP, free, ready, kind_of, broken}
+use Rattle.nv_core.specs.Words.{Sizes, Word, STOP, HEAD, TAIL, ENTRY, CLEANUP, DIRTY, free, ready, kind_of, broken}
 use Rattle.nv_core.specs.Sweeps.{Batch, Sweep, Surveying}
 use Rattle.nv_core.specs.Chores.{after_chore, surveyed, with_page, count_of}
 use Rattle.nv_core.specs.Passes.{Stage, Cleaning, Seeking, Robbing, Searching, Seizing, Committing, Pledging, Readying, Placing, WriteFailing, Pass, IsHeld, times, is_write}
@@ -119,6 +119,10 @@ abbrev pub NoOtherCleanup : Type 0
 NoOtherCleanup =
     (sizes : Sizes) (first : Values) (core : Core) (by other page : ℕ) → Sound sizes first core
     → cleanup_held (core.passes by).stage page ≡ 1 → times (CLEANUP page) (core.passes other).hands ≡ 1 → other ≡ by
+
+-- A page has no more entries than the log, but for one that is pledged and one that a cleaner has cleaned: DIRTY says no more.
+abbrev pub NoDirtyAboveTheLog : Type 0
+NoDirtyAboveTheLog = (sizes : Sizes) (first : Values) (core : Core) (page : ℕ) → Sound sizes first core → core.words (DIRTY page) ≤ sizes.entries + 2
 
 -- No numbers are drawn past the log's end.
 abbrev pub NoDrawPastTheEnd : Type 0

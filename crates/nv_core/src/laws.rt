@@ -4,7 +4,7 @@ ghost use Rattle.nv_core.specs.BatchWalks.{BatchIsWalked};
 ghost use Rattle.nv_core.specs.Flights.{FlightsAreNumbered, InFlightAreApart, NoEntryAboveInFlight, NoTwoInFlightOfALength, NoTwoInFlightOfAPage};
 ghost use Rattle.nv_core.specs.GoingBack.{CallsHoldNothingBroken};
 ghost use Rattle.nv_core.specs.Lengths.{LengthsFollowTheHistory};
-ghost use Rattle.nv_core.specs.Never.{NoPlaceBeforeTheFence, NoPageBeforeThePlace, StoppedAfterAFault, NoLeaderBeforeAFollower, NoGrowthBeforeThePlace, NoTwoWritesOfAPage, NoStopWithoutAFault, NoSeizureOfAHeldEntry, NoHoldOfAnUnreadyEntry, NoEntryHeldTwice, NoOtherCleanup, NoVictimOfTheCall, NoDrawPastTheEnd, WritesInFlightAreApart, NoBreakBeforeStop, NoBrokenBeforeStop, NoBatchPastItsBound, GroupsArePassedByTheBound};
+ghost use Rattle.nv_core.specs.Never.{NoPlaceBeforeTheFence, NoPageBeforeThePlace, StoppedAfterAFault, NoLeaderBeforeAFollower, NoGrowthBeforeThePlace, NoTwoWritesOfAPage, NoStopWithoutAFault, NoSeizureOfAHeldEntry, NoHoldOfAnUnreadyEntry, NoEntryHeldTwice, NoOtherCleanup, NoVictimOfTheCall, NoDrawPastTheEnd, NoDirtyAboveTheLog, WritesInFlightAreApart, NoBreakBeforeStop, NoBrokenBeforeStop, NoBatchPastItsBound, GroupsArePassedByTheBound};
 ghost use Rattle.nv_core.specs.Spares.{SparesKeepSteps, SparesTell};
 ghost use Rattle.nv_core.specs.Walks.{WalkBegins, FirstPageIsWord30, ReadIsWalked, WriteIsWalked, FaultIsWalked, SearchIsWalked, TriesAreWalked};
 ghost use Rattle.nv_core.specs.Words.{PlacesDiffer};
@@ -26,7 +26,7 @@ pub fn runs_are_sound()
 /// before STOP is set after a fault, a leader made ready before a follower, a length that grows before its write has its
 /// place, two writes of a page in flight, STOP without a count that rose, an entry seized that isn't free, an entry held that
 /// isn't ready, one held by two reads, CLEANUP of a page while a read looks for its pieces, a search whose victim is a page of
-/// its own call, numbers drawn past the log's end, an entry broken before STOP, and a batch past its bound, but for its first
+/// its own call, numbers drawn past the log's end, a page with more entries than the log, an entry broken before STOP, and a batch past its bound, but for its first
 /// group. Up to that bound a cleaner passes each next group whose leader is ready.
 pub fn no_sound_state_allows()
     ensures fence { NoPlaceBeforeTheFence }
@@ -44,6 +44,7 @@ pub fn no_sound_state_allows()
     ensures twice { NoEntryHeldTwice }
     ensures cleanup { NoOtherCleanup }
     ensures end { NoDrawPastTheEnd }
+    ensures dirty { NoDirtyAboveTheLog }
     ensures victim { NoVictimOfTheCall }
     ensures batch { NoBatchPastItsBound }
     ensures passes { GroupsArePassedByTheBound }
