@@ -368,6 +368,10 @@ module _ (laws : CoreLaws) (sight : Sight) (works : List Work) (opens : Option F
   pub next_on_word : IsWord sight.opened.sizes next_word
   next_on_word = (leads laws sight.opened.sizes (mount_of sight.opened).values sight.number (state_of sight.opened run) (pass_of sight) (values_of sight) works opens deed next_found next_value next_way).on
 
+  -- The pass stands where it finds it.
+  pub next_stands : Standing sight.opened.sizes (pass_before sight opens works)
+  next_stands = subst (Standing sight.opened.sizes) next_way.begins.pass_is (next_way.begins.sound.standing sight.number)
+
   -- A cell that goes is too, and is in the hands of the pass once.
   pub next_held : (cell : Word) → move_of sight.opened.sizes deed next_found ≡ Goes cell
       → IsWord sight.opened.sizes cell × (times cell ((state_of sight.opened run).passes sight.number).hands ≡ 1)

@@ -5,10 +5,10 @@ use Rattle.std.proofs.lemmas.List.{take-append-drop}
 use Rattle.nv_plain.specs.declared.call.FileCall.{FileCall}
 use Rattle.atomic_table.specs.Seated.{TableId}
 use Rattle.atomic_table.specs.Table.{Me}
-use Rattle.nv_core.specs.Words.{Sizes, Word}
+use Rattle.nv_core.specs.Words.{Sizes, Word, place}
 use Rattle.nv_core.specs.Values.{Value}
 use Rattle.nv_core.specs.Passes.{IsOneOf, times}
-use Rattle.nv_core.specs.Deeds.{Deed, move_of}
+use Rattle.nv_core.specs.Deeds.{Deed, move_of, word_of, value_after}
 use Rattle.nv_core.specs.Order.{Work, Values, MayStep}
 use Rattle.nv_core.specs.StepKinds.{MayByKind}
 use Rattle.nv_core.proofs.NextSteps.{next_steps_may_come}
@@ -23,7 +23,8 @@ use Rattle.nv_plain.specs.Histories.{Answered}
 use Rattle.nv_core.specs.Passes.{Pass, is_write}
 use Rattle.nv_core.specs.Opening.{IsMount}
 use Rattle.nv_core.specs.Stepped.{begun, stepped}
-use Rattle.nv_table.specs.Acts.{IsInFront, MayAct, MayOpen, Acted, values_then, pass_worked, pass_before, values_before, with_call}
+use Rattle.nv_table.specs.Turns.{IsDue, Stands}
+use Rattle.nv_table.specs.Acts.{IsNext, IsInFront, MayAct, MayOpen, Acted, values_then, pass_worked, pass_before, values_before, with_call}
 use Rattle.nv_table.specs.Ready.{IsReady, Stepped}
 use Rattle.nv_table.specs.States.{BoardState, PassState, IsOf, Shift, Out, shown_in, shift_of}
 use Rattle.nv_table.specs.Turned.{IsTurned}
@@ -34,7 +35,7 @@ use Rattle.nv_table.specs.CoreLaws.{CoreLaws}
 use Rattle.nv_table.proofs.DrawnLaws.{Marked, calls_leave, worked_drawn, goes_on, begins_closed, begun_marks}
 use Rattle.nv_table.proofs.LayoutLaws.{cell_there, place_within}
 use Rattle.nv_table.proofs.ShiftLaws.{cell_out, shifted}
-use Rattle.nv_table.proofs.Onward.{next_word, next_found, next_on_word, next_held}
+use Rattle.nv_table.proofs.Onward.{next_word, next_found, next_on_word, next_stands, next_held}
 use Rattle.nv_table.proofs.PassLaws.{pass_acted}
 use Rattle.nv_table.proofs.RunsOn.{IsPlain, is_plain, step_of}
 use Rattle.nv_table.proofs.StepAt.{IsMadeAt, made_at}
@@ -206,6 +207,24 @@ module _ {S : Type 0} {drawn lost : Option ℕ} (pass : PassState) (me : Me S Si
       let place_is = ready.next.word in
       let total = ap (λ o. word_total o.sizes) of_board.same_mount in
       omega (arith, less, place_is, total, words_are)
+
+  -- a step that is due is on a word of the mount, and its pass stands
+  pub due_stands : CoreLaws → (due : IsDue pass opens deed) → Stands pass opens deed due.works
+  due_stands laws due =
+      let sizes = pass.sight.opened.sizes in
+      let before = pass_before pass.sight opens due.works in
+      let next : IsNext pass.sight due.works opens deed (place sizes (word_of sizes before deed)) (value_after sizes before deed) = record {
+        due = due.due;
+        begins = due.begins;
+        may = due.may;
+        staying = due.staying;
+        word = refl;
+        value = λ core sound made is low. refl;
+      } in
+      record {
+        on = next_on_word laws pass.sight due.works opens deed _ _ pass.sight.run own_pass.mount own_pass.run own_pass.known next;
+        stands = next_stands laws pass.sight due.works opens deed _ _ pass.sight.run own_pass.mount own_pass.run own_pass.known next;
+      }
 
   -- a slot that is to go is among the pass's, once
   pub goes_once : (at : ℕ) (change : ℕ → ℕ) (slot : ℕ) → CoreLaws → IsReady pass opens deed at change

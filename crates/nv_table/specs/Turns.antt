@@ -4,10 +4,11 @@ use Rattle.nv_plain.specs.Histories.{Answered}
 use Rattle.nv_plain.specs.declared.call.FileCall.{FileCall}
 use Rattle.nv_plain.specs.declared.call.Reply.{Reply}
 use Rattle.nv_plain.specs.declared.call.Reply.TheVariants.{Bytes}
-use Rattle.nv_core.specs.Words.{Sizes, Word}
+use Rattle.nv_core.specs.Words.{Sizes, Word, IsWord}
 use Rattle.nv_core.specs.Passes.{Stage, Pass, Placing, Cleaning}
 use Rattle.nv_core.specs.Sweeps.{Looks, Grabs, Yields, Halts}
-use Rattle.nv_core.specs.Deeds.{Deed, Loads, Takes, Gives, Places, Stops, Tends}
+use Rattle.nv_core.specs.Standing.{Standing}
+use Rattle.nv_core.specs.Deeds.{Deed, word_of, Loads, Takes, Gives, Places, Stops, Tends}
 use Rattle.nv_core.specs.Order.{Values, Work, MayStep, plain_reply, gathered}
 use Rattle.nv_table.specs.Sights.{Sight, pass_of, values_of}
 use Rattle.nv_table.specs.Acts.{AreDue, MayOpen, pass_worked, pass_before, values_before}
@@ -46,6 +47,14 @@ pub record IsDue (pass : PassState) (opens : Option FileCall) (deed : Deed) : Ty
   pub may : MayStep pass.sight.opened.sizes (values_before pass.sight works) (pass_before pass.sight opens works) deed
   pub staying : (pass_of pass.sight).left ≡ []
   pub holds : Holds pass opens deed works
+
+-- Such a step is made on a word of the mount, and finds its pass where the order of steps lets it stand.
+pub record Stands (pass : PassState) (opens : Option FileCall) (deed : Deed) (works : List Work) : Type 0 where
+  pub on : IsWord pass.sight.opened.sizes (word_of pass.sight.opened.sizes (pass_before pass.sight opens works) deed)
+  pub stands : Standing pass.sight.opened.sizes (pass_before pass.sight opens works)
+
+abbrev pub DueStepsStand : PassState → Type 0
+DueStepsStand pass = (opens : Option FileCall) (deed : Deed) (due : IsDue pass opens deed) → Stands pass opens deed due.works
 
 -- ---- a step of one of these kinds, by a call or by a cleaner
 

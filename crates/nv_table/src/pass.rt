@@ -8,7 +8,9 @@ ghost use Rattle.nv_table.specs.Opened.{mount_of, IsRunOf};
 ghost use Rattle.nv_table.specs.Passing.{KnowsTaken};
 ghost use Rattle.nv_table.specs.Sights.{slot_times};
 ghost use Rattle.nv_table.specs.Turned.{SameButTurned};
+ghost use Rattle.nv_table.specs.Turns.{DueStepsStand};
 
+use crate::laws::laws_of_the_core;
 use crate::{Slot, View};
 use atomic_table::Seat;
 use nv_pmem::Lines;
@@ -102,6 +104,14 @@ impl<L: Lines, B: Backing> Pass<L, B> {
     pub fn bare_is_still(&self)
         ensures { self.now.now ≡ [] → IsStill self.now }
     {
+        let _ = &self.number;
+    }
+
+    /// A law: a step that is due is made on a word of the mount, and finds the pass where the order of steps lets it stand.
+    pub fn due_steps_stand(&self)
+        ensures { DueStepsStand self.now }
+    {
+        laws_of_the_core();
         let _ = &self.number;
     }
 
