@@ -1,0 +1,134 @@
+-- Operations: which step of the core each is, on which word, and what it makes of that.
+use Rattle.std.specs.Prelude.{◌≡◌, ℕ, ◌+◌, ◌<◌, ◌^◌, Option, Some, None}
+use Rattle.nv_table.specs.declared.stepping.Moves.{Moves}
+use Rattle.nv_table.specs.declared.stepping.Moves.TheVariants.{Stays, Comes, ComesIfFree, Goes}
+use Rattle.nv_plain.specs.declared.call.FileCall.{FileCall}
+use Rattle.nv_plain.specs.declared.call.FileCall.TheVariants.{Read, Write, Sync}
+use Rattle.nv_table.specs.declared.stepping.Marks.{Marks}
+use Rattle.nv_table.specs.declared.stepping.Marks.TheVariants.{Nothing, Draws as DrawsNumbers, Places as TakesPlace, Stops as EndsCall}
+use Rattle.nv_core.specs.Words.{Sizes, Word as CoreWord, STOP, ORDER, HEAD, TAIL, HAND, SIZE, LENGTH, STORE, ENTRY, HINT, PAGE, CLEANUP, DIRTY}
+use Rattle.nv_core.specs.Deeds.{Deed, Loads, Takes, Gives, Places, Stops, Draws, Seizes, Pledges, Readies, Grows, Breaks, Holds, Returns, Turns, Hints, slot_of, ready_word}
+use Rattle.nv_core.specs.Passes.{Pass, file_of, at_of, len_of, page_count}
+use Rattle.nv_plain.specs.declared.call.Reply.{Reply}
+use Rattle.nv_table.specs.Sights.{Sight, pass_of, values_of}
+use Rattle.nv_table.specs.Turns.{reply_at}
+use Rattle.nv_table.specs.declared.acting.Change.{Change}
+use Rattle.nv_table.specs.declared.acting.Change.TheVariants.{Load as LoadsIt, Add, Subtract, Set, Exchange}
+use Rattle.nv_op.specs.declared.op.Word.{Word}
+use Rattle.nv_op.specs.declared.op.Word.TheVariants.{Stop as StopWord, Order, Head, Tail, Hand, Size, Length, Store, Entry, Hint as HintWord, Page, Cleanup, Dirty}
+use Rattle.nv_op.specs.declared.op.Asked.{Asked}
+use Rattle.nv_op.specs.declared.op.Asked.TheVariants.{Read as AsksRead, Write as AsksWrite, Sync as AsksSync}
+use Rattle.nv_op.specs.declared.op.Op.{Op}
+use Rattle.nv_op.specs.declared.op.Op.TheVariants.{Load, Take, Give, Place, Stop, Draw, Seize, Pledge, Ready, Grow, Break, Hold, Return, Turn, Hint}
+
+abbrev pub core_word : Word → CoreWord
+core_word StopWord = STOP
+core_word Order = ORDER
+core_word Head = HEAD
+core_word Tail = TAIL
+core_word Hand = HAND
+core_word (Size file) = SIZE file
+core_word (Length file) = LENGTH file
+core_word (Store file) = STORE file
+core_word (Entry slot) = ENTRY slot
+core_word (HintWord buffer) = HINT buffer
+core_word (Page page) = PAGE page
+core_word (Cleanup page) = CLEANUP page
+core_word (Dirty page) = DIRTY page
+
+-- the word that an operation is made on, and what it makes of it
+abbrev pub word_of_op : Sizes → Op → Word
+word_of_op sizes (Load word) = word
+word_of_op sizes (Take cell) = cell
+word_of_op sizes (Give cell) = cell
+word_of_op sizes Place = Order
+word_of_op sizes Stop = StopWord
+word_of_op sizes (Draw head count) = Head
+word_of_op sizes (Seize number) = Entry (slot_of sizes number)
+word_of_op sizes (Pledge page) = Dirty page
+word_of_op sizes (Ready number word) = Entry (slot_of sizes number)
+word_of_op sizes (Grow file length) = Length file
+word_of_op sizes (Break number) = Entry (slot_of sizes number)
+word_of_op sizes (Hold number) = Entry (slot_of sizes number)
+word_of_op sizes (Return number) = Entry (slot_of sizes number)
+word_of_op sizes (Turn page) = Hand
+word_of_op sizes (Hint buffer page) = HintWord buffer
+
+-- its sum is a number of 64 bits
+abbrev pub IsSmall : Op → Type 0
+IsSmall (Draw head count) = head + count < 2 ^ 64
+IsSmall op = Unit {0}
+
+-- what it says of the pass is so
+abbrev pub Fits : Sizes → Option FileCall → Pass → Op → Type 0
+Fits sizes opens pass (Draw head count) = (opens ≡ None) × (head ≡ pass.head) × (count ≡ page_count sizes pass.call)
+Fits sizes opens pass (Ready number word) = (opens ≡ None) × (word ≡ ready_word sizes pass number)
+Fits sizes opens pass (Grow file length) = (opens ≡ None) × (file ≡ file_of pass.call) × (length ≡ at_of pass.call + len_of pass.call)
+Fits sizes opens pass (Hold number) = opens ≡ None
+Fits sizes opens pass (Return number) = opens ≡ None
+Fits sizes opens pass op = Unit {0}
+
+abbrev pub change_of : Op → Change
+change_of (Load word) = LoadsIt
+change_of (Take cell) = Exchange 0 1
+change_of (Give cell) = Set 0
+change_of Place = Add 1
+change_of Stop = Set 1
+change_of (Draw head count) = Exchange head (head + count)
+change_of (Seize number) = Set 1
+change_of (Pledge page) = Add 1
+change_of (Ready number word) = Set word
+change_of (Grow file length) = Set length
+change_of (Break number) = Set 5
+change_of (Hold number) = Add 1
+change_of (Return number) = Subtract 1
+change_of (Turn page) = Add 1
+change_of (Hint buffer page) = Set page
+
+-- the call that a step begins, if it does
+abbrev pub call_of : Asked → FileCall
+call_of (AsksRead file at len) = Read file at len
+call_of (AsksWrite file at bytes) = Write file at bytes.now
+call_of (AsksSync file) = Sync file
+
+abbrev pub opened_by : Option Asked → Option FileCall
+opened_by (Some asked) = Some (call_of asked)
+opened_by None = None
+
+abbrev pub marks_for : Option Asked → Op → Marks
+marks_for (Some asked) op = Nothing
+marks_for None Place = TakesPlace
+marks_for None Stop = EndsCall
+marks_for None (Draw head count) = DrawsNumbers
+marks_for None op = Nothing
+
+abbrev pub moves_for : Op → (slot : Option ℕ) → Moves
+moves_for (Take cell) (Some slot) = ComesIfFree slot
+moves_for (Give cell) (Some slot) = Goes slot
+moves_for (Seize number) (Some slot) = Comes slot
+moves_for (Hold number) (Some slot) = Comes slot
+moves_for (Ready number word) (Some slot) = Goes slot
+moves_for (Break number) (Some slot) = Goes slot
+moves_for (Return number) (Some slot) = Goes slot
+moves_for op slot = Stays
+
+-- its deed, with the reply of a call that takes its place
+abbrev pub deed_at : Reply → Op → Deed
+deed_at reply (Load word) = Loads (core_word word)
+deed_at reply (Take cell) = Takes (core_word cell)
+deed_at reply (Give cell) = Gives (core_word cell)
+deed_at reply Place = Places reply
+deed_at reply Stop = Stops
+deed_at reply (Draw head count) = Draws
+deed_at reply (Seize number) = Seizes number
+deed_at reply (Pledge page) = Pledges page
+deed_at reply (Ready number word) = Readies number
+deed_at reply (Grow file length) = Grows
+deed_at reply (Break number) = Breaks number
+deed_at reply (Hold number) = Holds number
+deed_at reply (Return number) = Returns number
+deed_at reply (Turn page) = Turns page
+deed_at reply (Hint buffer page) = Hints buffer page
+
+abbrev pub deed_of : Sight → Op → Deed
+deed_of sight op = deed_at (reply_at sight.opened.sizes (values_of sight) (pass_of sight) (pass_of sight).stage) op

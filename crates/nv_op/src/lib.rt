@@ -1,0 +1,10 @@
+//! The steps of calls as operations: what a machine makes next is an [`Op`] on a [`Word`], and [`perform`] makes it, for all kinds with one contract. It is
+//! made where it is the next step by the core's table, and the pass goes on as the core says. So a machine has to say which operation comes next and
+//! where it stands after it, and no place of a word, no slot and no arithmetic of a word comes into what it proves.
+#![tactic(auto)]
+
+mod op;
+mod performing;
+
+pub use op::{Asked, Op, Word};
+pub use performing::{perform, perform_after};
