@@ -3,7 +3,7 @@ use Rattle.std.specs.Prelude.{◌≡◌, ℕ, ◌+◌, ◌++◌, true, false, Li
 use Rattle.nv_plain.specs.Faults.{Rose}
 use Rattle.nv_plain.specs.Files.{bytes_at}
 use Rattle.nv_core.specs.Words.{Sizes, Word, PAGE}
-use Rattle.nv_core.specs.Values.{Value, Reads, Failed, called, faults_of, is_valid, bytes_in, emptied, received, filled}
+use Rattle.nv_core.specs.Values.{Value, Reads, Failed, called, faults_of, is_valid, bytes_in, emptied, received, filled, patched}
 use Rattle.nv_core.specs.Deeds.{slot_of}
 use Rattle.nv_core.specs.FittingPieces.{PieceFits}
 use Rattle.nv_core.specs.Order.{Values}
@@ -39,6 +39,10 @@ IsCopied value at old new None = (is_valid value ≡ false) × (new ≡ old)
 -- a page's bytes are in its buffer, if it has one
 abbrev pub with_page : (page : ℕ) → List ℕ → Values → Values
 with_page page bytes kept = with_word kept (PAGE page) (filled bytes (kept (PAGE page)))
+
+-- a piece is laid over its buffer, where that counts
+abbrev pub with_patch : (page at : ℕ) → List ℕ → Values → Values
+with_patch page at bytes kept = with_word kept (PAGE page) (patched at bytes (kept (PAGE page)))
 
 -- the buffer of a victim, if it has one, is the page's where that lacks one, and doesn't count there
 abbrev pub robbed : (victim page : ℕ) → Values → Values

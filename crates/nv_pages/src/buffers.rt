@@ -1,14 +1,15 @@
 //! The buffers of pages in a pass's hands.
-ghost use Rattle.std.specs.Prelude.{◌≡◌, ◌≢◌, ◌<◌, ◌≤◌, length, Some};
+ghost use Rattle.std.specs.Prelude.{◌≡◌, ◌≢◌, ◌+◌, ◌<◌, ◌≤◌, length, Some};
 ghost use Rattle.nv_core.specs.Words.{PAGE, page_total};
-ghost use Rattle.nv_core.specs.Values.{Buffer, ABuffer, lacks_buffer as lacks, emptied, filled, received};
+ghost use Rattle.nv_core.specs.Values.{Buffer, ABuffer, lacks_buffer as lacks, emptied, filled, received, patched};
 ghost use Rattle.nv_core.specs.Passes.{IsOneOf};
 ghost use Rattle.nv_table.specs.Kept.{part_value, store_value, slot_value};
 ghost use Rattle.nv_table.specs.Sights.{slot_times};
 ghost use Rattle.nv_table.specs.States.{IsOf};
 ghost use Rattle.nv_pages.specs.Altered.{IsAltered};
-ghost use Rattle.nv_pages.specs.PageWork.{OfKept, IsCopied, page_slot, with_page, robbed};
+ghost use Rattle.nv_pages.specs.PageWork.{OfKept, IsCopied, page_slot, with_page, with_patch, robbed};
 
+use crate::entries::patch;
 use crate::slots::{put, slot_of_page};
 use nv_pmem::Lines;
 use nv_store::Backing;
@@ -47,6 +48,27 @@ fn fill<L: Lines, B: Backing>(held: &mut Slot<L, B>, bytes: &[u8])
         buffer.bytes.truncate(bytes.len());
         buffer.bytes.copy_from_slice(bytes);
         buffer.valid = true;
+    }
+}
+
+// Lays some bytes over a buffer, from an offset on, where it counts.
+fn lay_over(buffer: &mut PageBuffer, at: usize, bytes: &[u8])
+    requires { at + length bytes.now ≤ length buffer.old.bytes.items }
+    ensures { ABuffer (Some record { bytes = buffer.new.bytes.items; valid = buffer.new.valid }) ≡ patched at bytes.now (ABuffer (Some record { bytes = buffer.old.bytes.items; valid = buffer.old.valid })) }
+{
+    if buffer.valid {
+        patch(&mut buffer.bytes, at, bytes);
+    }
+}
+
+// Lays some bytes over the buffer of a slot, from an offset on, where it counts.
+fn lay<L: Lines, B: Backing>(held: &mut Slot<L, B>, at: usize, bytes: &[u8])
+    requires { (buffer : Buffer) → slot_value (part_value L.device L.history L.fault_count L.room) (store_value B.device B.history B.fault_count) held.old ≡ ABuffer (Some buffer) → at + length bytes.now ≤ length buffer.bytes }
+    ensures { slot_value (part_value L.device L.history L.fault_count L.room) (store_value B.device B.history B.fault_count) held.new
+        ≡ patched at bytes.now (slot_value (part_value L.device L.history L.fault_count L.room) (store_value B.device B.history B.fault_count) held.old) }
+{
+    if let Slot::Page(Some(buffer)) = held {
+        lay_over(buffer, at, bytes);
     }
 }
 
@@ -131,6 +153,26 @@ pub fn fill_page<L: Lines, B: Backing>(
     let slot = slot_of_page(board, page);
     let mut held = exchange(board, pass, slot, Slot::Away);
     fill(&mut held, bytes);
+    put(board, pass, slot, held);
+}
+
+/// Lays some bytes of a write over the buffer of a page, from an offset in it on, where it counts.
+pub fn patch_page<L: Lines, B: Backing>(
+    board: &Board<L, B>,
+    pass: &mut Pass<L, B>,
+    page: u64,
+    at: usize,
+    bytes: &[u8],
+)
+    requires board { IsOf board.now pass.old }
+    requires page { page < page_total board.now.opened.sizes }
+    requires carries { slot_times (page_slot board.now.opened.sizes page) pass.old.now ≡ 1 }
+    requires room { (buffer : Buffer) → IsOneOf pass.old.now (page_slot board.now.opened.sizes page, ABuffer (Some buffer)) → at + length bytes.now ≤ length buffer.bytes }
+    ensures { IsAltered (with_patch page at bytes.now) pass.old pass.new }
+{
+    let slot = slot_of_page(board, page);
+    let mut held = exchange(board, pass, slot, Slot::Away);
+    lay(&mut held, at, bytes);
     put(board, pass, slot, held);
 }
 

@@ -10,7 +10,7 @@ mod slots;
 mod stores;
 mod turns;
 
-pub use buffers::{copy_page, fill_page, lacks_buffer, move_buffer};
+pub use buffers::{copy_page, fill_page, lacks_buffer, move_buffer, patch_page};
 pub use entries::{Piece, patch, read_entry};
 pub use laws::commits_are_due;
 pub use search::{set_hint, turn_hand};
