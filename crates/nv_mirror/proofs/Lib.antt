@@ -1,0 +1,4 @@
+pub mod ControlLaws
+pub mod EndsLaws
+pub mod FsyncLaws
+pub mod WorkedLaws

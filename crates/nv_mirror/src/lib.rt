@@ -1,0 +1,7 @@
+//! Machines of calls that are the core's control state, run: each says which operation comes next and where it stands after it, by pure functions that are the
+//! core's order of steps, and one call of `perform` makes the step.
+#![tactic(auto)]
+
+mod fsync;
+
+pub use fsync::{FsyncMachine, FsyncStage};
