@@ -4,9 +4,9 @@ use Rattle.std.specs.Prelude.{Option, Some, None}
 use Rattle.nv_plain.specs.Histories.{Answered}
 use Rattle.nv_plain.specs.declared.call.FileCall.{FileCall}
 use Rattle.nv_core.specs.Core.{values_stepped}
-use Rattle.nv_core.specs.Deeds.{Deed}
-use Rattle.nv_core.specs.Order.{Values, next_step}
-use Rattle.nv_core.specs.Passes.{Pass}
+use Rattle.nv_core.specs.Deeds.{Deed, Places}
+use Rattle.nv_core.specs.Order.{Values, next_step, plain_reply}
+use Rattle.nv_core.specs.Passes.{Pass, Placing}
 use Rattle.nv_core.specs.Stepped.{stepped, left_after, mine_after}
 use Rattle.nv_core.specs.Content.{RunsKeepContent}
 use Rattle.nv_core.specs.Laws.{RunsAreSound}
@@ -23,7 +23,7 @@ use Rattle.nv_table.specs.Opened.{Opened, mount_of, state_of}
 use Rattle.nv_table.specs.Ready.{Stepped}
 use Rattle.nv_table.specs.Sights.{pass_of, values_of, carried, Carries}
 use Rattle.nv_table.specs.States.{PassState}
-use Rattle.nv_table.specs.Turns.{IsDue}
+use Rattle.nv_table.specs.Turns.{IsDue, reply_at}
 use Rattle.nv_table.proofs.CallLaws.{IsCallFree, stepped_there, later_by, later_on}
 use Rattle.nv_calls.specs.Steps.{refusal_in, refused_by, place_by, either_of}
 use Rattle.nv_calls.specs.declared.answers.Refusal.{Refusal}
@@ -86,9 +86,13 @@ module _ {State : Type 0} (mirror : Mirror State) (call : FileCall) (opens : Opt
       there : pass_of new.sight ≡ stepped now.sight.opened.sizes now.sight.number (state_of now.sight.opened step.steps.run).history deed found before
       there = stepped_there now new opens deed found free step
 
+-- a call that reads no page takes its place with the reply that its ask alone determines
+pub place_plainly : (now : PassState) → (pass_of now.sight).stage ≡ Placing → place_deed now.sight ≡ Places (plain_reply (pass_of now.sight).call)
+place_plainly now at = ap (λ s. Places (reply_at now.sight.opened.sizes (values_of now.sight) (pass_of now.sight) s)) at
+
 -- ---- what is told of the history
 
-told_same : (call : FileCall) (place : Option ℕ) (start now new : PassState) → (pass_of new.sight).seen ≡ (pass_of now.sight).seen → (pass_of new.sight).mine ≡ (pass_of now.sight).mine
+pub told_same : (call : FileCall) (place : Option ℕ) (start now new : PassState) → (pass_of new.sight).seen ≡ (pass_of now.sight).seen → (pass_of new.sight).mine ≡ (pass_of now.sight).mine
     → Told call place start now → Told call place start new
 told_same call None start now new seen mine told = record { seen = seen ∙ told.seen; mine = mine ∙ told.mine }
 told_same call (Some place) start now new seen mine told = (told.0, record { before = told.1.before; begins = told.1.begins; at = told.1.at; seen = seen ∙ told.1.seen; mine = mine ∙ told.1.mine; plain = told.1.plain })

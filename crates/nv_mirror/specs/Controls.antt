@@ -40,19 +40,18 @@ controls = record { of = control; with = with_control; whole = λ pass. refl }
 
 -- ---- of a write
 
--- HEAD and TAIL as it loaded them, and the numbers that it drew, too
+-- HEAD as it saw it last, and the numbers that it drew, too; TAIL decides at its load alone
 pub record Drawing : Type 0 where
   pub control : Control
   pub head : ℕ
-  pub tail : ℕ
   pub first : ℕ
   pub entries : ℕ
 
 abbrev pub drawing : Pass → Drawing
-drawing pass = record { control = control pass; head = pass.head; tail = pass.tail; first = pass.first; entries = pass.entries }
+drawing pass = record { control = control pass; head = pass.head; first = pass.first; entries = pass.entries }
 
 abbrev pub with_drawing : Drawing → Pass → Pass
-with_drawing is pass = record (with_control is.control pass) { head = is.head; tail = is.tail; first = is.first; entries = is.entries }
+with_drawing is pass = record (with_control is.control pass) { head = is.head; first = is.first; entries = is.entries }
 
 abbrev pub drawings : Mirror Drawing
 drawings = record { of = drawing; with = with_drawing; whole = λ pass. refl }

@@ -3,5 +3,7 @@
 #![tactic(auto)]
 
 mod fsync;
+mod write;
 
 pub use fsync::{FsyncMachine, FsyncStage};
+pub use write::{PageWrite, Unwritten, WriteStage};

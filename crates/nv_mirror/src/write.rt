@@ -1,0 +1,199 @@
+//! The back of a write of one page: HEAD, TAIL, the draw, its entry, its place, and what it gives back.
+ghost use Rattle.std.specs.Prelude.{◌≡◌, ℕ, None};
+ghost use Rattle.nv_op.specs.Ops.{deed_of};
+ghost use Rattle.nv_table.specs.Keys.{sizes_of};
+ghost use Rattle.nv_table.specs.Ready.{Stepped};
+ghost use Rattle.nv_table.specs.States.{IsOf, PassState};
+ghost use Rattle.nv_mirror.specs.Writes.{Fits, IsPlain, IsUnderWay, ending, leaving_at, noted, stage_then, write_op, write_after};
+
+use nv_core::{runs_are_sound, runs_keep_content};
+use nv_op::{Op, Word, perform};
+use nv_plain::history_goes_on;
+use nv_pmem::Lines;
+use nv_store::Backing;
+use nv_table::{Board, Layout, Pass};
+
+/// Where it stands: what its next step is, or what came of it.
+#[derive(Clone, Copy, Debug, PartialEq, Eq)]
+pub enum WriteStage {
+    Heads,
+    Tails,
+    Draws,
+    Seizes,
+    /// The device calls of its commit, and the page's DIRTY.
+    Pledges,
+    Readies,
+    Places,
+    Grows,
+    Releases,
+    Gives,
+    /// It is refused, and gives back what it holds, SIZE first.
+    Leaves { size: bool, why: Unwritten },
+    Over(Result<u64, Unwritten>),
+}
+
+/// Why it has no place.
+#[derive(Clone, Copy, Debug, PartialEq, Eq)]
+pub enum Unwritten {
+    /// HEAD was found so, and no number is left.
+    Spent { found: u64 },
+    /// TAIL was found so, and the log is full.
+    Again { head: u64, tail: u64 },
+    /// HEAD was found so by the draw: another write drew its number.
+    Raced { found: u64 },
+}
+
+/// A write of one page, from its load of HEAD on.
+#[derive(Clone, Copy, Debug, PartialEq, Eq)]
+pub struct PageWrite<'a> {
+    pub file: u64,
+    pub at: u64,
+    pub bytes: &'a [u8],
+    /// Where it ends in the file.
+    pub end: u64,
+    pub page: u64,
+    pub sized: bool,
+    pub length: u64,
+    /// HEAD as it loaded it, the number of its entry, and its place, once it has them.
+    pub head: u64,
+    pub number: u64,
+    pub place: u64,
+    pub stage: WriteStage,
+}
+
+impl<'a> PageWrite<'a> {
+    // The next step. The word of its entry, ready, says that it is the leader of one.
+    fn next(self, layout: Layout) -> Op
+        requires { Fits (sizes_of layout) self }
+        ensures { result ≡ write_op self.entry }
+    {
+        // Only the clause speaks of it.
+        let _ = layout;
+        match self.stage {
+            WriteStage::Heads => Op::Load { word: Word::Head },
+            WriteStage::Tails => Op::Load { word: Word::Tail },
+            WriteStage::Draws => Op::Draw {
+                head: self.head,
+                count: 1,
+            },
+            WriteStage::Seizes => Op::Seize {
+                number: self.number,
+            },
+            WriteStage::Pledges => Op::Pledge { page: self.page },
+            WriteStage::Readies => Op::Ready {
+                number: self.number,
+                word: 10 + 1024 * self.page,
+            },
+            WriteStage::Grows => Op::Grow {
+                file: self.file,
+                length: self.end,
+            },
+            WriteStage::Releases | WriteStage::Leaves { size: true, .. } => Op::Give {
+                cell: Word::Size { file: self.file },
+            },
+            WriteStage::Gives | WriteStage::Leaves { .. } => Op::Give {
+                cell: Word::Page { page: self.page },
+            },
+            _ => Op::Place,
+        }
+    }
+
+    // Where it stands after its place, or after it has grown.
+    fn ends(self) -> WriteStage
+        ensures { result ≡ ending self.entry }
+    {
+        if self.sized {
+            WriteStage::Releases
+        } else {
+            WriteStage::Gives
+        }
+    }
+
+    // And where it is refused.
+    fn leaves(self, why: Unwritten) -> WriteStage
+        ensures { result ≡ leaving_at self.entry why }
+    {
+        WriteStage::Leaves {
+            size: self.sized,
+            why,
+        }
+    }
+
+    // Where it stands after a step that found this.
+    fn stage_after(self, layout: Layout, found: u64) -> WriteStage
+        ensures { result ≡ stage_then (sizes_of layout) self.entry self.entry.stage found }
+    {
+        match self.stage {
+            WriteStage::Heads if found < 1 << 60 => WriteStage::Tails,
+            WriteStage::Heads => self.leaves(Unwritten::Spent { found }),
+            WriteStage::Tails if self.head.saturating_sub(found) < layout.entries => {
+                WriteStage::Draws
+            }
+            WriteStage::Tails => self.leaves(Unwritten::Again {
+                head: self.head,
+                tail: found,
+            }),
+            WriteStage::Draws if found == self.head => WriteStage::Seizes,
+            WriteStage::Draws => self.leaves(Unwritten::Raced { found }),
+            WriteStage::Seizes => WriteStage::Pledges,
+            WriteStage::Pledges => WriteStage::Readies,
+            WriteStage::Readies => WriteStage::Places,
+            WriteStage::Places if self.length < self.end => WriteStage::Grows,
+            WriteStage::Places | WriteStage::Grows => self.ends(),
+            WriteStage::Releases => WriteStage::Gives,
+            WriteStage::Gives => WriteStage::Over(Ok(self.place)),
+            WriteStage::Leaves { size: true, why } => WriteStage::Leaves { size: false, why },
+            WriteStage::Leaves { why, .. } => WriteStage::Over(Err(why)),
+            WriteStage::Over(_) => self.stage,
+        }
+    }
+
+    // What it notes of what was found.
+    fn noted(self, found: u64) -> PageWrite<'a>
+        ensures { result ≡ noted self.entry self.entry.stage found }
+    {
+        match self.stage {
+            WriteStage::Heads => PageWrite {
+                head: found,
+                ..self
+            },
+            WriteStage::Draws => PageWrite {
+                number: found,
+                ..self
+            },
+            WriteStage::Places => PageWrite {
+                place: found,
+                ..self
+            },
+            _ => self,
+        }
+    }
+
+    // What it is after the step.
+    fn after(self, layout: Layout, found: u64) -> PageWrite<'a>
+        ensures { result ≡ write_after (sizes_of layout) self.entry found }
+    {
+        PageWrite {
+            stage: self.stage_after(layout, found),
+            ..self.noted(found)
+        }
+    }
+
+    /// Makes the next step, where no device call comes before it.
+    pub fn advance<L: Lines, B: Backing>(&mut self, board: &Board<L, B>, pass: &mut Pass<L, B>)
+        requires board { IsOf board.now pass.old }
+        requires plain { IsPlain self.old.stage }
+        requires way { (start : PassState) × IsUnderWay self.old start pass.old }
+        ensures board { IsOf board.now pass.new }
+        ensures one { (found : ℕ) × Stepped pass.old None (deed_of pass.old.sight (write_op self.old)) found pass.new × (self.new ≡ write_after pass.old.sight.opened.sizes self.old found) }
+        ensures way { (start : PassState) → IsUnderWay self.old start pass.old → IsUnderWay self.new start pass.new }
+    {
+        runs_are_sound();
+        runs_keep_content();
+        history_goes_on();
+        pass.sees_a_run();
+        let layout = board.layout();
+        let found = perform(board, pass, None, self.next(layout));
+        *self = self.after(layout, found);
+    }
+}
