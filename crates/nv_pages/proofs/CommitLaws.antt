@@ -26,7 +26,7 @@ told_grown step [] = refl
 told_grown step (now ∷ past) = refl
 
 -- parts of a row have cells of their own
-cells_differ : (sizes : Sizes) (first i j count : ℕ) → i < count → j < count → count ≤ sizes.entries → i ≢ j → entry_cell sizes first i ≢ entry_cell sizes first j
+pub cells_differ : (sizes : Sizes) (first i j count : ℕ) → i < count → j < count → count ≤ sizes.entries → i ≢ j → entry_cell sizes first i ≢ entry_cell sizes first j
 cells_differ sizes first i j count low high few ne e = by (cases_order i j)
   where
     slots : (first + i) % sizes.entries ≡ (first + j) % sizes.entries

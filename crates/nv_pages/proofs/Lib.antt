@@ -1,4 +1,6 @@
 pub mod AlterLaws
 pub mod CommitLaws
+mod CommittingLaws
 pub mod EntryLaws
+mod LaidLaws
 pub mod StoreLaws

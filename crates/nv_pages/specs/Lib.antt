@@ -1,3 +1,4 @@
 pub mod Altered
 pub mod CommitCalls
+pub mod Commits
 pub mod PageWork

@@ -1,8 +1,9 @@
-//! What a pass does with the pages of a read: with the buffers, the store and the parts of entries that it carries, between two steps, and the steps by which
-//! it searches a buffer, and holds and returns an entry. None of these calls takes memory or waits.
+//! What a pass does with the pages of a call: with the buffers, the store and the parts of entries that it carries, between two steps, the device calls of a
+//! write's commit, and the steps by which it searches a buffer, and holds and returns an entry. None of these calls takes memory or waits.
 #![tactic(auto)]
 
 mod buffers;
+mod commits;
 mod entries;
 mod laws;
 mod search;
@@ -11,6 +12,7 @@ mod stores;
 mod turns;
 
 pub use buffers::{copy_page, fill_page, lacks_buffer, move_buffer, patch_page};
+pub use commits::commit_entries;
 pub use entries::{Piece, patch, read_entry};
 pub use laws::commits_are_due;
 pub use search::{set_hint, turn_hand};
