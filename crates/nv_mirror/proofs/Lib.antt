@@ -4,3 +4,6 @@ pub mod FsyncLaws
 pub mod WorkedLaws
 pub mod WriteLaws
 pub mod PledgeLaws
+pub mod FrontLaws
+pub mod RankLaws
+pub mod BehindLaws

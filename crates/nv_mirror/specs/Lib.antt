@@ -1,3 +1,4 @@
 pub mod Controls
+pub mod Fronts
 pub mod Fsyncs
 pub mod Writes

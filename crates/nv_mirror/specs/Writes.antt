@@ -2,10 +2,16 @@
 use Rattle.std.specs.Prelude.{◌≡◌, ℕ, ◌+◌, ◌-◌, ◌*◌, ◌<◌, ◌^◌, ◌==◌, nat_lt, Bool, true, false, if◌then◌else◌, List, [], ◌∷◌, length, Option, Some, None, Ok, Err}
 use Rattle.nv_plain.specs.declared.call.FileCall.{FileCall}
 use Rattle.nv_plain.specs.declared.call.FileCall.TheVariants.{Write}
-use Rattle.nv_core.specs.Deeds.{slot_of}
-use Rattle.nv_core.specs.Passes.{Stage, Idle, Heading, Tailing, Drawing as AtDraw, Seizing, Committing, Readying, Placing, Growing, Releasing, Giving, Leaving, first_page, page_count}
+use Rattle.nv_core.specs.Deeds.{slot_of, Pledges as PledgesIt}
+use Rattle.nv_core.specs.Order.{Work}
+use Rattle.nv_core.specs.Passes.{Stage, Idle, Heading, Tailing, Drawing as AtDraw, Seizing, Committing, Pledging, Readying, Placing, Growing, Releasing, Giving, Leaving, is_write, first_page, page_count}
 use Rattle.nv_core.specs.Words.{Sizes, Word, SIZE, PAGE, ENTRY}
+use Rattle.nv_table.specs.Acts.{AreDue, pass_worked, values_then}
+use Rattle.nv_table.specs.Ready.{Stepped}
+use Rattle.nv_table.specs.Sights.{Carries, pass_of, values_of, carried}
 use Rattle.nv_table.specs.States.{PassState}
+use Rattle.nv_table.specs.Turns.{IsDue}
+use Rattle.nv_calls.specs.Steps.{IsBetween}
 use Rattle.nv_calls.specs.Reads.{with_if}
 use Rattle.nv_op.specs.declared.op.Word.TheVariants.{Head, Tail, Size, Page}
 use Rattle.nv_op.specs.declared.op.Op.{Op}
@@ -15,6 +21,9 @@ use Rattle.nv_mirror.specs.declared.write.Unwritten.TheVariants.{Spent, Again, R
 use Rattle.nv_mirror.specs.declared.write.WriteStage.{WriteStage}
 use Rattle.nv_mirror.specs.declared.write.WriteStage.TheVariants.{Heads, Tails, Draws, Seizes, Pledges, Readies, Places, Grows, Releases, Gives, Leaves, Over}
 use Rattle.nv_mirror.specs.declared.write.PageWrite.{PageWrite}
+use Rattle.nv_mirror.specs.declared.front.FrontMachine.{FrontMachine}
+use Rattle.nv_mirror.specs.declared.front.FrontStage.TheVariants.{Passed}
+use Rattle.nv_mirror.specs.Fronts.{call_of as front_call, IsInCall as IsFront}
 use Rattle.nv_mirror.specs.Controls.{Drawing, drawings, InCall}
 
 abbrev pub call_of : PageWrite → FileCall
@@ -158,3 +167,32 @@ IsInCall m stage start now = (before : Before) × InCall drawings (call_of m) No
 
 abbrev pub IsUnderWay : PageWrite → (start now : PassState) → Type 0
 IsUnderWay m start now = Fits now.sight.opened.sizes m × IsInCall m m.stage start now
+
+-- It is the write whose front this was, of one page.
+pub record Behind (f : FrontMachine) (m : PageWrite) : Type 0 where
+  pub call : call_of m ≡ front_call f
+  pub write : is_write (front_call f) ≡ true
+  pub one : f.held ≡ 1
+  pub page : m.page ≡ f.first
+  pub sized : m.sized ≡ f.sized
+  pub length : m.length ≡ f.length
+
+-- Such a write goes on at HEAD where its front is over.
+abbrev pub GoesOnBehind : PageWrite → Type 0
+GoesOnBehind m = (f : FrontMachine) (start now : PassState) → Behind f m → IsFront f Passed start now → IsInCall m Heads start now
+
+-- ---- its commit
+
+-- The pledge of its page is due where the device calls of its commit have all come, what the pass carries shows what they leave, and the buffer of the page,
+-- if it counts, has the write's piece.
+abbrev pub PledgeIsDue : PageWrite → Type 0
+PledgeIsDue m = (start now before : PassState) → IsInCall m Pledges start now → IsBetween now before
+    → (works : List Work) → AreDue now.sight.opened.sizes (values_of now.sight) (pass_of now.sight) works
+    → (pass_worked now.sight.opened.sizes works (pass_of now.sight)).stage ≡ Pledging m.page
+    → Carries now.sight.opened.sizes (λ value. value) (values_then now.sight None (PledgesIt m.page) works) (carried (pass_of now.sight)) before.now
+    → IsDue before None (PledgesIt m.page)
+
+-- And the entry is made ready next.
+abbrev pub PledgeLeadsOn : PageWrite → Type 0
+PledgeLeadsOn m = (start now before new : PassState) (found : ℕ) → IsInCall m Pledges start now → IsBetween now before → Fits now.sight.opened.sizes m
+    → Stepped before None (PledgesIt m.page) found new → Fits new.sight.opened.sizes (record m { stage = Readies }) × IsInCall (record m { stage = Readies }) Readies start new

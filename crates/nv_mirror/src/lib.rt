@@ -2,8 +2,10 @@
 //! core's order of steps, and one call of `perform` makes the step.
 #![tactic(auto)]
 
+mod front;
 mod fsync;
 mod write;
 
+pub use front::{FrontMachine, FrontStage};
 pub use fsync::{FsyncMachine, FsyncStage};
 pub use write::{PageWrite, Unwritten, WriteStage};

@@ -4,7 +4,7 @@ ghost use Rattle.nv_op.specs.Ops.{deed_of};
 ghost use Rattle.nv_table.specs.Keys.{sizes_of};
 ghost use Rattle.nv_table.specs.Ready.{Stepped};
 ghost use Rattle.nv_table.specs.States.{IsOf, PassState};
-ghost use Rattle.nv_mirror.specs.Writes.{Fits, IsPlain, IsUnderWay, ending, leaving_at, noted, stage_then, write_op, write_after};
+ghost use Rattle.nv_mirror.specs.Writes.{GoesOnBehind, PledgeIsDue, PledgeLeadsOn, Fits, IsPlain, IsUnderWay, ending, leaving_at, noted, stage_then, write_op, write_after};
 
 use nv_core::{runs_are_sound, runs_keep_content};
 use nv_op::{Op, Word, perform};
@@ -62,6 +62,15 @@ pub struct PageWrite<'a> {
 }
 
 impl<'a> PageWrite<'a> {
+    /// Laws: it goes on where its front is over; the pledge of its page is due once the device calls of its commit have come, and then its entry is made ready.
+    pub fn goes_on(&self)
+        ensures behind { GoesOnBehind self.now }
+        ensures due { PledgeIsDue self.now }
+        ensures pledged { PledgeLeadsOn self.now }
+    {
+        let _ = self.page;
+    }
+
     // The next step. The word of its entry, ready, says that it is the leader of one.
     fn next(self, layout: Layout) -> Op
         requires { Fits (sizes_of layout) self }

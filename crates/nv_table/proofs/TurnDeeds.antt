@@ -10,7 +10,7 @@ use Rattle.nv_core.specs.Words.{Sizes, Word, STOP, ORDER, SIZE, STORE, PAGE, CLE
 use Rattle.nv_core.specs.Passes.{Stage, Pass, Cleaning}
 use Rattle.nv_core.specs.Sweeps.{Grabs}
 use Rattle.nv_core.specs.Deeds.{Deed, Takes, Tends, word_of, value_after}
-use Rattle.nv_core.specs.Order.{Work, MayStep}
+use Rattle.nv_core.specs.Order.{Work}
 use Rattle.nv_core.specs.StepKinds.{MayTake, MayByKind}
 use Rattle.nv_core.specs.Core.{Core, after_work, after_begin}
 use Rattle.nv_core.specs.Events.{MayAct, after}
