@@ -25,8 +25,3 @@ pub use machine::{Progress, SyncMachine, SyncStage};
 pub use read::{pread, try_pread};
 pub use reading::{Held, MOST_PAGE, ReadMachine, ReadStage};
 pub use sync::try_fsync;
-
-#[cfg(test)]
-mod read_tests;
-#[cfg(test)]
-mod tests;

@@ -9,7 +9,7 @@ use Rattle.nv_pmem.specs.Steps.{Fence}
 use Rattle.nv_entry.specs.Group.{group_steps}
 use Rattle.std.specs.List.{range_with_len}
 use Rattle.nv_store.specs.Store.{quiet_store}
-use Rattle.nv_core.specs.Words.{Sizes, place, STOP, ORDER, HEAD, TAIL, HAND, LENGTH, HEADER, STORE, ENTRY, HINT, PAGE, DIRTY}
+use Rattle.nv_core.specs.Words.{Sizes, place, STOP, ORDER, HEAD, TAIL, HAND, CLEANER, HEADER, SIZE, LENGTH, STORE, ENTRY, HINT, PAGE, CLEANUP, DIRTY}
 use Rattle.nv_core.specs.Spares.{Spares}
 use Rattle.nv_core.specs.Values.{Bare, APart, AStore, ABuffer, Writes, Reads, Ending, Made, Failed, is_valid, lacks_buffer}
 use Rattle.nv_core.specs.Deeds.{Loads, Takes, Gives, Places, Splits, Draws, Seizes, Pledges, Readies, Stops, Breaks, Turns, Hints}
@@ -280,6 +280,13 @@ pub record TriesAreWalked : Type 0 where
 -- the first page's lock is word 30
 abbrev pub FirstPageIsWord30 : Type 0
 FirstPageIsWord30 = place walk_sizes (PAGE 0) ≡ 30
+
+-- The words at opening, where number 5 comes next and the file has three bytes: HEAD and TAIL are 5, LENGTH is 3, the hints are 0 to 3, and all others 0.
+abbrev pub OpeningWordsByHand : Type 0
+OpeningWordsByHand =
+    map (opening record walk_mount { next = 5; lengths = λ file. 3 }).words
+    (STOP ∷ ORDER ∷ HEAD ∷ TAIL ∷ HAND ∷ CLEANER ∷ HEADER ∷ SIZE 0 ∷ LENGTH 0 ∷ STORE 0 ∷ ENTRY 0 ∷ ENTRY 15 ∷ HINT 0 ∷ HINT 1 ∷ HINT 2 ∷ HINT 3 ∷ PAGE 0 ∷ CLEANUP 63 ∷ DIRTY 63 ∷ [])
+    ≡ 0 ∷ 0 ∷ 5 ∷ 5 ∷ 0 ∷ 0 ∷ 0 ∷ 0 ∷ 3 ∷ 0 ∷ 0 ∷ 0 ∷ 0 ∷ 1 ∷ 2 ∷ 3 ∷ 0 ∷ 0 ∷ 0 ∷ []
 
 -- This is a mount from which runs begin.
 abbrev pub WalkBegins : Type 0

@@ -6,7 +6,7 @@ ghost use Rattle.nv_core.specs.GoingBack.{CallsHoldNothingBroken};
 ghost use Rattle.nv_core.specs.Lengths.{LengthsFollowTheHistory};
 ghost use Rattle.nv_core.specs.Never.{NoPlaceBeforeTheFence, NoPageBeforeThePlace, StoppedAfterAFault, NoLeaderBeforeAFollower, NoGrowthBeforeThePlace, NoTwoWritesOfAPage, NoStopWithoutAFault, NoSeizureOfAHeldEntry, NoHoldOfAnUnreadyEntry, NoEntryHeldTwice, NoOtherCleanup, NoVictimOfTheCall, NoDrawPastTheEnd, NoDirtyAboveTheLog, WritesInFlightAreApart, NoBreakBeforeStop, NoBrokenBeforeStop, NoBatchPastItsBound, GroupsArePassedByTheBound};
 ghost use Rattle.nv_core.specs.Spares.{SparesKeepSteps, SparesTell};
-ghost use Rattle.nv_core.specs.Walks.{WalkBegins, FirstPageIsWord30, ReadIsWalked, WriteIsWalked, FaultIsWalked, SearchIsWalked, TriesAreWalked};
+ghost use Rattle.nv_core.specs.Walks.{WalkBegins, FirstPageIsWord30, OpeningWordsByHand, ReadIsWalked, WriteIsWalked, FaultIsWalked, SearchIsWalked, TriesAreWalked};
 ghost use Rattle.nv_core.specs.Words.{PlacesDiffer};
 
 use nv_entry::groups_follow_steps;
@@ -82,13 +82,14 @@ pub fn words_have_places_of_their_own()
     ensures { PlacesDiffer }
 {}
 
-/// Three runs of one mount by hand, with the words after each event: a read whose page comes from the store; a write by
+/// The words of a mount at opening, and three runs of it by hand, with the words after each event: a read whose page comes from the store; a write by
 /// another pass, whole; and a write whose commit fails at its third device call, to the end of its giving back, while a read
 /// finds the page's lock held. And two of a mount with a longer file: a read of a page without a buffer, which takes that of
 /// another page; and another such read, whose first two tries end at a page of its own and at a page that is held.
 pub fn walks_are_runs()
     ensures mount { WalkBegins }
     ensures place { FirstPageIsWord30 }
+    ensures words { OpeningWordsByHand }
     ensures read { ReadIsWalked }
     ensures write { WriteIsWalked }
     ensures fault { FaultIsWalked }

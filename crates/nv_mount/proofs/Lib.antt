@@ -1,5 +1,4 @@
 mod AskLaws
-mod SplitLaws
 mod HistoryLaws
 mod OpenLaws
 mod ClosedFilesLaws

@@ -6,8 +6,3 @@ mod mount;
 
 pub use fds::{Fd, FdError, Fds, MAX_FDS};
 pub use mount::{Mount, OpenError, PassesOut, Unopened};
-
-#[cfg(test)]
-mod mount_tests;
-#[cfg(test)]
-mod tests;

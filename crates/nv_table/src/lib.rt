@@ -44,6 +44,3 @@ pub use turns::{
     take,
 };
 pub use view::View;
-
-#[cfg(test)]
-mod tests;

@@ -1,0 +1,85 @@
+//! Mounts that are opened and closed.
+ghost use Rattle.std.specs.Prelude.{◌≡◌, [], ◌∷◌, length, map, All, IfOk};
+ghost use Rattle.nv_plain.specs.Layouts.{version_1};
+ghost use Rattle.nv_pmem.specs.MemPart.{part_history, part_room};
+ghost use Rattle.nv_pmem.specs.Moments.{Tells};
+ghost use Rattle.nv_pmem.specs.Rows.{RowTells};
+ghost use Rattle.nv_store.specs.MemStore.{store_history};
+ghost use Rattle.nv_store.specs.Store.{IsQuiet};
+ghost use Rattle.nv_header.specs.Regions.{HasParts, IsBlankRow};
+ghost use Rattle.nv_table.specs.Sights.{newcomer};
+ghost use Rattle.nv_table.specs.States.{IsOf};
+
+use crate::given::{region, stores};
+use nv_header::Region;
+use nv_mount::{Fds, Mount, OpenError, PassesOut, Unopened};
+use nv_pmem::{Fuse, MemPart};
+use nv_store::{Backing, MemStore};
+use nv_table::{Pass, join_pass, split_pass};
+use std::alloc::Global;
+use std::test::Fail;
+
+// A mount over them, where the file may have 64 pages, with 4 buffers; and pass 0.
+fn opened(
+    alloc: Global,
+    region: Region<MemPart>,
+    stores: Vec<MemStore>,
+) -> Result<(Mount<MemPart, MemStore>, Pass<MemPart, MemStore>), Unopened<MemPart, MemStore>>
+    requires names { length region.names ≡ 1 }
+    requires one { length stores.items ≡ 1 }
+    requires quiet { All (λ store. Tells (store_history store) IsQuiet) stores.items }
+    ensures board { IfOk result (λ made. IsOf made.0.board made.1) }
+    ensures sight { IfOk result (λ made. made.1.sight ≡ newcomer made.0.board.opened) }
+    ensures nothing { IfOk result (λ made. made.1.now ≡ []) }
+{
+    Mount::open(alloc, region, stores, Fds::new(alloc), 64, 4)
+}
+
+#[test]
+fn a_mount_is_closed_once_all_passes_are_in(rt: HostRuntime) -> Result<(), Fail> {
+    let fuse = Fuse::new(rt.alloc(), &[])?;
+    let (region, stores) = (region(rt.alloc())?, stores(rt.alloc(), &[1, 2, 3], fuse)?);
+    let (mount, mut pass) = match opened(rt.alloc(), region, stores) {
+        Ok((mount, pass)) => (mount, pass),
+        Err(unopened) => return Err(unopened.error.into()),
+    };
+    let other = split_pass(rt.alloc(), mount.board(), &mut pass).expect(&rt, "there is memory");
+    pass.bare_is_still();
+    let (mount, mut pass) = match mount.close(pass) {
+        Ok(_closed) => panic!(rt; "a pass is out"),
+        Err((mount, pass, out)) => {
+            assert_eq!(rt; out, PassesOut { made: 1, joined: 0 });
+            (mount, pass)
+        }
+    };
+    other.bare_is_still();
+    join_pass(mount.board(), &mut pass, other);
+    pass.bare_is_still();
+    match mount.close(pass) {
+        Ok(closed) => {
+            assert_eq!(rt; closed.parts.len(), 17);
+            assert_eq!(rt; closed.stores.len(), 1);
+            assert_eq!(rt; closed.placed, 0);
+            assert_eq!(rt; closed.tail, 0);
+        }
+        Err(_failed) => panic!(rt; "no pass is out"),
+    }
+    Ok(())
+}
+
+#[test]
+fn a_store_that_fails_is_not_mounted(rt: HostRuntime) -> Result<(), Fail> {
+    let fuse = Fuse::new(rt.alloc(), &[1])?;
+    let (region, stores) = (region(rt.alloc())?, stores(rt.alloc(), &[1, 2, 3], fuse)?);
+    match opened(rt.alloc(), region, stores) {
+        Ok(_made) => panic!(rt; "the store fails"),
+        Err(mut unopened) => {
+            assert_eq!(rt; unopened.error, OpenError::StoreFault);
+            assert_eq!(rt; unopened.region.into_parts().len(), 17);
+            assert_eq!(rt; unopened.stores.len(), 1);
+            assert_eq!(rt; unopened.stores[0].faults(), 1);
+            assert_eq!(rt; unopened.stores[0].len(), Ok(3));
+        }
+    }
+    Ok(())
+}
