@@ -1,7 +1,7 @@
 //! The files that a recovery would leave.
 ghost use Rattle.std.specs.Prelude.{◌≡◌, ◌≢◌, ℕ, List, [], ◌∷◌, length, map, sum_by, Err, IfOk, OnOk};
 ghost use Rattle.nv_plain.specs.Layouts.{version_1};
-ghost use Rattle.nv_plain.specs.Recovered.{recovered};
+ghost use Rattle.nv_plain.specs.Recovered.{Fits, recovered};
 ghost use Rattle.nv_pmem.specs.Moments.{Tells};
 ghost use Rattle.nv_pmem.specs.RowStates.{AreNow};
 ghost use Rattle.nv_pmem.specs.Rows.{RowTells, AreOnlyRead, row_words};
@@ -43,6 +43,7 @@ pub fn dry_files<L: Lines, B: Backing>(
     ensures files { (was : List Store) → AreNow (map B.history stores.old) was
         → IfOk result (λ files. RowTells (map L.history parts.old) (λ told. files ≡ (recovered (row_words told) (files_of was)).files)) }
     ensures count { IfOk result (λ files. length files.contents ≡ length head.now.names) }
+    ensures fits { OnOk result (RowTells (map L.history parts.old) (λ told. Fits version_1 (row_words told))) }
     ensures bad { (number : ℕ) → result ≡ Err (error.BadEntry number)
         → RowTells (map L.history parts.old) (λ told. IsLeastBad version_1 (row_words told) number) }
     ensures read { AreOnlyRead L.history L.room L.device parts.old parts.new }
@@ -70,6 +71,7 @@ fn files_after<L: Lines>(
     ensures files { (was : List Store) → AreNow (map store_history copies.old) was
         → IfOk result (λ files. RowTells (map L.history parts.old) (λ told. files ≡ (recovered (row_words told) (files_of was)).files)) }
     ensures count { IfOk result (λ files. length files.contents ≡ length copies.old) }
+    ensures fits { OnOk result (RowTells (map L.history parts.old) (λ told. Fits version_1 (row_words told))) }
     ensures bad { (number : ℕ) → result ≡ Err (error.BadEntry number)
         → RowTells (map L.history parts.old) (λ told. IsLeastBad version_1 (row_words told) number) }
     ensures read { AreOnlyRead L.history L.room L.device parts.old parts.new }
@@ -93,6 +95,7 @@ fn replay<L: Lines>(
     requires synced { RowTells (map store_history copies.old) AreQuietStores }
     ensures files { OnOk result (AcrossTells (map L.history parts.old) (map store_history copies.old) (map store_history copies.new) HoldRecovered) }
     ensures tells { AllTell (map store_history copies.old) → AllTell (map store_history copies.new) }
+    ensures fits { OnOk result (RowTells (map L.history parts.old) (λ told. Fits version_1 (row_words told))) }
     ensures bad { (number : ℕ) → result ≡ Err (error.BadEntry number)
         → RowTells (map L.history parts.old) (λ told. IsLeastBad version_1 (row_words told) number) }
     ensures read { AreOnlyRead L.history L.room L.device parts.old parts.new }

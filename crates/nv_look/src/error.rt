@@ -1,6 +1,7 @@
 //! Why a region isn't shown.
 use nv_plain::NoMemory;
 use nv_pmem::RegionFault;
+use nv_recover::RecoverError;
 use std::alloc::{AllocError, AllocFailed};
 use thiserror::Error;
 
@@ -56,5 +57,19 @@ impl From<AllocError> for LookError {
 
     fn from(_: AllocError) -> Self {
         LookError::NoMemory
+    }
+}
+
+impl From<LookError> for RecoverError {
+    ghost use Rattle.std.specs.Prelude.{◌≡◌};
+    ghost use Rattle.nv_look.specs.Causes.{of_look};
+
+    ghost from_gives = { λ error e. e ≡ of_look error };
+
+    fn from(error: LookError) -> Self {
+        match error {
+            LookError::RegionFault => RecoverError::RegionFault,
+            LookError::NoMemory => RecoverError::NoMemory,
+        }
     }
 }

@@ -12,7 +12,7 @@ mod text;
 pub use dry::dry_files;
 pub use error::LookError;
 pub use listing::{Listing, Row, list_log};
-pub use looking::look;
+pub use looking::{look, look_files};
 pub use nv_recover::RecoverError;
 pub use showing::show;
 pub use text::Text;
