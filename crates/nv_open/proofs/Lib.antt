@@ -14,3 +14,4 @@ pub mod Sized
 pub mod AsHeld
 pub mod TestBenches
 pub mod Tells
+pub mod Looks

@@ -31,7 +31,7 @@ use Rattle.nv_open.specs.declared.error.Refusal.TheVariants.{BadEntry}
 use Rattle.nv_open.proofs.HeadLaws.{refused_is, head_told, long_told, some_part}
 
 -- an image of all parts has the header of the first
-whole_image : (told : List Part) → CanBeRead told → IsHead version_1 (length (header_part told)) (row_words told)
+pub whole_image : (told : List Part) → CanBeRead told → IsHead version_1 (length (header_part told)) (row_words told)
 whole_image told can = record {
   long_enough = can.long_enough;
   fields = can.fields;

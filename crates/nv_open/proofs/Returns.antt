@@ -105,7 +105,7 @@ names_of_header (BadName i) told is = refl
 names_of_header (BadEntry number) told is = absurd is
 names_of_header TooManyFiles told is = absurd is
 
-names_of_log : (why : Refusal) (told : List Part) → IsBadLog why → names_opened why told ≡ header_names told
+pub names_of_log : (why : Refusal) (told : List Part) → IsBadLog why → names_opened why told ≡ header_names told
 names_of_log (Truncated found wanted) told is = absurd is
 names_of_log BadMagic told is = absurd is
 names_of_log (BadVersion found) told is = absurd is

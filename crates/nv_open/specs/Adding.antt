@@ -1,5 +1,5 @@
 -- Adding: the names that a region gets beside its own.
-use Rattle.std.specs.Prelude.{◌≡◌, ◌≢◌, ℕ, ◌<◌, not, nat_eq, Bool, IsTrue, List, [], ◌++◌, length, filter, slice_index_or}
+use Rattle.std.specs.Prelude.{◌≢◌, ℕ, ◌<◌, not, nat_eq, Bool, IsTrue, List, [], ◌++◌, length, filter, slice_index_or}
 use Rattle.std.specs.List.{list_any}
 use lib.Pointwise.{pointwise}
 use Rattle.nv_plain.specs.Layouts.{Layout}

@@ -4,3 +4,4 @@ pub mod Causes
 pub mod Held
 pub mod Adding
 pub mod Begun
+pub mod Looking

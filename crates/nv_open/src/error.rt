@@ -1,5 +1,6 @@
 use nv_bench::BenchError;
 use nv_header::{AddError, HeadError, HeadField, Truncated};
+use nv_look::LookError;
 use nv_pmem::RegionFault;
 use nv_recover::RecoverError;
 use std::alloc::AllocError;
@@ -109,6 +110,20 @@ impl From<RecoverError> for OpenError {
             RecoverError::BadEntry { number } => OpenError::Refused(Refusal::BadEntry { number }),
             RecoverError::RegionFault | RecoverError::StoreFault => OpenError::Fault,
             RecoverError::NoMemory => OpenError::NoMemory,
+        }
+    }
+}
+
+impl From<LookError> for OpenError {
+    ghost use Rattle.std.specs.Prelude.{◌≡◌};
+    ghost use Rattle.nv_open.specs.Looking.{of_look};
+
+    ghost from_gives = { λ error e. e ≡ of_look error };
+
+    fn from(error: LookError) -> Self {
+        match error {
+            LookError::RegionFault => OpenError::Fault,
+            LookError::NoMemory => OpenError::NoMemory,
         }
     }
 }
