@@ -1,5 +1,5 @@
 -- A run over a log that a device may stop goes on by one call.
-use Rattle.std.proofs.Common.{◌≡◌, ◌⊎◌, ℕ, ◌+◌, ◌*◌, ◌^◌, ◌≤◌, ◌++◌, [], ◌∷◌, nat_lt, Bool, true, false, if◌then◌else◌, Bor, All, List, Option, map, length, None, Some, Ok, refl, sym, ap, subst, ◌∙◌, inl, inr, true≢false, arith}
+use Rattle.std.proofs.Common.{◌≡◌, ◌⊎◌, ℕ, ◌+◌, ◌*◌, ◌^◌, ◌≤◌, ◌++◌, [], ◌∷◌, nat_lt, Bool, true, false, if◌then◌else◌, Bor, All, List, Option, map, None, Some, Ok, refl, sym, ap, subst, ◌∙◌, inl, inr, true≢false, arith}
 use Rattle.std.proofs.lemmas.List.{map_push}
 use Rattle.std.proofs.lemmas.List.Elements.{All-nil, All-cons}
 use Rattle.nv_plain.specs.Faults.{Rose}

@@ -1,8 +1,7 @@
 -- What a command shows and why it is refused, from what its run does.
-use Rattle.std.proofs.Common.{◌≡◌, ◌++◌, ℕ, ◌≤◌, Bool, true, false, List, [], ◌∷◌, if◌then◌else◌, Option, Some, None, refl, sym, ap, subst, ◌∙◌}
+use Rattle.std.proofs.Common.{◌≡◌, ◌++◌, ℕ, ◌≤◌, Bool, true, false, List, [], ◌∷◌, if◌then◌else◌, Option, Some, None, refl, ap, subst, ◌∙◌}
 use Rattle.std.specs.Prelude.{All, IfSome, option_map}
 use Rattle.std.specs.List.Sorted.{IsStrictlyIncreasing}
-use Rattle.std.specs.Cmp.Lexicographic.{same_text}
 use Rattle.std.proofs.lemmas.List.{append-nil}
 use Rattle.std.proofs.lemmas.List.Elements.{All-nil, All-cons, All-head, All-tail}
 use Rattle.nv_bench.specs.Benches.{BenchState}
@@ -24,7 +23,7 @@ use Rattle.nv_top.specs.Headline.{IsRefused, IsShown, IsShownOf, IsUnwritten, co
 use Rattle.nv_top.specs.LogRuns.{lines_in}
 use Rattle.nv_top.specs.Words.{AreInLimits, command_of}
 use Rattle.nv_top.specs.declared.words.Command.{Command}
-use Rattle.nv_top.specs.declared.words.Command.TheVariants.{Run, Recover}
+use Rattle.nv_top.specs.declared.words.Command.TheVariants.{Run, Recover, Look}
 use Rattle.nv_top.specs.declared.words.RunOptions.{RunOptions}
 use Rattle.nv_top.proofs.CommandLemmas.{if_told, told_at}
 use Rattle.nv_top.proofs.RunLemmas.{lines_rise}
@@ -41,6 +40,7 @@ runs_on images (Run one) options is = by_test (may_stop images one.stop) refl is
       (ap Run same, subst May same may)
   by_test false may is = cc
 runs_on images Recover options is = cc
+runs_on images (Look files) options is = cc
 
 run_over : (images : Bool) (words : List (List ℕ)) (options : RunOptions) → command_over images words ≡ Some (Run options)
     → (command_of words ≡ Some (Run options)) × (may_stop images options.stop ≡ true)

@@ -18,6 +18,5 @@ pub mod RunLemmas
 pub mod StopLemmas
 pub mod StoppingLemmas
 pub mod TestBenches
-pub mod TextLemmas
 pub mod UnrefusedLemmas
 pub mod WordLemmas

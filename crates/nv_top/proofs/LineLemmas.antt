@@ -1,19 +1,18 @@
 -- The lines of a log's parts: no call changes how many there are.
-use Rattle.std.proofs.Common.{◌≡◌, ℕ, ◌<◌, ◌≤◌, false, List, [], ◌∷◌, All, length, take, drop, map, get_or, slice_index_or, zero, suc, refl, sym, ap, subst, ◌∙◌, arith}
+use Rattle.std.proofs.Common.{◌≡◌, ℕ, ◌<◌, ◌≤◌, List, [], ◌∷◌, length, take, map, slice_index_or, suc, refl, sym, ap, subst, ◌∙◌, arith}
 use Rattle.std.proofs.Math.Seq.{map-set_same}
 use Rattle.std.proofs.lemmas.List.{get_or-take, length-map, length-set, length-take}
-use Rattle.std.proofs.lemmas.Grind.{get_or_after_one}
 use Rattle.nv_plain.specs.Layouts.{version_1}
 use Rattle.nv_pmem.specs.Part.{Part, fenced}
 use Rattle.nv_pmem.specs.Room.{Room}
-use Rattle.nv_pmem.specs.RowStates.{AreNow, row_tells_from}
+use Rattle.nv_pmem.specs.RowStates.{row_tells_from}
 use Rattle.nv_pmem.specs.Rows.{DidSomeRow, RowStep, RowTells, row_grown}
 use Rattle.nv_pmem.specs.Runs.{grown, run}
 use Rattle.nv_pmem.specs.Steps.{History, Step, after_step}
 use Rattle.nv_pmem.specs.Steps.Step.{Store, Flush, Fence}
 use Rattle.nv_pmem.specs.Limits.{entry_lines}
 use Rattle.nv_pmem.specs.declared.geometry.Geometry.{Geometry}
-use Rattle.nv_header.specs.Needs.{HasLines, header_lines_in}
+use Rattle.nv_header.specs.Needs.{HasLines}
 use Rattle.nv_header.specs.Regions.{HasParts}
 use Rattle.nv_open.specs.Refusals.{rooms_of}
 use Rattle.nv_open.proofs.LineCounts.{has_lines_same, told_counts}

@@ -1,6 +1,5 @@
 -- The names of files have neither a space nor a line feed.
-use Rattle.std.proofs.Common.{◌≡◌, ◌⊎◌, ◌+◌, ◌<◌, ◌==◌, ◌&&◌, ◌||◌, ℕ, zero, suc, Bool, true, false, cond, List, [], ◌∷◌, not, nat_eq, nat_le, length, map, filter, get_or, slice_index, slice_index_or, refl, sym, ap, subst, ◌∙◌, arith, eq-eqb, true≢false}
-use Rattle.std.proofs.lemmas.List.{length-map, get_or-map}
+use Rattle.std.proofs.Common.{◌≡◌, ◌⊎◌, ◌+◌, ◌<◌, ◌==◌, ◌&&◌, ◌||◌, ℕ, zero, suc, Bool, true, false, cond, List, [], ◌∷◌, not, nat_eq, nat_le, length, filter, get_or, slice_index, refl, sym, ap, subst, ◌∙◌, arith, eq-eqb, true≢false}
 use Rattle.std.specs.Prelude.{All}
 use Rattle.std.specs.List.{list_all, list_any, position_or_len}
 use lib.Pointwise.{pointwise}

@@ -52,7 +52,8 @@ use Rattle.nv_top.proofs.FaithfulLemmas.{made_faithful}
 use Rattle.nv_top.proofs.FateLemmas.{one_state, recovers_as_fated}
 use Rattle.nv_top.proofs.HomeLemmas.{files_again}
 use Rattle.nv_top.proofs.NameLemmas.{names_plain}
-use Rattle.nv_top.proofs.RowLemmas.{length_now, present}
+use Rattle.nv_store.proofs.RowReads.{length_now}
+use Rattle.nv_top.proofs.RowLemmas.{present}
 use Rattle.nv_top.proofs.RunLemmas.{made_while}
 
 -- ---- what a bench may tell

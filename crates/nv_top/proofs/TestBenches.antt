@@ -1,11 +1,11 @@
 -- Benches in memory: quiet ones, and what a command leaves of one.
-use Rattle.std.proofs.Common.{◌≡◌, ◌⊎◌, inl, inr, ℕ, ◌+◌, ◌≤◌, false, refl, sym, ap, subst, [], ◌∙◌, arith}
+use Rattle.std.proofs.Common.{◌≡◌, ◌⊎◌, inl, inr, ℕ, ◌+◌, ◌≤◌, true, false, refl, sym, ap, subst, [], ◌∙◌, arith}
 use Rattle.std.specs.Prelude.{Option, Some, None, IfSome, Result, Ok, Err, OnOk, IfOk, option_map}
 use Rattle.std.proofs.lemmas.List.Elements.{All-nil}
 use Rattle.nv_pmem.specs.Laws.{BlankIsQuiet}
 use Rattle.nv_pmem.specs.declared.picker.Pick.{Pick}
 use Rattle.nv_store.specs.Store.{IsQuiet}
-use Rattle.nv_bench.specs.Benches.{BenchState}
+use Rattle.nv_bench.specs.Benches.{BenchState, with_faults}
 use Rattle.nv_bench.specs.Holding.{Holding, NamedStore, IsQuietHolding}
 use Rattle.nv_bench.specs.Laws.{PowerLeavesAnImage}
 use Rattle.nv_bench.specs.MemBench.{held_by, mem_state, mem_whole, new_state}
@@ -15,7 +15,7 @@ use Rattle.nv_top.specs.Commands.{IsGivenBack}
 use Rattle.nv_top.specs.Headline.{IsLeftAfter, IsLeftBy}
 use Rattle.nv_top.specs.Stopping.{IsPoweredBack}
 use Rattle.nv_top.specs.declared.words.Command.{Command}
-use Rattle.nv_top.specs.declared.words.Command.TheVariants.{Run, Recover}
+use Rattle.nv_top.specs.declared.words.Command.TheVariants.{Run, Recover, Look}
 
 pub on_ok_map : {T E : Type 0} (P Q : Type 0) (result : Result T E) → (P → Q) → OnOk result P → OnOk result Q
 on_ok_map P Q (Ok value) step has = step has
@@ -51,6 +51,9 @@ module _ (old new : BenchState) (closed : old.is_open ≡ false) (home : old.len
     arms = let same : new.arms ≡ old.arms = ap (λ (state : BenchState). state.arms) is in omega (arith, same);
   }
 
+  unchanged : new ≡ with_faults new.faults old → IsGivenBack old new
+  unchanged is = is ∙ ap (λ (told : Option Holding). record old { told = told; faults = new.faults }) (sym (ap (λ (state : BenchState). state.told) is))
+
   powered_back : (k : ℕ) → IsPoweredBack k old new → IsFree old new
   powered_back k is = record {
     closed = ap (λ (state : BenchState). state.is_open) is;
@@ -76,6 +79,8 @@ module _ (old new : BenchState) (closed : old.is_open ≡ false) (home : old.len
   left : (command : Command) → IsLeftBy command old new → IsFree old new
   left (Run options) is = left_after options.stop is
   left Recover is = given is
+  left (Look false) is = given (unchanged is)
+  left (Look true) is = given is.0
 
   pub is_free : {A B : Type 0} (command : Option Command) → ((one : Command) → command ≡ Some one → IsLeftBy one old new)
       → (command ≡ None → A × B × (new ≡ old)) → IsFree old new

@@ -1,6 +1,5 @@
 -- A log that power was lost of isn't refused: its header can be read, its lines are there, and its groups are whole.
-use Rattle.std.proofs.Common.{◌≡◌, ℕ, ◌≤◌, List, [], ◌∷◌, Option, Some, None, IfSome, option_map, length, map, refl, sym, ap, subst, ◌∙◌, inl, inr, arith}
-use Rattle.nv_plain.specs.Faults.{Rose}
+use Rattle.std.proofs.Common.{◌≡◌, ℕ, ◌≤◌, List, [], ◌∷◌, Option, Some, IfSome, option_map, length, map, refl, sym, ap, subst, ◌∙◌, inl, inr}
 use Rattle.nv_plain.specs.Images.{header_of}
 use Rattle.nv_plain.specs.Layouts.{version_1}
 use Rattle.nv_pmem.specs.Draws.{Draws}
@@ -8,7 +7,7 @@ use Rattle.nv_pmem.specs.Part.{Part}
 use Rattle.nv_pmem.specs.Picked.{picked}
 use Rattle.nv_pmem.specs.Room.{Room}
 use Rattle.nv_pmem.specs.RowStates.{AreNow, row_tells_at}
-use Rattle.nv_pmem.specs.Rows.{IsRowImage, row_words}
+use Rattle.nv_pmem.specs.Rows.{row_words}
 use Rattle.nv_pmem.specs.Steps as lines
 use Rattle.nv_pmem.specs.declared.picker.Pick.{Pick}
 use Rattle.nv_pmem.specs.Draws.{draws_of}

@@ -8,9 +8,9 @@ use Rattle.std.specs.List.{list_any}
 use Rattle.clap.specs.Kinds.{Kinds}
 use Rattle.clap.specs.Words.{App, Row, built, fault_of, first_of, is_simple, is_simple_and_free, matches_of}
 use Rattle.nv_pmem.specs.Limits.{IsEntryCount, IsPageSize}
-use Rattle.nv_top.specs.Words.{AreInLimits, command_of, if_lines, image_in, is_dashes, largest_number, number_in, number_or, options_in, page_in, run_app, run_in, stop_in, unless_refused}
+use Rattle.nv_top.specs.Words.{AreInLimits, command_of, if_lines, image_in, is_dashes, largest_number, look_in, number_in, number_or, options_in, page_in, run_app, run_in, stop_in, unless_refused}
 use Rattle.nv_top.specs.declared.words.Command.{Command}
-use Rattle.nv_top.specs.declared.words.Command.TheVariants.{Recover, Run}
+use Rattle.nv_top.specs.declared.words.Command.TheVariants.{Look, Recover, Run}
 use Rattle.nv_top.specs.declared.words.RunOptions.{RunOptions}
 use Rattle.nv_top.proofs.NumberLemmas.{number_between, option_between}
 
@@ -119,10 +119,21 @@ run_said false (first ∷ rest) found options is = cc
 run_said false [] None options is = cc
 run_said false [] (Some one) options is = cc
 
-is_run : (run recover : Bool) (said : Option Command) (options : RunOptions) → (if run then said else if recover then Some Recover else None) ≡ Some (Run options) → said ≡ Some (Run options)
-is_run true recover said options is = is
-is_run false true said options is = cc
-is_run false false said options is = cc
+looks_on : (asked : Bool) (options : RunOptions) → (if asked then Some (Look true) else None) ≡ Some (Run options) → ⊥
+looks_on true options is = cc
+looks_on false options is = cc
+
+-- a look is no run
+no_look : (words : List (List ℕ)) (options : RunOptions) → look_in words ≡ Some (Run options) → ⊥
+no_look [] options is = cc
+no_look (word ∷ rest) options is = looks_on (bytes_eq word (codes "--files") && length rest == 0) options is
+
+is_run : (run recover look : Bool) (said other : Option Command) (options : RunOptions) → (other ≡ Some (Run options) → ⊥)
+    → (if run then said else if recover then Some Recover else if look then other else None) ≡ Some (Run options) → said ≡ Some (Run options)
+is_run true recover look said other options none is = is
+is_run false true look said other options none is = cc
+is_run false false true said other options none is = absurd (none is)
+is_run false false false said other options none is = cc
 
 run_allowed : (words : List (List ℕ)) (options : RunOptions) → command_of words ≡ Some (Run options) → AreInLimits options × IfSome options.stop (λ k. 1 ≤ k)
 unfolding command_of
@@ -130,7 +141,7 @@ run_allowed [] options is = cc
 run_allowed (word ∷ words) options is =
     options_allowed (matches_of run_app (word ∷ words)) options
     (run_said (list_any is_dashes (word ∷ words)) (fault_of run_app (word ∷ words)) (options_in (matches_of run_app (word ∷ words))) options
-    (is_run (bytes_eq word (codes "run")) (bytes_eq word (codes "recover") && length words == 0) (run_in (word ∷ words)) options is))
+    (is_run (bytes_eq word (codes "run")) (bytes_eq word (codes "recover") && length words == 0) (bytes_eq word (codes "look")) (run_in (word ∷ words)) (look_in words) options (no_look words options) is))
 
 -- the sizes of a run are within their limits
 pub run_in_limits : (words : List (List ℕ)) (options : RunOptions) → command_of words ≡ Some (Run options) → AreInLimits options

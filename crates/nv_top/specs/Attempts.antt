@@ -1,5 +1,5 @@
 -- Attempts: what a call of a trace does over a log that a device may stop, and how far a run has come there.
-use Rattle.std.specs.Prelude.{◌≡◌, ℕ, ◌+◌, ◌≤◌, false, true, List, [], ◌∷◌, length, map, slice_index, All, None, Some, Result, Ok, Err}
+use Rattle.std.specs.Prelude.{◌≡◌, ℕ, ◌+◌, ◌≤◌, false, true, List, [], ◌∷◌, map, All, None, Some, Result, Ok, Err}
 use Rattle.nv_plain.specs.Faults.{Rose}
 use Rattle.nv_plain.specs.Files.{Files}
 use Rattle.nv_plain.specs.Layouts.{version_1}

@@ -1,17 +1,18 @@
 -- Commands: what each makes of a bench.
-use Rattle.std.specs.Prelude.{◌≡◌, ℕ, List, length, Option}
+use Rattle.std.specs.Prelude.{◌≡◌, ℕ, Bool, true, false, List, [], length, Option}
 use Rattle.nv_plain.specs.Layouts.{version_1}
 use Rattle.nv_plain.specs.Recovered.{Fits, recovered}
 use Rattle.nv_pmem.specs.Rows.{row_words}
 use Rattle.nv_pmem.specs.declared.geometry.Geometry.{Geometry}
-use Rattle.nv_bench.specs.Benches.{BenchState}
+use Rattle.nv_bench.specs.Benches.{BenchState, with_faults}
 use Rattle.nv_bench.specs.Holding.{Holding}
 use Rattle.nv_open.specs.Adding.{all_names}
 use Rattle.nv_open.specs.Begun.{IsBegun, IsNotOpened, files_with}
 use Rattle.nv_open.specs.declared.error.Refusal.{Refusal}
 use Rattle.nv_open.specs.Held.{files_named, header_names}
 use Rattle.nv_open.specs.Lending.{stores_named}
-use Rattle.nv_open.specs.Refusals.{AreLong, CanBeRead}
+use Rattle.nv_open.specs.Looking.{ShowsFiles, ShowsRegion, names_until, told_by}
+use Rattle.nv_open.specs.Refusals.{AreLong, CanBeRead, IsBadHeader, IsRefusedFor}
 use Rattle.nv_recover.specs.Standing.{files_of}
 use Rattle.nv_trace.specs.Traced.{Traced}
 use Rattle.nv_top.specs.Faithful.{Basis, IsFaithful, files_shown, named}
@@ -79,3 +80,21 @@ pub record HasRecovered (holding : Holding) (told : Option Holding) (text : List
   pub plain : HavePlainNames (recovery_of holding).files
   pub text_is : text ≡ recovery_text (recovery_of holding)
   pub left : Leaves (header_names holding.parts) (files_named holding.parts (header_names holding.parts) holding.stores) holding told
+
+-- ---- a look
+
+-- How a look leaves a bench: as it was, but for its count of faults. Where files were asked for, the stores that were opened for them
+-- stand behind the others, each as it was.
+abbrev pub IsLookedAt : (files : Bool) → (old new : BenchState) → Type 0
+IsLookedAt false old new = new ≡ with_faults new.faults old
+IsLookedAt true old new = IsGivenBack old new × ((count : ℕ) × (new.told ≡ told_by (names_until count) old.told))
+
+-- what it shows of a bench that held this: the region, and maybe the files that a recovery would leave
+abbrev pub HasLooked : (files : Bool) → Holding → (text : List ℕ) → Type 0
+HasLooked false holding text = ShowsRegion holding.parts [] text
+HasLooked true holding text = ShowsFiles holding.parts (files_named holding.parts (header_names holding.parts) holding.stores) text
+
+-- Why it is refused: for the header, or the lines that this says; where files were asked for, for what a recovery is.
+abbrev pub IsNotShown : (files : Bool) → Holding → (why : Refusal) → Type 0
+IsNotShown false holding why = IsRefusedFor holding.parts why × IsBadHeader why
+IsNotShown true holding why = IsRefusedFor holding.parts why

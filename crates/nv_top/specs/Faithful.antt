@@ -1,8 +1,7 @@
 -- Faithful reports: what a run begins with, and when a report of it is right.
-use Rattle.std.specs.Prelude.{◌≡◌, ℕ, ◌+◌, ◌*◌, ◌^◌, ◌<◌, ◌≤◌, ◌==◌, ◌&&◌, not, nat_eq, nat_lt, min, if◌then◌else◌, Bool, true, List, [], ◌++◌, length, map, filter, sum_by, fold, All, Option, Some, None, MatchOption, slice_index, slice_index_or, IsPermutation}
-use Rattle.std.specs.List.{position_or_len, zip}
+use Rattle.std.specs.Prelude.{◌≡◌, ℕ, ◌+◌, ◌*◌, ◌^◌, ◌<◌, ◌≤◌, ◌==◌, ◌&&◌, not, nat_lt, min, if◌then◌else◌, Bool, true, List, [], ◌++◌, length, map, filter, sum_by, fold, All, Option, Some, None, MatchOption, slice_index_or, IsPermutation}
+use Rattle.std.specs.List.{zip}
 use Rattle.std.specs.List.Sorted.{IsStrictlyIncreasing}
-use lib.Pointwise.{pointwise}
 use Rattle.nv_plain.specs.declared.call.FileCall.{FileCall}
 use Rattle.nv_plain.specs.declared.call.FileCall.TheVariants.{Read, Write, Sync}
 use Rattle.nv_plain.specs.Calls.{files_after}

@@ -1,5 +1,5 @@
 -- The top call: what each command makes of a bench, and what it shows.
-use Rattle.std.specs.Prelude.{◌≡◌, ◌⊎◌, ℕ, Bool, List, [], ◌∷◌, All, true, false, if◌then◌else◌, Option, Some, None, IfSome, max}
+use Rattle.std.specs.Prelude.{◌≡◌, ◌⊎◌, ℕ, Bool, List, true, if◌then◌else◌, Option, Some, None, IfSome, max}
 use Rattle.std.specs.Option.{option_and_then}
 use Rattle.nv_plain.specs.Faults.{Rose}
 use Rattle.nv_bench.specs.Benches.{BenchState}
@@ -11,12 +11,12 @@ use Rattle.nv_open.specs.declared.error.Refusal.TheVariants as refusals
 use Rattle.nv_trace.specs.Reading.{ending_of, Whole}
 use Rattle.nv_trace.specs.declared.trace.Form.TheVariants as forms
 use Rattle.nv_trace.specs.Traced.{Traced}
-use Rattle.nv_top.specs.Commands.{HasRecovered, HasRunOn, IsBasis, IsGivenBack, IsNotRun}
+use Rattle.nv_top.specs.Commands.{HasLooked, HasRecovered, HasRunOn, IsBasis, IsGivenBack, IsLookedAt, IsNotRun, IsNotShown}
 use Rattle.nv_top.specs.Faithful.{Basis}
 use Rattle.nv_top.specs.Stopping.{HasStoppedOn, IsPoweredBack}
 use Rattle.nv_top.specs.Words.{command_of}
 use Rattle.nv_top.specs.declared.words.Command.{Command}
-use Rattle.nv_top.specs.declared.words.Command.TheVariants.{Run, Recover}
+use Rattle.nv_top.specs.declared.words.Command.TheVariants.{Run, Recover, Look}
 use Rattle.nv_top.specs.declared.words.RunOptions.{RunOptions}
 
 -- a bench may stop a run, if it is to be stopped: only one whose devices can be armed and powered off does
@@ -28,6 +28,7 @@ may_stop images (Some k) = images
 abbrev pub possible : (images : Bool) → Command → Option Command
 possible images (Run options) = if may_stop images options.stop then Some (Run options) else None
 possible images Recover = Some Recover
+possible images (Look files) = Some (Look files)
 
 -- the command that words are over such a bench
 abbrev pub command_over : (images : Bool) → List (List ℕ) → Option Command
@@ -42,6 +43,7 @@ IsLeftAfter (Some k) old new = IsPoweredBack k old new ⊎ IsGivenBack old new
 abbrev pub IsLeftBy : Command → (old new : BenchState) → Type 0
 IsLeftBy (Run options) old new = IsLeftAfter options.stop old new
 IsLeftBy Recover old new = IsGivenBack old new
+IsLeftBy (Look files) old new = IsLookedAt files old new
 
 -- the count of faults that a fault's status stands above: that at entry, and that when power went off
 abbrev pub expected_faults : (old new : BenchState) → ℕ
@@ -63,6 +65,7 @@ abbrev pub IsShown : Command → (input : Option (List ℕ)) → (old new : Benc
 IsShown (Run options) input old new holding text =
     IfSome input (λ input. (trace : Traced) × (ending_of forms.Run input ≡ Whole trace) × IsShownOf options.stop options old new holding trace text)
 IsShown Recover input old new holding text = HasRecovered holding new.told text
+IsShown (Look files) input old new holding text = HasLooked files holding text
 
 -- A region that was refused is as it was, unless it was refused for its files.
 abbrev pub IsUnwritten : (old new : BenchState) → Refusal → Type 0
@@ -73,3 +76,4 @@ abbrev pub IsRefused : Command → (input : Option (List ℕ)) → (old new : Be
 IsRefused (Run options) input old new holding why =
     IfSome input (λ input. (trace : Traced) × (ending_of forms.Run input ≡ Whole trace) × IsNotRun options holding trace.names why × IsUnwritten old new why)
 IsRefused Recover input old new holding why = IsRefusedFor holding.parts why × IsUnwritten old new why
+IsRefused (Look files) input old new holding why = IsNotShown files holding why

@@ -1,5 +1,5 @@
 -- Words: which words are which command.
-use Rattle.std.specs.Prelude.{ℕ, ◌≤◌, ◌-◌, ◌^◌, ◌%◌, Bool, ◌&&◌, ◌==◌, fold, length, if◌then◌else◌, List, [], ◌∷◌, Option, Some, None, option_map, option_and_then, codes, true}
+use Rattle.std.specs.Prelude.{ℕ, ◌≤◌, ◌-◌, ◌^◌, ◌%◌, Bool, ◌&&◌, ◌==◌, fold, length, if◌then◌else◌, List, [], ◌∷◌, Option, Some, None, option_map, option_and_then, codes, true, false}
 use Rattle.std.specs.List.{list_any}
 use Rattle.std.specs.Str.{bytes_eq}
 use Rattle.std.specs.Str.Parse.{digits_value, without_leading_plus}
@@ -12,7 +12,7 @@ use Rattle.nv_pmem.specs.Limits.{IsEntryCount, IsPageSize}
 use Rattle.nv_pmem.specs.declared.picker.Pick.{Pick}
 use Rattle.nv_pmem.specs.declared.picker.Pick.TheVariants.{Old, New, Torn, Seed}
 use Rattle.nv_top.specs.declared.words.Command.{Command}
-use Rattle.nv_top.specs.declared.words.Command.TheVariants.{Run, Recover}
+use Rattle.nv_top.specs.declared.words.Command.TheVariants.{Run, Recover, Look}
 use Rattle.nv_top.specs.declared.words.RunOptions.{RunOptions}
 
 -- ---- the options of a run, as `clap` reads them
@@ -110,10 +110,16 @@ run_in words =
     if list_any is_dashes words then None
     else unless_refused (fault_of run_app words) (option_map Run (options_in (matches_of run_app words)))
 
--- the command that words are: `run` with its options, or `recover` alone
+-- the look that words ask for: with files by `--files` alone, and without by no word
+abbrev pub look_in : List (List ℕ) → Option Command
+look_in [] = Some (Look false)
+look_in (word ∷ rest) = if bytes_eq word (codes "--files") && length rest == 0 then Some (Look true) else None
+
+-- the command that words are: `run` or `look` with its options, or `recover` alone
 unfoldable pub command_of : List (List ℕ) → Option Command
 command_of [] = None
 command_of (first ∷ rest) =
     if bytes_eq first (codes "run") then run_in (first ∷ rest)
     else if bytes_eq first (codes "recover") && length rest == 0 then Some Recover
+    else if bytes_eq first (codes "look") then look_in rest
     else None

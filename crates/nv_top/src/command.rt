@@ -24,6 +24,7 @@ ghost use Rattle.nv_top.specs.declared.words.WordsError.TheVariants as words_err
 
 use crate::ending::{DONE, Stop, say, say_stop};
 use crate::gate::Gate;
+use crate::looking::look;
 use crate::names::copy_names;
 use crate::recovery::recover;
 use crate::run::run;
@@ -37,8 +38,9 @@ use std::alloc::Global;
 use std::sync::Wait;
 use std::thread::Threads;
 
-/// Follows a command over a bench: `run` reads a trace, makes its calls and writes the report, and `recover` recovers the region and
-/// writes what it found. `words` are the words behind the program's name. The result is the program's status.
+/// Follows a command over a bench: `run` reads a trace, makes its calls and writes the report, `recover` recovers the region and writes
+/// what it found, and `look` writes what the region holds and changes nothing. `words` are the words behind the program's name. The
+/// result is the program's status.
 pub fn nv_main<R: Threads + Wait + Sync, I: Source, O: Sink, B: Bench, G: Gate + Sync>(
     rt: &R,
     alloc: Global,
@@ -64,11 +66,13 @@ pub fn nv_main<R: Threads + Wait + Sync, I: Source, O: Sink, B: Bench, G: Gate +
     ensures command { command_over B.can_lose_power (map string_bytes words.now) ≡ None
         → ((result ≡ USAGE) ⊎ ((result ≡ NO_MEMORY) ⊎ (result ≡ WRITE_FAULT))) × (I.left src.new ≡ I.left src.old) × (B.state bench.new ≡ B.state bench.old) }
 
-    // The input of a run is a trace, or not; a recovery has none.
+    // The input of a run is a trace, or not; a recovery and a look have none.
     ensures bad_input { result ≡ BAD_INPUT → IfSome (I.left src.old) (λ input. ¬ (IsTrace input)) }
     ensures good_input { (options : _) → command_over B.can_lose_power (map string_bytes words.now) ≡ Some (commands.Run options)
         → result ≡ DONE → IfSome (I.left src.old) (λ input. IsTrace input × (I.left src.new ≡ Some [])) }
     ensures unread { command_over B.can_lose_power (map string_bytes words.now) ≡ Some commands.Recover → I.left src.new ≡ I.left src.old }
+    ensures unread_look { (files : _) → command_over B.can_lose_power (map string_bytes words.now) ≡ Some (commands.Look files)
+        → I.left src.new ≡ I.left src.old }
 
     // A fault of the outside is answered exactly where its count rose; that of the sink comes before all others. A stop's own faults,
     // until power goes off, are none.
@@ -145,6 +149,8 @@ fn report<I: Source, B: Bench>(
     ensures good_input { (options : _) → command_over B.can_lose_power (map string_bytes words.now) ≡ Some (commands.Run options)
         → OnOk result (IfSome (I.left src.old) (λ input. IsTrace input × (I.left src.new ≡ Some []))) }
     ensures unread { command_over B.can_lose_power (map string_bytes words.now) ≡ Some commands.Recover → I.left src.new ≡ I.left src.old }
+    ensures unread_look { (files : _) → command_over B.can_lose_power (map string_bytes words.now) ≡ Some (commands.Look files)
+        → I.left src.new ≡ I.left src.old }
     ensures region { (why : _) → result ≡ Err (stops.Region why)
         → (command : Command) → command_over B.can_lose_power (map string_bytes words.now) ≡ Some command
         → IfSome (B.state bench.old).told (λ holding.
@@ -159,6 +165,7 @@ fn report<I: Source, B: Bench>(
     match command {
         Command::Run(options) => run_input(alloc, src, bench, options),
         Command::Recover => recover(alloc, bench),
+        Command::Look { files } => look(alloc, bench, files),
     }
 }
 

@@ -10,6 +10,7 @@ mod fates;
 mod files;
 mod gate;
 mod laws;
+mod looking;
 mod names;
 mod outcome;
 mod recovery;

@@ -1,7 +1,7 @@
 ghost use Rattle.std.specs.Prelude.{◌≡◌, ◌≢◌, ◌&&◌, false, nat_le, [], Some, None, Err, IfOk, codes, map, string_bytes, option_map, if◌then◌else◌};
 ghost use Rattle.std.specs.List.{list_any};
 ghost use Rattle.clap.specs.Words.{app_of, fault_of, first_of, found_of, rows_of, matches_of as rows_in, rule_of, with_rule};
-ghost use Rattle.nv_top.specs.Words.{command_of, image_in, is_dashes, noworker_rule, number_in, number_or, option_rule, options_in, page_in, run_app, run_in, stop_in};
+ghost use Rattle.nv_top.specs.Words.{command_of, image_in, is_dashes, look_in, noworker_rule, number_in, number_or, option_rule, options_in, page_in, run_app, run_in, stop_in};
 ghost use Rattle.nv_top.specs.declared.words.WordsError.TheVariants.{Usage, NoMemory as NoRoom};
 
 use clap::error::ErrorKind;
@@ -19,6 +19,8 @@ pub(crate) enum Command {
     Run(RunOptions),
     /// A recovery.
     Recover,
+    /// A look at the region, and at the files that a recovery would leave.
+    Look { files: bool },
 }
 
 /// How a trace is run.
@@ -55,7 +57,7 @@ impl From<AllocError> for WordsError {
     }
 }
 
-/// The command that words are: `recover` alone, or `run` with its options.
+/// The command that words are: `recover` alone, or `run` or `look` with its options.
 #[tactic(auto, unfolding(crate::specs::Words::command_of))]
 pub(crate) fn parse_command(alloc: Global, words: &[String]) -> Result<Command, WordsError>
     ensures command { IfOk result (λ command. command_of (map string_bytes words.now) ≡ Some command) }
@@ -64,6 +66,7 @@ pub(crate) fn parse_command(alloc: Global, words: &[String]) -> Result<Command, 
     match words {
         [first, ..] if first.as_str() == "run" => parse_run(alloc, words),
         [only] if only.as_str() == "recover" => Ok(Command::Recover),
+        [first, options @ ..] if first.as_str() == "look" => parse_look(options),
         _ => Err(WordsError::Usage),
     }
 }
@@ -81,6 +84,18 @@ fn parse_run(alloc: Global, words: &[String]) -> Result<Command, WordsError>
     match options_of(&matches) {
         Some(options) => Ok(Command::Run(options)),
         None => Err(WordsError::Usage),
+    }
+}
+
+// The look that these words ask for: `--files` alone, or no word.
+fn parse_look(options: &[String]) -> Result<Command, WordsError>
+    ensures command { IfOk result (λ command. look_in (map string_bytes options.now) ≡ Some command) }
+    ensures usage { result ≡ Err Usage → look_in (map string_bytes options.now) ≡ None }
+{
+    match options {
+        [] => Ok(Command::Look { files: false }),
+        [only] if only.as_str() == "--files" => Ok(Command::Look { files: true }),
+        _ => Err(WordsError::Usage),
     }
 }
 

@@ -29,3 +29,11 @@ returns-in-Recover-clause-region g c why is command over =
     let With : Command → Type 0 = λ command. IfSome old.told (λ holding. IsRefused command left old new holding why) in
     subst With (same_some (sym (c.in_ok-command.ensures.command ∙ ap Some c.in-Recover.is) ∙ over))
     (recovery_refused left old new why (c.recover.ensures.refused why is) (c.recover.ensures.unwritten why is))
+
+pub returns-in-Look-clause-region : goal.returns-in-Look-clause-region
+returns-in-Look-clause-region g c why is command over =
+    let old = g.B.Bench.state c.args.bench.now in
+    let new = g.B.Bench.state c.look.new.bench in
+    let left = g.I.Source.left c.args.src.now in
+    let With : Command → Type 0 = λ command. IfSome old.told (λ holding. IsRefused command left old new holding why) in
+    subst With (same_some (sym (c.in_ok-command.ensures.command ∙ ap Some c.in-Look.is) ∙ over)) (c.look.ensures.refused why is)

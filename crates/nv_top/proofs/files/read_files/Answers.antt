@@ -4,7 +4,7 @@ use Rattle.std.proofs.lemmas.List.{length-map, get_or-map, take_more, take_all}
 use Rattle.nv_pmem.specs.RowStates.{IsNow, tells_at}
 use Rattle.nv_store.specs.Steps.{History}
 use Rattle.nv_store.specs.Store.{Store, quiet_store}
-use Rattle.nv_top.proofs.RowLemmas.{same_in_row, same_sum_in_row, now_at, length_now}
+use Rattle.nv_store.proofs.RowReads.{same_in_row, same_sum_in_row, now_at, length_now}
 use Rattle.nv_top.proofs.files.read_files.Goals as goal
 
 pub loop-store-preserved : goal.loop-store-preserved

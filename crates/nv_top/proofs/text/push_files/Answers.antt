@@ -3,7 +3,7 @@ use Rattle.std.proofs.lemmas.List.{drop_all, append-nil}
 use Rattle.nv_trace.specs.Report.{file_text}
 use Rattle.nv_top.specs.Faithful.{named}
 use Rattle.nv_top.specs.Reports.{file_lines}
-use Rattle.nv_top.proofs.TextLemmas.{drop-at, goes_on}
+use Rattle.nv_look.proofs.TextLemmas.{drop-at, goes_on}
 use Rattle.nv_top.proofs.text.push_files.Goals as goal
 
 shown : (names contents : List (List ℕ)) → List ℕ

@@ -3,7 +3,7 @@ use Rattle.std.proofs.lemmas.List.{drop_all, append-nil}
 use Rattle.nv_top.specs.Reports.{history_lines}
 use Rattle.nv_top.specs.Outcomes.{placed_call}
 use Rattle.nv_top.specs.declared.outcome.Placed.{Placed}
-use Rattle.nv_top.proofs.TextLemmas.{drop-at, goes_on}
+use Rattle.nv_look.proofs.TextLemmas.{drop-at, goes_on}
 use Rattle.nv_top.proofs.text.push_history.Goals as goal
 
 pub loop-place-preserved : goal.loop-place-preserved

@@ -3,7 +3,7 @@ use Rattle.std.proofs.lemmas.List.{drop_all, append-nil}
 use Rattle.nv_top.specs.Reports.{open_lines}
 use Rattle.nv_top.specs.Outcomes.{open_call}
 use Rattle.nv_top.specs.declared.outcome.Open.{Open}
-use Rattle.nv_top.proofs.TextLemmas.{drop-at, goes_on}
+use Rattle.nv_look.proofs.TextLemmas.{drop-at, goes_on}
 use Rattle.nv_top.proofs.text.push_open.Goals as goal
 
 pub loop-o-preserved : goal.loop-o-preserved

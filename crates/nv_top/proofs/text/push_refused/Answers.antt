@@ -3,7 +3,7 @@ use Rattle.std.proofs.lemmas.List.{drop_all, append-nil}
 use Rattle.nv_top.specs.Reports.{refused_lines}
 use Rattle.nv_top.specs.Outcomes.{refused_call}
 use Rattle.nv_top.specs.declared.outcome.Refused.{Refused}
-use Rattle.nv_top.proofs.TextLemmas.{drop-at, goes_on}
+use Rattle.nv_look.proofs.TextLemmas.{drop-at, goes_on}
 use Rattle.nv_top.proofs.text.push_refused.Goals as goal
 
 pub loop-r-preserved : goal.loop-r-preserved
