@@ -5,6 +5,7 @@ and where the disk, or something in the folder, is in its way.
 What stands in the way must end a run in `error device` or in a region that is refused, by no crash and in time; and what was
 answered before must be there once it is gone. A run that is killed at any moment must leave, after a recovery, a front of its
 writes, each whole: with the process gone the files hold all that was written, so a write that was answered may not be missing.
+What a look shows before must be what that recovery leaves, and the look must change nothing.
 Closes with 'N passed, M failed', and fails where one fails.
 
     folder.py PROGRAM                     all of this; what needs a user of more rights is named and left out
@@ -143,10 +144,30 @@ def taken_from(path, start):
 def region_of(folder):
     """What the files of the region hold, by their names."""
     found = {}
-    for name in sorted(os.listdir(folder + "/region")):
-        with open(f"{folder}/region/{name}", "rb") as file:
-            found[name] = file.read()
+    with contextlib.suppress(FileNotFoundError):
+        for name in sorted(os.listdir(folder + "/region")):
+            with open(f"{folder}/region/{name}", "rb") as file:
+                found[name] = file.read()
     return found
+
+
+def words_of(*words):
+    return b"".join(word.to_bytes(8, "little") for word in words)
+
+
+def lines_of(*lines):
+    """Lines of words, each with zeros behind it."""
+    return b"".join(words_of(*line).ljust(64, b"\0") for line in lines)
+
+
+def write_region(folder, page, tail, entries):
+    """A region of one file `a`, made by hand: each entry by its words and the first bytes of its page."""
+    os.makedirs(folder + "/region", exist_ok=True)
+    header = lines_of((int.from_bytes(b"NVCACHE1", "little"), 1, page, len(entries), 1), (tail,), (1, ord("a")))
+    parts = [header.ljust(18 * 64, b"\0")] + [lines_of(words) + data.ljust(page, b"\0") for words, data in entries]
+    for number, part in enumerate(parts):
+        with open(f"{folder}/region/part-{number}", "wb") as file:
+            file.write(part)
 
 
 def guarded(program, folder):
@@ -177,7 +198,7 @@ def guarded(program, folder):
 
 def remains(program, folder):
     """A header that is no region's: of some bytes a run leaves it, of zeros or of a header's fields without the magic it makes a region."""
-    fields = b"".join(word.to_bytes(8, "little") for word in (0, 1, 64, 16, 0, 0, 0, 0))
+    fields = lines_of((0, 1, 64, 16))
     os.mkdir(folder + "/region")
     for name, held, wanted in (
         ("bytes and no line", b"notes", DEVICE),
@@ -191,6 +212,33 @@ def remains(program, folder):
             file.write(held)
         yield name, call(program, [folder, *RUN], HELLO), wanted
         yield f"{name}, the file", wanted == (REPORT, 0) or region_of(folder) == {"part-0": held}, True
+
+
+def looks(program, folder):
+    """Regions made by hand: a look shows them and changes nothing, one with files refuses what a recovery does."""
+    yield "a look at nothing", call(program, [folder, "look"]), NO_HEADER
+    yield "a word too many", call(program, [folder, "look", "--files", ""]), USAGE
+    write_region(folder, 64, 5, [((0,), b""), ((6, 0, 0, 1, 1, 5), b"*")])
+    listed = b"region 1 64 2 1 5\nname 0 a\ngroup 5 1 0 0 1\n%send 1 0\n"
+    was = region_of(folder)
+    yield "a look", call(program, [folder, "look"]), (listed % b"", 0)
+    yield "a look with files", call(program, [folder, "look", "--files"]), (listed % b"file a 1 2a\n", 0)
+    yield "what was looked at", region_of(folder) == was, True
+    yield "its recovery", call(program, [folder, "recover"]), (b"recovered 5 6 1\nfile a 1 2a\n", 0)
+    emptied = b"region 1 64 2 1 6\nname 0 a\nend 0 0\n"
+    yield "a look behind it", call(program, [folder, "look"]), (emptied, 0)
+    write_region(folder, 64, 0, [((0,), b""), ((2, 0, 0, 1, 1, 1), b"x"), ((0,), b""), ((4, 0, 0, 0, 1, 3), b"y")])
+    listed = b"region 1 64 4 1 0\nname 0 a\nhole 0 1\ngroup 1 1 0 0 1\nhole 2 3\nbad 3\nend 1 1\n"
+    refused = (b"error region bad entry 3\n", 7)
+    was = region_of(folder)
+    for name, words, wanted in (
+        ("a look at", ["look"], (listed, 0)),
+        ("a look with files at", ["look", "--files"], refused),
+        ("a recovery of", ["recover"], refused),
+        ("another look at", ["look"], (listed, 0)),
+    ):
+        yield f"{name} a bad entry", call(program, [folder, *words]), wanted
+    yield "a region with a bad entry", region_of(folder) == was, True
 
 
 def rights(program, folder):
@@ -308,6 +356,12 @@ def wait_for_write(process, life, number):
             line = part.read(64)
 
 
+def files_in(report):
+    """Its status, and the lines of its files; all of it, where the region is refused."""
+    text, status = report
+    return status, text if status else [line for line in text.splitlines() if line.startswith(b"file ")]
+
+
 def killed(program, folder, writes=WRITES):
     """Runs of single bytes that are killed: each fifth at any moment, the others when some write is on its way to the log."""
     run = [*RUN, "--entries", str(writes)]
@@ -333,17 +387,25 @@ def killed(program, folder, writes=WRITES):
                 time.sleep(draws.random() * 0.001)
             process.kill()
             process.wait()
+            was = region_of(life)
+            looked, shown = call(program, [life, "look"]), call(program, [life, "look", "--files"])
+            yield "what was looked at", region_of(life) == was, True
             text, status = call(program, [life, "recover"])
+            yield "what a look showed", files_in(shown), files_in((text, status))
+            yield f"a look {looked!r}", looked[1] == status and looked[0].endswith(b" 0\n" if status == 0 else text), True
             left = left_by(text, status, writes)
             yield f"killed with {answered} writes answered: {text[:80]!r}, status {status}", left is not None and left >= answered, True
             fronts.append(left)
+            if status == 0:
+                text, status = call(program, [life, "look"])
+                yield f"a look behind the recovery: {text!r}", status == 0 and text.endswith(b"end 0 0\n"), True
             if left == -1:
                 yield "a region that the next run makes anew", call(program, [life, *run], trace)[1], 0
     print(f"killed runs of {writes} writes left {fronts} (-1: no region yet)")
 
 
 def main(program, option=None, writes=WRITES):
-    runs = [lives, refusals, obstacles, guarded, remains, rights, disks, full_disks, killed]
+    runs = [lives, refusals, obstacles, guarded, remains, looks, rights, disks, full_disks, killed]
     if option == "--killed":
         runs = [lambda program, folder: killed(program, folder, int(writes))]
     passed = failed = 0

@@ -16,6 +16,10 @@ pub(crate) const RUN: &[&str] = &["run", "--noworker"];
 
 pub(crate) const RECOVER: &[&str] = &["recover"];
 
+pub(crate) const LOOK: &[&str] = &["look"];
+
+pub(crate) const LOOK_AT_FILES: &[&str] = &["look", "--files"];
+
 pub(crate) fn strings(alloc: Global, words: &[&str]) -> Result<Vec<String>, Fail> {
     let mut strings = Vec::new(alloc);
     for word in words {
@@ -69,11 +73,10 @@ pub(crate) fn new_bench(alloc: Global, fails: &[u64]) -> Result<MemBench, NoMemo
 pub(crate) fn lose_power(bench: &mut MemBench, pick: Pick) -> Result<(), NoMemory>
     requires closed { (mem_state bench.old).is_open ≡ false }
     requires home { (mem_state bench.old).lent ≡ [] }
-    requires arms { (mem_state bench.old).arms ≤ 10 }
     ensures closed { OnOk result ((mem_state bench.new).is_open ≡ false) }
     ensures home { OnOk result ((mem_state bench.new).lent ≡ []) }
     ensures quiet { OnOk result (IfSome (mem_state bench.new).told IsQuietHolding) }
-    ensures arms { OnOk result ((mem_state bench.new).arms ≤ 10) }
+    ensures arms { OnOk result ((mem_state bench.new).arms ≡ (mem_state bench.old).arms) }
     ensures settled { OnOk result ((mem_state bench.new).settled ≤ (mem_state bench.new).faults) }
 {
     power_leaves_an_image();
