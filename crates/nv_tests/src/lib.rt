@@ -1,15 +1,6 @@
-//! Tests of the crates below by their public calls. It has no code of its own: a crate with tests is proved twice, and this one has
-//! nothing to prove but them.
+//! Tests of regions and logs by their public calls. As `nv_device_tests`, it has no code of its own.
 #![tactic(auto)]
 
-#[cfg(test)]
-mod benches;
-#[cfg(test)]
-mod file_parts;
-#[cfg(test)]
-mod file_stores;
-#[cfg(test)]
-mod folders;
 #[cfg(test)]
 mod headers;
 #[cfg(test)]
@@ -17,16 +8,6 @@ mod logs;
 #[cfg(test)]
 mod openings;
 #[cfg(test)]
-mod parts;
-#[cfg(test)]
-mod plain_files;
-#[cfg(test)]
-mod reading;
-#[cfg(test)]
 mod recoveries;
 #[cfg(test)]
 mod regions;
-#[cfg(test)]
-mod stores;
-#[cfg(test)]
-mod writing;

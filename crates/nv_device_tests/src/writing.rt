@@ -130,9 +130,8 @@ fn source_whose_second_read_fails(rt: HostRuntime) -> Result<(), Fail> {
         (Ok(0), 1, b"____"),
     ] {
         let mut buf = *b"____";
-        assert_eq!(rt; source.read(&mut buf), count);
-        assert_eq!(rt; source.faults(), faults);
-        assert_eq!(rt; buf.as_slice(), want.as_slice());
+        let read = source.read(&mut buf);
+        assert_eq!(rt; (read, source.faults(), &buf), (count, faults, want));
     }
     Ok(())
 }
@@ -140,20 +139,24 @@ fn source_whose_second_read_fails(rt: HostRuntime) -> Result<(), Fail> {
 #[test]
 fn sink_without_enough_room(rt: HostRuntime) -> Result<(), Fail> {
     let mut sink = MemSink::new(rt.alloc(), 3, &[])?;
-    assert_eq!(rt; write_all(&mut sink, b"hello"), Err(Failed));
-    assert_eq!(rt; sink.bytes(), b"hel".as_slice());
-    assert_eq!(rt; sink.faults(), 1);
+    let written = write_all(&mut sink, b"hello");
+    assert_eq!(rt;
+        (written, sink.bytes(), sink.faults()),
+        (Err(Failed), b"hel".as_slice(), 1)
+    );
     Ok(())
 }
 
 #[test]
 fn sink_whose_first_write_fails(rt: HostRuntime) -> Result<(), Fail> {
     let mut sink = MemSink::new(rt.alloc(), 9, &[1])?;
-    assert_eq!(rt; write_all(&mut sink, b"hello"), Err(Failed));
-    assert!(rt; sink.bytes().is_empty());
-    assert_eq!(rt; write_all(&mut sink, b"hello"), Ok(()));
-    assert_eq!(rt; sink.bytes(), b"hello".as_slice());
-    assert_eq!(rt; sink.faults(), 1);
+    let failed = write_all(&mut sink, b"hello");
+    let is_empty = sink.bytes().is_empty();
+    let written = write_all(&mut sink, b"hello");
+    assert_eq!(rt;
+        ((failed, is_empty), written, sink.bytes(), sink.faults()),
+        ((Err(Failed), true), Ok(()), b"hello".as_slice(), 1)
+    );
     Ok(())
 }
 
@@ -161,15 +164,16 @@ fn sink_whose_first_write_fails(rt: HostRuntime) -> Result<(), Fail> {
 fn real_streams(rt: HostRuntime) -> Result<(), Fail> {
     let mut buf = *b"________";
     let mut source = ReaderSource::new(b"hello".as_slice());
-    assert_eq!(rt; source.read(&mut buf), Ok(5));
-    assert_eq!(rt; buf.as_slice(), b"hello___".as_slice());
-    assert_eq!(rt; source.faults(), 0);
+    let read = source.read(&mut buf);
+    assert_eq!(rt; (read, &buf, source.faults()), (Ok(5), b"hello___", 0));
 
     let mut written = Vec::new(rt.alloc());
     let mut sink = WriterSink::new(&mut written);
-    assert_eq!(rt; write_all(&mut sink, b"hello"), Ok(()));
-    assert_eq!(rt; sink.faults(), 0);
-    assert_eq!(rt; written.as_slice(), b"hello".as_slice());
+    let done = (write_all(&mut sink, b"hello"), sink.faults());
+    assert_eq!(rt;
+        (done, written.as_slice()),
+        ((Ok(()), 0), b"hello".as_slice())
+    );
     Ok(())
 }
 
@@ -198,12 +202,12 @@ impl Write for Broken {
 #[test]
 fn broken_streams(rt: HostRuntime) {
     let mut source = ReaderSource::new(Broken { room: 0 });
-    assert_eq!(rt; source.read(&mut [0; 4]), Err(Failed));
-    assert_eq!(rt; source.faults(), 1);
+    let read = source.read(&mut [0; 4]);
+    assert_eq!(rt; (read, source.faults()), (Err(Failed), 1));
     for room in [0, 4] {
         let mut sink = WriterSink::new(Broken { room });
-        assert_eq!(rt; write_all(&mut sink, b"hello"), Err(Failed));
-        assert_eq!(rt; sink.faults(), 1);
+        let written = write_all(&mut sink, b"hello");
+        assert_eq!(rt; (written, sink.faults()), (Err(Failed), 1));
     }
 }
 
@@ -254,11 +258,9 @@ fn interrupted_streams(rt: HostRuntime) {
         taken: 0,
     };
     let mut source = ReaderSource::new(calls());
-    assert_eq!(rt; source.read(&mut [0; 4]), Ok(1));
-    assert_eq!(rt; source.faults(), 0);
+    let read = (source.read(&mut [0; 4]), source.faults());
     let mut stream = calls();
     let mut sink = WriterSink::new(&mut stream);
-    assert_eq!(rt; write_all(&mut sink, b"hello"), Ok(()));
-    assert_eq!(rt; sink.faults(), 0);
-    assert_eq!(rt; stream.taken, 5);
+    let written = (write_all(&mut sink, b"hello"), sink.faults());
+    assert_eq!(rt; (read, written, stream.taken), ((Ok(1), 0), (Ok(()), 0), 5));
 }

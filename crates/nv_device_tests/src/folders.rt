@@ -148,15 +148,15 @@ fn what_was_given_back_is_there_again(rt: HostRuntime) -> Result<(), Fail> {
     };
     fresh_folder(&rt, "nv_bench_kept")?;
     let mut bench = FolderBench::new(rt, rt.alloc(), "nv_bench_kept")?;
-    assert!(rt; may_cross_threads(&bench));
     fill(rt.alloc(), &mut bench, small)?;
-    assert_eq!(rt; bench.faults(), 0);
+    let filled = (may_cross_threads(&bench), bench.faults());
     let mut bench = FolderBench::new(rt, rt.alloc(), "nv_bench_kept")?;
+    let sizes = sizes(rt.alloc(), &mut bench, Some(large))?;
+    let found = found(rt.alloc(), &mut bench)?;
     assert_eq!(rt;
-        sizes(rt.alloc(), &mut bench, Some(large))?,
-        (3, [18, 2, 2, 0])
+        (filled, sizes, found),
+        ((true, 0), (3, [18, 2, 2, 0]), (9, 2, [0, 7, 5]))
     );
-    assert_eq!(rt; found(rt.alloc(), &mut bench)?, (9, 2, [0, 7, 5]));
     fs::remove_dir_all(&rt, "nv_bench_kept")?;
     Ok(())
 }
@@ -167,15 +167,13 @@ fn one_bench_at_a_time_has_the_region(rt: HostRuntime) -> Result<(), Fail> {
     let mut one = FolderBench::new(rt, rt.alloc(), "nv_bench_shared")?;
     let mut other = FolderBench::new(rt, rt.alloc(), "nv_bench_shared")?;
     let parts = open(&mut one, None)?;
-    assert_eq!(rt;
-        sizes(rt.alloc(), &mut other, None),
-        Err(BenchError::Failed)
-    );
-    assert_eq!(rt; other.faults(), 1);
+    let refused = (sizes(rt.alloc(), &mut other, None), other.faults());
     close(&mut one, parts, Vec::new(rt.alloc()));
-    assert_eq!(rt; sizes(rt.alloc(), &mut other, None), Ok((0, [0; 4])));
-    assert_eq!(rt; other.faults(), 1);
-    assert_eq!(rt; one.faults(), 0);
+    let opened = (sizes(rt.alloc(), &mut other, None), other.faults());
+    assert_eq!(rt;
+        (refused, opened, one.faults()),
+        ((Err(BenchError::Failed), 1), (Ok((0, [0; 4])), 1), 0)
+    );
     fs::remove_dir_all(&rt, "nv_bench_shared")?;
     Ok(())
 }
@@ -186,25 +184,22 @@ fn what_the_host_refuses_is_counted(rt: HostRuntime) -> Result<(), Fail> {
     fs::write(&rt, "nv_bench_bad/file", b"x".as_slice())?;
     for folder in ["nv_bench_bad/absent", "nv_bench_bad/file", ""] {
         let mut bench = FolderBench::new(rt, rt.alloc(), folder)?;
+        let opened = sizes(rt.alloc(), &mut bench, None);
         assert_eq!(rt;
-            sizes(rt.alloc(), &mut bench, None),
-            Err(BenchError::Failed),
+            (opened, bench.faults()),
+            (Err(BenchError::Failed), 1),
             "at {folder}"
         );
-        assert_eq!(rt; bench.faults(), 1, "at {folder}");
     }
     let mut bench = FolderBench::new(rt, rt.alloc(), "nv_bench_bad")?;
     let parts = open(&mut bench, None)?;
     fs::create_dir(&rt, "nv_bench_bad/files/b")?;
     assert_eq!(rt; bench.open_store("b").err(), Some(BenchError::Failed));
-    assert_eq!(rt; bench.faults(), 1);
+    let unopened = bench.faults();
     close(&mut bench, parts, Vec::new(rt.alloc()));
     symlink(&rt, "nowhere", "nv_bench_bad/region/part-0")?;
-    assert_eq!(rt;
-        sizes(rt.alloc(), &mut bench, None),
-        Err(BenchError::Failed)
-    );
-    assert_eq!(rt; bench.faults(), 2);
+    let region = (sizes(rt.alloc(), &mut bench, None), bench.faults());
+    assert_eq!(rt; (unopened, region), (1, (Err(BenchError::Failed), 2)));
     fs::remove_dir_all(&rt, "nv_bench_bad")?;
     Ok(())
 }

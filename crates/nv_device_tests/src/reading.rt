@@ -93,18 +93,19 @@ fn assert_third(rt: &impl Abort, alloc: Global, line: &[u8], why: Why) -> Result
 }
 
 fn assert_two_calls(rt: &impl Abort, trace: &Trace) {
-    assert_eq!(rt; trace.names().len(), 1);
-    assert_eq!(rt; trace.names()[0].as_slice(), b"a".as_slice());
-    assert_eq!(rt; trace.descriptors().len(), 1);
-    assert!(rt; trace.descriptors()[0].file == 0 && trace.descriptors()[0].mode == Mode::Rw);
-    assert_eq!(rt; trace.calls().len(), 2);
-    let write = &trace.calls()[0];
-    assert!(rt; write.line == 3 && write.thread == 0);
+    let ([name], [descriptor], [write, read]) = (trace.names(), trace.descriptors(), trace.calls())
+    else {
+        panic!(rt; "one name, one descriptor and two calls are wanted");
+    };
+    assert_eq!(rt; name.as_slice(), b"a".as_slice());
+    assert!(rt; descriptor.file == 0 && descriptor.mode == Mode::Rw);
+    assert_eq!(rt;
+        ((write.line, write.thread), (read.line, read.thread)),
+        ((3, 0), (4, 0))
+    );
     assert!(rt;
         matches!(&write.call, TraceCall::Pwrite { fd: 0, at: 0, bytes } if bytes.as_slice() == b"hello".as_slice())
     );
-    let read = &trace.calls()[1];
-    assert!(rt; read.line == 4 && read.thread == 0);
     assert!(rt;
         matches!(
             &read.call,

@@ -97,14 +97,21 @@ fn bytes(stores: &mut [MemStore], store: usize) -> Option<(u64, [u8; 4])> {
 #[test]
 fn what_the_bytes_say_is_there(rt: HostRuntime) -> Result<(), Fail> {
     let mut bench = MemBench::of(rt.alloc(), &[], &[("a", &[1, 2]), ("b", &[3])], &[])?;
-    assert!(rt; may_cross_threads(&bench));
+    let crosses = may_cross_threads(&bench);
     let parts = open(&mut bench, None)?;
-    assert_eq!(rt; parts.len(), 0);
+    let count = parts.len();
     let mut stores = open_stores(rt.alloc(), &mut bench)?;
-    assert_eq!(rt; bytes(&mut stores, 0), Some((1, [3, 0, 0, 0])));
-    assert_eq!(rt; bytes(&mut stores, 1), Some((2, [1, 2, 0, 0])));
+    let found = [bytes(&mut stores, 0), bytes(&mut stores, 1)];
     close(&mut bench, parts, stores);
-    assert_eq!(rt; bench.faults(), 0);
+    assert_eq!(rt;
+        (crosses, count, found, bench.faults()),
+        (
+            true,
+            0,
+            [Some((1, [3, 0, 0, 0])), Some((2, [1, 2, 0, 0]))],
+            0
+        )
+    );
     Ok(())
 }
 
@@ -116,10 +123,10 @@ fn a_part_of_bytes_reads_little_endian(rt: HostRuntime) -> Result<(), Fail> {
     line[64] = 7;
     let mut bench = MemBench::of(rt.alloc(), &[&line[..]], &[], &[])?;
     let mut parts = open(&mut bench, None)?;
-    assert_eq!(rt; sizes(&parts), (1, [2, 0, 0, 0]));
-    assert_eq!(rt; word(&mut parts, 0, 0), Some(0x1234));
-    assert_eq!(rt; word(&mut parts, 0, 1), Some(7));
+    let size = sizes(&parts);
+    let words = [word(&mut parts, 0, 0), word(&mut parts, 0, 1)];
     close(&mut bench, parts, Vec::new(rt.alloc()));
+    assert_eq!(rt; (size, words), ((1, [2, 0, 0, 0]), [Some(0x1234), Some(7)]));
     Ok(())
 }
 
@@ -166,10 +173,11 @@ fn power_leaves_the_image_that_the_pick_names(rt: HostRuntime) -> Result<(), Fai
         (Pick::Torn, [1, 2], (3, [0x22, 0xa5, 0xa5, 0]), 0xa5),
         (Pick::Seed(0), [8, 2], (2, [0x22, 0xec, 0, 0]), 0xea),
     ] {
-        let (left, left_b, left_a) = left_by(&rt, pick)?;
-        assert_eq!(rt; left, [Some(words[0]), Some(words[1])], "at {pick:?}");
-        assert_eq!(rt; left_b, Some(b), "at {pick:?}");
-        assert_eq!(rt; left_a, Some((1, [a, 0, 0, 0])), "at {pick:?}");
+        assert_eq!(rt;
+            left_by(&rt, pick)?,
+            (words.map(Some), Some(b), Some((1, [a, 0, 0, 0]))),
+            "at {pick:?}"
+        );
     }
     Ok(())
 }
@@ -181,24 +189,30 @@ fn a_blank_region_gets_the_parts_that_are_wanted(rt: HostRuntime) -> Result<(), 
     };
     let mut bench = MemBench::new(rt.alloc(), &[])?;
     let mut parts = open(&mut bench, Some(small))?;
-    assert_eq!(rt; sizes(&parts), (3, [18, 2, 2, 0]));
+    let new = sizes(&parts);
     parts.truncate(1);
     parts.push(stored_twice(rt.alloc(), 2, 1, 6, 7)?)?;
     close(&mut bench, parts, Vec::new(rt.alloc()));
     let mut parts = open(&mut bench, Some(large))?;
-    assert_eq!(rt; sizes(&parts), (4, [18, 3, 3, 3]));
-    assert_eq!(rt; word(&mut parts, 1, 1), Some(7));
-    assert_eq!(rt; word(&mut parts, 1, 2), Some(0));
+    let longer = sizes(&parts);
+    let words = [word(&mut parts, 1, 1), word(&mut parts, 1, 2)];
     close(&mut bench, parts, Vec::new(rt.alloc()));
     let mut parts = open(&mut bench, Some(small))?;
-    assert_eq!(rt; sizes(&parts), (3, [18, 2, 2, 0]));
-    assert_eq!(rt; word(&mut parts, 1, 1), Some(7));
+    let shorter = (sizes(&parts), word(&mut parts, 1, 1));
     parts.truncate(0);
     parts.push(stored_twice(rt.alloc(), 1, 0, 0, 5)?)?;
     close(&mut bench, parts, Vec::new(rt.alloc()));
     let parts = open(&mut bench, Some(large))?;
-    assert_eq!(rt; sizes(&parts), (1, [1, 0, 0, 0]));
+    let stored = sizes(&parts);
     close(&mut bench, parts, Vec::new(rt.alloc()));
+    assert_eq!(rt;
+        ([new, longer, stored], words, shorter),
+        (
+            [(3, [18, 2, 2, 0]), (4, [18, 3, 3, 3]), (1, [1, 0, 0, 0])],
+            [Some(7), Some(0)],
+            ((3, [18, 2, 2, 0]), Some(7))
+        )
+    );
     Ok(())
 }
 
@@ -210,17 +224,21 @@ fn a_listed_call_fails_and_is_counted_for_good(rt: HostRuntime) -> Result<(), Fa
     };
     let mut bench = MemBench::new(rt.alloc(), &[2])?;
     let mut parts = open(&mut bench, Some(large))?;
-    assert_eq!(rt; word(&mut parts, 0, 0), Some(0));
-    assert_eq!(rt; word(&mut parts, 3, 0), None);
-    assert_eq!(rt; word(&mut parts, 3, 0), Some(0));
-    assert_eq!(rt; bench.faults(), 0);
+    let words = [
+        word(&mut parts, 0, 0),
+        word(&mut parts, 3, 0),
+        word(&mut parts, 3, 0),
+    ];
+    let lent = bench.faults();
     close(&mut bench, parts, Vec::new(rt.alloc()));
-    assert_eq!(rt; bench.faults(), 1);
+    let back = bench.faults();
     let parts = open(&mut bench, Some(small))?;
-    assert_eq!(rt; parts.len(), 3);
-    assert_eq!(rt; bench.faults(), 1);
+    let again = (parts.len(), bench.faults());
     close(&mut bench, parts, Vec::new(rt.alloc()));
-    assert_eq!(rt; bench.faults(), 1);
+    assert_eq!(rt;
+        (words, lent, back, again, bench.faults()),
+        ([Some(0), None, Some(0)], 0, 1, (3, 1), 1)
+    );
     Ok(())
 }
 
@@ -232,17 +250,19 @@ fn arming_counts_over_all_devices(rt: HostRuntime) -> Result<(), Fail> {
     let mut bench = MemBench::new(rt.alloc(), &[])?;
     let mut parts = open(&mut bench, Some(geometry))?;
     let mut stores = open_stores(rt.alloc(), &mut bench)?;
-    assert_eq!(rt; word(&mut parts, 0, 0), Some(0));
+    let unarmed = word(&mut parts, 0, 0);
     bench.arm(2);
-    assert_eq!(rt; bytes(&mut stores, 1), Some((0, [0, 0, 0, 0])));
-    assert_eq!(rt; word(&mut parts, 2, 0), None);
-    assert_eq!(rt; bytes(&mut stores, 0), None);
+    let last = bytes(&mut stores, 1);
+    let failed = (word(&mut parts, 2, 0), bytes(&mut stores, 0));
     close(&mut bench, parts, stores);
-    assert_eq!(rt; bench.faults(), 2);
+    let faults = bench.faults();
     bench.power(Pick::New)?;
     let mut parts = open(&mut bench, None)?;
-    assert_eq!(rt; word(&mut parts, 2, 0), Some(0));
+    let disarmed = word(&mut parts, 2, 0);
     close(&mut bench, parts, Vec::new(rt.alloc()));
-    assert_eq!(rt; bench.faults(), 2);
+    assert_eq!(rt;
+        ([unarmed, disarmed], last, failed, [faults, bench.faults()]),
+        ([Some(0); 2], Some((0, [0; 4])), (None, None), [2, 2])
+    );
     Ok(())
 }

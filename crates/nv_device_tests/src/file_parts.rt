@@ -37,26 +37,34 @@ fn a_file_keeps_what_was_fenced(rt: HostRuntime) -> Result<(), Fail> {
     let path = "nv_pmem_kept/part-0";
     fresh_folder(&rt, "nv_pmem_kept")?;
     let mut part = FilePart::open(rt, rt.alloc(), path, 3)?;
-    assert!(rt; may_cross_threads(&part));
-    assert_eq!(rt; part.lines(), 3);
+    let new = (may_cross_threads(&part), part.lines());
     part.store(1, 0, 1)?;
     part.store(1, 1, 2)?;
     part.store_line(2, &[1; 64])?;
     part.flush(1)?;
     part.fence()?;
     part.store(1, 0, 3)?;
-    assert_eq!(rt; part.peek(1, 0), 3);
-    assert_eq!(rt; words(&mut part, 1), Some((3, 2)));
+    let unfenced = (part.peek(1, 0), words(&mut part, 1));
     drop(part);
     let mut part = FilePart::open(rt, rt.alloc(), path, 2)?;
-    assert_eq!(rt; part.lines(), 3);
-    assert_eq!(rt; words(&mut part, 0), Some((0, 0)));
-    assert_eq!(rt; words(&mut part, 1), Some((1, 2)));
-    assert_eq!(rt; words(&mut part, 2), Some((0, 0)));
+    let lines = part.lines();
+    let fenced = [
+        words(&mut part, 0),
+        words(&mut part, 1),
+        words(&mut part, 2),
+    ];
     let mut part = FilePart::sized(rt, rt.alloc(), path, 2)?;
-    assert_eq!(rt; words(&mut part, 1), Some((1, 2)));
-    assert_eq!(rt; part.lines(), 2);
-    assert_eq!(rt; fs::metadata(&rt, path)?.len(), 128);
+    let cut = (words(&mut part, 1), part.lines());
+    let len = fs::metadata(&rt, path)?.len();
+    assert_eq!(rt;
+        (new, unfenced, (lines, fenced), (cut, len)),
+        (
+            (true, 3),
+            (3, Some((3, 2))),
+            (3, [Some((0, 0)), Some((1, 2)), Some((0, 0))]),
+            ((Some((1, 2)), 2), 128)
+        )
+    );
     fs::remove_dir_all(&rt, "nv_pmem_kept")?;
     Ok(())
 }
@@ -68,17 +76,20 @@ fn whole_lines_of_a_file_are_read(rt: HostRuntime) -> Result<(), Fail> {
     fresh_folder(&rt, "nv_pmem_odd")?;
     fs::write(&rt, path, [7; 100].as_slice())?;
     let mut part = FilePart::open(rt, rt.alloc(), path, 0)?;
-    assert_eq!(rt; part.lines(), 1);
-    assert_eq!(rt;
-        words(&mut part, 0),
-        Some((0x0707070707070707, 0x0707070707070707))
-    );
-    assert_eq!(rt; fs::metadata(&rt, path)?.len(), 100);
+    let whole = (part.lines(), words(&mut part, 0));
+    let len = fs::metadata(&rt, path)?.len();
     let mut part = FilePart::open(rt, rt.alloc(), path, 3)?;
-    assert_eq!(rt; part.lines(), 3);
-    assert_eq!(rt; words(&mut part, 1), Some((0, 0)));
-    assert_eq!(rt; words(&mut part, 2), Some((0, 0)));
-    assert_eq!(rt; fs::metadata(&rt, path)?.len(), 192);
+    let longer = (part.lines(), words(&mut part, 1), words(&mut part, 2));
+    let lens = [len, fs::metadata(&rt, path)?.len()];
+    let sevens = 0x0707_0707_0707_0707;
+    assert_eq!(rt;
+        (whole, longer, lens),
+        (
+            (1, Some((sevens, sevens))),
+            (3, Some((0, 0)), Some((0, 0))),
+            [100, 192]
+        )
+    );
     fs::remove_dir_all(&rt, "nv_pmem_odd")?;
     Ok(())
 }
@@ -101,15 +112,16 @@ fn what_the_host_refuses_fails(rt: HostRuntime) -> Result<(), Fail> {
     let mut part = FilePart::open(rt, rt.alloc(), "nv_pmem_bad/part-0", 1)?;
     fs::remove_file(&rt, "nv_pmem_bad/part-0")?;
     part.fence()?;
-    assert_eq!(rt; store_word(&mut part, 5), Err(LineFault));
-    assert_eq!(rt; part.faults(), 1);
-    assert_eq!(rt; part.fence(), Err(LineFault));
-    assert_eq!(rt; part.faults(), 2);
+    let stored = (store_word(&mut part, 5), part.faults());
+    let fenced = (part.fence(), part.faults());
     fs::write(&rt, "nv_pmem_bad/part-0", [0; 64].as_slice())?;
     part.fence()?;
-    assert_eq!(rt; part.faults(), 2);
+    let faults = part.faults();
     let mut part = FilePart::open(rt, rt.alloc(), "nv_pmem_bad/part-0", 1)?;
-    assert_eq!(rt; words(&mut part, 0), Some((5, 0)));
+    assert_eq!(rt;
+        (stored, fenced, faults, words(&mut part, 0)),
+        ((Err(LineFault), 1), (Err(LineFault), 2), 2, Some((5, 0)))
+    );
     fs::remove_dir_all(&rt, "nv_pmem_bad")?;
     Ok(())
 }

@@ -15,21 +15,28 @@ fn a_file_keeps_what_was_synced(rt: HostRuntime) -> Result<(), Fail> {
     let _ = fs::remove_dir_all(&rt, "nv_store_kept");
     fs::create_dir(&rt, "nv_store_kept")?;
     let mut store = FileStore::open(&rt, path)?;
-    assert!(rt; may_cross_threads(&store));
-    assert_eq!(rt; store.len(), Ok(0));
-    assert_eq!(rt; store.pwrite(9, &[]), Ok(()));
-    assert_eq!(rt; store.pwrite(5, &[1, 2, 3]), Ok(()));
-    assert_eq!(rt; store.sync(), Ok(()));
+    let new = (may_cross_threads(&store), store.len());
+    let written = (store.pwrite(9, &[]), store.pwrite(5, &[1, 2, 3]));
+    let synced = store.sync();
     drop(store);
     let mut store = FileStore::open(&rt, path)?;
-    let mut buf = [9; 10];
-    assert_eq!(rt; store.len(), Ok(8));
-    assert_eq!(rt; store.pread(0, &mut buf), Ok(8));
-    assert_eq!(rt; buf, [0, 0, 0, 0, 0, 1, 2, 3, 9, 9]);
-    assert_eq!(rt; store.pread(u64::MAX, &mut buf), Ok(0));
-    assert_eq!(rt; store.faults(), 0);
-    assert_eq!(rt; store.pwrite(u64::MAX, &[1]), Err(StoreError::Fault));
-    assert_eq!(rt; store.faults(), 1);
+    let (mut buf, mut past) = ([9; 10], [9; 10]);
+    let read = (store.len(), store.pread(0, &mut buf));
+    let past_end = (store.pread(u64::MAX, &mut past), store.faults());
+    let too_far = (store.pwrite(u64::MAX, &[1]), store.faults());
+    assert_eq!(rt;
+        (new, written, synced),
+        ((true, Ok(0)), (Ok(()), Ok(())), Ok(()))
+    );
+    assert_eq!(rt;
+        (read, buf, past_end, too_far),
+        (
+            (Ok(8), Ok(8)),
+            [0, 0, 0, 0, 0, 1, 2, 3, 9, 9],
+            (Ok(0), 0),
+            (Err(StoreError::Fault), 1)
+        )
+    );
     fs::remove_dir_all(&rt, "nv_store_kept")?;
     Ok(())
 }
@@ -143,14 +150,18 @@ fn short_calls_go_on_and_a_failed_sync_stays_failed(rt: HostRuntime) -> Result<(
         stops: false,
         syncs: Cell::new(0),
     });
-    assert_eq!(rt; store.pwrite(1, &[4, 5, 6]), Ok(()));
     let mut buf = [9; 6];
-    assert_eq!(rt; store.pread(0, &mut buf), Ok(4));
-    assert_eq!(rt; buf, [0, 4, 5, 6, 9, 9]);
-    assert_eq!(rt; store.pwrite(6, &[1, 2, 3]), Err(StoreError::Fault));
-    assert_eq!(rt; store.faults(), 1);
-    assert_eq!(rt; store.sync(), Err(StoreFault));
-    assert_eq!(rt; store.sync(), Err(StoreFault));
-    assert_eq!(rt; store.faults(), 3);
+    let short = (store.pwrite(1, &[4, 5, 6]), store.pread(0, &mut buf));
+    let failed = (store.pwrite(6, &[1, 2, 3]), store.faults());
+    let synced = (store.sync(), store.sync(), store.faults());
+    assert_eq!(rt;
+        (short, buf, failed, synced),
+        (
+            (Ok(()), Ok(4)),
+            [0, 4, 5, 6, 9, 9],
+            (Err(StoreError::Fault), 1),
+            (Err(StoreFault), Err(StoreFault), 3)
+        )
+    );
     Ok(())
 }

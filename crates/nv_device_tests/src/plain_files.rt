@@ -88,9 +88,10 @@ fn no_bytes_change_nothing(rt: HostRuntime) -> Result<(), Fail> {
 #[test]
 fn bytes_round_trip(rt: HostRuntime) -> Result<(), Fail> {
     let bytes = Bytes::from_vec(Vec::from_slice(rt.alloc(), &[3, 1, 2])?);
-    assert_eq!(rt; bytes.len(), 3);
-    assert!(rt; !bytes.is_empty());
-    assert_eq!(rt; bytes.as_slice(), [3, 1, 2].as_slice());
+    assert_eq!(rt;
+        (bytes.len(), bytes.is_empty(), bytes.as_slice()),
+        (3, false, [3, 1, 2].as_slice())
+    );
     assert_eq!(rt; bytes.into_vec().as_slice(), [3, 1, 2].as_slice());
     Ok(())
 }

@@ -13,19 +13,31 @@ fn may_cross_threads<T: Send>(_part: &T) -> bool {
     true
 }
 
+// The bytes 0 to 127.
+fn counting() -> [u8; 128] {
+    let mut bytes = [0; 128];
+    for i in 0..128 {
+        bytes[i] = i as u8;
+    }
+    bytes
+}
+
 #[test]
 fn a_word_is_stored_and_made_durable(rt: HostRuntime) -> Result<(), NoMemory> {
     let mut part = MemPart::new(rt.alloc(), 4)?;
-    assert!(rt; may_cross_threads(&part));
-    assert_eq!(rt; part.lines(), 4);
-    assert_eq!(rt; part.load(3, 7), Ok(0));
-    assert_eq!(rt; part.store(3, 7, 9), Ok(()));
-    assert_eq!(rt; part.load(3, 7), Ok(9));
-    assert_eq!(rt; part.flush(3), Ok(()));
-    assert_eq!(rt; part.fence(), Ok(()));
-    assert_eq!(rt; part.load(3, 7), Ok(9));
-    assert_eq!(rt; part.load(3, 6), Ok(0));
-    assert_eq!(rt; part.faults(), 0);
+    let blank = (may_cross_threads(&part), part.lines(), part.load(3, 7));
+    let stored = (part.store(3, 7, 9), part.load(3, 7));
+    let durable = (part.flush(3), part.fence(), part.load(3, 7));
+    let beside = (part.load(3, 6), part.faults());
+    assert_eq!(rt;
+        (blank, stored, durable, beside),
+        (
+            (true, 4, Ok(0)),
+            (Ok(()), Ok(9)),
+            (Ok(()), Ok(()), Ok(9)),
+            (Ok(0), 0)
+        )
+    );
     Ok(())
 }
 
@@ -43,16 +55,19 @@ fn a_line_is_stored_little_endian(rt: HostRuntime) -> Result<(), NoMemory> {
         0x3f3e_3d3c_3b3a_3938,
     ];
     let mut part = MemPart::new(rt.alloc(), 2)?;
-    assert_eq!(rt; part.store_line(1, &bytes), Ok(()));
-    assert_eq!(rt; part.load(1, 0), Ok(words[0]));
-    assert_eq!(rt; part.load(1, 1), Ok(words[1]));
-    assert_eq!(rt; part.load(1, 2), Ok(words[2]));
-    assert_eq!(rt; part.load(1, 3), Ok(words[3]));
-    assert_eq!(rt; part.load(1, 4), Ok(words[4]));
-    assert_eq!(rt; part.load(1, 5), Ok(words[5]));
-    assert_eq!(rt; part.load(1, 6), Ok(words[6]));
-    assert_eq!(rt; part.load(1, 7), Ok(words[7]));
-    assert_eq!(rt; part.load(0, 7), Ok(0));
+    let stored = part.store_line(1, &bytes);
+    let loaded = [
+        part.load(1, 0),
+        part.load(1, 1),
+        part.load(1, 2),
+        part.load(1, 3),
+        part.load(1, 4),
+        part.load(1, 5),
+        part.load(1, 6),
+        part.load(1, 7),
+    ];
+    let before = part.load(0, 7);
+    assert_eq!(rt; (stored, loaded, before), (Ok(()), words.map(Ok), Ok(0)));
     Ok(())
 }
 
@@ -83,6 +98,20 @@ fn refusals(alloc: Global, fuse: Fuse, call: u8) -> Result<[(bool, u64); 3], NoM
     ])
 }
 
+// The refusals at a fuse that lists its call k, and at one that is armed for it.
+fn listed_and_armed(
+    alloc: Global,
+    k: u64,
+    call: u8,
+) -> Result<([(bool, u64); 3], [(bool, u64); 3]), NoMemory>
+    requires { 1 ≤ k }
+{
+    let listed = refusals(alloc, Fuse::new(alloc, &[k])?, call)?;
+    let fuse = Fuse::new(alloc, &[])?;
+    fuse.arm(k);
+    Ok((listed, refusals(alloc, fuse, call)?))
+}
+
 #[test]
 fn each_call_counts_once_at_a_fuse(rt: HostRuntime) -> Result<(), NoMemory> {
     let (well, refused) = ((false, 0), (true, 1));
@@ -92,18 +121,10 @@ fn each_call_counts_once_at_a_fuse(rt: HostRuntime) -> Result<(), NoMemory> {
             (2, [well, refused, well], [well, refused, refused]),
             (3, [well, well, refused], [well, well, refused]),
         ] {
-            let fuse = Fuse::new(rt.alloc(), &[k])?;
             assert_eq!(rt;
-                refusals(rt.alloc(), fuse, call)?,
-                listed,
-                "call {call}, listed {k}"
-            );
-            let fuse = Fuse::new(rt.alloc(), &[])?;
-            fuse.arm(k);
-            assert_eq!(rt;
-                refusals(rt.alloc(), fuse, call)?,
-                armed,
-                "call {call}, armed {k}"
+                listed_and_armed(rt.alloc(), k, call)?,
+                (listed, armed),
+                "call {call}, {k}"
             );
         }
     }
@@ -114,28 +135,55 @@ fn each_call_counts_once_at_a_fuse(rt: HostRuntime) -> Result<(), NoMemory> {
 fn a_fuse_is_armed_from_now_on_and_disarmed(rt: HostRuntime) -> Result<(), NoMemory> {
     let fuse = Fuse::new(rt.alloc(), &[])?;
     let mut part = MemPart::fused(rt.alloc(), 1, fuse.copy()?)?;
-    assert_eq!(rt; part.load(0, 0), Ok(0));
+    let unarmed = part.load(0, 0);
     // The earlier of two limits stays.
     fuse.arm(2);
     fuse.arm(5);
-    assert_eq!(rt; part.lines(), 1);
-    assert_eq!(rt; part.load(0, 0), Ok(0));
-    assert_eq!(rt; part.load(0, 0), Err(LineFault));
+    let armed = (part.lines(), part.load(0, 0), part.load(0, 0));
     fuse.disarm();
-    assert_eq!(rt; part.load(0, 0), Ok(0));
+    let disarmed = part.load(0, 0);
     // It takes three calls: the word is stored, the line is flushed, and the part is fenced.
     fuse.arm(4);
-    assert_eq!(rt; store_durably(&mut part, 0, 0, 1), Ok(()));
-    assert_eq!(rt; part.fence(), Err(LineFault));
+    let durable = (store_durably(&mut part, 0, 0, 1), part.fence());
+    assert_eq!(rt;
+        (unarmed, armed, disarmed, durable),
+        (
+            Ok(0),
+            (1, Ok(0), Err(LineFault)),
+            Ok(0),
+            (Ok(()), Err(LineFault))
+        )
+    );
     Ok(())
 }
 
 #[test]
 fn words_are_drawn_from_splitmix64(rt: HostRuntime) {
     let mut picker = Picker::new(Pick::Seed(0));
-    assert_eq!(rt; picker.draw(), 0xe220_a839_7b1d_cdaf);
-    assert_eq!(rt; picker.draw(), 0x6e78_9e6a_a1b9_65f4);
-    assert_eq!(rt; picker.draw(), 0x06c4_5d18_8009_454f);
+    assert_eq!(rt;
+        [picker.draw(), picker.draw(), picker.draw()],
+        [
+            0xe220_a839_7b1d_cdaf,
+            0x6e78_9e6a_a1b9_65f4,
+            0x06c4_5d18_8009_454f
+        ]
+    );
+}
+
+// Stores a word in line 1 and two in line 2, and loses power: what the stores answer, and the words that are left.
+fn left_by(
+    alloc: Global,
+    pick: Pick,
+) -> Result<([Result<(), LineFault>; 3], [Result<u64, LineFault>; 3]), NoMemory> {
+    let mut part = MemPart::new(alloc, 3)?;
+    let stored = [
+        part.store(1, 0, 1),
+        part.store(2, 0, 1),
+        part.store(2, 0, 2),
+    ];
+    part.image(&mut Picker::new(pick));
+    let words = [part.load(0, 0), part.load(1, 0), part.load(2, 0)];
+    Ok((stored, words))
 }
 
 // Word 0 of line 1 has had the contents 0 and 1 since it was last durable, that of line 2 the contents 0, 1 and 2, and
@@ -158,13 +206,11 @@ fn a_part_that_loses_power_is_left_as_it_is_picked(rt: HostRuntime) -> Result<()
         (Pick::Seed(2), [0, 0, 2]),
         (Pick::Seed(3), [0, 1, 0]),
     ] {
-        let mut part = MemPart::new(rt.alloc(), 3)?;
-        assert_eq!(rt; part.store(1, 0, 1), Ok(()));
-        assert_eq!(rt; part.store(2, 0, 1), Ok(()));
-        assert_eq!(rt; part.store(2, 0, 2), Ok(()));
-        part.image(&mut Picker::new(pick));
-        let words = [part.load(0, 0), part.load(1, 0), part.load(2, 0)];
-        assert_eq!(rt; words, left.map(Ok), "at {pick:?}");
+        assert_eq!(rt;
+            left_by(rt.alloc(), pick)?,
+            ([Ok(()); 3], left.map(Ok)),
+            "at {pick:?}"
+        );
     }
     Ok(())
 }
@@ -172,24 +218,22 @@ fn a_part_that_loses_power_is_left_as_it_is_picked(rt: HostRuntime) -> Result<()
 // Bytes 0 to 127, little-endian: word 1 of line 1 is bytes 72 to 79.
 #[test]
 fn a_part_of_bytes_is_made_longer_and_shorter(rt: HostRuntime) -> Result<(), NoMemory> {
-    let bytes: [u8; 128] = array::from_fn(|i| (i % 128) as u8);
-    let mut part = MemPart::of(rt.alloc(), &bytes, None)?;
-    assert_eq!(rt; part.lines(), 2);
-    assert_eq!(rt; part.load(1, 1), Ok(0x4f4e_4d4c_4b4a_4948));
-    let mut longer = part.resized(rt.alloc(), 3, None)?;
-    assert_eq!(rt; longer.lines(), 3);
-    assert_eq!(rt; longer.load(1, 1), Ok(0x4f4e_4d4c_4b4a_4948));
-    assert_eq!(rt; longer.load(2, 0), Ok(0));
-    assert_eq!(rt; longer.resized(rt.alloc(), 1, None)?.lines(), 1);
+    let mut part = MemPart::of(rt.alloc(), &counting(), None)?;
+    let word = Ok(0x4f4e_4d4c_4b4a_4948);
+    let before = (part.lines(), part.load(1, 1));
+    let mut part = part.resized(rt.alloc(), 3, None)?;
+    let longer = (part.lines(), part.load(1, 1), part.load(2, 0));
+    let shorter = part.resized(rt.alloc(), 1, None)?.lines();
+    assert_eq!(rt; (before, longer, shorter), ((2, word), (3, word, Ok(0)), 1));
     Ok(())
 }
 
 #[test]
 fn a_durable_store_is_left_by_every_pick(rt: HostRuntime) -> Result<(), NoMemory> {
     let mut part = MemPart::new(rt.alloc(), 2)?;
-    assert_eq!(rt; store_durably(&mut part, 1, 3, 7), Ok(()));
+    let stored = store_durably(&mut part, 1, 3, 7);
     part.image(&mut Picker::new(Pick::Old));
-    assert_eq!(rt; part.load(1, 3), Ok(7));
+    assert_eq!(rt; (stored, part.load(1, 3)), (Ok(()), Ok(7)));
     Ok(())
 }
 

@@ -1,3 +1,5 @@
+ghost use Rattle.std.specs.Prelude.{◌≤◌};
+
 use nv_plain::NoMemory;
 use nv_pmem::{Fuse, Pick, Picker};
 use nv_store::{Backing, MemStore, StoreError, StoreFault};
@@ -10,33 +12,41 @@ fn may_cross_threads<T: Send>(_store: &T) -> bool {
 #[test]
 fn bytes_are_written_read_and_made_durable(rt: HostRuntime) -> Result<(), NoMemory> {
     let mut store = MemStore::new(rt.alloc(), &[1, 2, 3])?;
-    assert!(rt; may_cross_threads(&store));
-    assert_eq!(rt; store.len(), Ok(3));
-    assert_eq!(rt; store.pwrite(2, &[8, 9]), Ok(()));
-    assert_eq!(rt; store.len(), Ok(4));
-    let mut buf = [7; 3];
-    assert_eq!(rt; store.pread(1, &mut buf), Ok(3));
-    assert_eq!(rt; buf, [2, 8, 9]);
-    assert_eq!(rt; store.sync(), Ok(()));
+    let new = (may_cross_threads(&store), store.len());
+    let written = (store.pwrite(2, &[8, 9]), store.len());
+    let mut seen = [7; 3];
+    let read = (store.pread(1, &mut seen), store.sync());
     store.image(&mut Picker::new(Pick::Old));
-    assert_eq!(rt; store.pread(1, &mut buf), Ok(3));
-    assert_eq!(rt; buf, [2, 8, 9]);
-    assert_eq!(rt; store.faults(), 0);
+    let mut left = [7; 3];
+    let again = (store.pread(1, &mut left), store.faults());
+    assert_eq!(rt;
+        (new, written, read, again),
+        ((true, Ok(3)), (Ok(()), Ok(4)), (Ok(3), Ok(())), (Ok(3), 0))
+    );
+    assert_eq!(rt; [seen, left], [[2, 8, 9]; 2]);
     Ok(())
 }
 
 #[test]
 fn a_gap_reads_as_zeros_and_no_bytes_change_nothing(rt: HostRuntime) -> Result<(), NoMemory> {
     let mut store = MemStore::new(rt.alloc(), &[1])?;
-    assert_eq!(rt; store.pwrite(4, &[]), Ok(()));
-    assert_eq!(rt; store.pwrite(u64::MAX, &[]), Ok(()));
-    assert_eq!(rt; store.len(), Ok(1));
-    assert_eq!(rt; store.pwrite(3, &[5]), Ok(()));
+    let no_bytes = (
+        store.pwrite(4, &[]),
+        store.pwrite(u64::MAX, &[]),
+        store.len(),
+    );
     let mut buf = [7; 4];
-    assert_eq!(rt; store.pread(0, &mut buf), Ok(4));
-    assert_eq!(rt; buf, [1, 0, 0, 5]);
-    assert_eq!(rt; store.pwrite(u64::MAX, &[5]), Err(StoreError::NoMemory));
-    assert_eq!(rt; store.len(), Ok(4));
+    let gap = (store.pwrite(3, &[5]), store.pread(0, &mut buf));
+    let no_room = (store.pwrite(u64::MAX, &[5]), store.len());
+    assert_eq!(rt;
+        (no_bytes, gap, buf, no_room),
+        (
+            (Ok(()), Ok(()), Ok(1)),
+            (Ok(()), Ok(4)),
+            [1, 0, 0, 5],
+            (Err(StoreError::NoMemory), Ok(4))
+        )
+    );
     Ok(())
 }
 
@@ -50,8 +60,8 @@ fn a_read_stops_at_the_end(rt: HostRuntime) -> Result<(), NoMemory> {
         (u64::MAX, 0, [7, 7]),
     ] {
         let mut buf = [7; 2];
-        assert_eq!(rt; store.pread(at, &mut buf), Ok(count), "at {at}");
-        assert_eq!(rt; buf, bytes, "at {at}");
+        let read = store.pread(at, &mut buf);
+        assert_eq!(rt; (read, buf), (Ok(count), bytes), "at {at}");
     }
     Ok(())
 }
@@ -122,9 +132,11 @@ fn draws_go_on_behind_a_store_and_pass_a_quiet_one(rt: HostRuntime) -> Result<()
     let mut picker = Picker::new(Pick::Seed(0));
     let mut quiet = MemStore::new(rt.alloc(), &[1, 2, 3])?;
     quiet.image(&mut picker);
-    assert_eq!(rt; quiet.len(), Ok(3));
     written_twice(rt.alloc())?.image(&mut picker);
-    assert_eq!(rt; picker.draw(), 0xf88b_b8a8_724c_81ec);
+    assert_eq!(rt;
+        (quiet.len(), picker.draw()),
+        (Ok(3), 0xf88b_b8a8_724c_81ec)
+    );
     Ok(())
 }
 
@@ -154,6 +166,20 @@ fn refusals(alloc: Global, fuse: Fuse, call: u8) -> Result<[(bool, u64); 3], NoM
     ])
 }
 
+// The refusals at a fuse that lists its call k, and at one that is armed for it.
+fn listed_and_armed(
+    alloc: Global,
+    k: u64,
+    call: u8,
+) -> Result<([(bool, u64); 3], [(bool, u64); 3]), NoMemory>
+    requires { 1 ≤ k }
+{
+    let listed = refusals(alloc, Fuse::new(alloc, &[k])?, call)?;
+    let fuse = Fuse::new(alloc, &[])?;
+    fuse.arm(k);
+    Ok((listed, refusals(alloc, fuse, call)?))
+}
+
 #[test]
 fn each_call_counts_once_at_a_fuse(rt: HostRuntime) -> Result<(), NoMemory> {
     let (well, refused) = ((false, 0), (true, 1));
@@ -163,18 +189,10 @@ fn each_call_counts_once_at_a_fuse(rt: HostRuntime) -> Result<(), NoMemory> {
             (2, [well, refused, well], [well, refused, refused]),
             (3, [well, well, refused], [well, well, refused]),
         ] {
-            let fuse = Fuse::new(rt.alloc(), &[k])?;
             assert_eq!(rt;
-                refusals(rt.alloc(), fuse, call)?,
-                listed,
-                "call {call}, listed {k}"
-            );
-            let fuse = Fuse::new(rt.alloc(), &[])?;
-            fuse.arm(k);
-            assert_eq!(rt;
-                refusals(rt.alloc(), fuse, call)?,
-                armed,
-                "call {call}, armed {k}"
+                listed_and_armed(rt.alloc(), k, call)?,
+                (listed, armed),
+                "call {call}, {k}"
             );
         }
     }
@@ -185,15 +203,22 @@ fn each_call_counts_once_at_a_fuse(rt: HostRuntime) -> Result<(), NoMemory> {
 fn a_refused_call_leaves_bytes_and_buffer(rt: HostRuntime) -> Result<(), NoMemory> {
     let fuse = Fuse::new(rt.alloc(), &[1, 2])?;
     let mut store = MemStore::fused(rt.alloc(), &[1, 2, 3], fuse)?;
-    let mut buf = [7; 4];
-    assert_eq!(rt; store.pread(0, &mut buf), Err(StoreFault));
-    assert_eq!(rt; buf, [7; 4]);
-    assert_eq!(rt; store.pwrite(2, &[8, 9]), Err(StoreError::Fault));
-    assert_eq!(rt; store.pread(0, &mut buf), Ok(3));
-    assert_eq!(rt; buf, [1, 2, 3, 7]);
+    let (mut refused, mut seen, mut torn) = ([7; 4], [7; 4], [7; 4]);
+    let answers = (
+        store.pread(0, &mut refused),
+        store.pwrite(2, &[8, 9]),
+        store.pread(0, &mut seen),
+    );
     // What there is of the refused write's range isn't synced.
     store.image(&mut Picker::new(Pick::Torn));
-    assert_eq!(rt; store.pread(0, &mut buf), Ok(3));
-    assert_eq!(rt; buf, [1, 2, 0xa5, 7]);
+    let left = store.pread(0, &mut torn);
+    assert_eq!(rt;
+        (answers, left),
+        ((Err(StoreFault), Err(StoreError::Fault), Ok(3)), Ok(3))
+    );
+    assert_eq!(rt;
+        [refused, seen, torn],
+        [[7; 4], [1, 2, 3, 7], [1, 2, 0xa5, 7]]
+    );
     Ok(())
 }
