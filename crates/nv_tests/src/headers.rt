@@ -67,17 +67,18 @@ fn blank(alloc: Global, lines: &[u64]) -> Result<Vec<MemPart>, HeadError> {
 fn a_good_header_is_read(rt: HostRuntime) -> Result<(), Fail> {
     let mut parts = region(rt.alloc(), 18, &[])?;
     let head = read_head(rt.alloc(), &mut parts)?;
-    assert_eq!(rt; head.geometry.page, 64);
-    assert_eq!(rt; head.geometry.entries, 2);
-    assert_eq!(rt; head.tail, 7);
+    let numbers = (head.geometry.page, head.geometry.entries, head.tail);
     let names = head.names;
-    assert_eq!(rt; names.len(), 2);
-    assert!(rt; !names.is_empty());
-    assert!(rt; names.contains(b"a"));
-    assert!(rt; !names.contains(b"b"));
+    let count = (names.len(), names.is_empty());
+    let contains = [names.contains(b"a"), names.contains(b"b")];
     assert_eq!(rt;
-        names.get(1).map(|name| name.as_slice() == b"b2".as_slice()),
-        Some(true)
+        (numbers, count, contains),
+        ((64, 2, 7), (2, false), [true, false])
+    );
+    assert!(rt;
+        names
+            .get(1)
+            .is_some_and(|name| name.as_slice() == b"b2".as_slice())
     );
     let mut names = names.into_vec();
     names.truncate(1);
@@ -201,10 +202,10 @@ fn a_region_is_blank_or_not(rt: HostRuntime) -> Result<(), Fail> {
         let mut parts = blank(rt.alloc(), lines)?;
         assert_eq!(rt; is_blank(&mut parts), Ok(true));
     }
-    let mut parts = region(rt.alloc(), 18, &[])?;
-    assert_eq!(rt; is_blank(&mut parts), Ok(false));
-    let mut parts = region(rt.alloc(), 18, &[(0, 0, 0)])?;
-    assert_eq!(rt; is_blank(&mut parts), Ok(true));
+    for (words, blank) in [([].as_slice(), false), (&[(0, 0, 0)], true)] {
+        let mut parts = region(rt.alloc(), 18, words)?;
+        assert_eq!(rt; is_blank(&mut parts), Ok(blank));
+    }
     Ok(())
 }
 
@@ -235,11 +236,13 @@ fn a_fault_is_told(rt: HostRuntime) -> Result<(), Fail> {
     let fuse = Fuse::new(rt.alloc(), &[1, 2])?;
     let mut parts = Vec::new(rt.alloc());
     parts.push(MemPart::fused(rt.alloc(), 18, fuse)?)?;
-    assert_eq!(rt; is_blank(&mut parts), Err(RegionFault));
-    assert_eq!(rt;
+    let refused = (
+        is_blank(&mut parts),
         read_head(rt.alloc(), &mut parts).err(),
-        Some(HeadError::RegionFault)
     );
-    assert_eq!(rt; parts[0].faults(), 2);
+    assert_eq!(rt;
+        (refused, parts[0].faults()),
+        ((Err(RegionFault), Some(HeadError::RegionFault)), 2)
+    );
     Ok(())
 }

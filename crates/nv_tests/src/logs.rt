@@ -122,11 +122,14 @@ fn a_group_wraps_around_the_ring(rt: HostRuntime) -> Result<(), Fail> {
     bytes[4] = b'b';
     bytes[67] = b'c';
     bytes[68] = b'd';
-    assert_eq!(rt; log.write(0, 60, &bytes), Ok(70));
-    assert_eq!(rt; log.tail(), 2);
-    assert_eq!(rt; log.head(), 5);
-    assert_eq!(rt; log.read(alloc, 0, 60, 80)?.as_slice(), bytes.as_slice());
-    assert_eq!(rt; log.read(alloc, 0, 126, 9)?.as_slice(), b"-cd-".as_slice());
+    let written = log.write(0, 60, &bytes);
+    assert_eq!(rt; (written, log.tail(), log.head()), (Ok(70), 2, 5));
+    let whole = log.read(alloc, 0, 60, 80)?;
+    let end = log.read(alloc, 0, 126, 9)?;
+    assert_eq!(rt;
+        (whole.as_slice(), end.as_slice()),
+        (bytes.as_slice(), b"-cd-".as_slice())
+    );
     Ok(())
 }
 
@@ -178,15 +181,20 @@ fn a_fault_stops_the_log(rt: HostRuntime) -> Result<(), Fail> {
     let fuse = Fuse::new(alloc, &[])?;
     let mut log = opened(alloc, 2, &fuse, &none)?;
     fuse.arm(1);
-    assert_eq!(rt; log.write(0, 0, b"x"), Err(WriteError::RegionFault));
-    assert!(rt; log.is_stopped());
+    let failed = (log.write(0, 0, b"x"), log.is_stopped());
     fuse.disarm();
-    assert_eq!(rt; log.write(0, 0, b"x"), Err(WriteError::Stopped));
-    let stopped = log.read(alloc, 0, 0, 1).err();
-    assert_eq!(rt; stopped, Some(ReadError::Stopped));
+    let written = log.write(0, 0, b"x");
+    let read = log.read(alloc, 0, 0, 1).err();
     let (parts, stores) = log.into_devices();
-    assert_eq!(rt; parts.len(), 3);
-    assert_eq!(rt; stores.len(), 2);
+    assert_eq!(rt;
+        (failed, written, read, (parts.len(), stores.len())),
+        (
+            (Err(WriteError::RegionFault), true),
+            Err(WriteError::Stopped),
+            Some(ReadError::Stopped),
+            (3, 2)
+        )
+    );
     Ok(())
 }
 
@@ -197,8 +205,11 @@ fn a_read_makes_one_call_of_a_store(rt: HostRuntime) -> Result<(), Fail> {
     let none = Fuse::new(alloc, &[])?;
     let fuse = Fuse::new(alloc, &[4])?;
     let mut log = opened(alloc, 2, &none, &fuse)?;
-    assert_eq!(rt; log.read(alloc, 1, 0, 2)?.as_slice(), b"xy".as_slice());
+    let read = log.read(alloc, 1, 0, 2)?;
     let failed = log.read(alloc, 1, 0, 2).err();
-    assert_eq!(rt; failed, Some(ReadError::StoreFault));
+    assert_eq!(rt;
+        (read.as_slice(), failed),
+        (b"xy".as_slice(), Some(ReadError::StoreFault))
+    );
     Ok(())
 }

@@ -70,14 +70,16 @@ fn recovers_two_groups(rt: HostRuntime) -> Result<(), Fail> {
     )?;
     let (opened, found) = recover_region(rt.alloc(), &mut bench)?;
     let Opened { region, mut stores } = opened;
-    assert_eq!(rt; (found.first, found.next, region.next()), (0, 2, 2));
-    assert_eq!(rt; found.groups.as_slice(), [0, 1].as_slice());
+    let geometry = region.geometry();
     assert_eq!(rt;
-        (region.geometry().page, region.geometry().entries),
-        (64, 2)
+        (
+            (found.first, found.next, region.next()),
+            found.groups.as_slice(),
+            (geometry.page, geometry.entries),
+            (region.names().len(), stores.len())
+        ),
+        ((0, 2, 2), [0, 1].as_slice(), (64, 2), (1, 1))
     );
-    assert_eq!(rt; region.names().len(), 1);
-    assert_eq!(rt; stores.len(), 1);
     for store in &mut stores {
         assert_eq!(rt; contents(store), Ok(*b"abcde.##"));
     }
@@ -174,13 +176,13 @@ fn close(bench: &mut MemBench, opened: Opened<MemPart, MemStore>) -> Result<(), 
 fn opens_a_new_bench_and_opens_it_again(rt: HostRuntime) -> Result<(), Fail> {
     let mut bench = new_bench(rt.alloc())?;
     let mut first = opened(rt.alloc(), &mut bench)?;
-    assert_eq!(rt; (first.region.next(), first.region.names().len()), (0, 2));
+    let geometry = first.region.geometry();
     assert_eq!(rt;
         (
-            first.region.geometry().page,
-            first.region.geometry().entries
+            (first.region.next(), first.region.names().len()),
+            (geometry.page, geometry.entries)
         ),
-        (64, 2)
+        ((0, 2), (64, 2))
     );
     for store in &mut first.stores {
         assert_eq!(rt; contents(store), Ok(*b"########"));

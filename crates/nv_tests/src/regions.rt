@@ -103,13 +103,18 @@ fn names_are_added_up_to_16(rt: HostRuntime) -> Result<(), Fail> {
     match add_file(rt.alloc(), region, b"q") {
         Ok(_region) => return Err(AddError::TooManyFiles.into()),
         Err((mut parts, error)) => {
-            assert_eq!(rt; error, AddError::TooManyFiles);
-            assert_eq!(rt; word(&mut parts[0], 0, 4), Some(16));
-            assert_eq!(rt; word(&mut parts[0], 17, 0), Some(1));
-            assert_eq!(rt; word(&mut parts[0], 17, 1), Some(0x70));
+            let header = &mut parts[0];
+            let words = [word(header, 0, 4), word(header, 17, 0), word(header, 17, 1)];
             let names = read_head(rt.alloc(), &mut parts)?.names;
-            assert_eq!(rt; names.len(), 16);
-            assert!(rt; names.contains(b"p"));
+            assert_eq!(rt;
+                (error, words, names.len(), names.contains(b"p")),
+                (
+                    AddError::TooManyFiles,
+                    [Some(16), Some(1), Some(0x70)],
+                    16,
+                    true
+                )
+            );
         }
     }
     Ok(())
@@ -141,9 +146,7 @@ fn each_call_of_format_may_fail(rt: HostRuntime) -> Result<(), Fail> {
         match format(blank_parts(rt.alloc(), geometry, &fuse, &[])?, geometry) {
             Ok(_region) => assert_eq!(rt; call, 18),
             Err((parts, fault)) => {
-                assert_eq!(rt; fault, RegionFault);
-                assert_eq!(rt; parts.len(), 3);
-                assert_eq!(rt; faults(&parts), 1);
+                assert_eq!(rt; (fault, parts.len(), faults(&parts)), (RegionFault, 3, 1));
             }
         }
     }
@@ -158,11 +161,13 @@ fn each_call_of_add_file_may_fail(rt: HostRuntime) -> Result<(), Fail> {
         match add_file(rt.alloc(), formatted(rt.alloc(), &fuse, &[])?, b"a") {
             Ok(_region) => assert_eq!(rt; call, 7),
             Err((mut parts, error)) => {
-                assert_eq!(rt; error, AddError::RegionFault);
-                assert_eq!(rt; faults(&parts), 1);
                 // The count is stored by the fourth call.
                 let count = if call <= 4 { 0 } else { 1 };
-                assert_eq!(rt; word(&mut parts[0], 0, 4), Some(count));
+                let failed = faults(&parts);
+                assert_eq!(rt;
+                    (error, failed, word(&mut parts[0], 0, 4)),
+                    (AddError::RegionFault, 1, Some(count))
+                );
             }
         }
     }
@@ -177,9 +182,8 @@ fn each_call_of_move_tail_may_fail(rt: HostRuntime) -> Result<(), Fail> {
         match move_tail(&mut header, 9) {
             Ok(()) => assert_eq!(rt; call, 4),
             Err(fault) => {
-                assert_eq!(rt; fault, RegionFault);
                 let tail = if call == 1 { 0 } else { 9 };
-                assert_eq!(rt; word(&mut header, 1, 0), Some(tail));
+                assert_eq!(rt; (fault, word(&mut header, 1, 0)), (RegionFault, Some(tail)));
             }
         }
     }
