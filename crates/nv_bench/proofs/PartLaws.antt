@@ -7,9 +7,9 @@ use Rattle.std.proofs.lemmas.List.FromFn.{map-range_with_len_more}
 use Rattle.std.proofs.lemmas.List.Sums.{sum_by-append, sum_by-cons}
 use Rattle.nv_pmem.specs.Draws.{Draws}
 use Rattle.nv_pmem.specs.MemPart.{part_now, part_history, part_room, part_faults}
-use Rattle.nv_pmem.specs.Part.{Part, word_of}
+use Rattle.nv_pmem.specs.Part.{Part, part_word}
 use Rattle.nv_pmem.specs.Picked.{picked}
-use Rattle.nv_pmem.specs.Steps.{History}
+use Rattle.nv_pmem.specs.Steps.{PartHistory}
 use Rattle.nv_pmem.specs.RowStates.{IsNow, AreNow}
 use Rattle.nv_pmem.specs.declared.mem_part.MemPart.{MemPart}
 use Rattle.nv_pmem.proofs.MadeLaws.{now_of_first}
@@ -19,13 +19,13 @@ use Rattle.nv_bench.specs.Opening.{is_blank, IsFreshWhereQuiet}
 use Rattle.nv_bench.specs.Powered.{powered_parts}
 use Rattle.nv_bench.proofs.Through.{through}
 
-nothing : (part : Part) → length part ≡ 0 → word_of part 0 0 ≡ 0
+nothing : (part : Part) → length part ≡ 0 → part_word part 0 0 ≡ 0
 nothing [] none = blank_word 0
 nothing (line ∷ part) none = absurd (omega (arith, none))
 
 -- parts of which the first has no line are blank
 pub blank_without : (parts : List Part) → length (get_or parts 0 []) ≡ 0 → true ≡ is_blank parts
-blank_without parts none = sym (eq-eqb (word_of (get_or parts 0 []) 0 0) 0 (nothing (get_or parts 0 []) none))
+blank_without parts none = sym (eq-eqb (part_word (get_or parts 0 []) 0 0) 0 (nothing (get_or parts 0 []) none))
 
 pub blank_none : (parts : List MemPart) → None ≡ slice_get parts 0 → true ≡ is_blank (map part_now parts)
 blank_none [] is = blank_without [] refl
@@ -50,7 +50,7 @@ faults_more made new part is so_far one =
     ap (sum_by part_faults) is ∙ sum_by-append part_faults made (part ∷ []) ∙ omega (arith, so_far, one, sum_by-cons part_faults part [])
 
 -- a state that was put before others
-pub first_of : (a b : Part) (p q : History) → a ∷ p ≡ b ∷ q → a ≡ b
+pub first_of : (a b : Part) (p q : PartHistory) → a ∷ p ≡ b ∷ q → a ≡ b
 first_of a b p q same = cc
 
 -- parts lose power one after another
@@ -73,7 +73,7 @@ fresh part = λ quiet. record { spare = λ line inside. let all = quiet_spare (p
 pub parts_are_fresh : (parts : List MemPart) → All (λ part. IsFreshWhereQuiet (part_history part) (part_room part)) parts
 parts_are_fresh parts k d inside = fresh (get_or parts k d)
 
-now_is : (history : History) (now at_home : Part) (past : History) → history ≡ at_home ∷ past → IsNow history now → now ≡ at_home
+now_is : (history : PartHistory) (now at_home : Part) (past : PartHistory) → history ≡ at_home ∷ past → IsNow history now → now ≡ at_home
 now_is history now at_home past same is = let other = is.is in cc
 
 -- what they tell is their present state

@@ -3,16 +3,16 @@ use Rattle.std.proofs.Common.{◌≡◌, ℕ, ◌<◌, List, [], ◌∷◌, leng
 use Rattle.std.specs.Prelude.{All}
 use Rattle.std.proofs.lemmas.List.Elements.{All-cons, All-map}
 use Rattle.nv_pmem.specs.Draws.{Draws, draws_of}
-use Rattle.nv_pmem.specs.Images.{IsImage as IsPartImage, IsQuiet as IsQuietPart}
-use Rattle.nv_pmem.specs.Part.{Part, word_of}
+use Rattle.nv_pmem.specs.Images.{IsPartImage, IsQuietPart}
+use Rattle.nv_pmem.specs.Part.{Part, part_word}
 use Rattle.nv_pmem.specs.Picked.{picked}
 use Rattle.nv_pmem.proofs.ImageLaws.{image_of_now, quiet_blank}
 use Rattle.nv_pmem.specs.Made.{part_in}
 use Rattle.nv_pmem.proofs.MadeLaws.{part_in_quiet}
 use Rattle.nv_pmem.proofs.PickedLaws.{picked_is_image, picked_is_quiet}
-use Rattle.nv_store.specs.Images.{IsImage}
+use Rattle.nv_store.specs.Images.{IsStoreImage}
 use Rattle.nv_store.specs.Picked.{picked_image, draws_after}
-use Rattle.nv_store.specs.Store.{IsWhole, IsQuiet, quiet_store}
+use Rattle.nv_store.specs.Store.{IsWholeStore, IsQuietStore, quiet_store}
 use Rattle.nv_store.proofs.ImageLaws.{picked_is_image as store_is_image}
 use Rattle.nv_store.proofs.StoreLaws.{quiet_is_quiet}
 use Rattle.nv_pmem.specs.declared.picker.Pick.{Pick}
@@ -23,7 +23,7 @@ use Rattle.nv_bench.specs.Powered.{powered_parts, powered_stores, powered}
 no_part_quiet : IsQuietPart []
 no_part_quiet = record { lines = λ line. quiet_blank }
 
-pub part_images : (draws : Draws) (parts : List Part) (i : ℕ) → IsPartImage (get_or parts i []) (word_of (get_or (powered_parts draws parts).0 i []))
+pub part_images : (draws : Draws) (parts : List Part) (i : ℕ) → IsPartImage (get_or parts i []) (part_word (get_or (powered_parts draws parts).0 i []))
 unfolding powered_parts
 part_images draws [] i = image_of_now []
 part_images draws (part ∷ parts) zero = picked_is_image draws part
@@ -40,19 +40,19 @@ unfolding powered_stores
 names_kept draws [] = refl
 names_kept draws (named ∷ stores) = ap (λ rest. named.name ∷ rest) (names_kept (draws_after named.store draws) stores)
 
-pub store_images : (draws : Draws) (stores : List NamedStore) (i : ℕ) (none : NamedStore) → All (λ (named : NamedStore). IsWhole named.store) stores → i < length stores
-    → IsImage (get_or stores i none).store (get_or (powered_stores draws stores) i none).store.seen
+pub store_images : (draws : Draws) (stores : List NamedStore) (i : ℕ) (none : NamedStore) → All (λ (named : NamedStore). IsWholeStore named.store) stores → i < length stores
+    → IsStoreImage (get_or stores i none).store (get_or (powered_stores draws stores) i none).store.seen
 unfolding powered_stores
 store_images draws [] i none whole inside = absurd (omega arith)
 store_images draws (named ∷ stores) zero none whole inside = store_is_image named.store draws (whole 0 none inside)
 store_images draws (named ∷ stores) (suc i) none whole inside =
     store_images (draws_after named.store draws) stores i none (λ k d below. whole (suc k) d (omega arith)) (omega arith)
 
-pub stores_quiet : (draws : Draws) (stores : List NamedStore) → All (λ (named : NamedStore). IsQuiet named.store) (powered_stores draws stores)
+pub stores_quiet : (draws : Draws) (stores : List NamedStore) → All (λ (named : NamedStore). IsQuietStore named.store) (powered_stores draws stores)
 unfolding powered_stores
 stores_quiet draws [] = λ k d inside. absurd (omega arith)
 stores_quiet draws (named ∷ stores) =
-    All-cons (λ (one : NamedStore). IsQuiet one.store) (record { name = named.name; store = quiet_store (picked_image named.store draws) }) (powered_stores (draws_after named.store draws) stores)
+    All-cons (λ (one : NamedStore). IsQuietStore one.store) (record { name = named.name; store = quiet_store (picked_image named.store draws) }) (powered_stores (draws_after named.store draws) stores)
     (quiet_is_quiet (picked_image named.store draws)) (stores_quiet (draws_after named.store draws) stores)
 
 pub power_leaves : PowerLeavesAnImage
@@ -86,6 +86,6 @@ quiet_parts bytes_of (x ∷ xs) (suc i) = quiet_parts bytes_of xs i
 abbrev pub stored_as : {A : Type 0} → (A → List ℕ) → (A → List ℕ) → A → NamedStore
 stored_as name_of bytes_of x = record { name = name_of x; store = quiet_store (bytes_of x) }
 
-pub quiet_stores : {A : Type 0} (name_of bytes_of : A → List ℕ) (xs : List A) → All (λ (named : NamedStore). IsQuiet named.store) (map (stored_as name_of bytes_of) xs)
+pub quiet_stores : {A : Type 0} (name_of bytes_of : A → List ℕ) (xs : List A) → All (λ (named : NamedStore). IsQuietStore named.store) (map (stored_as name_of bytes_of) xs)
 quiet_stores name_of bytes_of xs =
-    All-map (λ (named : NamedStore). IsQuiet named.store) (stored_as name_of bytes_of) xs (λ k d inside. quiet_is_quiet (bytes_of (get_or xs k d)))
+    All-map (λ (named : NamedStore). IsQuietStore named.store) (stored_as name_of bytes_of) xs (λ k d inside. quiet_is_quiet (bytes_of (get_or xs k d)))

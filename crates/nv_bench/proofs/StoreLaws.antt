@@ -4,7 +4,7 @@ use Rattle.nv_pmem.specs.Draws.{Draws}
 use Rattle.nv_pmem.specs.RowStates.{IsNow, AreNow}
 use Rattle.nv_store.specs.MemStore.{store_now, store_history}
 use Rattle.nv_store.specs.Picked.{picked_image, draws_after}
-use Rattle.nv_store.specs.Steps.{History}
+use Rattle.nv_store.specs.Steps.{StoreHistory}
 use Rattle.nv_store.specs.Store.{Store, quiet_store}
 use Rattle.nv_store.specs.declared.mem_store.MemStore.{MemStore}
 use Rattle.nv_bench.specs.Holding.{NamedStore, named_stores}
@@ -32,10 +32,10 @@ named_left draws (name ∷ names) (store ∷ stores) =
     ap (λ (rest : List NamedStore). record { name = name; store = quiet_store (picked_image store draws) } ∷ rest) (named_left (draws_after store draws) names stores)
 
 -- a state that was put before others
-pub first_of : (a b : Store) (p q : History) → a ∷ p ≡ b ∷ q → a ≡ b
+pub first_of : (a b : Store) (p q : StoreHistory) → a ∷ p ≡ b ∷ q → a ≡ b
 first_of a b p q same = cc
 
-now_is : (history : History) (now at_home : Store) (past : History) → history ≡ at_home ∷ past → IsNow history now → now ≡ at_home
+now_is : (history : StoreHistory) (now at_home : Store) (past : StoreHistory) → history ≡ at_home ∷ past → IsNow history now → now ≡ at_home
 now_is history now at_home past same is = let other = is.is in cc
 
 -- what stores in memory tell is their present state
@@ -49,5 +49,5 @@ are_stores (store ∷ stores) (one ∷ now) are =
     cc
 
 -- the present state of a store that had no other
-pub now_of_first : (now made : Store) (past : History) → now ∷ past ≡ made ∷ [] → now ≡ made
+pub now_of_first : (now made : Store) (past : StoreHistory) → now ∷ past ≡ made ∷ [] → now ≡ made
 now_of_first now made past same = cc

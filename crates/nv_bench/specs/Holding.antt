@@ -4,7 +4,7 @@ use Rattle.std.specs.List.{zip}
 use lib.Pointwise.{pointwise}
 use Rattle.nv_pmem.specs.Part.{Part}
 use Rattle.nv_pmem.specs.Rows.{AreQuiet}
-use Rattle.nv_store.specs.Store.{Store, IsQuiet, quiet_store}
+use Rattle.nv_store.specs.Store.{Store, IsQuietStore, quiet_store}
 
 -- a store under its name
 pub record NamedStore : Type 0 where
@@ -37,4 +37,4 @@ named_stores names stores = map (λ pair. record { name = pair.0; store = pair.1
 -- each device is quiet
 pub record IsQuietHolding (holding : Holding) : Type 0 where
   pub parts : AreQuiet holding.parts
-  pub stores : All (λ named. IsQuiet named.store) holding.stores
+  pub stores : All (λ named. IsQuietStore named.store) holding.stores

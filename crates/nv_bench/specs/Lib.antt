@@ -5,6 +5,6 @@ pub mod Benches
 pub mod Naming
 pub mod Laws
 pub mod Places
-pub mod Shelf
+pub mod BenchStores
 pub mod MemBench
 pub mod FolderBench

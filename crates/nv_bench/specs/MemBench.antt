@@ -7,24 +7,24 @@ use Rattle.nv_plain.specs.Faults.{saturated}
 use Rattle.nv_pmem.specs.MemPart.{part_now, part_faults}
 use Rattle.nv_pmem.specs.Part.{Part}
 use Rattle.nv_pmem.specs.declared.mem_part.MemPart.{MemPart}
-use Rattle.nv_store.specs.Disk.{store_of}
+use Rattle.nv_store.specs.Disk.{disk_store}
 use Rattle.nv_store.specs.MemStore.{store_now, store_told_whole}
-use Rattle.nv_store.specs.Store.{IsWhole}
+use Rattle.nv_store.specs.Store.{IsWholeStore}
 use Rattle.nv_store.specs.declared.mem_store.MemStore.{MemStore}
 use Rattle.nv_bench.specs.Benches.{BenchState}
 use Rattle.nv_bench.specs.Holding.{Holding, NamedStore, named_stores}
 use Rattle.nv_bench.specs.Laws.{AreWholeStores}
 use Rattle.nv_bench.specs.Naming.{HasDistinctStores}
-use Rattle.nv_bench.specs.Shelf.{shelved, shelf_faults}
+use Rattle.nv_bench.specs.BenchStores.{held_stores, bench_store_faults}
 use Rattle.nv_bench.specs.declared.mem_bench.MemBench.{MemBench}
 
 -- what its devices at home hold
 abbrev pub held_by : MemBench → Holding
-held_by bench = record { parts = map part_now bench.parts.items; stores = shelved bench.shelf }
+held_by bench = record { parts = map part_now bench.parts.items; stores = held_stores bench.bench_stores }
 
 -- how often they, and those that are gone, have failed
 abbrev pub faults_by : MemBench → ℕ
-faults_by bench = saturated (bench.gone + sum_by part_faults bench.parts.items + shelf_faults bench.shelf)
+faults_by bench = saturated (bench.gone + sum_by part_faults bench.parts.items + bench_store_faults bench.bench_stores)
 
 -- what parts are, of some rows of them the first
 abbrev pub latest_of : {A : Type 0} → List (Vec MemPart A) → Option (List Part)
@@ -49,18 +49,18 @@ abbrev pub new_state : Holding → BenchState
 new_state holding = record { told = Some holding; is_open = false; lent = []; faults = 0; arms = 0; armed = 0; settled = 0; left = None }
 
 -- stores in memory are whole
-stores_whole : (names : List (List ℕ)) (stores : List MemStore) → All (λ (named : NamedStore). IsWhole named.store) (named_stores names (map store_now stores))
-stores_whole [] stores = All-nil (λ (named : NamedStore). IsWhole named.store)
-stores_whole (name ∷ names) [] = All-nil (λ (named : NamedStore). IsWhole named.store)
+stores_whole : (names : List (List ℕ)) (stores : List MemStore) → All (λ (named : NamedStore). IsWholeStore named.store) (named_stores names (map store_now stores))
+stores_whole [] stores = All-nil (λ (named : NamedStore). IsWholeStore named.store)
+stores_whole (name ∷ names) [] = All-nil (λ (named : NamedStore). IsWholeStore named.store)
 stores_whole (name ∷ names) (store ∷ stores) =
-    All-cons (λ (named : NamedStore). IsWhole named.store) (record { name = name; store = store_now store }) (named_stores names (map store_now stores))
-    (store_told_whole store (store_now store) (map store_of store.told.past.states) refl) (stores_whole names stores)
+    All-cons (λ (named : NamedStore). IsWholeStore named.store) (record { name = name; store = store_now store }) (named_stores names (map store_now stores))
+    (store_told_whole store (store_now store) (map disk_store store.told.past.states) refl) (stores_whole names stores)
 
 -- and so are those of a bench
 pub mem_whole : (bench : MemBench) (holding : Holding) → (mem_state bench).told ≡ Some holding → AreWholeStores holding
 mem_whole bench holding told =
     subst AreWholeStores (ap (λ (one : Option Holding). unwrap_or one (held_by bench)) told)
-    (stores_whole (map string_bytes bench.shelf.names.items) bench.shelf.stores.items)
+    (stores_whole (map string_bytes bench.bench_stores.names.items) bench.bench_stores.stores.items)
 
 -- their names are kept apart
 pub mem_named : (bench : MemBench) → HasDistinctStores (mem_state bench)

@@ -4,12 +4,12 @@ use Rattle.std.specs.List.{range_with_len}
 use Rattle.nv_plain.specs.Images.{header_of}
 use Rattle.nv_plain.specs.Layouts.{Layout, version_1}
 use Rattle.nv_pmem.specs.Limits.{entry_lines}
-use Rattle.nv_pmem.specs.Images.{IsQuiet}
+use Rattle.nv_pmem.specs.Images.{IsQuietPart}
 use Rattle.nv_pmem.specs.Made.{resized}
 use Rattle.nv_pmem.specs.Part.{Part}
 use Rattle.nv_pmem.specs.Room.{Room}
 use Rattle.nv_pmem.specs.Rows.{row_words}
-use Rattle.nv_pmem.specs.Steps.{History}
+use Rattle.nv_pmem.specs.Steps.{PartHistory}
 use Rattle.nv_pmem.specs.declared.geometry.Geometry.{Geometry}
 
 -- Parts are blank where there is no part 0, it has no line, or word 0 of its line 0 is 0.
@@ -32,6 +32,6 @@ pub record IsFresh (room : Room) : Type 0 where
   pub spare : (line : ℕ) → line < room.lines → 15 ≤ room.spare line
 
 -- A part as a bench opens it: where it is quiet, or doesn't tell, each line can take 15 contents.
-abbrev pub IsFreshWhereQuiet : History → Room → Type 0
+abbrev pub IsFreshWhereQuiet : PartHistory → Room → Type 0
 IsFreshWhereQuiet [] room = IsFresh room
-IsFreshWhereQuiet (now ∷ past) room = IsQuiet now → IsFresh room
+IsFreshWhereQuiet (now ∷ past) room = IsQuietPart now → IsFresh room

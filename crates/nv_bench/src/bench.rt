@@ -1,3 +1,4 @@
+//! Benches: the devices that a program runs over, lent and given back.
 ghost use Rattle.std.specs.Prelude.{◌≡◌, ℕ, ◌+◌, ◌-◌, ◌^◌, ◌<◌, ◌≤◌, Bool, [], List, length, map, sum_by, true, false, Some, None, All, Contains, IsTrue, Err, IfOk, IfSome, OnOk, OnErr};
 ghost use Rattle.nv_plain.specs.Faults.{Rose, saturated};
 ghost use Rattle.nv_plain.specs.Layouts.{version_1};

@@ -2,13 +2,13 @@
 #![tactic(auto)]
 
 mod bench;
+mod bench_stores;
 mod file_ids;
 mod folder_bench;
 mod folder_parts;
 mod laws;
 mod mem_bench;
 mod parts;
-mod shelf;
 
 pub use bench::{Bench, BenchError};
 pub use folder_bench::FolderBench;

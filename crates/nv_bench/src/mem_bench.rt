@@ -1,9 +1,10 @@
+//! A bench of devices in memory, which can lose power.
 ghost use Rattle.std.specs.Prelude.{◌≡◌, ◌+◌, ◌%◌, ◌++◌, true, false, List, [], length, map, sum_by, string_bytes, vec_len, All, Contains, Some, None, IfOk, IfSome, OnOk, OnErr};
 ghost use Rattle.nv_bench.specs.Naming.{AreDistinct, AreDistinct-prop, names_of};
-ghost use Rattle.nv_bench.specs.Shelf.{HasPlaces, shelved};
+ghost use Rattle.nv_bench.specs.BenchStores.{HasPlaces, held_stores};
 
+use crate::bench_stores::BenchStores;
 use crate::parts::{faults_of_parts, make_wanted, parts_of, power_parts};
-use crate::shelf::Shelf;
 use crate::{Bench, BenchError};
 use nv_plain::NoMemory;
 use nv_pmem::{Fuse, Geometry, MemPart, Past, Pick, Picker};
@@ -18,7 +19,7 @@ pub struct MemBench {
     alloc: Global,
     fuse: Fuse,
     parts: Vec<MemPart>,
-    shelf: Shelf,
+    bench_stores: BenchStores,
     is_open: bool,
     // The names of the stores that are lent.
     lent: Vec<String>,
@@ -31,8 +32,8 @@ pub struct MemBench {
     left: Past<Vec<MemPart>>,
     ghost home: { is_open ≡ true → vec_len parts ≡ 0 },
     // So stores are taken back without memory.
-    ghost places: { HasPlaces (vec_len lent) shelf },
-    ghost named: { AreDistinct (names_of (shelved shelf) ++ map string_bytes lent.items) } by { AreDistinct-prop (names_of (shelved shelf) ++ map string_bytes lent.items) },
+    ghost places: { HasPlaces (vec_len lent) bench_stores },
+    ghost named: { AreDistinct (names_of (held_stores bench_stores) ++ map string_bytes lent.items) } by { AreDistinct-prop (names_of (held_stores bench_stores) ++ map string_bytes lent.items) },
 }
 
 impl MemBench {
@@ -54,7 +55,7 @@ impl MemBench {
             alloc,
             fuse: Fuse::new(alloc, fails)?,
             parts: Vec::new(alloc),
-            shelf: Shelf::new(alloc),
+            bench_stores: BenchStores::new(alloc),
             is_open: false,
             lent: Vec::new(alloc),
             gone: 0,
@@ -82,12 +83,12 @@ impl MemBench {
     {
         let fuse = Fuse::new(alloc, fails)?;
         let parts = parts_of(alloc, &fuse, parts)?;
-        let shelf = Shelf::of(alloc, &fuse, stores)?;
+        let bench_stores = BenchStores::of(alloc, &fuse, stores)?;
         Ok(MemBench {
             alloc,
             fuse,
             parts,
-            shelf,
+            bench_stores,
             is_open: false,
             lent: Vec::new(alloc),
             gone: 0,
@@ -103,10 +104,10 @@ impl MemBench {
         requires { self.old.is_open ≡ false }
         ensures parts { OnOk result (map part_now self.new.parts.items ≡ opened want (map part_now self.old.parts.items)) }
         ensures others { OnOk result (mem_state self.new ≡ record (mem_state self.old) {
-          told = Some (record { parts = map part_now self.new.parts.items; stores = shelved self.old.shelf });
+          told = Some (record { parts = map part_now self.new.parts.items; stores = held_stores self.old.bench_stores });
           faults = faults_by self.new;
         }) }
-        ensures stores { self.new.shelf ≡ self.old.shelf }
+        ensures stores { self.new.bench_stores ≡ self.old.bench_stores }
         ensures faults { OnOk result (saturated (self.new.gone + sum_by part_faults self.new.parts.items)
             ≡ saturated (self.old.gone + sum_by part_faults self.old.parts.items)) }
         ensures kept { OnErr result (mem_state self.new ≡ mem_state self.old) }
@@ -119,16 +120,16 @@ impl MemBench {
     fn lend(&mut self, name: &str) -> Result<MemStore, NoMemory>
         requires other { ¬ (Contains (mem_state self.old).lent name.now) }
         ensures lent { OnOk result (mem_state self.new ≡ with_faults (mem_state self.new).faults (store_lent name.now (mem_state self.old))) }
-        ensures store { IfOk result (λ store. store_now store ≡ store_of name.now (shelved self.old.shelf)) }
+        ensures store { IfOk result (λ store. store_now store ≡ store_of name.now (held_stores self.old.bench_stores)) }
         ensures counts { IfOk result (λ store. (mem_state self.old).faults ≡ saturated ((mem_state self.new).faults + store_faults store)) }
         ensures memory { OnErr result (mem_state self.new ≡ mem_state self.old) }
     {
         let lent = String::from_str(self.alloc, name)?;
         let empty = MemStore::fused(self.alloc, &[], self.fuse.copy()?)?;
         self.lent.reserve(1)?;
-        self.shelf.reserve(self.lent.len() + 1)?;
+        self.bench_stores.reserve(self.lent.len() + 1)?;
         self.lent.push_reserved(lent);
-        Ok(self.shelf.take_or(name, empty))
+        Ok(self.bench_stores.take_or(name, empty))
     }
 }
 
@@ -191,13 +192,13 @@ impl Bench for MemBench {
     {
         self.is_open = false;
         self.parts = parts;
-        self.shelf.put(&mut self.lent, stores);
+        self.bench_stores.put(&mut self.lent, stores);
     }
 
     fn power(&mut self, pick: Pick) -> Result<(), NoMemory> {
         let mut picker = Picker::new(pick);
         power_parts(&mut self.parts, &mut picker);
-        self.shelf.lose_power(&mut picker);
+        self.bench_stores.lose_power(&mut picker);
         self.fuse.disarm();
         self.settled = self.faults();
         self.left.note(&self.parts);
@@ -207,7 +208,7 @@ impl Bench for MemBench {
     fn faults(&self) -> u64 {
         self.gone
             .saturating_add(faults_of_parts(&self.parts))
-            .saturating_add(self.shelf.faults())
+            .saturating_add(self.bench_stores.faults())
     }
 
     ghost whole = { mem_whole };

@@ -1,8 +1,9 @@
+//! The parts of a region in memory.
 ghost use Rattle.std.specs.Prelude.{◌≡◌, ◌+◌, ◌%◌, [], length, map, slice_index_or, sum_by, All, IfOk, OnOk, OnErr};
 ghost use Rattle.nv_plain.specs.Faults.{saturated};
 ghost use Rattle.nv_plain.specs.Layouts.{version_1};
 ghost use Rattle.nv_pmem.specs.Made.{part_in, resized};
-ghost use Rattle.nv_pmem.specs.MemPart.{IsNew, part_now, part_faults};
+ghost use Rattle.nv_pmem.specs.MemPart.{IsNewPart, part_now, part_faults};
 ghost use Rattle.nv_bench.specs.Opening.{is_blank, opened, sized};
 ghost use Rattle.nv_bench.specs.Powered.{powered_parts};
 
@@ -94,7 +95,7 @@ fn sized_part(
     i: u64,
     lines: u64,
 ) -> Result<MemPart, NoMemory>
-    ensures { IfOk result (IsNew (resized lines (slice_index_or (map part_now parts.now) i []))) }
+    ensures { IfOk result (IsNewPart (resized lines (slice_index_or (map part_now parts.now) i []))) }
 {
     let fuse = fuse.copy()?;
     match parts.get(i as usize) {

@@ -5,19 +5,19 @@ ghost use Rattle.nv_plain.specs.declared.call.FileCall.TheVariants.{Read, Sync};
 ghost use Rattle.nv_pmem.specs.MemPart.{part_history, part_room};
 ghost use Rattle.nv_pmem.specs.Rows.{RowTells};
 ghost use Rattle.nv_header.specs.Regions.{HasParts, IsBlankRow};
-ghost use Rattle.nv_table.specs.Begun.{begun_sizes};
-ghost use Rattle.nv_table.specs.Between.{IsStill};
-ghost use Rattle.nv_table.specs.Idle.{IsIdle, IsLater};
-ghost use Rattle.nv_table.specs.Sights.{made_of};
-ghost use Rattle.nv_table.specs.States.{IsOf};
+ghost use Rattle.nv_table.specs.ends.Begun.{begun_sizes};
+ghost use Rattle.nv_table.specs.passes.PassesMade.{IsShownStill};
+ghost use Rattle.nv_table.specs.invariant.Idle.{IsIdle, IsLater};
+ghost use Rattle.nv_table.specs.state.Views.{made_of};
+ghost use Rattle.nv_table.specs.state.States.{IsOf};
 
 use crate::given::region;
 use nv_plain::NoMemory;
 use nv_pmem::{Lines, MemPart};
 use nv_store::{Backing, MemStore};
 use nv_table::{
-    Board, Busy, Calls, Closed, Desk, Layout, ORDER, Pass, begin_with_load, begin_with_take, hear,
-    join_pass, load_word, place, split_pass, write_note,
+    Board, Busy, Calls, Closed, Layout, ORDER, Pass, Workspace, begin_with_load, begin_with_take,
+    export_view, import_view, join_pass, load_word, place, split_pass,
 };
 use std::alloc::Global;
 use std::process::Abort;
@@ -43,9 +43,9 @@ fn opened(alloc: Global) -> Result<(Board<MemPart, MemStore>, Pass<MemPart, MemS
     ensures board { IfOk result (λ made. IsOf made.0 made.1) }
     ensures sizes { IfOk result (λ made. made.0.opened.sizes ≡ begun_sizes 64 16 1 64 4) }
     ensures idle { IfOk result (λ made. IsIdle made.1) }
-    ensures number { IfOk result (λ made. made.1.sight.number ≡ 0) }
-    ensures made { IfOk result (λ made. made_of made.1.sight ≡ 0) }
-    ensures ended { IfOk result (λ made. made.1.sight.ended ≡ []) }
+    ensures number { IfOk result (λ made. made.1.view.number ≡ 0) }
+    ensures made { IfOk result (λ made. made_of made.1.view ≡ 0) }
+    ensures ended { IfOk result (λ made. made.1.view.ended ≡ []) }
 {
     let mut stores = Vec::new(alloc);
     stores.push(MemStore::new(alloc, &[1, 2, 3])?)?;
@@ -72,9 +72,9 @@ fn opened_for_two(
     ensures sizes { IfOk result (λ made. made.0.opened.sizes ≡ begun_sizes 64 16 1 64 4) }
     ensures idle { IfOk result (λ made. IsIdle made.1) }
     ensures other_idle { IfOk result (λ made. IsIdle made.2) }
-    ensures number { IfOk result (λ made. made.1.sight.number ≡ 0) }
-    ensures other_number { IfOk result (λ made. made.2.sight.number ≡ 1) }
-    ensures one_more { IfOk result (λ made. length made.1.sight.ended + 1 ≡ made_of made.1.sight) }
+    ensures number { IfOk result (λ made. made.1.view.number ≡ 0) }
+    ensures other_number { IfOk result (λ made. made.2.view.number ≡ 1) }
+    ensures one_more { IfOk result (λ made. length made.1.view.ended + 1 ≡ made_of made.1.view) }
 {
     let (board, mut pass) = opened(alloc)?;
     let other = split_pass(alloc, &board, &mut pass).expect(rt, "there is memory");
@@ -90,10 +90,10 @@ fn closed<L: Lines + Drop, B: Backing + Drop>(
     requires board { IsOf board pass }
     requires other_board { IsOf board other }
     requires idle { IsIdle pass }
-    requires other_still { IsStill other }
-    requires number { pass.sight.number ≡ 0 }
-    requires other_number { other.sight.number ≢ 0 }
-    requires one_more { length pass.sight.ended + 1 ≡ made_of pass.sight }
+    requires other_still { IsShownStill other }
+    requires number { pass.view.number ≡ 0 }
+    requires other_number { other.view.number ≢ 0 }
+    requires one_more { length pass.view.ended + 1 ≡ made_of pass.view }
 {
     join_pass(&board, &mut pass, other);
     pass.bare_is_still();
@@ -172,7 +172,7 @@ fn begin_read<L: Lines, B: Backing>(board: &Board<L, B>, pass: &mut Pass<L, B>) 
     requires sizes { board.now.opened.sizes ≡ begun_sizes 64 16 1 64 4 }
     requires idle { IsIdle pass.old }
     ensures board { IsOf board.now pass.new }
-    ensures still { IsStill pass.new }
+    ensures still { IsShownStill pass.new }
     ensures idle { IfErr result (λ busy. IsIdle pass.new) }
     ensures later { IsLater pass.old pass.new }
 {
@@ -205,7 +205,7 @@ fn a_lock_that_is_held_is_busy(rt: HostRuntime) -> Result<(), Fail> {
     assert_eq!(rt; begin_read(&board, &mut other), Ok(()));
     let busy = begin_read(&board, &mut pass).expect_err(&rt, "the lock is held");
     assert_eq!(rt; busy, Busy { cell: 30 });
-    // The other pass is taken in with the page in its hands.
+    // The other pass is taken in with the page among its owned cells.
     let closed = closed(board, pass, other);
     assert_eq!(rt; closed.parts.len(), 17);
     assert_eq!(rt; closed.stores.len(), 1);
@@ -225,24 +225,24 @@ fn two_threads_sync_at_once(rt: HostRuntime) -> Result<(), Fail> {
 }
 
 #[test]
-fn a_pass_hears_a_note(rt: HostRuntime) -> Result<(), Fail> {
+fn a_pass_imports_a_view(rt: HostRuntime) -> Result<(), Fail> {
     let (board, mut pass, mut other) = opened_for_two(&rt, rt.alloc())?;
     assert_eq!(rt; other.number(), 1);
     assert_eq!(rt; sync_once(&board, &mut other), Some(0));
-    let note = write_note(&board, &mut other);
-    hear(&board, &mut pass, note);
+    let exported = export_view(&board, &mut other);
+    import_view(&board, &mut pass, exported);
     assert_eq!(rt; sync_once(&board, &mut pass), Some(1));
     assert_eq!(rt; closed(board, pass, other).placed, 2);
     Ok(())
 }
 
 #[test]
-fn a_desk_has_room_for_a_page(rt: HostRuntime) -> Result<(), Fail> {
+fn a_workspace_has_room_for_a_page(rt: HostRuntime) -> Result<(), Fail> {
     let layout = Layout::new(64, 1, 64, 16, 4);
-    let mut desk = Desk::<MemPart, MemStore>::new(rt.alloc(), layout)?;
-    assert_eq!(rt; desk.page().len(), 64);
-    assert_eq!(rt; desk.piece().len(), 64);
-    assert!(rt; desk.parts().is_empty());
-    assert!(rt; desk.stores().is_empty());
+    let mut workspace = Workspace::<MemPart, MemStore>::new(rt.alloc(), layout)?;
+    assert_eq!(rt; workspace.page().len(), 64);
+    assert_eq!(rt; workspace.piece().len(), 64);
+    assert!(rt; workspace.parts().is_empty());
+    assert!(rt; workspace.stores().is_empty());
     Ok(())
 }

@@ -5,7 +5,7 @@ ghost use Rattle.nv_pmem.specs.MemPart.{part_history, part_room};
 ghost use Rattle.nv_pmem.specs.Moments.{Tells};
 ghost use Rattle.nv_pmem.specs.Rows.{RowTells};
 ghost use Rattle.nv_store.specs.MemStore.{store_history};
-ghost use Rattle.nv_store.specs.Store.{IsQuiet};
+ghost use Rattle.nv_store.specs.Store.{IsQuietStore};
 ghost use Rattle.nv_header.specs.Regions.{HasParts, IsBlankRow};
 
 use nv_header::{Region, add_file, format};
@@ -43,7 +43,7 @@ pub(crate) fn region(alloc: Global) -> Result<Region<MemPart>, Fail>
 // The store of its file, which has these bytes, and whose calls fail as the fuse says.
 pub(crate) fn stores(alloc: Global, bytes: &[u8], fuse: Fuse) -> Result<Vec<MemStore>, NoMemory>
     ensures one { IfOk result (λ stores. length stores.items ≡ 1) }
-    ensures quiet { IfOk result (λ stores. All (λ store. Tells (store_history store) IsQuiet) stores.items) }
+    ensures quiet { IfOk result (λ stores. All (λ store. Tells (store_history store) IsQuietStore) stores.items) }
 {
     let mut stores = Vec::new(alloc);
     stores.push(MemStore::fused(alloc, bytes, fuse)?)?;

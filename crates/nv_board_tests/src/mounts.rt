@@ -5,10 +5,10 @@ ghost use Rattle.nv_pmem.specs.MemPart.{part_history, part_room};
 ghost use Rattle.nv_pmem.specs.Moments.{Tells};
 ghost use Rattle.nv_pmem.specs.Rows.{RowTells};
 ghost use Rattle.nv_store.specs.MemStore.{store_history};
-ghost use Rattle.nv_store.specs.Store.{IsQuiet};
+ghost use Rattle.nv_store.specs.Store.{IsQuietStore};
 ghost use Rattle.nv_header.specs.Regions.{HasParts, IsBlankRow};
-ghost use Rattle.nv_table.specs.Sights.{newcomer};
-ghost use Rattle.nv_table.specs.States.{IsOf};
+ghost use Rattle.nv_table.specs.state.Views.{first_view};
+ghost use Rattle.nv_table.specs.state.States.{IsOf};
 
 use crate::given::{region, stores};
 use nv_header::Region;
@@ -27,9 +27,9 @@ fn opened(
 ) -> Result<(Mount<MemPart, MemStore>, Pass<MemPart, MemStore>), Unopened<MemPart, MemStore>>
     requires names { length region.names ≡ 1 }
     requires one { length stores.items ≡ 1 }
-    requires quiet { All (λ store. Tells (store_history store) IsQuiet) stores.items }
+    requires quiet { All (λ store. Tells (store_history store) IsQuietStore) stores.items }
     ensures board { IfOk result (λ made. IsOf made.0.board made.1) }
-    ensures sight { IfOk result (λ made. made.1.sight ≡ newcomer made.0.board.opened) }
+    ensures view { IfOk result (λ made. made.1.view ≡ first_view made.0.board.opened) }
     ensures nothing { IfOk result (λ made. made.1.now ≡ []) }
 {
     Mount::open(alloc, region, stores, Fds::new(alloc), 64, 4)

@@ -1,7 +1,7 @@
 //! Reads of a mount.
-ghost use Rattle.nv_table.specs.Idle.{IsIdle, IsLater};
-ghost use Rattle.nv_table.specs.States.{IsOf, PassState};
-ghost use Rattle.nv_calls.specs.Reads.{IsUnderWay};
+ghost use Rattle.nv_table.specs.invariant.Idle.{IsIdle, IsLater};
+ghost use Rattle.nv_table.specs.state.States.{IsOf, PassState};
+ghost use Rattle.nv_calls.specs.reads.Reads.{IsReadUnderWay};
 
 use crate::syncs::{close, opened, split, take_in};
 use nv_calls::{Done, Kind, Progress, ReadMachine, Refusal, pread, try_pread};
@@ -25,10 +25,10 @@ fn read_slowly(
     list: &mut [u8],
 ) -> (Vec<Kind>, Result<Done, Refusal>)
     requires board { IsOf mount.now.board pass.old }
-    requires way { (start : PassState) × IsIdle start × IsUnderWay mount.now.fds read.old list.old start pass.old }
+    requires way { (start : PassState) × IsIdle start × IsReadUnderWay mount.now.fds read.old list.old start pass.old }
     ensures board { IsOf mount.now.board pass.new }
     ensures idle { IsIdle pass.new }
-    ensures later { (start : PassState) → IsIdle start → IsUnderWay mount.now.fds read.old list.old start pass.old → IsLater start pass.new }
+    ensures later { (start : PassState) → IsIdle start → IsReadUnderWay mount.now.fds read.old list.old start pass.old → IsLater start pass.new }
 {
     let mut kinds = Vec::new(alloc);
     loop {
@@ -85,7 +85,7 @@ fn a_read_past_the_end_is_twelve_advances(rt: HostRuntime) -> Result<(), Fail> {
         Kind::Give,
     ];
     assert_eq!(rt; kinds[..], *steps.as_slice());
-    // The page's buffer counts now.
+    // The page's buffer is valid now.
     let mut again = [0; 9];
     let done = try_pread(&mount, &mut pass, 0, 1, &mut again);
     assert_eq!(rt; done, Ok(Done { place: 1, len: 2 }));

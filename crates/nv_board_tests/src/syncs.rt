@@ -6,11 +6,11 @@ ghost use Rattle.nv_pmem.specs.MemPart.{part_history, part_room};
 ghost use Rattle.nv_pmem.specs.Moments.{Tells};
 ghost use Rattle.nv_pmem.specs.Rows.{RowTells};
 ghost use Rattle.nv_store.specs.MemStore.{store_history};
-ghost use Rattle.nv_store.specs.Store.{IsQuiet};
+ghost use Rattle.nv_store.specs.Store.{IsQuietStore};
 ghost use Rattle.nv_header.specs.Regions.{HasParts, IsBlankRow};
-ghost use Rattle.nv_table.specs.Idle.{IsIdle};
-ghost use Rattle.nv_table.specs.Sights.{made_of};
-ghost use Rattle.nv_table.specs.States.{IsOf};
+ghost use Rattle.nv_table.specs.invariant.Idle.{IsIdle};
+ghost use Rattle.nv_table.specs.state.Views.{made_of};
+ghost use Rattle.nv_table.specs.state.States.{IsOf};
 
 use crate::given::{region, stores};
 use nv_calls::{Done, Kind, Progress, Refusal, SyncMachine, try_fsync};
@@ -42,9 +42,9 @@ pub(crate) fn opened(
 ) -> Result<(Mount<MemPart, MemStore>, Pass<MemPart, MemStore>), Fail>
     ensures board { IfOk result (λ made. IsOf made.0.board made.1) }
     ensures idle { IfOk result (λ made. IsIdle made.1) }
-    ensures number { IfOk result (λ made. made.1.sight.number ≡ 0) }
-    ensures made { IfOk result (λ made. made_of made.1.sight ≡ 0) }
-    ensures ended { IfOk result (λ made. made.1.sight.ended ≡ []) }
+    ensures number { IfOk result (λ made. made.1.view.number ≡ 0) }
+    ensures made { IfOk result (λ made. made_of made.1.view ≡ 0) }
+    ensures ended { IfOk result (λ made. made.1.view.ended ≡ []) }
 {
     let stores = stores(alloc, bytes, Fuse::new(alloc, fails)?)?;
     match Mount::open(alloc, region(alloc)?, stores, fds(alloc)?, 64, 4) {
@@ -62,15 +62,15 @@ pub(crate) fn split(
 ) -> Pass<MemPart, MemStore>
     requires board { IsOf mount.now.board pass.old }
     requires idle { IsIdle pass.old }
-    requires number { pass.old.sight.number ≡ 0 }
-    requires few { made_of pass.old.sight < 10 }
+    requires number { pass.old.view.number ≡ 0 }
+    requires few { made_of pass.old.view < 10 }
     ensures board { IsOf mount.now.board pass.new }
     ensures other_board { IsOf mount.now.board result }
     ensures idle { IsIdle pass.new }
     ensures other_idle { IsIdle result }
-    ensures number { pass.new.sight.number ≡ 0 }
-    ensures other_number { result.sight.number ≢ 0 }
-    ensures made { made_of pass.new.sight ≡ made_of pass.old.sight + 1 }
+    ensures number { pass.new.view.number ≡ 0 }
+    ensures other_number { result.view.number ≢ 0 }
+    ensures made { made_of pass.new.view ≡ made_of pass.old.view + 1 }
 {
     split_pass(alloc, mount.board(), pass).expect(rt, "there is memory")
 }
@@ -85,11 +85,11 @@ pub(crate) fn take_in(
     requires other_board { IsOf mount.now.board other }
     requires idle { IsIdle pass.old }
     requires other_idle { IsIdle other }
-    requires number { pass.old.sight.number ≡ 0 }
-    requires other_number { other.sight.number ≢ 0 }
+    requires number { pass.old.view.number ≡ 0 }
+    requires other_number { other.view.number ≢ 0 }
     ensures board { IsOf mount.now.board pass.new }
     ensures idle { IsIdle pass.new }
-    ensures number { pass.new.sight.number ≡ 0 }
+    ensures number { pass.new.view.number ≡ 0 }
 {
     other.bare_is_still();
     join_pass(mount.board(), pass, other);
@@ -103,7 +103,7 @@ pub(crate) fn close(
 ) -> Closed<MemPart, MemStore>
     requires board { IsOf mount.board pass }
     requires idle { IsIdle pass }
-    requires number { pass.sight.number ≡ 0 }
+    requires number { pass.view.number ≡ 0 }
 {
     pass.bare_is_still();
     match mount.close(pass) {

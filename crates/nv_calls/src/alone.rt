@@ -1,5 +1,5 @@
 //! What calls are answered while no other pass is out.
-ghost use Rattle.nv_calls.specs.ReadsAlone.{NoReadIsBusy};
+ghost use Rattle.nv_calls.specs.reads.ReadsAlone.{NoReadIsBusy};
 
 use nv_table::a_pass_alone_is_not_refused;
 

@@ -1,4 +1,5 @@
-ghost use Rattle.nv_calls.specs.Heeds.{ReadsHeedStop, SyncsHeedStop};
+//! Laws of calls that are over.
+ghost use Rattle.nv_calls.specs.histories.Heeds.{ReadsHeedStop, SyncsHeedStop};
 
 use nv_core::runs_are_sound;
 

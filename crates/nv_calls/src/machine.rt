@@ -1,15 +1,15 @@
 //! An fsync that is made one step at a time.
 ghost use Rattle.std.specs.Prelude.{◌≡◌, ◌<◌, false, Some, None, option_map};
 ghost use Rattle.nv_plain.specs.declared.call.FileCall.TheVariants.{Sync};
-ghost use Rattle.nv_core.specs.Deeds.{Loads};
-ghost use Rattle.nv_core.specs.Words.{STOP as stop_word};
-ghost use Rattle.nv_table.specs.Idle.{IsIdle};
-ghost use Rattle.nv_table.specs.Ready.{Stepped};
-ghost use Rattle.nv_table.specs.States.{IsOf, PassState};
-ghost use Rattle.nv_calls.specs.Courses.{file_of};
-ghost use Rattle.nv_calls.specs.Kinds.{sync_kind};
-ghost use Rattle.nv_calls.specs.Machines.{Goes, IsNext, IsUnderWay, placed_then};
-ghost use Rattle.nv_calls.specs.declared.machine.SyncStage.TheVariants.{Begins};
+ghost use Rattle.nv_core.specs.steps.Ops.{Load};
+ghost use Rattle.nv_core.specs.state.Words.{STOP as stop_word};
+ghost use Rattle.nv_table.specs.invariant.Idle.{IsIdle};
+ghost use Rattle.nv_table.specs.steps.StepContracts.{Postcondition};
+ghost use Rattle.nv_table.specs.state.States.{IsOf, PassState};
+ghost use Rattle.nv_calls.specs.fsync.SyncRuns.{file_of_fd};
+ghost use Rattle.nv_calls.specs.histories.Kinds.{sync_kind};
+ghost use Rattle.nv_calls.specs.fsync.SyncMachines.{SyncGoes, SyncFollows, IsSyncUnderWay, placed_then};
+ghost use Rattle.nv_calls.specs.declared.machine.SyncControl.TheVariants as syncs;
 
 use crate::{Done, Kind, Refusal};
 use nv_mount::Mount;
@@ -29,20 +29,20 @@ pub enum Progress {
 
 /// The step that comes next.
 #[derive(Clone, Copy, Debug, PartialEq, Eq)]
-pub enum SyncStage {
+pub enum SyncControl {
     /// The load of STOP, with which the call begins.
-    Begins,
+    Begin,
     /// The load of ORDER.
-    Orders,
+    LoadOrder,
     /// The call's place.
-    Places,
+    TakePlace,
 }
 
 /// An fsync of a descriptor, which makes one step at each advance.
 #[derive(Clone, Copy, Debug, PartialEq, Eq)]
 pub struct SyncMachine {
     pub fd: u64,
-    pub stage: SyncStage,
+    pub control: SyncControl,
     /// Its place, once it has one.
     pub place: Option<u64>,
 }
@@ -58,7 +58,7 @@ fn begin_sync<C: Calls, L: Lines, B: Backing>(
     requires call { C.call ≡ Sync file }
     requires known { file < board.now.opened.sizes.files }
     ensures board { IsOf board.now pass.new }
-    ensures stepped { Stepped pass.old (Some (Sync file)) (Loads stop_word) result pass.new }
+    ensures stepped { Postcondition pass.old (Some (Sync file)) (Load stop_word) result pass.new }
 {
     // Only clauses speak of the file.
     let _ = file;
@@ -68,22 +68,22 @@ fn begin_sync<C: Calls, L: Lines, B: Backing>(
 impl SyncMachine {
     /// An fsync that has made no step yet.
     pub fn new(fd: u64) -> Self
-        ensures { result ≡ record { fd = fd; stage = Begins; place = None } }
+        ensures { result ≡ record { fd = fd; control = syncs.Begin; place = None } }
     {
         SyncMachine {
             fd,
-            stage: SyncStage::Begins,
+            control: SyncControl::Begin,
             place: None,
         }
     }
 
     /// The kind of the next step. Before the first advance it is that of the first step of a sync which isn't refused before.
     pub fn next_kind(&self) -> Kind
-        ensures { result ≡ sync_kind self.now.stage }
+        ensures { result ≡ sync_kind self.now.control }
     {
-        match self.stage {
-            SyncStage::Begins | SyncStage::Orders => Kind::Load,
-            SyncStage::Places => Kind::Place,
+        match self.control {
+            SyncControl::Begin | SyncControl::LoadOrder => Kind::Load,
+            SyncControl::TakePlace => Kind::Place,
         }
     }
 
@@ -108,32 +108,32 @@ impl SyncMachine {
         pass: &mut Pass<L, B>,
     ) -> Progress
         requires board { IsOf mount.now.board pass.old }
-        requires under_way { (start : PassState) × IsUnderWay (file_of mount.now.fds self.old.fd) self.old.stage start pass.old }
+        requires under_way { (start : PassState) × IsSyncUnderWay (file_of_fd mount.now.fds self.old.fd) self.old.control start pass.old }
         ensures board { IsOf mount.now.board pass.new }
         ensures fd { self.new.fd ≡ self.old.fd }
-        ensures next { IsNext self.old.stage self.new.stage result }
+        ensures next { SyncFollows self.old.control self.new.control result }
         ensures place { self.new.place ≡ placed_then self.old.place result }
-        ensures goes { (start : PassState) → IsUnderWay (file_of mount.now.fds self.old.fd) self.old.stage start pass.old → Goes (file_of mount.now.fds self.old.fd) start pass.new self.new.stage result }
+        ensures goes { (start : PassState) → IsSyncUnderWay (file_of_fd mount.now.fds self.old.fd) self.old.control start pass.old → SyncGoes (file_of_fd mount.now.fds self.old.fd) start pass.new self.new.control result }
     {
         let board = mount.board();
-        match self.stage {
-            SyncStage::Begins => {
+        match self.control {
+            SyncControl::Begin => {
                 let Some(open) = mount.fds().get(self.fd) else {
                     return Progress::Ended(Err(Refusal::BadFd));
                 };
                 if begin_sync::<Brand, L, B>(board, pass, open.file) != 0 {
                     return Progress::Ended(Err(Refusal::Stopped));
                 }
-                self.stage = SyncStage::Orders;
+                self.control = SyncControl::LoadOrder;
             }
-            SyncStage::Orders => {
+            SyncControl::LoadOrder => {
                 let found = load_word(board, pass, ORDER);
                 if found >= 1 << 60 {
                     return Progress::Ended(Err(Refusal::Spent { found }));
                 }
-                self.stage = SyncStage::Places;
+                self.control = SyncControl::TakePlace;
             }
-            SyncStage::Places => {
+            SyncControl::TakePlace => {
                 let place = place(board, pass);
                 self.place = Some(place);
                 return Progress::Ended(Ok(Done { place, len: 0 }));

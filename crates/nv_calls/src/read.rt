@@ -1,18 +1,18 @@
 //! Reads of files.
 ghost use Rattle.std.specs.Prelude.{◌≡◌, ◌≢◌, ℕ, Some, IfOk, OnErr, Err};
-ghost use Rattle.nv_table.specs.Idle.{IsIdle, IsLater};
-ghost use Rattle.nv_table.specs.States.{IsOf, PassState};
-ghost use Rattle.nv_calls.specs.Advances.{IsAdvance, IsOneOrNone, IsSameRead};
-ghost use Rattle.nv_calls.specs.Answers.{HasRead, IsUnplaced};
-ghost use Rattle.nv_calls.specs.Courses.{file_of};
-ghost use Rattle.nv_calls.specs.Heeds.{HeedsStop};
-ghost use Rattle.nv_calls.specs.Late.{IsLate};
-ghost use Rattle.nv_calls.specs.Ranks.{IsLess};
-ghost use Rattle.nv_calls.specs.Reads.{IsOnWay, IsReadOver, IsUnderWay, ReadGoes};
-ghost use Rattle.nv_calls.specs.Tries.{IsTried};
+ghost use Rattle.nv_table.specs.invariant.Idle.{IsIdle, IsLater};
+ghost use Rattle.nv_table.specs.state.States.{IsOf, PassState};
+ghost use Rattle.nv_calls.specs.reads.Advances.{IsAdvance, IsOneOrNone, IsSameRead};
+ghost use Rattle.nv_calls.specs.histories.Answers.{IsReadPlaced, IsUnplaced};
+ghost use Rattle.nv_calls.specs.fsync.SyncRuns.{file_of_fd};
+ghost use Rattle.nv_calls.specs.histories.Heeds.{HeedsStop};
+ghost use Rattle.nv_calls.specs.reads.PastSearch.{IsPastSearch};
+ghost use Rattle.nv_calls.specs.reads.Measures.{IsLess};
+ghost use Rattle.nv_calls.specs.reads.Reads.{IsOnWay, IsReadOver, IsReadUnderWay, ReadGoes};
+ghost use Rattle.nv_calls.specs.histories.Tries.{IsTried};
 ghost use Rattle.nv_calls.specs.declared.answers.Refusal.TheVariants.{Busy};
 
-use crate::{Done, Progress, ReadMachine, ReadStage, Refusal, ended_calls_heed_stop};
+use crate::{Done, Progress, ReadControl, ReadMachine, Refusal, ended_calls_heed_stop};
 use nv_mount::Mount;
 use nv_pmem::Lines;
 use nv_store::Backing;
@@ -30,39 +30,39 @@ impl ReadMachine {
         list: &mut [u8],
     ) -> Progress
         requires board { IsOf mount.now.board pass.old }
-        requires under_way { (start : PassState) × IsUnderWay mount.now.fds self.old list.old start pass.old }
+        requires under_way { (start : PassState) × IsReadUnderWay mount.now.fds self.old list.old start pass.old }
         ensures board { IsOf mount.now.board pass.new }
         ensures same { IsSameRead self.old self.new }
         ensures one { IsOneOrNone mount.now.fds self.old self.new pass.old pass.new result }
-        ensures less { IsLess pass.old.sight.opened.sizes self.old self.new result }
-        ensures goes { (start : PassState) → IsUnderWay mount.now.fds self.old list.old start pass.old → ReadGoes mount.now.fds start self.new list.new pass.new result }
+        ensures less { IsLess pass.old.view.opened.sizes self.old self.new result }
+        ensures goes { (start : PassState) → IsReadUnderWay mount.now.fds self.old list.old start pass.old → ReadGoes mount.now.fds start self.new list.new pass.new result }
     {
-        match self.stage {
-            ReadStage::Begins => self.begin(mount, pass, list),
-            ReadStage::Locks { page } => self.lock(mount, pass, list, page),
-            ReadStage::Measures => self.measure(mount, pass, list),
-            ReadStage::Sizes => self.take_size(mount, pass, list),
-            ReadStage::Checks => self.check(mount, pass, list),
-            ReadStage::Orders => self.order(mount, pass, list),
-            ReadStage::Turns { page, tries } => self.turn(mount, pass, list, page, tries),
-            ReadStage::Hints {
+        match self.control {
+            ReadControl::Begin => self.begin(mount, pass, list),
+            ReadControl::TakePage { page } => self.lock(mount, pass, list, page),
+            ReadControl::LoadLength => self.load_length(mount, pass, list),
+            ReadControl::TakeSize => self.take_size(mount, pass, list),
+            ReadControl::LoadStop => self.check(mount, pass, list),
+            ReadControl::LoadOrder => self.order(mount, pass, list),
+            ReadControl::TurnHand { page, tries } => self.turn(mount, pass, list, page, tries),
+            ReadControl::LoadHint {
                 page,
                 tries,
                 buffer,
             } => self.hint(mount, pass, list, page, tries, buffer),
-            ReadStage::Seeks {
+            ReadControl::TakeVictim {
                 page,
                 tries,
                 buffer,
                 victim,
-            } => self.seek(mount, pass, list, page, tries, buffer, victim),
-            ReadStage::Robs {
+            } => self.take_victim(mount, pass, list, page, tries, buffer, victim),
+            ReadControl::GiveVictim {
                 page,
                 tries,
                 buffer,
                 victim,
-            } => self.rob(mount, pass, list, page, tries, buffer, victim),
-            ReadStage::Points {
+            } => self.give_victim(mount, pass, list, page, tries, buffer, victim),
+            ReadControl::SetHint {
                 page,
                 tries,
                 buffer,
@@ -80,27 +80,35 @@ impl ReadMachine {
     ) -> Progress
         requires board { IsOf mount.now.board pass.old }
         requires way { (start : PassState) × IsOnWay mount.now.fds self.old list.old start pass.old }
-        requires late { IsLate self.old.stage }
+        requires late { IsPastSearch self.old.control }
         ensures board { IsOf mount.now.board pass.new }
         ensures advance { IsAdvance mount.now.fds self.old self.new list.old list.new pass.old pass.new result }
-        ensures less { IsLess pass.old.sight.opened.sizes self.old self.new result }
+        ensures less { IsLess pass.old.view.opened.sizes self.old self.new result }
     {
-        match self.stage {
-            ReadStage::Looks { page } => self.look(mount, pass, list, page),
-            ReadStage::Waits { page } => self.wait(mount, pass, list, page),
-            ReadStage::Fetches { page, dirty } => self.fetch(mount, pass, list, page, dirty),
-            ReadStage::Copies { page, dirty } => self.copy(mount, pass, list, page, dirty),
-            ReadStage::Bounds { page } => self.bound(mount, pass, list, page),
-            ReadStage::Starts { page } => self.start(mount, pass, list, page),
-            ReadStage::Scans { page, number } => self.scan(mount, pass, list, page, number),
-            ReadStage::Grasps { page, number } => self.grasp(mount, pass, list, page, number),
-            ReadStage::Patches { page, number } => self.patch(mount, pass, list, page, number),
-            ReadStage::Restores { page, number } => self.restore(mount, pass, list, page, number),
-            ReadStage::Unlocks { page } => self.unlock(mount, pass, list, page),
-            ReadStage::Places => self.take_place(mount, pass, list),
-            ReadStage::Releases => self.release(mount, pass, list),
-            ReadStage::Gives { page } => self.give_page(mount, pass, list, page),
-            ReadStage::Leaves { held, refusal } => self.leave(mount, pass, list, held, refusal),
+        match self.control {
+            ReadControl::LoadDirty { page } => self.look(mount, pass, list, page),
+            ReadControl::TakeCleanup { page } => self.take_cleanup(mount, pass, list, page),
+            ReadControl::TakeStore { page, dirty } => self.take_store(
+                mount, pass, list, page, dirty,
+            ),
+            ReadControl::ReadStore { page, dirty } => self.copy(mount, pass, list, page, dirty),
+            ReadControl::LoadHead { page } => self.load_head(mount, pass, list, page),
+            ReadControl::LoadTail { page } => self.start(mount, pass, list, page),
+            ReadControl::LoadEntry { page, number } => self.load_entry(
+                mount, pass, list, page, number,
+            ),
+            ReadControl::HoldEntry { page, number } => self.hold_next(
+                mount, pass, list, page, number,
+            ),
+            ReadControl::ReadPiece { page, number } => self.patch(mount, pass, list, page, number),
+            ReadControl::ReturnEntry { page, number } => self.restore(
+                mount, pass, list, page, number,
+            ),
+            ReadControl::GiveCleanup { page } => self.give_cleanup(mount, pass, list, page),
+            ReadControl::TakePlace => self.take_place(mount, pass, list),
+            ReadControl::GiveSize => self.give_size(mount, pass, list),
+            ReadControl::GivePage { page } => self.give_page(mount, pass, list, page),
+            ReadControl::GiveBack { held, refusal } => self.leave(mount, pass, list, held, refusal),
             _ => unreachable!(),
         }
     }
@@ -125,8 +133,8 @@ pub fn try_pread<L: Lines + Drop, B: Backing + Drop>(
     ensures idle { IsIdle pass.new }
     ensures later { IsLater pass.old pass.new }
     ensures spare { pass.new.spare ≡ pass.old.spare }
-    ensures done { IfOk result (λ done. (file : ℕ) × (file_of mount.now.fds fd ≡ Some file) × HasRead file at buf.new pass.old.sight pass.new.sight done) }
-    ensures kept { OnErr result (IsUnplaced pass.old.sight pass.new.sight) }
+    ensures done { IfOk result (λ done. (file : ℕ) × (file_of_fd mount.now.fds fd ≡ Some file) × IsReadPlaced file at buf.new pass.old.view pass.new.view done) }
+    ensures kept { OnErr result (IsUnplaced pass.old.view pass.new.view) }
     ensures over { IsReadOver mount.now.fds fd at buf.new pass.old pass.new result }
     ensures stop { HeedsStop pass.old pass.new result }
 {
@@ -156,10 +164,10 @@ pub fn pread<R: Wait, L: Lines + Drop, B: Backing + Drop>(
     ensures idle { IsIdle pass.new }
     ensures later { IsLater pass.old pass.new }
     ensures spare { pass.new.spare ≡ pass.old.spare }
-    ensures done { IfOk result (λ done. (file : ℕ) × (file_of mount.now.fds fd ≡ Some file) × HasRead file at buf.new pass.old.sight pass.new.sight done) }
-    ensures kept { OnErr result (IsUnplaced pass.old.sight pass.new.sight) }
+    ensures done { IfOk result (λ done. (file : ℕ) × (file_of_fd mount.now.fds fd ≡ Some file) × IsReadPlaced file at buf.new pass.old.view pass.new.view done) }
+    ensures kept { OnErr result (IsUnplaced pass.old.view pass.new.view) }
     ensures free { (cell : ℕ) → result ≢ Err (Busy cell) }
-    ensures over { (last : PassState) × IsUnplaced pass.old.sight last.sight × IsReadOver mount.now.fds fd at buf.new last pass.new result }
+    ensures over { (last : PassState) × IsUnplaced pass.old.view last.view × IsReadOver mount.now.fds fd at buf.new last pass.new result }
     ensures tried { IsTried mount.now.fds fd at buf.new pass.old pass.new result }
 {
     for _ in rt.forever() {

@@ -1,22 +1,22 @@
 //! How a read begins.
 ghost use Rattle.std.specs.Prelude.{◌≡◌, ℕ, ◌<◌, Some, IfErr};
 ghost use Rattle.nv_plain.specs.declared.call.FileCall.TheVariants.{Read};
-ghost use Rattle.nv_core.specs.Deeds.{Loads, Takes};
-ghost use Rattle.nv_core.specs.Passes.{IsAllowed, first_page, page_count};
-ghost use Rattle.nv_core.specs.Words.{STOP as stop_word, PAGE, place};
-ghost use Rattle.nv_table.specs.Found.{found_by};
-ghost use Rattle.nv_table.specs.Idle.{IsIdle};
-ghost use Rattle.nv_table.specs.Keys.{sizes_of};
-ghost use Rattle.nv_table.specs.Ready.{Stepped};
-ghost use Rattle.nv_table.specs.States.{IsOf, PassState};
-ghost use Rattle.nv_calls.specs.Advances.{IsAdvance, IsFirstAdvance};
-ghost use Rattle.nv_calls.specs.Barred.{Admits};
-ghost use Rattle.nv_calls.specs.Ranks.{IsLess};
-ghost use Rattle.nv_calls.specs.Reads.{IsUnbegun};
-ghost use Rattle.nv_calls.specs.declared.reading.ReadStage.TheVariants.{Begins};
+ghost use Rattle.nv_core.specs.steps.Ops.{Load, Take};
+ghost use Rattle.nv_core.specs.state.Passes.{IsAllowed, first_page, page_count};
+ghost use Rattle.nv_core.specs.state.Words.{STOP as stop_word, PAGE, place};
+ghost use Rattle.nv_table.specs.steps.Found.{found_by};
+ghost use Rattle.nv_table.specs.invariant.Idle.{IsIdle};
+ghost use Rattle.nv_table.specs.state.Keys.{sizes_of};
+ghost use Rattle.nv_table.specs.steps.StepContracts.{Postcondition};
+ghost use Rattle.nv_table.specs.state.States.{IsOf, PassState};
+ghost use Rattle.nv_calls.specs.reads.Advances.{IsAdvance, IsFirstAdvance};
+ghost use Rattle.nv_calls.specs.reads.EarlyRefusals.{Admits};
+ghost use Rattle.nv_calls.specs.reads.Measures.{IsLess};
+ghost use Rattle.nv_calls.specs.reads.Reads.{IsUnbegun};
+ghost use Rattle.nv_calls.specs.declared.reading.ReadControl.TheVariants as reads;
 
 use crate::read_steps::layout_of;
-use crate::{Progress, ReadMachine, ReadStage, Refusal};
+use crate::{Progress, ReadControl, ReadMachine, Refusal};
 use nv_entry::piece_count;
 use nv_mount::Mount;
 use nv_pmem::Lines;
@@ -37,9 +37,9 @@ fn begin_with_stop<C: Calls, L: Lines, B: Backing>(
     requires board { IsOf board.now pass.old }
     requires idle { IsIdle pass.old }
     requires call { C.call ≡ Read file at 0 }
-    requires allowed { IsAllowed pass.old.sight.opened.sizes (Read file at 0) }
+    requires allowed { IsAllowed pass.old.view.opened.sizes (Read file at 0) }
     ensures board { IsOf board.now pass.new }
-    ensures stepped { Stepped pass.old (Some (Read file at 0)) (Loads stop_word) result pass.new }
+    ensures stepped { Postcondition pass.old (Some (Read file at 0)) (Load stop_word) result pass.new }
 {
     // Only clauses speak of these.
     let _ = (file, at);
@@ -58,12 +58,12 @@ fn begin_with_page<C: Calls, L: Lines, B: Backing>(
     requires board { IsOf board.now pass.old }
     requires idle { IsIdle pass.old }
     requires call { C.call ≡ Read file at len }
-    requires allowed { IsAllowed pass.old.sight.opened.sizes (Read file at len) }
+    requires allowed { IsAllowed pass.old.view.opened.sizes (Read file at len) }
     requires some { 0 < len }
-    requires page { page ≡ first_page pass.old.sight.opened.sizes (Read file at len) }
+    requires page { page ≡ first_page pass.old.view.opened.sizes (Read file at len) }
     ensures board { IsOf board.now pass.new }
-    ensures stepped { Stepped pass.old (Some (Read file at len)) (Takes (PAGE page)) (found_by result) pass.new }
-    ensures busy { IfErr result (λ busy. busy.cell ≡ place pass.old.sight.opened.sizes (PAGE page)) }
+    ensures stepped { Postcondition pass.old (Some (Read file at len)) (Take (PAGE page)) (found_by result) pass.new }
+    ensures busy { IfErr result (λ busy. busy.cell ≡ place pass.old.view.opened.sizes (PAGE page)) }
 {
     // Only clauses speak of these.
     let _ = (file, at, len);
@@ -105,10 +105,10 @@ impl ReadMachine {
     ) -> Progress
         requires board { IsOf mount.now.board pass.old }
         requires way { (start : PassState) × IsUnbegun self.old _list.now start pass.old }
-        requires stage { self.old.stage ≡ Begins }
+        requires control { self.old.control ≡ reads.Begin }
         ensures board { IsOf mount.now.board pass.new }
         ensures advance { IsFirstAdvance mount.now.fds self.old self.new _list.now pass.old pass.new result }
-        ensures less { IsLess pass.old.sight.opened.sizes self.old self.new result }
+        ensures less { IsLess pass.old.view.opened.sizes self.old self.new result }
     {
         let layout = layout_of(mount, pass);
         let file = match self.admit(mount, layout) {
@@ -120,16 +120,16 @@ impl ReadMachine {
             if begin_with_stop::<Brand, L, B>(mount.board(), pass, file, self.at) != 0 {
                 return Progress::Ended(Err(Refusal::Stopped));
             }
-            self.stage = ReadStage::Orders;
+            self.control = ReadControl::LoadOrder;
             return Progress::More;
         }
         let page = self.first_page(layout);
         match begin_with_page::<Brand, L, B>(mount.board(), pass, file, self.at, self.len, page) {
             Ok(()) => {
-                self.stage = if page + 1 == self.end_page(layout) {
-                    ReadStage::Measures
+                self.control = if page + 1 == self.end_page(layout) {
+                    ReadControl::LoadLength
                 } else {
-                    ReadStage::Locks { page: page + 1 }
+                    ReadControl::TakePage { page: page + 1 }
                 };
                 Progress::More
             }

@@ -1,16 +1,16 @@
 //! How a read begins, takes its place, and gives back what it holds.
 ghost use Rattle.std.specs.Prelude.{◌≡◌, ℕ, Some};
-ghost use Rattle.nv_table.specs.States.{IsOf, PassState};
-ghost use Rattle.nv_calls.specs.Advances.{IsAdvance};
-ghost use Rattle.nv_calls.specs.Ends.{GivesFrom, BeginsWithin, IsLast};
-ghost use Rattle.nv_calls.specs.Ranks.{IsLess};
-ghost use Rattle.nv_calls.specs.Reads.{IsOnWay, call_of, held_cells};
-ghost use Rattle.nv_core.specs.Passes.{IsAllowed};
-ghost use Rattle.nv_table.specs.Keys.{sizes_of};
-ghost use Rattle.nv_calls.specs.declared.reading.ReadStage.TheVariants.{Places, Releases, Gives, Leaves};
+ghost use Rattle.nv_table.specs.state.States.{IsOf, PassState};
+ghost use Rattle.nv_calls.specs.reads.Advances.{IsAdvance};
+ghost use Rattle.nv_calls.specs.reads.Ends.{GivesFrom, BeginsWithin, IsLast};
+ghost use Rattle.nv_calls.specs.reads.Measures.{IsLess};
+ghost use Rattle.nv_calls.specs.reads.Reads.{IsOnWay, call_of, held_cells};
+ghost use Rattle.nv_core.specs.state.Passes.{IsAllowed};
+ghost use Rattle.nv_table.specs.state.Keys.{sizes_of};
+ghost use Rattle.nv_calls.specs.declared.reading.ReadControl.TheVariants as reads;
 
 use crate::read_steps::layout_of;
-use crate::{Done, Held, Progress, ReadMachine, ReadStage, Refusal};
+use crate::{Done, Held, Progress, ReadControl, ReadMachine, Refusal};
 use nv_core::{passes_are_left_alone, runs_keep_content};
 use nv_mount::Mount;
 use nv_plain::history_goes_on;
@@ -28,17 +28,17 @@ impl ReadMachine {
     ) -> Progress
         requires board { IsOf mount.now.board pass.old }
         requires way { (start : PassState) × IsOnWay mount.now.fds self.old _list.now start pass.old }
-        requires stage { self.old.stage ≡ Places }
+        requires control { self.old.control ≡ reads.TakePlace }
         ensures board { IsOf mount.now.board pass.new }
         ensures advance { IsAdvance mount.now.fds self.old self.new _list.now _list.now pass.old pass.new result }
-        ensures less { IsLess pass.old.sight.opened.sizes self.old self.new result }
+        ensures less { IsLess pass.old.view.opened.sizes self.old self.new result }
     {
         runs_keep_content();
         history_goes_on();
         pass.sees_a_run();
         self.place = Some(place(mount.board(), pass));
         if self.sized {
-            self.stage = ReadStage::Releases;
+            self.control = ReadControl::GiveSize;
             return Progress::More;
         }
         let layout = layout_of(mount, pass);
@@ -58,14 +58,14 @@ impl ReadMachine {
                 len: self.copied,
             })),
             _ => {
-                self.stage = ReadStage::Gives { page };
+                self.control = ReadControl::GivePage { page };
                 Progress::More
             }
         }
     }
 
     // SIZE is given back.
-    pub(crate) fn release<L: Lines + Drop, B: Backing + Drop>(
+    pub(crate) fn give_size<L: Lines + Drop, B: Backing + Drop>(
         &mut self,
         mount: &Mount<L, B>,
         pass: &mut Pass<L, B>,
@@ -73,10 +73,10 @@ impl ReadMachine {
     ) -> Progress
         requires board { IsOf mount.now.board pass.old }
         requires way { (start : PassState) × IsOnWay mount.now.fds self.old _list.now start pass.old }
-        requires stage { self.old.stage ≡ Releases }
+        requires control { self.old.control ≡ reads.GiveSize }
         ensures board { IsOf mount.now.board pass.new }
         ensures advance { IsAdvance mount.now.fds self.old self.new _list.now _list.now pass.old pass.new result }
-        ensures less { IsLess pass.old.sight.opened.sizes self.old self.new result }
+        ensures less { IsLess pass.old.view.opened.sizes self.old self.new result }
     {
         let layout = layout_of(mount, pass);
         give(mount.board(), pass, layout.size(self.file));
@@ -94,10 +94,10 @@ impl ReadMachine {
     ) -> Progress
         requires board { IsOf mount.now.board pass.old }
         requires way { (start : PassState) × IsOnWay mount.now.fds self.old _list.now start pass.old }
-        requires stage { self.old.stage ≡ Gives page }
+        requires control { self.old.control ≡ reads.GivePage page }
         ensures board { IsOf mount.now.board pass.new }
         ensures advance { IsAdvance mount.now.fds self.old self.new _list.now _list.now pass.old pass.new result }
-        ensures less { IsLess pass.old.sight.opened.sizes self.old self.new result }
+        ensures less { IsLess pass.old.view.opened.sizes self.old self.new result }
     {
         let layout = layout_of(mount, pass);
         give(mount.board(), pass, layout.page_lock(page));
@@ -149,10 +149,10 @@ impl ReadMachine {
     ) -> Progress
         requires board { IsOf mount.now.board pass.old }
         requires way { (start : PassState) × IsOnWay mount.now.fds self.old _list.now start pass.old }
-        requires stage { self.old.stage ≡ Leaves held refusal }
+        requires control { self.old.control ≡ reads.GiveBack held refusal }
         ensures board { IsOf mount.now.board pass.new }
         ensures advance { IsAdvance mount.now.fds self.old self.new _list.now _list.now pass.old pass.new result }
-        ensures less { IsLess pass.old.sight.opened.sizes self.old self.new result }
+        ensures less { IsLess pass.old.view.opened.sizes self.old self.new result }
     {
         passes_are_left_alone();
         pass.sees_a_run();

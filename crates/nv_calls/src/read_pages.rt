@@ -1,31 +1,31 @@
 //! The pages of a read: what their buffers have, and what the store has.
 ghost use Rattle.std.specs.Prelude.{◌≡◌, ◌≢◌, ℕ, ◌+◌, ◌-◌, ◌*◌, ◌%◌, ◌<◌, ◌≤◌, ◌++◌, length, take, drop, Some, None, OnOk, OnErr, false};
-ghost use Rattle.nv_table.specs.States.{IsOf, PassState};
-ghost use Rattle.nv_calls.specs.Advances.{IsAdvance};
-ghost use Rattle.nv_calls.specs.Ranks.{IsLess, look_rank, rank};
-ghost use Rattle.nv_calls.specs.Reads.{IsOnWay, IsLooking, IsLook, StandsAt, call_of, page_piece};
-ghost use Rattle.nv_calls.specs.declared.reading.ReadStage.TheVariants.{Looks, Waits, Fetches, Copies};
-ghost use Rattle.nv_core.specs.Passes.{Pass as PassOfCore, IsAllowed, IsOneOf, Copying, covered, end_read, first_page};
-ghost use Rattle.nv_core.specs.Values.{Buffer, ABuffer, is_valid};
-ghost use Rattle.nv_core.specs.Words.{PAGE, STORE, page_total};
-ghost use Rattle.nv_core.specs.Deeds.{Gives};
-ghost use Rattle.nv_core.specs.Order.{SaysOf};
-ghost use Rattle.nv_core.specs.Shapes.{IsStore, HaveShapes};
+ghost use Rattle.nv_table.specs.state.States.{IsOf, PassState};
+ghost use Rattle.nv_calls.specs.reads.Advances.{IsAdvance};
+ghost use Rattle.nv_calls.specs.reads.Measures.{IsLess, visit_measure, measure};
+ghost use Rattle.nv_calls.specs.reads.Reads.{IsOnWay, IsLooking, IsLook, ReadFactsAt, call_of, page_piece};
+ghost use Rattle.nv_calls.specs.declared.reading.ReadControl.TheVariants as reads;
+ghost use Rattle.nv_core.specs.state.Passes.{Pass as PassOfCore, IsAllowed, IsOneOf, ReadStore, covered, end_read, first_page};
+ghost use Rattle.nv_core.specs.state.Values.{Buffer, ABuffer, is_valid};
+ghost use Rattle.nv_core.specs.state.Words.{PAGE, STORE, page_total};
+ghost use Rattle.nv_core.specs.steps.Ops.{Give};
+ghost use Rattle.nv_core.specs.steps.Order.{SaysOf};
+ghost use Rattle.nv_core.specs.invariant.Shapes.{IsStore, HaveShapes};
 ghost use Rattle.nv_plain.specs.Files.{bytes_at};
 ghost use Rattle.nv_plain.specs.Pieces.{pages_touched};
-ghost use Rattle.nv_pages.specs.PageWork.{OfKept, HasFailed, page_slot, store_slot, with_page};
-ghost use Rattle.nv_calls.specs.Copied.{IsPut};
+ghost use Rattle.nv_pages.specs.PageWork.{OfKept, HasFailedCall, page_slot, store_slot, with_page};
+ghost use Rattle.nv_calls.specs.reads.Copied.{IsPut};
 ghost use Rattle.nv_pages.specs.Altered.{IsAltered};
-ghost use Rattle.nv_table.specs.Between.{IsStill};
-ghost use Rattle.nv_table.specs.Keys.{sizes_of};
-ghost use Rattle.nv_table.specs.Opened.{mount_of};
-ghost use Rattle.nv_table.specs.Ready.{Stepped};
-ghost use Rattle.nv_table.specs.Turns.{IsDue};
-ghost use Rattle.nv_table.specs.Sights.{pass_of, slot_times, values_of};
+ghost use Rattle.nv_table.specs.passes.PassesMade.{IsShownStill};
+ghost use Rattle.nv_table.specs.state.Keys.{sizes_of};
+ghost use Rattle.nv_table.specs.state.Opened.{mount_of};
+ghost use Rattle.nv_table.specs.steps.StepContracts.{Postcondition};
+ghost use Rattle.nv_table.specs.steps.CallSteps.{Precondition};
+ghost use Rattle.nv_table.specs.state.Views.{pass_of, slot_times, values_of};
 
 use crate::read_faults::stop_after;
 use crate::read_steps::layout_of;
-use crate::{Held, Progress, ReadMachine, ReadStage, Refusal};
+use crate::{Held, Progress, ReadControl, ReadMachine, Refusal};
 use nv_core::cells_keep_their_shapes;
 use nv_entry::{cut, piece_count};
 use nv_mount::Mount;
@@ -44,7 +44,7 @@ fn put(list: &mut [u8], at: usize, bytes: &[u8])
     list[at..end].copy_from_slice(bytes);
 }
 
-// Where the buffer of a page that the pass carries counts, copies its bytes from the offset `at` on into a list, from a place on, and no more than
+// Where the buffer of a page that the pass owns is valid, copies its bytes from the offset `at` on into a list, from a place on, and no more than
 // `size`; and tells how many.
 fn copy_part<L: Lines + Drop, B: Backing + Drop>(
     board: &Board<L, B>,
@@ -57,7 +57,7 @@ fn copy_part<L: Lines + Drop, B: Backing + Drop>(
 ) -> Option<usize>
     requires board { IsOf board.now pass.old }
     requires page { page < page_total board.now.opened.sizes }
-    requires carries { slot_times (page_slot board.now.opened.sizes page) pass.old.now ≡ 1 }
+    requires owns_slots { slot_times (page_slot board.now.opened.sizes page) pass.old.now ≡ 1 }
     requires room { from + size ≤ length list.old }
     ensures same { IsAltered (λ kept. kept) pass.old pass.new }
     ensures copied { OfKept pass.old (λ kept. IsPut (kept (PAGE page)) at from size list.old list.new result) }
@@ -86,16 +86,16 @@ impl ReadMachine {
         from: u64,
     ) -> (u64, u64)
         requires board { IsOf mount.now.board pass.old }
-        requires still { IsStill pass.old }
-        requires allowed { IsAllowed pass.old.sight.opened.sizes (call_of self.now) }
+        requires still { IsShownStill pass.old }
+        requires allowed { IsAllowed pass.old.view.opened.sizes (call_of self.now) }
         requires room { length list.old ≡ self.now.len }
-        requires looking { (base : PassOfCore) × IsLooking pass.old.sight.opened.sizes self.now list.old base (values_of pass.old.sight) (pass_of pass.old.sight) from }
+        requires looking { (base : PassOfCore) × IsLooking pass.old.view.opened.sizes self.now list.old base (values_of pass.old.view) (pass_of pass.old.view) from }
         ensures same { IsAltered (λ kept. kept) pass.old pass.new }
-        ensures looking { (base : PassOfCore) → IsLooking pass.old.sight.opened.sizes self.now list.old base (values_of pass.old.sight) (pass_of pass.old.sight) from
-            → IsLooking pass.old.sight.opened.sizes (record self.now { copied = result.1 }) list.new base (values_of pass.old.sight) (pass_of pass.old.sight) result.0 }
+        ensures looking { (base : PassOfCore) → IsLooking pass.old.view.opened.sizes self.now list.old base (values_of pass.old.view) (pass_of pass.old.view) from
+            → IsLooking pass.old.view.opened.sizes (record self.now { copied = result.1 }) list.new base (values_of pass.old.view) (pass_of pass.old.view) result.0 }
         ensures onward { from ≤ result.0 }
-        ensures missed { (len : ℕ) → self.now.covered ≡ covered (call_of self.now) len → result.0 ≢ end_read pass.old.sight.opened.sizes (call_of self.now) len
-            → is_valid (values_of pass.old.sight (PAGE result.0)) ≡ false }
+        ensures missed { (len : ℕ) → self.now.covered ≡ covered (call_of self.now) len → result.0 ≢ end_read pass.old.view.opened.sizes (call_of self.now) len
+            → is_valid (values_of pass.old.view (PAGE result.0)) ≡ false }
     {
         // What it has fetched lies below the page from which it looks.
         pass.sees_a_run();
@@ -126,27 +126,27 @@ impl ReadMachine {
         page: u64,
     )
         requires board { IsOf mount.now.board pass.old }
-        requires still { IsStill pass.old }
-        requires allowed { IsAllowed pass.old.sight.opened.sizes (call_of self.old) }
+        requires still { IsShownStill pass.old }
+        requires allowed { IsAllowed pass.old.view.opened.sizes (call_of self.old) }
         requires some { 0 < self.old.len }
         requires room { length list.old ≡ self.old.len }
-        requires looking { (base : PassOfCore) × IsLooking pass.old.sight.opened.sizes self.old list.old base (values_of pass.old.sight) (pass_of pass.old.sight) page }
+        requires looking { (base : PassOfCore) × IsLooking pass.old.view.opened.sizes self.old list.old base (values_of pass.old.view) (pass_of pass.old.view) page }
         ensures same { IsAltered (λ kept. kept) pass.old pass.new }
-        ensures machine { self.new ≡ record self.old { stage = self.new.stage; copied = self.new.copied } }
-        ensures look { IsLook self.new.stage }
-        ensures less { rank pass.old.sight.opened.sizes self.new ≤ look_rank pass.old.sight.opened.sizes self.old page }
-        ensures stands { (base : PassOfCore) → IsLooking pass.old.sight.opened.sizes self.old list.old base (values_of pass.old.sight) (pass_of pass.old.sight) page
-            → StandsAt pass.old.sight.opened.sizes self.new list.new base (values_of pass.old.sight) (pass_of pass.old.sight) self.new.stage }
+        ensures machine { self.new ≡ record self.old { control = self.new.control; copied = self.new.copied } }
+        ensures look { IsLook self.new.control }
+        ensures less { measure pass.old.view.opened.sizes self.new ≤ visit_measure pass.old.view.opened.sizes self.old page }
+        ensures stands { (base : PassOfCore) → IsLooking pass.old.view.opened.sizes self.old list.old base (values_of pass.old.view) (pass_of pass.old.view) page
+            → ReadFactsAt pass.old.view.opened.sizes self.new list.new base (values_of pass.old.view) (pass_of pass.old.view) self.new.control }
     {
         let layout = layout_of(mount, pass);
         let (page, copied) = self.copy_on(mount, pass, list, page);
         self.copied = copied;
-        self.stage = if page == self.end_read(layout) {
-            ReadStage::Places
+        self.control = if page == self.end_read(layout) {
+            ReadControl::TakePlace
         } else if layout.buffers > 0 && lacks_buffer(mount.board(), pass, page) {
-            ReadStage::Turns { page, tries: 0 }
+            ReadControl::TurnHand { page, tries: 0 }
         } else {
-            ReadStage::Looks { page }
+            ReadControl::LoadDirty { page }
         };
     }
 
@@ -160,23 +160,23 @@ impl ReadMachine {
     ) -> Progress
         requires board { IsOf mount.now.board pass.old }
         requires way { (start : PassState) × IsOnWay mount.now.fds self.old _list.now start pass.old }
-        requires stage { self.old.stage ≡ Looks page }
+        requires control { self.old.control ≡ reads.LoadDirty page }
         ensures board { IsOf mount.now.board pass.new }
         ensures advance { IsAdvance mount.now.fds self.old self.new _list.now _list.now pass.old pass.new result }
-        ensures less { IsLess pass.old.sight.opened.sizes self.old self.new result }
+        ensures less { IsLess pass.old.view.opened.sizes self.old self.new result }
     {
         let layout = layout_of(mount, pass);
         let found = load_word(mount.board(), pass, layout.dirty(page));
-        self.stage = if found == 0 {
-            ReadStage::Fetches { page, dirty: false }
+        self.control = if found == 0 {
+            ReadControl::TakeStore { page, dirty: false }
         } else {
-            ReadStage::Waits { page }
+            ReadControl::TakeCleanup { page }
         };
         Progress::More
     }
 
     // CLEANUP of a page that has entries.
-    pub(crate) fn wait<L: Lines + Drop, B: Backing + Drop>(
+    pub(crate) fn take_cleanup<L: Lines + Drop, B: Backing + Drop>(
         &mut self,
         mount: &Mount<L, B>,
         pass: &mut Pass<L, B>,
@@ -185,15 +185,15 @@ impl ReadMachine {
     ) -> Progress
         requires board { IsOf mount.now.board pass.old }
         requires way { (start : PassState) × IsOnWay mount.now.fds self.old _list.now start pass.old }
-        requires stage { self.old.stage ≡ Waits page }
+        requires control { self.old.control ≡ reads.TakeCleanup page }
         ensures board { IsOf mount.now.board pass.new }
         ensures advance { IsAdvance mount.now.fds self.old self.new _list.now _list.now pass.old pass.new result }
-        ensures less { IsLess pass.old.sight.opened.sizes self.old self.new result }
+        ensures less { IsLess pass.old.view.opened.sizes self.old self.new result }
     {
         let layout = layout_of(mount, pass);
         match take(mount.board(), pass, layout.cleanup(page)) {
             Ok(()) => {
-                self.stage = ReadStage::Fetches { page, dirty: true };
+                self.control = ReadControl::TakeStore { page, dirty: true };
                 Progress::More
             }
             Err(Busy { cell }) => {
@@ -204,7 +204,7 @@ impl ReadMachine {
     }
 
     // The lock of the store.
-    pub(crate) fn fetch<L: Lines + Drop, B: Backing + Drop>(
+    pub(crate) fn take_store<L: Lines + Drop, B: Backing + Drop>(
         &mut self,
         mount: &Mount<L, B>,
         pass: &mut Pass<L, B>,
@@ -214,15 +214,15 @@ impl ReadMachine {
     ) -> Progress
         requires board { IsOf mount.now.board pass.old }
         requires way { (start : PassState) × IsOnWay mount.now.fds self.old _list.now start pass.old }
-        requires stage { self.old.stage ≡ Fetches page dirty }
+        requires control { self.old.control ≡ reads.TakeStore page dirty }
         ensures board { IsOf mount.now.board pass.new }
         ensures advance { IsAdvance mount.now.fds self.old self.new _list.now _list.now pass.old pass.new result }
-        ensures less { IsLess pass.old.sight.opened.sizes self.old self.new result }
+        ensures less { IsLess pass.old.view.opened.sizes self.old self.new result }
     {
         let layout = layout_of(mount, pass);
         match take(mount.board(), pass, layout.store(self.file)) {
             Ok(()) => {
-                self.stage = ReadStage::Copies { page, dirty };
+                self.control = ReadControl::ReadStore { page, dirty };
                 Progress::More
             }
             Err(Busy { cell }) => {
@@ -243,20 +243,20 @@ impl ReadMachine {
         page: u64,
     ) -> Result<(), StoreFault>
         requires board { IsOf mount.now.board pass.old }
-        requires still { IsStill pass.old }
-        requires file { self.old.file < pass.old.sight.opened.sizes.files }
-        requires carries { slot_times (store_slot pass.old.sight.opened.sizes self.old.file) pass.old.now ≡ 1 }
-        requires low { self.old.file * pass.old.sight.opened.sizes.pages ≤ page }
-        requires high { page < page_total pass.old.sight.opened.sizes }
+        requires still { IsShownStill pass.old }
+        requires file { self.old.file < pass.old.view.opened.sizes.files }
+        requires owns_slots { slot_times (store_slot pass.old.view.opened.sizes self.old.file) pass.old.now ≡ 1 }
+        requires low { self.old.file * pass.old.view.opened.sizes.pages ≤ page }
+        requires high { page < page_total pass.old.view.opened.sizes }
         ensures board { IsOf mount.now.board pass.new }
         ensures machine { self.new ≡ record self.old { scratch = self.new.scratch } }
-        ensures long { pass.old.sight.opened.sizes.page ≤ length self.new.scratch }
+        ensures long { pass.old.view.opened.sizes.page ≤ length self.new.scratch }
         ensures same { OnOk result (IsAltered (λ kept. kept) pass.old pass.new) }
-        ensures says { OnOk result (SaysOf pass.old.sight.opened.sizes ((page - self.old.file * pass.old.sight.opened.sizes.pages) * pass.old.sight.opened.sizes.page)
-            (take pass.old.sight.opened.sizes.page self.new.scratch) (values_of pass.old.sight (STORE self.old.file))) }
-        ensures failed { OnErr result (HasFailed (STORE self.old.file) pass.old pass.new) }
-        ensures store { IsStore (values_of pass.old.sight (STORE self.old.file)) }
-        ensures shapes { HaveShapes pass.old.sight.opened.sizes.page (mount_of pass.old.sight.opened).values (values_of pass.old.sight) }
+        ensures says { OnOk result (SaysOf pass.old.view.opened.sizes ((page - self.old.file * pass.old.view.opened.sizes.pages) * pass.old.view.opened.sizes.page)
+            (take pass.old.view.opened.sizes.page self.new.scratch) (values_of pass.old.view (STORE self.old.file))) }
+        ensures failed { OnErr result (HasFailedCall (STORE self.old.file) pass.old pass.new) }
+        ensures store { IsStore (values_of pass.old.view (STORE self.old.file)) }
+        ensures shapes { HaveShapes pass.old.view.opened.sizes.page (mount_of pass.old.view.opened).values (values_of pass.old.view) }
     {
         cells_keep_their_shapes();
         pass.sees_a_run();
@@ -277,11 +277,11 @@ impl ReadMachine {
         _dirty: bool,
     )
         requires board { IsOf mount.now.board pass.old }
-        requires file { self.now.file < pass.old.sight.opened.sizes.files }
-        requires stage { (pass_of pass.old.sight).stage ≡ Copying _page _dirty }
-        requires due { (due : IsDue pass.old None (Gives (STORE self.now.file))) × W.said due.works }
+        requires file { self.now.file < pass.old.view.opened.sizes.files }
+        requires control { (pass_of pass.old.view).control ≡ ReadStore _page _dirty }
+        requires due { (due : Precondition pass.old None (Give (STORE self.now.file))) × W.said due.works }
         ensures board { IsOf mount.now.board pass.new }
-        ensures stepped { (found : ℕ) × (stepped : Stepped pass.old None (Gives (STORE self.now.file)) found pass.new) × W.said stepped.works }
+        ensures stepped { (found : ℕ) × (stepped : Postcondition pass.old None (Give (STORE self.now.file)) found pass.new) × W.said stepped.works }
     {
         let layout = layout_of(mount, pass);
         let cell = layout.store(self.file);
@@ -299,10 +299,10 @@ impl ReadMachine {
     ) -> Progress
         requires board { IsOf mount.now.board pass.old }
         requires way { (start : PassState) × IsOnWay mount.now.fds self.old list.old start pass.old }
-        requires stage { self.old.stage ≡ Copies page dirty }
+        requires control { self.old.control ≡ reads.ReadStore page dirty }
         ensures board { IsOf mount.now.board pass.new }
         ensures advance { IsAdvance mount.now.fds self.old self.new list.old list.new pass.old pass.new result }
-        ensures less { IsLess pass.old.sight.opened.sizes self.old self.new result }
+        ensures less { IsLess pass.old.view.opened.sizes self.old self.new result }
     {
         let held = Held {
             cleanup: dirty.then_some(page),
@@ -318,7 +318,7 @@ impl ReadMachine {
             Ok(()) => {
                 if dirty {
                     self.give_store::<Brand, L, B>(mount, pass, page, dirty);
-                    self.stage = ReadStage::Bounds { page };
+                    self.control = ReadControl::LoadHead { page };
                     return Progress::More;
                 }
                 self.finish_page(mount, pass, list, page);
@@ -339,20 +339,20 @@ impl ReadMachine {
         page: u64,
     )
         requires board { IsOf mount.now.board pass.old }
-        requires allowed { IsAllowed pass.old.sight.opened.sizes (call_of self.old) }
-        requires carries { slot_times (page_slot pass.old.sight.opened.sizes page) pass.old.now ≡ 1 }
-        requires long { (buffer : Buffer) → IsOneOf pass.old.now (page_slot pass.old.sight.opened.sizes page, ABuffer (Some buffer)) → pass.old.sight.opened.sizes.page ≤ length buffer.bytes }
+        requires allowed { IsAllowed pass.old.view.opened.sizes (call_of self.old) }
+        requires owns_slots { slot_times (page_slot pass.old.view.opened.sizes page) pass.old.now ≡ 1 }
+        requires long { (buffer : Buffer) → IsOneOf pass.old.now (page_slot pass.old.view.opened.sizes page, ABuffer (Some buffer)) → pass.old.view.opened.sizes.page ≤ length buffer.bytes }
         requires room { length list.old ≡ self.old.len }
         requires covered { self.old.covered ≤ self.old.len }
-        requires first { first_page pass.old.sight.opened.sizes (call_of self.old) ≤ page }
-        requires read { page < first_page pass.old.sight.opened.sizes (call_of self.old) + pages_touched self.old.at self.old.covered pass.old.sight.opened.sizes.page }
-        requires copied { self.old.copied ≤ (page_piece pass.old.sight.opened.sizes self.old page).from }
+        requires first { first_page pass.old.view.opened.sizes (call_of self.old) ≤ page }
+        requires read { page < first_page pass.old.view.opened.sizes (call_of self.old) + pages_touched self.old.at self.old.covered pass.old.view.opened.sizes.page }
+        requires copied { self.old.copied ≤ (page_piece pass.old.view.opened.sizes self.old page).from }
         ensures board { IsOf mount.now.board pass.new }
-        ensures altered { IsAltered (with_page page (take pass.old.sight.opened.sizes.page self.old.scratch)) pass.old pass.new }
-        ensures machine { self.new ≡ record self.old { copied = self.old.copied + (page_piece pass.old.sight.opened.sizes self.old page).size } }
+        ensures altered { IsAltered (with_page page (take pass.old.view.opened.sizes.page self.old.scratch)) pass.old pass.new }
+        ensures machine { self.new ≡ record self.old { copied = self.old.copied + (page_piece pass.old.view.opened.sizes self.old page).size } }
         ensures list { list.new ≡ take self.old.copied list.old
-            ++ bytes_at (take pass.old.sight.opened.sizes.page self.old.scratch) ((page_piece pass.old.sight.opened.sizes self.old page).at % pass.old.sight.opened.sizes.page) (page_piece pass.old.sight.opened.sizes self.old page).size
-            ++ drop (self.old.copied + (page_piece pass.old.sight.opened.sizes self.old page).size) list.old }
+            ++ bytes_at (take pass.old.view.opened.sizes.page self.old.scratch) ((page_piece pass.old.view.opened.sizes self.old page).at % pass.old.view.opened.sizes.page) (page_piece pass.old.view.opened.sizes self.old page).size
+            ++ drop (self.old.copied + (page_piece pass.old.view.opened.sizes self.old page).size) list.old }
     {
         let layout = layout_of(mount, pass);
         let bytes = &self.scratch[..layout.page as usize];

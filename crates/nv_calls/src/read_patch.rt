@@ -1,19 +1,19 @@
 //! A page that has entries in the log: what the store has of it, with the pieces of these entries laid over it.
 ghost use Rattle.std.specs.Prelude.{◌≡◌, ℕ, ◌+◌, ◌≤◌, nat_lt, if◌then◌else◌, length, take, None};
 ghost use Rattle.nv_plain.specs.Files.{overwritten};
-ghost use Rattle.nv_core.specs.Deeds.{Returns};
-ghost use Rattle.nv_core.specs.Words.{ready, is_entry_of};
-ghost use Rattle.nv_table.specs.Ready.{Stepped};
-ghost use Rattle.nv_table.specs.States.{IsOf, PassState};
-ghost use Rattle.nv_table.specs.Turns.{IsDue};
-ghost use Rattle.nv_calls.specs.Advances.{IsAdvance};
-ghost use Rattle.nv_calls.specs.Ranks.{IsLess};
-ghost use Rattle.nv_calls.specs.Reads.{IsOnWay};
-ghost use Rattle.nv_calls.specs.declared.reading.ReadStage.TheVariants.{Bounds, Starts, Scans, Grasps, Patches, Restores, Unlocks};
+ghost use Rattle.nv_core.specs.steps.Ops.{Return};
+ghost use Rattle.nv_core.specs.state.Words.{ready, is_entry_of};
+ghost use Rattle.nv_table.specs.steps.StepContracts.{Postcondition};
+ghost use Rattle.nv_table.specs.state.States.{IsOf, PassState};
+ghost use Rattle.nv_table.specs.steps.CallSteps.{Precondition};
+ghost use Rattle.nv_calls.specs.reads.Advances.{IsAdvance};
+ghost use Rattle.nv_calls.specs.reads.Measures.{IsLess};
+ghost use Rattle.nv_calls.specs.reads.Reads.{IsOnWay};
+ghost use Rattle.nv_calls.specs.declared.reading.ReadControl.TheVariants as reads;
 
 use crate::read_faults::stop_after;
 use crate::read_steps::layout_of;
-use crate::{Held, MOST_PAGE, Progress, ReadMachine, ReadStage, Refusal};
+use crate::{Held, MOST_PAGE, Progress, ReadControl, ReadMachine, Refusal};
 use nv_core::{cells_keep_their_shapes, held_pieces_fit, runs_are_sound};
 use nv_mount::Mount;
 use nv_pages::{hold_entry, patch, read_entry, return_entry};
@@ -41,27 +41,27 @@ fn return_read<W: Says, L: Lines, B: Backing>(
     _bytes: &[u8],
 )
     requires board { IsOf board.now pass.old }
-    requires due { (due : IsDue pass.old None (Returns number)) × W.said due.works }
+    requires due { (due : Precondition pass.old None (Return number)) × W.said due.works }
     ensures board { IsOf board.now pass.new }
-    ensures stepped { (found : ℕ) × (stepped : Stepped pass.old None (Returns number) found pass.new) × W.said stepped.works }
+    ensures stepped { (found : ℕ) × (stepped : Postcondition pass.old None (Return number) found pass.new) × W.said stepped.works }
 {
     return_entry::<W, L, B>(board, pass, number);
 }
 
 impl ReadMachine {
     // It looks next at a number below HEAD, and past these it is done with the page.
-    fn scan_on(&mut self, page: u64, number: u64)
-        ensures { self.new ≡ record self.old { stage = if nat_lt number self.old.head then Scans page number else Unlocks page } }
+    fn load_entry_on(&mut self, page: u64, number: u64)
+        ensures { self.new ≡ record self.old { control = if nat_lt number self.old.head then reads.LoadEntry page number else reads.GiveCleanup page } }
     {
-        self.stage = if number < self.head {
-            ReadStage::Scans { page, number }
+        self.control = if number < self.head {
+            ReadControl::LoadEntry { page, number }
         } else {
-            ReadStage::Unlocks { page }
+            ReadControl::GiveCleanup { page }
         };
     }
 
     // The load of HEAD.
-    pub(crate) fn bound<L: Lines + Drop, B: Backing + Drop>(
+    pub(crate) fn load_head<L: Lines + Drop, B: Backing + Drop>(
         &mut self,
         mount: &Mount<L, B>,
         pass: &mut Pass<L, B>,
@@ -70,13 +70,13 @@ impl ReadMachine {
     ) -> Progress
         requires board { IsOf mount.now.board pass.old }
         requires way { (start : PassState) × IsOnWay mount.now.fds self.old _list.now start pass.old }
-        requires stage { self.old.stage ≡ Bounds page }
+        requires control { self.old.control ≡ reads.LoadHead page }
         ensures board { IsOf mount.now.board pass.new }
         ensures advance { IsAdvance mount.now.fds self.old self.new _list.now _list.now pass.old pass.new result }
-        ensures less { IsLess pass.old.sight.opened.sizes self.old self.new result }
+        ensures less { IsLess pass.old.view.opened.sizes self.old self.new result }
     {
         self.head = load_word(mount.board(), pass, HEAD);
-        self.stage = ReadStage::Starts { page };
+        self.control = ReadControl::LoadTail { page };
         Progress::More
     }
 
@@ -90,18 +90,18 @@ impl ReadMachine {
     ) -> Progress
         requires board { IsOf mount.now.board pass.old }
         requires way { (start : PassState) × IsOnWay mount.now.fds self.old _list.now start pass.old }
-        requires stage { self.old.stage ≡ Starts page }
+        requires control { self.old.control ≡ reads.LoadTail page }
         ensures board { IsOf mount.now.board pass.new }
         ensures advance { IsAdvance mount.now.fds self.old self.new _list.now _list.now pass.old pass.new result }
-        ensures less { IsLess pass.old.sight.opened.sizes self.old self.new result }
+        ensures less { IsLess pass.old.view.opened.sizes self.old self.new result }
     {
         let tail = load_word(mount.board(), pass, TAIL);
-        self.scan_on(page, tail);
+        self.load_entry_on(page, tail);
         Progress::More
     }
 
     // The load of a number's ENTRY: one that is ready and of the page is held next.
-    pub(crate) fn scan<L: Lines + Drop, B: Backing + Drop>(
+    pub(crate) fn load_entry<L: Lines + Drop, B: Backing + Drop>(
         &mut self,
         mount: &Mount<L, B>,
         pass: &mut Pass<L, B>,
@@ -111,25 +111,25 @@ impl ReadMachine {
     ) -> Progress
         requires board { IsOf mount.now.board pass.old }
         requires way { (start : PassState) × IsOnWay mount.now.fds self.old _list.now start pass.old }
-        requires stage { self.old.stage ≡ Scans page number }
+        requires control { self.old.control ≡ reads.LoadEntry page number }
         ensures board { IsOf mount.now.board pass.new }
         ensures advance { IsAdvance mount.now.fds self.old self.new _list.now _list.now pass.old pass.new result }
-        ensures less { IsLess pass.old.sight.opened.sizes self.old self.new result }
+        ensures less { IsLess pass.old.view.opened.sizes self.old self.new result }
     {
         runs_are_sound();
         pass.sees_a_run();
         let layout = layout_of(mount, pass);
         let found = load_word(mount.board(), pass, layout.entry(number % layout.entries));
         if is_ready_of(found, page) {
-            self.stage = ReadStage::Grasps { page, number };
+            self.control = ReadControl::HoldEntry { page, number };
         } else {
-            self.scan_on(page, number + 1);
+            self.load_entry_on(page, number + 1);
         }
         Progress::More
     }
 
     // The entry is held.
-    pub(crate) fn grasp<L: Lines + Drop, B: Backing + Drop>(
+    pub(crate) fn hold_next<L: Lines + Drop, B: Backing + Drop>(
         &mut self,
         mount: &Mount<L, B>,
         pass: &mut Pass<L, B>,
@@ -139,13 +139,13 @@ impl ReadMachine {
     ) -> Progress
         requires board { IsOf mount.now.board pass.old }
         requires way { (start : PassState) × IsOnWay mount.now.fds self.old _list.now start pass.old }
-        requires stage { self.old.stage ≡ Grasps page number }
+        requires control { self.old.control ≡ reads.HoldEntry page number }
         ensures board { IsOf mount.now.board pass.new }
         ensures advance { IsAdvance mount.now.fds self.old self.new _list.now _list.now pass.old pass.new result }
-        ensures less { IsLess pass.old.sight.opened.sizes self.old self.new result }
+        ensures less { IsLess pass.old.view.opened.sizes self.old self.new result }
     {
         hold_entry(mount.board(), pass, number);
-        self.stage = ReadStage::Patches { page, number };
+        self.control = ReadControl::ReadPiece { page, number };
         Progress::More
     }
 
@@ -170,10 +170,10 @@ impl ReadMachine {
     ) -> Progress
         requires board { IsOf mount.now.board pass.old }
         requires way { (start : PassState) × IsOnWay mount.now.fds self.old _list.now start pass.old }
-        requires stage { self.old.stage ≡ Patches page number }
+        requires control { self.old.control ≡ reads.ReadPiece page number }
         ensures board { IsOf mount.now.board pass.new }
         ensures advance { IsAdvance mount.now.fds self.old self.new _list.now _list.now pass.old pass.new result }
-        ensures less { IsLess pass.old.sight.opened.sizes self.old self.new result }
+        ensures less { IsLess pass.old.view.opened.sizes self.old self.new result }
     {
         runs_are_sound();
         held_pieces_fit();
@@ -186,14 +186,14 @@ impl ReadMachine {
         let Ok(piece) = read_entry(board, pass, number, into) else {
             stop_after::<Brand, L, B>(board, pass);
             self.faulted = true;
-            self.stage = ReadStage::Restores { page, number };
+            self.control = ReadControl::ReturnEntry { page, number };
             return Progress::More;
         };
         let at = (piece.at % layout.page) as usize;
         let bytes = &into[..piece.size as usize];
         self.lay(size, at, bytes);
         return_read::<Brand, L, B>(board, pass, number, piece.at, bytes);
-        self.scan_on(page, number + 1);
+        self.load_entry_on(page, number + 1);
         Progress::More
     }
 
@@ -208,10 +208,10 @@ impl ReadMachine {
     ) -> Progress
         requires board { IsOf mount.now.board pass.old }
         requires way { (start : PassState) × IsOnWay mount.now.fds self.old _list.now start pass.old }
-        requires stage { self.old.stage ≡ Restores page number }
+        requires control { self.old.control ≡ reads.ReturnEntry page number }
         ensures board { IsOf mount.now.board pass.new }
         ensures advance { IsAdvance mount.now.fds self.old self.new _list.now _list.now pass.old pass.new result }
-        ensures less { IsLess pass.old.sight.opened.sizes self.old self.new result }
+        ensures less { IsLess pass.old.view.opened.sizes self.old self.new result }
     {
         let layout = layout_of(mount, pass);
         return_entry::<Brand, L, B>(mount.board(), pass, number);
@@ -223,7 +223,7 @@ impl ReadMachine {
     }
 
     // The page is whole, and CLEANUP is given back.
-    pub(crate) fn unlock<L: Lines + Drop, B: Backing + Drop>(
+    pub(crate) fn give_cleanup<L: Lines + Drop, B: Backing + Drop>(
         &mut self,
         mount: &Mount<L, B>,
         pass: &mut Pass<L, B>,
@@ -232,10 +232,10 @@ impl ReadMachine {
     ) -> Progress
         requires board { IsOf mount.now.board pass.old }
         requires way { (start : PassState) × IsOnWay mount.now.fds self.old list.old start pass.old }
-        requires stage { self.old.stage ≡ Unlocks page }
+        requires control { self.old.control ≡ reads.GiveCleanup page }
         ensures board { IsOf mount.now.board pass.new }
         ensures advance { IsAdvance mount.now.fds self.old self.new list.old list.new pass.old pass.new result }
-        ensures less { IsLess pass.old.sight.opened.sizes self.old self.new result }
+        ensures less { IsLess pass.old.view.opened.sizes self.old self.new result }
     {
         cells_keep_their_shapes();
         pass.sees_a_run();

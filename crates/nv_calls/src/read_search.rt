@@ -1,13 +1,13 @@
 //! The search of a read for a buffer: by the hand of the cache it takes that of another page, the victim.
 ghost use Rattle.std.specs.Prelude.{◌≡◌, ℕ, ◌*◌, nat_lt, if◌then◌else◌};
-ghost use Rattle.nv_table.specs.States.{IsOf, PassState};
-ghost use Rattle.nv_calls.specs.Advances.{IsAdvance};
-ghost use Rattle.nv_calls.specs.Ranks.{IsLess};
-ghost use Rattle.nv_calls.specs.Reads.{IsOnWay};
-ghost use Rattle.nv_calls.specs.declared.reading.ReadStage.TheVariants.{Turns, Hints, Seeks, Robs, Points, Looks};
+ghost use Rattle.nv_table.specs.state.States.{IsOf, PassState};
+ghost use Rattle.nv_calls.specs.reads.Advances.{IsAdvance};
+ghost use Rattle.nv_calls.specs.reads.Measures.{IsLess};
+ghost use Rattle.nv_calls.specs.reads.Reads.{IsOnWay};
+ghost use Rattle.nv_calls.specs.declared.reading.ReadControl.TheVariants as reads;
 
 use crate::read_steps::layout_of;
-use crate::{Progress, ReadMachine, ReadStage};
+use crate::{Progress, ReadControl, ReadMachine};
 use nv_core::runs_are_sound;
 use nv_mount::Mount;
 use nv_pages::{move_buffer, set_hint, turn_hand};
@@ -18,12 +18,12 @@ use nv_table::{Layout, Pass, give, load_word, take};
 impl ReadMachine {
     // A try is over, and the page lacks a buffer still: another one follows, or, after two for each buffer, DIRTY.
     fn try_again(&mut self, layout: Layout, page: u64, tries: u64)
-        ensures { self.new ≡ record self.old { stage = if nat_lt tries (2 * layout.buffers) then Turns page tries else Looks page } }
+        ensures { self.new ≡ record self.old { control = if nat_lt tries (2 * layout.buffers) then reads.TurnHand page tries else reads.LoadDirty page } }
     {
-        self.stage = if tries < 2 * layout.buffers {
-            ReadStage::Turns { page, tries }
+        self.control = if tries < 2 * layout.buffers {
+            ReadControl::TurnHand { page, tries }
         } else {
-            ReadStage::Looks { page }
+            ReadControl::LoadDirty { page }
         };
     }
 
@@ -38,14 +38,14 @@ impl ReadMachine {
     ) -> Progress
         requires board { IsOf mount.now.board pass.old }
         requires way { (start : PassState) × IsOnWay mount.now.fds self.old _list.now start pass.old }
-        requires stage { self.old.stage ≡ Turns page tries }
+        requires control { self.old.control ≡ reads.TurnHand page tries }
         ensures board { IsOf mount.now.board pass.new }
         ensures advance { IsAdvance mount.now.fds self.old self.new _list.now _list.now pass.old pass.new result }
-        ensures less { IsLess pass.old.sight.opened.sizes self.old self.new result }
+        ensures less { IsLess pass.old.view.opened.sizes self.old self.new result }
     {
         let layout = layout_of(mount, pass);
         let found = turn_hand(mount.board(), pass, page);
-        self.stage = ReadStage::Hints {
+        self.control = ReadControl::LoadHint {
             page,
             tries: tries + 1,
             buffer: found % layout.buffers,
@@ -65,10 +65,10 @@ impl ReadMachine {
     ) -> Progress
         requires board { IsOf mount.now.board pass.old }
         requires way { (start : PassState) × IsOnWay mount.now.fds self.old _list.now start pass.old }
-        requires stage { self.old.stage ≡ Hints page tries buffer }
+        requires control { self.old.control ≡ reads.LoadHint page tries buffer }
         ensures board { IsOf mount.now.board pass.new }
         ensures advance { IsAdvance mount.now.fds self.old self.new _list.now _list.now pass.old pass.new result }
-        ensures less { IsLess pass.old.sight.opened.sizes self.old self.new result }
+        ensures less { IsLess pass.old.view.opened.sizes self.old self.new result }
     {
         runs_are_sound();
         pass.sees_a_run();
@@ -77,7 +77,7 @@ impl ReadMachine {
         if self.first_page(layout) <= victim && victim < self.end_page(layout) {
             self.try_again(layout, page, tries);
         } else {
-            self.stage = ReadStage::Seeks {
+            self.control = ReadControl::TakeVictim {
                 page,
                 tries,
                 buffer,
@@ -88,7 +88,7 @@ impl ReadMachine {
     }
 
     // The lock of a victim.
-    pub(crate) fn seek<L: Lines + Drop, B: Backing + Drop>(
+    pub(crate) fn take_victim<L: Lines + Drop, B: Backing + Drop>(
         &mut self,
         mount: &Mount<L, B>,
         pass: &mut Pass<L, B>,
@@ -100,15 +100,15 @@ impl ReadMachine {
     ) -> Progress
         requires board { IsOf mount.now.board pass.old }
         requires way { (start : PassState) × IsOnWay mount.now.fds self.old _list.now start pass.old }
-        requires stage { self.old.stage ≡ Seeks page tries buffer victim }
+        requires control { self.old.control ≡ reads.TakeVictim page tries buffer victim }
         ensures board { IsOf mount.now.board pass.new }
         ensures advance { IsAdvance mount.now.fds self.old self.new _list.now _list.now pass.old pass.new result }
-        ensures less { IsLess pass.old.sight.opened.sizes self.old self.new result }
+        ensures less { IsLess pass.old.view.opened.sizes self.old self.new result }
     {
         let layout = layout_of(mount, pass);
         match take(mount.board(), pass, layout.page_lock(victim)) {
             Ok(()) => {
-                self.stage = ReadStage::Robs {
+                self.control = ReadControl::GiveVictim {
                     page,
                     tries,
                     buffer,
@@ -121,7 +121,7 @@ impl ReadMachine {
     }
 
     // A victim is given back, without its buffer.
-    pub(crate) fn rob<L: Lines + Drop, B: Backing + Drop>(
+    pub(crate) fn give_victim<L: Lines + Drop, B: Backing + Drop>(
         &mut self,
         mount: &Mount<L, B>,
         pass: &mut Pass<L, B>,
@@ -133,10 +133,10 @@ impl ReadMachine {
     ) -> Progress
         requires board { IsOf mount.now.board pass.old }
         requires way { (start : PassState) × IsOnWay mount.now.fds self.old _list.now start pass.old }
-        requires stage { self.old.stage ≡ Robs page tries buffer victim }
+        requires control { self.old.control ≡ reads.GiveVictim page tries buffer victim }
         ensures board { IsOf mount.now.board pass.new }
         ensures advance { IsAdvance mount.now.fds self.old self.new _list.now _list.now pass.old pass.new result }
-        ensures less { IsLess pass.old.sight.opened.sizes self.old self.new result }
+        ensures less { IsLess pass.old.view.opened.sizes self.old self.new result }
     {
         let layout = layout_of(mount, pass);
         let lacks = move_buffer(mount.board(), pass, victim, page);
@@ -144,7 +144,7 @@ impl ReadMachine {
         if lacks {
             self.try_again(layout, page, tries);
         } else {
-            self.stage = ReadStage::Points {
+            self.control = ReadControl::SetHint {
                 page,
                 tries,
                 buffer,
@@ -165,15 +165,15 @@ impl ReadMachine {
     ) -> Progress
         requires board { IsOf mount.now.board pass.old }
         requires way { (start : PassState) × IsOnWay mount.now.fds self.old _list.now start pass.old }
-        requires stage { self.old.stage ≡ Points page tries buffer }
+        requires control { self.old.control ≡ reads.SetHint page tries buffer }
         ensures board { IsOf mount.now.board pass.new }
         ensures advance { IsAdvance mount.now.fds self.old self.new _list.now _list.now pass.old pass.new result }
-        ensures less { IsLess pass.old.sight.opened.sizes self.old self.new result }
+        ensures less { IsLess pass.old.view.opened.sizes self.old self.new result }
     {
         // Only clauses speak of the tries.
         let _ = tries;
         set_hint(mount.board(), pass, buffer, page);
-        self.stage = ReadStage::Looks { page };
+        self.control = ReadControl::LoadDirty { page };
         Progress::More
     }
 }

@@ -1,14 +1,14 @@
 //! The steps of a read up to ORDER, and those by which it gives back what it holds.
 ghost use Rattle.std.specs.Prelude.{◌≡◌, ℕ, false, None};
-ghost use Rattle.nv_table.specs.States.{IsOf, PassState};
-ghost use Rattle.nv_calls.specs.Advances.{IsAdvance};
-ghost use Rattle.nv_calls.specs.Ranks.{IsLess};
-ghost use Rattle.nv_calls.specs.Reads.{IsOnWay, Refuses, call_of};
-ghost use Rattle.nv_core.specs.Passes.{IsAllowed, first_page, end_page, page_count};
-ghost use Rattle.nv_table.specs.Keys.{sizes_of};
-ghost use Rattle.nv_calls.specs.declared.reading.ReadStage.TheVariants.{Locks, Measures, Sizes, Checks, Orders};
+ghost use Rattle.nv_table.specs.state.States.{IsOf, PassState};
+ghost use Rattle.nv_calls.specs.reads.Advances.{IsAdvance};
+ghost use Rattle.nv_calls.specs.reads.Measures.{IsLess};
+ghost use Rattle.nv_calls.specs.reads.Reads.{IsOnWay, Refuses, call_of};
+ghost use Rattle.nv_core.specs.state.Passes.{IsAllowed, first_page, end_page, page_count};
+ghost use Rattle.nv_table.specs.state.Keys.{sizes_of};
+ghost use Rattle.nv_calls.specs.declared.reading.ReadControl.TheVariants as reads;
 
-use crate::{Held, Progress, ReadMachine, ReadStage, Refusal};
+use crate::{Held, Progress, ReadControl, ReadMachine, Refusal};
 use nv_entry::piece_count;
 use nv_mount::Mount;
 use nv_pmem::Lines;
@@ -21,7 +21,7 @@ pub(crate) fn layout_of<L: Lines + Drop, B: Backing + Drop>(
     pass: &Pass<L, B>,
 ) -> Layout
     requires { IsOf mount.now.board pass.now }
-    ensures { sizes_of result ≡ pass.now.sight.opened.sizes }
+    ensures { sizes_of result ≡ pass.now.view.opened.sizes }
 {
     // Only clauses speak of the pass.
     let _ = pass;
@@ -52,7 +52,7 @@ impl ReadMachine {
         if held.pages == 0 && !held.sized && held.cleanup.is_none() && !held.stored {
             return Progress::Ended(Err(refusal));
         }
-        self.stage = ReadStage::Leaves { held, refusal };
+        self.control = ReadControl::GiveBack { held, refusal };
         Progress::More
     }
 
@@ -66,19 +66,19 @@ impl ReadMachine {
     ) -> Progress
         requires board { IsOf mount.now.board pass.old }
         requires way { (start : PassState) × IsOnWay mount.now.fds self.old _list.now start pass.old }
-        requires stage { self.old.stage ≡ Locks page }
+        requires control { self.old.control ≡ reads.TakePage page }
         ensures board { IsOf mount.now.board pass.new }
         ensures advance { IsAdvance mount.now.fds self.old self.new _list.now _list.now pass.old pass.new result }
-        ensures less { IsLess pass.old.sight.opened.sizes self.old self.new result }
+        ensures less { IsLess pass.old.view.opened.sizes self.old self.new result }
     {
         let layout = layout_of(mount, pass);
         let first = self.first_page(layout);
         match take(mount.board(), pass, layout.page_lock(page)) {
             Ok(()) => {
-                self.stage = if page + 1 == self.end_page(layout) {
-                    ReadStage::Measures
+                self.control = if page + 1 == self.end_page(layout) {
+                    ReadControl::LoadLength
                 } else {
-                    ReadStage::Locks { page: page + 1 }
+                    ReadControl::TakePage { page: page + 1 }
                 };
                 Progress::More
             }
@@ -95,7 +95,7 @@ impl ReadMachine {
     }
 
     // The load of LENGTH.
-    pub(crate) fn measure<L: Lines + Drop, B: Backing + Drop>(
+    pub(crate) fn load_length<L: Lines + Drop, B: Backing + Drop>(
         &mut self,
         mount: &Mount<L, B>,
         pass: &mut Pass<L, B>,
@@ -103,18 +103,18 @@ impl ReadMachine {
     ) -> Progress
         requires board { IsOf mount.now.board pass.old }
         requires way { (start : PassState) × IsOnWay mount.now.fds self.old _list.now start pass.old }
-        requires stage { self.old.stage ≡ Measures }
+        requires control { self.old.control ≡ reads.LoadLength }
         ensures board { IsOf mount.now.board pass.new }
         ensures advance { IsAdvance mount.now.fds self.old self.new _list.now _list.now pass.old pass.new result }
-        ensures less { IsLess pass.old.sight.opened.sizes self.old self.new result }
+        ensures less { IsLess pass.old.view.opened.sizes self.old self.new result }
     {
         let layout = layout_of(mount, pass);
         let found = load_word(mount.board(), pass, layout.length(self.file));
         if found < self.at + self.len && !self.sized {
-            self.stage = ReadStage::Sizes;
+            self.control = ReadControl::TakeSize;
         } else {
             self.covered = self.len.min(found.saturating_sub(self.at));
-            self.stage = ReadStage::Checks;
+            self.control = ReadControl::LoadStop;
         }
         Progress::More
     }
@@ -128,13 +128,13 @@ impl ReadMachine {
     ) -> Progress
         requires board { IsOf mount.now.board pass.old }
         requires way { (start : PassState) × IsOnWay mount.now.fds self.old _list.now start pass.old }
-        requires stage { self.old.stage ≡ Checks }
+        requires control { self.old.control ≡ reads.LoadStop }
         ensures board { IsOf mount.now.board pass.new }
         ensures advance { IsAdvance mount.now.fds self.old self.new _list.now _list.now pass.old pass.new result }
-        ensures less { IsLess pass.old.sight.opened.sizes self.old self.new result }
+        ensures less { IsLess pass.old.view.opened.sizes self.old self.new result }
     {
         if load_word(mount.board(), pass, STOP) == 0 {
-            self.stage = ReadStage::Orders;
+            self.control = ReadControl::LoadOrder;
             return Progress::More;
         }
         let held = self.all_held(layout_of(mount, pass));
@@ -150,16 +150,16 @@ impl ReadMachine {
     ) -> Progress
         requires board { IsOf mount.now.board pass.old }
         requires way { (start : PassState) × IsOnWay mount.now.fds self.old _list.now start pass.old }
-        requires stage { self.old.stage ≡ Sizes }
+        requires control { self.old.control ≡ reads.TakeSize }
         ensures board { IsOf mount.now.board pass.new }
         ensures advance { IsAdvance mount.now.fds self.old self.new _list.now _list.now pass.old pass.new result }
-        ensures less { IsLess pass.old.sight.opened.sizes self.old self.new result }
+        ensures less { IsLess pass.old.view.opened.sizes self.old self.new result }
     {
         let layout = layout_of(mount, pass);
         match take(mount.board(), pass, layout.size(self.file)) {
             Ok(()) => {
                 self.sized = true;
-                self.stage = ReadStage::Measures;
+                self.control = ReadControl::LoadLength;
                 Progress::More
             }
             Err(Busy { cell }) => {
@@ -178,10 +178,10 @@ impl ReadMachine {
     ) -> Progress
         requires board { IsOf mount.now.board pass.old }
         requires way { (start : PassState) × IsOnWay mount.now.fds self.old list.old start pass.old }
-        requires stage { self.old.stage ≡ Orders }
+        requires control { self.old.control ≡ reads.LoadOrder }
         ensures board { IsOf mount.now.board pass.new }
         ensures advance { IsAdvance mount.now.fds self.old self.new list.old list.new pass.old pass.new result }
-        ensures less { IsLess pass.old.sight.opened.sizes self.old self.new result }
+        ensures less { IsLess pass.old.view.opened.sizes self.old self.new result }
     {
         let found = load_word(mount.board(), pass, ORDER);
         let layout = layout_of(mount, pass);
@@ -190,7 +190,7 @@ impl ReadMachine {
             return self.refuse(held, Refusal::Spent { found });
         }
         if self.len == 0 {
-            self.stage = ReadStage::Places;
+            self.control = ReadControl::TakePlace;
         } else {
             let first = self.first_page(layout);
             self.look_on(mount, pass, list, first);

@@ -1,14 +1,14 @@
 //! What a read is that is made one step at a time.
 ghost use Rattle.std.specs.Prelude.{◌≡◌, false, None, option_map};
-ghost use Rattle.nv_calls.specs.Kinds.{read_kind};
-ghost use Rattle.nv_calls.specs.declared.reading.ReadStage.TheVariants.{Begins};
+ghost use Rattle.nv_calls.specs.histories.Kinds.{read_kind};
+ghost use Rattle.nv_calls.specs.declared.reading.ReadControl.TheVariants as reads;
 
 use crate::{Done, Kind, Refusal};
 
 /// How many bytes a page has at most.
 pub const MOST_PAGE: usize = 4096;
 
-/// What a read on its way out still has in its hands: so many of its pages, from the first one on; SIZE; CLEANUP of a page; and the store.
+/// What a read on its way out still owns: so many of its pages, from the first one on; SIZE; CLEANUP of a page; and the store.
 #[derive(Clone, Copy, Debug, PartialEq, Eq)]
 pub struct Held {
     pub pages: u64,
@@ -19,112 +19,112 @@ pub struct Held {
 
 /// The step that comes next. A page is named by its number of all pages.
 #[derive(Clone, Copy, Debug, PartialEq, Eq)]
-pub enum ReadStage {
+pub enum ReadControl {
     /// The first one: the lock of the first page, or, for no bytes, the load of STOP.
-    Begins,
+    Begin,
     /// The lock of this page.
-    Locks {
+    TakePage {
         page: u64,
     },
     /// The load of LENGTH.
-    Measures,
+    LoadLength,
     /// The lock of LENGTH.
-    Sizes,
+    TakeSize,
     /// The load of STOP.
-    Checks,
+    LoadStop,
     /// The load of ORDER.
-    Orders,
+    LoadOrder,
     /// Another try to find a buffer for this page, after so many.
-    Turns {
+    TurnHand {
         page: u64,
         tries: u64,
     },
     /// The load of the HINT of this buffer.
-    Hints {
+    LoadHint {
         page: u64,
         tries: u64,
         buffer: u64,
     },
     /// The lock of the page that it names, the victim.
-    Seeks {
+    TakeVictim {
         page: u64,
         tries: u64,
         buffer: u64,
         victim: u64,
     },
     /// The victim is given back, without its buffer.
-    Robs {
+    GiveVictim {
         page: u64,
         tries: u64,
         buffer: u64,
         victim: u64,
     },
     /// The HINT is set to this page.
-    Points {
+    SetHint {
         page: u64,
         tries: u64,
         buffer: u64,
     },
     /// The load of this page's DIRTY.
-    Looks {
+    LoadDirty {
         page: u64,
     },
     /// CLEANUP of this page, which has entries.
-    Waits {
+    TakeCleanup {
         page: u64,
     },
     /// The lock of the store, for this page: it has entries where it is dirty.
-    Fetches {
+    TakeStore {
         page: u64,
         dirty: bool,
     },
     /// The store is read, and given back.
-    Copies {
+    ReadStore {
         page: u64,
         dirty: bool,
     },
     /// The load of HEAD, for the entries of this page.
-    Bounds {
+    LoadHead {
         page: u64,
     },
     /// The load of TAIL.
-    Starts {
+    LoadTail {
         page: u64,
     },
     /// The load of the ENTRY of this number.
-    Scans {
+    LoadEntry {
         page: u64,
         number: u64,
     },
     /// The entry of this number is held.
-    Grasps {
+    HoldEntry {
         page: u64,
         number: u64,
     },
     /// Its piece is read, and it is returned.
-    Patches {
+    ReadPiece {
         page: u64,
         number: u64,
     },
     /// It is returned, since its part has failed.
-    Restores {
+    ReturnEntry {
         page: u64,
         number: u64,
     },
     /// CLEANUP of this page is given back.
-    Unlocks {
+    GiveCleanup {
         page: u64,
     },
     /// The read's place in the history.
-    Places,
+    TakePlace,
     /// SIZE is given back.
-    Releases,
+    GiveSize,
     /// This page is given back.
-    Gives {
+    GivePage {
         page: u64,
     },
     /// What was taken last is given back, since the read is refused.
-    Leaves {
+    GiveBack {
         held: Held,
         refusal: Refusal,
     },
@@ -136,7 +136,7 @@ pub struct ReadMachine {
     pub fd: u64,
     pub at: u64,
     pub len: u64,
-    pub stage: ReadStage,
+    pub control: ReadControl,
     /// The descriptor's file, once it has begun.
     pub file: u64,
     /// It has taken SIZE.
@@ -158,13 +158,13 @@ pub struct ReadMachine {
 impl ReadMachine {
     /// A read of `len` bytes from the offset `at` on, which has made no step yet.
     pub fn new(fd: u64, at: u64, len: u64) -> Self
-        ensures { result ≡ record { fd = fd; at = at; len = len; stage = Begins; file = 0; sized = false; covered = 0; copied = 0; head = 0; place = None; faulted = false; scratch = result.scratch } }
+        ensures { result ≡ record { fd = fd; at = at; len = len; control = reads.Begin; file = 0; sized = false; covered = 0; copied = 0; head = 0; place = None; faulted = false; scratch = result.scratch } }
     {
         ReadMachine {
             fd,
             at,
             len,
-            stage: ReadStage::Begins,
+            control: ReadControl::Begin,
             file: 0,
             sized: false,
             covered: 0,
@@ -179,35 +179,35 @@ impl ReadMachine {
     /// The kind of the next step, if each device call before it ends well. Before the first advance it is that of the first step of a
     /// read which isn't refused before.
     pub fn next_kind(&self) -> Kind
-        ensures { result ≡ read_kind self.now.len self.now.stage }
+        ensures { result ≡ read_kind self.now.len self.now.control }
     {
-        match self.stage {
-            ReadStage::Begins if self.len == 0 => Kind::Load,
-            ReadStage::Begins
-            | ReadStage::Locks { .. }
-            | ReadStage::Sizes
-            | ReadStage::Seeks { .. }
-            | ReadStage::Waits { .. }
-            | ReadStage::Fetches { .. } => Kind::Take,
-            ReadStage::Turns { .. } => Kind::Hand,
-            ReadStage::Points { .. } => Kind::Hint,
-            ReadStage::Grasps { .. } => Kind::Hold,
-            ReadStage::Patches { .. } | ReadStage::Restores { .. } => Kind::Return,
-            ReadStage::Places => Kind::Place,
-            ReadStage::Robs { .. }
-            | ReadStage::Copies { .. }
-            | ReadStage::Unlocks { .. }
-            | ReadStage::Releases
-            | ReadStage::Gives { .. }
-            | ReadStage::Leaves { .. } => Kind::Give,
-            ReadStage::Measures
-            | ReadStage::Checks
-            | ReadStage::Orders
-            | ReadStage::Hints { .. }
-            | ReadStage::Looks { .. }
-            | ReadStage::Bounds { .. }
-            | ReadStage::Starts { .. }
-            | ReadStage::Scans { .. } => Kind::Load,
+        match self.control {
+            ReadControl::Begin if self.len == 0 => Kind::Load,
+            ReadControl::Begin
+            | ReadControl::TakePage { .. }
+            | ReadControl::TakeSize
+            | ReadControl::TakeVictim { .. }
+            | ReadControl::TakeCleanup { .. }
+            | ReadControl::TakeStore { .. } => Kind::Take,
+            ReadControl::TurnHand { .. } => Kind::Hand,
+            ReadControl::SetHint { .. } => Kind::Hint,
+            ReadControl::HoldEntry { .. } => Kind::Hold,
+            ReadControl::ReadPiece { .. } | ReadControl::ReturnEntry { .. } => Kind::Return,
+            ReadControl::TakePlace => Kind::Place,
+            ReadControl::GiveVictim { .. }
+            | ReadControl::ReadStore { .. }
+            | ReadControl::GiveCleanup { .. }
+            | ReadControl::GiveSize
+            | ReadControl::GivePage { .. }
+            | ReadControl::GiveBack { .. } => Kind::Give,
+            ReadControl::LoadLength
+            | ReadControl::LoadStop
+            | ReadControl::LoadOrder
+            | ReadControl::LoadHint { .. }
+            | ReadControl::LoadDirty { .. }
+            | ReadControl::LoadHead { .. }
+            | ReadControl::LoadTail { .. }
+            | ReadControl::LoadEntry { .. } => Kind::Load,
         }
     }
 

@@ -1,11 +1,11 @@
 //! An fsync, which has nothing to do but to take its place in the history.
 ghost use Rattle.std.specs.Prelude.{◌≡◌, ◌<◌, Some, IfOk, OnErr};
 ghost use Rattle.nv_plain.specs.declared.call.FileCall.TheVariants.{Sync};
-ghost use Rattle.nv_table.specs.Idle.{IsIdle, IsLater};
-ghost use Rattle.nv_table.specs.States.{IsOf};
-ghost use Rattle.nv_calls.specs.Answers.{IsSynced, IsUnplaced};
-ghost use Rattle.nv_calls.specs.Courses.{IsCourse, file_of};
-ghost use Rattle.nv_calls.specs.Heeds.{SyncHeedsStop};
+ghost use Rattle.nv_table.specs.invariant.Idle.{IsIdle, IsLater};
+ghost use Rattle.nv_table.specs.state.States.{IsOf};
+ghost use Rattle.nv_calls.specs.histories.Answers.{IsSyncPlaced, IsUnplaced};
+ghost use Rattle.nv_calls.specs.fsync.SyncRuns.{IsSyncRun, file_of_fd};
+ghost use Rattle.nv_calls.specs.histories.Heeds.{SyncHeedsStop};
 
 use crate::{Done, Refusal, ended_calls_heed_stop};
 use nv_mount::Mount;
@@ -28,10 +28,10 @@ fn sync_by<C: Calls, L: Lines, B: Backing>(
     ensures idle { IsIdle pass.new }
     ensures later { IsLater pass.old pass.new }
     ensures spare { pass.new.spare ≡ pass.old.spare }
-    ensures done { IfOk result (λ done. IsSynced (Some file) pass.old.sight pass.new.sight done.place) }
+    ensures done { IfOk result (λ done. IsSyncPlaced (Some file) pass.old.view pass.new.view done.place) }
     ensures len { IfOk result (λ done. done.len ≡ 0) }
-    ensures kept { OnErr result (IsUnplaced pass.old.sight pass.new.sight) }
-    ensures course { IsCourse (Some file) pass.old pass.new result }
+    ensures kept { OnErr result (IsUnplaced pass.old.view pass.new.view) }
+    ensures sync_run { IsSyncRun (Some file) pass.old pass.new result }
 {
     // Only clauses speak of the file: a sync's steps are the same for each.
     let _ = file;
@@ -60,10 +60,10 @@ pub fn try_fsync<L: Lines + Drop, B: Backing + Drop>(
     ensures idle { IsIdle pass.new }
     ensures later { IsLater pass.old pass.new }
     ensures spare { pass.new.spare ≡ pass.old.spare }
-    ensures done { IfOk result (λ done. IsSynced (file_of mount.now.fds fd) pass.old.sight pass.new.sight done.place) }
+    ensures done { IfOk result (λ done. IsSyncPlaced (file_of_fd mount.now.fds fd) pass.old.view pass.new.view done.place) }
     ensures len { IfOk result (λ done. done.len ≡ 0) }
-    ensures kept { OnErr result (IsUnplaced pass.old.sight pass.new.sight) }
-    ensures course { IsCourse (file_of mount.now.fds fd) pass.old pass.new result }
+    ensures kept { OnErr result (IsUnplaced pass.old.view pass.new.view) }
+    ensures sync_run { IsSyncRun (file_of_fd mount.now.fds fd) pass.old pass.new result }
     ensures stop { SyncHeedsStop mount.now.fds fd pass.old pass.new result }
 {
     ended_calls_heed_stop();

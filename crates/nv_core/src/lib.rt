@@ -3,26 +3,26 @@
 //! with an empty body, or of one that calls only the laws of the crates below.
 #![tactic(auto)]
 
-mod content;
-mod crash;
-mod fitting;
-mod laws;
-mod log;
-mod order;
-mod others;
-mod shapes;
+mod content_laws;
+mod crash_laws;
+mod fitting_laws;
+mod frame_laws;
+mod invariant_laws;
+mod log_laws;
+mod order_laws;
+mod shape_laws;
 
-pub use content::{pages_are_patched, runs_keep_content};
-pub use crash::{
+pub use content_laws::{pages_are_patched, runs_keep_content};
+pub use crash_laws::{
     crashes_leave_whole_writes, empty_logs_rest, images_by_hand, regions_at_rest_open,
 };
-pub use fitting::{held_pieces_fit, ready_pieces_fit};
-pub use laws::{
+pub use fitting_laws::{held_pieces_fit, ready_pieces_fit};
+pub use frame_laws::passes_are_left_alone;
+pub use invariant_laws::{
     a_batch_is_a_run, a_dirty_read_is_a_run, calls_hold_nothing_broken, lengths_follow_the_history,
     no_sound_state_allows, runs_are_sound, spares_tell_the_room, walks_are_runs,
     words_have_places_of_their_own, writes_in_flight_keep_apart,
 };
-pub use log::{a_mount_opens_a_file_and_a_log, cleaning_keeps_its_order, runs_keep_the_log};
-pub use order::{refusals_go_by_their_numbers, short_walks_are_runs, steps_follow_one_table};
-pub use others::passes_are_left_alone;
-pub use shapes::cells_keep_their_shapes;
+pub use log_laws::{a_mount_opens_a_file_and_a_log, cleaning_keeps_its_order, runs_keep_the_log};
+pub use order_laws::{refusals_go_by_their_numbers, short_walks_are_runs, steps_follow_one_table};
+pub use shape_laws::cells_keep_their_shapes;

@@ -1,3 +1,4 @@
+//! Tests of benches in memory.
 ghost use Rattle.std.specs.Prelude.{◌≡◌, [], true, false, length, OnOk, IfOk};
 ghost use Rattle.nv_bench.specs.MemBench.{mem_state};
 

@@ -1,3 +1,4 @@
+//! Tests of parts over files.
 use nv_pmem::{FilePart, LineFault, Lines, PartError, store_durably};
 use std::fs;
 use std::os::unix::fs::symlink;

@@ -1,3 +1,4 @@
+//! Tests of stores over files.
 use nv_store::{Backing, FileStore, StoreError, StoreFault};
 use std::cell::Cell;
 use std::fs::{self, Metadata, OpenFile};

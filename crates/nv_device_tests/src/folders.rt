@@ -1,3 +1,4 @@
+//! Tests of benches over folders.
 ghost use Rattle.std.specs.Prelude.{◌≡◌, [], true, false, length, IfOk, OnOk, OnErr};
 ghost use Rattle.nv_bench.specs.FolderBench.{folder_state};
 

@@ -1,3 +1,4 @@
+//! Tests of parts in memory.
 ghost use Rattle.std.specs.Prelude.{◌≤◌};
 ghost use Rattle.nv_pmem.specs.MemPart.{part_room};
 

@@ -1,3 +1,4 @@
+//! Tests of plain files.
 ghost use Rattle.std.specs.Prelude.{◌≡◌, ◌+◌, ◌^◌, ◌<◌, ◌≤◌, length, OnOk};
 
 use nv_plain::{Bytes, FileCall, NoMemory, PlainFiles, Reply};

@@ -1,3 +1,4 @@
+//! Tests of the reading of traces.
 ghost use Rattle.std.specs.Prelude.{◌≤◌, ℕ, List, Option, None, length};
 
 use nv_plain::Mode;

@@ -1,3 +1,4 @@
+//! Tests of stores in memory.
 ghost use Rattle.std.specs.Prelude.{◌≤◌};
 
 use nv_plain::NoMemory;

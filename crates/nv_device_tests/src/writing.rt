@@ -1,3 +1,4 @@
+//! Tests of the writing of reports.
 use nv_plain::{Bytes, NoMemory, Reply};
 use nv_trace::{
     Failed, Fate, MemSink, MemSource, ReaderSource, Refusal, Sink, Source, TraceCall, WriterSink,

@@ -8,7 +8,7 @@ use Rattle.nv_plain.specs.Files.{Files, contents_of, with_contents, overwritten}
 use Rattle.nv_plain.specs.Pieces.{pages_touched, piece_of, pieces_of, piece_bytes, with_pieces}
 use Rattle.nv_plain.specs.Pieces.{Piece as Own}
 use Rattle.nv_plain.proofs.PieceLemmas.{page_start_below, with_pieces-pieces_of}
-use Rattle.nv_engine.specs.Laid.{Piece, with_piece, laid, cut, cuts_of, entries_of, all_entries}
+use Rattle.nv_engine.specs.Laid.{LaidPiece, with_laid_piece, laid, cut, cuts_of, entries_of_piece, all_entries}
 use Rattle.nv_engine.specs.Overlaid.{with_own, overlaid}
 
 -- ---- how many there are
@@ -20,10 +20,10 @@ touched_some at len page some = grind (arith, nat_tests)
 len_some : (at len page i : ℕ) → i < pages_touched at len page → 0 < len
 len_some at len page i below = grind (arith, nat_tests)
 
-pub entries_some : (page : ℕ) (piece : Piece) → 1 ≤ length piece.bytes → 1 ≤ entries_of page piece
+pub entries_some : (page : ℕ) (piece : LaidPiece) → 1 ≤ length piece.bytes → 1 ≤ entries_of_piece page piece
 entries_some page piece some = omega (arith, touched_some piece.at (length piece.bytes) page some)
 
-pub all_entries-push : (page : ℕ) (pieces : List Piece) (more : Piece) → all_entries page (pieces ++ more ∷ []) ≡ all_entries page pieces + entries_of page more
+pub all_entries-push : (page : ℕ) (pieces : List LaidPiece) (more : LaidPiece) → all_entries page (pieces ++ more ∷ []) ≡ all_entries page pieces + entries_of_piece page more
 all_entries-push page [] more = omega arith
 all_entries-push page (piece ∷ pieces) more = omega (arith, all_entries-push page pieces more)
 
@@ -58,7 +58,7 @@ own_first at len page = omega (arith, div-mul-le_self at page)
 
 module _ (file : ℕ) (written : List ℕ) where
   -- a piece of a write, as one of the file
-  abbrev pub as_piece : Own → Piece
+  abbrev pub as_piece : Own → LaidPiece
   as_piece own = record { file = file; at = own.at; bytes = piece_bytes written own }
 
   own_overlaid : (owns : List Own) (bytes : List ℕ) → overlaid file bytes (map as_piece owns) ≡ with_pieces written bytes owns
@@ -92,12 +92,12 @@ module _ (file : ℕ) (written : List ℕ) where
       ∙ none_laid owns files none
 
 -- all the cut ones of a piece over its file
-pub cut_whole : (page : ℕ) (bytes : List ℕ) (piece : Piece) → 1 ≤ page → overlaid piece.file bytes (cut page piece) ≡ overwritten bytes piece.at piece.bytes
+pub cut_whole : (page : ℕ) (bytes : List ℕ) (piece : LaidPiece) → 1 ≤ page → overlaid piece.file bytes (cut page piece) ≡ overwritten bytes piece.at piece.bytes
 cut_whole page bytes piece some_page =
     own_overlaid piece.file piece.bytes (pieces_of piece.at (length piece.bytes) page) bytes
     ∙ with_pieces-pieces_of bytes piece.bytes piece.at page some_page
 
-pub cut_overlaid : (page file : ℕ) (bytes : List ℕ) (piece : Piece) → 1 ≤ page → overlaid file bytes (cut page piece) ≡ with_own file bytes piece
+pub cut_overlaid : (page file : ℕ) (bytes : List ℕ) (piece : LaidPiece) → 1 ≤ page → overlaid file bytes (cut page piece) ≡ with_own file bytes piece
 cut_overlaid page file bytes piece some_page =
     let owns = pieces_of piece.at (length piece.bytes) page in
     let new = overwritten bytes piece.at piece.bytes in
@@ -111,7 +111,7 @@ cut_overlaid page file bytes piece some_page =
           ∙ sym (ap (λ test. if test then new else bytes) (ne_eqb piece.file file apart))
     ]
 
-pub cut_laid : (page : ℕ) (files : Files) (piece : Piece) → 1 ≤ page → laid files (cut page piece) ≡ with_piece files piece
+pub cut_laid : (page : ℕ) (files : Files) (piece : LaidPiece) → 1 ≤ page → laid files (cut page piece) ≡ with_laid_piece files piece
 cut_laid page files piece some_page =
     let owns = pieces_of piece.at (length piece.bytes) page in
     let new = overwritten (contents_of files piece.file) piece.at piece.bytes in
@@ -124,11 +124,11 @@ cut_laid page files piece some_page =
           ∙ sym (ap (λ these. record { contents = these }) (set_past files.contents piece.file new (omega arith)))
     ]
 
-overlaid-append : (file : ℕ) (bytes : List ℕ) (pieces others : List Piece) → overlaid file bytes (pieces ++ others) ≡ overlaid file (overlaid file bytes pieces) others
+overlaid-append : (file : ℕ) (bytes : List ℕ) (pieces others : List LaidPiece) → overlaid file bytes (pieces ++ others) ≡ overlaid file (overlaid file bytes pieces) others
 overlaid-append file bytes [] others = refl
 overlaid-append file bytes (piece ∷ pieces) others = overlaid-append file (with_own file bytes piece) pieces others
 
-pub cuts_overlaid : (page file : ℕ) (bytes : List ℕ) (pieces : List Piece) → 1 ≤ page → overlaid file bytes (cuts_of page pieces) ≡ overlaid file bytes pieces
+pub cuts_overlaid : (page file : ℕ) (bytes : List ℕ) (pieces : List LaidPiece) → 1 ≤ page → overlaid file bytes (cuts_of page pieces) ≡ overlaid file bytes pieces
 cuts_overlaid page file bytes [] some_page = refl
 cuts_overlaid page file bytes (piece ∷ pieces) some_page =
     overlaid-append file bytes (cut page piece) (cuts_of page pieces)

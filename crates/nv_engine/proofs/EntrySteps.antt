@@ -2,7 +2,7 @@
 use Rattle.std.proofs.Common.{◌≡◌, ℕ, ◌+◌, ◌<◌, List, ◌++◌, length, sym, ap, ◌∙◌, subst, arith}
 use Rattle.nv_plain.specs.Pieces.{pages_touched}
 use Rattle.nv_pmem.specs.Rows.{RowStep, on_part, row_grown, DidRow, DidSomeRow}
-use Rattle.nv_pmem.specs.Steps.{History, durable_store}
+use Rattle.nv_pmem.specs.Steps.{PartHistory, durable_store}
 use Rattle.nv_pmem.proofs.StepLaws.{did_none, did_did, did_did_some, did_some_front}
 use Rattle.nv_entry.specs.Group.{piece_steps, pieces_steps, group_steps}
 use Rattle.nv_entry.proofs.GroupSteps.{pieces_steps-more, pieces_steps-split, pieces_rest}
@@ -20,19 +20,19 @@ module _ (page entries number file at : ℕ) (bytes : List ℕ) where
       append-on_slots entries number (pieces_steps page number file at bytes k) (on_part k (piece_steps page number file at bytes k))
       ∙ ap (λ steps. entry_steps page entries number file at bytes k ++ steps) (part-on_slots entries number k (piece_steps page number file at bytes k))
 
-  pub did_no_entries : (row : List History) → DidRow (entry_steps page entries number file at bytes 0) row row
+  pub did_no_entries : (row : List PartHistory) → DidRow (entry_steps page entries number file at bytes 0) row row
   unfolding pieces_steps
   did_no_entries row = did_none row_grown row
 
   -- one entry more is written
-  pub did_entries_more : (k : ℕ) {old between new : List History} → DidRow (entry_steps page entries number file at bytes k) old between
+  pub did_entries_more : (k : ℕ) {old between new : List PartHistory} → DidRow (entry_steps page entries number file at bytes k) old between
       → DidRow (on_part (slot_of entries (number + k)) (piece_steps page number file at bytes k)) between new → DidRow (entry_steps page entries number file at bytes (k + 1)) old new
   did_entries_more k {old} {between} {new} before one =
       let Done : List RowStep → Type 0 = λ steps. DidRow steps old new in
       subst Done (sym (ap (on_slots entries number) (pieces_steps-more page number file at bytes k) ∙ both k)) (did_did before one)
 
   -- one more, of those that there are, is begun
-  pub did_some_entries_more : (k count : ℕ) {old between new : List History} → k < count → DidRow (entry_steps page entries number file at bytes k) old between
+  pub did_some_entries_more : (k count : ℕ) {old between new : List PartHistory} → k < count → DidRow (entry_steps page entries number file at bytes k) old between
       → DidSomeRow (on_part (slot_of entries (number + k)) (piece_steps page number file at bytes k)) between new → DidSomeRow (entry_steps page entries number file at bytes count) old new
   did_some_entries_more k count {old} {between} {new} below before one =
       let Done : List RowStep → Type 0 = λ steps. DidSomeRow steps old new in

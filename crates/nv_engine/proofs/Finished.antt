@@ -17,7 +17,7 @@ use Rattle.nv_recover.specs.Applying.{AcrossTells}
 use Rattle.nv_recover.specs.Recovering.{HoldRecovered}
 use Rattle.nv_recover.specs.Standing.{AreQuietStores, files_of}
 use Rattle.nv_engine.specs.Holding.{HasPieces, Holds}
-use Rattle.nv_engine.specs.Laid.{Piece, laid}
+use Rattle.nv_engine.specs.Laid.{LaidPiece, laid}
 use Rattle.nv_engine.specs.Logged.{HasLog, RecoversTo}
 use Rattle.nv_engine.specs.declared.log.Log.{Log}
 use Rattle.nv_engine.proofs.Logs.{files_known, logged_fits, logged_recovers}
@@ -34,7 +34,7 @@ error_of none (Err e) = e
 pub same_error : {T E : Type 0} (a b : E) → (let answer : Result T E = Err a in answer ≡ Err b) → a ≡ b
 same_error {T} {E} a b same = ap (λ (r : Result T E). error_of a r) same
 
-module _ {L B : Type 0} (log : Log L B) (pieces : List Piece) (parts : List Part) (has : HasPieces log pieces parts) where
+module _ {L B : Type 0} (log : Log L B) (pieces : List LaidPiece) (parts : List Part) (has : HasPieces log pieces parts) where
   logged : HasLog version_1 log.geometry.page log.geometry.entries log.names log.tail pieces (row_words parts)
   logged = has.logs (row_words parts) (row_image_of_now parts)
 
@@ -64,7 +64,7 @@ module _ {L B : Type 0} (log : Log L B) (pieces : List Piece) (parts : List Part
   recovers files = logged_recovers version_1 log.geometry.page log.geometry.entries log.names log.tail pieces (row_words parts) logged files has.fitting
 
 -- the stores after it
-module _ {L B : Type 0} (history : L → lines.History) (held : B → stores.History) (log : Log L B) (pieces : List Piece) (files : Files) (holds : Holds history held log pieces files) (new : List stores.History)
+module _ {L B : Type 0} (history : L → lines.PartHistory) (held : B → stores.StoreHistory) (log : Log L B) (pieces : List LaidPiece) (files : Files) (holds : Holds history held log pieces files) (new : List stores.StoreHistory)
     (done : AcrossTells (map history log.parts.items) (map held log.stores.items) new HoldRecovered) where
   told_recovered : RowTells new (HoldRecovered (row_words holds.parts) holds.stores)
   told_recovered =

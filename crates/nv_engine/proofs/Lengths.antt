@@ -5,22 +5,22 @@ use Rattle.std.proofs.lemmas.List.Sums.{fold_push}
 use Rattle.nv_plain.specs.Files.{Files, contents_of, overwritten}
 use Rattle.nv_plain.proofs.FileLemmas.{length-overwritten}
 use Rattle.nv_pmem.specs.RowStates.{AreNow}
-use Rattle.nv_store.specs.Steps.{History}
+use Rattle.nv_store.specs.Steps.{StoreHistory}
 use Rattle.nv_store.specs.Store.{Store}
 use Rattle.nv_recover.specs.Standing.{files_of}
-use Rattle.nv_engine.specs.Laid.{Piece, with_piece, laid}
+use Rattle.nv_engine.specs.Laid.{LaidPiece, with_laid_piece, laid}
 use Rattle.nv_engine.proofs.States.{length_now}
 
-pub laid_more : (files : Files) (pieces : List Piece) (piece : Piece) → laid files (pieces ++ piece ∷ []) ≡ with_piece (laid files pieces) piece
-laid_more files pieces piece = fold_push with_piece files pieces piece
+pub laid_more : (files : Files) (pieces : List LaidPiece) (piece : LaidPiece) → laid files (pieces ++ piece ∷ []) ≡ with_laid_piece (laid files pieces) piece
+laid_more files pieces piece = fold_push with_laid_piece files pieces piece
 
-pub count_laid : (files : Files) (pieces : List Piece) → length (laid files pieces).contents ≡ length files.contents
+pub count_laid : (files : Files) (pieces : List LaidPiece) → length (laid files pieces).contents ≡ length files.contents
 count_laid files [] = λ i. length files.contents
 count_laid files (piece ∷ pieces) =
-    count_laid (with_piece files piece) pieces ∙ length-set files.contents piece.file (overwritten (contents_of files piece.file) piece.at piece.bytes)
+    count_laid (with_laid_piece files piece) pieces ∙ length-set files.contents piece.file (overwritten (contents_of files piece.file) piece.at piece.bytes)
 
 -- the lengths grow in the file of the piece alone
-pub lengths_more : (files : Files) (pieces : List Piece) (piece : Piece) (lengths : List ℕ) (was d : ℕ) → lengths ≡ map (λ bytes. length bytes) (laid files pieces).contents
+pub lengths_more : (files : Files) (pieces : List LaidPiece) (piece : LaidPiece) (lengths : List ℕ) (was d : ℕ) → lengths ≡ map (λ bytes. length bytes) (laid files pieces).contents
     → piece.file < length files.contents → 1 ≤ length piece.bytes → was ≡ slice_index_or lengths piece.file was
     → slice_set lengths piece.file (max was (piece.at + length piece.bytes)) ≡ map (λ bytes. length bytes) (laid files (pieces ++ piece ∷ [])).contents
 lengths_more files pieces piece lengths was d are known some is =
@@ -37,7 +37,7 @@ lengths_more files pieces piece lengths was d are known some is =
     ∙ ap (λ (these : Files). map size these.contents) (sym (laid_more files pieces piece))
 
 -- stores that hold some files are as many
-pub files_count : {B : Type 0} (held : B → History) (stores : List B) (states : List Store) (files : Files) → AreNow (map held stores) states → files_of states ≡ files → length files.contents ≡ length stores
+pub files_count : {B : Type 0} (held : B → StoreHistory) (stores : List B) (states : List Store) (files : Files) → AreNow (map held stores) states → files_of states ≡ files → length files.contents ≡ length stores
 files_count held stores states files are is =
     ap (λ (these : Files). length these.contents) (sym is)
     ∙ length-map states (λ (store : Store). store.seen)

@@ -11,7 +11,7 @@ use Rattle.nv_plain.specs.Pieces.{piece_of}
 use Rattle.nv_plain.specs.Recovered.{IsCommitted, IsFollower, IsPiece, IsGroup, GoesOn, Fits, with_entry, committed, group_numbers}
 use Rattle.nv_entry.specs.Group.{piece_entry}
 use Rattle.nv_header.specs.Heads.{first_names}
-use Rattle.nv_engine.specs.Laid.{Piece, IsFitting, entries_of, all_entries, leaders_from}
+use Rattle.nv_engine.specs.Laid.{LaidPiece, IsFitting, entries_of_piece, all_entries, leaders_from}
 use Rattle.nv_engine.specs.Logged.{HoldsPiece, HoldPieces, HasLog, AreFitting, RecoversTo}
 use Rattle.nv_engine.proofs.Cuts.{entries_some, own_some, own_end, own_goes_on, own_in_page}
 use Rattle.nv_engine.proofs.OneLog.{page_some}
@@ -28,9 +28,9 @@ record AreBounds (layout : Layout) (page files limit : ℕ) (image : Image) : Ty
 -- ---- a piece is a group
 
 module _ (layout : Layout) (page files limit : ℕ) (image : Image) (bounds : AreBounds layout page files limit image) where
-  module _ (number : ℕ) (piece : Piece) (holds : HoldsPiece page (header_of image).entries image number piece) (fits : IsFitting layout page files piece) where
+  module _ (number : ℕ) (piece : LaidPiece) (holds : HoldsPiece page (header_of image).entries image number piece) (fits : IsFitting layout page files piece) where
     -- the entries, by what is cut
-    entry : (i : ℕ) → i < entries_of page piece → entry_at image (number + i) ≡ piece_entry page number piece.file piece.at piece.bytes i (entry_at image (number + i)).commit
+    entry : (i : ℕ) → i < entries_of_piece page piece → entry_at image (number + i) ≡ piece_entry page number piece.file piece.at piece.bytes i (entry_at image (number + i)).commit
     entry i below = (holds.whole.entries i below).fields
 
     leading : entry_at image number ≡ entry_at image (number + 0)
@@ -42,7 +42,7 @@ module _ (layout : Layout) (page files limit : ℕ) (image : Image) (bounds : Ar
     leader_own : (entry_at image number).leader ≡ number
     leader_own = ap (λ (e : Entry). e.leader) leading ∙ ap (λ (e : Entry). e.leader) (entry 0 (entries_some page piece holds.some))
 
-    fits_at : (i : ℕ) → i < entries_of page piece → IsPiece layout image number (number + i)
+    fits_at : (i : ℕ) → i < entries_of_piece page piece → IsPiece layout image number (number + i)
     fits_at i below =
         let own = piece_of piece.at (length piece.bytes) page i in
         let file = ap (λ (e : Entry). e.file) (entry i below) in
@@ -64,14 +64,14 @@ module _ (layout : Layout) (page files limit : ℕ) (image : Image) (bounds : Ar
               (subst (λ page. Ends own.at own.size page) (sym bounds.page_is) (omega (arith, fits.in_file, own_end piece.at (length piece.bytes) page i bounds.some_page below))));
         }
 
-    follows_at : (i : ℕ) → 1 ≤ i → i < entries_of page piece → IsFollower image number (number + i)
+    follows_at : (i : ℕ) → 1 ≤ i → i < entries_of_piece page piece → IsFollower image number (number + i)
     follows_at i past below = record {
-      none = ap (λ (e : Entry). e.count) (entry i below) ∙ ap (λ test. if test then entries_of page piece else 0) (ne_eqb i 0 (omega arith));
+      none = ap (λ (e : Entry). e.count) (entry i below) ∙ ap (λ test. if test then entries_of_piece page piece else 0) (ne_eqb i 0 (omega arith));
       of = ap (λ (e : Entry). e.leader) (entry i below);
       uncommitted = holds.whole.followers i past below;
     }
 
-    goes_on_at : (i : ℕ) → i + 1 < entries_of page piece → GoesOn image (number + i)
+    goes_on_at : (i : ℕ) → i + 1 < entries_of_piece page piece → GoesOn image (number + i)
     goes_on_at i below =
         let next : number + i + 1 ≡ number + (i + 1) = omega arith in
         let size = ap (λ (e : Entry). e.size) (entry i (omega arith)) in
@@ -81,7 +81,7 @@ module _ (layout : Layout) (page files limit : ℕ) (image : Image) (bounds : Ar
         ∙ own_goes_on piece.at (length piece.bytes) page i bounds.some_page below
         ∙ omega (arith, size, at)
 
-    whole_group : number + entries_of page piece ≤ limit → entries_of page piece ≤ (header_of image).entries → IsGroup layout image number
+    whole_group : number + entries_of_piece page piece ≤ limit → entries_of_piece page piece ≤ (header_of image).entries → IsGroup layout image number
     whole_group within few =
         let count = count_here page image bounds.some_page number piece holds in
         record {
@@ -107,26 +107,26 @@ module _ (layout : Layout) (page files limit : ℕ) (image : Image) (bounds : Ar
         }
 
   -- a committed number of these pieces is that of a group
-  group_among : (pieces : List Piece) (number leader : ℕ) → HoldPieces page (header_of image).entries image number pieces → All (IsFitting layout page files) pieces → number + all_entries page pieces ≤ limit
+  group_among : (pieces : List LaidPiece) (number leader : ℕ) → HoldPieces page (header_of image).entries image number pieces → All (IsFitting layout page files) pieces → number + all_entries page pieces ≤ limit
       → all_entries page pieces ≤ (header_of image).entries → number ≤ leader → leader < number + all_entries page pieces → (entry_at image leader).commit ≡ leader + 1 → IsGroup layout image leader
   group_among [] number leader held each within few low high commits = absurd (omega arith)
   group_among (piece ∷ pieces) number leader held each within few low high commits = elim (cases_eq leader number) [
     | inl same ↦
         let At : ℕ → Type 0 = IsGroup layout image in
         subst At (sym same) (whole_group number piece held.0 (each 0 piece (omega arith)) (omega arith) (omega arith))
-    | inr later ↦ elim (cases_lt leader (number + entries_of page piece)) [
+    | inr later ↦ elim (cases_lt leader (number + entries_of_piece page piece)) [
       | inl follows ↦
           let is : leader ≡ number + (leader - number) = omega arith in
           let Commits : ℕ → Type 0 = λ n. (entry_at image n).commit ≡ n + 1 in
           absurd (held.0.whole.followers (leader - number) (omega arith) (omega arith) (subst Commits is commits))
       | inr past ↦
-          group_among pieces (number + entries_of page piece) leader held.1 (λ i none below. each (suc i) none (omega arith)) (omega arith) (omega arith) (omega arith) (omega arith) commits
+          group_among pieces (number + entries_of_piece page piece) leader held.1 (λ i none below. each (suc i) none (omega arith)) (omega arith) (omega arith) (omega arith) (omega arith) commits
     ]
   ]
 
 -- ---- an image with a log
 
-module _ (layout : Layout) (page entries : ℕ) (names : List (List ℕ)) (tail : ℕ) (pieces : List Piece) (image : Image) (log : HasLog layout page entries names tail pieces image) where
+module _ (layout : Layout) (page entries : ℕ) (names : List (List ℕ)) (tail : ℕ) (pieces : List LaidPiece) (image : Image) (log : HasLog layout page entries names tail pieces image) where
   pub files_known : (header_of image).files ≡ length names
   unfolding first_names
   files_known = sym (length-map-range_with_len (name_of layout image) 0 (header_of image).files) ∙ ap length log.header.names_are

@@ -15,53 +15,53 @@ use Rattle.nv_pmem.specs.Rows.{AreQuiet, IsRowImage, row_words}
 use Rattle.nv_pmem.proofs.ImageLaws.{quiet_image}
 use Rattle.nv_header.specs.Heads.{first_names}
 use Rattle.nv_header.specs.Regions.{ReadsAs, HasNoneFrom}
-use Rattle.nv_entry.specs.Group.{HoldsEntry, IsWhole}
-use Rattle.nv_engine.specs.Laid.{Piece, cut, entries_of, all_entries}
+use Rattle.nv_entry.specs.Group.{HoldsEntry, IsWholeGroup}
+use Rattle.nv_engine.specs.Laid.{LaidPiece, cut, entries_of_piece, all_entries}
 use Rattle.nv_engine.specs.Overlaid.{overlaid}
 use Rattle.nv_engine.specs.Logged.{HoldsPiece, HoldPieces, HasLog, DiffersInSlots, HaveSameCommits, slot_of, from_slot}
 use Rattle.nv_engine.proofs.Cuts.{as_piece, entries_some, all_entries-push, own_first, cut_whole}
 
 -- ---- what a slot holds of a piece
 
-pub no_piece : Piece
+pub no_piece : LaidPiece
 no_piece = record { file = 0; at = 0; bytes = [] }
 
 -- piece i of the cut ones
-abbrev pub cut_at : (page : ℕ) → Piece → ℕ → Piece
+abbrev pub cut_at : (page : ℕ) → LaidPiece → ℕ → LaidPiece
 cut_at page piece i =
     let own = piece_of piece.at (length piece.bytes) page i in
     record { file = piece.file; at = own.at; bytes = piece_bytes piece.bytes own }
 
-pub length-cut : (page : ℕ) (piece : Piece) → length (cut page piece) ≡ entries_of page piece
+pub length-cut : (page : ℕ) (piece : LaidPiece) → length (cut page piece) ≡ entries_of_piece page piece
 length-cut page piece =
-    length-map (map (piece_of piece.at (length piece.bytes) page) (range_with_len 0 (entries_of page piece))) _
-    ∙ length-map-range_with_len (piece_of piece.at (length piece.bytes) page) 0 (entries_of page piece)
+    length-map (map (piece_of piece.at (length piece.bytes) page) (range_with_len 0 (entries_of_piece page piece))) _
+    ∙ length-map-range_with_len (piece_of piece.at (length piece.bytes) page) 0 (entries_of_piece page piece)
 
-pub get_or-cut : (page : ℕ) (piece : Piece) (i : ℕ) (none : Piece) → i < entries_of page piece → slice_index_or (cut page piece) i none ≡ cut_at page piece i
+pub get_or-cut : (page : ℕ) (piece : LaidPiece) (i : ℕ) (none : LaidPiece) → i < entries_of_piece page piece → slice_index_or (cut page piece) i none ≡ cut_at page piece i
 get_or-cut page piece i none below =
     let own = piece_of piece.at (length piece.bytes) page in
-    let owns = map own (range_with_len 0 (entries_of page piece)) in
-    let long = length-map-range_with_len own 0 (entries_of page piece) in
+    let owns = map own (range_with_len 0 (entries_of_piece page piece)) in
+    let long = length-map-range_with_len own 0 (entries_of_piece page piece) in
     get_or-map (as_piece piece.file piece.bytes) owns i (own i) none (omega (arith, long))
-    ∙ ap (as_piece piece.file piece.bytes) (get_or-map-range_with_len own 0 (entries_of page piece) i i (own i) below (omega arith))
+    ∙ ap (as_piece piece.file piece.bytes) (get_or-map-range_with_len own 0 (entries_of_piece page piece) i i (own i) below (omega arith))
 
 -- the piece that a part holds
-abbrev pub piece_in : PartImage → Piece
+abbrev pub piece_in : PartImage → LaidPiece
 piece_in part = record { file = (entry_of part).file; at = (entry_of part).at; bytes = data_of part (entry_of part).size }
 
 -- two pieces with the same fields
-piece_same : (a b : Piece) → a.file ≡ b.file → a.at ≡ b.at → a.bytes ≡ b.bytes → a ≡ b
+piece_same : (a b : LaidPiece) → a.file ≡ b.file → a.at ≡ b.at → a.bytes ≡ b.bytes → a ≡ b
 piece_same a b file at bytes =
     ap (λ n. record { file = n; at = a.at; bytes = a.bytes }) file
     ∙ ap (λ n. record { file = b.file; at = n; bytes = a.bytes }) at
     ∙ ap (λ these. record { file = b.file; at = b.at; bytes = these }) bytes
 
-pub commit_here : (page entries number : ℕ) (image : Image) (piece : Piece) → HoldsPiece page entries image number piece → (entry_of (image (slot_of entries number))).commit ≡ number + 1
+pub commit_here : (page entries number : ℕ) (image : Image) (piece : LaidPiece) → HoldsPiece page entries image number piece → (entry_of (image (slot_of entries number))).commit ≡ number + 1
 commit_here page entries number image piece holds =
     let same : number ≡ number + 0 = omega arith in
     ap (λ n. (entry_of (image (slot_of entries n))).commit) same ∙ holds.whole.committed
 
-module _ (page entries number : ℕ) (image : Image) (piece : Piece) (some_page : 1 ≤ page) (holds : HoldsPiece page entries image number piece) (i : ℕ) (below : i < entries_of page piece) where
+module _ (page entries number : ℕ) (image : Image) (piece : LaidPiece) (some_page : 1 ≤ page) (holds : HoldsPiece page entries image number piece) (i : ℕ) (below : i < entries_of_piece page piece) where
   pub held_in : piece_in (from_slot entries number image i) ≡ cut_at page piece i
   held_in =
       let part = from_slot entries number image i in
@@ -75,11 +75,11 @@ module _ (page entries number : ℕ) (image : Image) (piece : Piece) (some_page 
 
 module _ (page entries : ℕ) (image : Image) (some_page : 1 ≤ page) where
   -- a number's group holds one piece
-  module _ (number : ℕ) (piece other : Piece) (holds : HoldsPiece page entries image number piece) (theirs : HoldsPiece page entries image number other) where
-    first : 0 < entries_of page piece
+  module _ (number : ℕ) (piece other : LaidPiece) (holds : HoldsPiece page entries image number piece) (theirs : HoldsPiece page entries image number other) where
+    first : 0 < entries_of_piece page piece
     first = entries_some page piece holds.some
 
-    first_of_other : 0 < entries_of page other
+    first_of_other : 0 < entries_of_piece page other
     first_of_other = entries_some page other theirs.some
 
     same_file : piece.file ≡ other.file
@@ -92,15 +92,15 @@ module _ (page entries : ℕ) (image : Image) (some_page : 1 ≤ page) where
         ∙ ap (λ (e : Entry). e.at) (theirs.whole.entries 0 first_of_other).fields
         ∙ own_first other.at (length other.bytes) page
 
-    same_count : entries_of page piece ≡ entries_of page other
+    same_count : entries_of_piece page piece ≡ entries_of_piece page other
     same_count = sym (ap (λ (e : Entry). e.count) (holds.whole.entries 0 first).fields) ∙ ap (λ (e : Entry). e.count) (theirs.whole.entries 0 first_of_other).fields
 
     same_cut : cut page piece ≡ cut page other
     same_cut =
         ext_get_or no_piece (cut page piece) (cut page other) (length-cut page piece ∙ same_count ∙ sym (length-cut page other))
         (λ i below.
-        let here : i < entries_of page piece = omega (arith, length-cut page piece) in
-        let there : i < entries_of page other = omega (arith, same_count) in
+        let here : i < entries_of_piece page piece = omega (arith, length-cut page piece) in
+        let there : i < entries_of_piece page other = omega (arith, same_count) in
         get_or-cut page piece i no_piece here
         ∙ sym (held_in page entries number image piece some_page holds i here)
         ∙ held_in page entries number image other some_page theirs i there
@@ -132,7 +132,7 @@ module _ (page entries : ℕ) (image : Image) (some_page : 1 ≤ page) where
     one_piece : piece ≡ other
     one_piece = piece_same piece other same_file same_at same_bytes
 
-  held_one : (pieces others : List Piece) (number : ℕ) → HoldPieces page entries image number pieces → HoldPieces page entries image number others
+  held_one : (pieces others : List LaidPiece) (number : ℕ) → HoldPieces page entries image number pieces → HoldPieces page entries image number others
       → HasNoneFrom entries (number + all_entries page pieces) image → HasNoneFrom entries (number + all_entries page others) image → pieces ≡ others
   held_one [] [] number held theirs none nor = refl
   held_one [] (other ∷ others) number held theirs none nor =
@@ -141,9 +141,9 @@ module _ (page entries : ℕ) (image : Image) (some_page : 1 ≤ page) where
       absurd (nor.uncommitted number (omega arith) (commit_here page entries number image piece held.0))
   held_one (piece ∷ pieces) (other ∷ others) number held theirs none nor =
       let same = one_piece number piece other held.0 theirs.0 in
-      let count = ap (entries_of page) same in
+      let count = ap (entries_of_piece page) same in
       let Theirs : ℕ → Type 0 = λ n. HoldPieces page entries image (number + n) others in
-      let rest = held_one pieces others (number + entries_of page piece) held.1 (subst Theirs (sym count) theirs.1)
+      let rest = held_one pieces others (number + entries_of_piece page piece) held.1 (subst Theirs (sym count) theirs.1)
       (record { uncommitted = λ n from. none.uncommitted n (omega arith) })
       (record { uncommitted = λ n from. nor.uncommitted n (omega (arith, count)) }) in
       ap (λ one. one ∷ pieces) same ∙ ap (λ these. other ∷ these) rest
@@ -151,7 +151,7 @@ module _ (page entries : ℕ) (image : Image) (some_page : 1 ≤ page) where
 pub page_some : (layout : Layout) (page entries : ℕ) (names : List (List ℕ)) (tail : ℕ) (image : Image) → ReadsAs layout page entries names tail image → 1 ≤ page
 page_some layout page entries names tail image reads = omega (arith, reads.readable.fields.page.least, reads.page_is)
 
-pub one_log : (layout : Layout) (page entries : ℕ) (names : List (List ℕ)) (tail : ℕ) (pieces others : List Piece) (image : Image) → HasLog layout page entries names tail pieces image → HasLog layout page entries names tail others image → pieces ≡ others
+pub one_log : (layout : Layout) (page entries : ℕ) (names : List (List ℕ)) (tail : ℕ) (pieces others : List LaidPiece) (image : Image) → HasLog layout page entries names tail pieces image → HasLog layout page entries names tail others image → pieces ≡ others
 one_log layout page entries names tail pieces others image log other =
     held_one page entries image (page_some layout page entries names tail image log.header) pieces others tail log.held other.held log.none other.none
 
@@ -162,7 +162,7 @@ quiet_row_words : (parts : List Part) (image : Image) → AreQuiet parts → IsR
 quiet_row_words parts image quiet is = λ at part line word.
     sym (quiet_image (slice_index_or parts part []) (image part) line word ((quiet.each part).lines line) (is.each part)) at
 
-pub quiet_logs : (layout : Layout) (page entries : ℕ) (names : List (List ℕ)) (tail : ℕ) (pieces : List Piece) (parts : List Part) → AreQuiet parts → HasLog layout page entries names tail pieces (row_words parts)
+pub quiet_logs : (layout : Layout) (page entries : ℕ) (names : List (List ℕ)) (tail : ℕ) (pieces : List LaidPiece) (parts : List Part) → AreQuiet parts → HasLog layout page entries names tail pieces (row_words parts)
     → (image : Image) → IsRowImage parts image → HasLog layout page entries names tail pieces image
 quiet_logs layout page entries names tail pieces parts quiet log image is =
     subst (HasLog layout page entries names tail pieces) (quiet_row_words parts image quiet is) log
@@ -236,8 +236,8 @@ in_next entries next number (suc count) = elim (cases_eq (number % entries) ((ne
 ]
 
 -- a whole group of which another image has the same parts
-pub whole_too : (page number : ℕ) (piece : Piece) (image other : Image) → 1 ≤ entries_of page piece → ((i : ℕ) → i < entries_of page piece → other i ≡ image i)
-    → IsWhole page number piece.file piece.at piece.bytes image → IsWhole page number piece.file piece.at piece.bytes other
+pub whole_too : (page number : ℕ) (piece : LaidPiece) (image other : Image) → 1 ≤ entries_of_piece page piece → ((i : ℕ) → i < entries_of_piece page piece → other i ≡ image i)
+    → IsWholeGroup page number piece.file piece.at piece.bytes image → IsWholeGroup page number piece.file piece.at piece.bytes other
 whole_too page number piece image other some same whole = record {
   committed = ap (λ (part : PartImage). (entry_of part).commit) (same 0 some) ∙ whole.committed;
   followers = λ i from below commit. whole.followers i from below (ap (λ (part : PartImage). (entry_of part).commit) (sym (same i below)) ∙ commit);
@@ -245,7 +245,7 @@ whole_too page number piece image other some same whole = record {
 }
 
 -- pieces that another image holds too, since their parts are the same
-held_too : (page entries : ℕ) (image other : Image) (pieces : List Piece) (number : ℕ) → ((n : ℕ) → number ≤ n → n < number + all_entries page pieces → other (slot_of entries n) ≡ image (slot_of entries n))
+held_too : (page entries : ℕ) (image other : Image) (pieces : List LaidPiece) (number : ℕ) → ((n : ℕ) → number ≤ n → n < number + all_entries page pieces → other (slot_of entries n) ≡ image (slot_of entries n))
     → HoldPieces page entries image number pieces → HoldPieces page entries other number pieces
 held_too page entries image other [] number same held = tt
 held_too page entries image other (piece ∷ pieces) number same held = (
@@ -255,10 +255,10 @@ held_too page entries image other (piece ∷ pieces) number same held = (
         whole_too page number piece (from_slot entries number image) (from_slot entries number other) (entries_some page piece held.0.some)
         (λ i below. same (number + i) (omega arith) (omega arith)) held.0.whole;
   },
-  held_too page entries image other pieces (number + entries_of page piece) (λ n from below. same n (omega arith) (omega arith)) held.1,
+  held_too page entries image other pieces (number + entries_of_piece page piece) (λ n from below. same n (omega arith) (omega arith)) held.1,
 )
 
-held_push : (page entries : ℕ) (image : Image) (pieces : List Piece) (number : ℕ) (more : Piece) → HoldPieces page entries image number pieces → HoldsPiece page entries image (number + all_entries page pieces) more
+held_push : (page entries : ℕ) (image : Image) (pieces : List LaidPiece) (number : ℕ) (more : LaidPiece) → HoldPieces page entries image number pieces → HoldsPiece page entries image (number + all_entries page pieces) more
     → HoldPieces page entries image number (pieces ++ more ∷ [])
 held_push page entries image [] number more held holds =
     let At : ℕ → Type 0 = λ n. HoldsPiece page entries image n more in
@@ -266,10 +266,10 @@ held_push page entries image [] number more held holds =
     (subst At here holds, tt)
 held_push page entries image (piece ∷ pieces) number more held holds =
     let At : ℕ → Type 0 = λ n. HoldsPiece page entries image n more in
-    let there : number + (entries_of page piece + all_entries page pieces) ≡ number + entries_of page piece + all_entries page pieces = omega arith in
-    (held.0, held_push page entries image pieces (number + entries_of page piece) more held.1 (subst At there holds))
+    let there : number + (entries_of_piece page piece + all_entries page pieces) ≡ number + entries_of_piece page piece + all_entries page pieces = omega arith in
+    (held.0, held_push page entries image pieces (number + entries_of_piece page piece) more held.1 (subst At there holds))
 
-module _ (layout : Layout) (page entries : ℕ) (names : List (List ℕ)) (tail : ℕ) (pieces : List Piece) (count : ℕ) (image other : Image) (log : HasLog layout page entries names tail pieces image)
+module _ (layout : Layout) (page entries : ℕ) (names : List (List ℕ)) (tail : ℕ) (pieces : List LaidPiece) (count : ℕ) (image other : Image) (log : HasLog layout page entries names tail pieces image)
     (room : all_entries page pieces + count ≤ entries) (differs : DiffersInSlots entries (tail + all_entries page pieces) count image other) where
   header_same : other 0 ≡ image 0
   header_same = λ at line word. differs.same 0 line word (λ i below same. absurd (omega (arith, same))) at
@@ -313,7 +313,7 @@ module _ (layout : Layout) (page entries : ℕ) (names : List (List ℕ)) (tail 
   }
 
   -- the numbers after the group
-  none_after : (more : Piece) → count ≡ entries_of page more → HaveSameCommits entries (tail + all_entries page pieces) 1 count image other → HoldsPiece page entries other (tail + all_entries page pieces) more
+  none_after : (more : LaidPiece) → count ≡ entries_of_piece page more → HaveSameCommits entries (tail + all_entries page pieces) 1 count image other → HoldsPiece page entries other (tail + all_entries page pieces) more
       → (number : ℕ) → tail + all_entries page pieces + count ≤ number → (entry_of (other (slot_of entries number))).commit ≢ number + 1
   none_after more counts commits holds number from = elim (in_next entries (tail + all_entries page pieces) number count) [
     | inl found ↦ elim (cases_eq found.i 0) [
@@ -333,7 +333,7 @@ module _ (layout : Layout) (page entries : ℕ) (names : List (List ℕ)) (tail 
     | inr apart ↦ none_apart number (omega arith) apart
   ]
 
-  pub one_more : (more : Piece) → count ≡ entries_of page more → HaveSameCommits entries (tail + all_entries page pieces) 1 count image other → HoldsPiece page entries other (tail + all_entries page pieces) more
+  pub one_more : (more : LaidPiece) → count ≡ entries_of_piece page more → HaveSameCommits entries (tail + all_entries page pieces) 1 count image other → HoldsPiece page entries other (tail + all_entries page pieces) more
       → HasLog layout page entries names tail (pieces ++ more ∷ []) other
   one_more more counts commits holds = record {
     header = reads_on;

@@ -4,13 +4,13 @@ use Rattle.std.proofs.lemmas.List.Elements.{All-nil}
 use Rattle.nv_plain.specs.Layouts.{version_1}
 use Rattle.nv_pmem.specs.Part.{Part}
 use Rattle.nv_pmem.specs.Room.{Room}
-use Rattle.nv_pmem.specs.Steps.{History}
+use Rattle.nv_pmem.specs.Steps.{PartHistory}
 use Rattle.nv_header.specs.Regions.{IsRegion, IsAtRest}
 use Rattle.nv_engine.specs.Holding.{HasPieces}
 use Rattle.nv_engine.specs.Laid.{IsFitting}
 use Rattle.nv_engine.specs.declared.log.Log.{Log}
 
-module _ {L B : Type 0} (history : L → History) (room : L → Room) (log : Log L B)
+module _ {L B : Type 0} (history : L → PartHistory) (room : L → Room) (log : Log L B)
     (region : IsRegion version_1 log.geometry.page log.geometry.entries log.names log.tail (map room log.parts.items) (map history log.parts.items)) (head : log.head ≡ log.tail) where
   pub no_pieces : (parts : List Part) → IsAtRest version_1 log.geometry.page log.geometry.entries log.names log.tail parts → HasPieces log [] parts
   no_pieces parts rest = record {

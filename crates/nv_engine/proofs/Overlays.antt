@@ -4,17 +4,17 @@ use Rattle.std.proofs.lemmas.Bool.{cases_eq, eq-eqb, ne_eqb}
 use Rattle.std.proofs.lemmas.List.{length-set, get_or-set_same, get_or-set_other, take_more}
 use Rattle.std.proofs.lemmas.List.Sums.{fold_push}
 use Rattle.nv_plain.specs.Files.{Files, contents_of, overwritten}
-use Rattle.nv_engine.specs.Laid.{Piece, with_piece, laid}
+use Rattle.nv_engine.specs.Laid.{LaidPiece, with_laid_piece, laid}
 use Rattle.nv_engine.specs.Overlaid.{with_own, overlaid}
 use Rattle.nv_engine.proofs.OneLog.{no_piece}
 
 -- one piece
-own_piece : (files : Files) (piece : Piece) (file : ℕ) → piece.file < length files.contents → contents_of (with_piece files piece) file ≡ with_own file (contents_of files file) piece
+own_piece : (files : Files) (piece : LaidPiece) (file : ℕ) → piece.file < length files.contents → contents_of (with_laid_piece files piece) file ≡ with_own file (contents_of files file) piece
 own_piece files piece file known =
     let new = overwritten (contents_of files piece.file) piece.at piece.bytes in
     elim (cases_eq piece.file file) [
       | inl same ↦
-          ap (contents_of (with_piece files piece)) (sym same)
+          ap (contents_of (with_laid_piece files piece)) (sym same)
           ∙ get_or-set_same files.contents piece.file new [] known
           ∙ ap (λ k. overwritten (contents_of files k) piece.at piece.bytes) same
           ∙ sym (ap (λ test. if test then overwritten (contents_of files file) piece.at piece.bytes else contents_of files file) (eq-eqb piece.file file same))
@@ -23,17 +23,17 @@ own_piece files piece file known =
           ∙ sym (ap (λ test. if test then overwritten (contents_of files file) piece.at piece.bytes else contents_of files file) (ne_eqb piece.file file apart))
     ]
 
-pub files_overlaid : (files : Files) (pieces : List Piece) (file : ℕ) → ((i : ℕ) → (none : Piece) → i < length pieces → (slice_index_or pieces i none).file < length files.contents)
+pub files_overlaid : (files : Files) (pieces : List LaidPiece) (file : ℕ) → ((i : ℕ) → (none : LaidPiece) → i < length pieces → (slice_index_or pieces i none).file < length files.contents)
     → contents_of (laid files pieces) file ≡ overlaid file (contents_of files file) pieces
 files_overlaid files [] file known = refl
 files_overlaid files (piece ∷ pieces) file known =
     let first : piece.file < length files.contents = known 0 piece (omega arith) in
     let new = overwritten (contents_of files piece.file) piece.at piece.bytes in
-    files_overlaid (with_piece files piece) pieces file (λ i none below. omega (arith, known (suc i) none (omega arith), length-set files.contents piece.file new))
+    files_overlaid (with_laid_piece files piece) pieces file (λ i none below. omega (arith, known (suc i) none (omega arith), length-set files.contents piece.file new))
     ∙ ap (λ bytes. overlaid file bytes pieces) (own_piece files piece file first)
 
 -- one piece more
-pub overlaid_more : (file : ℕ) (bytes : List ℕ) (pieces : List Piece) (i : ℕ) → i < length pieces
+pub overlaid_more : (file : ℕ) (bytes : List ℕ) (pieces : List LaidPiece) (i : ℕ) → i < length pieces
     → overlaid file bytes (take (i + 1) pieces) ≡ with_own file (overlaid file bytes (take i pieces)) (slice_index_or pieces i no_piece)
 overlaid_more file bytes pieces i below =
     ap (overlaid file bytes) (take_more pieces i no_piece below)

@@ -9,7 +9,7 @@ use Rattle.std.specs.List.{flat_map, range_with_len}
 use Rattle.nv_plain.specs.Files.{Files}
 use Rattle.nv_plain.specs.Images.{Image, Entry, header_of, entry_at, slot_part}
 use Rattle.nv_plain.specs.Recovered.{with_entry, group_numbers}
-use Rattle.nv_engine.specs.Laid.{Piece, with_piece, laid, cut, entries_of, all_entries, leaders_from}
+use Rattle.nv_engine.specs.Laid.{LaidPiece, with_laid_piece, laid, cut, entries_of_piece, all_entries, leaders_from}
 use Rattle.nv_engine.specs.Logged.{HoldsPiece, HoldPieces}
 use Rattle.nv_engine.proofs.Cuts.{entries_some, cut_laid}
 use Rattle.nv_engine.proofs.OneLog.{no_piece, piece_in, length-cut, get_or-cut, held_in, commit_here}
@@ -48,30 +48,30 @@ module _ (image : Image) where
   laid_numbers (number ∷ numbers) files = laid_numbers numbers (with_entry image files number)
 
 module _ (page : ℕ) (image : Image) (some_page : 1 ≤ page) where
-  module _ (number : ℕ) (piece : Piece) (holds : HoldsPiece page (header_of image).entries image number piece) where
-    pub count_here : (entry_at image number).count ≡ entries_of page piece
+  module _ (number : ℕ) (piece : LaidPiece) (holds : HoldsPiece page (header_of image).entries image number piece) where
+    pub count_here : (entry_at image number).count ≡ entries_of_piece page piece
     count_here =
         let same : number ≡ number + 0 = omega arith in
         ap (λ n. (entry_at image n).count) same ∙ ap (λ (e : Entry). e.count) (holds.whole.entries 0 (entries_some page piece holds.some)).fields
 
     -- the group's leader is committed, and no follower
-    one_committed : (count : ℕ) → entries_of page piece ≤ count → committed_in image number count ≡ number ∷ committed_in image (number + entries_of page piece) (count - entries_of page piece)
+    one_committed : (count : ℕ) → entries_of_piece page piece ≤ count → committed_in image number count ≡ number ∷ committed_in image (number + entries_of_piece page piece) (count - entries_of_piece page piece)
     one_committed zero few = absurd (omega (arith, entries_some page piece holds.some))
     one_committed (suc count) few =
         let rest = committed_in image (number + 1) count in
         let some = entries_some page piece holds.some in
-        let there : number + 1 + (entries_of page piece - 1) ≡ number + entries_of page piece = omega arith in
+        let there : number + 1 + (entries_of_piece page piece - 1) ≡ number + entries_of_piece page piece = omega arith in
         let At : ℕ → Type 0 = λ n. (entry_at image n).commit ≢ n + 1 in
         ap (λ test. if test then number ∷ rest else rest) (eq-eqb (entry_at image number).commit (number + 1) (commit_here page (header_of image).entries number image piece holds))
         ∙ ap (λ later. number ∷ later)
-        (skip image (entries_of page piece - 1) count (suc count - entries_of page piece) (number + 1) (omega arith)
+        (skip image (entries_of_piece page piece - 1) count (suc count - entries_of_piece page piece) (number + 1) (omega arith)
         (λ j below. let next : number + suc j ≡ number + 1 + j = omega arith in subst At next (holds.whole.followers (suc j) (omega arith) (omega arith)))
-        ∙ ap (λ n. committed_in image n (suc count - entries_of page piece)) there)
+        ∙ ap (λ n. committed_in image n (suc count - entries_of_piece page piece)) there)
 
     -- and the files are overwritten by the piece
-    group_laid : (files : Files) → fold (with_entry image) files (group_numbers image number) ≡ with_piece files piece
+    group_laid : (files : Files) → fold (with_entry image) files (group_numbers image number) ≡ with_laid_piece files piece
     group_laid files =
-        let count = entries_of page piece in
+        let count = entries_of_piece page piece in
         let in_slot = λ (n : ℕ). piece_in (slot_part image n) in
         ap (λ n. fold (with_entry image) files (range_with_len number n)) count_here
         ∙ laid_numbers image (range_with_len number count) files
@@ -85,26 +85,26 @@ module _ (page : ℕ) (image : Image) (some_page : 1 ≤ page) where
         ∙ cut_laid page files piece some_page
 
   -- the committed numbers of a window
-  pub committed_leaders : (pieces : List Piece) (number count : ℕ) → all_entries page pieces ≤ count → HoldPieces page (header_of image).entries image number pieces
+  pub committed_leaders : (pieces : List LaidPiece) (number count : ℕ) → all_entries page pieces ≤ count → HoldPieces page (header_of image).entries image number pieces
       → ((n : ℕ) → number + all_entries page pieces ≤ n → (entry_at image n).commit ≢ n + 1) → committed_in image number count ≡ leaders_from page number pieces
   committed_leaders [] number count few held none = none_committed image count number (λ n past. none n (omega arith))
   committed_leaders (piece ∷ pieces) number count few held none =
       one_committed number piece held.0 count (omega arith)
       ∙ ap (λ later. number ∷ later)
-      (committed_leaders pieces (number + entries_of page piece) (count - entries_of page piece) (omega arith) held.1 (λ n past. none n (omega arith)))
+      (committed_leaders pieces (number + entries_of_piece page piece) (count - entries_of_piece page piece) (omega arith) held.1 (λ n past. none n (omega arith)))
 
-  pub leaders_next : (pieces : List Piece) (number tail : ℕ) → tail ≡ number → HoldPieces page (header_of image).entries image number pieces
+  pub leaders_next : (pieces : List LaidPiece) (number tail : ℕ) → tail ≡ number → HoldPieces page (header_of image).entries image number pieces
       → fold (λ next leader. leader + (entry_at image leader).count) tail (leaders_from page number pieces) ≡ number + all_entries page pieces
   leaders_next [] number tail is held = omega (arith, is)
   leaders_next (piece ∷ pieces) number tail is held =
-      leaders_next pieces (number + entries_of page piece) (number + (entry_at image number).count) (ap (λ n. number + n) (count_here number piece held.0)) held.1
+      leaders_next pieces (number + entries_of_piece page piece) (number + (entry_at image number).count) (ap (λ n. number + n) (count_here number piece held.0)) held.1
       ∙ omega arith
 
-  pub leaders_laid : (pieces : List Piece) (number : ℕ) (files : Files) → HoldPieces page (header_of image).entries image number pieces
+  pub leaders_laid : (pieces : List LaidPiece) (number : ℕ) (files : Files) → HoldPieces page (header_of image).entries image number pieces
       → fold (with_entry image) files (flat_map (group_numbers image) (leaders_from page number pieces)) ≡ laid files pieces
   leaders_laid [] number files held = refl
   leaders_laid (piece ∷ pieces) number files held =
-      let rest = flat_map (group_numbers image) (leaders_from page (number + entries_of page piece) pieces) in
+      let rest = flat_map (group_numbers image) (leaders_from page (number + entries_of_piece page piece) pieces) in
       fold-append (with_entry image) files (group_numbers image number) rest
       ∙ ap (λ these. fold (with_entry image) these rest) (group_laid number piece held.0 files)
-      ∙ leaders_laid pieces (number + entries_of page piece) (with_piece files piece) held.1
+      ∙ leaders_laid pieces (number + entries_of_piece page piece) (with_laid_piece files piece) held.1

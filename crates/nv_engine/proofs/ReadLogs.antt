@@ -21,7 +21,7 @@ use Rattle.nv_recover.proofs.RoomLaws.{parts_still}
 use Rattle.nv_engine.specs.Holding.{HasPieces, HasSomePieces, Holds}
 use Rattle.nv_engine.specs.Keeping.{IsLog, ReadsOnly}
 use Rattle.nv_entry.proofs.PieceRanges.{length-piece_bytes, piece_small}
-use Rattle.nv_engine.specs.Laid.{Piece, cut, cuts_of, entries_of, all_entries}
+use Rattle.nv_engine.specs.Laid.{LaidPiece, cut, cuts_of, entries_of_piece, all_entries}
 use Rattle.nv_engine.specs.Logged.{HoldsPiece, HoldPieces, slot_of}
 use Rattle.nv_engine.proofs.OneLog.{cut_at, length-cut, get_or-cut}
 use Rattle.nv_engine.specs.Windows.{HoldsPieceOf, HoldInOrder}
@@ -29,7 +29,7 @@ use Rattle.nv_engine.specs.declared.log.Log.{Log}
 
 -- ---- nothing was read
 
-pub reads_none : {L B : Type 0} (history : L → lines.History) (room : L → Room) (device : L → ℕ) (held : B → stores.History) (disk : B → ℕ) (log : Log L B) → ReadsOnly history room device held disk log log
+pub reads_none : {L B : Type 0} (history : L → lines.PartHistory) (room : L → Room) (device : L → ℕ) (held : B → stores.StoreHistory) (disk : B → ℕ) (log : Log L B) → ReadsOnly history room device held disk log log
 reads_none history room device held disk log = record {
   region = record { geometry = refl; names = refl; pages = refl; tail = refl };
   head = refl;
@@ -41,7 +41,7 @@ reads_none history room device held disk log = record {
 
 -- ---- parts and stores were read
 
-module _ {L B : Type 0} (history : L → lines.History) (room : L → Room) (device : L → ℕ) (held : B → stores.History) (disk : B → ℕ) (log : Log L B) (parts : List L) (backing : List B) (page : List ℕ) (stopped : Bool)
+module _ {L B : Type 0} (history : L → lines.PartHistory) (room : L → Room) (device : L → ℕ) (held : B → stores.StoreHistory) (disk : B → ℕ) (log : Log L B) (parts : List L) (backing : List B) (page : List ℕ) (stopped : Bool)
     (many : length parts ≡ vec_len log.parts) (stores_many : length backing ≡ vec_len log.stores) (long : length page ≡ vec_len log.page)
     (read : AreOnlyRead history room device log.parts.items parts) (stores_read : map held backing ≡ map held log.stores.items) (disks_read : map disk backing ≡ map disk log.stores.items) where
   -- the log after it
@@ -76,8 +76,8 @@ module _ {L B : Type 0} (history : L → lines.History) (room : L → Room) (dev
       → IsLog history room held (record log { parts = with_items log.parts parts; stores = with_items log.stores backing; page = with_items log.page page; stopped = stopped })
   still_log runs is =
       let Has : List L → Type 0 = λ these. HasParts version_1 log.geometry.page log.geometry.entries (map room these) in
-      let Quiet : List stores.History → Type 0 = λ row. RowTells row AreQuietStores in
-      let Told : List lines.History → Type 0 = λ row. RowTells row (HasSomePieces log) in
+      let Quiet : List stores.StoreHistory → Type 0 = λ row. RowTells row AreQuietStores in
+      let Told : List lines.PartHistory → Type 0 = λ row. RowTells row (HasSomePieces log) in
       record {
         some_pages = is.some_pages;
         few_pages = is.few_pages;
@@ -98,11 +98,11 @@ module _ {L B : Type 0} (history : L → lines.History) (room : L → Room) (dev
         synced = subst Quiet (sym same_held) is.synced;
       }
 
-  pub still_holds : (pieces : List Piece) (files : Files) → Holds history held log pieces files
+  pub still_holds : (pieces : List LaidPiece) (files : Files) → Holds history held log pieces files
       → Holds history held (record log { parts = with_items log.parts parts; stores = with_items log.stores backing; page = with_items log.page page; stopped = stopped }) pieces files
   still_holds pieces files holds =
-      let Parts : List lines.History → Type 0 = λ row. AreNow row holds.parts in
-      let Stores : List stores.History → Type 0 = λ row. AreNow row holds.stores in
+      let Parts : List lines.PartHistory → Type 0 = λ row. AreNow row holds.parts in
+      let Stores : List stores.StoreHistory → Type 0 = λ row. AreNow row holds.stores in
       let has = holds.has in
       record {
         parts = holds.parts;
@@ -117,16 +117,16 @@ module _ {L B : Type 0} (history : L → lines.History) (room : L → Room) (dev
 
 -- ---- what the slots hold
 
-length-cuts : (page : ℕ) (pieces : List Piece) → length (cuts_of page pieces) ≡ all_entries page pieces
+length-cuts : (page : ℕ) (pieces : List LaidPiece) → length (cuts_of page pieces) ≡ all_entries page pieces
 length-cuts page [] = refl
 length-cuts page (piece ∷ pieces) =
     length-append (cut page piece) (cuts_of page pieces)
     ∙ ap (λ n. n + length (cuts_of page pieces)) (length-cut page piece)
-    ∙ ap (λ n. entries_of page piece + n) (length-cuts page pieces)
+    ∙ ap (λ n. entries_of_piece page piece + n) (length-cuts page pieces)
 
 module _ (page entries : ℕ) (image : Image) (some_page : 1 ≤ page) where
   -- the slot of an entry holds what is cut for it
-  own_held : (number : ℕ) (piece : Piece) (i : ℕ) → HoldsPiece page entries image number piece → i < entries_of page piece → HoldsPieceOf page (cut_at page piece i) (image (slot_of entries (number + i)))
+  own_held : (number : ℕ) (piece : LaidPiece) (i : ℕ) → HoldsPiece page entries image number piece → i < entries_of_piece page piece → HoldsPieceOf page (cut_at page piece i) (image (slot_of entries (number + i)))
   own_held number piece i holds below =
       let part = image (slot_of entries (number + i)) in
       let held = holds.whole.entries i below in
@@ -139,27 +139,27 @@ module _ (page entries : ℕ) (image : Image) (some_page : 1 ≤ page) where
         bytes = ap (data_of part) long ∙ held.bytes_are;
       }
 
-  cuts_held : (pieces : List Piece) (number : ℕ) → HoldPieces page entries image number pieces → (i : ℕ) (none : Piece) → i < length (cuts_of page pieces)
+  cuts_held : (pieces : List LaidPiece) (number : ℕ) → HoldPieces page entries image number pieces → (i : ℕ) (none : LaidPiece) → i < length (cuts_of page pieces)
       → HoldsPieceOf page (slice_index_or (cuts_of page pieces) i none) (image (slot_of entries (number + i)))
   cuts_held [] number held i none below = absurd (omega arith)
   cuts_held (piece ∷ pieces) number held i none below =
       let long = length-cut page piece in
       let all = length-append (cut page piece) (cuts_of page pieces) in
-      elim (cases_lt i (entries_of page piece)) [
+      elim (cases_lt i (entries_of_piece page piece)) [
         | inl inside ↦
-            let Held : Piece → Type 0 = λ own. HoldsPieceOf page own (image (slot_of entries (number + i))) in
+            let Held : LaidPiece → Type 0 = λ own. HoldsPieceOf page own (image (slot_of entries (number + i))) in
             subst Held (sym (get_or_append_left (cut page piece) (cuts_of page pieces) none i (omega (arith, long)) ∙ get_or-cut page piece i none inside))
             (own_held number piece i held.0 inside)
         | inr past ↦
-            let rest = i - entries_of page piece in
-            let Held : Piece → Type 0 = λ own. HoldsPieceOf page own (image (slot_of entries (number + i))) in
+            let rest = i - entries_of_piece page piece in
+            let Held : LaidPiece → Type 0 = λ own. HoldsPieceOf page own (image (slot_of entries (number + i))) in
             let At : ℕ → Type 0 = λ n. HoldsPieceOf page (slice_index_or (cuts_of page pieces) rest none) (image (slot_of entries n)) in
-            let number_is : number + entries_of page piece + rest ≡ number + i = omega arith in
-            subst Held (sym (get_or-append_right (cut page piece) (cuts_of page pieces) (entries_of page piece) i none long (omega arith)))
-            (subst At number_is (cuts_held pieces (number + entries_of page piece) held.1 rest none (omega (arith, long, all))))
+            let number_is : number + entries_of_piece page piece + rest ≡ number + i = omega arith in
+            subst Held (sym (get_or-append_right (cut page piece) (cuts_of page pieces) (entries_of_piece page piece) i none long (omega arith)))
+            (subst At number_is (cuts_held pieces (number + entries_of_piece page piece) held.1 rest none (omega (arith, long, all))))
       ]
 
-pub hold_in_order : {L B : Type 0} (log : Log L B) (pieces : List Piece) (parts : List Part) → HasPieces log pieces parts
+pub hold_in_order : {L B : Type 0} (log : Log L B) (pieces : List LaidPiece) (parts : List Part) → HasPieces log pieces parts
     → HoldInOrder log.geometry.entries log.tail log.head log.geometry.page (cuts_of log.geometry.page pieces) (row_words parts)
 hold_in_order log pieces parts has =
     let image = row_words parts in

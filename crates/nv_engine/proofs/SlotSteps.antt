@@ -4,7 +4,7 @@ use Rattle.std.proofs.lemmas.Bool.{cases_eq, cases_lt, eq-eqb, ne_eqb}
 use Rattle.std.specs.List.{flat_map, range_with_len}
 use Rattle.nv_plain.specs.Pieces.{pages_touched}
 use Rattle.nv_pmem.specs.Rows.{RowStep, on_part, steps_on}
-use Rattle.nv_pmem.specs.Steps.{Step, durable_store}
+use Rattle.nv_pmem.specs.Steps.{LineStep, durable_store}
 use Rattle.nv_entry.specs.Group.{piece_steps, pieces_steps, group_steps}
 use Rattle.nv_engine.specs.Logged.{slot_of}
 use Rattle.nv_engine.specs.Written.{on_slots}
@@ -37,11 +37,11 @@ within-take count zero steps within = tt
 within-take count (suc k) [] within = tt
 within-take count (suc k) (one ∷ steps) within = (within.0, within-take count k steps within.1)
 
-within-on_part : (count i : ℕ) (steps : List Step) → i < count → Within count (on_part i steps)
+within-on_part : (count i : ℕ) (steps : List LineStep) → i < count → Within count (on_part i steps)
 within-on_part count i [] below = tt
 within-on_part count i (step ∷ steps) below = (below, within-on_part count i steps below)
 
-within-parts : (steps : ℕ → List Step) (from some count : ℕ) → from + some ≤ count → Within count (flat_map (λ i. on_part i (steps i)) (range_with_len from some))
+within-parts : (steps : ℕ → List LineStep) (from some count : ℕ) → from + some ≤ count → Within count (flat_map (λ i. on_part i (steps i)) (range_with_len from some))
 within-parts steps from zero count few = tt
 within-parts steps from (suc some) count few =
     within-append count (on_part from (steps from)) (flat_map (λ i. on_part i (steps i)) (range_with_len (from + 1) some))
@@ -68,7 +68,7 @@ append-on_slots entries number [] rest = refl
 append-on_slots entries number (one ∷ first) rest =
     ap (λ (steps : List RowStep). record { part = slot_of entries (number + one.part); step = one.step } ∷ steps) (append-on_slots entries number first rest)
 
-pub part-on_slots : (entries number i : ℕ) (steps : List Step) → on_slots entries number (on_part i steps) ≡ on_part (slot_of entries (number + i)) steps
+pub part-on_slots : (entries number i : ℕ) (steps : List LineStep) → on_slots entries number (on_part i steps) ≡ on_part (slot_of entries (number + i)) steps
 part-on_slots entries number i [] = refl
 part-on_slots entries number i (step ∷ steps) =
     ap (λ (rest : List RowStep). record { part = slot_of entries (number + i); step = step } ∷ rest) (part-on_slots entries number i steps)

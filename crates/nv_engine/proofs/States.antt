@@ -6,7 +6,7 @@ use Rattle.nv_pmem.specs.Part.{Part}
 use Rattle.nv_pmem.specs.Rows.{RowStep, row_after, row_grown}
 use Rattle.nv_pmem.specs.RowStates.{IsNow, AreNow}
 use Rattle.nv_pmem.specs.Runs.{run, grown}
-use Rattle.nv_pmem.specs.Steps.{Step, History, after_step}
+use Rattle.nv_pmem.specs.Steps.{LineStep, PartHistory, after_line_step}
 
 -- each device of a row has one
 pub now_at : {S : Type 0} (row : List (List S)) (states : List S) (i : ℕ) (none : S) → AreNow row states → i < length row → IsNow (slice_index_or row i []) (slice_index_or states i none)
@@ -30,23 +30,23 @@ now_set (first ∷ row) [] i history now are is = absurd are
 now_set (first ∷ row) (other ∷ states) zero history now are is = (is, are.1)
 now_set (first ∷ row) (other ∷ states) (suc i) history now are is = (are.0, now_set row states i history now are.1 is)
 
-now_grown : (step : Step) (history : History) (now : Part) → IsNow history now → IsNow (grown after_step step history) (after_step step now)
-now_grown step history now one = record { past = now ∷ one.past; is = ap (grown after_step step) one.is }
+now_grown : (step : LineStep) (history : PartHistory) (now : Part) → IsNow history now → IsNow (grown after_line_step step history) (after_line_step step now)
+now_grown step history now one = record { past = now ∷ one.past; is = ap (grown after_line_step step) one.is }
 
-one_step : (one : RowStep) (row : List History) (states : List Part) → AreNow row states → AreNow (row_grown one row) (row_after one states)
+one_step : (one : RowStep) (row : List PartHistory) (states : List Part) → AreNow row states → AreNow (row_grown one row) (row_after one states)
 one_step one row states are = elim (cases_lt one.part (length row)) [
   | inl inside ↦
-      now_set row states one.part (grown after_step one.step (slice_index_or row one.part [])) (after_step one.step (slice_index_or states one.part [])) are
+      now_set row states one.part (grown after_line_step one.step (slice_index_or row one.part [])) (after_line_step one.step (slice_index_or states one.part [])) are
       (now_grown one.step (slice_index_or row one.part []) (slice_index_or states one.part []) (now_at row states one.part [] are inside))
   | inr past ↦
       let At : List Part → Type 0 = AreNow (row_grown one row) in
-      let Of : List History → Type 0 = λ these. AreNow these states in
-      subst At (sym (set_past states one.part (after_step one.step (slice_index_or states one.part [])) (omega (arith, length_now row states are))))
-      (subst Of (sym (set_past row one.part (grown after_step one.step (slice_index_or row one.part [])) (omega arith))) are)
+      let Of : List PartHistory → Type 0 = λ these. AreNow these states in
+      subst At (sym (set_past states one.part (after_line_step one.step (slice_index_or states one.part [])) (omega (arith, length_now row states are))))
+      (subst Of (sym (set_past row one.part (grown after_line_step one.step (slice_index_or row one.part [])) (omega arith))) are)
 ]
 
 -- a row of which steps were made has the states that they make
-pub now_after : (steps : List RowStep) (row : List History) (states : List Part) → AreNow row states → AreNow (run row_grown steps row) (run row_after steps states)
+pub now_after : (steps : List RowStep) (row : List PartHistory) (states : List Part) → AreNow row states → AreNow (run row_grown steps row) (run row_after steps states)
 unfolding run
 now_after [] row states are = are
 now_after (one ∷ steps) row states are = now_after steps (row_grown one row) (row_after one states) (one_step one row states are)

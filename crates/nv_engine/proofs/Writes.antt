@@ -13,10 +13,10 @@ use Rattle.nv_pmem.specs.Room.{Room}
 use Rattle.nv_pmem.specs.Rows.{RowStep, row_after, AreQuiet, InEachRowImage}
 use Rattle.nv_pmem.specs.RowStates.{AreNow}
 use Rattle.nv_pmem.specs.Runs.{run}
-use Rattle.nv_pmem.specs.Steps.{History}
+use Rattle.nv_pmem.specs.Steps.{PartHistory}
 use Rattle.nv_header.specs.Regions.{HasParts, IsRoomy}
 use Rattle.nv_engine.specs.Holding.{HasPieces}
-use Rattle.nv_engine.specs.Laid.{Piece, IsFitting, entries_of}
+use Rattle.nv_engine.specs.Laid.{LaidPiece, IsFitting, entries_of_piece}
 use Rattle.nv_engine.specs.Logged.{HasLog, HasLogOrOneMore, AreFitting}
 use Rattle.nv_engine.specs.Refusals.{file_limit}
 use Rattle.nv_engine.specs.Written.{write_steps, next_steps, IsNext}
@@ -32,24 +32,24 @@ on_ok_here (Ok x) none fact = fact
 on_ok_here (Err e) none fact = absurd (true≢false none)
 
 -- A write that is made: the piece is one that the log can take, in parts that are those of a region.
-pub record IsMade {L B : Type 0} (history : L → History) (room : L → Room) (log : Log L B) (piece : Piece) : Type 0 where
+pub record IsMade {L B : Type 0} (history : L → PartHistory) (room : L → Room) (log : Log L B) (piece : LaidPiece) : Type 0 where
   pub few_pages : log.pages ≤ version_1.page_limit
   pub known : piece.file < length log.names
   pub some : 1 ≤ length piece.bytes
   pub bytes_are : (i : ℕ) → slice_index piece.bytes i < 256
   pub near : piece.at + length piece.bytes ≤ file_limit log
-  pub few : entries_of log.geometry.page piece ≤ version_1.group_limit
-  pub left : log.head + entries_of log.geometry.page piece ≤ 2 ^ 60
-  pub free : log.head + entries_of log.geometry.page piece ≤ log.tail + log.geometry.entries
+  pub few : entries_of_piece log.geometry.page piece ≤ version_1.group_limit
+  pub left : log.head + entries_of_piece log.geometry.page piece ≤ 2 ^ 60
+  pub free : log.head + entries_of_piece log.geometry.page piece ≤ log.tail + log.geometry.entries
   pub parts : HasParts version_1 log.geometry.page log.geometry.entries (map room log.parts.items)
-  pub told : (part : L) (now : Part) (past : History) → history part ≡ now ∷ past → length now ≡ (room part).lines
+  pub told : (part : L) (now : Part) (past : PartHistory) → history part ≡ now ∷ past → length now ≡ (room part).lines
 
-module _ {L B : Type 0} (history : L → History) (room : L → Room) (log : Log L B) (piece : Piece) (made : IsMade history room log piece) where
+module _ {L B : Type 0} (history : L → PartHistory) (room : L → Room) (log : Log L B) (piece : LaidPiece) (made : IsMade history room log piece) where
   -- its steps
   abbrev steps : List RowStep
   steps = write_steps log.geometry.page log.geometry.entries log.head piece.file piece.at piece.bytes
 
-  module _ (pieces : List Piece) (was : List Part) (has : HasPieces log pieces was) (are : AreNow (map history log.parts.items) was) where
+  module _ (pieces : List LaidPiece) (was : List Part) (has : HasPieces log pieces was) (are : AreNow (map history log.parts.items) was) where
     next_is : next_steps log.geometry.page log.geometry.entries log.tail pieces piece ≡ steps
     next_is = ap (λ n. write_steps log.geometry.page log.geometry.entries n piece.file piece.at piece.bytes) (sym has.head)
 
@@ -94,7 +94,7 @@ module _ {L B : Type 0} (history : L → History) (room : L → Room) (log : Log
         subst At next_is (adds_at_most_one version_1 log.geometry.page log.geometry.entries log.names log.tail pieces piece was count next has.logs)
 
     -- and after all of them
-    pub has_more : HasPieces (record log { head = log.head + entries_of log.geometry.page piece }) (pieces ++ piece ∷ []) (run row_after steps was)
+    pub has_more : HasPieces (record log { head = log.head + entries_of_piece log.geometry.page piece }) (pieces ++ piece ∷ []) (run row_after steps was)
     has_more =
         let Logs : List RowStep → Type 0 = λ these. InEachRowImage (HasLog version_1 log.geometry.page log.geometry.entries log.names log.tail (pieces ++ piece ∷ [])) (run row_after these was) in
         let Quiet : List RowStep → Type 0 = λ these. AreQuiet (run row_after these was) in

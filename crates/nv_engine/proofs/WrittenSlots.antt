@@ -7,18 +7,18 @@ use Rattle.std.proofs.lemmas.List.FromFn.{length-map-range_with_len, get_or-map-
 use Rattle.std.specs.List.{range_with_len}
 use Rattle.nv_plain.specs.Images.{Image, PartImage, entry_of}
 use Rattle.nv_plain.specs.Layouts.{Layout}
-use Rattle.nv_pmem.specs.Images.{IsImage, IsQuiet}
-use Rattle.nv_pmem.specs.Part.{Part, word_of}
+use Rattle.nv_pmem.specs.Images.{IsPartImage, IsQuietPart}
+use Rattle.nv_pmem.specs.Part.{Part, part_word}
 use Rattle.nv_pmem.specs.Rows.{RowStep, row_after, steps_on, IsRowImage, InEachRowImage, AreQuiet, row_words}
 use Rattle.nv_pmem.specs.Runs.{run}
-use Rattle.nv_pmem.specs.Steps.{after_step}
+use Rattle.nv_pmem.specs.Steps.{after_line_step}
 use Rattle.nv_pmem.proofs.ImageLaws.{image_of_now, quiet_blank}
 use Rattle.nv_pmem.proofs.RowLaws.{row_at, length-row_after, row_image_of_now}
 use Rattle.nv_pmem.proofs.StepLaws.{after_steps, run-none}
 use Rattle.nv_entry.specs.Commits.{AreGroupParts}
 use Rattle.nv_entry.proofs.CommitLaws.{groups_are_atomic, groups_store_nothing_else, groups_become_whole, groups_end_quiet}
-use Rattle.nv_entry.specs.Group.{group_steps, IsUncommitted, IsUncommittedOrWhole, IsWhole, StoresOnly}
-use Rattle.nv_engine.specs.Laid.{Piece, entries_of, all_entries}
+use Rattle.nv_entry.specs.Group.{group_steps, IsUncommitted, IsUncommittedOrWhole, IsWholeGroup, StoresOnly}
+use Rattle.nv_engine.specs.Laid.{LaidPiece, entries_of_piece, all_entries}
 use Rattle.nv_engine.specs.Logged.{HasLog, HasLogOrOneMore, DiffersInSlots, HaveSameCommits, slot_of, from_slot}
 use Rattle.nv_engine.specs.Written.{on_slots, next_steps, IsNext, WritesAddAtMostOne, WritesAddOne, WritesEndQuiet}
 use Rattle.nv_engine.proofs.Cuts.{entries_some}
@@ -63,26 +63,26 @@ module _ (entries number count : ℕ) (few : count ≤ entries) where
     others_after part apart =
         row_at part (on_slots entries number steps) parts
         ∙ ap (λ these. after_steps these (slice_index_or parts part [])) (steps_on-others entries number count few part steps apart within)
-        ∙ run-none after_step (slice_index_or parts part [])
+        ∙ run-none after_line_step (slice_index_or parts part [])
 
   -- an image of them, by one of the row; any further one isn't there
   abbrev slots_image : Image → Image
-  slots_image image i = if nat_lt i count then from_slot entries number image i else word_of []
+  slots_image image i = if nat_lt i count then from_slot entries number image i else part_word []
 
   slots_image_at : (image : Image) (i : ℕ) → i < count → slots_image image i ≡ from_slot entries number image i
-  slots_image_at image i below = ap (λ test. if test then from_slot entries number image i else word_of []) (lt-ltb i count below)
+  slots_image_at image i below = ap (λ test. if test then from_slot entries number image i else part_word []) (lt-ltb i count below)
 
   slots_image_is : (parts : List Part) (image : Image) → IsRowImage parts image → IsRowImage (in_slots parts) (slots_image image)
   slots_image_is parts image is = record {
     each = λ i. elim (cases_lt i count) [
       | inl below ↦
-          let At : PartImage → Type 0 = IsImage (slice_index_or (in_slots parts) i []) in
-          let Of : Part → Type 0 = λ part. IsImage part (from_slot entries number image i) in
+          let At : PartImage → Type 0 = IsPartImage (slice_index_or (in_slots parts) i []) in
+          let Of : Part → Type 0 = λ part. IsPartImage part (from_slot entries number image i) in
           subst At (sym (slots_image_at image i below)) (subst Of (sym (get_or-in_slots parts i below)) (is.each (slot_of entries (number + i))))
       | inr past ↦
-          let At : PartImage → Type 0 = IsImage (slice_index_or (in_slots parts) i []) in
-          let Of : Part → Type 0 = λ part. IsImage part (word_of []) in
-          subst At (sym (ap (λ test. if test then from_slot entries number image i else word_of []) (le-ltb i count (omega arith))))
+          let At : PartImage → Type 0 = IsPartImage (slice_index_or (in_slots parts) i []) in
+          let Of : Part → Type 0 = λ part. IsPartImage part (part_word []) in
+          subst At (sym (ap (λ test. if test then from_slot entries number image i else part_word []) (le-ltb i count (omega arith))))
           (subst Of (sym (get_or_past (in_slots parts) i [] (omega (arith, length-in_slots parts)))) (image_of_now []))
     ];
   }
@@ -115,14 +115,14 @@ module _ (entries number count : ℕ) (few : count ≤ entries) where
       ap (λ test. if test then own k else spread image own k part) (ne_eqb part (slot_of entries (number + k)) (apart k (omega arith)))
       ∙ spread_other image own k part (λ i below. apart i (omega arith))
 
-  module _ (parts : List Part) (image own : Image) (is : IsRowImage (in_slots parts) own) (rest : (part : ℕ) → ((i : ℕ) → i < count → part ≢ slot_of entries (number + i)) → IsImage (slice_index_or parts part []) (image part)) where
-    spread_each : (k part : ℕ) → k ≤ count → ((i : ℕ) → k ≤ i → i < count → part ≢ slot_of entries (number + i)) → IsImage (slice_index_or parts part []) (spread image own k part)
+  module _ (parts : List Part) (image own : Image) (is : IsRowImage (in_slots parts) own) (rest : (part : ℕ) → ((i : ℕ) → i < count → part ≢ slot_of entries (number + i)) → IsPartImage (slice_index_or parts part []) (image part)) where
+    spread_each : (k part : ℕ) → k ≤ count → ((i : ℕ) → k ≤ i → i < count → part ≢ slot_of entries (number + i)) → IsPartImage (slice_index_or parts part []) (spread image own k part)
     spread_each zero part within apart = rest part (λ i. apart i (omega arith))
     spread_each (suc k) part within apart =
-        let At : PartImage → Type 0 = IsImage (slice_index_or parts part []) in
+        let At : PartImage → Type 0 = IsPartImage (slice_index_or parts part []) in
         elim (cases_eq part (slot_of entries (number + k))) [
           | inl same ↦
-              let Of : Part → Type 0 = λ these. IsImage these (own k) in
+              let Of : Part → Type 0 = λ these. IsPartImage these (own k) in
               let here : slice_index_or (in_slots parts) k [] ≡ slice_index_or parts part [] = get_or-in_slots parts k (omega arith) ∙ ap (λ n. slice_index_or parts n []) (sym same) in
               subst At (sym (ap (λ test. if test then own k else spread image own k part) (eq-eqb part (slot_of entries (number + k)) same)))
               (subst Of here (is.each k))
@@ -139,9 +139,9 @@ module _ (entries number count : ℕ) (few : count ≤ entries) where
 
 -- ---- the next group
 
-module _ (page entries tail : ℕ) (pieces : List Piece) (piece : Piece) (parts : List Part) (next : IsNext page entries pieces piece parts) where
+module _ (page entries tail : ℕ) (pieces : List LaidPiece) (piece : LaidPiece) (parts : List Part) (next : IsNext page entries pieces piece parts) where
   abbrev count : ℕ
-  count = entries_of page piece
+  count = entries_of_piece page piece
 
   few : count ≤ entries
   few = omega (arith, next.room)
@@ -204,19 +204,19 @@ module _ (page entries tail : ℕ) (pieces : List Piece) (piece : Piece) (parts 
       let now = run row_after (on_slots entries first steps_of) parts in
       let own = groups_end_quiet page first piece.file piece.at piece.bytes own_parts are (record {
         each = λ i. elim (cases_lt i count) [
-          | inl below ↦ subst IsQuiet (sym (get_or-in_slots entries first count few parts i below)) (quiet.each (slot_of entries (first + i)))
-          | inr past ↦ subst IsQuiet (sym (get_or_past own_parts i [] (omega (arith, length-in_slots entries first count few parts)))) (record { lines = λ line. quiet_blank })
+          | inl below ↦ subst IsQuietPart (sym (get_or-in_slots entries first count few parts i below)) (quiet.each (slot_of entries (first + i)))
+          | inr past ↦ subst IsQuietPart (sym (get_or_past own_parts i [] (omega (arith, length-in_slots entries first count few parts)))) (record { lines = λ line. quiet_blank })
         ];
       }) in
       record {
         each = λ part. elim (in_slot part count) [
           | inl found ↦
-              let Slot : ℕ → Type 0 = λ k. IsQuiet (slice_index_or now k []) in
-              let Of : List Part → Type 0 = λ these. IsQuiet (slice_index_or these found.i []) in
+              let Slot : ℕ → Type 0 = λ k. IsQuietPart (slice_index_or now k []) in
+              let Of : List Part → Type 0 = λ these. IsQuietPart (slice_index_or these found.i []) in
               subst Slot (sym found.same)
-              (subst IsQuiet (get_or-in_slots entries first count few now found.i found.below)
+              (subst IsQuietPart (get_or-in_slots entries first count few now found.i found.below)
               (subst Of (sym (slots_after entries first count few steps_of within parts)) (own.each found.i)))
-          | inr apart ↦ subst IsQuiet (sym (others_after entries first count few steps_of within parts part apart)) (quiet.each part)
+          | inr apart ↦ subst IsQuietPart (sym (others_after entries first count few steps_of within parts part apart)) (quiet.each part)
         ];
       }
 
@@ -262,7 +262,7 @@ module _ (page entries tail : ℕ) (pieces : List Piece) (piece : Piece) (parts 
           let first = tail + all_entries page pieces in
           logs (spread entries first count few image stored.before count)
           (spread_is entries first count few parts image stored.before stored.is
-          (λ part apart. subst (λ these. IsImage these (image part)) (others_after entries first count few steps inside parts part apart) (is.each part)))
+          (λ part apart. subst (λ these. IsPartImage these (image part)) (others_after entries first count few steps inside parts part apart) (is.each part)))
 
       differs : DiffersInSlots entries (tail + all_entries page pieces) count back image
       unfolding back
@@ -286,7 +286,7 @@ module _ (page entries tail : ℕ) (pieces : List Piece) (piece : Piece) (parts 
       followers_same : HaveSameCommits entries (tail + all_entries page pieces) 1 count back image
       followers_same i from below = commit_same i below (stored.followers i from below)
 
-      whole_adds : IsWhole page (tail + all_entries page pieces) piece.file piece.at piece.bytes own → HasLog layout page entries names tail (pieces ++ piece ∷ []) image
+      whole_adds : IsWholeGroup page (tail + all_entries page pieces) piece.file piece.at piece.bytes own → HasLog layout page entries names tail (pieces ++ piece ∷ []) image
       whole_adds whole =
           one_more layout page entries names tail pieces count back image log_before next.room differs piece refl followers_same
           (record {

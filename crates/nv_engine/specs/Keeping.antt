@@ -12,7 +12,7 @@ use Rattle.nv_engine.specs.Holding.{HasSomePieces}
 use Rattle.nv_engine.specs.declared.log.Log.{Log}
 
 -- A log, after any answer of a call. Its parts can be written until it is stopped, and where they tell, the log has some pieces.
-pub record IsLog {L B : Type 0} (history : L → lines.History) (room : L → Room) (held : B → stores.History) (log : Log L B) : Type 0 where
+pub record IsLog {L B : Type 0} (history : L → lines.PartHistory) (room : L → Room) (held : B → stores.StoreHistory) (log : Log L B) : Type 0 where
   pub some_pages : 1 ≤ log.pages
   pub few_pages : log.pages ≤ version_1.page_limit
   pub names_are : AreFileNames version_1 log.names
@@ -34,7 +34,7 @@ pub record IsSameRegion {L B : Type 0} (old new : Log L B) : Type 0 where
   pub tail : new.tail ≡ old.tail
 
 -- A call of a log only read its parts and its stores.
-pub record ReadsOnly {L B : Type 0} (history : L → lines.History) (room : L → Room) (device : L → ℕ) (held : B → stores.History) (disk : B → ℕ) (old new : Log L B) : Type 0 where
+pub record ReadsOnly {L B : Type 0} (history : L → lines.PartHistory) (room : L → Room) (device : L → ℕ) (held : B → stores.StoreHistory) (disk : B → ℕ) (old new : Log L B) : Type 0 where
   pub region : IsSameRegion old new
   pub head : new.head ≡ old.head
   pub lengths : new.lengths ≡ old.lengths

@@ -6,9 +6,9 @@ use Rattle.nv_plain.specs.Layouts.{Layout}
 use Rattle.nv_plain.specs.Recovered.{Fits, recovered}
 use Rattle.nv_pmem.specs.Part.{Part}
 use Rattle.nv_pmem.specs.Rows.{AreQuiet, InEachRowImage, row_words}
-use Rattle.nv_entry.specs.Group.{IsWhole}
+use Rattle.nv_entry.specs.Group.{IsWholeGroup}
 use Rattle.nv_header.specs.Regions.{ReadsAs, HasNoneFrom, HasEmptyLog}
-use Rattle.nv_engine.specs.Laid.{Piece, IsFitting, entries_of, all_entries, leaders_from, laid}
+use Rattle.nv_engine.specs.Laid.{LaidPiece, IsFitting, entries_of_piece, all_entries, leaders_from, laid}
 
 -- the part of the slot of a number
 abbrev pub slot_of : (entries number : ℕ) → ℕ
@@ -19,35 +19,35 @@ abbrev pub from_slot : (entries number : ℕ) → Image → Image
 from_slot entries number image i = image (slot_of entries (number + i))
 
 -- The entries from a number on hold a piece of a byte at least, cut at the boundaries of pages, as a whole group.
-pub record HoldsPiece (page entries : ℕ) (image : Image) (number : ℕ) (piece : Piece) : Type 0 where
+pub record HoldsPiece (page entries : ℕ) (image : Image) (number : ℕ) (piece : LaidPiece) : Type 0 where
   pub some : 1 ≤ length piece.bytes
-  pub whole : IsWhole page number piece.file piece.at piece.bytes (from_slot entries number image)
+  pub whole : IsWholeGroup page number piece.file piece.at piece.bytes (from_slot entries number image)
 
 -- and these pieces, one after another
-abbrev pub HoldPieces : (page entries : ℕ) → Image → (number : ℕ) → List Piece → Type 0
+abbrev pub HoldPieces : (page entries : ℕ) → Image → (number : ℕ) → List LaidPiece → Type 0
 HoldPieces page entries image number [] = Unit {0}
 HoldPieces page entries image number (piece ∷ pieces) =
-    HoldsPiece page entries image number piece × HoldPieces page entries image (number + entries_of page piece) pieces
+    HoldsPiece page entries image number piece × HoldPieces page entries image (number + entries_of_piece page piece) pieces
 
 -- The header can be read and says this; from the tail on the log has these pieces, and no number after them is committed.
-pub record HasLog (layout : Layout) (page entries : ℕ) (names : List (List ℕ)) (tail : ℕ) (pieces : List Piece) (image : Image) : Type 0 where
+pub record HasLog (layout : Layout) (page entries : ℕ) (names : List (List ℕ)) (tail : ℕ) (pieces : List LaidPiece) (image : Image) : Type 0 where
   pub header : ReadsAs layout page entries names tail image
   pub held : HoldPieces page entries image tail pieces
   pub none : HasNoneFrom entries (tail + all_entries page pieces) image
 
 -- the log has these pieces, and maybe one more
-abbrev pub HasLogOrOneMore : Layout → (page entries : ℕ) → List (List ℕ) → (tail : ℕ) → List Piece → Piece → Image → Type 0
+abbrev pub HasLogOrOneMore : Layout → (page entries : ℕ) → List (List ℕ) → (tail : ℕ) → List LaidPiece → LaidPiece → Image → Type 0
 HasLogOrOneMore layout page entries names tail pieces more image =
     HasLog layout page entries names tail pieces image ⊎ HasLog layout page entries names tail (pieces ++ more ∷ []) image
 
 -- Pieces that a log of so many entries and files may have from a tail on.
-pub record AreFitting (layout : Layout) (page entries files tail : ℕ) (pieces : List Piece) : Type 0 where
+pub record AreFitting (layout : Layout) (page entries files tail : ℕ) (pieces : List LaidPiece) : Type 0 where
   pub few : all_entries page pieces ≤ entries
   pub small : tail + all_entries page pieces ≤ 2 ^ 60
   pub each : All (IsFitting layout page files) pieces
 
 -- What an image recovers to whose log has these pieces: each is one of its groups, and they are laid over what the stores hold.
-pub record RecoversTo (page tail : ℕ) (pieces : List Piece) (stores : Files) (image : Image) : Type 0 where
+pub record RecoversTo (page tail : ℕ) (pieces : List LaidPiece) (stores : Files) (image : Image) : Type 0 where
   pub first : (recovered image stores).first ≡ tail
   pub groups : (recovered image stores).groups ≡ leaders_from page tail pieces
   pub next : (recovered image stores).next ≡ tail + all_entries page pieces
@@ -58,14 +58,14 @@ pub record RecoversTo (page tail : ℕ) (pieces : List Piece) (stores : Files) (
 -- Such an image fits.
 abbrev pub LoggedImagesFit : Type 0
 LoggedImagesFit =
-    (layout : Layout) (page entries : ℕ) (names : List (List ℕ)) (tail : ℕ) (pieces : List Piece) (image : Image)
+    (layout : Layout) (page entries : ℕ) (names : List (List ℕ)) (tail : ℕ) (pieces : List LaidPiece) (image : Image)
     → HasLog layout page entries names tail pieces image → AreFitting layout page entries (length names) tail pieces
     → Fits layout image
 
 -- It recovers to that.
 abbrev pub LoggedImagesRecover : Type 0
 LoggedImagesRecover =
-    (layout : Layout) (page entries : ℕ) (names : List (List ℕ)) (tail : ℕ) (pieces : List Piece) (image : Image) (stores : Files)
+    (layout : Layout) (page entries : ℕ) (names : List (List ℕ)) (tail : ℕ) (pieces : List LaidPiece) (image : Image) (stores : Files)
     → HasLog layout page entries names tail pieces image → AreFitting layout page entries (length names) tail pieces
     → RecoversTo page tail pieces stores image
 
@@ -78,14 +78,14 @@ RestHasNoPieces =
 -- An image has one log.
 abbrev pub LogsAreOne : Type 0
 LogsAreOne =
-    (layout : Layout) (page entries : ℕ) (names : List (List ℕ)) (tail : ℕ) (pieces others : List Piece) (image : Image)
+    (layout : Layout) (page entries : ℕ) (names : List (List ℕ)) (tail : ℕ) (pieces others : List LaidPiece) (image : Image)
     → HasLog layout page entries names tail pieces image → HasLog layout page entries names tail others image
     → pieces ≡ others
 
 -- What the parts of a quiet row read as has the log that each of its images has.
 abbrev pub QuietRowsHaveOneLog : Type 0
 QuietRowsHaveOneLog =
-    (layout : Layout) (page entries : ℕ) (names : List (List ℕ)) (tail : ℕ) (pieces : List Piece) (parts : List Part)
+    (layout : Layout) (page entries : ℕ) (names : List (List ℕ)) (tail : ℕ) (pieces : List LaidPiece) (parts : List Part)
     → AreQuiet parts → HasLog layout page entries names tail pieces (row_words parts)
     → InEachRowImage (HasLog layout page entries names tail pieces) parts
 
@@ -105,7 +105,7 @@ HaveSameCommits entries number from count image other =
 -- While the next entries are written, and their commit words are those that were there, the log is as it was.
 abbrev pub UncommittedEntriesAddNothing : Type 0
 UncommittedEntriesAddNothing =
-    (layout : Layout) (page entries : ℕ) (names : List (List ℕ)) (tail : ℕ) (pieces : List Piece) (count : ℕ) (image other : Image)
+    (layout : Layout) (page entries : ℕ) (names : List (List ℕ)) (tail : ℕ) (pieces : List LaidPiece) (count : ℕ) (image other : Image)
     → HasLog layout page entries names tail pieces image → all_entries page pieces + count ≤ entries
     → DiffersInSlots entries (tail + all_entries page pieces) count image other
     → HaveSameCommits entries (tail + all_entries page pieces) 0 count image other
@@ -114,9 +114,9 @@ UncommittedEntriesAddNothing =
 -- Once their leader is committed, the log has their piece more, and nothing else.
 abbrev pub CommittedEntriesAddOne : Type 0
 CommittedEntriesAddOne =
-    (layout : Layout) (page entries : ℕ) (names : List (List ℕ)) (tail : ℕ) (pieces : List Piece) (more : Piece) (image other : Image)
-    → HasLog layout page entries names tail pieces image → all_entries page pieces + entries_of page more ≤ entries
-    → DiffersInSlots entries (tail + all_entries page pieces) (entries_of page more) image other
-    → HaveSameCommits entries (tail + all_entries page pieces) 1 (entries_of page more) image other
+    (layout : Layout) (page entries : ℕ) (names : List (List ℕ)) (tail : ℕ) (pieces : List LaidPiece) (more : LaidPiece) (image other : Image)
+    → HasLog layout page entries names tail pieces image → all_entries page pieces + entries_of_piece page more ≤ entries
+    → DiffersInSlots entries (tail + all_entries page pieces) (entries_of_piece page more) image other
+    → HaveSameCommits entries (tail + all_entries page pieces) 1 (entries_of_piece page more) image other
     → HoldsPiece page entries other (tail + all_entries page pieces) more
     → HasLog layout page entries names tail (pieces ++ more ∷ []) other

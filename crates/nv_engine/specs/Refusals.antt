@@ -68,10 +68,10 @@ IsRefusedRead None result = IfErr result IsReadFailure
 -- ---- causes
 
 -- A fault is answered only where the counts of its devices rose, and any other answer leaves them.
-abbrev pub OpeningHasCause : {T : Type 0} → ℕ → ℕ → Result T OpenError → Type 0
-OpeningHasCause before now (Ok _) = now ≡ before
-OpeningHasCause before now (Err open_error.StoreFault) = Rose before now
-OpeningHasCause before now (Err open_error.NoMemory) = now ≡ before
+abbrev pub LogOpeningHasCause : {T : Type 0} → ℕ → ℕ → Result T OpenError → Type 0
+LogOpeningHasCause before now (Ok _) = now ≡ before
+LogOpeningHasCause before now (Err open_error.StoreFault) = Rose before now
+LogOpeningHasCause before now (Err open_error.NoMemory) = now ≡ before
 
 -- what a write's answer says of the parts' counts
 abbrev pub PartsFailedWrite : ℕ → ℕ → WriteError → Type 0

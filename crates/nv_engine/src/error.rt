@@ -1,3 +1,4 @@
+//! The log's errors.
 use nv_pmem::RegionFault;
 use nv_store::StoreFault;
 use std::alloc::{AllocError, AllocFailed};

@@ -1,3 +1,4 @@
+//! The end of a log: its devices come back.
 ghost use Rattle.std.specs.Prelude.{◌≡◌, ℕ, ◌+◌, ◌^◌, ◌≤◌, List, false, length, map, sum_by, Err, IfOk};
 ghost use Rattle.nv_plain.specs.Files.{Files};
 ghost use Rattle.nv_pmem.specs.Rows.{RowTells};
@@ -5,7 +6,7 @@ ghost use Rattle.nv_recover.specs.Causes.{HasRegionCause, HasStoreCause};
 ghost use Rattle.nv_recover.specs.Recovering.{AreKept};
 ghost use Rattle.nv_recover.specs.Standing.{AreQuietStores, files_of};
 ghost use Rattle.nv_recover.specs.declared.error.RecoverError.TheVariants as error;
-ghost use Rattle.nv_engine.specs.Laid.{Piece, laid};
+ghost use Rattle.nv_engine.specs.Laid.{LaidPiece, laid};
 ghost use Rattle.nv_engine.specs.Answers.{answer_of_finish, parts_after_finish, stores_after_finish};
 ghost use Rattle.nv_engine.specs.Holding.{Holds};
 ghost use Rattle.nv_engine.specs.Keeping.{IsLog};
@@ -30,17 +31,17 @@ impl<L: Lines + Drop, B: Backing + Drop> Log<L, B> {
         requires running { self.stopped ≡ false }
 
         // At `Ok`. That the region's log is empty is part of its type.
-        ensures files { IfOk result (λ done. (pieces : List Piece) (files : Files) → Holds L.history B.history self pieces files
+        ensures files { IfOk result (λ done. (pieces : List LaidPiece) (files : Files) → Holds L.history B.history self pieces files
             → RowTells (map B.history done.1.items) (λ now. files_of now ≡ laid files pieces)) }
-        ensures synced { IfOk result (λ done. (pieces : List Piece) (files : Files) → Holds L.history B.history self pieces files
+        ensures synced { IfOk result (λ done. (pieces : List LaidPiece) (files : Files) → Holds L.history B.history self pieces files
             → RowTells (map B.history done.1.items) AreQuietStores) }
-        ensures next { IfOk result (λ done. (pieces : List Piece) (files : Files) → Holds L.history B.history self pieces files
+        ensures next { IfOk result (λ done. (pieces : List LaidPiece) (files : Files) → Holds L.history B.history self pieces files
             → done.0.next ≡ self.head) }
         ensures geometry { IfOk result (λ done. done.0.geometry ≡ self.geometry) }
         ensures names { IfOk result (λ done. done.0.names ≡ self.names) }
 
         // At an error.
-        ensures good { (number : ℕ) → answer_of_finish result ≡ Err (error.BadEntry number) → (pieces : List Piece) (files : Files)
+        ensures good { (number : ℕ) → answer_of_finish result ≡ Err (error.BadEntry number) → (pieces : List LaidPiece) (files : Files)
             → ¬ Holds L.history B.history self pieces files }
 
         // Whichever answer came.

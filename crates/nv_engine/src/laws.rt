@@ -1,3 +1,4 @@
+//! Laws of a log of one thread.
 ghost use Rattle.nv_engine.specs.Logged.{CommittedEntriesAddOne, LoggedImagesFit, LoggedImagesRecover, LogsAreOne, QuietRowsHaveOneLog, RestHasNoPieces, UncommittedEntriesAddNothing};
 ghost use Rattle.nv_engine.specs.Overlaid.{FilesAreOverlaid, FilesAreOverlaidByCuts, PiecesAreWrites};
 ghost use Rattle.nv_engine.specs.Written.{WritesAddAtMostOne, WritesAddOne, WritesEndQuiet};

@@ -1,3 +1,4 @@
+//! The log of one thread.
 ghost use Rattle.std.specs.Prelude.{◌≡◌, ◌<◌, ◌*◌, length, slice_index};
 ghost use Rattle.nv_engine.specs.Keeping.{IsLog};
 ghost use Rattle.nv_engine.specs.Refusals.{file_limit};

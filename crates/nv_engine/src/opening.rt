@@ -1,3 +1,4 @@
+//! The opening of a log.
 ghost use Rattle.std.specs.Prelude.{◌≡◌, ℕ, ◌≤◌, [], List, false, length, map, sum_by, IfOk, IfErr, OnOk};
 ghost use Rattle.nv_plain.specs.Layouts.{version_1};
 ghost use Rattle.nv_pmem.specs.Part.{Part};
@@ -8,7 +9,7 @@ ghost use Rattle.nv_recover.specs.Standing.{AreQuietStores, files_of};
 ghost use Rattle.nv_engine.specs.Answers.{answer_of_opening, parts_after_opening, stores_after_opening};
 ghost use Rattle.nv_engine.specs.Holding.{Holds};
 ghost use Rattle.nv_engine.specs.Keeping.{IsLog};
-ghost use Rattle.nv_engine.specs.Refusals.{OpeningHasCause};
+ghost use Rattle.nv_engine.specs.Refusals.{LogOpeningHasCause};
 
 use crate::{Log, OpenError};
 use nv_header::Region;
@@ -43,7 +44,7 @@ impl<L: Lines + Drop, B: Backing + Drop> Log<L, B> {
         ensures parts { parts_after_opening result ≡ region.parts.items }
         ensures stores { map B.history (stores_after_opening result) ≡ map B.history stores.items }
         ensures disks { map B.device (stores_after_opening result) ≡ map B.device stores.items }
-        ensures cause { OpeningHasCause (sum_by B.fault_count stores.items) (sum_by B.fault_count (stores_after_opening result))
+        ensures cause { LogOpeningHasCause (sum_by B.fault_count stores.items) (sum_by B.fault_count (stores_after_opening result))
             (answer_of_opening result) }
     {
         let geometry = region.geometry();
@@ -85,7 +86,7 @@ fn make_room<B: Backing>(alloc: Global, stores: &mut [B], page: u64) -> Result<R
         → room.lengths.items ≡ map (λ bytes. length bytes) (files_of now).contents) }
     ensures histories { map B.history stores.new ≡ map B.history stores.old }
     ensures disks { map B.device stores.new ≡ map B.device stores.old }
-    ensures cause { OpeningHasCause (sum_by B.fault_count stores.old) (sum_by B.fault_count stores.new) result }
+    ensures cause { LogOpeningHasCause (sum_by B.fault_count stores.old) (sum_by B.fault_count stores.new) result }
 {
     let page = vec![in alloc; 0; page as usize]?;
     let lengths = measure(alloc, stores)?;
@@ -99,7 +100,7 @@ fn measure<B: Backing>(alloc: Global, stores: &mut [B]) -> Result<Vec<u64>, Open
         → lengths.items ≡ map (λ bytes. length bytes) (files_of now).contents) }
     ensures histories { map B.history stores.new ≡ map B.history stores.old }
     ensures disks { map B.device stores.new ≡ map B.device stores.old }
-    ensures cause { OpeningHasCause (sum_by B.fault_count stores.old) (sum_by B.fault_count stores.new) result }
+    ensures cause { LogOpeningHasCause (sum_by B.fault_count stores.old) (sum_by B.fault_count stores.new) result }
 {
     let mut lengths = Vec::new(alloc);
     for store in stores.iter_mut() {

@@ -1,17 +1,18 @@
+//! Reads: the store's bytes under those of the entries.
 ghost use Rattle.std.specs.Prelude.{◌≡◌, ℕ, ◌+◌, ◌^◌, ◌<◌, ◌≤◌, List, length, map, replicate, sum_by, IfOk, IfErr, OnOk};
 ghost use Rattle.nv_plain.specs.Faults.{HasCause};
 ghost use Rattle.nv_plain.specs.Files.{Files, bytes_at, contents_of, overwritten};
 ghost use Rattle.nv_plain.specs.Images.{lines_for};
 ghost use Rattle.nv_plain.specs.Layouts.{version_1};
 ghost use Rattle.nv_pmem.specs.Limits.{IsPageSize};
-ghost use Rattle.nv_pmem.specs.Part.{Part, word_of};
+ghost use Rattle.nv_pmem.specs.Part.{Part, part_word};
 ghost use Rattle.nv_pmem.specs.Room.{Keeps};
 ghost use Rattle.nv_pmem.specs.Rows.{AreOnlyRead, row_words};
 ghost use Rattle.nv_pmem.specs.RowStates.{AreNow, IsNow};
 ghost use Rattle.nv_store.specs.Store.{Store};
 ghost use Rattle.nv_recover.specs.Standing.{files_of};
 ghost use Rattle.nv_header.specs.Regions.{HasParts};
-ghost use Rattle.nv_engine.specs.Laid.{Piece, laid};
+ghost use Rattle.nv_engine.specs.Laid.{LaidPiece, laid};
 ghost use Rattle.nv_engine.specs.Overlaid.{with_own, overlaid};
 ghost use Rattle.nv_engine.specs.Holding.{Holds};
 ghost use Rattle.nv_engine.specs.Keeping.{IsLog, ReadsOnly};
@@ -53,9 +54,9 @@ impl<L: Lines + Drop, B: Backing + Drop> Log<L, B> {
         ensures unchanged { IfErr result (λ why. ¬ IsReadFault why → self.new ≡ self.old) }
         ensures stopped { self.new.stopped ≡ stopped_by_read self.old.stopped result }
 
-        ensures bytes { IfOk result (λ bytes. (pieces : List Piece) (files : Files) → Holds L.history B.history self.old pieces files
+        ensures bytes { IfOk result (λ bytes. (pieces : List LaidPiece) (files : Files) → Holds L.history B.history self.old pieces files
             → bytes.items ≡ bytes_at (contents_of (laid files pieces) file) at len) }
-        ensures holds { (pieces : List Piece) (files : Files) → Holds L.history B.history self.old pieces files
+        ensures holds { (pieces : List LaidPiece) (files : Files) → Holds L.history B.history self.old pieces files
             → Holds L.history B.history self.new pieces files }
 
         ensures reads { ReadsOnly L.history L.room L.device B.history B.device self.old self.new }
@@ -113,7 +114,7 @@ fn fill<L: Lines, B: Backing>(
     requires file { file < length stores.old }
     requires range { at + length window.old < 2 ^ 64 }
     requires zeros { window.old ≡ replicate (length window.old) 0 }
-    ensures window { OnOk result ((told : List Part) (now : List Store) (pieces : List Piece)
+    ensures window { OnOk result ((told : List Part) (now : List Store) (pieces : List LaidPiece)
         → AreNow (map L.history parts.old) told → AreNow (map B.history stores.old) now
         → HoldInOrder numbers.slots numbers.tail numbers.head (length page.old) pieces (row_words told)
         → window.new ≡ window_of (overlaid file (contents_of (files_of now) file) pieces) at (length window.old)) }
@@ -143,7 +144,7 @@ fn overlay<L: Lines>(
     requires slots { 1 ≤ numbers.slots }
     requires head { numbers.head ≤ 2 ^ 60 }
     requires range { at + length window.old < 2 ^ 64 }
-    ensures window { OnOk result ((told : List Part) (bytes : List ℕ) (pieces : List Piece)
+    ensures window { OnOk result ((told : List Part) (bytes : List ℕ) (pieces : List LaidPiece)
         → AreNow (map L.history parts.old) told
         → HoldInOrder numbers.slots numbers.tail numbers.head (length page.old) pieces (row_words told)
         → window.old ≡ window_of bytes at (length window.old)
@@ -168,8 +169,8 @@ fn overlay_entry<L: Lines>(
 ) -> Result<(), RegionFault>
     requires lines { 1 + lines_for (length page.old) ≤ (L.room part.old).lines }
     requires range { at + length window.old < 2 ^ 64 }
-    ensures window { OnOk result ((bytes : List ℕ) (piece : Piece) (now : Part) → IsNow (L.history part.old) now
-        → HoldsPieceOf (length page.old) piece (word_of now) → window.old ≡ window_of bytes at (length window.old)
+    ensures window { OnOk result ((bytes : List ℕ) (piece : LaidPiece) (now : Part) → IsNow (L.history part.old) now
+        → HoldsPieceOf (length page.old) piece (part_word now) → window.old ≡ window_of bytes at (length window.old)
         → window.new ≡ window_of (with_own file bytes piece) at (length window.old)) }
     ensures history { L.history part.new ≡ L.history part.old }
     ensures room { Keeps (L.room part.old) (L.room part.new) }

@@ -1,3 +1,4 @@
+//! Writes: each is a group of entries.
 ghost use Rattle.std.specs.Prelude.{◌≡◌, ◌≢◌, ℕ, ◌+◌, ◌^◌, ◌<◌, ◌≤◌, ◌++◌, [], ◌∷◌, List, length, map, max, slice_index, slice_set, sum_by, Err, IfOk, IfErr, OnOk, OnErr};
 ghost use Rattle.nv_plain.specs.Faults.{HasCause};
 ghost use Rattle.nv_plain.specs.Files.{Files};
@@ -5,7 +6,7 @@ ghost use Rattle.nv_plain.specs.Layouts.{version_1};
 ghost use Rattle.nv_plain.specs.Pieces.{pages_touched};
 ghost use Rattle.nv_pmem.specs.Rows.{DidRow, DidSomeRow};
 ghost use Rattle.nv_header.specs.Regions.{HasParts};
-ghost use Rattle.nv_engine.specs.Laid.{Piece};
+ghost use Rattle.nv_engine.specs.Laid.{LaidPiece};
 ghost use Rattle.nv_engine.specs.Written.{entry_steps, write_steps};
 ghost use Rattle.nv_engine.specs.Holding.{Holds, HoldsOrOneMore, written};
 ghost use Rattle.nv_engine.specs.Keeping.{IsLog, WritesParts};
@@ -43,9 +44,9 @@ impl<L: Lines + Drop, B: Backing + Drop> Log<L, B> {
             (max (slice_index self.old.lengths.items file) (at + length bytes.now))) }
         ensures same_head { OnErr result (self.new.head ≡ self.old.head) }
         ensures same_lengths { OnErr result (self.new.lengths ≡ self.old.lengths) }
-        ensures holds { OnOk result ((pieces : List Piece) (files : Files) → Holds L.history B.history self.old pieces files
+        ensures holds { OnOk result ((pieces : List LaidPiece) (files : Files) → Holds L.history B.history self.old pieces files
             → Holds L.history B.history self.new (pieces ++ written file at bytes.now ∷ []) files) }
-        ensures faulted { result ≡ Err error.RegionFault → (pieces : List Piece) (files : Files)
+        ensures faulted { result ≡ Err error.RegionFault → (pieces : List LaidPiece) (files : Files)
             → Holds L.history B.history self.old pieces files
             → HoldsOrOneMore L.history B.history self.new pieces (written file at bytes.now) files }
 

@@ -7,14 +7,14 @@ use Rattle.nv_plain.specs.Recovered.{IsLeader, IsFollower, IsPiece, GoesOn, IsGr
 use Rattle.nv_pmem.specs.Moments.{Tells}
 use Rattle.nv_pmem.specs.Part.{Part}
 use Rattle.nv_pmem.specs.Rows.{RowTells, row_words}
-use Rattle.nv_pmem.specs.Steps.{History}
+use Rattle.nv_pmem.specs.Steps.{PartHistory}
 use Rattle.nv_pmem.proofs.RowLaws.{row_tells_any, row_tells_more, row_tells_both}
 use Rattle.nv_entry.specs.declared.bounds.Bounds.{Bounds}
 use Rattle.nv_entry.specs.declared.check.EntryWords.{EntryWords}
-use Rattle.nv_entry.specs.Checks.{IsGood, IsFirstBad, EndsAt, SaysBounds, as_entry}
+use Rattle.nv_entry.specs.Checks.{IsGood, IsFirstBad, GroupEndsAt, SaysBounds, as_entry}
 
 -- what one part of a row tells
-pub row_tells_part : (row : List History) (i : ℕ) (P : Part → Type 0) → i < length row → Tells (slice_index_or row i []) P → RowTells row (λ parts. P (slice_index_or parts i []))
+pub row_tells_part : (row : List PartHistory) (i : ℕ) (P : Part → Type 0) → i < length row → Tells (slice_index_or row i []) P → RowTells row (λ parts. P (slice_index_or parts i []))
 row_tells_part [] i P inside told = absurd (omega arith)
 row_tells_part ([] ∷ row) i P inside told = tt
 row_tells_part ((now ∷ past) ∷ row) zero P inside told = row_tells_any row (λ parts. P now) (λ parts. told)
@@ -30,7 +30,7 @@ good_leader layout image leader leads piece = record {
 }
 
 -- an entry behind another one of the group
-pub good_next : (layout : Layout) (image : Image) (leader before number file end : ℕ) → before + 1 ≡ number → leader ≤ before → EndsAt image leader before file end → IsFollower image leader number → IsPiece layout image leader number → (entry_at image number).at ≡ end → IsGood layout image leader number
+pub good_next : (layout : Layout) (image : Image) (leader before number file end : ℕ) → before + 1 ≡ number → leader ≤ before → GroupEndsAt image leader before file end → IsFollower image leader number → IsPiece layout image leader number → (entry_at image number).at ≡ end → IsGood layout image leader number
 good_next layout image leader before number file end next from ends follows piece at = record {
   leads = λ same. absurd (omega arith);
   follows = λ _. follows;
@@ -41,7 +41,7 @@ good_next layout image leader before number file end next from ends follows piec
       subst Goes (sym same) (ap (λ k. (entry_at image k).at) next ∙ at ∙ sym ends.end);
 }
 
-pub goes_on_at : (layout : Layout) (image : Image) (leader before number file end : ℕ) → before + 1 ≡ number → leader ≤ before → EndsAt image leader before file end → IsGood layout image leader number → (entry_at image number).at ≡ end
+pub goes_on_at : (layout : Layout) (image : Image) (leader before number file end : ℕ) → before + 1 ≡ number → leader ≤ before → GroupEndsAt image leader before file end → IsGood layout image leader number → (entry_at image number).at ≡ end
 goes_on_at layout image leader before number file end next from ends good =
     ap (λ k. (entry_at image k).at) (sym next) ∙ good.goes_on before from next ∙ ends.end
 
@@ -49,9 +49,9 @@ goes_on_at layout image leader before number file end next from ends good =
 pub record HasChecked (layout : Layout) (image : Image) (leader number count file end : ℕ) : Type 0 where
   pub count_is : (entry_at image leader).count ≡ count
   pub good : (earlier : ℕ) → leader ≤ earlier → earlier < number → IsGood layout image leader earlier
-  pub ends : EndsAt image leader (number - 1) file end
+  pub ends : GroupEndsAt image leader (number - 1) file end
 
-pub checked_first : (layout : Layout) (image : Image) (leader count file end : ℕ) → (entry_at image leader).count ≡ count → EndsAt image leader leader file end → IsGood layout image leader leader → HasChecked layout image leader (leader + 1) count file end
+pub checked_first : (layout : Layout) (image : Image) (leader count file end : ℕ) → (entry_at image leader).count ≡ count → GroupEndsAt image leader leader file end → IsGood layout image leader leader → HasChecked layout image leader (leader + 1) count file end
 checked_first layout image leader count file end count_is ends good = record {
   count_is = count_is;
   good = λ earlier from below.
@@ -60,7 +60,7 @@ checked_first layout image leader count file end count_is ends good = record {
       subst At (sym same) good;
   ends =
       let before : leader + 1 - 1 ≡ leader = omega arith in
-      let At : ℕ → Type 0 = λ k. EndsAt image leader k file end in
+      let At : ℕ → Type 0 = λ k. GroupEndsAt image leader k file end in
       subst At (sym before) ends;
 }
 
@@ -73,7 +73,7 @@ checked_next layout image leader number count file end size behind so_far size_i
   ];
   ends =
       let before : number + 1 - 1 ≡ number = omega arith in
-      let At : ℕ → Type 0 = λ k. EndsAt image leader k file (end + size) in
+      let At : ℕ → Type 0 = λ k. GroupEndsAt image leader k file (end + size) in
       subst At (sym before) (record {
         file = so_far.ends.file;
         end =
@@ -111,7 +111,7 @@ pub from_true : (test : Bool) (P : Type 0) → IsTrue test → (IsTrue test ↔ 
 from_true test P passed means = means.0 passed
 
 -- what an entry of a checked group tells, with what was told before
-pub entry_tells : (row : List History) (bounds : Bounds) (words : EntryWords) (leader number count file end : ℕ) (P : List Part → Type 0) → ((parts : List Part) → HasChecked version_1 (row_words parts) leader number count file end → SaysBounds bounds (row_words parts) → as_entry words ≡ entry_at (row_words parts) number → P parts) → RowTells row (λ parts. HasChecked version_1 (row_words parts) leader number count file end) → RowTells row (λ parts. SaysBounds bounds (row_words parts)) → RowTells row (λ parts. as_entry words ≡ entry_at (row_words parts) number) → RowTells row P
+pub entry_tells : (row : List PartHistory) (bounds : Bounds) (words : EntryWords) (leader number count file end : ℕ) (P : List Part → Type 0) → ((parts : List Part) → HasChecked version_1 (row_words parts) leader number count file end → SaysBounds bounds (row_words parts) → as_entry words ≡ entry_at (row_words parts) number → P parts) → RowTells row (λ parts. HasChecked version_1 (row_words parts) leader number count file end) → RowTells row (λ parts. SaysBounds bounds (row_words parts)) → RowTells row (λ parts. as_entry words ≡ entry_at (row_words parts) number) → RowTells row P
 entry_tells row bounds words leader number count file end P step checked says has =
     let Checked : List Part → Type 0 = λ parts. HasChecked version_1 (row_words parts) leader number count file end in
     let Says : List Part → Type 0 = λ parts. SaysBounds bounds (row_words parts) in

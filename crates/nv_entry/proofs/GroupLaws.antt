@@ -7,18 +7,18 @@ use Rattle.nv_pmem.specs.Limits.{IsPageSize, entry_lines}
 use Rattle.nv_pmem.specs.Part.{Part}
 use Rattle.nv_pmem.specs.Room.{Room}
 use Rattle.nv_pmem.specs.Rows.{on_part, row_after, DidRow, DidSomeRow, RowTells, InEachRowImage, EachRowMoment, row_words, AreQuiet}
-use Rattle.nv_pmem.specs.Steps.{History, durable_store}
+use Rattle.nv_pmem.specs.Steps.{PartHistory, durable_store}
 use Rattle.nv_pmem.proofs.CallLaws.{failed_front}
 use Rattle.nv_pmem.proofs.RowLaws.{row_tells_more, row_tells_both, row_tells_itself, row_tells_did, each_row_moment, row_image_of_now}
 use Rattle.nv_pmem.proofs.StepLaws.{Always, always_by_fronts}
-use Rattle.nv_entry.specs.Group.{pieces_steps, group_steps, IsReady, IsUncommitted, IsWhole, IsUncommittedOrWhole, StoresOnly}
+use Rattle.nv_entry.specs.Group.{pieces_steps, group_steps, IsReady, IsUncommitted, IsWholeGroup, IsUncommittedOrWhole, StoresOnly}
 use Rattle.nv_entry.proofs.Data.{AreBytes}
 use Rattle.nv_entry.proofs.GroupSteps.{all_pieces, HaveLines, group_always, group_whole, group_stores, group_quiet}
 use Rattle.nv_entry.proofs.PartRows.{row_tells_lines}
 
 -- Parts that are ready for the entries of a group, none of which is committed.
-pub record AreBegun {X : Type 0} (history : X → History) (room : X → Room) (page first at : ℕ) (bytes : List ℕ) (parts : List X) (count : ℕ) : Type 0 where
-  pub told : (x : X) (now : Part) (past : History) → history x ≡ now ∷ past → length now ≡ (room x).lines
+pub record AreBegun {X : Type 0} (history : X → PartHistory) (room : X → Room) (page first at : ℕ) (bytes : List ℕ) (parts : List X) (count : ℕ) : Type 0 where
+  pub told : (x : X) (now : Part) (past : PartHistory) → history x ≡ now ∷ past → length now ≡ (room x).lines
   pub is_page : IsPageSize page
   pub are : AreBytes bytes
   pub some : 1 ≤ count
@@ -27,7 +27,7 @@ pub record AreBegun {X : Type 0} (history : X → History) (room : X → Room) (
   pub ready : All (λ x. IsReady page (room x)) parts
   pub uncommitted : RowTells (map history parts) (InEachRowImage (IsUncommitted first count))
 
-module _ {X : Type 0} (history : X → History) (room : X → Room) (page first file at : ℕ) (bytes : List ℕ) (parts : List X) {count : ℕ} (begun : AreBegun history room page first at bytes parts count) where
+module _ {X : Type 0} (history : X → PartHistory) (room : X → Room) (page first file at : ℕ) (bytes : List ℕ) (parts : List X) {count : ℕ} (begun : AreBegun history room page first at bytes parts count) where
   tells_lines : RowTells (map history parts) (HaveLines page (pages_touched at (length bytes) page))
   tells_lines =
       row_tells_lines history (λ x. (room x).lines) (entry_lines page) (pages_touched at (length bytes) page) begun.told parts (begun.long ∙ sym begun.pieces)
@@ -40,7 +40,7 @@ module _ {X : Type 0} (history : X → History) (room : X → Room) (page first 
       tells_lines (subst Open (sym begun.pieces) begun.uncommitted)
 
   -- At each moment the group is there as a whole or not at all.
-  pub parts_moments : {new : List History} → DidSomeRow (group_steps page first file at bytes) (map history parts) new
+  pub parts_moments : {new : List PartHistory} → DidSomeRow (group_steps page first file at bytes) (map history parts) new
       → EachRowMoment (InEachRowImage (IsUncommittedOrWhole page first file at bytes)) (map history parts) new
   parts_moments did =
       let P : List Part → Type 0 = InEachRowImage (IsUncommittedOrWhole page first file at bytes) in
@@ -51,7 +51,7 @@ module _ {X : Type 0} (history : X → History) (room : X → Room) (page first 
       did
 
   -- At each moment nothing else is stored.
-  pub parts_others : {new : List History} → DidSomeRow (group_steps page first file at bytes) (map history parts) new
+  pub parts_others : {new : List PartHistory} → DidSomeRow (group_steps page first file at bytes) (map history parts) new
       → RowTells (map history parts) (λ was. EachRowMoment (InEachRowImage (StoresOnly page first file at bytes was)) (map history parts) new)
   parts_others {new} did =
       let group = group_steps page first file at bytes in
@@ -70,21 +70,21 @@ module _ {X : Type 0} (history : X → History) (room : X → Room) (page first 
       (row_tells_itself (map history parts))
 
   -- At the end the group is there.
-  pub parts_whole : {new : List History} → DidRow (group_steps page first file at bytes) (map history parts) new → RowTells new (InEachRowImage (IsWhole page first file at bytes))
+  pub parts_whole : {new : List PartHistory} → DidRow (group_steps page first file at bytes) (map history parts) new → RowTells new (InEachRowImage (IsWholeGroup page first file at bytes))
   parts_whole did =
-      row_tells_did _ (InEachRowImage (IsWhole page first file at bytes)) tells_both
+      row_tells_did _ (InEachRowImage (IsWholeGroup page first file at bytes)) tells_both
       (λ now both. group_whole page first file at bytes begun.is_page now begun.are (omega (arith, begun.some, begun.pieces)) both.0 both.1)
       did
 
   -- And it is what the parts read as.
-  pub parts_hold : {new : List History} → DidRow (group_steps page first file at bytes) (map history parts) new → RowTells new (λ now. IsWhole page first file at bytes (row_words now))
+  pub parts_hold : {new : List PartHistory} → DidRow (group_steps page first file at bytes) (map history parts) new → RowTells new (λ now. IsWholeGroup page first file at bytes (row_words now))
   parts_hold {new} did =
-      row_tells_more new (InEachRowImage (IsWhole page first file at bytes)) (λ now. IsWhole page first file at bytes (row_words now))
+      row_tells_more new (InEachRowImage (IsWholeGroup page first file at bytes)) (λ now. IsWholeGroup page first file at bytes (row_words now))
       (λ now whole. whole (row_words now) (row_image_of_now now))
       (parts_whole did)
 
   -- Quiet parts are quiet again.
-  pub parts_quiet : {new : List History} → DidRow (group_steps page first file at bytes) (map history parts) new → RowTells (map history parts) AreQuiet → RowTells new AreQuiet
+  pub parts_quiet : {new : List PartHistory} → DidRow (group_steps page first file at bytes) (map history parts) new → RowTells (map history parts) AreQuiet → RowTells new AreQuiet
   parts_quiet did quiet =
       let Lines : List Part → Type 0 = HaveLines page (pages_touched at (length bytes) page) in
       row_tells_did (λ now. Lines now × AreQuiet now) AreQuiet (row_tells_both (map history parts) Lines AreQuiet tells_lines quiet)

@@ -6,19 +6,19 @@ use Rattle.std.specs.List.{flat_map, range_with_len}
 use Rattle.nv_plain.specs.Images.{PartImage, Image, data_of, lines_for}
 use Rattle.nv_plain.specs.Pieces.{pages_touched, piece_of, piece_bytes}
 use Rattle.nv_pmem.specs.Calls.{Seen, EndedWell, EndedBadly, OnOne, EachEnded, OneFailed}
-use Rattle.nv_pmem.specs.Images.{IsImage, IsQuiet}
+use Rattle.nv_pmem.specs.Images.{IsPartImage, IsQuietPart}
 use Rattle.nv_pmem.specs.Limits.{IsPageSize, entry_lines}
-use Rattle.nv_pmem.specs.Part.{Part, word_of}
+use Rattle.nv_pmem.specs.Part.{Part, part_word}
 use Rattle.nv_pmem.specs.Rows.{RowStep, on_part, row_after, IsRowImage, InEachRowImage, AreQuiet}
 use Rattle.nv_pmem.specs.Runs.{run}
-use Rattle.nv_pmem.specs.Steps.{Step, durable_store}
+use Rattle.nv_pmem.specs.Steps.{LineStep, durable_store}
 use Rattle.nv_pmem.proofs.CallLaws.{each_none, each_each, each_failed, failed_front}
 use Rattle.nv_pmem.proofs.DurableLaws.{line_settled}
 use Rattle.nv_pmem.proofs.ImageLaws.{IsStoredBy, Mark, quiet_line, open_line, mark_after_all, mark_after_all-append, quiet_image, quiet_after, quiet_blank}
 use Rattle.nv_pmem.proofs.LineLaws.{length-after_steps, word_of-after_steps}
 use Rattle.nv_pmem.proofs.RowLaws.{steps_on, steps_on-append, steps_on-same, steps_on-other, take-on_part, row_at, length-row_after, EachPart, row_image_at, row_image_comes_from, stored_by-append, stored_by-take, stored_by_row-take, row_quiet_still}
 use Rattle.nv_pmem.proofs.StepLaws.{run-append, after_steps, Always, always_by_fronts, always_append}
-use Rattle.nv_entry.specs.Group.{count_at, data_steps, field_steps, piece_steps, pieces_steps, group_steps, IsUncommitted, HoldsEntry, IsWhole, IsUncommittedOrWhole, StoresOnly}
+use Rattle.nv_entry.specs.Group.{count_at, data_steps, entry_field_steps, piece_steps, pieces_steps, group_steps, IsUncommitted, HoldsEntry, IsWholeGroup, IsUncommittedOrWhole, StoresOnly}
 use Rattle.nv_entry.proofs.Data.{AreBytes, bytes_taken, bytes_dropped}
 use Rattle.nv_entry.proofs.PieceRanges.{length-piece_bytes, piece_small, lines_fit}
 use Rattle.nv_entry.proofs.PieceSteps.{entry_fields, entry_data, stored_by_entry, mark-entry, mark-entry_still}
@@ -26,7 +26,7 @@ use Rattle.nv_pmem.proofs.Ranges.{flat_map-more, flat_map-split}
 
 -- ---- steps part by part
 
-steps_on-parts_before : (steps : ℕ → List Step) (i from count : ℕ) → i < from → steps_on i (flat_map (λ k. on_part k (steps k)) (range_with_len from count)) ≡ []
+steps_on-parts_before : (steps : ℕ → List LineStep) (i from count : ℕ) → i < from → steps_on i (flat_map (λ k. on_part k (steps k)) (range_with_len from count)) ≡ []
 steps_on-parts_before steps i from zero before = refl
 steps_on-parts_before steps i from (suc count) before =
     let rest = flat_map (λ k. on_part k (steps k)) (range_with_len (from + 1) count) in
@@ -35,7 +35,7 @@ steps_on-parts_before steps i from (suc count) before =
     ∙ steps_on-parts_before steps i (from + 1) count (omega arith)
 
 -- each part has its own steps
-steps_on-parts : (steps : ℕ → List Step) (i from count : ℕ) → from ≤ i → i < from + count → steps_on i (flat_map (λ k. on_part k (steps k)) (range_with_len from count)) ≡ steps i
+steps_on-parts : (steps : ℕ → List LineStep) (i from count : ℕ) → from ≤ i → i < from + count → steps_on i (flat_map (λ k. on_part k (steps k)) (range_with_len from count)) ≡ steps i
 steps_on-parts steps i from zero low high = absurd (omega arith)
 steps_on-parts steps i from (suc count) low high =
     let rest = flat_map (λ k. on_part k (steps k)) (range_with_len (from + 1) count) in
@@ -96,16 +96,16 @@ failed_pieces_more page first file at bytes k count {old} {between} {new} below 
 -- The steps of an entry, by what is known of its bytes and its fields.
 pub piece_steps-from : (page first file at : ℕ) (bytes : List ℕ) (i from size piece_at count : ℕ) → from ≡ (piece_of at (length bytes) page i).from → size ≡ (piece_of at (length bytes) page i).size
     → piece_at ≡ (piece_of at (length bytes) page i).at → count ≡ count_at (pages_touched at (length bytes) page) i
-    → data_steps (take (from + size - from) (drop from bytes)) ++ field_steps file piece_at size count first ≡ piece_steps page first file at bytes i
+    → data_steps (take (from + size - from) (drop from bytes)) ++ entry_field_steps file piece_at size count first ≡ piece_steps page first file at bytes i
 unfolding piece_steps
 piece_steps-from page first file at bytes i from size piece_at count from_is size_is at_is count_is =
     let piece = piece_of at (length bytes) page i in
     let taken : from + size - from ≡ size = omega arith in
-    ap (λ n. data_steps (take n (drop from bytes)) ++ field_steps file piece_at size count first) taken
-    ∙ ap (λ n. data_steps (take size (drop n bytes)) ++ field_steps file piece_at size count first) from_is
-    ∙ ap (λ n. data_steps (take n (drop piece.from bytes)) ++ field_steps file piece_at n count first) size_is
-    ∙ ap (λ n. data_steps (piece_bytes bytes piece) ++ field_steps file n piece.size count first) at_is
-    ∙ ap (λ n. data_steps (piece_bytes bytes piece) ++ field_steps file piece.at piece.size n first) count_is
+    ap (λ n. data_steps (take n (drop from bytes)) ++ entry_field_steps file piece_at size count first) taken
+    ∙ ap (λ n. data_steps (take size (drop n bytes)) ++ entry_field_steps file piece_at size count first) from_is
+    ∙ ap (λ n. data_steps (take n (drop piece.from bytes)) ++ entry_field_steps file piece_at n count first) size_is
+    ∙ ap (λ n. data_steps (piece_bytes bytes piece) ++ entry_field_steps file n piece.size count first) at_is
+    ∙ ap (λ n. data_steps (piece_bytes bytes piece) ++ entry_field_steps file piece.at piece.size n first) count_is
 
 -- ---- the commit
 
@@ -117,9 +117,9 @@ only_commits value line word found (inr (inr (inl none))) = absurd none
 only_commits value line word found (inr (inr (inr none))) = absurd none
 
 -- a part of a row on which the steps are another's has none
-stored_by_on_part : (i j : ℕ) (steps : List Step) (line word found : ℕ) → IsStoredBy (steps_on i (on_part j steps)) line word found → (i ≡ j) × IsStoredBy steps line word found
+stored_by_on_part : (i j : ℕ) (steps : List LineStep) (line word found : ℕ) → IsStoredBy (steps_on i (on_part j steps)) line word found → (i ≡ j) × IsStoredBy steps line word found
 stored_by_on_part i j steps line word found stored =
-    let At : List Step → Type 0 = λ these. IsStoredBy these line word found in
+    let At : List LineStep → Type 0 = λ these. IsStoredBy these line word found in
     elim (cases_eq i j) [
       | inl same ↦
           let On : ℕ → Type 0 = λ k. IsStoredBy (steps_on i (on_part k steps)) line word found in
@@ -134,7 +134,7 @@ mark-commit_still value i line = elim (cases_eq i 0) [
   | inr differs ↦ rw (ne_eqb i 0 differs)
 ]
 
-word-commit : (value : ℕ) (part : Part) → 0 < length part → word_of (after_steps (durable_store 0 0 value) part) 0 0 ≡ value
+word-commit : (value : ℕ) (part : Part) → 0 < length part → part_word (after_steps (durable_store 0 0 value) part) 0 0 ≡ value
 unfolding durable_store
 word-commit value part inside = word_of-after_steps (durable_store 0 0 value) part 0 0 (inside, tt)
 
@@ -201,7 +201,7 @@ module _ (page first file at : ℕ) (bytes : List ℕ) (is_page : IsPageSize pag
   -- What has the words that a part has after the steps holds the entry, whatever the commit word.
   holds_entry : (i : ℕ) (part : Part) (image : PartImage) → AreBytes bytes → i < pages_touched at (length bytes) page → entry_lines page ≤ length part
       → ((line word : ℕ) → line ≤ lines_for (length (piece_bytes bytes (piece_of at (length bytes) page i))) → (line ≢ 0) ⊎ (word ≢ 0)
-      → image line word ≡ word_of (after_steps (piece_steps page first file at bytes i) part) line word)
+      → image line word ≡ part_word (after_steps (piece_steps page first file at bytes i) part) line word)
       → HoldsEntry page first file at bytes i image
   unfolding piece_steps
   holds_entry i part image are below enough same =
@@ -223,7 +223,7 @@ module _ (page first file at : ℕ) (bytes : List ℕ) (is_page : IsPageSize pag
 
   no_commit_word : (i found : ℕ) → i < pages_touched at (length bytes) page → IsStoredBy (steps_on i (all_pieces page first file at bytes)) 0 0 found → ⊥
   no_commit_word i found below stored =
-      let At : List Step → Type 0 = λ these. IsStoredBy these 0 0 found in
+      let At : List LineStep → Type 0 = λ these. IsStoredBy these 0 0 found in
       elim (stored_by_piece i 0 0 found below (subst At (steps_on-pieces page first file at bytes i below) stored)) [
         | inl in_data ↦ omega arith
         | inr in_fields ↦ omega arith
@@ -259,7 +259,7 @@ module _ (page first file at : ℕ) (bytes : List ℕ) (is_page : IsPageSize pag
   -- The entries stay, whatever stores of the leader's commit word are made.
   written_still : (parts : List Part) → AreBytes bytes → HaveLines page (pages_touched at (length bytes) page) parts
       → InEachRowImage (IsUncommitted first (pages_touched at (length bytes) page)) parts
-      → (some : List Step) → ((line word found : ℕ) → IsStoredBy some line word found → (line ≡ 0) × (word ≡ 0) × (found ≡ first + 1))
+      → (some : List LineStep) → ((line word found : ℕ) → IsStoredBy some line word found → (line ≡ 0) × (word ≡ 0) × (found ≡ first + 1))
       → (image : Image) → IsRowImage (run row_after (on_part 0 some) (run row_after (all_pieces page first file at bytes) parts)) image
       → IsWritten image
   written_still parts are lines was some only image is =
@@ -282,8 +282,8 @@ module _ (page first file at : ℕ) (bytes : List ℕ) (is_page : IsPageSize pag
         entries = λ i below.
             let part = slice_index_or parts i [] in
             let steps = piece_steps page first file at bytes i in
-            let At : List Step → Type 0 = λ these. IsImage (after_steps these part) (from.before i) in
-            let before : IsImage (after_steps steps part) (from.before i) = subst At (steps_on-pieces page first file at bytes i below) (row_image_at pieces parts from.before i from.is) in
+            let At : List LineStep → Type 0 = λ these. IsPartImage (after_steps these part) (from.before i) in
+            let before : IsPartImage (after_steps steps part) (from.before i) = subst At (steps_on-pieces page first file at bytes i below) (row_image_at pieces parts from.before i from.is) in
             holds_entry i part (image i) are below (lines.has i below) (λ line word within apart.
             kept i line word (inr apart)
             ∙ quiet_image (after_steps steps part) (from.before i) line word (quiet_after line steps part (mark-piece i line open_line within)) before);
@@ -328,7 +328,7 @@ module _ (page first file at : ℕ) (bytes : List ℕ) (is_page : IsPageSize pag
   -- After them it is there.
   pub group_whole : (parts : List Part) → AreBytes bytes → 1 ≤ pages_touched at (length bytes) page → HaveLines page (pages_touched at (length bytes) page) parts
       → InEachRowImage (IsUncommitted first (pages_touched at (length bytes) page)) parts
-      → InEachRowImage (IsWhole page first file at bytes) (run row_after (group_steps page first file at bytes) parts)
+      → InEachRowImage (IsWholeGroup page first file at bytes) (run row_after (group_steps page first file at bytes) parts)
   unfolding group_steps
   group_whole parts are some lines was image is =
       let pieces = all_pieces page first file at bytes in
@@ -338,7 +338,7 @@ module _ (page first file at : ℕ) (bytes : List ℕ) (is_page : IsPageSize pag
       let Row : List Part → Type 0 = λ row. IsRowImage row image in
       let last : IsRowImage (run row_after (on_part 0 commit) before) image = subst Row (run-append row_after pieces (on_part 0 commit) parts) is in
       let written = written_still parts are lines was commit (only_commits (first + 1)) image last in
-      let At : List Step → Type 0 = λ these. IsImage (after_steps these leader) (image 0) in
+      let At : List LineStep → Type 0 = λ these. IsPartImage (after_steps these leader) (image 0) in
       let has_lines : 0 < length leader =
       omega (arith, ap length (row_at 0 pieces parts), length-after_steps (steps_on 0 pieces) (slice_index_or parts 0 []), lines.has 0 some) in
       record {
@@ -357,7 +357,7 @@ module _ (page first file at : ℕ) (bytes : List ℕ) (is_page : IsPageSize pag
   stored_by_group i line word found below stored =
       let pieces = all_pieces page first file at bytes in
       let commit = durable_store 0 0 (first + 1) in
-      let At : List Step → Type 0 = λ these. IsStoredBy these line word found in
+      let At : List LineStep → Type 0 = λ these. IsStoredBy these line word found in
       elim (stored_by-append (steps_on i pieces) (steps_on i (on_part 0 commit)) line word found (subst At (steps_on-append i pieces (on_part 0 commit)) stored)) [
         | inl by_piece ↦ inl (stored_by_piece i line word found below (subst At (steps_on-pieces page first file at bytes i below) by_piece))
         | inr by_commit ↦
@@ -415,7 +415,7 @@ module _ (page first file at : ℕ) (bytes : List ℕ) (is_page : IsPageSize pag
         each = λ i. elim (cases_lt i (pages_touched at (length bytes) page)) [
           | inl below ↦ record { lines = λ line. row_quiet_still i line group parts (group_still page first file at bytes i line below) ((quiet.each i).lines line) }
           | inr past ↦
-              let none : IsQuiet [] = record { lines = λ line. quiet_blank } in
-              subst IsQuiet (sym (get_or_past (run row_after group parts) i [] (omega (arith, length-row_after group parts)))) none
+              let none : IsQuietPart [] = record { lines = λ line. quiet_blank } in
+              subst IsQuietPart (sym (get_or_past (run row_after group parts) i [] (omega (arith, length-row_after group parts)))) none
         ];
       }

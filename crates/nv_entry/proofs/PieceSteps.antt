@@ -4,14 +4,14 @@ use Rattle.std.proofs.lemmas.Bool.{cases_eq, cases_lt, eq-eqb, ne_eqb}
 use Rattle.std.specs.List.{flat_map, range_with_len}
 use Rattle.nv_plain.specs.Images.{PartImage, entry_of, data_of, lines_for}
 use Rattle.nv_pmem.specs.Calls.{Seen, EndedWell, EndedBadly, EachEnded, OneFailed}
-use Rattle.nv_pmem.specs.Part.{Part, word_of}
-use Rattle.nv_pmem.specs.Steps.{Step, Store, Flush, line_stores, word_in}
+use Rattle.nv_pmem.specs.Part.{Part, part_word}
+use Rattle.nv_pmem.specs.Steps.{LineStep, StoreWord, Flush, line_stores, word_in}
 use Rattle.nv_pmem.proofs.CallLaws.{each_each, each_failed, failed_front}
 use Rattle.nv_pmem.proofs.ImageLaws.{IsStoredBy, Mark, open_line, noted_line, quiet_line, fenced_more, mark_after_all, mark_after_all-append}
 use Rattle.nv_pmem.proofs.RowLaws.{stored_by-append}
 use Rattle.nv_pmem.proofs.StepLaws.{after_steps}
 use Rattle.nv_pmem.proofs.LineLaws.{overlaid, overlaid-append, AreInside, inside_append, word_of-after_steps}
-use Rattle.nv_entry.specs.Group.{data_line, data_steps, field_steps}
+use Rattle.nv_entry.specs.Group.{data_line, data_steps, entry_field_steps}
 use Rattle.nv_pmem.proofs.Ranges.{flat_map-more, flat_map-split}
 use Rattle.nv_entry.proofs.Data.{AreBytes, line_bytes-words, length-data_line, bytes_in_data_line, lines_bytes-data}
 
@@ -38,7 +38,7 @@ unfolding line_stores
 inside_line_stores line lines bytes inside = (inside, (inside, (inside, (inside, (inside, (inside, (inside, (inside, tt))))))))
 
 -- a store of a line is one to it
-stored_by_line : (line : ℕ) (value : ℕ → ℕ) (words : List ℕ) (i j found : ℕ) → IsStoredBy (map (λ word. Store line word (value word)) words) i j found → i ≡ line
+stored_by_line : (line : ℕ) (value : ℕ → ℕ) (words : List ℕ) (i j found : ℕ) → IsStoredBy (map (λ word. StoreWord line word (value word)) words) i j found → i ≡ line
 stored_by_line line value [] i j found none = absurd none
 stored_by_line line value (word ∷ words) i j found (inl here) = here.0
 stored_by_line line value (word ∷ words) i j found (inr later) = stored_by_line line value words i j found later
@@ -59,7 +59,7 @@ mark-line_stores_other line bytes i mark differs = rw (ne_eqb i line differs)
 -- ---- a data line is stored and flushed
 
 -- the steps of data line k
-abbrev pub line_steps : List ℕ → ℕ → List Step
+abbrev pub line_steps : List ℕ → ℕ → List LineStep
 line_steps bytes k = line_stores (1 + k) (data_line bytes k) ++ Flush (1 + k) ∷ []
 
 overlaid-line_steps_same : (bytes : List ℕ) (k j was : ℕ) → j < 8 → overlaid (line_steps bytes k) (1 + k) j was ≡ word_in (data_line bytes k) j
@@ -94,7 +94,7 @@ mark-line_steps_other bytes k i mark differs =
 -- ---- several data lines
 
 -- the steps of so many data lines, from one on
-abbrev pub lines_steps : List ℕ → ℕ → ℕ → List Step
+abbrev pub lines_steps : List ℕ → ℕ → ℕ → List LineStep
 lines_steps bytes from count = flat_map (line_steps bytes) (range_with_len from count)
 
 -- one data line more
@@ -122,7 +122,7 @@ pub each_lines_more : (bytes : List ℕ) (k : ℕ) (content : List ℕ) {old bet
     → EachEnded EndedWell (lines_steps bytes 0 (k + 1)) old new
 each_lines_more bytes k content {old} {between} {new} same before line =
     let Line : List ℕ → Type 0 = λ these. EachEnded EndedWell (line_stores (1 + k) these ++ Flush (1 + k) ∷ []) between new in
-    let Ended : List Step → Type 0 = λ steps. EachEnded EndedWell steps old new in
+    let Ended : List LineStep → Type 0 = λ steps. EachEnded EndedWell steps old new in
     subst Ended (sym (lines_steps-more bytes k)) (each_each before (subst Line same line))
 
 -- One of those of one line more, of those that there are, failed.
@@ -130,7 +130,7 @@ pub failed_lines_more : (bytes : List ℕ) (k : ℕ) (content : List ℕ) {old b
     → OneFailed EndedWell EndedBadly (line_stores (1 + k) content ++ Flush (1 + k) ∷ []) between new → OneFailed EndedWell EndedBadly (data_steps bytes) old new
 failed_lines_more bytes k content {old} {between} {new} same inside before line =
     let Line : List ℕ → Type 0 = λ these. OneFailed EndedWell EndedBadly (line_stores (1 + k) these ++ Flush (1 + k) ∷ []) between new in
-    let Failed : List Step → Type 0 = λ steps. OneFailed EndedWell EndedBadly steps old new in
+    let Failed : List LineStep → Type 0 = λ steps. OneFailed EndedWell EndedBadly steps old new in
     subst Failed (sym (data_steps-split bytes k inside))
     (failed_front (lines_steps bytes (0 + (k + 1)) (lines_for (length bytes) - (k + 1))) (each_failed before (subst Line same line)))
 
@@ -191,20 +191,20 @@ mark-lines_steps_same bytes from (suc count) k mark low high =
 -- ---- an entry: its data, and then its fields
 
 -- the steps of an entry
-abbrev pub entry_steps : List ℕ → (file at size count leader : ℕ) → List Step
-entry_steps bytes file at size count leader = data_steps bytes ++ field_steps file at size count leader
+abbrev pub entry_steps : List ℕ → (file at size count leader : ℕ) → List LineStep
+entry_steps bytes file at size count leader = data_steps bytes ++ entry_field_steps file at size count leader
 
-inside_fields : (lines file at size count leader : ℕ) → 0 < lines → AreInside lines (field_steps file at size count leader)
-unfolding field_steps
+inside_fields : (lines file at size count leader : ℕ) → 0 < lines → AreInside lines (entry_field_steps file at size count leader)
+unfolding entry_field_steps
 inside_fields lines file at size count leader some = (some, (some, (some, (some, (some, tt)))))
 
-overlaid-fields_other : (file at size count leader k j was : ℕ) → overlaid (field_steps file at size count leader) (1 + k) j was ≡ was
-unfolding field_steps
+overlaid-fields_other : (file at size count leader k j was : ℕ) → overlaid (entry_field_steps file at size count leader) (1 + k) j was ≡ was
+unfolding entry_field_steps
 overlaid-fields_other file at size count leader k j was = let differs : 1 + k ≢ 0 = omega arith in rw (ne_eqb (1 + k) 0 differs)
 
 -- what the fields store is in words 1 to 5 of line 0
-stored_by_fields : (file at size count leader i j found : ℕ) → IsStoredBy (field_steps file at size count leader) i j found → (i ≡ 0) × (1 ≤ j) × (j ≤ 5)
-unfolding field_steps
+stored_by_fields : (file at size count leader i j found : ℕ) → IsStoredBy (entry_field_steps file at size count leader) i j found → (i ≡ 0) × (1 ≤ j) × (j ≤ 5)
+unfolding entry_field_steps
 stored_by_fields file at size count leader i j found (inl here) = (here.0, omega arith, omega arith)
 stored_by_fields file at size count leader i j found (inr (inl here)) = (here.0, omega arith, omega arith)
 stored_by_fields file at size count leader i j found (inr (inr (inl here))) = (here.0, omega arith, omega arith)
@@ -214,45 +214,45 @@ stored_by_fields file at size count leader i j found (inr (inr (inr (inr (inr (i
 stored_by_fields file at size count leader i j found (inr (inr (inr (inr (inr (inr (inl none))))))) = absurd none
 stored_by_fields file at size count leader i j found (inr (inr (inr (inr (inr (inr (inr none))))))) = absurd none
 
-mark-fields_same : (file at size count leader : ℕ) (mark : Mark) → mark_after_all 0 (field_steps file at size count leader) mark ≡ quiet_line
-unfolding field_steps
+mark-fields_same : (file at size count leader : ℕ) (mark : Mark) → mark_after_all 0 (entry_field_steps file at size count leader) mark ≡ quiet_line
+unfolding entry_field_steps
 mark-fields_same file at size count leader mark = refl
 
-mark-fields_other : (file at size count leader i : ℕ) (mark : Mark) → i ≢ 0 → mark_after_all i (field_steps file at size count leader) mark ≡ fenced_more mark
-unfolding field_steps
+mark-fields_other : (file at size count leader i : ℕ) (mark : Mark) → i ≢ 0 → mark_after_all i (entry_field_steps file at size count leader) mark ≡ fenced_more mark
+unfolding entry_field_steps
 mark-fields_other file at size count leader i mark differs = rw (ne_eqb i 0 differs)
 
 module _ (bytes : List ℕ) (file at size count leader : ℕ) where
   inside_entry : (lines : ℕ) → 1 + lines_for (length bytes) ≤ lines → AreInside lines (entry_steps bytes file at size count leader)
   unfolding data_steps
   inside_entry lines enough =
-      inside_append lines (data_steps bytes) (field_steps file at size count leader)
+      inside_append lines (data_steps bytes) (entry_field_steps file at size count leader)
       (inside_lines_steps bytes 0 (lines_for (length bytes)) lines (omega arith)) (inside_fields lines file at size count leader (omega arith))
 
   -- a word of line 0 after the steps
   head_word : (part : Part) (j : ℕ) → 1 + lines_for (length bytes) ≤ length part
-      → word_of (after_steps (entry_steps bytes file at size count leader) part) 0 j ≡ overlaid (field_steps file at size count leader) 0 j (word_of part 0 j)
+      → part_word (after_steps (entry_steps bytes file at size count leader) part) 0 j ≡ overlaid (entry_field_steps file at size count leader) 0 j (part_word part 0 j)
   unfolding data_steps
   head_word part j enough =
       word_of-after_steps (entry_steps bytes file at size count leader) part 0 j (inside_entry (length part) enough)
-      ∙ overlaid-append (data_steps bytes) (field_steps file at size count leader) 0 j (word_of part 0 j)
-      ∙ ap (overlaid (field_steps file at size count leader) 0 j) (overlaid-lines_steps_other bytes 0 (lines_for (length bytes)) 0 j (word_of part 0 j) (omega arith))
+      ∙ overlaid-append (data_steps bytes) (entry_field_steps file at size count leader) 0 j (part_word part 0 j)
+      ∙ ap (overlaid (entry_field_steps file at size count leader) 0 j) (overlaid-lines_steps_other bytes 0 (lines_for (length bytes)) 0 j (part_word part 0 j) (omega arith))
 
   -- a word of a data line after them
   data_word : (part : Part) (k j : ℕ) → 1 + lines_for (length bytes) ≤ length part → k < lines_for (length bytes) → j < 8
-      → word_of (after_steps (entry_steps bytes file at size count leader) part) (1 + k) j ≡ word_in (data_line bytes k) j
+      → part_word (after_steps (entry_steps bytes file at size count leader) part) (1 + k) j ≡ word_in (data_line bytes k) j
   unfolding data_steps
   data_word part k j enough inside small =
       word_of-after_steps (entry_steps bytes file at size count leader) part (1 + k) j (inside_entry (length part) enough)
-      ∙ overlaid-append (data_steps bytes) (field_steps file at size count leader) (1 + k) j (word_of part (1 + k) j)
+      ∙ overlaid-append (data_steps bytes) (entry_field_steps file at size count leader) (1 + k) j (part_word part (1 + k) j)
       ∙ overlaid-fields_other file at size count leader k j _
       ∙ overlaid-lines_steps_same bytes 0 (lines_for (length bytes)) k j _ (omega arith) (omega arith) small
 
   -- What has the words of line 0 reads as the entry's fields, whatever the commit word.
   pub entry_fields : (part : Part) (image : PartImage) → 1 + lines_for (length bytes) ≤ length part
-      → ((j : ℕ) → 1 ≤ j → image 0 j ≡ word_of (after_steps (entry_steps bytes file at size count leader) part) 0 j)
+      → ((j : ℕ) → 1 ≤ j → image 0 j ≡ part_word (after_steps (entry_steps bytes file at size count leader) part) 0 j)
       → entry_of image ≡ record { commit = image 0 0; file = file; at = at; size = size; count = count; leader = leader }
-  unfolding field_steps
+  unfolding entry_field_steps
   entry_fields part image enough same =
       let word_is = λ (j : ℕ) (some : 1 ≤ j). same j some ∙ head_word part j enough in
       λ i. record {
@@ -266,7 +266,7 @@ module _ (bytes : List ℕ) (file at size count leader : ℕ) where
 
   -- What has the words of the data lines reads as the bytes.
   pub entry_data : (part : Part) (image : PartImage) → AreBytes bytes → 1 + lines_for (length bytes) ≤ length part
-      → ((k j : ℕ) → k < lines_for (length bytes) → image (1 + k) j ≡ word_of (after_steps (entry_steps bytes file at size count leader) part) (1 + k) j)
+      → ((k j : ℕ) → k < lines_for (length bytes) → image (1 + k) j ≡ part_word (after_steps (entry_steps bytes file at size count leader) part) (1 + k) j)
       → data_of image (length bytes) ≡ bytes
   entry_data part image are enough same =
       lines_bytes-data image bytes (λ k inside.
@@ -277,7 +277,7 @@ module _ (bytes : List ℕ) (file at size count leader : ℕ) where
   pub stored_by_entry : (i j found : ℕ) → IsStoredBy (entry_steps bytes file at size count leader) i j found → ((1 ≤ i) × (i ≤ lines_for (length bytes))) ⊎ ((i ≡ 0) × (1 ≤ j) × (j ≤ 5))
   unfolding data_steps
   stored_by_entry i j found stored =
-      elim (stored_by-append (data_steps bytes) (field_steps file at size count leader) i j found stored) [
+      elim (stored_by-append (data_steps bytes) (entry_field_steps file at size count leader) i j found stored) [
         | inl in_data ↦
             let within = stored_by_lines_steps bytes 0 (lines_for (length bytes)) i j found in_data in
             inl (omega arith, omega arith)
@@ -287,8 +287,8 @@ module _ (bytes : List ℕ) (file at size count leader : ℕ) where
   mark-entry_data : (k : ℕ) (mark : Mark) → k < lines_for (length bytes) → mark_after_all (1 + k) (entry_steps bytes file at size count leader) mark ≡ quiet_line
   unfolding data_steps
   mark-entry_data k mark inside =
-      mark_after_all-append (1 + k) (data_steps bytes) (field_steps file at size count leader) mark
-      ∙ ap (mark_after_all (1 + k) (field_steps file at size count leader)) (mark-lines_steps_same bytes 0 (lines_for (length bytes)) k mark (omega arith) (omega arith))
+      mark_after_all-append (1 + k) (data_steps bytes) (entry_field_steps file at size count leader) mark
+      ∙ ap (mark_after_all (1 + k) (entry_field_steps file at size count leader)) (mark-lines_steps_same bytes 0 (lines_for (length bytes)) k mark (omega arith) (omega arith))
       ∙ mark-fields_other file at size count leader (1 + k) noted_line (omega arith)
 
   -- The lines that it takes are quiet after it.
@@ -297,7 +297,7 @@ module _ (bytes : List ℕ) (file at size count leader : ℕ) where
     | inl first ↦
         let At : ℕ → Type 0 = λ i. mark_after_all i (entry_steps bytes file at size count leader) mark ≡ quiet_line in
         subst At (sym first)
-        (mark_after_all-append 0 (data_steps bytes) (field_steps file at size count leader) mark
+        (mark_after_all-append 0 (data_steps bytes) (entry_field_steps file at size count leader) mark
         ∙ mark-fields_same file at size count leader _)
     | inr later ↦
         let At : ℕ → Type 0 = λ i. mark_after_all i (entry_steps bytes file at size count leader) mark ≡ quiet_line in
@@ -310,8 +310,8 @@ module _ (bytes : List ℕ) (file at size count leader : ℕ) where
   unfolding data_steps
   mark-entry_still line = elim (cases_lt (lines_for (length bytes)) line) [
     | inl beyond ↦
-        mark_after_all-append line (data_steps bytes) (field_steps file at size count leader) quiet_line
-        ∙ ap (mark_after_all line (field_steps file at size count leader))
+        mark_after_all-append line (data_steps bytes) (entry_field_steps file at size count leader) quiet_line
+        ∙ ap (mark_after_all line (entry_field_steps file at size count leader))
         (mark-lines_steps_other bytes 0 (lines_for (length bytes)) line quiet_line (λ k low high. omega arith))
         ∙ mark-fields_other file at size count leader line quiet_line (omega arith)
     | inr within ↦ mark-entry line quiet_line within

@@ -4,7 +4,7 @@ use Rattle.std.proofs.lemmas.Bool.{cases_eq, eq-eqb, ne_eqb}
 use Rattle.nv_pmem.specs.Limits.{entry_lines}
 use Rattle.nv_pmem.specs.Room.{Room}
 use Rattle.nv_pmem.specs.RoomSteps.{RoomAfter, EndWith}
-use Rattle.nv_pmem.specs.Steps.{Step, Store, Flush, Fence}
+use Rattle.nv_pmem.specs.Steps.{LineStep, StoreWord, Flush, Fence}
 use Rattle.nv_pmem.proofs.ImageLaws.{Mark, open_line, noted_line, quiet_line, noted_more, fenced_more, mark_after, mark_after_all}
 use Rattle.nv_entry.specs.Commits.{GroupsEndReady}
 use Rattle.nv_entry.specs.Group.{IsReady}
@@ -32,8 +32,8 @@ fenced line open_line old new spare later has = tt
 fenced line noted_line old new spare later has = omega (arith, later, has)
 fenced line quiet_line old new spare later has = omega (arith, spare, has)
 
-spare_after : (line : ℕ) (step : Step) (mark : Mark) (old new : Room) → RoomAfter step old new → HasSpare line mark old → HasSpare line (mark_after line step mark) new
-spare_after line (Store at word value) mark old new after has = elim (cases_eq line at) [
+spare_after : (line : ℕ) (step : LineStep) (mark : Mark) (old new : Room) → RoomAfter step old new → HasSpare line mark old → HasSpare line (mark_after line step mark) new
+spare_after line (StoreWord at word value) mark old new after has = elim (cases_eq line at) [
   | inl same ↦ rw (eq-eqb line at same) tt
   | inr other ↦ rw (ne_eqb line at other) (kept line mark old new (after.other_spare line other) (after.other_after_fence line other) has)
 ]
@@ -45,13 +45,13 @@ spare_after line (Flush at) mark old new after has = elim (cases_eq line at) [
 ]
 spare_after line Fence mark old new after has = fenced line mark old new (after.0.spare line) (after.1.spare line) has
 
-lines_after : (step : Step) (old new : Room) → RoomAfter step old new → new.lines ≡ old.lines
-lines_after (Store line word value) old new after = after.lines
+lines_after : (step : LineStep) (old new : Room) → RoomAfter step old new → new.lines ≡ old.lines
+lines_after (StoreWord line word value) old new after = after.lines
 lines_after (Flush line) old new after = after.0.lines
 lines_after Fence old new after = after.0.lines
 
 -- after all of them, where the mark of each line ends quiet
-ends_ready : (page : ℕ) (steps : List Step) (marks : ℕ → Mark) (room : Room) → entry_lines page ≤ room.lines
+ends_ready : (page : ℕ) (steps : List LineStep) (marks : ℕ → Mark) (room : Room) → entry_lines page ≤ room.lines
     → ((line : ℕ) → line < entry_lines page → HasSpare line (marks line) room) → ((line : ℕ) → mark_after_all line steps (marks line) ≡ quiet_line) → EndWith (IsReady page) steps room
 ends_ready page [] marks room lines has ends = record { lines = lines; spare = λ line below. subst (λ mark. HasSpare line mark room) (ends line) (has line below) }
 ends_ready page (step ∷ steps) marks room lines has ends = λ next after.

@@ -53,6 +53,6 @@ IsOfGroup layout bounds leader (Whole count) =
 IsOfGroup layout bounds leader (Bad number) = (leader ≤ number) × (number < leader + min layout.group_limit bounds.entries)
 
 -- a group's leader is of this file, and the bytes of one of its entries end here
-pub record EndsAt (image : Image) (leader number leaders_file end_at : ℕ) : Type 0 where
+pub record GroupEndsAt (image : Image) (leader number leaders_file end_at : ℕ) : Type 0 where
   pub file : (entry_at image leader).file ≡ leaders_file
   pub end : (entry_at image number).at + (entry_at image number).size ≡ end_at

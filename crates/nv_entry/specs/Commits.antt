@@ -8,7 +8,7 @@ use Rattle.nv_pmem.specs.Room.{Room}
 use Rattle.nv_pmem.specs.RoomSteps.{EndWith}
 use Rattle.nv_pmem.specs.Rows.{row_after, steps_on, InEachRowImage, AreQuiet, row_words}
 use Rattle.nv_pmem.specs.Runs.{run}
-use Rattle.nv_entry.specs.Group.{group_steps, IsUncommitted, IsUncommittedOrWhole, IsWhole, StoresOnly, IsReady}
+use Rattle.nv_entry.specs.Group.{group_steps, IsUncommitted, IsUncommittedOrWhole, IsWholeGroup, StoresOnly, IsReady}
 
 -- There is a part for each piece of a write, with the lines of an entry; the write has a byte, and each of its bytes is one.
 pub record AreGroupParts (page at : ℕ) (bytes : List ℕ) (parts : List Part) : Type 0 where
@@ -57,13 +57,13 @@ abbrev pub GroupsBecomeWhole : Type 0
 GroupsBecomeWhole =
     (page first file at : ℕ) (bytes : List ℕ) (parts : List Part)
     → AreGroupParts page at bytes parts → IsOpen page first at bytes parts
-    → InEachRowImage (IsWhole page first file at bytes) (after_group page first file at bytes parts)
+    → InEachRowImage (IsWholeGroup page first file at bytes) (after_group page first file at bytes parts)
 
 abbrev pub GroupsAreLoaded : Type 0
 GroupsAreLoaded =
     (page first file at : ℕ) (bytes : List ℕ) (parts : List Part)
     → AreGroupParts page at bytes parts → IsOpen page first at bytes parts
-    → IsWhole page first file at bytes (row_words (after_group page first file at bytes parts))
+    → IsWholeGroup page first file at bytes (row_words (after_group page first file at bytes parts))
 
 -- And quiet parts are quiet again.
 abbrev pub GroupsEndQuiet : Type 0

@@ -9,21 +9,21 @@ use Rattle.nv_pmem.specs.Limits.{entry_lines}
 use Rattle.nv_pmem.specs.Part.{Part}
 use Rattle.nv_pmem.specs.Room.{Room}
 use Rattle.nv_pmem.specs.Rows.{RowStep, on_part, IsRowImage}
-use Rattle.nv_pmem.specs.Steps.{Step, Store, Flush, Fence, line_stores, durable_store}
+use Rattle.nv_pmem.specs.Steps.{LineStep, StoreWord, Flush, Fence, line_stores, durable_store}
 
 -- data line i of some bytes, the last one padded with zeros
 abbrev pub data_line : List ℕ → ℕ → List ℕ
 data_line bytes i = padded (take 64 (drop (64 * i) bytes)) 64
 
 -- each data line is stored and flushed, from line 1 on
-unfoldable pub data_steps : List ℕ → List Step
+unfoldable pub data_steps : List ℕ → List LineStep
 data_steps bytes =
     flat_map (λ i. line_stores (1 + i) (data_line bytes i) ++ Flush (1 + i) ∷ []) (range_with_len 0 (lines_for (length bytes)))
 
 -- then the fields are stored, words 1 to 5 of line 0, and flushed and fenced with the data
-unfoldable pub field_steps : (file at size count leader : ℕ) → List Step
-field_steps file at size count leader =
-    Store 0 1 file ∷ Store 0 2 at ∷ Store 0 3 size ∷ Store 0 4 count ∷ Store 0 5 leader ∷ Flush 0 ∷ Fence ∷ []
+unfoldable pub entry_field_steps : (file at size count leader : ℕ) → List LineStep
+entry_field_steps file at size count leader =
+    StoreWord 0 1 file ∷ StoreWord 0 2 at ∷ StoreWord 0 3 size ∷ StoreWord 0 4 count ∷ StoreWord 0 5 leader ∷ Flush 0 ∷ Fence ∷ []
 
 -- the number of entries that an entry of a group gives: all of them in the leader, none in a follower
 abbrev pub count_at : (entries i : ℕ) → ℕ
@@ -43,11 +43,11 @@ piece_entry page first file at bytes i commit =
     }
 
 -- what is done to the part of that entry before the commit
-unfoldable pub piece_steps : (page first file at : ℕ) → List ℕ → ℕ → List Step
+unfoldable pub piece_steps : (page first file at : ℕ) → List ℕ → ℕ → List LineStep
 piece_steps page first file at bytes i =
     let piece = piece_of at (length bytes) page i in
     data_steps (piece_bytes bytes piece)
-    ++ field_steps file piece.at piece.size (count_at (pages_touched at (length bytes) page) i) first
+    ++ entry_field_steps file piece.at piece.size (count_at (pages_touched at (length bytes) page) i) first
 
 -- the first so many entries are written, part by part
 unfoldable pub pieces_steps : (page first file at : ℕ) → List ℕ → ℕ → List RowStep
@@ -69,7 +69,7 @@ pub record HoldsEntry (page first file at : ℕ) (bytes : List ℕ) (i : ℕ) (p
   pub bytes_are : data_of part (piece_of at (length bytes) page i).size ≡ piece_bytes bytes (piece_of at (length bytes) page i)
 
 -- A whole group: its leader is committed, no follower is by itself, and each part holds its entry.
-pub record IsWhole (page first file at : ℕ) (bytes : List ℕ) (image : Image) : Type 0 where
+pub record IsWholeGroup (page first file at : ℕ) (bytes : List ℕ) (image : Image) : Type 0 where
   pub committed : (entry_of (image 0)).commit ≡ first + 1
   pub followers : (i : ℕ) → 1 ≤ i → i < pages_touched at (length bytes) page → (entry_of (image i)).commit ≢ first + i + 1
   pub entries : (i : ℕ) → i < pages_touched at (length bytes) page → HoldsEntry page first file at bytes i (image i)
@@ -77,7 +77,7 @@ pub record IsWhole (page first file at : ℕ) (bytes : List ℕ) (image : Image)
 -- a group is there as a whole or not at all
 abbrev pub IsUncommittedOrWhole : (page first file at : ℕ) → List ℕ → Image → Type 0
 IsUncommittedOrWhole page first file at bytes image =
-    IsUncommitted first (pages_touched at (length bytes) page) image ⊎ IsWhole page first file at bytes image
+    IsUncommitted first (pages_touched at (length bytes) page) image ⊎ IsWholeGroup page first file at bytes image
 
 -- An image is one of earlier states, but for what a group's writing stores: the data, the fields, and the leader's commit word.
 pub record StoresOnly (page first file at : ℕ) (bytes : List ℕ) (was : List Part) (image : Image) : Type 0 where

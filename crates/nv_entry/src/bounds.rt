@@ -1,3 +1,4 @@
+//! What a region's header says of its entries.
 ghost use Rattle.std.specs.Prelude.{◌^◌, ◌≤◌};
 ghost use Rattle.nv_pmem.specs.Limits.{IsPageSize, IsEntryCount};
 

@@ -1,14 +1,15 @@
+//! The check of a group: its entries, or what is wrong with them.
 ghost use Rattle.std.specs.Prelude.{◌≡◌, ℕ, ◌+◌, ◌^◌, ◌<◌, ◌≤◌, ◌↔◌, length, map, take, drop, sum_by, All, IfOk, IsTrue};
 ghost use Rattle.nv_plain.specs.Faults.{HasCause};
 ghost use Rattle.nv_plain.specs.Images.{Image, entry_of, entry_at};
 ghost use Rattle.nv_plain.specs.Layouts.{version_1};
 ghost use Rattle.nv_plain.specs.Recovered.{IsLeader, IsFollower, IsPiece};
 ghost use Rattle.nv_pmem.specs.Moments.{Tells};
-ghost use Rattle.nv_pmem.specs.Part.{word_of};
+ghost use Rattle.nv_pmem.specs.Part.{part_word};
 ghost use Rattle.nv_pmem.specs.Room.{Keeps};
 ghost use Rattle.nv_pmem.specs.Rows.{RowTells, AreOnlyRead, row_words};
 ghost use Rattle.nv_entry.specs.declared.check.GroupCheck.TheVariants.{Whole};
-ghost use Rattle.nv_entry.specs.Checks.{IsGood, EndsAt, SaysBounds, SaysOfGroup, IsOfGroup, as_entry};
+ghost use Rattle.nv_entry.specs.Checks.{IsGood, GroupEndsAt, SaysBounds, SaysOfGroup, IsOfGroup, as_entry};
 
 use crate::group::load;
 use crate::piece::read_head;
@@ -45,7 +46,7 @@ pub enum GroupCheck {
 /// Reads the words of an entry. Takes no memory.
 pub fn entry_words<L: Lines>(part: &mut L) -> Result<EntryWords, RegionFault>
     requires lines { 1 ≤ (L.room part.old).lines }
-    ensures words { IfOk result (λ words. Tells (L.history part.old) (λ now. as_entry words ≡ entry_of (word_of now))) }
+    ensures words { IfOk result (λ words. Tells (L.history part.old) (λ now. as_entry words ≡ entry_of (part_word now))) }
     ensures history { L.history part.new ≡ L.history part.old }
     ensures room { Keeps (L.room part.old) (L.room part.new) }
     ensures cause { HasCause (L.fault_count part.old) (L.fault_count part.new) result }
@@ -130,7 +131,7 @@ impl Bounds {
     fn fit_next(&self, entry: &EntryWords, leader: u64, file: u64, number: u64, end: u64) -> bool
         requires { number < 2 ^ 62 }
         ensures good { (image : Image) (before : ℕ) → SaysBounds self.now image → as_entry entry.now ≡ entry_at image number
-            → EndsAt image leader before file end → before + 1 ≡ number → leader ≤ before
+            → GroupEndsAt image leader before file end → before + 1 ≡ number → leader ≤ before
             → (IsTrue result ↔ IsGood version_1 image leader number) }
         ensures end { IsTrue result → end + entry.now.head.size ≤ 2 ^ 60 }
     {

@@ -1,3 +1,4 @@
+//! The commit of a group of entries.
 ghost use Rattle.std.specs.Prelude.{◌≡◌, ℕ, ◌+◌, ◌^◌, ◌<◌, ◌≤◌, ◌↔◌, [], ◌∷◌, ◌++◌, length, map, sum_by, vec_len, IfOk, OnOk, IsTrue, All};
 ghost use Rattle.nv_plain.specs.Faults.{HasCause};
 ghost use Rattle.nv_plain.specs.Files.{padded};
@@ -5,12 +6,12 @@ ghost use Rattle.nv_plain.specs.Images.{lines_for};
 ghost use Rattle.nv_plain.specs.Pieces.{pages_touched};
 ghost use Rattle.nv_pmem.specs.Calls.{PartCalls, RowCalls, seen_of};
 ghost use Rattle.nv_pmem.specs.Limits.{IsPageSize};
-ghost use Rattle.nv_pmem.specs.Part.{word_of};
+ghost use Rattle.nv_pmem.specs.Part.{part_word};
 ghost use Rattle.nv_pmem.specs.Room.{Keeps, Takes};
 ghost use Rattle.nv_pmem.specs.Moments.{Tells};
 ghost use Rattle.nv_pmem.specs.Rows.{DidRow, DidSomeRow, RowTells, EachRowMoment, InEachRowImage, on_part, row_words, AreQuiet};
-ghost use Rattle.nv_pmem.specs.Steps.{Did, DidSome, Flush, line_stores, durable_store};
-ghost use Rattle.nv_entry.specs.Group.{group_steps, piece_steps, pieces_steps, count_at, data_steps, field_steps, IsUncommitted, IsUncommittedOrWhole, IsWhole, StoresOnly, IsReady};
+ghost use Rattle.nv_pmem.specs.Steps.{DidLineStep, DidSome, Flush, line_stores, durable_store};
+ghost use Rattle.nv_entry.specs.Group.{group_steps, piece_steps, pieces_steps, count_at, data_steps, entry_field_steps, IsUncommitted, IsUncommittedOrWhole, IsWholeGroup, StoresOnly, IsReady};
 ghost use Rattle.nv_entry.specs.Ready.{WritesLines, FencesHead, StaysReady};
 
 use crate::{PieceHead, cut, piece_count};
@@ -52,13 +53,13 @@ pub fn commit_group<L: Lines>(
     ensures others { RowTells (map L.history parts.old.items) (λ was.
         EachRowMoment (InEachRowImage (StoresOnly page first file at bytes.now was))
         (map L.history parts.old.items) (map L.history parts.new.items)) }
-    ensures whole { OnOk result (RowTells (map L.history parts.new.items) (InEachRowImage (IsWhole page first file at bytes.now))) }
+    ensures whole { OnOk result (RowTells (map L.history parts.new.items) (InEachRowImage (IsWholeGroup page first file at bytes.now))) }
     ensures quiet { OnOk result
         (RowTells (map L.history parts.old.items) AreQuiet → RowTells (map L.history parts.new.items) AreQuiet) }
 
     // After them the parts read as the group, and have room for other entries.
     ensures holds { OnOk result
-        (RowTells (map L.history parts.new.items) (λ now. IsWhole page first file at bytes.now (row_words now))) }
+        (RowTells (map L.history parts.new.items) (λ now. IsWholeGroup page first file at bytes.now (row_words now))) }
     ensures ready { OnOk result (All (λ part. IsReady page (L.room part)) parts.new.items) }
 
     ensures lines { map (λ part. (L.room part).lines) parts.new.items ≡ map (λ part. (L.room part).lines) parts.old.items }
@@ -140,7 +141,7 @@ pub fn write_piece<L: Lines>(
     requires piece { i < pages_touched at (length bytes.now) page }
     requires ready { IsReady page (L.room part.old) }
     ensures begun { DidSome (piece_steps page first file at bytes.now i) (L.history part.old) (L.history part.new) }
-    ensures done { OnOk result (Did (piece_steps page first file at bytes.now i) (L.history part.old) (L.history part.new)) }
+    ensures done { OnOk result (DidLineStep (piece_steps page first file at bytes.now i) (L.history part.old) (L.history part.new)) }
     ensures calls { PartCalls (piece_steps page first file at bytes.now i)
         (seen_of L.history L.room L.fault_count part.old) (seen_of L.history L.room L.fault_count part.new) result }
     ensures ready { OnOk result (IsReady page (L.room part.new)) }
@@ -172,7 +173,7 @@ fn group_count(entries: u64, i: u64) -> u64
 fn write_entry<L: Lines>(part: &mut L, head: PieceHead, bytes: &[u8]) -> Result<(), RegionFault>
     requires lines { 1 + lines_for (length bytes.now) ≤ (L.room part.old).lines }
     requires spare { (line : ℕ) → line < 1 + lines_for (length bytes.now) → 15 ≤ (L.room part.old).spare line }
-    ensures calls { PartCalls (data_steps bytes.now ++ field_steps head.file head.at head.size head.count head.leader)
+    ensures calls { PartCalls (data_steps bytes.now ++ entry_field_steps head.file head.at head.size head.count head.leader)
         (seen_of L.history L.room L.fault_count part.old) (seen_of L.history L.room L.fault_count part.new) result }
     ensures ready { OnOk result (StaysReady (L.room part.old) (L.room part.new)) }
     ensures lines { (L.room part.new).lines ≡ (L.room part.old).lines }
@@ -233,7 +234,7 @@ fn with_zeros(bytes: &[u8]) -> [u8; 64]
 fn write_head<L: Lines>(part: &mut L, head: PieceHead) -> Result<(), RegionFault>
     requires lines { 1 ≤ (L.room part.old).lines }
     requires spare { 5 ≤ (L.room part.old).spare 0 }
-    ensures calls { PartCalls (field_steps head.file head.at head.size head.count head.leader)
+    ensures calls { PartCalls (entry_field_steps head.file head.at head.size head.count head.leader)
         (seen_of L.history L.room L.fault_count part.old) (seen_of L.history L.room L.fault_count part.new) result }
     ensures room { OnOk result (FencesHead (L.room part.old) (L.room part.new)) }
     ensures lines { (L.room part.new).lines ≡ (L.room part.old).lines }
@@ -270,7 +271,7 @@ fn commit<L: Lines>(parts: &mut [L], page: u64, first: u64) -> Result<(), Region
 pub fn committed<L: Lines>(part: &mut L, number: u64) -> Result<bool, RegionFault>
     requires lines { 1 ≤ (L.room part.old).lines }
     requires number { number < 2 ^ 61 }
-    ensures value { IfOk result (λ found. Tells (L.history part.old) (λ now. IsTrue found ↔ (word_of now 0 0 ≡ number + 1))) }
+    ensures value { IfOk result (λ found. Tells (L.history part.old) (λ now. IsTrue found ↔ (part_word now 0 0 ≡ number + 1))) }
     ensures history { L.history part.new ≡ L.history part.old }
     ensures room { Keeps (L.room part.old) (L.room part.new) }
     ensures cause { HasCause (L.fault_count part.old) (L.fault_count part.new) result }
@@ -283,7 +284,7 @@ pub fn committed<L: Lines>(part: &mut L, number: u64) -> Result<bool, RegionFaul
 pub(crate) fn load<L: Lines>(part: &mut L, line: u64, word: u64) -> Result<u64, RegionFault>
     requires line { line < (L.room part.old).lines }
     requires word { word < 8 }
-    ensures value { IfOk result (λ value. Tells (L.history part.old) (λ now. value ≡ word_of now line word)) }
+    ensures value { IfOk result (λ value. Tells (L.history part.old) (λ now. value ≡ part_word now line word)) }
     ensures history { L.history part.new ≡ L.history part.old }
     ensures room { Keeps (L.room part.old) (L.room part.new) }
     ensures same_room { L.room part.new ≡ L.room part.old }

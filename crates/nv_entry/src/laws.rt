@@ -1,3 +1,4 @@
+//! Laws of groups.
 ghost use Rattle.nv_entry.specs.Commits.{GroupsAreAtomic, GroupsStayOpen, GroupsStoreNothingElse, GroupsBecomeWhole, GroupsAreLoaded, GroupsEndQuiet, GroupsEndReady};
 ghost use Rattle.nv_entry.specs.OneAnswer.{WholeIsNotBad, IsBadOnce};
 

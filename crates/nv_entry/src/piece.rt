@@ -1,7 +1,8 @@
+//! The piece of an entry, read from its part.
 ghost use Rattle.std.specs.Prelude.{◌≡◌, ◌+◌, ◌<◌, ◌≤◌, length, IfOk, OnOk};
 ghost use Rattle.nv_plain.specs.Faults.{HasCause};
 ghost use Rattle.nv_plain.specs.Images.{entry_of, data_of, line_bytes, lines_for};
-ghost use Rattle.nv_pmem.specs.Part.{word_of};
+ghost use Rattle.nv_pmem.specs.Part.{part_word};
 ghost use Rattle.nv_pmem.specs.Room.{Keeps};
 ghost use Rattle.nv_pmem.specs.Moments.{Tells};
 ghost use Rattle.nv_entry.specs.Reading.{head_of, IsFilled};
@@ -29,7 +30,7 @@ pub struct PieceHead {
 /// of the bytes. Takes no memory.
 pub fn read_piece<L: Lines>(part: &mut L, into: &mut [u8]) -> Result<PieceHead, RegionFault>
     requires lines { 1 + lines_for (length into.old) ≤ (L.room part.old).lines }
-    requires fits { Tells (L.history part.old) (λ now. (entry_of (word_of now)).size ≤ length into.old) }
+    requires fits { Tells (L.history part.old) (λ now. (entry_of (part_word now)).size ≤ length into.old) }
     ensures head { IfOk result (λ head. Tells (L.history part.old) (λ now. head ≡ head_of now)) }
     ensures bytes { IfOk result (λ head. Tells (L.history part.old) (λ now. IsFilled now head.size into.old into.new)) }
     ensures size { IfOk result (λ head. head.size ≤ length into.old) }
@@ -67,7 +68,7 @@ pub(crate) fn read_head<L: Lines>(part: &mut L) -> Result<PieceHead, RegionFault
 // The first bytes of the data.
 fn read_data<L: Lines>(part: &mut L, into: &mut [u8]) -> Result<(), RegionFault>
     requires lines { 1 + lines_for (length into.old) ≤ (L.room part.old).lines }
-    ensures bytes { OnOk result (Tells (L.history part.old) (λ now. into.new ≡ data_of (word_of now) (length into.old))) }
+    ensures bytes { OnOk result (Tells (L.history part.old) (λ now. into.new ≡ data_of (part_word now) (length into.old))) }
     ensures history { L.history part.new ≡ L.history part.old }
     ensures room { Keeps (L.room part.old) (L.room part.new) }
     ensures same_room { L.room part.new ≡ L.room part.old }
@@ -86,7 +87,7 @@ fn read_data<L: Lines>(part: &mut L, into: &mut [u8]) -> Result<(), RegionFault>
 // The bytes of a line.
 fn load_line<L: Lines>(part: &mut L, line: u64) -> Result<[u8; 64], RegionFault>
     requires { line < (L.room part.old).lines }
-    ensures bytes { IfOk result (λ bytes. Tells (L.history part.old) (λ now. bytes ≡ line_bytes (word_of now line))) }
+    ensures bytes { IfOk result (λ bytes. Tells (L.history part.old) (λ now. bytes ≡ line_bytes (part_word now line))) }
     ensures history { L.history part.new ≡ L.history part.old }
     ensures room { Keeps (L.room part.old) (L.room part.new) }
     ensures same_room { L.room part.new ≡ L.room part.old }

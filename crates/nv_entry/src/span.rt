@@ -1,3 +1,4 @@
+//! The pieces of a write, one for each page.
 ghost use Rattle.std.specs.Prelude.{◌≡◌, ◌+◌, ◌^◌, ◌<◌, ◌≤◌};
 ghost use Rattle.nv_plain.specs.Pieces.{pages_touched, piece_of};
 ghost use Rattle.nv_pmem.specs.Limits.{IsPageSize};

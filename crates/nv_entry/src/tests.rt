@@ -1,10 +1,11 @@
+//! Tests of commits.
 ghost use Rattle.std.specs.Prelude.{◌≡◌, ◌+◌, ◌<◌, ◌≤◌, length, map, vec_len, All, IfOk, IfSome};
 ghost use Rattle.nv_plain.specs.Images.{entry_of};
 ghost use Rattle.nv_plain.specs.Pieces.{pages_touched};
 ghost use Rattle.nv_pmem.specs.MemPart.{part_history, part_room};
 ghost use Rattle.nv_pmem.specs.Moments.{Tells};
 ghost use Rattle.nv_pmem.specs.Rows.{RowTells, InEachRowImage};
-ghost use Rattle.nv_pmem.specs.Part.{word_of};
+ghost use Rattle.nv_pmem.specs.Part.{part_word};
 ghost use Rattle.nv_entry.specs.Group.{IsReady, IsUncommitted};
 
 use crate::{PieceHead, RegionFault, Span, commit_group, committed, cut, piece_count, read_piece};
@@ -40,7 +41,7 @@ fn committed_part(
     requires range { at + length bytes.now ≤ 1024 }
     requires pieces { pages_touched at (length bytes.now) 64 ≡ entries }
     ensures lines { IfOk result (λ part. IfSome part (λ part. 2 ≤ (part_room part).lines)) }
-    ensures size { IfOk result (λ part. IfSome part (λ part. Tells (part_history part) (λ now. (entry_of (word_of now)).size ≤ 64))) }
+    ensures size { IfOk result (λ part. IfSome part (λ part. Tells (part_history part) (λ now. (entry_of (part_word now)).size ≤ 64))) }
 {
     let mut parts = entry_parts(alloc, entries, &[])?;
     if commit_group(&mut parts, 64, 5, 1, at, bytes).is_err() {

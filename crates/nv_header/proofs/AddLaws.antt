@@ -11,13 +11,13 @@ use Rattle.nv_plain.specs.Files.{padded}
 use Rattle.nv_plain.specs.Images.{Image, Header, header_of, name_of}
 use Rattle.nv_plain.specs.Layouts.{version_1}
 use Rattle.nv_plain.specs.Names.{is_name, is_name_byte}
-use Rattle.nv_pmem.specs.Images.{IsImage, IsQuietLine, IsQuiet}
+use Rattle.nv_pmem.specs.Images.{IsPartImage, IsQuietLine, IsQuietPart}
 use Rattle.nv_pmem.specs.Limits.{IsPageSize, IsEntryCount}
-use Rattle.nv_pmem.specs.Part.{Part, line_of, word_of}
+use Rattle.nv_pmem.specs.Part.{Part, line_of, part_word}
 use Rattle.nv_pmem.specs.Room.{Room}
 use Rattle.nv_pmem.specs.Rows.{RowStep, on_part, row_after, DidRow, DidSomeRow, RowTells, IsRowImage, InEachRowImage, EachRowMoment}
 use Rattle.nv_pmem.specs.Runs.{run}
-use Rattle.nv_pmem.specs.Steps.{Step, Flush, Fence, History, line_stores, word_in, durable_store}
+use Rattle.nv_pmem.specs.Steps.{LineStep, Flush, Fence, PartHistory, line_stores, word_in, durable_store}
 use Rattle.nv_pmem.proofs.OneOfRow.{lent}
 use Rattle.nv_pmem.proofs.ImageLaws.{IsStoredBy, quiet_image, quiet_after, quiet_still}
 use Rattle.nv_pmem.proofs.DurableLaws.{line_settled, quiet_settled}
@@ -275,9 +275,9 @@ one_more page entries next names name image before can are keeps files_is has lo
 -- ---- the steps
 
 -- the steps on part 0 store in part 0
-stored_in_header : (i line word found : ℕ) (steps : List Step) → IsStoredBy (steps_on i (on_part 0 steps)) line word found → (i ≡ 0) × IsStoredBy steps line word found
+stored_in_header : (i line word found : ℕ) (steps : List LineStep) → IsStoredBy (steps_on i (on_part 0 steps)) line word found → (i ≡ 0) × IsStoredBy steps line word found
 stored_in_header i line word found steps stored =
-    let By : List Step → Type 0 = λ these. IsStoredBy these line word found in
+    let By : List LineStep → Type 0 = λ these. IsStoredBy these line word found in
     elim (cases_eq i 0) [
       | inl same ↦
           let At : ℕ → Type 0 = λ j. steps_on i (on_part j steps) ≡ steps in
@@ -378,7 +378,7 @@ record_settles i name part =
     let line = record_line version_1 i in
     quiet_after line (one_record_steps i name) part (rw (eq-eqb line line refl) refl)
 
-record_quiet : (i : ℕ) (name : List ℕ) (part : Part) → IsQuiet part → IsQuiet (after_steps (one_record_steps i name) part)
+record_quiet : (i : ℕ) (name : List ℕ) (part : Part) → IsQuietPart part → IsQuietPart (after_steps (one_record_steps i name) part)
 unfolding one_record_steps line_steps line_stores
 record_quiet i name part quiet =
     let line = record_line version_1 i in
@@ -395,7 +395,7 @@ record IsRecorded (page entries next : ℕ) (names : List (List ℕ)) (name : Li
   words : HasRecord image (length names) name
 
 -- the header's part after steps on it
-header_after : (steps : List Step) (parts : List Part) → slice_index_or (run row_after (on_part 0 steps) parts) 0 [] ≡ after_steps steps (slice_index_or parts 0 [])
+header_after : (steps : List LineStep) (parts : List Part) → slice_index_or (run row_after (on_part 0 steps) parts) 0 [] ≡ after_steps steps (slice_index_or parts 0 [])
 header_after steps parts =
     row_at 0 (on_part 0 steps) parts ∙ ap (λ these. after_steps these (slice_index_or parts 0 [])) (steps_on-same 0 steps)
 
@@ -408,14 +408,14 @@ recorded page entries next names name parts few room each image is =
     let row = on_part 0 steps in
     let all : take (length row) row ≡ row = take_all (length row) row (omega arith) in
     let Along : List RowStep → Type 0 = λ these. InEachRowImage (HasEmptyLog version_1 page entries names next) (run row_after these parts) in
-    let At : Part → Type 0 = λ these. IsImage these (image 0) in
+    let At : Part → Type 0 = λ these. IsPartImage these (image 0) in
     let inside : record_line version_1 i < length part = omega (arith, room.has 0 (omega arith)) in
     record {
       log = subst Along all (while_record page entries next names name parts each (length row)) image is;
       words = λ k small.
           quiet_image (after_steps steps part) (image 0) (record_line version_1 i) k (record_settles i name part) (subst At (header_after steps parts) (is.each 0))
           ∙ word_of-after_steps steps part (record_line version_1 i) k (record_inside i (length part) name inside)
-          ∙ record_overlay i name k (word_of part (record_line version_1 i) k) small;
+          ∙ record_overlay i name k (part_word part (record_line version_1 i) k) small;
     }
 
 -- while the count is written it is the old one or one more
@@ -460,12 +460,12 @@ add_always page entries next names name parts can are room each =
     (always_by_fronts row_after P (on_part 0 last) (run row_after (on_part 0 first) parts) (λ count few.
     while_count page entries next names name (run row_after (on_part 0 first) parts) can are (recorded page entries next names name parts can.few room each) count)))
 
-pub add_moments : (page entries next : ℕ) (names : List (List ℕ)) (name : List ℕ) {old new : List History} → CanAdd version_1 names name → AreBytes name → RowTells old (IsAtRest version_1 page entries names next) → RowTells old (HasRoom page entries)
+pub add_moments : (page entries next : ℕ) (names : List (List ℕ)) (name : List ℕ) {old new : List PartHistory} → CanAdd version_1 names name → AreBytes name → RowTells old (IsAtRest version_1 page entries names next) → RowTells old (HasRoom page entries)
     → DidSomeRow (on_part 0 (add_file_steps version_1 (length names) name)) old new → EachRowMoment (InEachRowImage (HasNamesOrOneMore version_1 page entries names name next)) old new
 add_moments page entries next names name {old} {new} can are rest room did =
     let P : List Part → Type 0 = InEachRowImage (HasNamesOrOneMore version_1 page entries names name next) in
     let steps = on_part 0 (one_add_steps (length names) name) in
-    let Did_some : List Step → Type 0 = λ these. DidSomeRow (on_part 0 these) old new in
+    let Did_some : List LineStep → Type 0 = λ these. DidSomeRow (on_part 0 these) old new in
     each_row_moment P
     (row_tells_more old (λ parts. IsAtRest version_1 page entries names next parts × HasRoom page entries parts) (Always row_after P steps)
     (λ parts both. add_always page entries next names name parts can are both.1 both.0.empty)
@@ -473,7 +473,7 @@ add_moments page entries next names name {old} {new} can are rest room did =
     (subst Did_some (add_file_steps-one (length names) name (name_fits name can.is_new.allowed)) did)
 
 -- where nothing is done the names are those before
-pub names_stay : (page entries next : ℕ) (names : List (List ℕ)) (name : List ℕ) (row : List History) → RowTells row (IsAtRest version_1 page entries names next) → EachRowMoment (InEachRowImage (HasNamesOrOneMore version_1 page entries names name next)) row row
+pub names_stay : (page entries next : ℕ) (names : List (List ℕ)) (name : List ℕ) (row : List PartHistory) → RowTells row (IsAtRest version_1 page entries names next) → EachRowMoment (InEachRowImage (HasNamesOrOneMore version_1 page entries names name next)) row row
 names_stay page entries next names name row rest =
     let P : List Part → Type 0 = InEachRowImage (HasNamesOrOneMore version_1 page entries names name next) in
     each_row_moment P {steps = []}
@@ -500,26 +500,26 @@ count_after page entries i name parts image room is =
     let last = durable_store 0 4 (i + 1) in
     let before = after_steps (one_record_steps i name) (slice_index_or parts 0 []) in
     let long : 0 < length before = omega (arith, room.has 0 (omega arith), length-after_steps (one_record_steps i name) (slice_index_or parts 0 [])) in
-    let At : Part → Type 0 = λ part. IsImage part (image 0) in
+    let At : Part → Type 0 = λ part. IsPartImage part (image 0) in
     quiet_image (after_steps last before) (image 0) 0 4 (line_settled 0 4 (i + 1) before)
     (subst At (header_after (one_add_steps i name) parts ∙ add_split i name (slice_index_or parts 0 [])) (is.each 0))
     ∙ word_of-after_steps last before 0 4 (count_inside (i + 1) (length before) long)
-    ∙ count_overlay (i + 1) (word_of before 0 4)
+    ∙ count_overlay (i + 1) (part_word before 0 4)
 
-quiet_after_add : (i k : ℕ) (name : List ℕ) (parts : List Part) → IsQuiet (slice_index_or parts k []) → IsQuiet (slice_index_or (run row_after (on_part 0 (one_add_steps i name)) parts) k [])
+quiet_after_add : (i k : ℕ) (name : List ℕ) (parts : List Part) → IsQuietPart (slice_index_or parts k []) → IsQuietPart (slice_index_or (run row_after (on_part 0 (one_add_steps i name)) parts) k [])
 unfolding run
 quiet_after_add i k name parts quiet =
     let steps = one_add_steps i name in
     elim (cases_eq k 0) [
       | inl first ↦
-          let Here : ℕ → Type 0 = λ j. IsQuiet (slice_index_or (run row_after (on_part 0 steps) parts) j []) in
-          let Was : ℕ → Type 0 = λ j. IsQuiet (slice_index_or parts j []) in
+          let Here : ℕ → Type 0 = λ j. IsQuietPart (slice_index_or (run row_after (on_part 0 steps) parts) j []) in
+          let Was : ℕ → Type 0 = λ j. IsQuietPart (slice_index_or parts j []) in
           subst Here (sym first)
-          (subst IsQuiet (sym (header_after steps parts ∙ add_split i name (slice_index_or parts 0 [])))
+          (subst IsQuietPart (sym (header_after steps parts ∙ add_split i name (slice_index_or parts 0 [])))
           (quiet_settled 0 4 (i + 1) (after_steps (one_record_steps i name) (slice_index_or parts 0 []))
           (record_quiet i name (slice_index_or parts 0 []) (subst Was first quiet))))
       | inr other ↦
-          subst IsQuiet
+          subst IsQuietPart
           (sym (row_at k (on_part 0 steps) parts ∙ ap (λ these. after_steps these (slice_index_or parts k [])) (steps_on-other k 0 steps other))) quiet
     ]
 
@@ -540,17 +540,17 @@ added_rest page entries next names name parts can are room rest =
     }
 
 -- After all steps the region has the name.
-pub add_tells : (page entries next : ℕ) (names : List (List ℕ)) (name : List ℕ) {old new : List History} → CanAdd version_1 names name → AreBytes name → RowTells old (IsAtRest version_1 page entries names next) → RowTells old (HasRoom page entries)
+pub add_tells : (page entries next : ℕ) (names : List (List ℕ)) (name : List ℕ) {old new : List PartHistory} → CanAdd version_1 names name → AreBytes name → RowTells old (IsAtRest version_1 page entries names next) → RowTells old (HasRoom page entries)
     → DidRow (on_part 0 (add_file_steps version_1 (length names) name)) old new → RowTells new (IsAtRest version_1 page entries (names ++ name ∷ []) next)
 add_tells page entries next names name {old} {new} can are rest room did =
-    let Did_all : List Step → Type 0 = λ these. DidRow (on_part 0 these) old new in
+    let Did_all : List LineStep → Type 0 = λ these. DidRow (on_part 0 these) old new in
     row_tells_did (λ parts. IsAtRest version_1 page entries names next parts × HasRoom page entries parts) (IsAtRest version_1 page entries (names ++ name ∷ []) next)
     (row_tells_both old (IsAtRest version_1 page entries names next) (HasRoom page entries) rest room)
     (λ parts both. added_rest page entries next names name parts can are both.1 both.0)
     (subst Did_all (add_file_steps-one (length names) name (name_fits name can.is_new.allowed)) did)
 
 -- What adding did, whichever answer came, to a vector of parts that was lent as a slice.
-pub add_changed : {X : Type 0} (history : X → History) (room : X → Room) (device : X → ℕ) (page entries next index : ℕ) (names : List (List ℕ)) (name : List ℕ) (parts now new : List X) (len : ℕ) → now ≡ parts → length parts ≡ len → length new ≡ length now → CanAdd version_1 names name → AreBytes name → RowTells (map history parts) (IsAtRest version_1 page entries names next) → RowTells (map history parts) (HasRoom page entries)
+pub add_changed : {X : Type 0} (history : X → PartHistory) (room : X → Room) (device : X → ℕ) (page entries next index : ℕ) (names : List (List ℕ)) (name : List ℕ) (parts now new : List X) (len : ℕ) → now ≡ parts → length parts ≡ len → length new ≡ length now → CanAdd version_1 names name → AreBytes name → RowTells (map history parts) (IsAtRest version_1 page entries names next) → RowTells (map history parts) (HasRoom page entries)
     → index ≡ length names → DidSomeRow (on_part 0 (add_file_steps version_1 index name)) (map history now) (map history new) → map (λ part. (room part).lines) new ≡ map (λ part. (room part).lines) now → map device new ≡ map device now
     → AreChangedBy history room device (on_part 0 (add_file_steps version_1 (length names) name)) (HasNamesOrOneMore version_1 page entries names name next) parts (take len (new ++ drop (length new) parts))
 add_changed history room device page entries next index names name parts now new len same long still can are rest has index_is did lines devices =
@@ -564,7 +564,7 @@ add_changed history room device page entries next index names name parts now new
     }
 
 -- and where nothing was done
-pub add_unchanged : {X : Type 0} (history : X → History) (room : X → Room) (device : X → ℕ) (page entries next : ℕ) (names : List (List ℕ)) (name : List ℕ) (parts : List X) → RowTells (map history parts) (IsAtRest version_1 page entries names next)
+pub add_unchanged : {X : Type 0} (history : X → PartHistory) (room : X → Room) (device : X → ℕ) (page entries next : ℕ) (names : List (List ℕ)) (name : List ℕ) (parts : List X) → RowTells (map history parts) (IsAtRest version_1 page entries names next)
     → AreChangedBy history room device (on_part 0 (add_file_steps version_1 (length names) name)) (HasNamesOrOneMore version_1 page entries names name next) parts parts
 add_unchanged history room device page entries next names name parts rest = record {
   begun = did_some_none;

@@ -3,13 +3,13 @@ use Rattle.std.proofs.Common.{◌≡◌, ℕ, ◌+◌, ◌/◌, ◌<◌, ◌≤�
 use Rattle.std.proofs.lemmas.Bool.{cases_lt}
 use Rattle.std.proofs.lemmas.List.{get_or-replicate, get_or_past, get_or-map, get_or_append_left, get_or_push, length-map, length-replicate}
 use Rattle.nv_plain.specs.Layouts.{version_1}
-use Rattle.nv_pmem.specs.Images.{IsQuietLine, IsQuiet}
-use Rattle.nv_pmem.specs.MemPart.{IsBlank, part_history, part_room}
+use Rattle.nv_pmem.specs.Images.{IsQuietLine, IsQuietPart}
+use Rattle.nv_pmem.specs.MemPart.{IsBlankMemPart, part_history, part_room}
 use Rattle.nv_pmem.specs.Moments.{Tells}
-use Rattle.nv_pmem.specs.Part.{Part, blank_line, line_of, word_of, newest, word_at}
+use Rattle.nv_pmem.specs.Part.{Part, blank_line, line_of, part_word, newest, word_at}
 use Rattle.nv_pmem.specs.Room.{Room}
 use Rattle.nv_pmem.specs.Rows.{RowTells}
-use Rattle.nv_pmem.specs.Steps.{History}
+use Rattle.nv_pmem.specs.Steps.{PartHistory}
 use Rattle.nv_pmem.specs.declared.mem_part.MemPart.{MemPart}
 use Rattle.nv_pmem.proofs.ImageLaws.{quiet_blank, quiet_image}
 use Rattle.nv_pmem.proofs.RowLaws.{blank_word, EachPart, row_tells_each, row_tells_more}
@@ -24,8 +24,8 @@ line_of-zeros lines i = elim (cases_lt i lines) [
 
 -- a part of zeros, or one that isn't there
 record IsZeros (part : Part) : Type 0 where
-  quiet : IsQuiet part
-  word : (line word : ℕ) → word_of part line word ≡ 0
+  quiet : IsQuietPart part
+  word : (line word : ℕ) → part_word part line word ≡ 0
 
 zeros_of : (lines : ℕ) (part : Part) → part ≡ replicate lines blank_line → IsZeros part
 zeros_of lines part is =
@@ -49,27 +49,27 @@ blank_parts count parts each = record {
       quiet_image (slice_index_or parts 0 []) (image 0) 0 0 (header.quiet.lines 0) (is.each 0) ∙ header.word 0 0;
 }
 
-told_zeros : (lines : ℕ) (history : History) → history ≡ replicate lines blank_line ∷ [] → Tells history IsZeros
+told_zeros : (lines : ℕ) (history : PartHistory) → history ≡ replicate lines blank_line ∷ [] → Tells history IsZeros
 told_zeros lines history is =
-    let At : History → Type 0 = λ these. Tells these IsZeros in
+    let At : PartHistory → Type 0 = λ these. Tells these IsZeros in
     subst At (sym is) (zeros_of lines (replicate lines blank_line) refl)
 
 -- parts of zeros, which have had no other state, are a blank region
-pub blank_row : (row : List History) (lines : ℕ → ℕ) → ((i : ℕ) → i < length row → slice_index_or row i [] ≡ replicate (lines i) blank_line ∷ []) → RowTells row IsBlankRow
+pub blank_row : (row : List PartHistory) (lines : ℕ → ℕ) → ((i : ℕ) → i < length row → slice_index_or row i [] ≡ replicate (lines i) blank_line ∷ []) → RowTells row IsBlankRow
 blank_row row lines each =
     row_tells_more row (EachPart (λ i part. IsZeros part) (length row)) IsBlankRow (blank_parts (length row))
     (row_tells_each row (λ i part. IsZeros part) (λ i inside. told_zeros (lines i) (slice_index_or row i []) (each i inside)))
 
 -- A part in memory is blank, and where it is the header's or an entry's it has its lines.
 pub record IsBlankPart (page entries i : ℕ) (part : MemPart) : Type 0 where
-  pub blank : IsBlank (part_room part).lines part
+  pub blank : IsBlankMemPart (part_room part).lines part
   pub lines : i ≤ entries → (part_room part).lines ≡ part_lines version_1 page i
 
 -- each of some parts is
 abbrev pub AreBlank : (page entries : ℕ) → List MemPart → Type 0
 AreBlank page entries parts = (i : ℕ) (none : MemPart) → i < length parts → IsBlankPart page entries i (get_or parts i none)
 
-roomy : (lines : ℕ) (part : MemPart) → IsBlank (part_room part).lines part → (part_room part).lines ≡ lines → IsRoomy lines (part_room part)
+roomy : (lines : ℕ) (part : MemPart) → IsBlankMemPart (part_room part).lines part → (part_room part).lines ≡ lines → IsRoomy lines (part_room part)
 roomy lines part blank lines_is = record {
   there = omega arith;
   spare = λ line below. omega (arith, blank.spare line (omega arith));
@@ -98,14 +98,14 @@ blank_tells page entries (first ∷ rest) are =
     let inside : i < length parts = omega (arith, length-map parts part_history) in
     get_or-map part_history parts i first [] inside ∙ (are i first inside).blank.history)
 
-one_more : (page entries : ℕ) (parts : List MemPart) (part : MemPart) (lines : ℕ) → AreBlank page entries parts → (length parts ≤ entries → lines ≡ part_lines version_1 page (length parts)) → IsBlank lines part → AreBlank page entries (parts ++ part ∷ [])
+one_more : (page entries : ℕ) (parts : List MemPart) (part : MemPart) (lines : ℕ) → AreBlank page entries parts → (length parts ≤ entries → lines ≡ part_lines version_1 page (length parts)) → IsBlankMemPart lines part → AreBlank page entries (parts ++ part ∷ [])
 one_more page entries parts part lines are lines_is blank i none below =
     let At : MemPart → Type 0 = IsBlankPart page entries i in
     elim (cases_lt i (length parts)) [
       | inl before ↦ subst At (sym (get_or_append_left parts (part ∷ []) none i before)) (are i none before)
       | inr last ↦
           let here : i ≡ length parts = omega (arith, length-append parts (part ∷ [])) in
-          let Lines : ℕ → Type 0 = λ n. IsBlank n part in
+          let Lines : ℕ → Type 0 = λ n. IsBlankMemPart n part in
           subst At (sym (get_or_push parts part none i (sym here)))
           (record {
             blank = subst Lines (sym blank.count) blank;
@@ -119,7 +119,7 @@ entry_part page zero behind = absurd (omega arith)
 entry_part page (suc i) behind = refl
 
 -- blank parts, and one more behind them
-pub part_more : (page entries : ℕ) (parts new : List MemPart) (part : MemPart) (lines : ℕ) → new ≡ parts ++ part ∷ [] → AreBlank page entries parts → (length parts ≤ entries → lines ≡ part_lines version_1 page (length parts)) → IsBlank lines part
+pub part_more : (page entries : ℕ) (parts new : List MemPart) (part : MemPart) (lines : ℕ) → new ≡ parts ++ part ∷ [] → AreBlank page entries parts → (length parts ≤ entries → lines ≡ part_lines version_1 page (length parts)) → IsBlankMemPart lines part
     → (length new ≡ length parts + 1) × AreBlank page entries new
 part_more page entries parts new part lines new_is are lines_is blank =
     let At : List MemPart → Type 0 = AreBlank page entries in (

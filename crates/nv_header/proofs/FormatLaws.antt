@@ -6,13 +6,13 @@ use Rattle.std.specs.List.{flat_map, range_with_len}
 use Rattle.nv_plain.specs.Images.{Image, header_magic}
 use Rattle.nv_plain.specs.Layouts.{version_1}
 use Rattle.nv_plain.specs.Recovered.{IsBlank}
-use Rattle.nv_pmem.specs.Images.{IsImage, IsQuietLine, IsQuiet}
+use Rattle.nv_pmem.specs.Images.{IsPartImage, IsQuietLine, IsQuietPart}
 use Rattle.nv_pmem.specs.Limits.{IsPageSize, IsEntryCount}
-use Rattle.nv_pmem.specs.Part.{Part, line_of, word_of}
+use Rattle.nv_pmem.specs.Part.{Part, line_of, part_word}
 use Rattle.nv_pmem.specs.Room.{Room}
 use Rattle.nv_pmem.specs.Rows.{RowStep, on_part, row_after, DidRow, DidSomeRow, RowTells, IsRowImage, InEachRowImage, EachRowMoment}
 use Rattle.nv_pmem.specs.Runs.{run}
-use Rattle.nv_pmem.specs.Steps.{Step, History, durable_store}
+use Rattle.nv_pmem.specs.Steps.{LineStep, PartHistory, durable_store}
 use Rattle.nv_pmem.proofs.OneOfRow.{lent}
 use Rattle.nv_pmem.proofs.ImageLaws.{IsStoredBy, quiet_image, quiet_after, quiet_still}
 use Rattle.nv_pmem.proofs.DurableLaws.{line_settled, quiet_settled}
@@ -101,7 +101,7 @@ filling_header page entries =
     ∙ steps_on-same 0 (field_steps version_1 page entries)
 
 -- of a part that isn't the header, those that clear it
-filling_other : (page entries i : ℕ) (steps : List Step) → i ≢ 0 → steps_on i (clear_steps entries) ≡ steps → steps_on i (filling page entries) ≡ steps ++ []
+filling_other : (page entries i : ℕ) (steps : List LineStep) → i ≢ 0 → steps_on i (clear_steps entries) ≡ steps → steps_on i (filling page entries) ≡ steps ++ []
 filling_other page entries i steps differs is =
     steps_on-append i (clear_steps entries) (on_part 0 (field_steps version_1 page entries))
     ∙ ap (λ front. front ++ steps_on i (on_part 0 (field_steps version_1 page entries))) is
@@ -129,7 +129,7 @@ blank_while_filling page entries parts blank count image is =
     elim (from.words 0 0 0) [
       | inl kept ↦ kept ∙ blank.blank from.before from.is
       | inr stored ↦
-          let At : List Step → Type 0 = λ steps. IsStoredBy steps 0 0 (image 0 0 0) in
+          let At : List LineStep → Type 0 = λ steps. IsStoredBy steps 0 0 (image 0 0 0) in
           absurd (fields_leave_magic page entries (image 0 0 0)
           (subst At (filling_header page entries) (stored_by_row-take count (filling page entries) 0 0 0 (image 0 0 0) stored)))
     ]
@@ -164,10 +164,10 @@ unfolding field_steps
 fields_overlay page entries was = (refl, refl, refl, refl, refl)
 
 -- a word of the header's part, once its line is quiet
-field_is : (page entries line word : ℕ) (part : Part) (image : Image) (at : Part) → at ≡ after_steps (field_steps version_1 page entries) part → 18 ≤ length part → IsQuietLine (line_of (after_steps (field_steps version_1 page entries) part) line) → IsImage at (image 0)
-    → image 0 line word ≡ overlaid (field_steps version_1 page entries) line word (word_of part line word)
+field_is : (page entries line word : ℕ) (part : Part) (image : Image) (at : Part) → at ≡ after_steps (field_steps version_1 page entries) part → 18 ≤ length part → IsQuietLine (line_of (after_steps (field_steps version_1 page entries) part) line) → IsPartImage at (image 0)
+    → image 0 line word ≡ overlaid (field_steps version_1 page entries) line word (part_word part line word)
 field_is page entries line word part image at at_is enough quiet is =
-    let At : Part → Type 0 = λ these. IsImage these (image 0) in
+    let At : Part → Type 0 = λ these. IsPartImage these (image 0) in
     quiet_image (after_steps (field_steps version_1 page entries) part) (image 0) line word quiet (subst At at_is is)
     ∙ word_of-after_steps (field_steps version_1 page entries) part line word (fields_inside page entries (length part) enough)
 
@@ -179,12 +179,12 @@ clear_inside : (lines : ℕ) → 0 < lines → AreInside lines (durable_store 0 
 unfolding durable_store
 clear_inside lines some = (some, tt)
 
-cleared_is : (part : Part) (words : ℕ → ℕ → ℕ) (at : Part) → at ≡ after_steps (durable_store 0 0 0) part → 0 < length part → IsImage at words → words 0 0 ≡ 0
+cleared_is : (part : Part) (words : ℕ → ℕ → ℕ) (at : Part) → at ≡ after_steps (durable_store 0 0 0) part → 0 < length part → IsPartImage at words → words 0 0 ≡ 0
 cleared_is part words at at_is some is =
-    let At : Part → Type 0 = λ these. IsImage these words in
+    let At : Part → Type 0 = λ these. IsPartImage these words in
     quiet_image (after_steps (durable_store 0 0 0) part) words 0 0 (line_settled 0 0 0 part) (subst At at_is is)
     ∙ word_of-after_steps (durable_store 0 0 0) part 0 0 (clear_inside (length part) some)
-    ∙ cleared_overlay (word_of part 0 0)
+    ∙ cleared_overlay (part_word part 0 0)
 
 -- any part has a line
 some_lines : (page i lines : ℕ) → part_lines version_1 page i ≤ lines → 0 < lines
@@ -197,20 +197,20 @@ filled page entries parts blank room image is =
     let part = slice_index_or parts 0 [] in
     let all : take (length steps) steps ≡ steps = take_all (length steps) steps (omega arith) in
     let Along : List RowStep → Type 0 = λ these. InEachRowImage IsBlank (run row_after these parts) in
-    let At : List Step → Type 0 = λ these. slice_index_or (run row_after steps parts) 0 [] ≡ after_steps these part in
+    let At : List LineStep → Type 0 = λ these. slice_index_or (run row_after steps parts) 0 [] ≡ after_steps these part in
     let header_is = subst At (filling_header page entries) (row_at 0 steps parts) in
     let enough : 18 ≤ length part = omega (arith, room.has 0 (omega arith)) in
     let on_0 = λ (word : ℕ). field_is page entries 0 word part image _ header_is enough (fields_settle_0 page entries part) (is.each 0) in
     record {
       blank = subst Along all (blank_while_filling page entries parts blank (length steps)) image is;
-      version = on_0 1 ∙ (fields_overlay page entries (word_of part 0 1)).0;
-      page_is = on_0 2 ∙ (fields_overlay page entries (word_of part 0 2)).1;
-      entries_is = on_0 3 ∙ (fields_overlay page entries (word_of part 0 3)).2;
-      files = on_0 4 ∙ (fields_overlay page entries (word_of part 0 4)).3;
-      tail = field_is page entries 1 0 part image _ header_is enough (fields_settle_1 page entries part) (is.each 0) ∙ (fields_overlay page entries (word_of part 1 0)).4;
+      version = on_0 1 ∙ (fields_overlay page entries (part_word part 0 1)).0;
+      page_is = on_0 2 ∙ (fields_overlay page entries (part_word part 0 2)).1;
+      entries_is = on_0 3 ∙ (fields_overlay page entries (part_word part 0 3)).2;
+      files = on_0 4 ∙ (fields_overlay page entries (part_word part 0 4)).3;
+      tail = field_is page entries 1 0 part image _ header_is enough (fields_settle_1 page entries part) (is.each 0) ∙ (fields_overlay page entries (part_word part 1 0)).4;
       cleared = λ k inside.
           let entry = slice_index_or parts (1 + k) [] in
-          let Entry_at : List Step → Type 0 = λ these. slice_index_or (run row_after steps parts) (1 + k) [] ≡ after_steps these entry in
+          let Entry_at : List LineStep → Type 0 = λ these. slice_index_or (run row_after steps parts) (1 + k) [] ≡ after_steps these entry in
           let has : part_lines version_1 page (1 + k) ≤ length entry = room.has (1 + k) (omega arith) in
           cleared_is entry (image (1 + k)) _ (subst Entry_at (filling_entry page entries k inside) (row_at (1 + k) steps parts)) (some_lines page (1 + k) (length entry) has) (is.each (1 + k));
     }
@@ -269,11 +269,11 @@ magic_leaves i line word found stored = elim (cases_eq i 0) [
   | inl same ↦
       let steps = durable_store 0 0 header_magic in
       let At : ℕ → Type 0 = λ j. steps_on i (on_part j steps) ≡ steps in
-      let By : List Step → Type 0 = λ these. IsStoredBy these line word found in
+      let By : List LineStep → Type 0 = λ these. IsStoredBy these line word found in
       let here = only_stores 0 0 header_magic line word found (subst By (subst At same (steps_on-same i steps)) stored) in
       (same, here.0, here.1, here.2)
   | inr differs ↦
-      let By : List Step → Type 0 = λ these. IsStoredBy these line word found in
+      let By : List LineStep → Type 0 = λ these. IsStoredBy these line word found in
       absurd (subst By (steps_on-other i 0 (durable_store 0 0 header_magic) differs) stored)
 ]
 
@@ -311,7 +311,7 @@ format_always page entries parts page_ok entries_ok blank room =
     (always_by_fronts row_after P last (run row_after first parts) (λ count few.
     while_magic page entries (run row_after first parts) page_ok entries_ok (filled page entries parts blank room) count)))
 
-pub format_moments : (page entries : ℕ) {old new : List History} → IsPageSize page → IsEntryCount entries → RowTells old IsBlankRow → RowTells old (HasRoom page entries) → DidSomeRow (format_steps version_1 page entries) old new
+pub format_moments : (page entries : ℕ) {old new : List PartHistory} → IsPageSize page → IsEntryCount entries → RowTells old IsBlankRow → RowTells old (HasRoom page entries) → DidSomeRow (format_steps version_1 page entries) old new
     → EachRowMoment (InEachRowImage (IsBlankOrFormatted version_1 page entries)) old new
 format_moments page entries {old} page_ok entries_ok blank room did =
     let P : List Part → Type 0 = InEachRowImage (IsBlankOrFormatted version_1 page entries) in
@@ -323,7 +323,7 @@ format_moments page entries {old} page_ok entries_ok blank room did =
 
 -- ---- after all steps
 
-quiet_fields : (page entries : ℕ) (part : Part) → IsQuiet part → IsQuiet (after_steps (field_steps version_1 page entries) part)
+quiet_fields : (page entries : ℕ) (part : Part) → IsQuietPart part → IsQuietPart (after_steps (field_steps version_1 page entries) part)
 unfolding field_steps
 quiet_fields page entries part quiet = record {
   lines = λ i. elim (cases_eq i 0) [
@@ -346,10 +346,10 @@ part_after page entries i parts =
     ∙ ap (λ steps. after_steps steps part) (steps_on-append i (filling page entries) last)
     ∙ after_steps-append (steps_on i (filling page entries)) (steps_on i last) part
 
-quiet_filled : (page entries i : ℕ) (part : Part) → IsQuiet part → IsQuiet (after_steps (steps_on i (filling page entries)) part)
+quiet_filled : (page entries i : ℕ) (part : Part) → IsQuietPart part → IsQuietPart (after_steps (steps_on i (filling page entries)) part)
 unfolding run
 quiet_filled page entries i part quiet =
-    let At : List Step → Type 0 = λ steps. IsQuiet (after_steps steps part) in
+    let At : List LineStep → Type 0 = λ steps. IsQuietPart (after_steps steps part) in
     elim (cases_eq i 0) [
       | inl first ↦
           let Here : ℕ → Type 0 = λ j. steps_on j (filling page entries) ≡ field_steps version_1 page entries in
@@ -363,11 +363,11 @@ quiet_filled page entries i part quiet =
       ]
     ]
 
-quiet_magic : (i : ℕ) (part : Part) → IsQuiet part → IsQuiet (after_steps (steps_on i (on_part 0 (durable_store 0 0 header_magic))) part)
+quiet_magic : (i : ℕ) (part : Part) → IsQuietPart part → IsQuietPart (after_steps (steps_on i (on_part 0 (durable_store 0 0 header_magic))) part)
 unfolding run
 quiet_magic i part quiet =
     let steps = durable_store 0 0 header_magic in
-    let At : List Step → Type 0 = λ these. IsQuiet (after_steps these part) in
+    let At : List LineStep → Type 0 = λ these. IsQuietPart (after_steps these part) in
     elim (cases_eq i 0) [
       | inl first ↦
           let Here : ℕ → Type 0 = λ j. steps_on i (on_part j steps) ≡ steps in
@@ -389,12 +389,12 @@ magic_is page entries parts image room is =
     let magic = durable_store 0 0 header_magic in
     let before = after_steps (steps_on 0 (filling page entries)) (slice_index_or parts 0 []) in
     let long : 0 < length before = omega (arith, room.has 0 (omega arith), length-after_steps (steps_on 0 (filling page entries)) (slice_index_or parts 0 [])) in
-    let At : List Step → Type 0 = λ steps. slice_index_or (run row_after (format_steps version_1 page entries) parts) 0 [] ≡ after_steps steps before in
-    let At_part : Part → Type 0 = λ part. IsImage part (image 0) in
+    let At : List LineStep → Type 0 = λ steps. slice_index_or (run row_after (format_steps version_1 page entries) parts) 0 [] ≡ after_steps steps before in
+    let At_part : Part → Type 0 = λ part. IsPartImage part (image 0) in
     let at = subst At_part (subst At (steps_on-same 0 magic) (part_after page entries 0 parts)) (is.each 0) in
     quiet_image (after_steps magic before) (image 0) 0 0 (line_settled 0 0 header_magic before) at
     ∙ word_of-after_steps magic before 0 0 (magic_inside (length before) long)
-    ∙ magic_overlay (word_of before 0 0)
+    ∙ magic_overlay (part_word before 0 0)
 
 -- not blank
 is_formatted : (page entries : ℕ) (image : Image) → image 0 0 0 ≡ header_magic → IsBlankOrFormatted version_1 page entries image → HasEmptyLog version_1 page entries [] 0 image
@@ -407,7 +407,7 @@ at_rest page entries parts page_ok entries_ok blank room =
     record {
       quiet = record {
         each = λ i.
-            subst IsQuiet (sym (part_after page entries i parts))
+            subst IsQuietPart (sym (part_after page entries i parts))
             (quiet_magic i (after_steps (steps_on i (filling page entries)) (slice_index_or parts i [])) (quiet_filled page entries i (slice_index_or parts i []) (blank.quiet.each i)));
       };
       empty = λ image is.
@@ -416,7 +416,7 @@ at_rest page entries parts page_ok entries_ok blank room =
     }
 
 -- After all steps the region is formatted.
-pub format_tells : (page entries : ℕ) {old new : List History} → IsPageSize page → IsEntryCount entries → RowTells old IsBlankRow → RowTells old (HasRoom page entries) → DidRow (format_steps version_1 page entries) old new → RowTells new (IsAtRest version_1 page entries [] 0)
+pub format_tells : (page entries : ℕ) {old new : List PartHistory} → IsPageSize page → IsEntryCount entries → RowTells old IsBlankRow → RowTells old (HasRoom page entries) → DidRow (format_steps version_1 page entries) old new → RowTells new (IsAtRest version_1 page entries [] 0)
 format_tells page entries {old} page_ok entries_ok blank room did =
     row_tells_did (λ parts. IsBlankRow parts × HasRoom page entries parts) (IsAtRest version_1 page entries [] 0)
     (row_tells_both old IsBlankRow (HasRoom page entries) blank room)
@@ -424,7 +424,7 @@ format_tells page entries {old} page_ok entries_ok blank room did =
     did
 
 -- What formatting did, whichever answer came, to a vector of parts that was lent as a slice.
-pub format_changed : {X : Type 0} (history : X → History) (room : X → Room) (device : X → ℕ) (page entries : ℕ) (parts now new : List X) (len : ℕ) → now ≡ parts → length parts ≡ len → length new ≡ length now → IsPageSize page → IsEntryCount entries → RowTells (map history parts) IsBlankRow → RowTells (map history parts) (HasRoom page entries)
+pub format_changed : {X : Type 0} (history : X → PartHistory) (room : X → Room) (device : X → ℕ) (page entries : ℕ) (parts now new : List X) (len : ℕ) → now ≡ parts → length parts ≡ len → length new ≡ length now → IsPageSize page → IsEntryCount entries → RowTells (map history parts) IsBlankRow → RowTells (map history parts) (HasRoom page entries)
     → DidSomeRow (format_steps version_1 page entries) (map history now) (map history new) → map (λ part. (room part).lines) new ≡ map (λ part. (room part).lines) now → map device new ≡ map device now
     → AreChangedBy history room device (format_steps version_1 page entries) (IsBlankOrFormatted version_1 page entries) parts (take len (new ++ drop (length new) parts))
 format_changed history room device page entries parts now new len same long still page_ok entries_ok blank has did lines devices =

@@ -7,7 +7,7 @@ use Rattle.nv_pmem.specs.Moments.{Tells}
 use Rattle.nv_pmem.specs.Part.{Part}
 use Rattle.nv_pmem.specs.Room.{Room, Keeps, Takes, Frees, Settles}
 use Rattle.nv_pmem.specs.Rows.{RowTells}
-use Rattle.nv_pmem.specs.Steps.{History}
+use Rattle.nv_pmem.specs.Steps.{PartHistory}
 use Rattle.nv_pmem.proofs.StepLaws.{tells_told}
 use Rattle.nv_pmem.proofs.RowLaws.{EachPart, row_tells_each, row_tells_more}
 use Rattle.nv_header.specs.Regions.{part_lines, IsRoomy, StaysRoomy, HasParts}
@@ -68,8 +68,8 @@ has_parts_set room layout page entries parts i was new d inside is stays has =
 pub record HaveLines (layout : Layout) (page entries : ℕ) (parts : List Part) : Type 0 where
   pub has : (i : ℕ) → i ≤ entries → part_lines layout page i ≤ length (slice_index_or parts i [])
 
-told_lines_at : {X : Type 0} (history : X → History) (room : X → Room) (layout : Layout) (page entries : ℕ) (parts : List X) (i : ℕ) (was : X)
-    → ((part : X) (now : Part) (past : History) → history part ≡ now ∷ past → length now ≡ (room part).lines)
+told_lines_at : {X : Type 0} (history : X → PartHistory) (room : X → Room) (layout : Layout) (page entries : ℕ) (parts : List X) (i : ℕ) (was : X)
+    → ((part : X) (now : Part) (past : PartHistory) → history part ≡ now ∷ past → length now ≡ (room part).lines)
     → HasParts layout page entries (map room parts) → i < length parts → was ≡ get_or parts i was → Tells (slice_index_or (map history parts) i []) (λ now. i ≤ entries → part_lines layout page i ≤ length now)
 told_lines_at history room layout page entries parts i was told has inside is =
     tells_told (slice_index_or (map history parts) i []) (λ now. i ≤ entries → part_lines layout page i ≤ length now) (λ now past now_is within.
@@ -77,8 +77,8 @@ told_lines_at history room layout page entries parts i was told has inside is =
     omega (arith, roomy.there, told was now past (ap history is ∙ sym (get_or-map history parts i was [] inside) ∙ now_is)))
 
 -- where the parts tell, they have their lines
-pub told_room : {X : Type 0} (history : X → History) (room : X → Room) (layout : Layout) (page entries : ℕ) (parts : List X)
-    → ((part : X) (now : Part) (past : History) → history part ≡ now ∷ past → length now ≡ (room part).lines)
+pub told_room : {X : Type 0} (history : X → PartHistory) (room : X → Room) (layout : Layout) (page entries : ℕ) (parts : List X)
+    → ((part : X) (now : Part) (past : PartHistory) → history part ≡ now ∷ past → length now ≡ (room part).lines)
     → HasParts layout page entries (map room parts) → RowTells (map history parts) (HaveLines layout page entries)
 told_room history room layout page entries [] told has = absurd (omega (arith, has.count))
 told_room history room layout page entries (first ∷ rest) told has =

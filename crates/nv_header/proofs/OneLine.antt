@@ -4,20 +4,20 @@ use Rattle.std.proofs.lemmas.List.{take_all, length-replicate}
 use Rattle.std.specs.Int.{to_le_bytes, w64}
 use Rattle.nv_plain.specs.Files.{padded}
 use Rattle.nv_plain.specs.Layouts.{version_1}
-use Rattle.nv_pmem.specs.Steps.{Step, Flush, Fence, line_stores, durable_store}
+use Rattle.nv_pmem.specs.Steps.{LineStep, Flush, Fence, line_stores, durable_store}
 use Rattle.nv_header.specs.Heads.{record_line}
 use Rattle.nv_header.specs.HeaderSteps.{name_record, record_part, record_steps, add_file_steps}
 
 -- a line is stored, flushed and fenced
-unfoldable pub line_steps : (line : ℕ) → List ℕ → List Step
+unfoldable pub line_steps : (line : ℕ) → List ℕ → List LineStep
 line_steps line bytes = line_stores line bytes ++ Flush line ∷ Fence ∷ []
 
 -- the record of name i is
-unfoldable pub one_record_steps : (i : ℕ) → List ℕ → List Step
+unfoldable pub one_record_steps : (i : ℕ) → List ℕ → List LineStep
 one_record_steps i name = line_steps (record_line version_1 i) (name_record version_1 name)
 
 -- and then the count
-unfoldable pub one_add_steps : (i : ℕ) → List ℕ → List Step
+unfoldable pub one_add_steps : (i : ℕ) → List ℕ → List LineStep
 one_add_steps i name = one_record_steps i name ++ durable_store 0 4 (i + 1)
 
 pub length-padded : (bytes : List ℕ) (size : ℕ) → length bytes ≤ size → length (padded bytes size) ≡ size

@@ -13,8 +13,8 @@ use Rattle.nv_plain.specs.Images.{header_of, name_of}
 use Rattle.nv_plain.specs.Layouts.{version_1}
 use Rattle.nv_plain.specs.Names.{is_name}
 use Rattle.nv_pmem.specs.Moments.{Tells}
-use Rattle.nv_pmem.specs.Part.{word_of}
-use Rattle.nv_pmem.specs.Steps.{History}
+use Rattle.nv_pmem.specs.Part.{part_word}
+use Rattle.nv_pmem.specs.Steps.{PartHistory}
 use Rattle.nv_header.specs.Heads.{first_names, header_image, is_record, length_of, room_of_name}
 use Rattle.nv_header.specs.NextName.{IsNextName, AreNames}
 use Rattle.nv_header.specs.Refusals.{IsBadName}
@@ -22,10 +22,10 @@ use Rattle.nv_pmem.proofs.Ranges.{flat_map-same, word_put}
 use borrow.Rule.Slice.PartMut.{put_mid}
 
 -- one word more of a record
-pub told_word_put : (history : History) (line count value : ℕ) (bytes copy : List ℕ) (size : ℕ) → 8 * count ≤ length bytes → copy ≡ to_le_bytes w64 value → Tells history (λ now. take (8 * count) bytes ≡ flat_map (λ k. to_le_bytes w64 (word_of now line k)) (range_with_len 1 count)) → Tells history (λ now. value ≡ word_of now line (1 + count)) → Tells history (λ now. take (8 * (count + 1)) (put_mid (8 * count) size bytes copy) ≡ flat_map (λ k. to_le_bytes w64 (word_of now line k)) (range_with_len 1 (count + 1)))
+pub told_word_put : (history : PartHistory) (line count value : ℕ) (bytes copy : List ℕ) (size : ℕ) → 8 * count ≤ length bytes → copy ≡ to_le_bytes w64 value → Tells history (λ now. take (8 * count) bytes ≡ flat_map (λ k. to_le_bytes w64 (part_word now line k)) (range_with_len 1 count)) → Tells history (λ now. value ≡ part_word now line (1 + count)) → Tells history (λ now. take (8 * (count + 1)) (put_mid (8 * count) size bytes copy) ≡ flat_map (λ k. to_le_bytes w64 (part_word now line k)) (range_with_len 1 (count + 1)))
 told_word_put [] line count value bytes copy size fits is before loaded = tt
 told_word_put (now ∷ past) line count value bytes copy size fits is before loaded =
-    word_put (word_of now line) 1 count value bytes copy size fits is loaded before
+    word_put (part_word now line) 1 count value bytes copy size fits is loaded before
 
 -- a record's bytes, in a layout of one line a record
 room-words : (words : ℕ → ℕ → ℕ) (i line : ℕ) → line ≡ 2 + i → flat_map (λ k. to_le_bytes w64 (words line k)) (range_with_len 1 7) ≡ flat_map (λ k. to_le_bytes w64 (words (2 + i * 1 + k / 8) (k % 8))) (range_with_len 1 7)
@@ -37,18 +37,18 @@ room-words words i line line_is =
     ap (λ n. to_le_bytes w64 (words n k)) here ∙ ap (λ n. to_le_bytes w64 (words (2 + i * 1 + k / 8) n)) word)
 
 -- all words of a record are loaded
-pub told_room : (history : History) (i line count : ℕ) (room : List ℕ) → line ≡ 2 + i → count ≡ 7 → length room ≡ 56 → Tells history (λ now. take (8 * count) room ≡ flat_map (λ k. to_le_bytes w64 (word_of now line k)) (range_with_len 1 count)) → Tells history (λ now. room ≡ room_of_name version_1 (header_image now) i)
+pub told_room : (history : PartHistory) (i line count : ℕ) (room : List ℕ) → line ≡ 2 + i → count ≡ 7 → length room ≡ 56 → Tells history (λ now. take (8 * count) room ≡ flat_map (λ k. to_le_bytes w64 (part_word now line k)) (range_with_len 1 count)) → Tells history (λ now. room ≡ room_of_name version_1 (header_image now) i)
 told_room [] i line count room line_is count_is size loaded = tt
 told_room (now ∷ past) i line count room line_is count_is size loaded =
-    let Loaded : ℕ → Type 0 = λ n. take (8 * n) room ≡ flat_map (λ k. to_le_bytes w64 (word_of now line k)) (range_with_len 1 n) in
-    sym (take_all 56 room (omega arith)) ∙ subst Loaded count_is loaded ∙ room-words (word_of now) i line line_is
+    let Loaded : ℕ → Type 0 = λ n. take (8 * n) room ≡ flat_map (λ k. to_le_bytes w64 (part_word now line k)) (range_with_len 1 n) in
+    sym (take_all 56 room (omega arith)) ∙ subst Loaded count_is loaded ∙ room-words (part_word now) i line line_is
 
 -- the length stands in front
-pub told_length : (history : History) (i line length : ℕ) → line ≡ 2 + i → Tells history (λ now. length ≡ word_of now line 0) → Tells history (λ now. length ≡ length_of version_1 (header_image now) i)
+pub told_length : (history : PartHistory) (i line length : ℕ) → line ≡ 2 + i → Tells history (λ now. length ≡ part_word now line 0) → Tells history (λ now. length ≡ length_of version_1 (header_image now) i)
 told_length [] i line length line_is loaded = tt
 told_length (now ∷ past) i line length line_is loaded =
     let here : line ≡ 2 + i * 1 = omega arith in
-    loaded ∙ ap (λ n. word_of now n 0) here
+    loaded ∙ ap (λ n. part_word now n 0) here
 
 -- ---- a name among those before it
 
@@ -82,7 +82,7 @@ known_is_old f count name known new =
 -- ---- the next name
 
 -- a record as it is loaded
-pub record IsLoaded (history : History) (i length : ℕ) (room : List ℕ) : Type 0 where
+pub record IsLoaded (history : PartHistory) (i length : ℕ) (room : List ℕ) : Type 0 where
   pub length_is : Tells history (λ now. length ≡ length_of version_1 (header_image now) i)
   pub room_is : Tells history (λ now. room ≡ room_of_name version_1 (header_image now) i)
 
@@ -92,7 +92,7 @@ same_record length at room bytes length_is room_is = ap (λ n. is_record 56 n ro
 same_name : (length at : ℕ) (room bytes name : List ℕ) → length ≡ at → room ≡ bytes → name ≡ take length room → name ≡ take at bytes
 same_name length at room bytes name length_is room_is is = is ∙ ap (λ n. take n room) length_is ∙ ap (take at) room_is
 
-pub next_good : (history : History) (earlier : List (List ℕ)) (i length : ℕ) (room name : List ℕ) → IsLoaded history i length room → is_record 56 length room ≡ true → name ≡ take length room → list_any (λ known. pointwise nat_eq known name) earlier ≡ false → Tells history (λ now. IsNextName version_1 (header_image now) earlier i (Some name))
+pub next_good : (history : PartHistory) (earlier : List (List ℕ)) (i length : ℕ) (room name : List ℕ) → IsLoaded history i length room → is_record 56 length room ≡ true → name ≡ take length room → list_any (λ known. pointwise nat_eq known name) earlier ≡ false → Tells history (λ now. IsNextName version_1 (header_image now) earlier i (Some name))
 unfolding first_names
 next_good [] earlier i length room name loaded good is unknown = tt
 next_good (now ∷ past) earlier i length room name loaded good is unknown = λ earlier_is.
@@ -107,13 +107,13 @@ next_good (now ∷ past) earlier i length room name loaded good is unknown = λ 
       name_is,
     )
 
-pub next_bad : (history : History) (earlier : List (List ℕ)) (i length : ℕ) (room : List ℕ) → IsLoaded history i length room → is_record 56 length room ≡ false → Tells history (λ now. IsNextName version_1 (header_image now) earlier i None)
+pub next_bad : (history : PartHistory) (earlier : List (List ℕ)) (i length : ℕ) (room : List ℕ) → IsLoaded history i length room → is_record 56 length room ≡ false → Tells history (λ now. IsNextName version_1 (header_image now) earlier i None)
 next_bad [] earlier i length room loaded bad = tt
 next_bad (now ∷ past) earlier i length room loaded bad = λ earlier_is good.
     let never : false ≡ true = sym bad ∙ same_record length _ room _ loaded.length_is loaded.room_is ∙ good.whole in
     cc
 
-pub next_known : (history : History) (earlier : List (List ℕ)) (i length : ℕ) (room name : List ℕ) → IsLoaded history i length room → name ≡ take length room → list_any (λ known. pointwise nat_eq known name) earlier ≡ true → Tells history (λ now. IsNextName version_1 (header_image now) earlier i None)
+pub next_known : (history : PartHistory) (earlier : List (List ℕ)) (i length : ℕ) (room name : List ℕ) → IsLoaded history i length room → name ≡ take length room → list_any (λ known. pointwise nat_eq known name) earlier ≡ true → Tells history (λ now. IsNextName version_1 (header_image now) earlier i None)
 unfolding first_names
 next_known [] earlier i length room name loaded is known = tt
 next_known (now ∷ past) earlier i length room name loaded is known = λ earlier_is good.
@@ -130,12 +130,12 @@ record_allowed length room name good is =
 
 -- ---- the names so far
 
-pub no_names : (history : History) → Tells history (λ now. AreNames version_1 (header_image now) 0 [])
+pub no_names : (history : PartHistory) → Tells history (λ now. AreNames version_1 (header_image now) 0 [])
 unfolding first_names
 no_names [] = tt
 no_names (now ∷ past) = record { good = λ i below. absurd (omega arith); same = refl }
 
-pub names_more : (history : History) (names : List (List ℕ)) (i : ℕ) (name : List ℕ) → Tells history (λ now. AreNames version_1 (header_image now) i names) → Tells history (λ now. IsNextName version_1 (header_image now) names i (Some name)) → Tells history (λ now. AreNames version_1 (header_image now) (i + 1) (names ++ name ∷ []))
+pub names_more : (history : PartHistory) (names : List (List ℕ)) (i : ℕ) (name : List ℕ) → Tells history (λ now. AreNames version_1 (header_image now) i names) → Tells history (λ now. IsNextName version_1 (header_image now) names i (Some name)) → Tells history (λ now. AreNames version_1 (header_image now) (i + 1) (names ++ name ∷ []))
 unfolding first_names
 names_more [] names i name before next = tt
 names_more (now ∷ past) names i name before next =
@@ -149,6 +149,6 @@ names_more (now ∷ past) names i name before next =
           ∙ sym (map-range_with_len_more (name_of version_1 image) 0 i i (zero-add i));
     }
 
-pub name_refused : (history : History) (names : List (List ℕ)) (count i : ℕ) → i < count → Tells history (λ now. AreNames version_1 (header_image now) i names) → Tells history (λ now. IsNextName version_1 (header_image now) names i None) → Tells history (λ now. count ≡ (header_of (header_image now)).files → IsBadName version_1 (header_image now) i)
+pub name_refused : (history : PartHistory) (names : List (List ℕ)) (count i : ℕ) → i < count → Tells history (λ now. AreNames version_1 (header_image now) i names) → Tells history (λ now. IsNextName version_1 (header_image now) names i None) → Tells history (λ now. count ≡ (header_of (header_image now)).files → IsBadName version_1 (header_image now) i)
 name_refused [] names count i below before next = tt
 name_refused (now ∷ past) names count i below before next = λ all. record { inside = omega (arith, all, below); before = before.good; bad = next before.same }

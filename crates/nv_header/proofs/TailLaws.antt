@@ -1,7 +1,7 @@
 -- The steps that move the tail.
 use Rattle.std.proofs.Common.{[], ◌∷◌, take, inl, inr, refl}
 use Rattle.nv_pmem.specs.Runs.{run, grown}
-use Rattle.nv_pmem.specs.Steps.{after_step, durable_store}
+use Rattle.nv_pmem.specs.Steps.{after_line_step, durable_store}
 use Rattle.nv_pmem.proofs.DurableLaws.{durable_value, quiet_settled}
 use Rattle.nv_pmem.proofs.ImageLaws.{image_comes_from}
 use Rattle.nv_pmem.proofs.RowLaws.{stored_by-take}
@@ -30,7 +30,7 @@ tail_is_old_or_new tail count part image is =
 pub tail_is_moved : TailIsMoved
 unfolding run durable_store
 tail_is_moved tail part inside =
-    durable_value 1 0 tail {old = part ∷ []} {new = run (grown after_step) (durable_store 1 0 tail) (part ∷ [])} inside (record { states = refl })
+    durable_value 1 0 tail {old = part ∷ []} {new = run (grown after_line_step) (durable_store 1 0 tail) (part ∷ [])} inside (record { states = refl })
 
 pub tail_ends_quiet : TailEndsQuiet
 tail_ends_quiet tail part quiet = quiet_settled 1 0 tail part quiet

@@ -3,12 +3,12 @@ use Rattle.std.specs.Prelude.{◌≡◌, ℕ, List, Vec, Result, Ok, Err, map}
 use Rattle.nv_plain.specs.Images.{Image}
 use Rattle.nv_pmem.specs.Room.{Room}
 use Rattle.nv_pmem.specs.Rows.{RowStep, DidSomeRow, InEachRowImage, EachRowMoment}
-use Rattle.nv_pmem.specs.Steps.{History}
+use Rattle.nv_pmem.specs.Steps.{PartHistory}
 use Rattle.nv_header.specs.declared.region.Region.{Region}
 
 -- The parts are the same devices in the same order, with as many lines. Of these device calls the first so many were made, and
 -- at each moment every image had this property.
-pub record AreChangedBy {X : Type 0} (history : X → History) (room : X → Room) (device : X → ℕ) (steps : List RowStep) (P : Image → Type 0) (old new : List X) : Type 0 where
+pub record AreChangedBy {X : Type 0} (history : X → PartHistory) (room : X → Room) (device : X → ℕ) (steps : List RowStep) (P : Image → Type 0) (old new : List X) : Type 0 where
   pub begun : DidSomeRow steps (map history old) (map history new)
   pub moments : EachRowMoment (InEachRowImage P) (map history old) (map history new)
   pub lines : map (λ part. (room part).lines) new ≡ map (λ part. (room part).lines) old

@@ -6,11 +6,11 @@ use Rattle.nv_plain.specs.Files.{padded}
 use Rattle.nv_plain.specs.Images.{header_magic}
 use Rattle.nv_plain.specs.Layouts.{Layout}
 use Rattle.nv_pmem.specs.Rows.{RowStep, on_part}
-use Rattle.nv_pmem.specs.Steps.{Step, Store, Flush, Fence, line_stores, durable_store}
+use Rattle.nv_pmem.specs.Steps.{LineStep, StoreWord, Flush, Fence, line_stores, durable_store}
 use Rattle.nv_header.specs.Heads.{record_line}
 
 -- the tail is stored and made durable
-abbrev pub tail_steps : ℕ → List Step
+abbrev pub tail_steps : ℕ → List LineStep
 tail_steps tail = durable_store 1 0 tail
 
 -- the commit word of each entry is cleared, part by part
@@ -18,12 +18,12 @@ unfoldable pub clear_steps : (entries : ℕ) → List RowStep
 clear_steps entries = flat_map (λ i. on_part i (durable_store 0 0 0)) (range_with_len 1 entries)
 
 -- the fields of a header of this version with no file and tail 0, durable before the magic is stored
-unfoldable pub field_steps : Layout → (page entries : ℕ) → List Step
+unfoldable pub field_steps : Layout → (page entries : ℕ) → List LineStep
 field_steps layout page entries =
-    Store 0 1 layout.version ∷ Store 0 2 page ∷ Store 0 3 entries ∷ Store 0 4 0 ∷ Store 1 0 0 ∷ Flush 0 ∷ Flush 1 ∷ Fence ∷ []
+    StoreWord 0 1 layout.version ∷ StoreWord 0 2 page ∷ StoreWord 0 3 entries ∷ StoreWord 0 4 0 ∷ StoreWord 1 0 0 ∷ Flush 0 ∷ Flush 1 ∷ Fence ∷ []
 
 -- the fields, and then the magic by itself
-unfoldable pub blank_header_steps : Layout → (page entries : ℕ) → List Step
+unfoldable pub blank_header_steps : Layout → (page entries : ℕ) → List LineStep
 blank_header_steps layout page entries = field_steps layout page entries ++ durable_store 0 0 header_magic
 
 -- A blank region is formatted: the entries first, and then the header.
@@ -39,7 +39,7 @@ abbrev pub record_part : Layout → List ℕ → ℕ → List ℕ
 record_part layout name k = take 64 (drop (64 * k) (name_record layout name))
 
 -- The record of name i is made durable: each of its lines is stored and flushed, and a fence comes last.
-unfoldable pub record_steps : Layout → (i : ℕ) → List ℕ → List Step
+unfoldable pub record_steps : Layout → (i : ℕ) → List ℕ → List LineStep
 record_steps layout i name =
     flat_map
     (λ k. line_stores (record_line layout i + k) (record_part layout name k) ++ Flush (record_line layout i + k) ∷ [])
@@ -47,5 +47,5 @@ record_steps layout i name =
     ++ Fence ∷ []
 
 -- A name is added as name i: its record first, and then the count of the names.
-unfoldable pub add_file_steps : Layout → (i : ℕ) → List ℕ → List Step
+unfoldable pub add_file_steps : Layout → (i : ℕ) → List ℕ → List LineStep
 add_file_steps layout i name = record_steps layout i name ++ durable_store 0 4 (i + 1)

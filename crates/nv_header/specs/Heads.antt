@@ -6,13 +6,13 @@ use Rattle.nv_plain.specs.Images.{Image, Header, header_magic, header_of, name_o
 use Rattle.nv_plain.specs.Layouts.{Layout}
 use Rattle.nv_plain.specs.Names.{is_name}
 use Rattle.nv_pmem.specs.Limits.{IsPageSize, IsEntryCount}
-use Rattle.nv_pmem.specs.Part.{Part, word_of}
+use Rattle.nv_pmem.specs.Part.{Part, part_word}
 use Rattle.nv_header.specs.FileNames.{AreFileNames}
 use Rattle.nv_header.specs.declared.head.Head.{Head}
 
 -- An image whose part 0 reads as this part does. The header and the names stand in part 0, and no other part is looked at.
 abbrev pub header_image : Part → Image
-header_image now part = word_of now
+header_image now part = part_word now
 
 -- the first line of name i's record
 abbrev pub record_line : Layout → ℕ → ℕ
@@ -66,6 +66,6 @@ pub record IsHeadOf (layout : Layout) (lines : ℕ) (image : Image) (head : Head
   pub tail : head.tail ≡ (header_of image).tail
 
 -- A head is within the limits of its layout: whoever uses its names finds each of them allowed, and no two the same.
-pub record IsWithinLimits (layout : Layout) (head : Head) : Type 0 where
+pub record HeadIsWithinLimits (layout : Layout) (head : Head) : Type 0 where
   pub names : AreFileNames layout head.names
   pub tail : head.tail ≤ 2 ^ 60

@@ -4,11 +4,11 @@ use Rattle.nv_plain.specs.Files.{Files}
 use Rattle.nv_plain.specs.Images.{Image}
 use Rattle.nv_plain.specs.Layouts.{Layout}
 use Rattle.nv_plain.specs.Recovered.{IsBlank, recovered, region_files}
-use Rattle.nv_pmem.specs.Images.{InEachImage, IsOldOrStored, IsQuiet}
+use Rattle.nv_pmem.specs.Images.{InEachPartImage, IsOldOrStored, IsQuietPart}
 use Rattle.nv_pmem.specs.Part.{Part}
 use Rattle.nv_pmem.specs.Room.{Room}
 use Rattle.nv_pmem.specs.Runs.{run}
-use Rattle.nv_pmem.specs.Steps.{after_step}
+use Rattle.nv_pmem.specs.Steps.{after_line_step}
 use Rattle.nv_header.specs.HeaderSteps.{tail_steps}
 use Rattle.nv_header.specs.Needs.{HasLines}
 use Rattle.nv_header.specs.Regions.{HasParts, HasEmptyLog}
@@ -45,18 +45,18 @@ LinesMakeParts =
 
 -- the header's part after the first so many steps that move the tail
 abbrev pub after_some_tail : (tail steps : ℕ) → Part → Part
-after_some_tail tail steps part = run after_step (take steps (tail_steps tail)) part
+after_some_tail tail steps part = run after_line_step (take steps (tail_steps tail)) part
 
 -- After each step the tail is as it was or the new one, and all other words are as they were.
 abbrev pub TailIsOldOrNew : Type 0
 TailIsOldOrNew =
-    (tail steps : ℕ) (part : Part) → InEachImage (IsOldOrStored part 1 0 tail) (after_some_tail tail steps part)
+    (tail steps : ℕ) (part : Part) → InEachPartImage (IsOldOrStored part 1 0 tail) (after_some_tail tail steps part)
 
 -- After the last it is the new one,
 abbrev pub TailIsMoved : Type 0
 TailIsMoved =
-    (tail : ℕ) (part : Part) → 1 < length part → InEachImage (λ image. image 1 0 ≡ tail) (run after_step (tail_steps tail) part)
+    (tail : ℕ) (part : Part) → 1 < length part → InEachPartImage (λ image. image 1 0 ≡ tail) (run after_line_step (tail_steps tail) part)
 
 -- and a quiet part is quiet again.
 abbrev pub TailEndsQuiet : Type 0
-TailEndsQuiet = (tail : ℕ) (part : Part) → IsQuiet part → IsQuiet (run after_step (tail_steps tail) part)
+TailEndsQuiet = (tail : ℕ) (part : Part) → IsQuietPart part → IsQuietPart (run after_line_step (tail_steps tail) part)

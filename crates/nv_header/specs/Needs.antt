@@ -3,10 +3,10 @@ use Rattle.std.specs.Prelude.{ℕ, ◌+◌, ◌*◌, ◌≤◌, min, List, [], �
 use Rattle.nv_plain.specs.Layouts.{Layout}
 use Rattle.nv_pmem.specs.Limits.{entry_lines}
 use Rattle.nv_pmem.specs.Room.{Room}
-use Rattle.nv_pmem.specs.Steps.{History}
+use Rattle.nv_pmem.specs.Steps.{PartHistory}
 
 -- what the header's part tells; nothing, where there is no part
-abbrev pub header_history : List History → History
+abbrev pub header_history : List PartHistory → PartHistory
 header_history [] = []
 header_history (history ∷ others) = history
 

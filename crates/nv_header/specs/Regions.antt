@@ -10,7 +10,7 @@ use Rattle.nv_pmem.specs.Limits.{entry_lines}
 use Rattle.nv_pmem.specs.Part.{Part}
 use Rattle.nv_pmem.specs.Room.{Room}
 use Rattle.nv_pmem.specs.Rows.{RowTells, AreQuiet, InEachRowImage}
-use Rattle.nv_pmem.specs.Steps.{History}
+use Rattle.nv_pmem.specs.Steps.{PartHistory}
 use Rattle.nv_header.specs.FileNames.{AreFileNames}
 use Rattle.nv_header.specs.Heads.{IsHead, first_names}
 
@@ -73,7 +73,7 @@ pub record IsAtRest (layout : Layout) (page entries : ℕ) (names : List (List �
   pub empty : InEachRowImage (HasEmptyLog layout page entries names next) parts
 
 -- The parts of a region with these names, whose log is empty and goes on with this number.
-pub record IsRegion (layout : Layout) (page entries : ℕ) (names : List (List ℕ)) (next : ℕ) (rooms : List Room) (row : List History) : Type 0 where
+pub record IsRegion (layout : Layout) (page entries : ℕ) (names : List (List ℕ)) (next : ℕ) (rooms : List Room) (row : List PartHistory) : Type 0 where
   pub parts : HasParts layout page entries rooms
   pub names_are : AreFileNames layout names
   pub number : next ≤ 2 ^ 60
@@ -84,10 +84,10 @@ pub record IsRegion (layout : Layout) (page entries : ℕ) (names : List (List �
 names_prop : (names others : List (List ℕ)) → IsProp (names ≡ others)
 names_prop names others = Coded-set (coded_list (coded_list coded_ℕ)) names others
 
-RowTells-prop : (row : List History) (P : List Part → Type 0) → ((parts : List Part) → IsProp (P parts)) → IsProp (RowTells row P)
+RowTells-prop : (row : List PartHistory) (P : List Part → Type 0) → ((parts : List Part) → IsProp (P parts)) → IsProp (RowTells row P)
 RowTells-prop [] P each = each []
 RowTells-prop ([] ∷ row) P each = Unit-prop
 RowTells-prop ((now ∷ past) ∷ row) P each = RowTells-prop row (λ parts. P (now ∷ parts)) (λ parts. each (now ∷ parts))
 
-pub IsRegion-prop : (layout : Layout) (page entries : ℕ) (names : List (List ℕ)) (next : ℕ) (rooms : List Room) (row : List History) → IsProp (IsRegion layout page entries names next rooms row)
+pub IsRegion-prop : (layout : Layout) (page entries : ℕ) (names : List (List ℕ)) (next : ℕ) (rooms : List Room) (row : List PartHistory) → IsProp (IsRegion layout page entries names next rooms row)
 IsRegion-prop layout page entries names next rooms row = hlevel (props, IsQuietLine-prop, names_prop, RowTells-prop)

@@ -1,8 +1,9 @@
+//! Names are added to a region's header.
 ghost use Rattle.std.specs.Prelude.{◌≡◌, ℕ, ◌<◌, ◌≤◌, [], ◌∷◌, ◌++◌, length, slice_index_or, map, sum_by, IfOk, IfErr, OnOk};
 ghost use Rattle.nv_plain.specs.Faults.{HasCause};
 ghost use Rattle.nv_plain.specs.Layouts.{version_1};
 ghost use Rattle.nv_pmem.specs.Rows.{on_part, DidRow, DidSomeRow};
-ghost use Rattle.nv_pmem.specs.Steps.{Flush, Fence, Did, DidSome, line_stores};
+ghost use Rattle.nv_pmem.specs.Steps.{Flush, Fence, DidLineStep, DidSome, line_stores};
 ghost use Rattle.nv_pmem.specs.Room.{Room};
 ghost use Rattle.nv_header.specs.Additions.{CanAdd, IsNotAdded, IsUnwritten, AddHasCause, HasNamesOrOneMore};
 ghost use Rattle.nv_header.specs.Changes.{AreChangedBy, parts_after_adding};
@@ -135,7 +136,7 @@ fn store_name<L: Lines>(header: &mut L, index: u64, name: &[u8]) -> Result<(), R
     requires index { index < version_1.file_limit }
     requires size { length name.now ≤ version_1.name_limit }
     ensures begun { DidSome (add_file_steps version_1 index name.now) (L.history header.old) (L.history header.new) }
-    ensures done { OnOk result (Did (add_file_steps version_1 index name.now) (L.history header.old) (L.history header.new)) }
+    ensures done { OnOk result (DidLineStep (add_file_steps version_1 index name.now) (L.history header.old) (L.history header.new)) }
     ensures room { OnOk result (StaysRoomy (L.room header.old) (L.room header.new)) }
     ensures lines { (L.room header.new).lines ≡ (L.room header.old).lines }
     ensures cause { HasCause (L.fault_count header.old) (L.fault_count header.new) result }
@@ -152,7 +153,7 @@ fn store_record<L: Lines>(header: &mut L, line: u64, name: &[u8]) -> Result<(), 
     requires spare { 8 ≤ (L.room header.old).spare line }
     requires size { length name.now ≤ version_1.name_limit }
     ensures begun { DidSome (line_stores line (name_record version_1 name.now) ++ Flush line ∷ Fence ∷ []) (L.history header.old) (L.history header.new) }
-    ensures done { OnOk result (Did (line_stores line (name_record version_1 name.now) ++ Flush line ∷ Fence ∷ []) (L.history header.old) (L.history header.new)) }
+    ensures done { OnOk result (DidLineStep (line_stores line (name_record version_1 name.now) ++ Flush line ∷ Fence ∷ []) (L.history header.old) (L.history header.new)) }
     ensures room { OnOk result (StaysRoomy (L.room header.old) (L.room header.new)) }
     ensures lines { (L.room header.new).lines ≡ (L.room header.old).lines }
     ensures cause { HasCause (L.fault_count header.old) (L.fault_count header.new) result }

@@ -1,8 +1,9 @@
+//! The formatting of a blank region.
 ghost use Rattle.std.specs.Prelude.{◌≡◌, ◌<◌, ◌≤◌, [], map, sum_by, IfOk, OnOk};
 ghost use Rattle.nv_plain.specs.Faults.{HasCause};
 ghost use Rattle.nv_plain.specs.Layouts.{version_1};
 ghost use Rattle.nv_pmem.specs.Rows.{DidRow, DidSomeRow, RowTells};
-ghost use Rattle.nv_pmem.specs.Steps.{Did, DidSome};
+ghost use Rattle.nv_pmem.specs.Steps.{DidLineStep, DidSome};
 ghost use Rattle.nv_header.specs.HeaderSteps.{clear_steps, field_steps, blank_header_steps, format_steps};
 ghost use Rattle.nv_header.specs.Changes.{AreChangedBy, parts_after_format};
 ghost use Rattle.nv_header.specs.Regions.{HasParts, IsRoomy, IsBlankRow, IsBlankOrFormatted, StaysRoomy};
@@ -82,7 +83,7 @@ fn clear_commit_words<L: Lines>(parts: &mut [L], geometry: Geometry) -> Result<(
 fn write_header<L: Lines>(header: &mut L, geometry: Geometry) -> Result<(), RegionFault>
     requires room { IsRoomy version_1.header_lines (L.room header.old) }
     ensures begun { DidSome (blank_header_steps version_1 geometry.page geometry.entries) (L.history header.old) (L.history header.new) }
-    ensures done { OnOk result (Did (blank_header_steps version_1 geometry.page geometry.entries) (L.history header.old) (L.history header.new)) }
+    ensures done { OnOk result (DidLineStep (blank_header_steps version_1 geometry.page geometry.entries) (L.history header.old) (L.history header.new)) }
     ensures room { OnOk result (StaysRoomy (L.room header.old) (L.room header.new)) }
     ensures lines { (L.room header.new).lines ≡ (L.room header.old).lines }
     ensures cause { HasCause (L.fault_count header.old) (L.fault_count header.new) result }
@@ -97,7 +98,7 @@ fn write_header<L: Lines>(header: &mut L, geometry: Geometry) -> Result<(), Regi
 fn write_fields<L: Lines>(header: &mut L, geometry: Geometry) -> Result<(), RegionFault>
     requires room { IsRoomy version_1.header_lines (L.room header.old) }
     ensures begun { DidSome (field_steps version_1 geometry.page geometry.entries) (L.history header.old) (L.history header.new) }
-    ensures done { OnOk result (Did (field_steps version_1 geometry.page geometry.entries) (L.history header.old) (L.history header.new)) }
+    ensures done { OnOk result (DidLineStep (field_steps version_1 geometry.page geometry.entries) (L.history header.old) (L.history header.new)) }
     ensures room { OnOk result (StaysRoomy (L.room header.old) (L.room header.new)) }
     ensures lines { (L.room header.new).lines ≡ (L.room header.old).lines }
     ensures cause { HasCause (L.fault_count header.old) (L.fault_count header.new) result }

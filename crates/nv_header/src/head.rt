@@ -1,3 +1,4 @@
+//! What a header says, and why it is refused.
 use crate::Names;
 use nv_plain::NoMemory;
 use nv_pmem::{BadGeometry, Geometry, GeometryField, RegionFault};

@@ -1,3 +1,4 @@
+//! Laws of headers.
 ghost use Rattle.nv_header.specs.Laws.{StandsForItsStores, EmptyLogRecoversNothing, LinesMakeParts, TailIsOldOrNew, TailIsMoved, TailEndsQuiet};
 ghost use Rattle.nv_header.specs.Refusals.{ReadIsNotRefused, IsRefusedOnce};
 

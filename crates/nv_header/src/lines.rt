@@ -1,3 +1,4 @@
+//! Whether the parts of a region have the lines that they need.
 ghost use Rattle.std.specs.Prelude.{◌≡◌, ◌*◌, ◌≤◌, ◌↔◌, length, map, min, sum_by, IfErr, IsOk};
 ghost use Rattle.nv_pmem.specs.Limits.{entry_lines as needed};
 ghost use Rattle.nv_plain.specs.Layouts.{version_1};

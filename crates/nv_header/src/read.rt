@@ -1,3 +1,4 @@
+//! The reading of a header.
 ghost use Rattle.std.specs.Prelude.{◌≡◌, ◌<◌, ◌≤◌, ◌==◌, true, length, map, sum_by, Ok, Err, IfOk, IfErr, IfSome};
 ghost use Rattle.nv_plain.specs.Faults.{HasCause};
 ghost use Rattle.nv_plain.specs.Images.{header_of};
@@ -6,7 +7,7 @@ ghost use Rattle.nv_pmem.specs.Moments.{Tells};
 ghost use Rattle.nv_pmem.specs.Room.{Keeps};
 ghost use Rattle.nv_pmem.specs.Rows.{AreOnlyRead};
 ghost use Rattle.nv_header.specs.FileNames.{AreFileNames, IsNewName};
-ghost use Rattle.nv_header.specs.Heads.{IsHeadOf, IsWithinLimits, header_image};
+ghost use Rattle.nv_header.specs.Heads.{IsHeadOf, HeadIsWithinLimits, header_image};
 ghost use Rattle.nv_header.specs.Needs.{header_history, header_lines_in};
 ghost use Rattle.nv_header.specs.NextName.{IsNextName, AreNames, IsNameRefusal};
 ghost use Rattle.nv_header.specs.Refusals.{IsRefused, IsNotTruncated, HeadHasCause};
@@ -54,7 +55,7 @@ fn is_blank_part<L: Lines>(part: &mut L) -> Result<bool, RegionFault>
 pub fn read_head<L: Lines>(alloc: Global, parts: &mut [L]) -> Result<Head, HeadError>
     ensures head { IfOk result (λ head. Tells (header_history (map L.history parts.old)) (λ now.
         IsHeadOf version_1 (header_lines_in (map L.room parts.old)) (header_image now) head)) }
-    ensures limits { IfOk result (λ head. IsWithinLimits version_1 head) }
+    ensures limits { IfOk result (λ head. HeadIsWithinLimits version_1 head) }
     ensures refused { IfErr result (λ e. Tells (header_history (map L.history parts.old)) (λ now.
         IsRefused version_1 (header_lines_in (map L.room parts.old)) (header_image now) e)) }
     ensures truncated { header_lines_in (map L.room parts.old) < version_1.header_lines →
@@ -76,7 +77,7 @@ pub fn read_head<L: Lines>(alloc: Global, parts: &mut [L]) -> Result<Head, HeadE
 fn read_part<L: Lines>(alloc: Global, part: &mut L) -> Result<Head, HeadError>
     ensures head { IfOk result (λ head. Tells (L.history part.old) (λ now.
         IsHeadOf version_1 (L.room part.old).lines (header_image now) head)) }
-    ensures limits { IfOk result (λ head. IsWithinLimits version_1 head) }
+    ensures limits { IfOk result (λ head. HeadIsWithinLimits version_1 head) }
     ensures refused { IfErr result (λ e. Tells (L.history part.old) (λ now.
         IsRefused version_1 (L.room part.old).lines (header_image now) e)) }
     ensures truncated { (L.room part.old).lines < version_1.header_lines →

@@ -1,3 +1,4 @@
+//! A name's record in the header.
 ghost use Rattle.std.specs.Prelude.{◌≡◌, ◌≤◌, ◌<◌, ◌==◌, take, true, false, IfOk, IfNone, IfSome};
 ghost use Rattle.std.specs.List.{list_all};
 ghost use Rattle.nv_plain.specs.Faults.{HasCause};

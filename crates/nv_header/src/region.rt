@@ -1,3 +1,4 @@
+//! A region whose log is empty.
 ghost use Rattle.std.specs.Prelude.{map};
 ghost use Rattle.nv_plain.specs.Layouts.{version_1};
 ghost use Rattle.nv_header.specs.Regions.{IsRegion, IsRegion-prop};

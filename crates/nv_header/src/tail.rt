@@ -1,10 +1,11 @@
+//! The move of the header's tail.
 ghost use Rattle.std.specs.Prelude.{◌≡◌, ◌≤◌, OnOk};
 ghost use Rattle.nv_plain.specs.Faults.{HasCause};
 ghost use Rattle.nv_plain.specs.Layouts.{version_1};
-ghost use Rattle.nv_pmem.specs.Images.{InEachImage, IsOldOrStored, IsQuiet};
+ghost use Rattle.nv_pmem.specs.Images.{InEachPartImage, IsOldOrStored, IsQuietPart};
 ghost use Rattle.nv_pmem.specs.Moments.{Tells, EachMoment};
 ghost use Rattle.nv_pmem.specs.Room.{Takes, Settles};
-ghost use Rattle.nv_pmem.specs.Steps.{Did, DidSome};
+ghost use Rattle.nv_pmem.specs.Steps.{DidLineStep, DidSome};
 ghost use Rattle.nv_header.specs.HeaderSteps.{tail_steps};
 
 use nv_pmem::{Lines, RegionFault, store_durably};
@@ -18,12 +19,12 @@ pub fn move_tail<L: Lines>(header: &mut L, tail: u64) -> Result<(), RegionFault>
 
     // The stores, flushes and fences are these, in this order. A load is in no history: a test counts all calls.
     ensures begun { DidSome (tail_steps tail) (L.history header.old) (L.history header.new) }
-    ensures done { OnOk result (Did (tail_steps tail) (L.history header.old) (L.history header.new)) }
+    ensures done { OnOk result (DidLineStep (tail_steps tail) (L.history header.old) (L.history header.new)) }
 
     ensures moments { Tells (L.history header.old) (λ was.
-        EachMoment (InEachImage (IsOldOrStored was 1 0 tail)) (L.history header.old) (L.history header.new)) }
-    ensures moved { OnOk result (Tells (L.history header.new) (InEachImage (λ image. image 1 0 ≡ tail))) }
-    ensures quiet { OnOk result (Tells (L.history header.old) IsQuiet → Tells (L.history header.new) IsQuiet) }
+        EachMoment (InEachPartImage (IsOldOrStored was 1 0 tail)) (L.history header.old) (L.history header.new)) }
+    ensures moved { OnOk result (Tells (L.history header.new) (InEachPartImage (λ image. image 1 0 ≡ tail))) }
+    ensures quiet { OnOk result (Tells (L.history header.old) IsQuietPart → Tells (L.history header.new) IsQuietPart) }
 
     ensures room { Takes 1 1 (L.room header.old) (L.room header.new) }
     ensures settled { OnOk result (Settles 1 (L.room header.old) (L.room header.new)) }

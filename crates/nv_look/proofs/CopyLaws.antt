@@ -4,8 +4,8 @@ use Rattle.std.proofs.lemmas.List.Elements.{All-nil, All-cons}
 use Rattle.nv_pmem.specs.RowStates.{AreNow}
 use Rattle.nv_pmem.specs.Rows.{RowTells}
 use Rattle.nv_store.proofs.StoreLaws.{quiet_is_quiet}
-use Rattle.nv_store.specs.Store.{IsQuiet, Store, quiet_store}
-use Rattle.nv_store.specs.Steps.{History}
+use Rattle.nv_store.specs.Store.{IsQuietStore, Store, quiet_store}
+use Rattle.nv_store.specs.Steps.{StoreHistory}
 use Rattle.nv_recover.specs.Standing.{AreQuietStores}
 
 abbrev pub Held : Type 0
@@ -15,7 +15,7 @@ Held = Vec ℕ Global
 abbrev pub copy_of : Held → Store
 copy_of bytes = quiet_store bytes.items
 
-abbrev pub copied : Held → History
+abbrev pub copied : Held → StoreHistory
 copied bytes = quiet_store bytes.items ∷ []
 
 pub copies_now : (held : List Held) → AreNow (map copied held) (map copy_of held)
@@ -23,8 +23,8 @@ copies_now [] = tt
 copies_now (bytes ∷ rest) = (record { past = []; is = refl }, copies_now rest)
 
 quiet_copies : (held : List Held) → AreQuietStores (map copy_of held)
-quiet_copies [] = All-nil IsQuiet
-quiet_copies (bytes ∷ rest) = All-cons IsQuiet (copy_of bytes) (map copy_of rest) (quiet_is_quiet bytes.items) (quiet_copies rest)
+quiet_copies [] = All-nil IsQuietStore
+quiet_copies (bytes ∷ rest) = All-cons IsQuietStore (copy_of bytes) (map copy_of rest) (quiet_is_quiet bytes.items) (quiet_copies rest)
 
 tells_copies : (held : List Held) (P : List Store → Type 0) → P (map copy_of held) → RowTells (map copied held) P
 tells_copies [] P is = is

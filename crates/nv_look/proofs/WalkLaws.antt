@@ -10,7 +10,7 @@ use Rattle.nv_entry.specs.declared.bounds.Bounds.{Bounds}
 use Rattle.nv_recover.specs.Finding.{commits_at}
 use Rattle.nv_recover.proofs.Finding.{range_more, filter_more}
 use Rattle.nv_look.specs.Listings.{IsListing, IsRow, group_bytes}
-use Rattle.nv_look.specs.Walks.{HasListed, IsWhole}
+use Rattle.nv_look.specs.Walks.{HasListed, IsWholeWalk}
 use Rattle.nv_look.specs.declared.listing.Row.{Row}
 
 -- ---- what is listed
@@ -80,7 +80,7 @@ summed_none image leader = record {
   few = omega arith;
 }
 
-pub summed_more : (image : Image) (bounds : Bounds) (leader count number len size next : ℕ) → next ≡ min (len + size) (2 ^ 64 - 1) → SaysBounds bounds image → IsWhole image leader count → leader ≤ number → number < leader + count
+pub summed_more : (image : Image) (bounds : Bounds) (leader count number len size next : ℕ) → next ≡ min (len + size) (2 ^ 64 - 1) → SaysBounds bounds image → IsWholeWalk image leader count → leader ≤ number → number < leader + count
     → size ≡ (entry_at image number).size → HasSummed image leader number len → HasSummed image leader (number + 1) next
 summed_more image bounds leader count number len size next sum says whole from below is so_far =
     let small : (entry_at image number).size ≤ (header_of image).page = let p = (whole.0.pieces number (record { first = from; last = omega (arith, below, whole.1) })).in_page in omega (arith, p) in
@@ -98,7 +98,7 @@ summed_more image bounds leader count number len size next sum says whole from b
       few = omega (arith, exact, so_far.few, small, page, is, from);
     }
 
-pub summed_all : (image : Image) (leader count number len : ℕ) → IsWhole image leader count → leader + count ≤ number → number ≤ leader + count → HasSummed image leader number len → len ≡ group_bytes image leader
+pub summed_all : (image : Image) (leader count number len : ℕ) → IsWholeWalk image leader count → leader + count ≤ number → number ≤ leader + count → HasSummed image leader number len → len ≡ group_bytes image leader
 summed_all image leader count number len whole low high so_far =
     let all : number - leader ≡ count = omega arith in
     so_far.is ∙ ap (λ count. sum_by (λ n. (entry_at image n).size) (range_with_len leader count)) (all ∙ whole.1)

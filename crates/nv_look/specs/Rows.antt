@@ -4,17 +4,17 @@ use Rattle.nv_look.specs.declared.listing.Row.{Row}
 use Rattle.nv_look.specs.declared.listing.Row.TheVariants.{Group, Bad}
 
 -- the first number of a row, and the one behind it: a group has all its numbers, a bad number stands by itself
-abbrev pub start_of : Row → ℕ
-start_of (Group leader count file at len) = leader
-start_of (Bad number) = number
+abbrev pub row_start : Row → ℕ
+row_start (Group leader count file at len) = leader
+row_start (Bad number) = number
 
-abbrev pub end_of : Row → ℕ
-end_of (Group leader count file at len) = leader + count
-end_of (Bad number) = number + 1
+abbrev pub row_end : Row → ℕ
+row_end (Group leader count file at len) = leader + count
+row_end (Bad number) = number + 1
 
 -- no row of a log ends past this
 abbrev pub IsInRange : Row → Type 0
-IsInRange row = end_of row ≤ 2 ^ 61
+IsInRange row = row_end row ≤ 2 ^ 61
 
 abbrev pub AreInRange : List Row → Type 0
 AreInRange rows = All IsInRange rows

@@ -6,13 +6,13 @@ use Rattle.nv_header.specs.declared.head.Head.{Head}
 use Rattle.nv_trace.specs.Report.{line_text, file_text}
 use Rattle.nv_plain.specs.Images.{Image}
 use Rattle.nv_look.specs.Listings.{IsListing}
-use Rattle.nv_look.specs.Rows.{start_of, end_of}
+use Rattle.nv_look.specs.Rows.{row_start, row_end}
 use Rattle.nv_look.specs.declared.listing.Row.{Row}
 use Rattle.nv_look.specs.declared.listing.Row.TheVariants.{Group, Bad}
 
 -- `region VERSION PAGE N FILES TAIL`
-abbrev pub region_text : Head → List ℕ
-region_text head =
+abbrev pub walk_region_text : Head → List ℕ
+walk_region_text head =
     line_text (codes "region" ∷ decimal version_1.version ∷ decimal head.geometry.page ∷ decimal head.geometry.entries ∷ decimal (length head.names) ∷ decimal head.tail ∷ [])
 
 -- `name I NAME`
@@ -36,7 +36,7 @@ hole_text from to = if nat_lt from to then line_text (codes "hole" ∷ decimal f
 -- the rows from a number on, and between them the numbers that are in none
 abbrev pub log_text : (from : ℕ) → List Row → List ℕ
 log_text from [] = []
-log_text from (row ∷ rest) = hole_text from (start_of row) ++ (row_text row ++ log_text (end_of row) rest)
+log_text from (row ∷ rest) = hole_text from (row_start row) ++ (row_text row ++ log_text (row_end row) rest)
 
 -- the lines of files with their names
 abbrev pub files_text : List (List ℕ) → List (List ℕ) → List ℕ
@@ -55,13 +55,13 @@ abbrev pub bad_in : List Row → ℕ
 bad_in rows = length rows - groups_in rows
 
 -- `end GROUPS BAD`
-abbrev pub end_text : List Row → List ℕ
-end_text rows = line_text (codes "end" ∷ decimal (groups_in rows) ∷ decimal (bad_in rows) ∷ [])
+abbrev pub walk_end_text : List Row → List ℕ
+walk_end_text rows = line_text (codes "end" ∷ decimal (groups_in rows) ∷ decimal (bad_in rows) ∷ [])
 
 -- What is shown of a region whose header says this and whose log is listed so, with these files.
 unfoldable pub look_text : Head → List Row → (files : List (List ℕ)) → List ℕ
 look_text head rows files =
-    region_text head ++ (names_text 0 head.names ++ (log_text head.tail rows ++ (files_text head.names files ++ end_text rows)))
+    walk_region_text head ++ (names_text 0 head.names ++ (log_text head.tail rows ++ (files_text head.names files ++ walk_end_text rows)))
 
 -- The text shows the region that the image is, with these files.
 pub record IsLookText (head : Head) (image : Image) (files : List (List ℕ)) (text : List ℕ) : Type 0 where

@@ -14,5 +14,5 @@ pub record HasListed (image : Image) (tail number : ℕ) (rows : List Row) : Typ
   pub listed : AllZip (IsRow image) (filter (commits_at image) (range_with_len tail (number - tail))) rows
 
 -- a number leads a whole group of so many entries
-abbrev pub IsWhole : Image → (leader count : ℕ) → Type 0
-IsWhole image leader count = IsGroup version_1 image leader × (count ≡ (entry_at image leader).count)
+abbrev pub IsWholeWalk : Image → (leader count : ℕ) → Type 0
+IsWholeWalk image leader count = IsGroup version_1 image leader × (count ≡ (entry_at image leader).count)

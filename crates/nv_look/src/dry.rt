@@ -8,7 +8,7 @@ ghost use Rattle.nv_pmem.specs.Rows.{RowTells, AreOnlyRead, row_words};
 ghost use Rattle.nv_store.specs.MemStore.{store_history};
 ghost use Rattle.nv_store.specs.Store.{Store, quiet_store};
 ghost use Rattle.nv_entry.specs.Checks.{SaysBounds};
-ghost use Rattle.nv_header.specs.Heads.{IsHeadOf, IsWithinLimits, header_image};
+ghost use Rattle.nv_header.specs.Heads.{IsHeadOf, HeadIsWithinLimits, header_image};
 ghost use Rattle.nv_header.specs.Needs.{header_history};
 ghost use Rattle.nv_header.specs.Regions.{HasParts};
 ghost use Rattle.nv_recover.specs.Applying.{AcrossTells};
@@ -35,7 +35,7 @@ pub fn dry_files<L: Lines, B: Backing>(
     parts: &mut [L],
     stores: &mut [B],
 ) -> Result<PlainFiles, RecoverError>
-    requires limits { IsWithinLimits version_1 head.now }
+    requires limits { HeadIsWithinLimits version_1 head.now }
     requires head { Tells (header_history (map L.history parts.old)) (λ now.
         IsHeadOf version_1 version_1.header_lines (header_image now) head.now) }
     requires parts { HasParts version_1 head.now.geometry.page head.now.geometry.entries (map L.room parts.old) }

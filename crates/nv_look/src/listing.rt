@@ -5,8 +5,8 @@ ghost use Rattle.nv_pmem.specs.Rows.{RowTells, AreOnlyRead, row_words};
 ghost use Rattle.nv_entry.specs.Checks.{SaysBounds};
 ghost use Rattle.nv_look.specs.Causes.{HasLookCause};
 ghost use Rattle.nv_look.specs.Listings.{IsListing, IsRow, group_bytes};
-ghost use Rattle.nv_look.specs.Rows.{AreInRange, IsInRange, end_of, start_of};
-ghost use Rattle.nv_look.specs.Walks.{HasListed, IsWhole};
+ghost use Rattle.nv_look.specs.Rows.{AreInRange, IsInRange, row_end, row_start};
+ghost use Rattle.nv_look.specs.Walks.{HasListed, IsWholeWalk};
 
 use crate::LookError;
 use nv_entry::{Bounds, GroupCheck, PieceHead, check_group, read_entry};
@@ -52,7 +52,7 @@ impl Model for Listing {
 impl Row {
     /// The first number of the row.
     pub(crate) fn start(&self) -> u64
-        ensures { result ≡ start_of self.now }
+        ensures { result ≡ row_start self.now }
     {
         match self {
             Row::Group { leader, .. } => *leader,
@@ -63,7 +63,7 @@ impl Row {
     /// The number behind its last one: a group has all its numbers, a bad number stands by itself.
     pub(crate) fn end(&self) -> u64
         requires { IsInRange self.now }
-        ensures { result ≡ end_of self.now }
+        ensures { result ≡ row_end self.now }
     {
         match self {
             Row::Group { leader, count, .. } => *leader + *count,
@@ -159,7 +159,7 @@ fn group_at<L: Lines>(
     requires lines { All (λ part. 1 ≤ (L.room part).lines) (take bounds.now.entries (drop 1 parts.old)) }
     requires header { RowTells (map L.history parts.old) (λ told. SaysBounds bounds.now (row_words told)) }
     requires few { leader + count ≤ 2 ^ 60 }
-    requires whole { RowTells (map L.history parts.old) (λ told. IsWhole (row_words told) leader count) }
+    requires whole { RowTells (map L.history parts.old) (λ told. IsWholeWalk (row_words told) leader count) }
     ensures row { IfOk result (λ row. RowTells (map L.history parts.old) (λ told. IsRow (row_words told) leader row)) }
     ensures range { IfOk result IsInRange }
     ensures read { AreOnlyRead L.history L.room L.device parts.old parts.new }
@@ -187,7 +187,7 @@ fn group_len<L: Lines>(
     requires lines { All (λ part. 1 ≤ (L.room part).lines) (take bounds.now.entries (drop 1 parts.old)) }
     requires header { RowTells (map L.history parts.old) (λ told. SaysBounds bounds.now (row_words told)) }
     requires few { leader + count ≤ 2 ^ 60 }
-    requires whole { RowTells (map L.history parts.old) (λ told. IsWhole (row_words told) leader count) }
+    requires whole { RowTells (map L.history parts.old) (λ told. IsWholeWalk (row_words told) leader count) }
     ensures len { IfOk result (λ len. RowTells (map L.history parts.old) (λ told. len ≡ group_bytes (row_words told) leader)) }
     ensures read { AreOnlyRead L.history L.room L.device parts.old parts.new }
     ensures cause { HasCause (sum_by L.fault_count parts.old) (sum_by L.fault_count parts.new) result }

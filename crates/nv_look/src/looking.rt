@@ -1,3 +1,4 @@
+//! A look at a region, whole.
 ghost use Rattle.std.specs.Prelude.{◌≡◌, ℕ, List, [], length, map, sum_by, Err, IfOk, OnOk};
 ghost use Rattle.nv_plain.specs.Layouts.{version_1};
 ghost use Rattle.nv_plain.specs.Recovered.{Fits, recovered};
@@ -5,7 +6,7 @@ ghost use Rattle.nv_pmem.specs.Moments.{Tells};
 ghost use Rattle.nv_pmem.specs.RowStates.{AreNow};
 ghost use Rattle.nv_pmem.specs.Rows.{RowTells, AreOnlyRead, row_words};
 ghost use Rattle.nv_store.specs.Store.{Store};
-ghost use Rattle.nv_header.specs.Heads.{IsHeadOf, IsWithinLimits, header_image};
+ghost use Rattle.nv_header.specs.Heads.{IsHeadOf, HeadIsWithinLimits, header_image};
 ghost use Rattle.nv_header.specs.Needs.{header_history};
 ghost use Rattle.nv_header.specs.Regions.{HasParts};
 ghost use Rattle.nv_recover.specs.Causes.{HasRegionCause, HasStoreCause};
@@ -28,7 +29,7 @@ use std::alloc::Global;
 /// each hole, a longest run of numbers from the tail on, below the last committed one, that are in none of them; and how many groups
 /// there are, good and bad. `head` is what `read_head` gave of the parts, which have the lines that it needs. They are only read.
 pub fn look<L: Lines>(alloc: Global, head: &Head, parts: &mut [L]) -> Result<Text, LookError>
-    requires limits { IsWithinLimits version_1 head.now }
+    requires limits { HeadIsWithinLimits version_1 head.now }
     requires head { Tells (header_history (map L.history parts.old)) (λ now.
         IsHeadOf version_1 version_1.header_lines (header_image now) head.now) }
     requires parts { HasParts version_1 head.now.geometry.page head.now.geometry.entries (map L.room parts.old) }
@@ -48,7 +49,7 @@ pub fn look_files<L: Lines, B: Backing>(
     parts: &mut [L],
     stores: &mut [B],
 ) -> Result<Text, RecoverError>
-    requires limits { IsWithinLimits version_1 head.now }
+    requires limits { HeadIsWithinLimits version_1 head.now }
     requires head { Tells (header_history (map L.history parts.old)) (λ now.
         IsHeadOf version_1 version_1.header_lines (header_image now) head.now) }
     requires parts { HasParts version_1 head.now.geometry.page head.now.geometry.entries (map L.room parts.old) }
@@ -73,7 +74,7 @@ pub fn look_files<L: Lines, B: Backing>(
 
 // Lists the log of a region whose header says this.
 fn list_region<L: Lines>(alloc: Global, head: &Head, parts: &mut [L]) -> Result<Listing, LookError>
-    requires limits { IsWithinLimits version_1 head.now }
+    requires limits { HeadIsWithinLimits version_1 head.now }
     requires head { Tells (header_history (map L.history parts.old)) (λ now.
         IsHeadOf version_1 version_1.header_lines (header_image now) head.now) }
     requires parts { HasParts version_1 head.now.geometry.page head.now.geometry.entries (map L.room parts.old) }

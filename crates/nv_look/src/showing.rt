@@ -1,7 +1,7 @@
 //! The text of a region: what its header says, what its log holds, and maybe its files.
 ghost use Rattle.std.specs.Prelude.{◌≡◌, ◌≤◌, ◌++◌, length, IfOk, OnOk};
 ghost use Rattle.nv_look.specs.Rows.{AreInRange};
-ghost use Rattle.nv_look.specs.Texts.{bad_in, end_text, files_text, groups_in, hole_text, log_text, look_text, name_text, names_text, region_text, row_text};
+ghost use Rattle.nv_look.specs.Texts.{bad_in, walk_end_text, files_text, groups_in, hole_text, log_text, look_text, name_text, names_text, walk_region_text, row_text};
 
 use crate::{Listing, Row, Text};
 use nv_header::Head;
@@ -30,7 +30,7 @@ pub fn show(
 }
 
 fn push_region(alloc: Global, text: &mut Vec<u8>, head: &Head) -> Result<(), NoMemory>
-    ensures { OnOk result (text.new.items ≡ text.old.items ++ region_text head.now) }
+    ensures { OnOk result (text.new.items ≡ text.old.items ++ walk_region_text head.now) }
 {
     let geometry = head.geometry;
     let version: u64 = 1;
@@ -124,7 +124,7 @@ fn push_files(
 
 // How many rows are groups, and how many are bad.
 fn push_end(alloc: Global, text: &mut Vec<u8>, rows: &[Row]) -> Result<(), NoMemory>
-    ensures { OnOk result (text.new.items ≡ text.old.items ++ end_text rows.now) }
+    ensures { OnOk result (text.new.items ≡ text.old.items ++ walk_end_text rows.now) }
 {
     let (groups, bad) = count(rows);
     let line = format!(in alloc; "end {groups} {bad}\n")?;

@@ -3,96 +3,96 @@ use Rattle.std.proofs.Common.{◌≡◌, ℕ, List, [], ◌∷◌, inl, refl, sy
 use Rattle.std.specs.Prelude.{Option, Some, None}
 use Rattle.nv_plain.specs.Histories.{Answered}
 use Rattle.nv_plain.specs.declared.call.FileCall.{FileCall}
-use Rattle.nv_core.specs.Core.{values_stepped}
-use Rattle.nv_core.specs.Deeds.{Deed, Places}
-use Rattle.nv_core.specs.Order.{Values, next_step, plain_reply}
-use Rattle.nv_core.specs.Passes.{Pass, Placing}
-use Rattle.nv_core.specs.Stepped.{stepped, left_after, mine_after}
-use Rattle.nv_core.specs.Content.{RunsKeepContent}
-use Rattle.nv_core.specs.Laws.{RunsAreSound}
-use Rattle.nv_core.specs.Opening.{IsMount}
+use Rattle.nv_core.specs.state.Core.{values_stepped}
+use Rattle.nv_core.specs.steps.Ops.{Op, Place}
+use Rattle.nv_core.specs.steps.Order.{Values, next_step, plain_reply}
+use Rattle.nv_core.specs.state.Passes.{Pass, TakePlace}
+use Rattle.nv_core.specs.steps.PassSteps.{stepped, left_after, mine_after}
+use Rattle.nv_core.specs.content.Content.{RunsKeepContent}
+use Rattle.nv_core.specs.invariant.InvariantLaws.{RunsAreSound}
+use Rattle.nv_core.specs.steps.Opening.{IsMount}
 use Rattle.nv_plain.specs.Histories.{GoesOnLegally}
-use Rattle.nv_table.specs.Idle.{IsLater}
-use Rattle.nv_table.specs.Turns.{place_deed}
-use Rattle.nv_table.proofs.TurnDeeds.{placed}
-use Rattle.nv_calls.specs.Answers.{IsUnplaced}
-use Rattle.nv_calls.proofs.DoneLaws.{done_plainly}
-use Rattle.nv_core.specs.Words.{Sizes}
-use Rattle.nv_table.specs.Acts.{MayOpen, with_call}
-use Rattle.nv_table.specs.Opened.{Opened, mount_of, state_of}
-use Rattle.nv_table.specs.Ready.{Stepped}
-use Rattle.nv_table.specs.Sights.{pass_of, values_of, carried, Carries}
-use Rattle.nv_table.specs.States.{PassState}
-use Rattle.nv_table.specs.Turns.{IsDue, reply_at}
-use Rattle.nv_table.proofs.CallLaws.{IsCallFree, stepped_there, later_by, later_on}
-use Rattle.nv_calls.specs.Steps.{refusal_in, refused_by, place_by, either_of}
+use Rattle.nv_table.specs.invariant.Idle.{IsLater}
+use Rattle.nv_table.specs.steps.CallSteps.{place_op}
+use Rattle.nv_table.proofs.steps.CallOps.{placed}
+use Rattle.nv_calls.specs.histories.Answers.{IsUnplaced}
+use Rattle.nv_calls.proofs.histories.DoneLaws.{done_plainly}
+use Rattle.nv_core.specs.state.Words.{Sizes}
+use Rattle.nv_table.specs.steps.SeatSteps.{MayOpen, with_call}
+use Rattle.nv_table.specs.state.Opened.{Opened, mount_of, state_of}
+use Rattle.nv_table.specs.steps.StepContracts.{Postcondition}
+use Rattle.nv_table.specs.state.Views.{pass_of, values_of, still_owned, OwnsSlots}
+use Rattle.nv_table.specs.state.States.{PassState}
+use Rattle.nv_table.specs.steps.CallSteps.{Precondition, reply_at}
+use Rattle.nv_table.proofs.steps.CallLaws.{IsCallFree, stepped_there, later_by, later_on}
+use Rattle.nv_calls.specs.histories.PassSteps.{refusal_in, refused_by, place_by, either_of}
 use Rattle.nv_calls.specs.declared.answers.Refusal.{Refusal}
-use Rattle.nv_calls.proofs.WayLaws.{between_self, taken_by, opened_same}
+use Rattle.nv_calls.proofs.reads.WayLaws.{between_self, taken_by, opened_same}
 use Rattle.nv_mirror.specs.Controls.{Mirror, Told, InCall}
 
 with_left : (sizes : Sizes) (opens : Option FileCall) (pass : Pass) → (with_call sizes opens pass).left ≡ pass.left
 with_left sizes None pass = refl
 with_left sizes (Some call) pass = refl
 
-module _ {State : Type 0} (mirror : Mirror State) (call : FileCall) (opens : Option FileCall) (is : State) (refusal : Option Refusal) (place : Option ℕ) (start now : PassState) (called : InCall mirror call opens is refusal place start now) (deed : Deed) where
+module _ {State : Type 0} (mirror : Mirror State) (call : FileCall) (opens : Option FileCall) (is : State) (refusal : Option Refusal) (place : Option ℕ) (start now : PassState) (called : InCall mirror call opens is refusal place start now) (core_op : Op) where
   abbrev before : Pass
-  before = with_call now.sight.opened.sizes opens (pass_of now.sight)
+  before = with_call now.view.opened.sizes opens (pass_of now.view)
 
   -- the pass is what is at hand
   as_is : mirror.with is before ≡ before
   as_is = subst (λ s. mirror.with s before ≡ before) called.mirrors (mirror.whole before)
 
   -- a step that leaves what cells keep is due where the mirrored state allows it
-  pub mirror_due : MayOpen now.sight.opened.sizes opens (pass_of now.sight) → ((pass : Pass) (kept : Values) → values_stepped now.sight.opened.sizes (mirror.with is pass) deed kept ≡ kept)
-      → ((pass : Pass) → next_step now.sight.opened.sizes (values_of now.sight) (mirror.with is pass) ≡ Some deed) → IsDue now opens deed
+  pub mirror_due : MayOpen now.view.opened.sizes opens (pass_of now.view) → ((pass : Pass) (kept : Values) → values_stepped now.view.opened.sizes (mirror.with is pass) core_op kept ≡ kept)
+      → ((pass : Pass) → next_step now.view.opened.sizes (values_of now.view) (mirror.with is pass) ≡ Some core_op) → Precondition now opens core_op
   mirror_due may_open same next = record {
     works = [];
     due = tt;
     begins = may_open;
-    may = inl (subst (λ p. next_step now.sight.opened.sizes (values_of now.sight) p ≡ Some deed) as_is (next before));
+    may = inl (subst (λ p. next_step now.view.opened.sizes (values_of now.view) p ≡ Some core_op) as_is (next before));
     staying = called.left;
-    holds = subst (λ kept. Carries now.sight.opened.sizes (λ value. value) kept (carried (pass_of now.sight)) now.now)
-        (sym (subst (λ p. values_stepped now.sight.opened.sizes p deed (values_of now.sight) ≡ values_of now.sight) as_is (same before (values_of now.sight))))
+    holds = subst (λ kept. OwnsSlots now.view.opened.sizes (λ value. value) kept (still_owned (pass_of now.view)) now.now)
+        (sym (subst (λ p. values_stepped now.view.opened.sizes p core_op (values_of now.view) ≡ values_of now.view) as_is (same before (values_of now.view))))
         called.still;
   }
 
   -- and the machine goes on with the core
-  pub mirror_on : (opens_then : Option FileCall) (then_is : State) (refusal_then : Option Refusal) (place_then : Option ℕ) (found : ℕ) (new : PassState) (step : Stepped now opens deed found new) → IsCallFree (pass_of now.sight).stage
-      → ((pass : Pass) (number : ℕ) (history : List Answered) → mirror.of (stepped now.sight.opened.sizes number history deed found (mirror.with is pass)) ≡ then_is) → ((pass : Pass) → left_after pass deed ≡ pass.left)
-      → either_of refusal (refused_by now.sight.opened.sizes call step.works deed found) ≡ refusal_then → either_of place (place_by deed found) ≡ place_then
+  pub mirror_on : (opens_then : Option FileCall) (then_is : State) (refusal_then : Option Refusal) (place_then : Option ℕ) (found : ℕ) (new : PassState) (step : Postcondition now opens core_op found new) → IsCallFree (pass_of now.view).control
+      → ((pass : Pass) (number : ℕ) (history : List Answered) → mirror.of (stepped now.view.opened.sizes number history core_op found (mirror.with is pass)) ≡ then_is) → ((pass : Pass) → left_after pass core_op ≡ pass.left)
+      → either_of refusal (refused_by now.view.opened.sizes call step.works core_op found) ≡ refusal_then → either_of place (place_by core_op found) ≡ place_then
       → None ≡ opens_then → Told call place_then start new → InCall mirror call opens_then then_is refusal_then place_then start new
   mirror_on opens_then then_is refusal_then place_then found new step free goes leaves refuses places opened_then told_then = subst (λ opens_then. InCall mirror call opens_then then_is refusal_then place_then start new) opened_then record {
     idle = called.idle;
-    steps = record { opens = opens; works = step.works; deed = deed; found = found } ∷ called.steps;
-    made = (now, called.made, taken_by now now new opens deed found (between_self now) step);
-    refused = subst (λ (o : Opened). refusal_in o.sizes call (record { opens = opens; works = step.works; deed = deed; found = found } ∷ called.steps) ≡ refusal_then) (sym opened)
-        (ap (λ r. either_of r (refused_by now.sight.opened.sizes call step.works deed found)) called.refused ∙ refuses);
-    placed = ap (λ p. either_of p (place_by deed found)) called.placed ∙ places;
-    later = later_on start now new called.later (later_by now new opens deed found step);
+    steps = record { opens = opens; works = step.works; op = core_op; found = found } ∷ called.steps;
+    made = (now, called.made, taken_by now now new opens core_op found (between_self now) step);
+    refused = subst (λ (o : Opened). refusal_in o.sizes call (record { opens = opens; works = step.works; op = core_op; found = found } ∷ called.steps) ≡ refusal_then) (sym opened)
+        (ap (λ r. either_of r (refused_by now.view.opened.sizes call step.works core_op found)) called.refused ∙ refuses);
+    placed = ap (λ p. either_of p (place_by core_op found)) called.placed ∙ places;
+    later = later_on start now new called.later (later_by now new opens core_op found step);
     spare = step.spare ∙ called.spare;
     mount = opened ∙ called.mount;
-    still = step.carries;
-    left = ap (λ (p : Pass). p.left) there ∙ leaves before ∙ with_left now.sight.opened.sizes opens (pass_of now.sight) ∙ called.left;
+    still = step.owns_slots;
+    left = ap (λ (p : Pass). p.left) there ∙ leaves before ∙ with_left now.view.opened.sizes opens (pass_of now.view) ∙ called.left;
     fresh = tt;
     told = told_then;
     mirrors = ap mirror.of there
-        ∙ subst (λ p. mirror.of (stepped now.sight.opened.sizes now.sight.number (state_of now.sight.opened step.steps.run).history deed found p) ≡ then_is) as_is
-        (goes before now.sight.number (state_of now.sight.opened step.steps.run).history);
+        ∙ subst (λ p. mirror.of (stepped now.view.opened.sizes now.view.number (state_of now.view.opened step.steps.run).history core_op found p) ≡ then_is) as_is
+        (goes before now.view.number (state_of now.view.opened step.steps.run).history);
   }
     where
-      opened : new.sight.opened ≡ now.sight.opened
-      opened = opened_same now new opens deed found step
+      opened : new.view.opened ≡ now.view.opened
+      opened = opened_same now new opens core_op found step
 
-      there : pass_of new.sight ≡ stepped now.sight.opened.sizes now.sight.number (state_of now.sight.opened step.steps.run).history deed found before
-      there = stepped_there now new opens deed found free step
+      there : pass_of new.view ≡ stepped now.view.opened.sizes now.view.number (state_of now.view.opened step.steps.run).history core_op found before
+      there = stepped_there now new opens core_op found free step
 
 -- a call that reads no page takes its place with the reply that its ask alone determines
-pub place_plainly : (now : PassState) → (pass_of now.sight).stage ≡ Placing → place_deed now.sight ≡ Places (plain_reply (pass_of now.sight).call)
-place_plainly now at = ap (λ s. Places (reply_at now.sight.opened.sizes (values_of now.sight) (pass_of now.sight) s)) at
+pub place_plainly : (now : PassState) → (pass_of now.view).control ≡ TakePlace → place_op now.view ≡ Place (plain_reply (pass_of now.view).call)
+place_plainly now at = ap (λ s. Place (reply_at now.view.opened.sizes (values_of now.view) (pass_of now.view) s)) at
 
 -- ---- what is told of the history
 
-pub told_same : (call : FileCall) (place : Option ℕ) (start now new : PassState) → (pass_of new.sight).seen ≡ (pass_of now.sight).seen → (pass_of new.sight).mine ≡ (pass_of now.sight).mine
+pub told_same : (call : FileCall) (place : Option ℕ) (start now new : PassState) → (pass_of new.view).seen ≡ (pass_of now.view).seen → (pass_of new.view).mine ≡ (pass_of now.view).mine
     → Told call place start now → Told call place start new
 told_same call None start now new seen mine told = record { seen = seen ∙ told.seen; mine = mine ∙ told.mine }
 told_same call (Some place) start now new seen mine told = (told.0, record { before = told.1.before; begins = told.1.begins; at = told.1.at; seen = seen ∙ told.1.seen; mine = mine ∙ told.1.mine; plain = told.1.plain })
@@ -107,15 +107,15 @@ with_mine sizes (Some call) pass = refl
 
 module _ (call : FileCall) (place : Option ℕ) (start now new : PassState) (told : Told call place start now) where
   -- a step that takes no place leaves it
-  pub told_kept : (opens : Option FileCall) (deed : Deed) (found : ℕ) → (step : Stepped now opens deed found new) → IsCallFree (pass_of now.sight).stage
-      → ((pass : Pass) (number : ℕ) (history : List Answered) → (stepped now.sight.opened.sizes number history deed found pass).seen ≡ pass.seen)
-      → ((pass : Pass) (number : ℕ) → mine_after number pass deed ≡ pass.mine) → Told call place start new
-  told_kept opens deed found step free seen mine =
-      let there = stepped_there now new opens deed found free step in
-      let before = with_call now.sight.opened.sizes opens (pass_of now.sight) in
+  pub told_kept : (opens : Option FileCall) (core_op : Op) (found : ℕ) → (step : Postcondition now opens core_op found new) → IsCallFree (pass_of now.view).control
+      → ((pass : Pass) (number : ℕ) (history : List Answered) → (stepped now.view.opened.sizes number history core_op found pass).seen ≡ pass.seen)
+      → ((pass : Pass) (number : ℕ) → mine_after number pass core_op ≡ pass.mine) → Told call place start new
+  told_kept opens core_op found step free seen mine =
+      let there = stepped_there now new opens core_op found free step in
+      let before = with_call now.view.opened.sizes opens (pass_of now.view) in
       told_same call place start now new
-      (ap (λ (p : Pass). p.seen) there ∙ seen before now.sight.number (state_of now.sight.opened step.steps.run).history ∙ with_seen now.sight.opened.sizes opens (pass_of now.sight))
-      (ap (λ (p : Pass). p.mine) there ∙ mine before now.sight.number ∙ with_mine now.sight.opened.sizes opens (pass_of now.sight)) told
+      (ap (λ (p : Pass). p.seen) there ∙ seen before now.view.number (state_of now.view.opened step.steps.run).history ∙ with_seen now.view.opened.sizes opens (pass_of now.view))
+      (ap (λ (p : Pass). p.mine) there ∙ mine before now.view.number ∙ with_mine now.view.opened.sizes opens (pass_of now.view)) told
 
 -- the laws that the place of a call stands on
 pub record PlaceLaws (opened : Opened) : Type 0 where
@@ -125,7 +125,7 @@ pub record PlaceLaws (opened : Opened) : Type 0 where
   pub mount : IsMount (mount_of opened)
 
 -- and one that takes it
-pub told_placed : (call : FileCall) (start now new : PassState) (found : ℕ) → PlaceLaws now.sight.opened → IsUnplaced start.sight now.sight → IsLater start now → now.sight.opened ≡ start.sight.opened
-    → (pass_of now.sight).call ≡ call → IsCallFree (pass_of now.sight).stage → Stepped now None (place_deed now.sight) found new → Told call (Some found) start new
+pub told_placed : (call : FileCall) (start now new : PassState) (found : ℕ) → PlaceLaws now.view.opened → IsUnplaced start.view now.view → IsLater start now → now.view.opened ≡ start.view.opened
+    → (pass_of now.view).call ≡ call → IsCallFree (pass_of now.view).control → Postcondition now None (place_op now.view) found new → Told call (Some found) start new
 told_placed call start now new found laws told later same makes free step =
     (_, done_plainly start now new call _ found later told makes free step (placed laws.sound now new found laws.mount step) laws.content laws.legally laws.mount same)

@@ -5,5 +5,5 @@ pub mod WorkedLaws
 pub mod WriteLaws
 pub mod PledgeLaws
 pub mod FrontLaws
-pub mod RankLaws
+pub mod MeasureLaws
 pub mod BehindLaws

@@ -1,12 +1,12 @@
 //! The front of a call that has pages: these, LENGTH, SIZE, STOP and ORDER, and the way back where it is refused there.
 ghost use Rattle.std.specs.Prelude.{◌≡◌, ℕ, ◌<◌};
-ghost use Rattle.nv_op.specs.Ops.{deed_of, opened_by};
-ghost use Rattle.nv_table.specs.Idle.{IsIdle};
-ghost use Rattle.nv_table.specs.Ready.{Stepped};
-ghost use Rattle.nv_mirror.specs.declared.front.FrontStage.TheVariants.{Begins};
-ghost use Rattle.nv_table.specs.Keys.{sizes_of};
-ghost use Rattle.nv_table.specs.States.{IsOf, PassState};
-ghost use Rattle.nv_mirror.specs.Fronts.{file_in, size_in, Fits, IsOpen, front_op, front_opens, front_after, refuse, rank, IsUnderWay};
+ghost use Rattle.nv_op.specs.Ops.{core_op_of, opened_by};
+ghost use Rattle.nv_table.specs.invariant.Idle.{IsIdle};
+ghost use Rattle.nv_table.specs.steps.StepContracts.{Postcondition};
+ghost use Rattle.nv_mirror.specs.declared.front.FrontControl.TheVariants as fronts;
+ghost use Rattle.nv_table.specs.state.Keys.{sizes_of};
+ghost use Rattle.nv_table.specs.state.States.{IsOf, PassState};
+ghost use Rattle.nv_mirror.specs.Fronts.{file_in, size_in, Fits, IsOpen, front_op, front_opens, front_after, refuse, front_measure, IsUnderWay};
 
 use nv_calls::Refusal;
 use nv_op::{Asked, Op, Word, perform};
@@ -16,17 +16,17 @@ use nv_table::{Board, Layout, Pass};
 
 /// Where it stands.
 #[derive(Clone, Copy, Debug, PartialEq, Eq)]
-pub enum FrontStage {
-    Begins,
-    Locks,
-    Measures,
-    Sizes,
-    Checks,
-    Orders,
+pub enum FrontControl {
+    Begin,
+    TakePage,
+    LoadLength,
+    TakeSize,
+    LoadStop,
+    LoadOrder,
     /// The front is over: a read goes on with its first page, a write with HEAD.
     Passed,
     /// It gives back what it holds, SIZE first.
-    Leaves { size: bool, refusal: Refusal },
+    GiveBack { size: bool, refusal: Refusal },
     Over(Refusal),
 }
 
@@ -43,13 +43,13 @@ pub struct FrontMachine<'a> {
     pub held: u64,
     pub sized: bool,
     pub length: u64,
-    pub stage: FrontStage,
+    pub control: FrontControl,
 }
 
 impl<'a> FrontMachine<'a> {
     /// A law: one that has made no step may begin on a pass that is between two calls.
     pub fn begins(&self)
-        ensures { (start : PassState) → Fits start.sight.opened.sizes self.now → self.now.stage ≡ Begins → IsIdle start → IsUnderWay self.now start start }
+        ensures { (start : PassState) → Fits start.view.opened.sizes self.now → self.now.control ≡ fronts.Begin → IsIdle start → IsUnderWay self.now start start }
     {
         let _ = self.held;
     }
@@ -81,23 +81,23 @@ impl<'a> FrontMachine<'a> {
     {
         // Only the clause speaks of it.
         let _ = layout;
-        match self.stage {
-            FrontStage::Begins | FrontStage::Locks => Op::Take {
+        match self.control {
+            FrontControl::Begin | FrontControl::TakePage => Op::Take {
                 cell: Word::Page {
                     page: self.first + self.held,
                 },
             },
-            FrontStage::Measures => Op::Load {
+            FrontControl::LoadLength => Op::Load {
                 word: Word::Length { file: self.file() },
             },
-            FrontStage::Sizes => Op::Take {
+            FrontControl::TakeSize => Op::Take {
                 cell: Word::Size { file: self.file() },
             },
-            FrontStage::Checks => Op::Load { word: Word::Stop },
-            FrontStage::Leaves { size: true, .. } => Op::Give {
+            FrontControl::LoadStop => Op::Load { word: Word::Stop },
+            FrontControl::GiveBack { size: true, .. } => Op::Give {
                 cell: Word::Size { file: self.file() },
             },
-            FrontStage::Leaves { .. } => Op::Give {
+            FrontControl::GiveBack { .. } => Op::Give {
                 cell: Word::Page {
                     page: self.first + self.held - 1,
                 },
@@ -110,8 +110,8 @@ impl<'a> FrontMachine<'a> {
     fn opens(self) -> Option<Asked<'a>>
         ensures { result ≡ front_opens self.entry }
     {
-        match self.stage {
-            FrontStage::Begins => Some(self.asked),
+        match self.control {
+            FrontControl::Begin => Some(self.asked),
             _ => None,
         }
     }
@@ -120,14 +120,14 @@ impl<'a> FrontMachine<'a> {
     fn refuse(self, size: bool, held: u64, refusal: Refusal) -> FrontMachine<'a>
         ensures { result ≡ refuse self.entry size held refusal }
     {
-        let stage = if held == 0 && !size {
-            FrontStage::Over(refusal)
+        let control = if held == 0 && !size {
+            FrontControl::Over(refusal)
         } else {
-            FrontStage::Leaves { size, refusal }
+            FrontControl::GiveBack { size, refusal }
         };
         FrontMachine {
             held,
-            stage,
+            control,
             ..self
         }
     }
@@ -137,8 +137,8 @@ impl<'a> FrontMachine<'a> {
         requires { Fits (sizes_of layout) self }
         ensures { result ≡ front_after (sizes_of layout) self.entry found }
     {
-        match self.stage {
-            FrontStage::Begins | FrontStage::Locks => {
+        match self.control {
+            FrontControl::Begin | FrontControl::TakePage => {
                 let page = self.first + self.held;
                 if found != 0 {
                     return self.refuse(
@@ -149,56 +149,56 @@ impl<'a> FrontMachine<'a> {
                         },
                     );
                 }
-                let stage = if page + 1 == self.last {
-                    FrontStage::Measures
+                let control = if page + 1 == self.last {
+                    FrontControl::LoadLength
                 } else {
-                    FrontStage::Locks
+                    FrontControl::TakePage
                 };
                 FrontMachine {
                     held: self.held + 1,
-                    stage,
+                    control,
                     ..self
                 }
             }
-            FrontStage::Measures => {
-                let stage = if self.size() > 0 && found < self.end && !self.sized {
-                    FrontStage::Sizes
+            FrontControl::LoadLength => {
+                let control = if self.size() > 0 && found < self.end && !self.sized {
+                    FrontControl::TakeSize
                 } else {
-                    FrontStage::Checks
+                    FrontControl::LoadStop
                 };
                 FrontMachine {
                     length: found,
-                    stage,
+                    control,
                     ..self
                 }
             }
-            FrontStage::Sizes if found == 0 => FrontMachine {
+            FrontControl::TakeSize if found == 0 => FrontMachine {
                 sized: true,
-                stage: FrontStage::Measures,
+                control: FrontControl::LoadLength,
                 ..self
             },
-            FrontStage::Sizes => self.refuse(
+            FrontControl::TakeSize => self.refuse(
                 false,
                 self.held,
                 Refusal::Busy {
                     cell: layout.size(self.file()),
                 },
             ),
-            FrontStage::Checks if found == 0 => FrontMachine {
-                stage: FrontStage::Orders,
+            FrontControl::LoadStop if found == 0 => FrontMachine {
+                control: FrontControl::LoadOrder,
                 ..self
             },
-            FrontStage::Checks => self.refuse(self.sized, self.held, Refusal::Stopped),
-            FrontStage::Orders if found < 1 << 60 => FrontMachine {
-                stage: FrontStage::Passed,
+            FrontControl::LoadStop => self.refuse(self.sized, self.held, Refusal::Stopped),
+            FrontControl::LoadOrder if found < 1 << 60 => FrontMachine {
+                control: FrontControl::Passed,
                 ..self
             },
-            FrontStage::Orders => self.refuse(self.sized, self.held, Refusal::Spent { found }),
-            FrontStage::Leaves {
+            FrontControl::LoadOrder => self.refuse(self.sized, self.held, Refusal::Spent { found }),
+            FrontControl::GiveBack {
                 size: true,
                 refusal,
             } => self.refuse(false, self.held, refusal),
-            FrontStage::Leaves { refusal, .. } => self.refuse(false, self.held - 1, refusal),
+            FrontControl::GiveBack { refusal, .. } => self.refuse(false, self.held - 1, refusal),
             _ => self,
         }
     }
@@ -206,12 +206,12 @@ impl<'a> FrontMachine<'a> {
     /// Makes the next step.
     pub fn advance<L: Lines, B: Backing>(&mut self, board: &Board<L, B>, pass: &mut Pass<L, B>)
         requires board { IsOf board.now pass.old }
-        requires open { IsOpen self.old.stage }
+        requires open { IsOpen self.old.control }
         requires way { (start : PassState) × IsUnderWay self.old start pass.old }
         ensures board { IsOf board.now pass.new }
-        ensures one { (found : ℕ) × Stepped pass.old (opened_by (front_opens self.old)) (deed_of pass.old.sight (front_op self.old)) found pass.new
-            × (self.new ≡ front_after pass.old.sight.opened.sizes self.old found) }
-        ensures falls { rank self.new < rank self.old }
+        ensures one { (found : ℕ) × Postcondition pass.old (opened_by (front_opens self.old)) (core_op_of pass.old.view (front_op self.old)) found pass.new
+            × (self.new ≡ front_after pass.old.view.opened.sizes self.old found) }
+        ensures falls { front_measure self.new < front_measure self.old }
         ensures way { (start : PassState) → IsUnderWay self.old start pass.old → IsUnderWay self.new start pass.new }
     {
         let layout = board.layout();

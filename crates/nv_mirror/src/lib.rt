@@ -6,6 +6,6 @@ mod front;
 mod fsync;
 mod write;
 
-pub use front::{FrontMachine, FrontStage};
-pub use fsync::{FsyncMachine, FsyncStage};
-pub use write::{PageWrite, Unwritten, WriteStage};
+pub use front::{FrontControl, FrontMachine};
+pub use fsync::{FsyncControl, FsyncMachine};
+pub use write::{PageWrite, Unwritten, WriteControl};

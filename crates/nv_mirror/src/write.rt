@@ -1,10 +1,10 @@
 //! The back of a write of one page: HEAD, TAIL, the draw, its entry, its place, and what it gives back.
 ghost use Rattle.std.specs.Prelude.{◌≡◌, ℕ, None};
-ghost use Rattle.nv_op.specs.Ops.{deed_of};
-ghost use Rattle.nv_table.specs.Keys.{sizes_of};
-ghost use Rattle.nv_table.specs.Ready.{Stepped};
-ghost use Rattle.nv_table.specs.States.{IsOf, PassState};
-ghost use Rattle.nv_mirror.specs.Writes.{GoesOnBehind, PledgeIsDue, PledgeLeadsOn, Fits, IsPlain, IsUnderWay, ending, leaving_at, noted, stage_then, write_op, write_after};
+ghost use Rattle.nv_op.specs.Ops.{core_op_of};
+ghost use Rattle.nv_table.specs.state.Keys.{sizes_of};
+ghost use Rattle.nv_table.specs.steps.StepContracts.{Postcondition};
+ghost use Rattle.nv_table.specs.state.States.{IsOf, PassState};
+ghost use Rattle.nv_mirror.specs.Writes.{GoesOnBehind, PledgeIsDue, PledgeLeadsOn, Fits, IsPlain, IsUnderWay, write_ending, leaving_at, noted, control_then, write_op, write_after};
 
 use nv_core::{runs_are_sound, runs_keep_content};
 use nv_op::{Op, Word, perform};
@@ -15,20 +15,20 @@ use nv_table::{Board, Layout, Pass};
 
 /// Where it stands: what its next step is, or what came of it.
 #[derive(Clone, Copy, Debug, PartialEq, Eq)]
-pub enum WriteStage {
-    Heads,
-    Tails,
-    Draws,
-    Seizes,
+pub enum WriteControl {
+    LoadHead,
+    LoadTail,
+    DrawNumbers,
+    SeizeEntry,
     /// The device calls of its commit, and the page's DIRTY.
-    Pledges,
-    Readies,
-    Places,
-    Grows,
-    Releases,
-    Gives,
+    PledgePage,
+    ReadyEntry,
+    TakePlace,
+    GrowLength,
+    GiveSize,
+    GivePage,
     /// It is refused, and gives back what it holds, SIZE first.
-    Leaves { size: bool, why: Unwritten },
+    GiveBack { size: bool, why: Unwritten },
     Over(Result<u64, Unwritten>),
 }
 
@@ -58,7 +58,7 @@ pub struct PageWrite<'a> {
     pub head: u64,
     pub number: u64,
     pub place: u64,
-    pub stage: WriteStage,
+    pub control: WriteControl,
 }
 
 impl<'a> PageWrite<'a> {
@@ -78,29 +78,29 @@ impl<'a> PageWrite<'a> {
     {
         // Only the clause speaks of it.
         let _ = layout;
-        match self.stage {
-            WriteStage::Heads => Op::Load { word: Word::Head },
-            WriteStage::Tails => Op::Load { word: Word::Tail },
-            WriteStage::Draws => Op::Draw {
+        match self.control {
+            WriteControl::LoadHead => Op::Load { word: Word::Head },
+            WriteControl::LoadTail => Op::Load { word: Word::Tail },
+            WriteControl::DrawNumbers => Op::Draw {
                 head: self.head,
                 count: 1,
             },
-            WriteStage::Seizes => Op::Seize {
+            WriteControl::SeizeEntry => Op::Seize {
                 number: self.number,
             },
-            WriteStage::Pledges => Op::Pledge { page: self.page },
-            WriteStage::Readies => Op::Ready {
+            WriteControl::PledgePage => Op::Pledge { page: self.page },
+            WriteControl::ReadyEntry => Op::Ready {
                 number: self.number,
                 word: 10 + 1024 * self.page,
             },
-            WriteStage::Grows => Op::Grow {
+            WriteControl::GrowLength => Op::Grow {
                 file: self.file,
                 length: self.end,
             },
-            WriteStage::Releases | WriteStage::Leaves { size: true, .. } => Op::Give {
+            WriteControl::GiveSize | WriteControl::GiveBack { size: true, .. } => Op::Give {
                 cell: Word::Size { file: self.file },
             },
-            WriteStage::Gives | WriteStage::Leaves { .. } => Op::Give {
+            WriteControl::GivePage | WriteControl::GiveBack { .. } => Op::Give {
                 cell: Word::Page { page: self.page },
             },
             _ => Op::Place,
@@ -108,69 +108,72 @@ impl<'a> PageWrite<'a> {
     }
 
     // Where it stands after its place, or after it has grown.
-    fn ends(self) -> WriteStage
-        ensures { result ≡ ending self.entry }
+    fn ends(self) -> WriteControl
+        ensures { result ≡ write_ending self.entry }
     {
         if self.sized {
-            WriteStage::Releases
+            WriteControl::GiveSize
         } else {
-            WriteStage::Gives
+            WriteControl::GivePage
         }
     }
 
     // And where it is refused.
-    fn leaves(self, why: Unwritten) -> WriteStage
+    fn leaves(self, why: Unwritten) -> WriteControl
         ensures { result ≡ leaving_at self.entry why }
     {
-        WriteStage::Leaves {
+        WriteControl::GiveBack {
             size: self.sized,
             why,
         }
     }
 
     // Where it stands after a step that found this.
-    fn stage_after(self, layout: Layout, found: u64) -> WriteStage
-        ensures { result ≡ stage_then (sizes_of layout) self.entry self.entry.stage found }
+    fn control_after(self, layout: Layout, found: u64) -> WriteControl
+        ensures { result ≡ control_then (sizes_of layout) self.entry self.entry.control found }
     {
-        match self.stage {
-            WriteStage::Heads if found < 1 << 60 => WriteStage::Tails,
-            WriteStage::Heads => self.leaves(Unwritten::Spent { found }),
-            WriteStage::Tails if self.head.saturating_sub(found) < layout.entries => {
-                WriteStage::Draws
+        match self.control {
+            WriteControl::LoadHead if found < 1 << 60 => WriteControl::LoadTail,
+            WriteControl::LoadHead => self.leaves(Unwritten::Spent { found }),
+            WriteControl::LoadTail if self.head.saturating_sub(found) < layout.entries => {
+                WriteControl::DrawNumbers
             }
-            WriteStage::Tails => self.leaves(Unwritten::Again {
+            WriteControl::LoadTail => self.leaves(Unwritten::Again {
                 head: self.head,
                 tail: found,
             }),
-            WriteStage::Draws if found == self.head => WriteStage::Seizes,
-            WriteStage::Draws => self.leaves(Unwritten::Raced { found }),
-            WriteStage::Seizes => WriteStage::Pledges,
-            WriteStage::Pledges => WriteStage::Readies,
-            WriteStage::Readies => WriteStage::Places,
-            WriteStage::Places if self.length < self.end => WriteStage::Grows,
-            WriteStage::Places | WriteStage::Grows => self.ends(),
-            WriteStage::Releases => WriteStage::Gives,
-            WriteStage::Gives => WriteStage::Over(Ok(self.place)),
-            WriteStage::Leaves { size: true, why } => WriteStage::Leaves { size: false, why },
-            WriteStage::Leaves { why, .. } => WriteStage::Over(Err(why)),
-            WriteStage::Over(_) => self.stage,
+            WriteControl::DrawNumbers if found == self.head => WriteControl::SeizeEntry,
+            WriteControl::DrawNumbers => self.leaves(Unwritten::Raced { found }),
+            WriteControl::SeizeEntry => WriteControl::PledgePage,
+            WriteControl::PledgePage => WriteControl::ReadyEntry,
+            WriteControl::ReadyEntry => WriteControl::TakePlace,
+            WriteControl::TakePlace if self.length < self.end => WriteControl::GrowLength,
+            WriteControl::TakePlace | WriteControl::GrowLength => self.ends(),
+            WriteControl::GiveSize => WriteControl::GivePage,
+            WriteControl::GivePage => WriteControl::Over(Ok(self.place)),
+            WriteControl::GiveBack { size: true, why } => WriteControl::GiveBack {
+                size: false,
+                why,
+            },
+            WriteControl::GiveBack { why, .. } => WriteControl::Over(Err(why)),
+            WriteControl::Over(_) => self.control,
         }
     }
 
     // What it notes of what was found.
     fn noted(self, found: u64) -> PageWrite<'a>
-        ensures { result ≡ noted self.entry self.entry.stage found }
+        ensures { result ≡ noted self.entry self.entry.control found }
     {
-        match self.stage {
-            WriteStage::Heads => PageWrite {
+        match self.control {
+            WriteControl::LoadHead => PageWrite {
                 head: found,
                 ..self
             },
-            WriteStage::Draws => PageWrite {
+            WriteControl::DrawNumbers => PageWrite {
                 number: found,
                 ..self
             },
-            WriteStage::Places => PageWrite {
+            WriteControl::TakePlace => PageWrite {
                 place: found,
                 ..self
             },
@@ -183,7 +186,7 @@ impl<'a> PageWrite<'a> {
         ensures { result ≡ write_after (sizes_of layout) self.entry found }
     {
         PageWrite {
-            stage: self.stage_after(layout, found),
+            control: self.control_after(layout, found),
             ..self.noted(found)
         }
     }
@@ -191,10 +194,10 @@ impl<'a> PageWrite<'a> {
     /// Makes the next step, where no device call comes before it.
     pub fn advance<L: Lines, B: Backing>(&mut self, board: &Board<L, B>, pass: &mut Pass<L, B>)
         requires board { IsOf board.now pass.old }
-        requires plain { IsPlain self.old.stage }
+        requires plain { IsPlain self.old.control }
         requires way { (start : PassState) × IsUnderWay self.old start pass.old }
         ensures board { IsOf board.now pass.new }
-        ensures one { (found : ℕ) × Stepped pass.old None (deed_of pass.old.sight (write_op self.old)) found pass.new × (self.new ≡ write_after pass.old.sight.opened.sizes self.old found) }
+        ensures one { (found : ℕ) × Postcondition pass.old None (core_op_of pass.old.view (write_op self.old)) found pass.new × (self.new ≡ write_after pass.old.view.opened.sizes self.old found) }
         ensures way { (start : PassState) → IsUnderWay self.old start pass.old → IsUnderWay self.new start pass.new }
     {
         runs_are_sound();

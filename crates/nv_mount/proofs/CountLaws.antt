@@ -4,22 +4,22 @@ use Rattle.std.specs.Prelude.{Option, Some, None, sum_by}
 use Rattle.std.proofs.lemmas.Bool.{cases_lt}
 use Rattle.std.proofs.lemmas.List.Sums.{sum_by-append, sum_by-cons}
 use Rattle.nv_plain.specs.Faults.{Rose}
-use Rattle.nv_core.specs.Words.{Word, HEADER, ENTRY, STORE, PAGE, STOP, IsWord, page_total}
-use Rattle.nv_core.specs.Values.{Value, Bare, APart, AStore, ABuffer, faults_of}
-use Rattle.nv_core.specs.Events.{Event}
-use Rattle.nv_core.specs.Opening.{IsMount, opening}
-use Rattle.nv_core.specs.Laws.{RunsAreSound}
-use Rattle.nv_core.specs.Others.{EventsLeaveOthers, StepsAreOnWords}
-use Rattle.nv_core.specs.Sound.{Sound}
+use Rattle.nv_core.specs.state.Words.{Word, HEADER, ENTRY, STORE, PAGE, STOP, IsWord, page_total}
+use Rattle.nv_core.specs.state.Values.{Value, Bare, APart, AStore, ABuffer, faults_of}
+use Rattle.nv_core.specs.steps.Events.{Event}
+use Rattle.nv_core.specs.steps.Opening.{IsMount, opening}
+use Rattle.nv_core.specs.invariant.InvariantLaws.{RunsAreSound}
+use Rattle.nv_core.specs.steps.Frames.{EventsLeaveOthers, StepsAreOnWords}
+use Rattle.nv_core.specs.invariant.Sound.{Sound}
 use Rattle.nv_table.specs.declared.slot.PageBuffer.{PageBuffer}
-use Rattle.nv_table.specs.Kept.{buffer_value, slot_value}
-use Rattle.nv_table.specs.Layout.{slot_total, slot_of, cell_of}
-use Rattle.nv_table.specs.Opened.{Opened, mount_of, held_in, IsRunOf, state_of}
-use Rattle.nv_table.specs.OpeningSlots.{in_slots}
-use Rattle.nv_table.proofs.LayoutLaws.{slot_there, cell_there}
-use Rattle.nv_table.proofs.MountLaws.{shown_slots}
-use Rattle.nv_table.proofs.SortLaws.{sort_of, same_sort}
-use Rattle.nv_table.proofs.StayLaws.{stays}
+use Rattle.nv_table.specs.state.SlotValues.{buffer_value, slot_value}
+use Rattle.nv_table.specs.state.Layout.{slot_total, slot_of_cell, cell_of}
+use Rattle.nv_table.specs.state.Opened.{Opened, mount_of, held_in, IsRunOf, state_of}
+use Rattle.nv_table.specs.ends.OpeningSlots.{in_slots}
+use Rattle.nv_table.proofs.state.LayoutLaws.{slot_there, cell_there}
+use Rattle.nv_table.proofs.ends.MountLaws.{shown_slots}
+use Rattle.nv_table.proofs.state.SortLaws.{sort_of, same_sort}
+use Rattle.nv_table.proofs.invariant.StayLaws.{stays}
 
 -- ---- sums
 
@@ -127,7 +127,7 @@ module _ (sound : RunsAreSound) (others : EventsLeaveOthers) (words : StepsAreOn
   no_device (ABuffer buffer) is = refl
 
   -- a cell that kept nothing has no count
-  bare_cell : (cell : Word) → held_in opened.slots (slot_of opened.sizes cell) ≡ Bare → Rose (faults_of (held_in opened.slots (slot_of opened.sizes cell))) (now cell) → ⊥
+  bare_cell : (cell : Word) → held_in opened.slots (slot_of_cell opened.sizes cell) ≡ Bare → Rose (faults_of (held_in opened.slots (slot_of_cell opened.sizes cell))) (now cell) → ⊥
   bare_cell cell bare rose =
       let none : now cell ≡ 0 = no_device ((state_of opened run).values cell) (same_sort opened.sizes (opening (mount_of opened)) run cell ∙ ap sort_of bare) in
       none_rose (subst (Rose 0) none (subst (λ v. Rose (faults_of v) (now cell)) bare rose))
@@ -137,7 +137,7 @@ module _ (sound : RunsAreSound) (others : EventsLeaveOthers) (words : StepsAreOn
   past_end (first ∷ rest) zero far = absurd (omega arith)
   past_end (first ∷ rest) (suc slot) far = past_end rest slot (omega arith)
 
-  at_slot : (cell : Word) (slot : ℕ) → slot_of opened.sizes cell ≡ Some slot → (IsWord opened.sizes cell ⊎ (IsWord opened.sizes cell → ⊥)) → Rose (faults_of (held_in opened.slots (slot_of opened.sizes cell))) (now cell) → HasRisen
+  at_slot : (cell : Word) (slot : ℕ) → slot_of_cell opened.sizes cell ≡ Some slot → (IsWord opened.sizes cell ⊎ (IsWord opened.sizes cell → ⊥)) → Rose (faults_of (held_in opened.slots (slot_of_cell opened.sizes cell))) (now cell) → HasRisen
   at_slot cell slot at is rose = elim (cases_lt slot (slot_total opened.sizes)) [
     | inl less ↦ record {
       slot = slot;
@@ -161,7 +161,7 @@ module _ (sound : RunsAreSound) (others : EventsLeaveOthers) (words : StepsAreOn
   below : (n count : ℕ) → (n < count) ⊎ (n < count → ⊥)
   below n count = elim (cases_lt n count) [ inl less ↦ inl less | inr more ↦ inr (λ less. omega arith) ]
 
-  by_cell : (cell : Word) → Rose (faults_of (held_in opened.slots (slot_of opened.sizes cell))) (now cell) → HasRisen
+  by_cell : (cell : Word) → Rose (faults_of (held_in opened.slots (slot_of_cell opened.sizes cell))) (now cell) → HasRisen
   by_cell HEADER rose = at_slot HEADER 0 refl (inl tt) rose
   by_cell (ENTRY entry) rose = at_slot (ENTRY entry) (1 + entry) refl (below entry opened.sizes.entries) rose
   by_cell (STORE file) rose = at_slot (STORE file) (1 + opened.sizes.entries + file) refl (below file opened.sizes.files) rose

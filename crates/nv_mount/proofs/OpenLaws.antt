@@ -11,25 +11,25 @@ use Rattle.nv_pmem.specs.Moments.{Tells}
 use Rattle.nv_pmem.specs.Part.{Part}
 use Rattle.nv_pmem.specs.Room.{Room}
 use Rattle.nv_pmem.specs.RowStates.{AreNow, EachPartHasOne, row_tells_at}
-use Rattle.nv_pmem.specs.Steps.{History as PartHistory}
-use Rattle.nv_store.specs.Steps.{History}
-use Rattle.nv_store.specs.Store.{Store, IsQuiet}
+use Rattle.nv_pmem.specs.Steps.{PartHistory}
+use Rattle.nv_store.specs.Steps.{StoreHistory}
+use Rattle.nv_store.specs.Store.{Store, IsQuietStore}
 use Rattle.nv_header.specs.Regions.{part_lines, IsAtRest, IsRegion}
 use Rattle.nv_header.proofs.InRow.{HaveLines, told_room}
-use Rattle.nv_core.specs.Words.{Sizes, STORE, PAGE}
-use Rattle.nv_core.specs.Values.{Value, Bare, is_valid}
-use Rattle.nv_core.specs.StorePages.{store_of}
-use Rattle.nv_core.specs.Written.{IsPart}
-use Rattle.nv_core.specs.Content.{Opens}
-use Rattle.nv_core.specs.LogContent.{OpensLog}
-use Rattle.nv_core.specs.Crash.{StoresQuiet, OpensRegion}
-use Rattle.nv_core.specs.AtRest.{KeepRow, RegionsAtRestOpen}
+use Rattle.nv_core.specs.state.Words.{Sizes, STORE, PAGE}
+use Rattle.nv_core.specs.state.Values.{Value, Bare, is_valid}
+use Rattle.nv_core.specs.content.StorePages.{store_of_value}
+use Rattle.nv_core.specs.log.Written.{IsPart}
+use Rattle.nv_core.specs.content.Content.{Opens}
+use Rattle.nv_core.specs.log.LogContent.{OpensLog}
+use Rattle.nv_core.specs.crash.CrashImages.{StoresQuiet, OpensRegion}
+use Rattle.nv_core.specs.crash.RegionsAtRest.{KeepRow, RegionsAtRestOpen}
 use Rattle.nv_table.specs.declared.slot.PageBuffer.{PageBuffer}
-use Rattle.nv_table.specs.Kept.{present, part_value, store_value, buffer_value, slot_value}
-use Rattle.nv_table.specs.Opened.{Opened, mount_of}
-use Rattle.nv_table.specs.OpeningSlots.{IsFresh, AreOpeningSlots}
-use Rattle.nv_table.specs.States.{PassState}
-use Rattle.nv_table.proofs.ShapeLaws.{each_held, held_part, held_store, no_store}
+use Rattle.nv_table.specs.state.SlotValues.{present, part_value, store_value, buffer_value, slot_value}
+use Rattle.nv_table.specs.state.Opened.{Opened, mount_of}
+use Rattle.nv_table.specs.ends.OpeningSlots.{IsFreshBuffer, AreOpeningSlots}
+use Rattle.nv_table.specs.state.States.{PassState}
+use Rattle.nv_table.proofs.state.ShapeLaws.{each_held, held_part, held_store, no_store}
 use Rattle.nv_mount.specs.declared.fds.Fd.{Fd}
 use Rattle.nv_mount.specs.Mounts.{MountState, AreLengths, IsOpened}
 use Rattle.nv_mount.specs.Telling.{IsSeen, StoresHave}
@@ -37,7 +37,7 @@ use Rattle.nv_mount.specs.Telling.{IsSeen, StoresHave}
 -- ---- what stores tell
 
 -- the store of a file tells, and reads as it
-seen_at : (row : List History) (contents : List (List ℕ)) → AllZip IsSeen row contents → (i : ℕ) → i < length row
+seen_at : (row : List StoreHistory) (contents : List (List ℕ)) → AllZip IsSeen row contents → (i : ℕ) → i < length row
     → (store : Store) × (present (get_or row i []) ≡ Some store) × (store.seen ≡ get_or contents i [])
 seen_at [] contents are i less = absurd (omega arith)
 seen_at (history ∷ row) [] are i less = absurd are
@@ -46,7 +46,7 @@ seen_at ((now ∷ past) ∷ row) (bytes ∷ contents) are zero less = (now, refl
 seen_at (history ∷ row) (bytes ∷ contents) are (suc i) less = seen_at row contents are.1 i (omega arith)
 
 -- its length is the file's
-length_at : (row : List History) (lengths : List ℕ) (contents : List (List ℕ)) → AreLengths row lengths → AllZip IsSeen row contents → (i : ℕ) → i < length row
+length_at : (row : List StoreHistory) (lengths : List ℕ) (contents : List (List ℕ)) → AreLengths row lengths → AllZip IsSeen row contents → (i : ℕ) → i < length row
     → get_or lengths i 0 ≡ length (get_or contents i [])
 length_at [] lengths contents told are i less = absurd (omega arith)
 length_at (history ∷ row) [] contents told are i less = absurd told
@@ -56,24 +56,24 @@ length_at ((now ∷ past) ∷ row) (len ∷ lengths) (bytes ∷ contents) told a
 length_at (history ∷ row) (len ∷ lengths) (bytes ∷ contents) told are (suc i) less = length_at row lengths contents told.1 are.1 i (omega arith)
 
 -- a store that tells is durable where what it tells is
-quiet_told : (history : History) (store : Store) → Tells history IsQuiet → present history ≡ Some store → IsQuiet store
+quiet_told : (history : StoreHistory) (store : Store) → Tells history IsQuietStore → present history ≡ Some store → IsQuietStore store
 quiet_told [] store told is = absurd cc
-quiet_told (now ∷ past) store told is = let same : now ≡ store = cc in subst IsQuiet same told
+quiet_told (now ∷ past) store told is = let same : now ≡ store = cc in subst IsQuietStore same told
 
 -- ---- buffers at opening
 
-no_store_of : (buffer : Option PageBuffer) → store_of (buffer_value buffer) ≡ None
+no_store_of : (buffer : Option PageBuffer) → store_of_value (buffer_value buffer) ≡ None
 no_store_of None = refl
 no_store_of (Some buffer) = refl
 
-not_valid : (page : ℕ) (buffer : Option PageBuffer) → IsFresh page buffer ⊎ (buffer ≡ None) → is_valid (buffer_value buffer) ≡ false
+not_valid : (page : ℕ) (buffer : Option PageBuffer) → IsFreshBuffer page buffer ⊎ (buffer ≡ None) → is_valid (buffer_value buffer) ≡ false
 not_valid page None is = refl
 not_valid page (Some buffer) (inl fresh) = fresh.1
 not_valid page (Some buffer) (inr none) = absurd cc
 
 -- ---- the mount
 
-module _ {L B : Type 0} (device : L → ℕ) (history : L → PartHistory) (faults : L → ℕ) (room : L → Room) (store_device : B → ℕ) (store_history : B → History) (store_faults : B → ℕ)
+module _ {L B : Type 0} (device : L → ℕ) (history : L → PartHistory) (faults : L → ℕ) (room : L → Room) (store_device : B → ℕ) (store_history : B → StoreHistory) (store_faults : B → ℕ)
     (sizes : Sizes) (next : ℕ) (parts : List L) (stores : List B) (fds : List Fd) (mount : MountState) (pass : PassState)
     (is : IsOpened (slot_value (part_value device history faults room) (store_value store_device store_history store_faults)) store_device store_history store_faults
     sizes next parts stores fds mount pass)
@@ -100,14 +100,14 @@ module _ {L B : Type 0} (device : L → ℕ) (history : L → PartHistory) (faul
   asked_many = sym (length-map is.asked store_device) ∙ ap length is.same_devices ∙ length-map stores store_device ∙ files_then
 
   -- what the cells of stores tell
-  store_told : (file : ℕ) → file < opened.sizes.files → store_of ((mount_of opened).values (STORE file)) ≡ present (get_or (map store_history stores) file [])
+  store_told : (file : ℕ) → file < opened.sizes.files → store_of_value ((mount_of opened).values (STORE file)) ≡ present (get_or (map store_history stores) file [])
   store_told file less =
       let one = held_store part store opened parts is.asked is.begun.slots is.begun.slots_show are enough_then asked_many store_history file less in
-      ap store_of one.1 ∙ sym (ap present (one.2 [])) ∙ ap (λ (row : List History). present (get_or row file [])) is.same_histories
+      ap store_of_value one.1 ∙ sym (ap present (one.2 [])) ∙ ap (λ (row : List StoreHistory). present (get_or row file [])) is.same_histories
 
-  store_none : (file : ℕ) → opened.sizes.files ≤ file → store_of ((mount_of opened).values (STORE file)) ≡ None
+  store_none : (file : ℕ) → opened.sizes.files ≤ file → store_of_value ((mount_of opened).values (STORE file)) ≡ None
   store_none =
-      no_store part store opened parts is.asked is.begun.slots is.begun.slots_show are enough_then asked_many (λ value. store_of value ≡ None) refl no_store_of
+      no_store part store opened parts is.asked is.begun.slots is.begun.slots_show are enough_then asked_many (λ value. store_of_value value ≡ None) refl no_store_of
 
   -- The files that its stores have are those that the mount opens.
   pub opens_files : (files : Files) → StoresHave (map store_history stores) files → Opens (mount_of opened) files
@@ -125,7 +125,7 @@ module _ {L B : Type 0} (device : L → ℕ) (history : L → PartHistory) (faul
         (λ k d less. refl) (not_valid opened.sizes.page) (PAGE page);
   }
     where
-      row : List History
+      row : List StoreHistory
       row = map store_history stores
 
       row_many : length (map store_history stores) ≡ opened.sizes.files
@@ -135,7 +135,7 @@ module _ {L B : Type 0} (device : L → ℕ) (history : L → PartHistory) (faul
           → (store : Store) × (present (get_or (map store_history stores) file []) ≡ Some store) × (store.seen ≡ contents_of files file)
       here file less = seen_at (map store_history stores) files.contents have file (omega (arith, row_many, less))
 
-      seen : (file : ℕ) (store : Store) → store_of ((mount_of opened).values (STORE file)) ≡ Some store → store.seen ≡ contents_of files file
+      seen : (file : ℕ) (store : Store) → store_of_value ((mount_of opened).values (STORE file)) ≡ Some store → store.seen ≡ contents_of files file
       seen file store told = elim (cases_lt file opened.sizes.files) [
         | inl less ↦
             let at = here file less in
@@ -146,21 +146,21 @@ module _ {L B : Type 0} (device : L → ℕ) (history : L → PartHistory) (faul
       ]
 
   -- its stores are durable
-  stores_quiet : All (λ one. Tells (store_history one) IsQuiet) stores → StoresQuiet (mount_of opened).values
+  stores_quiet : All (λ one. Tells (store_history one) IsQuietStore) stores → StoresQuiet (mount_of opened).values
   stores_quiet quiet = record {
-    each = λ file. each_held part store opened parts is.asked is.begun.slots is.begun.slots_show are (λ value. (state : Store) → store_of value ≡ Some state → IsQuiet state)
+    each = λ file. each_held part store opened parts is.asked is.begun.slots is.begun.slots_show are (λ value. (state : Store) → store_of_value value ≡ Some state → IsQuietStore state)
         (λ state told. absurd cc) (λ one state told. absurd cc) asked_quiet (λ buffer _ state told. absurd (let none = no_store_of buffer in cc)) (STORE file);
   }
     where
-      asked_quiet : All (λ one. (state : Store) → store_of (store_value store_device store_history store_faults one) ≡ Some state → IsQuiet state) is.asked
+      asked_quiet : All (λ one. (state : Store) → store_of_value (store_value store_device store_history store_faults one) ≡ Some state → IsQuietStore state) is.asked
       asked_quiet = λ k d less state told.
           let same = length-map is.asked store_history in
           let same_too = length-map stores store_history in
           let alike = ap length is.same_histories in
           let there : k < length stores = omega (arith, same, same_too, alike, less) in
           let at : store_history (get_or is.asked k d) ≡ store_history (get_or stores k d) =
-          sym (get_or-map store_history is.asked k d [] less) ∙ ap (λ (row : List History). get_or row k []) is.same_histories ∙ get_or-map store_history stores k d [] there in
-          quiet_told (store_history (get_or is.asked k d)) state (subst (λ (h : History). Tells h IsQuiet) (sym at) (quiet k d there)) told
+          sym (get_or-map store_history is.asked k d [] less) ∙ ap (λ (row : List StoreHistory). get_or row k []) is.same_histories ∙ get_or-map store_history stores k d [] there in
+          quiet_told (store_history (get_or is.asked k d)) state (subst (λ (h : StoreHistory). Tells h IsQuietStore) (sym at) (quiet k d there)) told
 
   -- The log of its region is empty, and the mount opens it.
   module _ (names : List (List ℕ)) (names_many : length names ≡ sizes.files) (few_pages : sizes.pages ≤ 1024)
@@ -203,14 +203,14 @@ module _ {L B : Type 0} (device : L → ℕ) (history : L → PartHistory) (faul
         (subst (λ n. IsAtRest version_1 sizes.page sizes.entries names n states) (sym is.begun.next_is)
         (row_tells_at (map history parts) (IsAtRest version_1 sizes.page sizes.entries names next) states now region.tells))
 
-    pub opens_log : RegionsAtRestOpen → All (λ one. Tells (store_history one) IsQuiet) stores → OpensLog (mount_of opened) next
+    pub opens_log : RegionsAtRestOpen → All (λ one. Tells (store_history one) IsQuietStore) stores → OpensLog (mount_of opened) next
     opens_log opens quiet =
         let pages = ap (λ (s : Sizes). s.pages) is.begun.sizes_are in
         let both = opens (mount_of opened) names states at_rest keep_row (names_many ∙ sym (ap (λ (s : Sizes). s.files) is.begun.sizes_are))
         (omega (arith, pages, few_pages)) (stores_quiet quiet) in
         subst (OpensLog (mount_of opened)) is.begun.next_is both.0
 
-    pub opens_region : RegionsAtRestOpen → All (λ one. Tells (store_history one) IsQuiet) stores → OpensRegion (mount_of opened) names
+    pub opens_region : RegionsAtRestOpen → All (λ one. Tells (store_history one) IsQuietStore) stores → OpensRegion (mount_of opened) names
     opens_region opens quiet =
         let pages = ap (λ (s : Sizes). s.pages) is.begun.sizes_are in
         let both = opens (mount_of opened) names states at_rest keep_row (names_many ∙ sym (ap (λ (s : Sizes). s.files) is.begun.sizes_are))

@@ -3,12 +3,12 @@ use Rattle.std.specs.Prelude.{◌≡◌, ℕ, List, length, map, Result, Ok, Err
 use Rattle.std.specs.List.{AllZip}
 use Rattle.nv_plain.specs.Faults.{Rose}
 use Rattle.nv_pmem.specs.Moments.{Tells}
-use Rattle.nv_store.specs.Steps.{History}
-use Rattle.nv_core.specs.Words.{Sizes}
-use Rattle.nv_core.specs.Values.{Value}
+use Rattle.nv_store.specs.Steps.{StoreHistory}
+use Rattle.nv_core.specs.state.Words.{Sizes}
+use Rattle.nv_core.specs.state.Values.{Value}
 use Rattle.nv_table.specs.declared.slot.Slot.{Slot}
-use Rattle.nv_table.specs.Begun.{IsBegun}
-use Rattle.nv_table.specs.States.{BoardState, PassState}
+use Rattle.nv_table.specs.ends.Begun.{IsBegun}
+use Rattle.nv_table.specs.state.States.{BoardState, PassState}
 use Rattle.nv_mount.specs.declared.fds.Fd.{Fd}
 use Rattle.nv_mount.specs.declared.mount.OpenError.{OpenError}
 use Rattle.nv_mount.specs.declared.mount.OpenError.TheVariants.{NoMemory, StoreFault}
@@ -21,7 +21,7 @@ pub record MountState : Type 0 where
 -- ---- lengths
 
 -- Each store that tells gives this many bytes to reads.
-abbrev pub AreLengths : List History → List ℕ → Type 0
+abbrev pub AreLengths : List StoreHistory → List ℕ → Type 0
 AreLengths row lengths = AllZip (λ history len. Tells history (λ store. len ≡ length store.seen)) row lengths
 
 -- A fault of a store is answered only where the stores' counts rose, and any other error leaves them.
@@ -37,7 +37,7 @@ HasLengthsCause before now (Err error) = HasOpenCause before now error
 
 -- The stores have told their lengths, and are otherwise as they were. The board is made of them and of the region's parts, and stands with
 -- the descriptors.
-pub record IsOpened {L B : Type 0} (shown : Slot L B → Value) (store_device : B → ℕ) (history : B → History) (fault_count : B → ℕ)
+pub record IsOpened {L B : Type 0} (shown : Slot L B → Value) (store_device : B → ℕ) (history : B → StoreHistory) (fault_count : B → ℕ)
     (sizes : Sizes) (next : ℕ) (parts : List L) (stores : List B) (fds : List Fd) (mount : MountState) (pass : PassState) : Type 0 where
   pub asked : List B
   pub same_devices : map store_device asked ≡ map store_device stores

@@ -1,3 +1,4 @@
+//! The descriptors of a mount.
 ghost use Rattle.std.specs.Prelude.{◌≡◌, ◌++◌, ◌↔◌, ◌≤◌, [], ◌∷◌, length, Err, IfOk, IsTrue, OnOk, OnErr};
 ghost use Rattle.std.specs.List.{slice_get};
 ghost use Rattle.nv_mount.specs.Fds.{max_fds};

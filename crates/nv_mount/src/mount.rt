@@ -3,22 +3,22 @@ ghost use Rattle.std.specs.Prelude.{◌≡◌, ◌+◌, ◌<◌, ◌≤◌, leng
 ghost use Rattle.nv_plain.specs.Faults.{Rose};
 ghost use Rattle.nv_plain.specs.Files.{Files};
 ghost use Rattle.nv_pmem.specs.Moments.{Tells};
-ghost use Rattle.nv_store.specs.Store.{IsQuiet};
-ghost use Rattle.nv_core.specs.Content.{Opens};
-ghost use Rattle.nv_core.specs.Crash.{OpensRegion};
-ghost use Rattle.nv_core.specs.LogContent.{OpensLog};
-ghost use Rattle.nv_table.specs.Begun.{begun_sizes};
-ghost use Rattle.nv_table.specs.Between.{IsStill};
-ghost use Rattle.nv_table.specs.Closing.{IsClosed};
-ghost use Rattle.nv_table.specs.Kept.{part_value, store_value, slot_value};
-ghost use Rattle.nv_table.specs.Opened.{mount_of};
-ghost use Rattle.nv_table.specs.Sights.{made_of};
-ghost use Rattle.nv_table.specs.States.{IsOf};
+ghost use Rattle.nv_store.specs.Store.{IsQuietStore};
+ghost use Rattle.nv_core.specs.content.Content.{Opens};
+ghost use Rattle.nv_core.specs.crash.CrashImages.{OpensRegion};
+ghost use Rattle.nv_core.specs.log.LogContent.{OpensLog};
+ghost use Rattle.nv_table.specs.ends.Begun.{begun_sizes};
+ghost use Rattle.nv_table.specs.passes.PassesMade.{IsShownStill};
+ghost use Rattle.nv_table.specs.ends.Closing.{IsClosed};
+ghost use Rattle.nv_table.specs.state.SlotValues.{part_value, store_value, slot_value};
+ghost use Rattle.nv_table.specs.state.Opened.{mount_of};
+ghost use Rattle.nv_table.specs.state.Views.{made_of};
+ghost use Rattle.nv_table.specs.state.States.{IsOf};
 ghost use Rattle.nv_mount.specs.Mounts.{AreLengths, HasLengthsCause, HasOpenCause, IsOpened};
 ghost use Rattle.nv_mount.specs.ClosedFiles.{ReadAsFiles};
 ghost use Rattle.nv_mount.specs.OneHistories.{HasOneHistory};
 ghost use Rattle.nv_mount.specs.RisenCounts.{SawStop, failed_before};
-ghost use Rattle.nv_mount.specs.Telling.{AllTell, StoresHave};
+ghost use Rattle.nv_mount.specs.Telling.{AllDevicesTell, StoresHave};
 
 use crate::Fds;
 use nv_core::{
@@ -129,7 +129,7 @@ impl<L: Lines + Drop, B: Backing + Drop> Mount<L, B> {
         cache: u64,
     ) -> Result<(Mount<L, B>, Pass<L, B>), Unopened<L, B>>
         requires stores { length stores.items ≡ length region.names }
-        requires quiet { All (λ store. Tells (B.history store) IsQuiet) stores.items }
+        requires quiet { All (λ store. Tells (B.history store) IsQuietStore) stores.items }
         requires fds { All (λ fd. fd.file < length region.names) fds }
         requires some_pages { 1 ≤ pages }
         requires few_pages { pages ≤ 1024 }
@@ -141,8 +141,8 @@ impl<L: Lines + Drop, B: Backing + Drop> Mount<L, B> {
             (begun_sizes region.geometry.page region.geometry.entries (length region.names) pages cache)
             region.next region.parts.items stores.items fds made.0 made.1) }
         ensures files { IfOk result (λ made. (files : Files) → StoresHave (map B.history stores.items) files → Opens (mount_of made.0.board.opened) files) }
-        ensures log { IfOk result (λ made. AllTell (map L.history region.parts.items) → OpensLog (mount_of made.0.board.opened) region.next) }
-        ensures region { IfOk result (λ made. AllTell (map L.history region.parts.items) → OpensRegion (mount_of made.0.board.opened) region.names) }
+        ensures log { IfOk result (λ made. AllDevicesTell (map L.history region.parts.items) → OpensLog (mount_of made.0.board.opened) region.next) }
+        ensures region { IfOk result (λ made. AllDevicesTell (map L.history region.parts.items) → OpensRegion (mount_of made.0.board.opened) region.names) }
         ensures counts { IfOk result (λ made. failed_before made.1 ≡ sum_by L.fault_count region.parts.items + sum_by B.fault_count stores.items) }
         ensures parts_back { IfErr result (λ failed. failed.region.parts.items ≡ region.parts.items) }
         ensures geometry_back { IfErr result (λ failed. failed.region.geometry ≡ region.geometry) }
@@ -189,7 +189,7 @@ impl<L: Lines + Drop, B: Backing + Drop> Mount<L, B> {
         &self.fds
     }
 
-    /// Ends the mount by pass 0, whatever it is at: what it carries goes home first. Where it has made more passes than it has taken in,
+    /// Ends the mount by pass 0, whatever it is at: what it owns goes home first. Where it has made more passes than it has taken in,
     /// mount and pass come back unchanged. The calls of all passes have one history, as long as `placed` says. Where one of the passes saw STOP
     /// set, the devices that come out have failed more often than when the mount was opened. No device call may have come since the pass's last
     /// step. Takes no memory.
@@ -198,20 +198,20 @@ impl<L: Lines + Drop, B: Backing + Drop> Mount<L, B> {
         pass: Pass<L, B>,
     ) -> Result<Closed<L, B>, (Mount<L, B>, Pass<L, B>, PassesOut)>
         requires board { IsOf self.board pass }
-        requires zero { pass.sight.number ≡ 0 }
-        requires still { IsStill pass }
-        ensures all { OnOk result (length pass.sight.ended ≡ made_of pass.sight) }
+        requires zero { pass.view.number ≡ 0 }
+        requires still { IsShownStill pass }
+        ensures all { OnOk result (length pass.view.ended ≡ made_of pass.view) }
         ensures closed { IfOk result (λ closed. IsClosed L.device B.device
             (slot_value (part_value L.device L.history L.fault_count L.room) (store_value B.device B.history B.fault_count))
             self.board pass closed.parts.items closed.stores.items closed.placed closed.tail) }
-        ensures history { IfOk result (λ closed. HasOneHistory pass.sight closed.placed) }
-        ensures files { IfOk result (λ closed. ReadAsFiles pass.sight (map B.history closed.stores.items) closed.tail) }
-        ensures stopped { IfOk result (λ closed. SawStop pass.sight → Rose (failed_before pass) (sum_by L.fault_count closed.parts.items + sum_by B.fault_count closed.stores.items)) }
-        ensures out { IfErr result (λ failed. length pass.sight.ended < made_of pass.sight) }
+        ensures history { IfOk result (λ closed. HasOneHistory pass.view closed.placed) }
+        ensures files { IfOk result (λ closed. ReadAsFiles pass.view (map B.history closed.stores.items) closed.tail) }
+        ensures stopped { IfOk result (λ closed. SawStop pass.view → Rose (failed_before pass) (sum_by L.fault_count closed.parts.items + sum_by B.fault_count closed.stores.items)) }
+        ensures out { IfErr result (λ failed. length pass.view.ended < made_of pass.view) }
         ensures mount_back { IfErr result (λ failed. failed.0 ≡ self) }
         ensures pass_back { IfErr result (λ failed. failed.1 ≡ pass) }
-        ensures made { IfErr result (λ failed. failed.2.made ≡ made_of pass.sight) }
-        ensures joined { IfErr result (λ failed. failed.2.joined ≡ length pass.sight.ended) }
+        ensures made { IfErr result (λ failed. failed.2.made ≡ made_of pass.view) }
+        ensures joined { IfErr result (λ failed. failed.2.joined ≡ length pass.view.ended) }
     {
         let made = pass.made();
         let joined = pass.joined();

@@ -1,42 +1,42 @@
 -- Operations that are due are ready.
 use Rattle.std.proofs.Common.{◌≡◌, ℕ, zero, suc, ◌+◌, ◌^◌, ◌<◌, ◌≤◌, ◌==◌, if◌then◌else◌, inl, inr, refl, sym, ap, ap₂, subst, ◌∙◌, arith, eq-eqb, ne_eqb}
 use Rattle.std.specs.Prelude.{List, Option, Some, None}
-use Rattle.nv_core.specs.Order.{Work}
+use Rattle.nv_core.specs.steps.Order.{Work}
 use Rattle.nv_plain.specs.declared.call.FileCall.{FileCall}
 use Rattle.nv_plain.specs.declared.call.Reply.{Reply}
-use Rattle.nv_core.specs.Words.{Sizes, HEAD, LENGTH, IsWord, place}
-use Rattle.nv_core.specs.Deeds.{Deed, Takes, Draws, Holds, Returns, move_of, value_after, word_of, ready_word}
-use Rattle.nv_core.specs.Standing.{StandsAt}
-use Rattle.nv_core.specs.Passes.{Pass, Drawing, file_of, at_of, len_of, page_count}
-use Rattle.nv_core.specs.Core.{Core, worked}
-use Rattle.nv_core.specs.Never.{NoDirtyAboveTheLog}
-use Rattle.nv_core.specs.Sound.{Sound}
-use Rattle.nv_core.specs.StepKinds.{MayByKind}
-use Rattle.nv_core.proofs.NextSteps.{next_steps_may_come}
-use Rattle.nv_table.specs.Acts.{pass_worked, pass_before, values_before}
-use Rattle.nv_table.specs.Changes.{changed}
-use Rattle.nv_table.specs.Layout.{slot_of}
-use Rattle.nv_table.specs.Moving.{shift_said}
-use Rattle.nv_table.specs.Opened.{mount_of}
-use Rattle.nv_table.specs.Ready.{IsReady}
-use Rattle.nv_table.specs.States.{PassState, shift_of}
-use Rattle.nv_table.specs.Turns.{IsDue, Stands, DueStepsStand, reply_at}
-use Rattle.nv_table.proofs.TurnDeeds.{locked, due_lock}
-use Rattle.nv_table.proofs.DrawnLaws.{calls_leave}
+use Rattle.nv_core.specs.state.Words.{Sizes, HEAD, LENGTH, IsWord, place}
+use Rattle.nv_core.specs.steps.Ops.{Op as CoreOp, Take as TakeOp, Draw as DrawOp, Hold as HoldOp, Return as ReturnOp, move_of, value_after, word_of, ready_word}
+use Rattle.nv_core.specs.invariant.ControlFacts.{FactsAt}
+use Rattle.nv_core.specs.state.Passes.{Pass, DrawNumbers, file_of, at_of, len_of, page_count}
+use Rattle.nv_core.specs.state.Core.{Core, worked}
+use Rattle.nv_core.specs.invariant.ForbiddenSteps.{NoDirtyAboveTheLog}
+use Rattle.nv_core.specs.invariant.Sound.{Sound}
+use Rattle.nv_core.specs.steps.StepKinds.{EnabledByKind}
+use Rattle.nv_core.proofs.steps.NextSteps.{next_steps_may_come}
+use Rattle.nv_table.specs.steps.SeatSteps.{pass_worked, pass_before, values_before}
+use Rattle.nv_table.specs.state.Changes.{changed}
+use Rattle.nv_table.specs.state.Layout.{slot_of_cell}
+use Rattle.nv_table.specs.steps.Moving.{shift_said}
+use Rattle.nv_table.specs.state.Opened.{mount_of}
+use Rattle.nv_table.specs.steps.StepContracts.{PreconditionAt}
+use Rattle.nv_table.specs.state.States.{PassState, shift_of}
+use Rattle.nv_table.specs.steps.CallSteps.{Precondition, Stands, DueStepsStand, reply_at}
+use Rattle.nv_table.proofs.steps.CallOps.{locked, due_lock}
+use Rattle.nv_table.proofs.invariant.DrawnLaws.{calls_leave}
 use Rattle.nv_pages.proofs.EntryLaws.{held_next, returned_next}
-use Rattle.nv_table.specs.Sights.{pass_of, values_of}
+use Rattle.nv_table.specs.state.Views.{pass_of, values_of}
 use prog.Atomic.{either}
 use Rattle.std.proofs.lemmas.Bool.{cases_eq}
 use Rattle.nv_op.specs.declared.op.Op.{Op}
 use Rattle.nv_op.specs.declared.op.Op.TheVariants.{Load, Take, Give, Place, Stop, Draw, Seize, Pledge, Ready, Grow, Break, Hold, Return, Turn, Hint}
-use Rattle.nv_table.specs.Drawn.{marks_of, IsFromHead}
+use Rattle.nv_table.specs.invariant.Drawn.{marks_of, IsFromHead}
 use Rattle.nv_op.specs.declared.op.Asked.{Asked}
-use Rattle.nv_op.specs.Ops.{Fits, IsSmall, core_word, word_of_op, change_of, moves_for, marks_for, opened_by, deed_at, deed_of}
+use Rattle.nv_op.specs.Ops.{Fits, SumIsSmall, core_word, word_of_op, change_of, moves_for, marks_for, opened_by, core_op_at, core_op_of}
 
 -- ---- the slot that it moves
 
 pub moves_so : (sizes : Sizes) (reply : Reply) (op : Op) (found : ℕ)
-    → shift_of sizes (move_of sizes (deed_at reply op) found) ≡ shift_said (moves_for op (slot_of sizes (core_word (word_of_op sizes op)))) found
+    → shift_of sizes (move_of sizes (core_op_at reply op) found) ≡ shift_said (moves_for op (slot_of_cell sizes (core_word (word_of_op sizes op)))) found
 moves_so sizes reply (Load word) found = refl
 moves_so sizes reply (Take cell) zero = grind (arith)
 moves_so sizes reply (Take cell) (suc more) = grind (arith)
@@ -58,15 +58,15 @@ moves_so sizes reply (Hint buffer page) found = refl
 
 -- what device calls don't change is as before them, where no call begins
 leaves : {T : Type 0} (pass : PassState) (opens : Option FileCall) (works : List Work) (f : Pass → T) → ((sizes : Sizes) (work : Work) (p : Pass) → f (worked sizes work p) ≡ f p) → opens ≡ None
-    → f (pass_before pass.sight opens works) ≡ f (pass_of pass.sight)
+    → f (pass_before pass.view opens works) ≡ f (pass_of pass.view)
 leaves pass opens works f same none =
-    subst (λ opens. f (pass_before pass.sight opens works) ≡ f (pass_of pass.sight)) (sym none) (calls_leave f same pass.sight.opened.sizes works (pass_of pass.sight))
+    subst (λ opens. f (pass_before pass.view opens works) ≡ f (pass_of pass.view)) (sym none) (calls_leave f same pass.view.opened.sizes works (pass_of pass.view))
 
 begins_none : (call : FileCall) → Some call ≡ None → ⊥
 begins_none call e = cc
 
-on_word : (pass : PassState) (opens : Option FileCall) (reply : Reply) (op : Op) (works : List Work) → Fits pass.sight.opened.sizes opens (pass_of pass.sight) op
-    → word_of pass.sight.opened.sizes (pass_before pass.sight opens works) (deed_at reply op) ≡ core_word (word_of_op pass.sight.opened.sizes op)
+on_word : (pass : PassState) (opens : Option FileCall) (reply : Reply) (op : Op) (works : List Work) → Fits pass.view.opened.sizes opens (pass_of pass.view) op
+    → word_of pass.view.opened.sizes (pass_before pass.view opens works) (core_op_at reply op) ≡ core_word (word_of_op pass.view.opened.sizes op)
 on_word pass opens reply (Load word) works fits = refl
 on_word pass opens reply (Take cell) works fits = refl
 on_word pass opens reply (Give cell) works fits = refl
@@ -96,43 +96,43 @@ exchanged found head count = elim (cases_eq found head) [
 ]
 
 -- a step of a call at hand that is due may come by its kind
-may_come : (pass : PassState) (deed : Deed) → (due : IsDue pass None deed)
-    → MayByKind pass.sight.opened.sizes (values_before pass.sight due.works) (pass_before pass.sight None due.works) deed
-may_come pass deed due =
-    next_steps_may_come pass.sight.opened.sizes (values_before pass.sight due.works) (pass_before pass.sight None due.works) deed due.may
+may_come : (pass : PassState) (core_op : CoreOp) → (due : Precondition pass None core_op)
+    → EnabledByKind pass.view.opened.sizes (values_before pass.view due.works) (pass_before pass.view None due.works) core_op
+may_come pass core_op due =
+    next_steps_may_come pass.view.opened.sizes (values_before pass.view due.works) (pass_before pass.view None due.works) core_op due.may
 
-value_so : (dirty : NoDirtyAboveTheLog) (pass : PassState) (opens : Option FileCall) (reply : Reply) (op : Op) → Fits pass.sight.opened.sizes opens (pass_of pass.sight) op → (few : pass.sight.opened.sizes.entries ≤ 1024) → (due : IsDue pass opens (deed_at reply op))
-    → (core : Core) → Sound pass.sight.opened.sizes (mount_of pass.sight.opened).values core → core.made ≤ 2 ^ 32
-    → core.passes pass.sight.number ≡ pass_worked pass.sight.opened.sizes due.works (pass_of pass.sight)
-    → core.words (core_word (word_of_op pass.sight.opened.sizes op)) < 2 ^ 64
-    → value_after pass.sight.opened.sizes (pass_before pass.sight opens due.works) (deed_at reply op) (core.words (core_word (word_of_op pass.sight.opened.sizes op)))
-    ≡ changed (change_of op) (core.words (core_word (word_of_op pass.sight.opened.sizes op)))
+value_so : (dirty : NoDirtyAboveTheLog) (pass : PassState) (opens : Option FileCall) (reply : Reply) (op : Op) → Fits pass.view.opened.sizes opens (pass_of pass.view) op → (few : pass.view.opened.sizes.entries ≤ 1024) → (due : Precondition pass opens (core_op_at reply op))
+    → (core : Core) → Sound pass.view.opened.sizes (mount_of pass.view.opened).values core → core.made ≤ 2 ^ 32
+    → core.passes pass.view.number ≡ pass_worked pass.view.opened.sizes due.works (pass_of pass.view)
+    → core.words (core_word (word_of_op pass.view.opened.sizes op)) < 2 ^ 64
+    → value_after pass.view.opened.sizes (pass_before pass.view opens due.works) (core_op_at reply op) (core.words (core_word (word_of_op pass.view.opened.sizes op)))
+    ≡ changed (change_of op) (core.words (core_word (word_of_op pass.view.opened.sizes op)))
 value_so dirty pass opens reply (Load word) fits few due core sound made is low = refl
 value_so dirty pass opens reply (Take cell) fits few due core sound made is low =
-    locked (core.words (core_word cell)) (sound.locks.bit (core_word cell) (due_lock pass opens (Takes (core_word cell)) (core_word cell) (inl refl) due))
+    locked (core.words (core_word cell)) (sound.locks.bit (core_word cell) (due_lock pass opens (TakeOp (core_word cell)) (core_word cell) (inl refl) due))
 value_so dirty pass opens reply (Give cell) fits few due core sound made is low = refl
 value_so dirty pass opens reply Place fits few due core sound made is low = let few = sound.history.few in omega (arith, few, made)
 value_so dirty pass opens reply Stop fits few due core sound made is low = refl
 value_so dirty pass opens reply (Draw head count) fits few due core sound made is low =
-    let sizes = pass.sight.opened.sizes in
+    let sizes = pass.view.opened.sizes in
     ap₂ (λ h n. if core.words HEAD == h then core.words HEAD + n else core.words HEAD)
     (leaves pass opens due.works (λ p. p.head) (λ sizes work p. refl) fits.0 ∙ sym fits.1)
     (leaves pass opens due.works (λ p. page_count sizes p.call) (λ sizes work p. refl) fits.0 ∙ sym fits.2)
     ∙ exchanged (core.words HEAD) head count
 value_so dirty pass opens reply (Seize number) fits few due core sound made is low = refl
-value_so dirty pass opens reply (Pledge page) fits few due core sound made is low = let most = dirty pass.sight.opened.sizes (mount_of pass.sight.opened).values core page sound in omega (arith, most, few)
+value_so dirty pass opens reply (Pledge page) fits few due core sound made is low = let most = dirty pass.view.opened.sizes (mount_of pass.view.opened).values core page sound in omega (arith, most, few)
 value_so dirty pass opens reply (Ready number word) fits few due core sound made is low =
-    leaves pass opens due.works (λ p. ready_word pass.sight.opened.sizes p number) (λ sizes work p. refl) fits.0 ∙ sym fits.1
+    leaves pass opens due.works (λ p. ready_word pass.view.opened.sizes p number) (λ sizes work p. refl) fits.0 ∙ sym fits.1
 value_so dirty pass opens reply (Grow file length) fits few due core sound made is low =
     leaves pass opens due.works (λ p. at_of p.call + len_of p.call) (λ sizes work p. refl) fits.0 ∙ sym fits.2
 value_so dirty pass opens reply (Break number) fits few due core sound made is low = refl
 value_so dirty pass None reply (Hold number) fits few due core sound made is low =
-    let by_kind = may_come pass (Holds number) due in
-    held_next pass.sight.opened.sizes _ core pass.sight.number by_kind.0 number sound (ap (λ (p : Pass). p.stage) is ∙ by_kind.1) low
+    let by_kind = may_come pass (HoldOp number) due in
+    held_next pass.view.opened.sizes _ core pass.view.number by_kind.0 number sound (ap (λ (p : Pass). p.control) is ∙ by_kind.1) low
 value_so dirty pass (Some call) reply (Hold number) fits few due core sound made is low = absurd (begins_none call fits)
 value_so dirty pass None reply (Return number) fits few due core sound made is low =
-    let by_kind = may_come pass (Returns number) due in
-    returned_next pass.sight.opened.sizes _ core pass.sight.number by_kind.0 number sound by_kind.1 (ap (λ (p : Pass). p.stage) is ∙ by_kind.2) low
+    let by_kind = may_come pass (ReturnOp number) due in
+    returned_next pass.view.opened.sizes _ core pass.view.number by_kind.0 number sound by_kind.1 (ap (λ (p : Pass). p.control) is ∙ by_kind.2) low
 value_so dirty pass (Some call) reply (Return number) fits few due core sound made is low = absurd (begins_none call fits)
 value_so dirty pass opens reply (Turn page) fits few due core sound made is low = refl
 value_so dirty pass opens reply (Hint buffer page) fits few due core sound made is low = refl
@@ -140,18 +140,18 @@ value_so dirty pass opens reply (Hint buffer page) fits few due core sound made 
 -- ---- its word and its sum
 
 -- it is on a word of the mount
-word_so : (pass : PassState) (opens : Option FileCall) (reply : Reply) (op : Op) → Fits pass.sight.opened.sizes opens (pass_of pass.sight) op
-    → (due : IsDue pass opens (deed_at reply op)) → Stands pass opens (deed_at reply op) due.works → IsWord pass.sight.opened.sizes (core_word (word_of_op pass.sight.opened.sizes op))
-word_so pass opens reply op fits due stands = subst (IsWord pass.sight.opened.sizes) (on_word pass opens reply op due.works fits) stands.on
+word_so : (pass : PassState) (opens : Option FileCall) (reply : Reply) (op : Op) → Fits pass.view.opened.sizes opens (pass_of pass.view) op
+    → (due : Precondition pass opens (core_op_at reply op)) → Stands pass opens (core_op_at reply op) due.works → IsWord pass.view.opened.sizes (core_word (word_of_op pass.view.opened.sizes op))
+word_so pass opens reply op fits due stands = subst (IsWord pass.view.opened.sizes) (on_word pass opens reply op due.works fits) stands.on
 
 -- and a draw's numbers are small
-small_so : (pass : PassState) (opens : Option FileCall) (reply : Reply) (op : Op) → Fits pass.sight.opened.sizes opens (pass_of pass.sight) op
-    → (due : IsDue pass opens (deed_at reply op)) → Stands pass opens (deed_at reply op) due.works → IsSmall op
+small_so : (pass : PassState) (opens : Option FileCall) (reply : Reply) (op : Op) → Fits pass.view.opened.sizes opens (pass_of pass.view) op
+    → (due : Precondition pass opens (core_op_at reply op)) → Stands pass opens (core_op_at reply op) due.works → SumIsSmall op
 small_so pass opens reply (Draw head count) fits due stands =
-    let sizes = pass.sight.opened.sizes in
-    let before = pass_before pass.sight opens due.works in
-    let stage : before.stage ≡ Drawing = next_steps_may_come sizes (values_before pass.sight due.works) before Draws due.may in
-    let at : StandsAt sizes before Drawing = subst (StandsAt sizes before) stage stands.stands.at in
+    let sizes = pass.view.opened.sizes in
+    let before = pass_before pass.view opens due.works in
+    let control : before.control ≡ DrawNumbers = next_steps_may_come sizes (values_before pass.view due.works) before DrawOp due.may in
+    let at : FactsAt sizes before DrawNumbers = subst (FactsAt sizes before) control stands.stands.at in
     let small = at.1 in
     let head_is = leaves pass opens due.works (λ p. p.head) (λ sizes work p. refl) fits.0 ∙ sym fits.1 in
     let count_is = leaves pass opens due.works (λ p. page_count sizes p.call) (λ sizes work p. refl) fits.0 ∙ sym fits.2 in
@@ -171,23 +171,23 @@ small_so pass opens reply (Return number) fits due stands = tt
 small_so pass opens reply (Turn page) fits due stands = tt
 small_so pass opens reply (Hint buffer page) fits due stands = tt
 
-pub op_stands : (pass : PassState) (opens : Option FileCall) (deed : Deed) (op : Op) → deed ≡ deed_of pass.sight op → Fits pass.sight.opened.sizes opens (pass_of pass.sight) op
-    → DueStepsStand pass → IsDue pass opens deed → IsWord pass.sight.opened.sizes (core_word (word_of_op pass.sight.opened.sizes op)) × IsSmall op
-op_stands pass opens deed op is fits stand due =
-    let reply = reply_at pass.sight.opened.sizes (values_of pass.sight) (pass_of pass.sight) (pass_of pass.sight).stage in
-    let due_now = subst (IsDue pass opens) is due in
-    let stands = stand opens (deed_of pass.sight op) due_now in
+pub op_stands : (pass : PassState) (opens : Option FileCall) (core_op : CoreOp) (op : Op) → core_op ≡ core_op_of pass.view op → Fits pass.view.opened.sizes opens (pass_of pass.view) op
+    → DueStepsStand pass → Precondition pass opens core_op → IsWord pass.view.opened.sizes (core_word (word_of_op pass.view.opened.sizes op)) × SumIsSmall op
+op_stands pass opens core_op op is fits stand due =
+    let reply = reply_at pass.view.opened.sizes (values_of pass.view) (pass_of pass.view) (pass_of pass.view).control in
+    let due_now = subst (Precondition pass opens) is due in
+    let stands = stand opens (core_op_of pass.view op) due_now in
     (word_so pass opens reply op fits due_now stands, small_so pass opens reply op fits due_now stands)
 
 -- ---- it is ready
 
-pub op_ready : (dirty : NoDirtyAboveTheLog) (pass : PassState) (opens : Option FileCall) (reply : Reply) (op : Op) (at : ℕ) (said : List Work → Type 0) (due : IsDue pass opens (deed_at reply op))
-    → Fits pass.sight.opened.sizes opens (pass_of pass.sight) op → pass.sight.opened.sizes.entries ≤ 1024
-    → at ≡ place pass.sight.opened.sizes (core_word (word_of_op pass.sight.opened.sizes op)) → said due.works
-    → (is : IsReady pass opens (deed_at reply op) at (changed (change_of op))) × said is.works
+pub op_ready : (dirty : NoDirtyAboveTheLog) (pass : PassState) (opens : Option FileCall) (reply : Reply) (op : Op) (at : ℕ) (said : List Work → Type 0) (due : Precondition pass opens (core_op_at reply op))
+    → Fits pass.view.opened.sizes opens (pass_of pass.view) op → pass.view.opened.sizes.entries ≤ 1024
+    → at ≡ place pass.view.opened.sizes (core_word (word_of_op pass.view.opened.sizes op)) → said due.works
+    → (is : PreconditionAt pass opens (core_op_at reply op) at (changed (change_of op))) × said is.works
 op_ready dirty pass opens reply op at said due fits few there so =
-    let sizes = pass.sight.opened.sizes in
-    let before = pass_before pass.sight opens due.works in
+    let sizes = pass.view.opened.sizes in
+    let before = pass_before pass.view opens due.works in
     let on = on_word pass opens reply op due.works fits in (
       record {
         works = due.works;
@@ -198,7 +198,7 @@ op_ready dirty pass opens reply op at said due fits few there so =
           staying = due.staying;
           word = ap (place sizes) on ∙ sym there;
           value = λ core sound made is low.
-              subst (λ w. value_after sizes before (deed_at reply op) (core.words w) ≡ changed (change_of op) (core.words w)) (sym on)
+              subst (λ w. value_after sizes before (core_op_at reply op) (core.words w) ≡ changed (change_of op) (core.words w)) (sym on)
               (value_so dirty pass opens reply op fits few due core sound made is (subst (λ w. core.words w < 2 ^ 64) on low));
         };
         holds = due.holds;
@@ -208,7 +208,7 @@ op_ready dirty pass opens reply op at said due fits few there so =
 
 -- ---- what it makes of the numbers that its pass has drawn
 
-pub marks_so : (opens : Option Asked) (reply : Reply) (op : Op) → marks_of (opened_by opens) (deed_at reply op) ≡ marks_for opens op
+pub marks_so : (opens : Option Asked) (reply : Reply) (op : Op) → marks_of (opened_by opens) (core_op_at reply op) ≡ marks_for opens op
 marks_so (Some asked) reply op = refl
 marks_so None reply (Load word) = refl
 marks_so None reply (Take cell) = refl

@@ -6,14 +6,14 @@ use Rattle.nv_plain.specs.declared.call.FileCall.{FileCall}
 use Rattle.nv_plain.specs.declared.call.FileCall.TheVariants.{Read, Write, Sync}
 use Rattle.nv_table.specs.declared.stepping.Marks.{Marks}
 use Rattle.nv_table.specs.declared.stepping.Marks.TheVariants.{Nothing, Draws as DrawsNumbers, Places as TakesPlace, Stops as EndsCall}
-use Rattle.nv_core.specs.Words.{Sizes, Word as CoreWord, STOP, ORDER, HEAD, TAIL, HAND, SIZE, LENGTH, STORE, ENTRY, HINT, PAGE, CLEANUP, DIRTY}
-use Rattle.nv_core.specs.Deeds.{Deed, Loads, Takes, Gives, Places, Stops, Draws, Seizes, Pledges, Readies, Grows, Breaks, Holds, Returns, Turns, Hints, slot_of, ready_word}
-use Rattle.nv_core.specs.Passes.{Pass, file_of, at_of, len_of, page_count}
+use Rattle.nv_core.specs.state.Words.{Sizes, Word as CoreWord, STOP, ORDER, HEAD, TAIL, HAND, SIZE, LENGTH, STORE, ENTRY, HINT, PAGE, CLEANUP, DIRTY}
+use Rattle.nv_core.specs.steps.Ops.{Op as CoreOp, Load as LoadOp, Take as TakeOp, Give as GiveOp, Place as PlaceOp, Stop as StopOp, Draw as DrawOp, Seize as SeizeOp, Pledge as PledgeOp, Ready as ReadyOp, Grow as GrowOp, Break as BreakOp, Hold as HoldOp, Return as ReturnOp, Turn as TurnOp, Hint as HintOp, slot_of_entry, ready_word}
+use Rattle.nv_core.specs.state.Passes.{Pass, file_of, at_of, len_of, page_count}
 use Rattle.nv_plain.specs.declared.call.Reply.{Reply}
-use Rattle.nv_table.specs.Sights.{Sight, pass_of, values_of}
-use Rattle.nv_table.specs.Turns.{reply_at}
+use Rattle.nv_table.specs.state.Views.{PassView, pass_of, values_of}
+use Rattle.nv_table.specs.steps.CallSteps.{reply_at}
 use Rattle.nv_table.specs.declared.acting.Change.{Change}
-use Rattle.nv_table.specs.declared.acting.Change.TheVariants.{Load as LoadsIt, Add, Subtract, Set, Exchange}
+use Rattle.nv_table.specs.declared.acting.Change.TheVariants.{Keep, Add, Subtract, Set, Exchange}
 use Rattle.nv_op.specs.declared.op.Word.{Word}
 use Rattle.nv_op.specs.declared.op.Word.TheVariants.{Stop as StopWord, Order, Head, Tail, Hand, Size, Length, Store, Entry, Hint as HintWord, Page, Cleanup, Dirty}
 use Rattle.nv_op.specs.declared.op.Asked.{Asked}
@@ -44,20 +44,20 @@ word_of_op sizes (Give cell) = cell
 word_of_op sizes Place = Order
 word_of_op sizes Stop = StopWord
 word_of_op sizes (Draw head count) = Head
-word_of_op sizes (Seize number) = Entry (slot_of sizes number)
+word_of_op sizes (Seize number) = Entry (slot_of_entry sizes number)
 word_of_op sizes (Pledge page) = Dirty page
-word_of_op sizes (Ready number word) = Entry (slot_of sizes number)
+word_of_op sizes (Ready number word) = Entry (slot_of_entry sizes number)
 word_of_op sizes (Grow file length) = Length file
-word_of_op sizes (Break number) = Entry (slot_of sizes number)
-word_of_op sizes (Hold number) = Entry (slot_of sizes number)
-word_of_op sizes (Return number) = Entry (slot_of sizes number)
+word_of_op sizes (Break number) = Entry (slot_of_entry sizes number)
+word_of_op sizes (Hold number) = Entry (slot_of_entry sizes number)
+word_of_op sizes (Return number) = Entry (slot_of_entry sizes number)
 word_of_op sizes (Turn page) = Hand
 word_of_op sizes (Hint buffer page) = HintWord buffer
 
 -- its sum is a number of 64 bits
-abbrev pub IsSmall : Op → Type 0
-IsSmall (Draw head count) = head + count < 2 ^ 64
-IsSmall op = Unit {0}
+abbrev pub SumIsSmall : Op → Type 0
+SumIsSmall (Draw head count) = head + count < 2 ^ 64
+SumIsSmall op = Unit {0}
 
 -- what it says of the pass is so
 abbrev pub Fits : Sizes → Option FileCall → Pass → Op → Type 0
@@ -69,7 +69,7 @@ Fits sizes opens pass (Return number) = opens ≡ None
 Fits sizes opens pass op = Unit {0}
 
 abbrev pub change_of : Op → Change
-change_of (Load word) = LoadsIt
+change_of (Load word) = Keep
 change_of (Take cell) = Exchange 0 1
 change_of (Give cell) = Set 0
 change_of Place = Add 1
@@ -86,13 +86,13 @@ change_of (Turn page) = Add 1
 change_of (Hint buffer page) = Set page
 
 -- the call that a step begins, if it does
-abbrev pub call_of : Asked → FileCall
-call_of (AsksRead file at len) = Read file at len
-call_of (AsksWrite file at bytes) = Write file at bytes.now
-call_of (AsksSync file) = Sync file
+abbrev pub call_asked : Asked → FileCall
+call_asked (AsksRead file at len) = Read file at len
+call_asked (AsksWrite file at bytes) = Write file at bytes.now
+call_asked (AsksSync file) = Sync file
 
 abbrev pub opened_by : Option Asked → Option FileCall
-opened_by (Some asked) = Some (call_of asked)
+opened_by (Some asked) = Some (call_asked asked)
 opened_by None = None
 
 abbrev pub marks_for : Option Asked → Op → Marks
@@ -112,23 +112,23 @@ moves_for (Break number) (Some slot) = Goes slot
 moves_for (Return number) (Some slot) = Goes slot
 moves_for op slot = Stays
 
--- its deed, with the reply of a call that takes its place
-abbrev pub deed_at : Reply → Op → Deed
-deed_at reply (Load word) = Loads (core_word word)
-deed_at reply (Take cell) = Takes (core_word cell)
-deed_at reply (Give cell) = Gives (core_word cell)
-deed_at reply Place = Places reply
-deed_at reply Stop = Stops
-deed_at reply (Draw head count) = Draws
-deed_at reply (Seize number) = Seizes number
-deed_at reply (Pledge page) = Pledges page
-deed_at reply (Ready number word) = Readies number
-deed_at reply (Grow file length) = Grows
-deed_at reply (Break number) = Breaks number
-deed_at reply (Hold number) = Holds number
-deed_at reply (Return number) = Returns number
-deed_at reply (Turn page) = Turns page
-deed_at reply (Hint buffer page) = Hints buffer page
+-- its operation, with the reply of a call that takes its place
+abbrev pub core_op_at : Reply → Op → CoreOp
+core_op_at reply (Load word) = LoadOp (core_word word)
+core_op_at reply (Take cell) = TakeOp (core_word cell)
+core_op_at reply (Give cell) = GiveOp (core_word cell)
+core_op_at reply Place = PlaceOp reply
+core_op_at reply Stop = StopOp
+core_op_at reply (Draw head count) = DrawOp
+core_op_at reply (Seize number) = SeizeOp number
+core_op_at reply (Pledge page) = PledgeOp page
+core_op_at reply (Ready number word) = ReadyOp number
+core_op_at reply (Grow file length) = GrowOp
+core_op_at reply (Break number) = BreakOp number
+core_op_at reply (Hold number) = HoldOp number
+core_op_at reply (Return number) = ReturnOp number
+core_op_at reply (Turn page) = TurnOp page
+core_op_at reply (Hint buffer page) = HintOp buffer page
 
-abbrev pub deed_of : Sight → Op → Deed
-deed_of sight op = deed_at (reply_at sight.opened.sizes (values_of sight) (pass_of sight) (pass_of sight).stage) op
+abbrev pub core_op_of : PassView → Op → CoreOp
+core_op_of view op = core_op_at (reply_at view.opened.sizes (values_of view) (pass_of view) (pass_of view).control) op

@@ -1,9 +1,9 @@
 //! The steps that calls make, as operations on shared words.
 ghost use Rattle.std.specs.Prelude.{◌≡◌};
-ghost use Rattle.nv_core.specs.Words.{IsWord, place};
-ghost use Rattle.nv_table.specs.Keys.{sizes_of};
-ghost use Rattle.nv_table.specs.Layout.{slot_of};
-ghost use Rattle.nv_op.specs.Ops.{IsSmall, core_word, word_of_op, change_of, marks_for, moves_for};
+ghost use Rattle.nv_core.specs.state.Words.{IsWord, place};
+ghost use Rattle.nv_table.specs.state.Keys.{sizes_of};
+ghost use Rattle.nv_table.specs.state.Layout.{slot_of_cell};
+ghost use Rattle.nv_op.specs.Ops.{SumIsSmall, core_word, word_of_op, change_of, marks_for, moves_for};
 
 use nv_table::{Change, HAND, HEAD, Layout, Marks, Moves, ORDER, STOP, TAIL};
 
@@ -38,7 +38,7 @@ pub enum Asked<'a> {
 pub enum Op {
     /// The word is read.
     Load { word: Word },
-    /// The lock goes from 0 to 1, and what its cell keeps comes into the pass's hands; where it is 1 already nothing changes.
+    /// The lock goes from 0 to 1, and what its cell keeps comes to the pass; where it is 1 already nothing changes.
     Take { cell: Word },
     /// And back.
     Give { cell: Word },
@@ -48,7 +48,7 @@ pub enum Op {
     Stop,
     /// HEAD rises by so many, where it is still as the pass saw it last.
     Draw { head: u64, count: u64 },
-    /// The entry of a number is being filled, and its part comes into the hands.
+    /// The entry of a number is being filled, and its part comes to the pass.
     Seize { number: u64 },
     /// DIRTY of a page rises. A buffer of the page that counts has the write's piece before.
     Pledge { page: u64 },
@@ -58,7 +58,7 @@ pub enum Op {
     Grow { file: u64, length: u64 },
     /// The entry of a number is broken, after a device fault, and its part goes back.
     Break { number: u64 },
-    /// The entry of a number is held, and its part comes into the hands.
+    /// The entry of a number is held, and its part comes to the pass.
     Hold { number: u64 },
     /// It is ready again, and its part goes back.
     Return { number: u64 },
@@ -127,11 +127,11 @@ impl Op {
 
     // What it makes of the word.
     pub(crate) fn change(self) -> Change
-        requires { IsSmall self }
+        requires { SumIsSmall self }
         ensures { result ≡ change_of self }
     {
         match self {
-            Op::Load { .. } => Change::Load,
+            Op::Load { .. } => Change::Keep,
             Op::Take { .. } => Change::Exchange(0, 1),
             Op::Give { .. } => Change::Set(0),
             Op::Place | Op::Pledge { .. } | Op::Hold { .. } | Op::Turn { .. } => Change::Add(1),
@@ -161,7 +161,7 @@ impl Op {
     // The slot of the word's cell, if it keeps something.
     fn slot(self, layout: Layout) -> Option<usize>
         requires { IsWord (sizes_of layout) (core_word (word_of_op (sizes_of layout) self)) }
-        ensures { result ≡ slot_of (sizes_of layout) (core_word (word_of_op (sizes_of layout) self)) }
+        ensures { result ≡ slot_of_cell (sizes_of layout) (core_word (word_of_op (sizes_of layout) self)) }
     {
         layout.slot(self.place(layout))
     }
@@ -169,7 +169,7 @@ impl Op {
     // And how it moves.
     pub(crate) fn moves(self, layout: Layout) -> Moves
         requires { IsWord (sizes_of layout) (core_word (word_of_op (sizes_of layout) self)) }
-        ensures { result ≡ moves_for self (slot_of (sizes_of layout) (core_word (word_of_op (sizes_of layout) self))) }
+        ensures { result ≡ moves_for self (slot_of_cell (sizes_of layout) (core_word (word_of_op (sizes_of layout) self))) }
     {
         let slot = self.slot(layout);
         match (self, slot) {

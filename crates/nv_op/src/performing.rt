@@ -1,32 +1,32 @@
 //! One step of a pass.
 ghost use Rattle.std.specs.Prelude.{◌≡◌, None};
-ghost use Rattle.nv_table.specs.Ready.{Stepped};
-ghost use Rattle.nv_table.specs.Sights.{pass_of};
-ghost use Rattle.nv_table.specs.States.{IsOf};
-ghost use Rattle.nv_table.specs.Turns.{IsDue};
-ghost use Rattle.nv_op.specs.Ops.{Fits, deed_of, opened_by};
+ghost use Rattle.nv_table.specs.steps.StepContracts.{Postcondition};
+ghost use Rattle.nv_table.specs.state.Views.{pass_of};
+ghost use Rattle.nv_table.specs.state.States.{IsOf};
+ghost use Rattle.nv_table.specs.steps.CallSteps.{Precondition};
+ghost use Rattle.nv_op.specs.Ops.{Fits, core_op_of, opened_by};
 
 use crate::{Asked, Op};
 use nv_core::no_sound_state_allows;
 use nv_pmem::Lines;
 use nv_store::Backing;
-use nv_table::{Board, Does, Pass, Says, step};
+use nv_table::{Board, Pass, Says, StepSpec, step};
 use std::marker::Brand;
 
 // A step, with what is so of the device calls before it.
-fn perform_by<E: Does, L: Lines, B: Backing>(
+fn perform_by<E: StepSpec, L: Lines, B: Backing>(
     board: &Board<L, B>,
     pass: &mut Pass<L, B>,
     opens: Option<Asked<'_>>,
     op: Op,
 ) -> u64
     requires board { IsOf board.now pass.old }
-    requires fits { Fits pass.old.sight.opened.sizes (opened_by opens) (pass_of pass.old.sight) op }
-    requires deed { E.deed ≡ deed_of pass.old.sight op }
+    requires fits { Fits pass.old.view.opened.sizes (opened_by opens) (pass_of pass.old.view) op }
+    requires op { E.op ≡ core_op_of pass.old.view op }
     requires opens { E.opens ≡ opened_by opens }
-    requires due { (due : IsDue pass.old E.opens E.deed) × E.said due.works }
+    requires due { (due : Precondition pass.old E.opens E.op) × E.said due.works }
     ensures board { IsOf board.now pass.new }
-    ensures stepped { (stepped : Stepped pass.old E.opens E.deed result pass.new) × E.said stepped.works }
+    ensures stepped { (stepped : Postcondition pass.old E.opens E.op result pass.new) × E.said stepped.works }
 {
     no_sound_state_allows();
     pass.due_steps_stand();
@@ -50,10 +50,10 @@ pub fn perform<L: Lines, B: Backing>(
     op: Op,
 ) -> u64
     requires board { IsOf board.now pass.old }
-    requires fits { Fits pass.old.sight.opened.sizes (opened_by opens) (pass_of pass.old.sight) op }
-    requires due { IsDue pass.old (opened_by opens) (deed_of pass.old.sight op) }
+    requires fits { Fits pass.old.view.opened.sizes (opened_by opens) (pass_of pass.old.view) op }
+    requires due { Precondition pass.old (opened_by opens) (core_op_of pass.old.view op) }
     ensures board { IsOf board.now pass.new }
-    ensures stepped { Stepped pass.old (opened_by opens.entry) (deed_of pass.old.sight op) result pass.new }
+    ensures stepped { Postcondition pass.old (opened_by opens.entry) (core_op_of pass.old.view op) result pass.new }
 {
     perform_by::<Brand, L, B>(board, pass, opens, op)
 }
@@ -65,10 +65,10 @@ pub fn perform_after<W: Says, L: Lines, B: Backing>(
     op: Op,
 ) -> u64
     requires board { IsOf board.now pass.old }
-    requires fits { Fits pass.old.sight.opened.sizes None (pass_of pass.old.sight) op }
-    requires due { (due : IsDue pass.old None (deed_of pass.old.sight op)) × W.said due.works }
+    requires fits { Fits pass.old.view.opened.sizes None (pass_of pass.old.view) op }
+    requires due { (due : Precondition pass.old None (core_op_of pass.old.view op)) × W.said due.works }
     ensures board { IsOf board.now pass.new }
-    ensures stepped { (stepped : Stepped pass.old None (deed_of pass.old.sight op) result pass.new) × W.said stepped.works }
+    ensures stepped { (stepped : Postcondition pass.old None (core_op_of pass.old.view op) result pass.new) × W.said stepped.works }
 {
     perform_by::<Brand, L, B>(board, pass, None, op)
 }

@@ -9,12 +9,12 @@ use Rattle.nv_pmem.specs.RowStates.{AreNow}
 use Rattle.nv_pmem.specs.Rows.{RowTells, row_words}
 use Rattle.nv_pmem.specs.Steps as lines
 use Rattle.nv_pmem.specs.declared.geometry.Geometry.{Geometry}
-use Rattle.nv_store.specs.Steps.{History}
+use Rattle.nv_store.specs.Steps.{StoreHistory}
 use Rattle.nv_bench.specs.Holding.{Holding, NamedStore}
 use Rattle.nv_bench.specs.Opening.{is_blank, opened}
 use Rattle.nv_header.specs.Needs.{HasLines}
 use Rattle.nv_recover.specs.Standing.{files_of}
-use Rattle.nv_open.specs.Begun.{IsKept, IsBegun, IsOpened, IsNotOpened, files_behind}
+use Rattle.nv_open.specs.Begun.{IsRegionKept, IsOpeningBegun, IsRegionOpened, IsNotOpened, files_behind}
 use Rattle.nv_open.specs.Adding.{new_names}
 use Rattle.nv_open.specs.Held.{HoldFiles, files_named}
 use Rattle.nv_open.specs.Lending.{stores_named}
@@ -24,7 +24,7 @@ use Rattle.nv_open.specs.declared.error.Refusal.TheVariants.{TooManyFiles}
 use Rattle.nv_open.proofs.Regions.{row_has}
 use Rattle.nv_open.proofs.Sized.{opened_kept, blank_stays, long_opened}
 
-pub given_long : (geometry : Geometry) (told mid : Option Holding) (row : List lines.History) → mid ≡ option_map (λ (holding : Holding). record { parts = []; stores = holding.stores }) told
+pub given_long : (geometry : Geometry) (told mid : Option Holding) (row : List lines.PartHistory) → mid ≡ option_map (λ (holding : Holding). record { parts = []; stores = holding.stores }) told
     → IfSome told (λ holding. AreNow row (opened (Some geometry) holding.parts))
     → IfSome mid (λ holding. RowTells row (λ parts. is_blank parts ≡ true → HasLines version_1 geometry.page geometry.entries (rooms_of parts)))
 given_long geometry None mid row is are =
@@ -37,10 +37,10 @@ pub some_map : (told : Option Holding) (P Q : Holding → Type 0) → ((holding 
 some_map None P Q step has = tt
 some_map (Some holding) P Q step has = step holding has
 
-begun_before : (geometry asked : Geometry) (parts : List Part) (page entries : ℕ) (names : List (List ℕ)) (next : ℕ) → IsBegun (opened (Some geometry) parts) asked page entries names next → IsBegun parts asked page entries names next
+begun_before : (geometry asked : Geometry) (parts : List Part) (page entries : ℕ) (names : List (List ℕ)) (next : ℕ) → IsOpeningBegun (opened (Some geometry) parts) asked page entries names next → IsOpeningBegun parts asked page entries names next
 begun_before geometry asked parts page entries names next begun = record {
   formatted = λ is. begun.formatted (blank_stays geometry parts ∙ is);
-  kept = λ is. subst (λ (these : List Part). IsKept these page entries names next) (opened_kept geometry parts is) (begun.kept (blank_stays geometry parts ∙ is));
+  kept = λ is. subst (λ (these : List Part). IsRegionKept these page entries names next) (opened_kept geometry parts is) (begun.kept (blank_stays geometry parts ∙ is));
 }
 
 -- a blank region stands for what the stores hold
@@ -52,8 +52,8 @@ files_cases geometry parts names stores true is =
     blank_files (opened (Some geometry) parts) names stores (blank_stays geometry parts ∙ sym is) ∙ sym (blank_files parts names stores (sym is))
 files_cases geometry parts names stores false is = ap (λ (these : List Part). files_named these names stores) (opened_kept geometry parts (sym is))
 
-pub opened_before : (geometry : Geometry) (holding : Holding) (wanted : List (List ℕ)) (page entries : ℕ) (names : List (List ℕ)) (next : ℕ) (row : List History)
-    → IsOpened (record { parts = opened (Some geometry) holding.parts; stores = holding.stores }) geometry wanted page entries names next row → IsOpened holding geometry wanted page entries names next row
+pub opened_before : (geometry : Geometry) (holding : Holding) (wanted : List (List ℕ)) (page entries : ℕ) (names : List (List ℕ)) (next : ℕ) (row : List StoreHistory)
+    → IsRegionOpened (record { parts = opened (Some geometry) holding.parts; stores = holding.stores }) geometry wanted page entries names next row → IsRegionOpened holding geometry wanted page entries names next row
 opened_before geometry holding wanted page entries names next row is = record {
   known = is.known;
   begun = begun_before geometry geometry holding.parts page entries is.known next is.begun;
@@ -74,7 +74,7 @@ not_opened_before geometry parts wanted why is = record {
 }
 
 -- the parts of a region that is refused are those that the bench held
-pub given_kept : (geometry : Geometry) (told : Option Holding) (row : List lines.History) (wanted : List (List ℕ)) (why : Refusal) → ¬ (why ≡ TooManyFiles)
+pub given_kept : (geometry : Geometry) (told : Option Holding) (row : List lines.PartHistory) (wanted : List (List ℕ)) (why : Refusal) → ¬ (why ≡ TooManyFiles)
     → IfSome told (λ holding. AreNow row (opened (Some geometry) holding.parts)) → IfSome told (λ holding. IsNotOpened holding.parts geometry wanted why) → IfSome told (λ holding. AreNow row holding.parts)
 given_kept geometry None row wanted why other are is = tt
 given_kept geometry (Some holding) row wanted why other are is =

@@ -3,13 +3,13 @@ use Rattle.std.proofs.Common.{◌≡◌, ℕ, Bool, true, false, cond, List, [],
 use Rattle.std.specs.Prelude.{Option, Some, None, IfSome, Result, Ok, Err, IfOk, IfErr}
 use Rattle.nv_plain.specs.Layouts.{version_1}
 use Rattle.nv_plain.specs.Recovered.{recovered}
-use Rattle.nv_pmem.specs.Laws.{QuietHasOneImage}
+use Rattle.nv_pmem.specs.Laws.{QuietPartHasOneImage}
 use Rattle.nv_pmem.specs.Part.{Part}
 use Rattle.nv_pmem.specs.RowStates.{AreNow, row_tells_from, row_tells_at}
 use Rattle.nv_pmem.specs.Rows.{RowTells, AreQuiet, row_words}
 use Rattle.nv_pmem.specs.Steps as lines
 use Rattle.nv_pmem.specs.declared.geometry.Geometry.{Geometry}
-use Rattle.nv_store.specs.Steps.{History}
+use Rattle.nv_store.specs.Steps.{StoreHistory}
 use Rattle.nv_bench.specs.Benches.{BenchState, with_faults}
 use Rattle.nv_bench.specs.Holding.{Holding}
 use Rattle.nv_bench.specs.Opening.{is_blank}
@@ -17,7 +17,7 @@ use Rattle.nv_header.specs.Needs.{HasLines}
 use Rattle.nv_header.specs.Regions.{IsBlankRow}
 use Rattle.nv_recover.specs.Standing.{files_of}
 use Rattle.nv_recover.specs.declared.recovering.Recovered.{Recovered}
-use Rattle.nv_open.specs.Begun.{IsFormatted, IsBegun}
+use Rattle.nv_open.specs.Begun.{IsFormatted, IsOpeningBegun}
 use Rattle.nv_open.specs.Held.{HoldFiles, IsRecovered, files_named, names_opened, AreUnwritten}
 use Rattle.nv_open.specs.Lending.{stores_named, stores_lent}
 use Rattle.nv_open.specs.Refusals.{rooms_of, IsRefusedFor, IsBadHeader}
@@ -46,29 +46,29 @@ if_err_both P Q R (Ok value) step one other = tt
 if_err_both P Q R (Err error) step one other = step error one other
 
 -- what the test has told of the parts
-pub tells_test : (was row : List lines.History) (answer is : Bool) → was ≡ row → RowTells was (λ told. answer ≡ is_blank told) → answer ≡ is → RowTells row (λ told. is_blank told ≡ is)
+pub tells_test : (was row : List lines.PartHistory) (answer is : Bool) → was ≡ row → RowTells was (λ told. answer ≡ is_blank told) → answer ≡ is → RowTells row (λ told. is_blank told ≡ is)
 tells_test was row answer is same told test =
-    subst (λ (these : List lines.History). RowTells these (λ parts. is_blank parts ≡ is)) same
+    subst (λ (these : List lines.PartHistory). RowTells these (λ parts. is_blank parts ≡ is)) same
     (row_tells_from was (λ parts. is_blank parts ≡ is) (λ parts are. sym (row_tells_at was (λ these. answer ≡ is_blank these) parts are told) ∙ test))
 
-pub blank_rows : QuietHasOneImage → (row : List lines.History) → RowTells row AreQuiet → RowTells row (λ told. is_blank told ≡ true) → RowTells row IsBlankRow
+pub blank_rows : QuietPartHasOneImage → (row : List lines.PartHistory) → RowTells row AreQuiet → RowTells row (λ told. is_blank told ≡ true) → RowTells row IsBlankRow
 blank_rows one row quiet blank = row_tells_from row IsBlankRow (λ told are. blank_row one told (row_tells_at row AreQuiet told are quiet) (row_tells_at row (λ these. is_blank these ≡ true) told are blank))
 
 never : {A : Type 0} (b : Bool) → b ≡ true → b ≡ false → A
 never b yes_is no_is = absurd (let both : true ≡ false = sym yes_is ∙ no_is in cc)
 
-pub begun_formatted : (row : List lines.History) (geometry : Geometry) (page entries : ℕ) (names : List (List ℕ)) (next : ℕ) → RowTells row (λ told. is_blank told ≡ true)
-    → IsFormatted geometry page entries names next → RowTells row (λ told. IsBegun told geometry page entries names next)
+pub begun_formatted : (row : List lines.PartHistory) (geometry : Geometry) (page entries : ℕ) (names : List (List ℕ)) (next : ℕ) → RowTells row (λ told. is_blank told ≡ true)
+    → IsFormatted geometry page entries names next → RowTells row (λ told. IsOpeningBegun told geometry page entries names next)
 begun_formatted row geometry page entries names next blank formatted =
-    row_tells_from row (λ told. IsBegun told geometry page entries names next) (λ told are. record {
+    row_tells_from row (λ told. IsOpeningBegun told geometry page entries names next) (λ told are. record {
       formatted = λ yes_is. formatted;
       kept = λ no_is. never (is_blank told) (row_tells_at row (λ these. is_blank these ≡ true) told are blank) no_is;
     })
 
-pub begun_kept : (row : List lines.History) (geometry : Geometry) (page entries : ℕ) (names : List (List ℕ)) (next : ℕ) (found : Recovered) → RowTells row (λ told. is_blank told ≡ false)
-    → RowTells row (λ told. IsRecovered told page entries names next found) → RowTells row (λ told. IsBegun told geometry page entries names next)
+pub begun_kept : (row : List lines.PartHistory) (geometry : Geometry) (page entries : ℕ) (names : List (List ℕ)) (next : ℕ) (found : Recovered) → RowTells row (λ told. is_blank told ≡ false)
+    → RowTells row (λ told. IsRecovered told page entries names next found) → RowTells row (λ told. IsOpeningBegun told geometry page entries names next)
 begun_kept row geometry page entries names next found blank is =
-    row_tells_from row (λ told. IsBegun told geometry page entries names next) (λ told are. record {
+    row_tells_from row (λ told. IsOpeningBegun told geometry page entries names next) (λ told are. record {
       formatted = λ yes_is. never (is_blank told) yes_is (row_tells_at row (λ these. is_blank these ≡ false) told are blank);
       kept = λ no_is. record { found = found; recovered = row_tells_at row (λ these. IsRecovered these page entries names next found) told are is };
     })
@@ -82,17 +82,17 @@ none_held parts blank = record {
   quiet = λ k d inside. absurd (omega arith);
 }
 
-pub files_blank : (row : List lines.History) (stores : List History) (told : Option Holding) (names : List (List ℕ)) → names ≡ [] → stores ≡ [] → RowTells row (λ parts. is_blank parts ≡ true)
+pub files_blank : (row : List lines.PartHistory) (stores : List StoreHistory) (told : Option Holding) (names : List (List ℕ)) → names ≡ [] → stores ≡ [] → RowTells row (λ parts. is_blank parts ≡ true)
     → IfSome told (λ holding. RowTells row (λ parts. HoldFiles stores (files_named parts names holding.stores)))
 files_blank row stores None names no_name no_store blank = tt
 files_blank row stores (Some holding) names no_name no_store blank =
     row_tells_from row (λ parts. HoldFiles stores (files_named parts names holding.stores)) (λ parts are.
     subst (λ (these : List (List ℕ)). HoldFiles stores (files_named parts these holding.stores)) (sym no_name)
-    (subst (λ (these : List History). HoldFiles these (files_named parts [] holding.stores)) (sym no_store)
+    (subst (λ (these : List StoreHistory). HoldFiles these (files_named parts [] holding.stores)) (sym no_store)
     (none_held parts (row_tells_at row (λ these. is_blank these ≡ true) parts are blank))))
 
 -- A blank region isn't refused, where a bench tells what it gave.
-pub not_short : (row : List lines.History) (geometry : Geometry) (P : List Part → Type 0) → RowTells row (λ told. is_blank told ≡ true)
+pub not_short : (row : List lines.PartHistory) (geometry : Geometry) (P : List Part → Type 0) → RowTells row (λ told. is_blank told ≡ true)
     → RowTells row (λ told. is_blank told ≡ true → HasLines version_1 geometry.page geometry.entries (rooms_of told))
     → RowTells row (λ told. ¬ (HasLines version_1 geometry.page geometry.entries (rooms_of told))) → RowTells row P
 not_short row geometry P blank long short =
@@ -101,20 +101,20 @@ not_short row geometry P blank long short =
     (row_tells_at row (λ these. is_blank these ≡ true → HasLines version_1 geometry.page geometry.entries (rooms_of these)) told are long
     (row_tells_at row (λ these. is_blank these ≡ true) told are blank))))
 
-pub opened_short : (row : List lines.History) (why : Refusal) → IsBadHeader why → HasOpened why [] row
+pub opened_short : (row : List lines.PartHistory) (why : Refusal) → IsBadHeader why → HasOpened why [] row
 opened_short row why bad = has_opened why [] row (row_tells_from row (λ told. names_opened why told ≡ []) (λ told are. names_of_header why told bad))
 
-pub refused_kept : (row : List lines.History) (why : Refusal) → RowTells row (λ told. is_blank told ≡ false) → RowTells row (λ told. IsRefusedFor told why)
+pub refused_kept : (row : List lines.PartHistory) (why : Refusal) → RowTells row (λ told. is_blank told ≡ false) → RowTells row (λ told. IsRefusedFor told why)
     → RowTells row (λ told. (is_blank told ≡ false) × IsRefusedFor told why)
 refused_kept row why blank refused =
     row_tells_from row (λ told. (is_blank told ≡ false) × IsRefusedFor told why) (λ told are.
     (row_tells_at row (λ these. is_blank these ≡ false) told are blank, row_tells_at row (λ these. IsRefusedFor these why) told are refused))
 
 -- the same of parts that tell the same
-pub unwritten_since : {X Y : Type 0} (part_history : X → lines.History) (store_history : Y → History) (why : Refusal) (old new : BenchState) (before was now : List X) (stores : List Y)
+pub unwritten_since : {X Y : Type 0} (part_history : X → lines.PartHistory) (store_history : Y → StoreHistory) (why : Refusal) (old new : BenchState) (before was now : List X) (stores : List Y)
     → map part_history was ≡ map part_history before → AreUnwritten part_history store_history why old new was now stores → AreUnwritten part_history store_history why old new before now stores
 unwritten_since part_history store_history why old new before was now stores same are = record {
   parts = are.parts ∙ same;
-  lent = subst (λ (row : List lines.History). RowTells row (λ told. new ≡ with_faults new.faults (stores_lent (names_opened why told) old))) same are.lent;
-  held = subst (λ (row : List lines.History). IfSome old.told (λ holding. RowTells row (λ told. AreNow (map store_history stores) (stores_named (names_opened why told) holding.stores)))) same are.held;
+  lent = subst (λ (row : List lines.PartHistory). RowTells row (λ told. new ≡ with_faults new.faults (stores_lent (names_opened why told) old))) same are.lent;
+  held = subst (λ (row : List lines.PartHistory). IfSome old.told (λ holding. RowTells row (λ told. AreNow (map store_history stores) (stores_named (names_opened why told) holding.stores)))) same are.held;
 }

@@ -7,7 +7,7 @@ use Rattle.nv_pmem.specs.Part.{Part}
 use Rattle.nv_pmem.specs.Room.{Room}
 use Rattle.nv_pmem.specs.RowStates.{AreNow, tells_at, row_tells_from}
 use Rattle.nv_pmem.specs.Rows.{RowTells}
-use Rattle.nv_pmem.specs.Steps.{History}
+use Rattle.nv_pmem.specs.Steps.{PartHistory}
 use Rattle.nv_header.specs.Heads.{IsHeadOf, header_image}
 use Rattle.nv_header.specs.Needs.{HasLines, header_history, header_lines_in, lines_found, lines_wanted}
 use Rattle.nv_header.specs.Refusals.{IsRefused}
@@ -42,7 +42,7 @@ refused_for parts (head.BadName i) why is refused = subst (λ (one : Refusal). I
 refused_for parts head.RegionFault why is refused = cc
 refused_for parts head.NoMemory why is refused = cc
 
-module _ {X : Type 0} (history : X → History) (room : X → Room) (lines : (p : X) (now : Part) (past : History) → history p ≡ now ∷ past → length now ≡ (room p).lines) where
+module _ {X : Type 0} (history : X → PartHistory) (room : X → Room) (lines : (p : X) (now : Part) (past : PartHistory) → history p ≡ now ∷ past → length now ≡ (room p).lines) where
   -- the header that is read of parts is refused
   head_refused : (parts : List X) (told : List Part) (refusal : HeadError) → AreNow (map history parts) told
       → (header_lines_in (map room parts) < version_1.header_lines → refusal ≡ head.Truncated (header_lines_in (map room parts)) version_1.header_lines)

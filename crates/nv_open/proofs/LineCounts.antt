@@ -10,7 +10,7 @@ use Rattle.nv_pmem.specs.Limits.{entry_lines}
 use Rattle.nv_pmem.specs.Part.{Part}
 use Rattle.nv_pmem.specs.Room.{Room, Keeps}
 use Rattle.nv_pmem.specs.RowStates.{AreNow}
-use Rattle.nv_pmem.specs.Steps.{History}
+use Rattle.nv_pmem.specs.Steps.{PartHistory}
 use Rattle.nv_header.specs.Laws.{HasSpare}
 use Rattle.nv_header.specs.Needs.{HasLines, header_lines_in, lines_found}
 use Rattle.nv_open.specs.Refusals.{rooms_of}
@@ -92,7 +92,7 @@ kept_spare room (x ∷ old) (y ∷ new) keeps spare (suc k) d inside =
     kept_spare room old new keeps.1 (λ i none within. spare (suc i) none (omega arith)) k d (omega arith)
 
 -- Parts have the lines that they tell of.
-pub told_counts : {X : Type 0} (history : X → History) (room : X → Room) → ((p : X) (now : Part) (past : History) → history p ≡ now ∷ past → length now ≡ (room p).lines)
+pub told_counts : {X : Type 0} (history : X → PartHistory) (room : X → Room) → ((p : X) (now : Part) (past : PartHistory) → history p ≡ now ∷ past → length now ≡ (room p).lines)
     → (parts : List X) (told : List Part) → AreNow (map history parts) told → counts_of (map room parts) ≡ counts_of (rooms_of told)
 told_counts history room lines [] [] are = refl
 told_counts history room lines [] (now ∷ told) are = absurd are

@@ -55,7 +55,7 @@ files_held old new was readable states keep was_are tell stand across can =
       quiet = holds.synced;
     })
 
-module _ {X : Type 0} (history : X → lines.History) (room : X → Room) (told_lines : (p : X) (now : Part) (past : lines.History) → history p ≡ now ∷ past → length now ≡ (room p).lines)
+module _ {X : Type 0} (history : X → lines.PartHistory) (room : X → Room) (told_lines : (p : X) (now : Part) (past : lines.PartHistory) → history p ≡ now ∷ past → length now ≡ (room p).lines)
     (parts : List X) (one : Head) (has : HasLines version_1 one.geometry.page one.geometry.entries (map room parts))
     (is : Tells (header_history (map history parts)) (λ now. IsHeadOf version_1 (header_lines_in (map room parts)) (header_image now) one)) where
   some : 1 ≤ length parts

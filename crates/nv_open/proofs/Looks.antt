@@ -10,7 +10,7 @@ use Rattle.nv_pmem.specs.Part.{Part}
 use Rattle.nv_pmem.specs.Room.{Room}
 use Rattle.nv_pmem.specs.RowStates.{AreNow, row_tells_from, row_tells_at}
 use Rattle.nv_pmem.specs.Rows.{RowTells, row_words}
-use Rattle.nv_pmem.specs.Steps.{History}
+use Rattle.nv_pmem.specs.Steps.{PartHistory}
 use Rattle.nv_store.specs.Steps as stores
 use Rattle.nv_store.specs.Store.{Store}
 use Rattle.nv_bench.specs.Benches.{BenchState, with_faults, region_lent, taken_back, told_back}
@@ -23,7 +23,7 @@ use Rattle.nv_recover.specs.Standing.{ReadableStandsForRecovered}
 use Rattle.nv_open.specs.Lending.{AreOpened, HasLent, stores_named, without_stores, without_named, stores_lent}
 use Rattle.nv_look.specs.declared.error.LookError.{LookError}
 use Rattle.nv_look.specs.declared.error.LookError.TheVariants as looks
-use Rattle.nv_open.specs.Looking.{HasLentBy, ShowsFiles, ShowsRegion, of_look, told_by}
+use Rattle.nv_open.specs.Looking.{HasLentBy, ShowsFiles, ShowsRegion, of_looking, told_by}
 use Rattle.nv_open.specs.Refusals.{header_part}
 use Rattle.nv_open.specs.declared.error.OpenError.TheVariants as error
 use Rattle.nv_open.specs.declared.error.Refusal.{Refusal}
@@ -34,7 +34,7 @@ use Rattle.nv_open.proofs.Regions.{lent_told}
 -- ---- what is read
 
 -- a header that can be read is one of lines enough
-pub head_needs : (row : List History) (lines : ℕ) (one : Head) → Tells (header_history row) (λ now. IsHeadOf version_1 lines (header_image now) one)
+pub head_needs : (row : List PartHistory) (lines : ℕ) (one : Head) → Tells (header_history row) (λ now. IsHeadOf version_1 lines (header_image now) one)
     → Tells (header_history row) (λ now. IsHeadOf version_1 version_1.header_lines (header_image now) one)
 head_needs [] lines one is = tt
 head_needs ([] ∷ row) lines one is = tt
@@ -47,13 +47,13 @@ head_needs ((now ∷ past) ∷ row) lines one is = record {
 }
 
 -- a look refuses no region
-pub no_refusal : (one : LookError) (why : Refusal) → of_look one ≡ error.Refused why → ⊥
+pub no_refusal : (one : LookError) (why : Refusal) → of_looking one ≡ error.Refused why → ⊥
 no_refusal looks.RegionFault why is = cc
 no_refusal looks.NoMemory why is = cc
 
 -- ---- what is shown
 
-module _ {X : Type 0} (history : X → History) (room : X → Room) (told_lines : (p : X) (now : Part) (past : History) → history p ≡ now ∷ past → length now ≡ (room p).lines)
+module _ {X : Type 0} (history : X → PartHistory) (room : X → Room) (told_lines : (p : X) (now : Part) (past : PartHistory) → history p ≡ now ∷ past → length now ≡ (room p).lines)
     (parts : List X) (one : Head) (some : 1 ≤ length parts) (has : HasLines version_1 one.geometry.page one.geometry.entries (map room parts))
     (is : Tells (header_history (map history parts)) (λ now. IsHeadOf version_1 (header_lines_in (map room parts)) (header_image now) one)) where
   shown_one : (files : List (List ℕ)) (text : List ℕ) (told : List Part) → AreNow (map history parts) told → IsLookText one (row_words told) files text → ShowsRegion told files text
@@ -92,7 +92,7 @@ pub on_ok : {T E P : Type 0} (result : Result T E) → P → OnOk result P
 on_ok (Ok value) has = has
 on_ok (Err e) has = tt
 
-module _ {X Y : Type 0} (part_history : X → History) (store_history : Y → stores.History) where
+module _ {X Y : Type 0} (part_history : X → PartHistory) (store_history : Y → stores.StoreHistory) where
   -- the stores of these names were opened alone, and only read since
   pub lent_by : (fault_count : Y → ℕ) (names : List (List ℕ)) (which : List Part → List (List ℕ)) (faults : ℕ) (old new : BenchState) (parts : List X) (before now after : List Y)
       → RowTells (map part_history parts) (λ told. names ≡ which told) → before ≡ [] → AreOpened store_history fault_count names faults old new before now
@@ -100,7 +100,7 @@ module _ {X Y : Type 0} (part_history : X → History) (store_history : Y → st
   lent_by fault_count names which faults old new parts before now after are none opened same =
       let alone : now ≡ opened.stores = opened.behind ∙ ap (λ (front : List Y). front ++ opened.stores) none in
       let kept : map store_history after ≡ map store_history opened.stores = same ∙ ap (map store_history) alone in
-      let Held : List stores.History → Type 0 = λ row. IfSome old.told (λ holding. AreNow row (stores_named names holding.stores)) in
+      let Held : List stores.StoreHistory → Type 0 = λ row. IfSome old.told (λ holding. AreNow row (stores_named names holding.stores)) in
       record {
         lent_names = names;
         are = are;
@@ -134,7 +134,7 @@ module _ {X Y : Type 0} (part_history : X → History) (store_history : Y → st
       let stores_are : AreNow (map store_history lent) held =
       subst (λ (these : List (List ℕ)). AreNow (map store_history lent) (stores_named these holding.stores)) named
       (subst (λ (one : Option Holding). IfSome one (λ these. AreNow (map store_history lent) (stores_named by.lent_names these.stores))) mid_told by.told) in
-      back holding.parts held (subst (λ (row : List History). AreNow row holding.parts) (sym same) are) stores_are
+      back holding.parts held (subst (λ (row : List PartHistory). AreNow row holding.parts) (sym same) are) stores_are
       ∙ (λ i. option_map (λ (these : Holding). record { parts = holding.parts; stores = these.stores ++ named_stores (new_lent i) held }) (new_told i))
 
   -- a region without its stores
@@ -150,6 +150,6 @@ module _ {X Y : Type 0} (part_history : X → History) (store_history : Y → st
       let mid_told : mid.told ≡ Some (record { parts = []; stores = holding.stores }) =
       lent_told old mid mid_is ∙ ap (λ (one : Option Holding). option_map (λ (these : Holding). record { parts = []; stores = these.stores }) one) is in
       let mid_lent : mid.lent ≡ [] = ap (λ (state : BenchState). state.lent) mid_is ∙ home in
-      back holding.parts [] (subst (λ (row : List History). AreNow row holding.parts) (sym same) are) (subst (λ (these : List Y). AreNow {S = Store} (map store_history these) []) (sym empty) tt)
+      back holding.parts [] (subst (λ (row : List PartHistory). AreNow row holding.parts) (sym same) are) (subst (λ (these : List Y). AreNow {S = Store} (map store_history these) []) (sym empty) tt)
       ∙ (λ i. option_map (λ (these : Holding). record { parts = holding.parts; stores = these.stores ++ named_stores (mid_lent i) [] }) (mid_told i))
       ∙ ap (λ left. Some (record { parts = holding.parts; stores = left })) (append-nil holding.stores)

@@ -10,7 +10,7 @@ use Rattle.nv_plain.specs.Names.{is_name}
 use Rattle.nv_plain.specs.Layouts.{Layout}
 use Rattle.nv_pmem.specs.RowStates.{AreNow, IsNow}
 use Rattle.nv_pmem.specs.Part.{Part}
-use Rattle.nv_store.specs.Steps.{History}
+use Rattle.nv_store.specs.Steps.{StoreHistory}
 use Rattle.nv_store.specs.Store.{Store}
 use Rattle.nv_bench.specs.Benches.{BenchState, with_faults, store_lent}
 use Rattle.nv_bench.specs.Holding.{Holding, NamedStore, store_of, without_store, is_named}
@@ -103,7 +103,7 @@ none_left : (names : List (List ℕ)) (told : Option Holding) → told ≡ None 
 none_left names None none = refl
 none_left names (Some holding) none = cc
 
-told_push : {Y : Type 0} (history : Y → History) (names : List (List ℕ)) (name : List ℕ) (told then : Option Holding) (stores : List Y) (store : Y)
+told_push : {Y : Type 0} (history : Y → StoreHistory) (names : List (List ℕ)) (name : List ℕ) (told then : Option Holding) (stores : List Y) (store : Y)
     → then ≡ option_map (without_named names) told
     → ¬ (Contains names name)
     → IfSome told (λ holding. AreNow (map history stores) (stores_named names holding.stores))
@@ -115,12 +115,12 @@ told_push history names name (Some holding) then stores store is apart are this 
     let left = store_of_others name names holding.stores apart in
     let Now : Store → Type 0 = λ one. IsNow (history store) one in
     let all = are_now_push (map history stores) (stores_named names holding.stores) (history store) (store_of name holding.stores) are (subst Now left (subst At is this)) in
-    let Row : List History → Type 0 = λ row. AreNow row (stores_named names holding.stores ++ store_of name holding.stores ∷ []) in
+    let Row : List StoreHistory → Type 0 = λ row. AreNow row (stores_named names holding.stores ++ store_of name holding.stores ∷ []) in
     let States : List Store → Type 0 = λ states. AreNow (map history (stores ++ store ∷ [])) states in
     subst States (sym (map_push (λ (one : List ℕ). store_of one holding.stores) names name)) (subst Row (sym (map_push history stores store)) all)
 
 -- one more store is opened
-pub opened_more : {Y : Type 0} (history : Y → History) (fault_count : Y → ℕ) (names : List (List ℕ)) (name : List ℕ) (old was new : BenchState) (before now : List Y) (store : Y)
+pub opened_more : {Y : Type 0} (history : Y → StoreHistory) (fault_count : Y → ℕ) (names : List (List ℕ)) (name : List ℕ) (old was new : BenchState) (before now : List Y) (store : Y)
     → ¬ (Contains names name)
     → AreOpened history fault_count names was.faults old was before now
     → new ≡ with_faults new.faults (store_lent name was)
@@ -148,7 +148,7 @@ failed_cause was new result Failed is failed memory = failed is
 failed_cause was new result NoMemory is failed memory = ap (λ (state : BenchState). state.faults) (memory is)
 
 -- the first ones were opened, and then an opening failed
-pub opened_until : {Y : Type 0} (history : Y → History) (fault_count : Y → ℕ) (names : List (List ℕ)) (number : ℕ) (old was new : BenchState) (before now : List Y) (error : BenchError)
+pub opened_until : {Y : Type 0} (history : Y → StoreHistory) (fault_count : Y → ℕ) (names : List (List ℕ)) (number : ℕ) (old was new : BenchState) (before now : List Y) (error : BenchError)
     → number ≤ length names → AreOpened history fault_count (take number names) was.faults old was before now
     → new ≡ with_faults new.faults was → OpeningHasCause was.faults new.faults error
     → AreBegun history fault_count names old new before now error
@@ -169,7 +169,7 @@ opened_until history fault_count names number old was new before now error fits 
 }
 
 -- none was opened yet
-pub opened_none : {Y : Type 0} (history : Y → History) (fault_count : Y → ℕ) (old : BenchState) (before now : List Y) → now ≡ before → AreOpened history fault_count [] old.faults old old before now
+pub opened_none : {Y : Type 0} (history : Y → StoreHistory) (fault_count : Y → ℕ) (old : BenchState) (before now : List Y) → now ≡ before → AreOpened history fault_count [] old.faults old old before now
 opened_none {Y} history fault_count old before now same = record {
   stores = [];
   behind = same ∙ sym (append-nil before);

@@ -6,7 +6,7 @@ use Rattle.std.proofs.lemmas.List.FromFn.{length-range_with_len}
 use Rattle.std.specs.List.{range_with_len}
 use Rattle.std.specs.Prelude.{Some, IfSome, Option, None, slice_index_or}
 use Rattle.nv_plain.specs.Layouts.{version_1}
-use Rattle.nv_pmem.specs.Images.{IsQuiet, IsQuietLine}
+use Rattle.nv_pmem.specs.Images.{IsQuietPart, IsQuietLine}
 use Rattle.nv_pmem.specs.Laws.{BlankIsQuiet}
 use Rattle.nv_pmem.specs.Limits.{entry_lines}
 use Rattle.nv_pmem.specs.Made.{resized}
@@ -52,15 +52,15 @@ resized_lines P (suc count) [] (suc more) (suc line) blank each = resized_lines 
 resized_lines P (suc count) (first ∷ part) more zero blank each = each 0
 resized_lines P (suc count) (first ∷ part) more (suc line) blank each = resized_lines P count part more line blank (λ k. each (suc k))
 
-quiet_resized : BlankIsQuiet → (count : ℕ) (part : Part) → IsQuiet part → IsQuiet (resized count part)
+quiet_resized : BlankIsQuiet → (count : ℕ) (part : Part) → IsQuietPart part → IsQuietPart (resized count part)
 quiet_resized blank count part quiet = record { lines = λ line. resized_lines IsQuietLine count part count line blank quiet.lines }
 
-each_quiet : (make : ℕ → Part) (places : List ℕ) (i : ℕ) → ((k : ℕ) → IsQuiet (make k)) → IsQuiet [] → IsQuiet (slice_index_or (map make places) i [])
+each_quiet : (make : ℕ → Part) (places : List ℕ) (i : ℕ) → ((k : ℕ) → IsQuietPart (make k)) → IsQuietPart [] → IsQuietPart (slice_index_or (map make places) i [])
 each_quiet make [] i quiet none = none
 each_quiet make (place ∷ places) zero quiet none = quiet place
 each_quiet make (place ∷ places) (suc i) quiet none = each_quiet make places i quiet none
 
-sized_each : BlankIsQuiet → (geometry : Geometry) (parts : List Part) → AreQuiet parts → (i : ℕ) → IsQuiet (slice_index_or (sized version_1 geometry parts) i [])
+sized_each : BlankIsQuiet → (geometry : Geometry) (parts : List Part) → AreQuiet parts → (i : ℕ) → IsQuietPart (slice_index_or (sized version_1 geometry parts) i [])
 sized_each blank geometry parts quiet zero = quiet_resized blank 18 (slice_index_or parts 0 []) (quiet.each 0)
 sized_each blank geometry parts quiet (suc i) =
     each_quiet (λ (k : ℕ). resized (entry_lines geometry.page) (slice_index_or parts k [])) (range_with_len 1 geometry.entries) i

@@ -4,7 +4,7 @@ use Rattle.std.specs.Prelude.{Option, IfSome, Result, Ok, Err, OnOk, IfOk, optio
 use Rattle.std.proofs.lemmas.List.Elements.{All-nil}
 use Rattle.nv_pmem.specs.Laws.{BlankIsQuiet}
 use Rattle.nv_pmem.specs.declared.picker.Pick.{Pick}
-use Rattle.nv_store.specs.Store.{IsQuiet}
+use Rattle.nv_store.specs.Store.{IsQuietStore}
 use Rattle.nv_bench.specs.Benches.{BenchState}
 use Rattle.nv_bench.specs.Holding.{Holding, NamedStore, IsQuietHolding}
 use Rattle.nv_bench.specs.Laws.{PowerLeavesAnImage}
@@ -30,4 +30,4 @@ quiet_after law pick bench told is =
 pub quiet_new : BlankIsQuiet → (state : BenchState) → state ≡ new_state (record { parts = []; stores = [] }) → IfSome state.told IsQuietHolding
 quiet_new blank state is =
     subst (λ (one : Option Holding). IfSome one IsQuietHolding) (sym (ap (λ (one : BenchState). one.told) is))
-    (record { parts = no_part_quiet blank; stores = All-nil (λ (named : NamedStore). IsQuiet named.store) })
+    (record { parts = no_part_quiet blank; stores = All-nil (λ (named : NamedStore). IsQuietStore named.store) })

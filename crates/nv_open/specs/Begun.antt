@@ -4,7 +4,7 @@ use Rattle.nv_plain.specs.Files.{Files}
 use Rattle.nv_plain.specs.Layouts.{version_1}
 use Rattle.nv_pmem.specs.Part.{Part}
 use Rattle.nv_pmem.specs.declared.geometry.Geometry.{Geometry}
-use Rattle.nv_store.specs.Steps.{History}
+use Rattle.nv_store.specs.Steps.{StoreHistory}
 use Rattle.nv_bench.specs.Holding.{Holding, NamedStore}
 use Rattle.nv_bench.specs.Opening.{is_blank}
 use Rattle.nv_recover.specs.Standing.{files_of}
@@ -24,14 +24,14 @@ pub record IsFormatted (geometry : Geometry) (page entries : ℕ) (names : List 
   pub next_is : next ≡ 0
 
 -- Any other one is recovered, and is as its header says.
-pub record IsKept (parts : List Part) (page entries : ℕ) (names : List (List ℕ)) (next : ℕ) : Type 0 where
+pub record IsRegionKept (parts : List Part) (page entries : ℕ) (names : List (List ℕ)) (next : ℕ) : Type 0 where
   pub found : Recovered
   pub recovered : IsRecovered parts page entries names next found
 
 -- so it begins
-pub record IsBegun (parts : List Part) (geometry : Geometry) (page entries : ℕ) (names : List (List ℕ)) (next : ℕ) : Type 0 where
+pub record IsOpeningBegun (parts : List Part) (geometry : Geometry) (page entries : ℕ) (names : List (List ℕ)) (next : ℕ) : Type 0 where
   pub formatted : is_blank parts ≡ true → IsFormatted geometry page entries names next
-  pub kept : is_blank parts ≡ false → IsKept parts page entries names next
+  pub kept : is_blank parts ≡ false → IsRegionKept parts page entries names next
 
 -- files, and behind them those of the stores of these names
 abbrev pub files_behind : Files → List (List ℕ) → List NamedStore → Files
@@ -42,9 +42,9 @@ abbrev pub files_with : List Part → (known wanted : List (List ℕ)) → List 
 files_with parts known wanted stores = files_behind (files_named parts known stores) (new_names known wanted) stores
 
 -- A region is opened, with the wanted names: those that it had, and behind them those of the wanted ones that are new.
-pub record IsOpened (holding : Holding) (geometry : Geometry) (wanted : List (List ℕ)) (page entries : ℕ) (names : List (List ℕ)) (next : ℕ) (row : List History) : Type 0 where
+pub record IsRegionOpened (holding : Holding) (geometry : Geometry) (wanted : List (List ℕ)) (page entries : ℕ) (names : List (List ℕ)) (next : ℕ) (row : List StoreHistory) : Type 0 where
   pub known : List (List ℕ)
-  pub begun : IsBegun holding.parts geometry page entries known next
+  pub begun : IsOpeningBegun holding.parts geometry page entries known next
   pub names_are : names ≡ all_names known wanted
   pub files : HoldFiles row (files_with holding.parts known wanted holding.stores)
 
@@ -54,7 +54,7 @@ pub record HasTooMany (parts : List Part) (geometry : Geometry) (wanted : List (
   pub entries : ℕ
   pub known : List (List ℕ)
   pub next : ℕ
-  pub begun : IsBegun parts geometry page entries known next
+  pub begun : IsOpeningBegun parts geometry page entries known next
   pub many : version_1.file_limit < length (all_names known wanted)
 
 -- Why it isn't opened: it isn't blank and is refused, or it would have too many files.

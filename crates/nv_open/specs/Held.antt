@@ -8,7 +8,7 @@ use Rattle.nv_pmem.specs.Part.{Part}
 use Rattle.nv_pmem.specs.RowStates.{AreNow}
 use Rattle.nv_pmem.specs.Rows.{RowTells, row_words}
 use Rattle.nv_pmem.specs.Steps as lines
-use Rattle.nv_store.specs.Steps.{History}
+use Rattle.nv_store.specs.Steps.{StoreHistory}
 use Rattle.nv_store.specs.Store.{Store}
 use Rattle.nv_bench.specs.Benches.{BenchState, with_faults}
 use Rattle.nv_bench.specs.Holding.{Holding, NamedStore, named_stores}
@@ -30,7 +30,7 @@ abbrev pub files_named : List Part → List (List ℕ) → List NamedStore → F
 files_named parts names stores = region_files (row_words parts) (files_of (stores_named names stores))
 
 -- Stores tell that they hold these files, and that they are durable.
-pub record HoldFiles (row : List History) (files : Files) : Type 0 where
+pub record HoldFiles (row : List StoreHistory) (files : Files) : Type 0 where
   pub held : List Store
   pub are : AreNow row held
   pub files_are : files_of held ≡ files
@@ -70,7 +70,7 @@ abbrev pub told_after : Refusal → Option Holding → Option Holding
 told_after why told = option_map (λ holding. returned (names_opened why holding.parts) holding) told
 
 -- Of parts and stores that are lent nothing is written: the parts tell what they told, and the stores what they were lent with.
-pub record AreUnwritten {X Y : Type 0} (part_history : X → lines.History) (store_history : Y → History) (why : Refusal) (old new : BenchState) (before now : List X) (stores : List Y) : Type 0 where
+pub record AreUnwritten {X Y : Type 0} (part_history : X → lines.PartHistory) (store_history : Y → StoreHistory) (why : Refusal) (old new : BenchState) (before now : List X) (stores : List Y) : Type 0 where
   pub parts : map part_history now ≡ map part_history before
   pub lent : RowTells (map part_history before) (λ told. new ≡ with_faults new.faults (stores_lent (names_opened why told) old))
   pub held : IfSome old.told (λ holding. RowTells (map part_history before) (λ told.

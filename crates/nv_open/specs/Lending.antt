@@ -2,7 +2,7 @@
 use Rattle.std.specs.Prelude.{◌≡◌, ℕ, ◌+◌, ◌≤◌, List, [], ◌++◌, length, map, take, fold, sum_by, All, None, IfSome, option_map}
 use Rattle.nv_plain.specs.Faults.{Rose, saturated}
 use Rattle.nv_pmem.specs.RowStates.{AreNow}
-use Rattle.nv_store.specs.Steps.{History}
+use Rattle.nv_store.specs.Steps.{StoreHistory}
 use Rattle.nv_store.specs.Store.{Store}
 use Rattle.nv_bench.specs.Benches.{BenchState, with_faults, region_lent}
 use Rattle.nv_bench.specs.Holding.{Holding, NamedStore, store_of, without_store}
@@ -30,7 +30,7 @@ abbrev pub all_lent : List (List ℕ) → BenchState → BenchState
 all_lent names bench = stores_lent names (region_lent bench)
 
 -- The stores of these names were opened, and stand behind those that were there. The bench's count was this one when they were.
-pub record AreOpened {Y : Type 0} (history : Y → History) (fault_count : Y → ℕ) (names : List (List ℕ)) (faults : ℕ) (old new : BenchState) (before now : List Y) : Type 0 where
+pub record AreOpened {Y : Type 0} (history : Y → StoreHistory) (fault_count : Y → ℕ) (names : List (List ℕ)) (faults : ℕ) (old new : BenchState) (before now : List Y) : Type 0 where
   pub stores : List Y
   pub behind : now ≡ before ++ stores
   pub count : length stores ≡ length names
@@ -45,7 +45,7 @@ OpeningHasCause before now Failed = Rose before now
 OpeningHasCause before now NoMemory = now ≡ before
 
 -- The first so many stores were opened, and the next one wasn't, or there was no memory before.
-pub record AreBegun {Y : Type 0} (history : Y → History) (fault_count : Y → ℕ) (names : List (List ℕ)) (old new : BenchState) (before now : List Y) (error : BenchError) : Type 0 where
+pub record AreBegun {Y : Type 0} (history : Y → StoreHistory) (fault_count : Y → ℕ) (names : List (List ℕ)) (old new : BenchState) (before now : List Y) (error : BenchError) : Type 0 where
   pub number : ℕ
   pub no_more : number ≤ length names
   -- the bench's count before what failed

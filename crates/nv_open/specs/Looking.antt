@@ -7,7 +7,7 @@ use Rattle.nv_pmem.specs.Part.{Part}
 use Rattle.nv_pmem.specs.RowStates.{AreNow}
 use Rattle.nv_pmem.specs.Rows.{RowTells, row_words}
 use Rattle.nv_pmem.specs.Steps as lines
-use Rattle.nv_store.specs.Steps.{History}
+use Rattle.nv_store.specs.Steps.{StoreHistory}
 use Rattle.nv_bench.specs.Benches.{BenchState, with_faults}
 use Rattle.nv_bench.specs.Holding.{Holding}
 use Rattle.nv_header.specs.Heads.{IsHeadOf}
@@ -22,9 +22,9 @@ use Rattle.nv_open.specs.declared.error.OpenError.{OpenError}
 use Rattle.nv_open.specs.declared.error.OpenError.TheVariants as error
 
 -- why a region isn't shown that can be read
-abbrev pub of_look : LookError → OpenError
-of_look looks.RegionFault = error.Fault
-of_look looks.NoMemory = error.NoMemory
+abbrev pub of_looking : LookError → OpenError
+of_looking looks.RegionFault = error.Fault
+of_looking looks.NoMemory = error.NoMemory
 
 -- The text shows the region of these parts, with these files: its header can be read, and the lines that it says are there.
 pub record ShowsRegion (parts : List Part) (files : List (List ℕ)) (text : List ℕ) : Type 0 where
@@ -48,7 +48,7 @@ abbrev pub told_by : (names : List Part → List (List ℕ)) → Option Holding 
 told_by names told = option_map (λ holding. returned (names holding.parts) holding) told
 
 -- The stores of those names are lent that the parts say so, in the states that they were in at home.
-pub record HasLentBy {X Y : Type 0} (part_history : X → lines.History) (store_history : Y → History) (names : List Part → List (List ℕ)) (old new : BenchState) (parts : List X) (stores : List Y) : Type 0 where
+pub record HasLentBy {X Y : Type 0} (part_history : X → lines.PartHistory) (store_history : Y → StoreHistory) (names : List Part → List (List ℕ)) (old new : BenchState) (parts : List X) (stores : List Y) : Type 0 where
   pub lent_names : List (List ℕ)
   pub are : RowTells (map part_history parts) (λ told. lent_names ≡ names told)
   pub lent : new ≡ with_faults new.faults (stores_lent lent_names old)

@@ -1,3 +1,4 @@
+//! The names that are wanted and not there are added.
 ghost use Rattle.std.specs.Prelude.{◌≡◌, ◌+◌, ◌++◌, length, map, sum_by, Err, IfOk, IfErr};
 ghost use Rattle.nv_plain.specs.Layouts.{version_1};
 ghost use Rattle.nv_header.specs.FileNames.{AreFileNames};

@@ -1,3 +1,4 @@
+//! Why a region is refused or not opened.
 use nv_bench::BenchError;
 use nv_header::{AddError, HeadError, HeadField, Truncated};
 use nv_look::LookError;
@@ -116,9 +117,9 @@ impl From<RecoverError> for OpenError {
 
 impl From<LookError> for OpenError {
     ghost use Rattle.std.specs.Prelude.{◌≡◌};
-    ghost use Rattle.nv_open.specs.Looking.{of_look};
+    ghost use Rattle.nv_open.specs.Looking.{of_looking};
 
-    ghost from_gives = { λ error e. e ≡ of_look error };
+    ghost from_gives = { λ error e. e ≡ of_looking error };
 
     fn from(error: LookError) -> Self {
         match error {

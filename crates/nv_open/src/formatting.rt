@@ -1,3 +1,4 @@
+//! A blank region of a bench is formatted.
 ghost use Rattle.std.specs.Prelude.{◌≡◌, All, true, map, sum_by, IfOk, IfErr};
 ghost use Rattle.nv_plain.specs.Layouts.{version_1};
 ghost use Rattle.nv_plain.specs.Faults.{HasCause};

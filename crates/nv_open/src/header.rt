@@ -1,8 +1,9 @@
+//! The header of a region that is lent.
 ghost use Rattle.std.specs.Prelude.{◌≡◌, All, map, sum_by, Err, IfOk};
 ghost use Rattle.nv_plain.specs.Layouts.{version_1};
 ghost use Rattle.nv_pmem.specs.Moments.{Tells};
 ghost use Rattle.nv_pmem.specs.Rows.{RowTells, AreOnlyRead};
-ghost use Rattle.nv_header.specs.Heads.{IsHeadOf, IsWithinLimits, header_image};
+ghost use Rattle.nv_header.specs.Heads.{IsHeadOf, HeadIsWithinLimits, header_image};
 ghost use Rattle.nv_header.specs.Laws.{HasSpare};
 ghost use Rattle.nv_header.specs.Needs.{header_history, header_lines_in, HasLines};
 ghost use Rattle.nv_header.specs.Regions.{HasParts};
@@ -21,7 +22,7 @@ pub(crate) fn read_header<L: Lines>(alloc: Global, parts: &mut [L]) -> Result<He
     ensures head { IfOk result (λ head. Tells (header_history (map L.history parts.old)) (λ now.
         IsHeadOf version_1 (header_lines_in (map L.room parts.old)) (header_image now) head)) }
     ensures names { IfOk result (λ head. RowTells (map L.history parts.old) (λ told. header_names told ≡ head.names)) }
-    ensures limits { IfOk result (λ head. IsWithinLimits version_1 head) }
+    ensures limits { IfOk result (λ head. HeadIsWithinLimits version_1 head) }
     ensures lines { IfOk result (λ head. HasLines version_1 head.geometry.page head.geometry.entries (map L.room parts.new)) }
     ensures refused { (why : _) → result ≡ Err (error.Refused why) → RowTells (map L.history parts.old) (λ told. IsRefusedFor told why × IsBadHeader why) }
     ensures read { AreOnlyRead L.history L.room L.device parts.old parts.new }

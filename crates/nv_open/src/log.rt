@@ -1,11 +1,12 @@
+//! The log of a region that is lent is recovered.
 ghost use Rattle.std.specs.Prelude.{◌≡◌, ◌+◌, List, length, map, sum_by, All, Err, IfOk};
 ghost use Rattle.nv_plain.specs.Layouts.{version_1};
 ghost use Rattle.nv_plain.specs.Recovered.{region_files};
 ghost use Rattle.nv_pmem.specs.Moments.{Tells};
 ghost use Rattle.nv_pmem.specs.RowStates.{AreNow};
 ghost use Rattle.nv_pmem.specs.Rows.{RowTells, AreQuiet, row_words};
-ghost use Rattle.nv_store.specs.Store.{IsQuiet, Store};
-ghost use Rattle.nv_header.specs.Heads.{IsHeadOf, IsWithinLimits, header_image};
+ghost use Rattle.nv_store.specs.Store.{IsQuietStore, Store};
+ghost use Rattle.nv_header.specs.Heads.{IsHeadOf, HeadIsWithinLimits, header_image};
 ghost use Rattle.nv_header.specs.Laws.{HasSpare};
 ghost use Rattle.nv_header.specs.Needs.{header_history, header_lines_in, HasLines};
 ghost use Rattle.nv_recover.specs.Answers.{answer_of, parts_after};
@@ -33,7 +34,7 @@ pub(crate) fn recover_log<L: Lines + Drop, B: Backing>(
     parts: Vec<L>,
     stores: &mut Vec<B>,
 ) -> Result<(Region<L>, Recovered), (Vec<L>, OpenError)>
-    requires limits { IsWithinLimits version_1 head }
+    requires limits { HeadIsWithinLimits version_1 head }
     requires head { Tells (header_history (map L.history parts.items)) (λ now.
         IsHeadOf version_1 (header_lines_in (map L.room parts.items)) (header_image now) head) }
     requires lines { HasLines version_1 head.geometry.page head.geometry.entries (map L.room parts.items) }
@@ -48,7 +49,7 @@ pub(crate) fn recover_log<L: Lines + Drop, B: Backing>(
     ensures files { (was : List Store) → AreNow (map B.history stores.old.items) was → AllTell (map L.history parts.items)
         → IfOk result (λ done. RowTells (map L.history parts.items) (λ told.
         HoldFiles (map B.history stores.new.items) (region_files (row_words told) (files_of was)))) }
-    ensures quiet { IfOk result (λ done. All (λ store. Tells (B.history store) IsQuiet) stores.new.items) }
+    ensures quiet { IfOk result (λ done. All (λ store. Tells (B.history store) IsQuietStore) stores.new.items) }
     ensures tell { AllTell (map L.history parts.items) → AllTell (map B.history stores.old.items)
         → IfOk result (λ done. AllTell (map L.history done.0.parts.items)) }
     ensures refused { (why : _) → answer_of result ≡ Err (error.Refused why)

@@ -1,3 +1,4 @@
+//! The look at a region of a bench.
 ghost use Rattle.std.specs.Prelude.{◌≡◌, ◌+◌, ℕ, List, [], false, true, length, map, sum_by, All, Err, IfOk, IfSome, OnOk};
 ghost use Rattle.nv_plain.specs.Faults.{saturated};
 ghost use Rattle.nv_plain.specs.Layouts.{version_1};
@@ -8,7 +9,7 @@ ghost use Rattle.nv_pmem.specs.Rows.{RowTells, AreOnlyRead, row_words};
 ghost use Rattle.nv_bench.specs.Benches.{with_faults};
 ghost use Rattle.nv_bench.specs.Holding.{IsQuietHolding};
 ghost use Rattle.nv_store.specs.Store.{Store};
-ghost use Rattle.nv_header.specs.Heads.{IsHeadOf, IsWithinLimits, header_image};
+ghost use Rattle.nv_header.specs.Heads.{IsHeadOf, HeadIsWithinLimits, header_image};
 ghost use Rattle.nv_header.specs.Laws.{HasSpare};
 ghost use Rattle.nv_header.specs.Needs.{header_history, header_lines_in, HasLines};
 ghost use Rattle.nv_recover.specs.Standing.{files_of};
@@ -122,7 +123,7 @@ fn look_at_log<L: Lines, B: Backing>(
     parts: &mut [L],
     stores: &mut [B],
 ) -> Result<Text, OpenError>
-    requires limits { IsWithinLimits version_1 head.now }
+    requires limits { HeadIsWithinLimits version_1 head.now }
     requires head { Tells (header_history (map L.history parts.old)) (λ now.
         IsHeadOf version_1 (header_lines_in (map L.room parts.old)) (header_image now) head.now) }
     requires lines { HasLines version_1 head.now.geometry.page head.now.geometry.entries (map L.room parts.old) }

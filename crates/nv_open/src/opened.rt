@@ -1,3 +1,4 @@
+//! A region that is open, and its stores.
 use nv_header::Region;
 use nv_pmem::Lines;
 

@@ -1,3 +1,4 @@
+//! The opening of a region of a bench.
 ghost use Rattle.std.specs.Prelude.{◌≡◌, ℕ, List, ◌+◌, ◌<◌, ◌++◌, [], false, true, length, map, sum_by, All, None, Err, IfOk, IfErr, IfSome};
 ghost use Rattle.nv_plain.specs.Faults.{saturated};
 ghost use Rattle.nv_plain.specs.Layouts.{version_1};
@@ -6,13 +7,13 @@ ghost use Rattle.nv_pmem.specs.Rows.{RowTells, AreQuiet};
 ghost use Rattle.nv_bench.specs.Benches.{with_faults};
 ghost use Rattle.nv_bench.specs.Holding.{IsQuietHolding};
 ghost use Rattle.nv_bench.specs.Opening.{is_blank};
-ghost use Rattle.nv_store.specs.Store.{IsQuiet};
+ghost use Rattle.nv_store.specs.Store.{IsQuietStore};
 ghost use Rattle.nv_header.specs.Changes.{parts_after_format};
 ghost use Rattle.nv_header.specs.Laws.{HasSpare};
 ghost use Rattle.nv_header.specs.Needs.{HasLines};
 ghost use Rattle.nv_recover.specs.Telling.{AllTell};
 ghost use Rattle.nv_open.specs.Adding.{AreWanted, new_names, all_names};
-ghost use Rattle.nv_open.specs.Begun.{IsBegun, IsOpened, IsNotOpened, files_behind};
+ghost use Rattle.nv_open.specs.Begun.{IsOpeningBegun, IsRegionOpened, IsNotOpened, files_behind};
 ghost use Rattle.nv_open.specs.Causes.{ErrorHasCause, RegionHasCause};
 ghost use Rattle.nv_open.specs.Held.{HoldFiles, files_named, AreUnwritten, told_after};
 ghost use Rattle.nv_open.specs.Lending.{HasLent, HasLentMore, all_lent, stores_lent};
@@ -51,9 +52,9 @@ pub fn open<T: Bench>(
         ≡ with_faults (T.state bench.new).faults (all_lent opened.region.names (T.state bench.old))) }
     ensures one_each { IfOk result (λ opened. length opened.stores.items ≡ length opened.region.names) }
     ensures known { IfOk result (λ opened. (known : List (List ℕ)) × (opened.region.names ≡ all_names known wanted.now)) }
-    ensures opened { IfOk result (λ opened. IfSome (T.state bench.old).told (λ holding. IsOpened holding geometry wanted.now
+    ensures opened { IfOk result (λ opened. IfSome (T.state bench.old).told (λ holding. IsRegionOpened holding geometry wanted.now
         opened.region.geometry.page opened.region.geometry.entries opened.region.names opened.region.next (map T.Store.history opened.stores.items))) }
-    ensures quiet { IfOk result (λ opened. All (λ store. Tells (T.Store.history store) IsQuiet) opened.stores.items) }
+    ensures quiet { IfOk result (λ opened. All (λ store. Tells (T.Store.history store) IsQuietStore) opened.stores.items) }
     ensures tell { IfOk result (λ opened. IfSome (T.state bench.old).told (λ holding. AllTell (map T.Part.history opened.region.parts.items))) }
     ensures counts { IfOk result (λ opened. (T.state bench.old).faults ≡ saturated ((T.state bench.new).faults
         + sum_by T.Part.fault_count opened.region.parts.items + sum_by T.Store.fault_count opened.stores.items)) }
@@ -93,7 +94,7 @@ fn open_parts<T: Bench>(
     requires none { stores.old.items ≡ [] }
     requires spare { All HasSpare (map T.Part.room parts.items) }
     requires quiet { RowTells (map T.Part.history parts.items) AreQuiet }
-    requires synced { IfSome (T.state bench.old).told (λ holding. All (λ named. IsQuiet named.store) holding.stores) }
+    requires synced { IfSome (T.state bench.old).told (λ holding. All (λ named. IsQuietStore named.store) holding.stores) }
     requires tell { IfSome (T.state bench.old).told (λ holding. AllTell (map T.Part.history parts.items)) }
     requires long { IfSome (T.state bench.old).told (λ holding. RowTells (map T.Part.history parts.items) (λ told.
         is_blank told ≡ true → HasLines version_1 geometry.page geometry.entries (rooms_of told))) }
@@ -107,8 +108,8 @@ fn open_parts<T: Bench>(
     ensures one_each { IfOk result (λ region. length stores.new.items ≡ length region.names) }
     ensures known { IfOk result (λ region. (known : List (List ℕ)) × (region.names ≡ all_names known wanted.now)) }
     ensures opened { IfOk result (λ region. IfSome (T.state bench.old).told (λ holding. RowTells (map T.Part.history parts.items) (λ told.
-        IsOpened (record { parts = told; stores = holding.stores }) geometry wanted.now region.geometry.page region.geometry.entries region.names region.next (map T.Store.history stores.new.items)))) }
-    ensures quiet { IfOk result (λ region. All (λ store. Tells (T.Store.history store) IsQuiet) stores.new.items) }
+        IsRegionOpened (record { parts = told; stores = holding.stores }) geometry wanted.now region.geometry.page region.geometry.entries region.names region.next (map T.Store.history stores.new.items)))) }
+    ensures quiet { IfOk result (λ region. All (λ store. Tells (T.Store.history store) IsQuietStore) stores.new.items) }
     ensures told { IfOk result (λ region. IfSome (T.state bench.old).told (λ holding. AllTell (map T.Part.history region.parts.items))) }
     ensures refused { (why : _) → IfErr result (λ failed. failed.1 ≡ error.Refused why
         → IfSome (T.state bench.old).told (λ holding. RowTells (map T.Part.history parts.items) (λ told. IsNotOpened told geometry wanted.now why))) }
@@ -134,7 +135,7 @@ fn begin<T: Bench>(
     requires none { stores.old.items ≡ [] }
     requires spare { All HasSpare (map T.Part.room parts.items) }
     requires quiet { RowTells (map T.Part.history parts.items) AreQuiet }
-    requires synced { IfSome (T.state bench.old).told (λ holding. All (λ named. IsQuiet named.store) holding.stores) }
+    requires synced { IfSome (T.state bench.old).told (λ holding. All (λ named. IsQuietStore named.store) holding.stores) }
     requires tell { IfSome (T.state bench.old).told (λ holding. AllTell (map T.Part.history parts.items)) }
     requires long { IfSome (T.state bench.old).told (λ holding. RowTells (map T.Part.history parts.items) (λ told.
         is_blank told ≡ true → HasLines version_1 geometry.page geometry.entries (rooms_of told))) }
@@ -146,10 +147,10 @@ fn begin<T: Bench>(
         ≡ with_faults (T.state bench.new).faults (stores_lent region.names (T.state bench.old))) }
     ensures one_each { IfOk result (λ region. length stores.new.items ≡ length region.names) }
     ensures begun { IfOk result (λ region. RowTells (map T.Part.history parts.items) (λ told.
-        IsBegun told geometry region.geometry.page region.geometry.entries region.names region.next)) }
+        IsOpeningBegun told geometry region.geometry.page region.geometry.entries region.names region.next)) }
     ensures files { IfOk result (λ region. IfSome (T.state bench.old).told (λ holding. RowTells (map T.Part.history parts.items) (λ told.
         HoldFiles (map T.Store.history stores.new.items) (files_named told region.names holding.stores)))) }
-    ensures quiet { IfOk result (λ region. All (λ store. Tells (T.Store.history store) IsQuiet) stores.new.items) }
+    ensures quiet { IfOk result (λ region. All (λ store. Tells (T.Store.history store) IsQuietStore) stores.new.items) }
     ensures told { IfOk result (λ region. IfSome (T.state bench.old).told (λ holding. AllTell (map T.Part.history region.parts.items))) }
     ensures refused { (why : _) → IfErr result (λ failed. failed.1 ≡ error.Refused why
         → IfSome (T.state bench.old).told (λ holding. RowTells (map T.Part.history parts.items) (λ told. (is_blank told ≡ false) × IsRefusedFor told why))) }
@@ -180,7 +181,7 @@ fn add_wanted<T: Bench>(
     requires names { (T.state bench.old).lent ≡ region.names }
     requires one_each { length stores.old.items ≡ length region.names }
     requires wanted { AreWanted version_1 wanted.now }
-    requires synced { IfSome (T.state bench.old).told (λ holding. All (λ named. IsQuiet named.store) holding.stores) }
+    requires synced { IfSome (T.state bench.old).told (λ holding. All (λ named. IsQuietStore named.store) holding.stores) }
     ensures lent { HasLentMore (length stores.old.items) (length stores.new.items) (T.state bench.old) (T.state bench.new) }
     ensures cause { RegionHasCause (saturated ((T.state bench.old).faults + (sum_by T.Part.fault_count region.parts.items + sum_by T.Store.fault_count stores.old.items)))
         (saturated ((T.state bench.new).faults + (sum_by T.Part.fault_count (parts_after_format result) + sum_by T.Store.fault_count stores.new.items)))
@@ -193,8 +194,8 @@ fn add_wanted<T: Bench>(
         (files_behind files (new_names region.names wanted.now) holding.stores))) }
     ensures geometry { IfOk result (λ added. added.geometry ≡ region.geometry) }
     ensures next { IfOk result (λ added. added.next ≡ region.next) }
-    ensures quiet { All (λ store. Tells (T.Store.history store) IsQuiet) stores.old.items
-        → IfOk result (λ added. All (λ store. Tells (T.Store.history store) IsQuiet) stores.new.items) }
+    ensures quiet { All (λ store. Tells (T.Store.history store) IsQuietStore) stores.old.items
+        → IfOk result (λ added. All (λ store. Tells (T.Store.history store) IsQuietStore) stores.new.items) }
     ensures tell { AllTell (map T.Part.history region.parts.items) → IfOk result (λ added. AllTell (map T.Part.history added.parts.items)) }
     ensures refused { (why : _) → IfErr result (λ failed. failed.1 ≡ error.Refused why
         → (why ≡ refusal.TooManyFiles) × (version_1.file_limit < length (all_names region.names wanted.now))) }

@@ -1,10 +1,11 @@
+//! The recovery of a region of a bench.
 ghost use Rattle.std.specs.Prelude.{◌≡◌, ◌+◌, ◌++◌, [], false, true, length, map, sum_by, All, None, Err, IfOk, IfErr, IfSome};
 ghost use Rattle.nv_plain.specs.Faults.{saturated};
 ghost use Rattle.nv_pmem.specs.Moments.{Tells};
 ghost use Rattle.nv_pmem.specs.Rows.{RowTells, AreQuiet};
 ghost use Rattle.nv_bench.specs.Benches.{with_faults};
 ghost use Rattle.nv_bench.specs.Holding.{IsQuietHolding};
-ghost use Rattle.nv_store.specs.Store.{IsQuiet};
+ghost use Rattle.nv_store.specs.Store.{IsQuietStore};
 ghost use Rattle.nv_header.specs.Laws.{HasSpare};
 ghost use Rattle.nv_recover.specs.Answers.{answer_of, parts_after};
 ghost use Rattle.nv_recover.specs.Telling.{AllTell};
@@ -42,7 +43,7 @@ pub fn recover_region<T: Bench>(
         done.0.region.geometry.page done.0.region.geometry.entries done.0.region.names done.0.region.next done.1)) }
     ensures files { IfOk result (λ done. IfSome (T.state bench.old).told (λ holding. HoldFiles (map T.Store.history done.0.stores.items)
         (files_named holding.parts done.0.region.names holding.stores))) }
-    ensures quiet { IfOk result (λ done. All (λ store. Tells (T.Store.history store) IsQuiet) done.0.stores.items) }
+    ensures quiet { IfOk result (λ done. All (λ store. Tells (T.Store.history store) IsQuietStore) done.0.stores.items) }
     ensures tell { IfOk result (λ done. IfSome (T.state bench.old).told (λ holding. AllTell (map T.Part.history done.0.region.parts.items))) }
     ensures counts { IfOk result (λ done. (T.state bench.old).faults ≡ saturated ((T.state bench.new).faults
         + sum_by T.Part.fault_count done.0.region.parts.items + sum_by T.Store.fault_count done.0.stores.items)) }
@@ -81,7 +82,7 @@ pub(crate) fn recover_parts<T: Bench>(
     requires none { stores.old.items ≡ [] }
     requires spare { All HasSpare (map T.Part.room parts.items) }
     requires quiet { RowTells (map T.Part.history parts.items) AreQuiet }
-    requires synced { IfSome (T.state bench.old).told (λ holding. All (λ named. IsQuiet named.store) holding.stores) }
+    requires synced { IfSome (T.state bench.old).told (λ holding. All (λ named. IsQuietStore named.store) holding.stores) }
     requires tell { IfSome (T.state bench.old).told (λ holding. AllTell (map T.Part.history parts.items)) }
 
     // Whichever answer came.
@@ -98,7 +99,7 @@ pub(crate) fn recover_parts<T: Bench>(
         done.0.geometry.page done.0.geometry.entries done.0.names done.0.next done.1)) }
     ensures files { IfOk result (λ done. IfSome (T.state bench.old).told (λ holding. RowTells (map T.Part.history parts.items) (λ told.
         HoldFiles (map T.Store.history stores.new.items) (files_named told done.0.names holding.stores)))) }
-    ensures quiet { IfOk result (λ done. All (λ store. Tells (T.Store.history store) IsQuiet) stores.new.items) }
+    ensures quiet { IfOk result (λ done. All (λ store. Tells (T.Store.history store) IsQuietStore) stores.new.items) }
     ensures told { IfOk result (λ done. IfSome (T.state bench.old).told (λ holding. AllTell (map T.Part.history done.0.parts.items))) }
 
     // Where the region is refused.

@@ -1,3 +1,4 @@
+//! The stores of some names are opened.
 ghost use Rattle.std.specs.Prelude.{◌≡◌, ◌++◌, true, IfErr, IsTrue, OnOk};
 ghost use Rattle.nv_plain.specs.Layouts.{version_1};
 ghost use Rattle.nv_plain.specs.Names.{is_name};

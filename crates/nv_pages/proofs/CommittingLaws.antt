@@ -15,80 +15,80 @@ use Rattle.nv_pmem.specs.Rows.{on_part}
 use Rattle.nv_pmem.specs.Steps.{durable_store}
 use Rattle.nv_pmem.specs.declared.lines.RegionFault.{RegionFault}
 use Rattle.nv_entry.specs.Group.{group_steps, pieces_steps, IsReady}
-use Rattle.nv_core.specs.Words.{Sizes, Word, PAGE}
-use Rattle.nv_core.specs.Spares.{spares_of}
-use Rattle.nv_core.specs.Values.{Value, Bare, APart, AStore, ABuffer, Job, Reads, Ending, Made, called, filled, identity_of}
-use Rattle.nv_core.specs.Passes.{Stage, Copying, Pass, IsFilling, IsAllowed, page_count, times}
-use Rattle.nv_core.specs.Order.{Values, Work, commit_steps}
-use Rattle.nv_core.specs.Core.{with_word, values_read, values_worked, worked}
-use Rattle.nv_core.specs.Rooms.{KeepsReady, FillsReady}
-use Rattle.nv_core.specs.Standing.{StandsAt, HasDrawn, has_call}
-use Rattle.nv_core.specs.Laws.{RunsAreSound}
-use Rattle.nv_core.specs.Opening.{IsMount}
-use Rattle.nv_core.specs.Sound.{Sound}
-use Rattle.nv_core.proofs.Changes.{by_word}
-use Rattle.nv_core.proofs.SparesLaws.{spares_tell}
-use Rattle.nv_table.specs.Acts.{values_after}
-use Rattle.nv_table.specs.Kept.{present, part_value}
-use Rattle.nv_table.specs.Limits.{IsWithinLimits}
-use Rattle.nv_table.specs.Opened.{mount_of, IsRunOf, state_of}
-use Rattle.nv_table.specs.Sights.{Sight, pass_of, values_of, carried, Carries}
-use Rattle.nv_table.specs.States.{PassState}
-use Rattle.nv_table.proofs.CarryLaws.{carried_all, carries_kept}
+use Rattle.nv_core.specs.state.Words.{Sizes, Word, PAGE}
+use Rattle.nv_core.specs.state.Spares.{spares_of}
+use Rattle.nv_core.specs.state.Values.{Value, Bare, APart, AStore, ABuffer, Job, PageRead, CallEnding, Made, called, filled, identity_of}
+use Rattle.nv_core.specs.state.Passes.{Control, ReadStore, Pass, IsFilling, IsAllowed, page_count, times}
+use Rattle.nv_core.specs.steps.Order.{Values, Work, commit_steps}
+use Rattle.nv_core.specs.state.Core.{with_value, values_read, values_worked, worked}
+use Rattle.nv_core.specs.invariant.Rooms.{KeepsReady, FillsReady}
+use Rattle.nv_core.specs.invariant.ControlFacts.{FactsAt, HasDrawn, has_call}
+use Rattle.nv_core.specs.invariant.InvariantLaws.{RunsAreSound}
+use Rattle.nv_core.specs.steps.Opening.{IsMount}
+use Rattle.nv_core.specs.invariant.Sound.{Sound}
+use Rattle.nv_core.proofs.state.Changes.{by_word}
+use Rattle.nv_core.proofs.state.SparesLaws.{spares_tell}
+use Rattle.nv_table.specs.steps.SeatSteps.{values_after}
+use Rattle.nv_table.specs.state.SlotValues.{present, part_value}
+use Rattle.nv_table.specs.state.Limits.{MountIsWithinLimits}
+use Rattle.nv_table.specs.state.Opened.{mount_of, IsRunOf, state_of}
+use Rattle.nv_table.specs.state.Views.{PassView, pass_of, values_of, still_owned, OwnsSlots}
+use Rattle.nv_table.specs.state.States.{PassState}
+use Rattle.nv_table.proofs.steps.OwnedSlotLaws.{still_owned_all, owns_slots_kept}
 use Rattle.nv_pages.specs.CommitCalls.{told_of, KeepsPart, entry_cell, IsCommitting, HasCommitted, CommitsAreDue}
-use Rattle.nv_pages.specs.Commits.{laid, in_row, HasEntries, HasLaid, IsAtCommit, HasMadeCommit}
+use Rattle.nv_pages.specs.Commits.{laid_parts, in_row, HasEntries, HasLaid, IsAtCommit, HasMadeCommit}
 use Rattle.nv_pages.proofs.CommitLaws.{cells_differ}
 use Rattle.nv_pages.proofs.LaidLaws.{laid_else, laid_here, of_cells}
 
 -- ---- what such a pass has
 
-module _ (pass : PassState) (first file at : ℕ) (bytes : List ℕ) (limits : IsWithinLimits pass.sight.opened.sizes)
-    (sound : Sound pass.sight.opened.sizes (mount_of pass.sight.opened).values (state_of pass.sight.opened pass.sight.run)) (is : IsAtCommit pass first file at bytes) where
+module _ (pass : PassState) (first file at : ℕ) (bytes : List ℕ) (limits : MountIsWithinLimits pass.view.opened.sizes)
+    (sound : Sound pass.view.opened.sizes (mount_of pass.view.opened).values (state_of pass.view.opened pass.view.run)) (is : IsAtCommit pass first file at bytes) where
   abbrev who : Pass
-  who = pass_of pass.sight
+  who = pass_of pass.view
 
-  drawn : HasDrawn pass.sight.opened.sizes who.call who.entries
-  drawn = subst (StandsAt pass.sight.opened.sizes who) is.stage (sound.standing pass.sight.number).at
+  drawn : HasDrawn pass.view.opened.sizes who.call who.entries
+  drawn = subst (FactsAt pass.view.opened.sizes who) is.control (sound.control_facts pass.view.number).at
 
-  allowed : IsAllowed pass.sight.opened.sizes (Write file at bytes)
-  allowed = subst (IsAllowed pass.sight.opened.sizes) is.call ((sound.standing pass.sight.number).allowed (ap has_call is.stage))
+  allowed : IsAllowed pass.view.opened.sizes (Write file at bytes)
+  allowed = subst (IsAllowed pass.view.opened.sizes) is.call ((sound.control_facts pass.view.number).allowed (ap has_call is.control))
 
   -- it has as many entries as its write has pages
-  many : who.entries ≡ page_count pass.sight.opened.sizes (Write file at bytes)
-  many = drawn.many ∙ ap (page_count pass.sight.opened.sizes) is.call
+  many : who.entries ≡ page_count pass.view.opened.sizes (Write file at bytes)
+  many = drawn.many ∙ ap (page_count pass.view.opened.sizes) is.call
 
-  some_entries : 1 ≤ page_count pass.sight.opened.sizes (Write file at bytes)
+  some_entries : 1 ≤ page_count pass.view.opened.sizes (Write file at bytes)
   some_entries = let some = drawn.some in omega (arith, some, many)
 
   in_range : at + length bytes ≤ 2 ^ 60
   in_range =
       let near = allowed.near in let page = limits.most_page in let pages = limits.most_pages in
-      let product : pass.sight.opened.sizes.page * pass.sight.opened.sizes.pages ≤ 4096 * 1024 = mul-le _ _ 4096 1024 page pages in
+      let product : pass.view.opened.sizes.page * pass.view.opened.sizes.pages ≤ 4096 * 1024 = mul-le _ _ 4096 1024 page pages in
       omega (arith, near, product)
 
-  filling : (i : ℕ) → i < page_count pass.sight.opened.sizes (Write file at bytes) → IsFilling who.stage who.first who.entries (who.first + i)
-  filling i less = subst (λ (s : Stage). IsFilling s who.first who.entries (who.first + i)) (sym is.stage) (omega arith, omega (arith, less, many))
+  filling : (i : ℕ) → i < page_count pass.view.opened.sizes (Write file at bytes) → IsFilling who.control who.first who.entries (who.first + i)
+  filling i less = subst (λ (s : Control). IsFilling s who.first who.entries (who.first + i)) (sym is.control) (omega arith, omega (arith, less, many))
 
-  small_numbers : first + page_count pass.sight.opened.sizes (Write file at bytes) ≤ 2 ^ 60
+  small_numbers : first + page_count pass.view.opened.sizes (Write file at bytes) ≤ 2 ^ 60
   small_numbers = small _ some_entries refl
     where
-      small : (count : ℕ) → 1 ≤ count → count ≡ page_count pass.sight.opened.sizes (Write file at bytes) → first + count ≤ 2 ^ 60
+      small : (count : ℕ) → 1 ≤ count → count ≡ page_count pass.view.opened.sizes (Write file at bytes) → first + count ≤ 2 ^ 60
       small zero some same = absurd (omega (arith, some))
       small (suc before) some same =
-          let last = sound.window.filling_in pass.sight.number (who.first + before) (filling before (omega (arith, same))) in
+          let last = sound.window.filling_in pass.view.number (who.first + before) (filling before (omega (arith, same))) in
           let below = last.1 in let few = sound.window.small in let number = is.number in
           omega (arith, below, few, number)
 
-  has_entries : HasEntries pass.sight first (page_count pass.sight.opened.sizes (Write file at bytes))
+  has_entries : HasEntries pass.view first (page_count pass.view.opened.sizes (Write file at bytes))
   has_entries = record {
     few = let short = allowed.short in omega (arith, short);
     here = λ i less.
-        ap (times (entry_cell pass.sight.opened.sizes first i)) (carried_all who is.staying)
-        ∙ subst (λ n. times (entry_cell pass.sight.opened.sizes n i) who.hands ≡ 1) is.number ((sound.holding pass.sight.number).filling (who.first + i) (filling i less));
+        ap (times (entry_cell pass.view.opened.sizes first i)) (still_owned_all who is.staying)
+        ∙ subst (λ n. times (entry_cell pass.view.opened.sizes n i) who.owned ≡ 1) is.number ((sound.ownership pass.view.number).filling (who.first + i) (filling i less));
     ready = λ i less.
-        subst (λ n. KeepsReady pass.sight.opened.sizes (values_of pass.sight (entry_cell pass.sight.opened.sizes n i))) is.number
-        (subst (λ (s : Stage). FillsReady pass.sight.opened.sizes who s (who.first + i) (values_of pass.sight (entry_cell pass.sight.opened.sizes who.first i))) is.stage
-        (sound.rooms.filling pass.sight.number (who.first + i) (filling i less)));
+        subst (λ n. KeepsReady pass.view.opened.sizes (values_of pass.view (entry_cell pass.view.opened.sizes n i))) is.number
+        (subst (λ (s : Control). FillsReady pass.view.opened.sizes who s (who.first + i) (values_of pass.view (entry_cell pass.view.opened.sizes who.first i))) is.control
+        (sound.rooms.filling pass.view.number (who.first + i) (filling i less)));
   }
 
 -- all of it, by how many entries the write has
@@ -96,10 +96,10 @@ pub record IsReadyToCommit (pass : PassState) (first at : ℕ) (bytes : List ℕ
   pub range : at + length bytes ≤ 2 ^ 60
   pub some : 1 ≤ count
   pub small : first + count ≤ 2 ^ 60
-  pub entries : HasEntries pass.sight first count
+  pub entries : HasEntries pass.view first count
 
-pub ready_to_commit : (sizes : Sizes) (count : ℕ) (pass : PassState) (first file at : ℕ) (bytes : List ℕ) → IsWithinLimits sizes → sizes ≡ pass.sight.opened.sizes
-    → RunsAreSound → IsMount (mount_of pass.sight.opened) → IsRunOf pass.sight.opened pass.sight.run → IsAtCommit pass first file at bytes → count ≡ pages_touched at (length bytes) sizes.page
+pub ready_to_commit : (sizes : Sizes) (count : ℕ) (pass : PassState) (first file at : ℕ) (bytes : List ℕ) → MountIsWithinLimits sizes → sizes ≡ pass.view.opened.sizes
+    → RunsAreSound → IsMount (mount_of pass.view.opened) → IsRunOf pass.view.opened pass.view.run → IsAtCommit pass first file at bytes → count ≡ pages_touched at (length bytes) sizes.page
     → IsReadyToCommit pass first at bytes count
 ready_to_commit sizes count pass first file at bytes limits same law mount run is many =
     subst (IsReadyToCommit pass first at bytes) (sym (many ∙ ap (λ (s : Sizes). pages_touched at (length bytes) s.page) same)) record {
@@ -109,11 +109,11 @@ ready_to_commit sizes count pass first file at bytes limits same law mount run i
       entries = has_entries pass first file at bytes here sound is;
     }
   where
-    here : IsWithinLimits pass.sight.opened.sizes
-    here = subst IsWithinLimits same limits
+    here : MountIsWithinLimits pass.view.opened.sizes
+    here = subst MountIsWithinLimits same limits
 
-    sound : Sound pass.sight.opened.sizes (mount_of pass.sight.opened).values (state_of pass.sight.opened pass.sight.run)
-    sound = law (mount_of pass.sight.opened) pass.sight.run mount run
+    sound : Sound pass.view.opened.sizes (mount_of pass.view.opened).values (state_of pass.view.opened pass.view.run)
+    sound = law (mount_of pass.view.opened) pass.view.run mount run
 
 -- ---- what parts in a row show
 
@@ -179,7 +179,7 @@ module _ {X : Type 0} (device : X → ℕ) (history : X → List Part) (faults :
 
 -- ---- a cell keeps its device
 
-called_same : (job : Job) (ending : Ending) (value : Value) → identity_of (called job ending value) ≡ identity_of value
+called_same : (job : Job) (ending : CallEnding) (value : Value) → identity_of (called job ending value) ≡ identity_of value
 called_same job ending Bare = refl
 called_same job ending (APart device spares) = refl
 called_same job ending (AStore device) = refl
@@ -192,30 +192,30 @@ filled_same bytes (AStore device) = refl
 filled_same bytes (ABuffer None) = refl
 filled_same bytes (ABuffer (Some buffer)) = refl
 
-word_same : (values : Values) (cell : Word) (value : Value) → identity_of value ≡ identity_of (values cell) → (other : Word) → identity_of (with_word values cell value other) ≡ identity_of (values other)
+word_same : (values : Values) (cell : Word) (value : Value) → identity_of value ≡ identity_of (values cell) → (other : Word) → identity_of (with_value values cell value other) ≡ identity_of (values other)
 word_same values cell value is = by_word (λ other kept. identity_of kept ≡ identity_of (values other)) values cell value is (λ other ne. refl)
 
-read_same : (job : Job) (ending : Ending) (stage : Stage) (values : Values) (other : Word) → identity_of (values_read job ending stage values other) ≡ identity_of (values other)
-read_same (Reads at bytes) Made (Copying page false) values other = word_same values (PAGE page) (filled bytes (values (PAGE page))) (filled_same bytes (values (PAGE page))) other
-read_same job ending stage values other = refl
+read_same : (job : Job) (ending : CallEnding) (control : Control) (values : Values) (other : Word) → identity_of (values_read job ending control values other) ≡ identity_of (values other)
+read_same (PageRead at bytes) Made (ReadStore page false) values other = word_same values (PAGE page) (filled bytes (values (PAGE page))) (filled_same bytes (values (PAGE page))) other
+read_same job ending control values other = refl
 
 devices_same : (sizes : Sizes) (works : List Work) (pass : Pass) (values : Values) (cell : Word) → identity_of (values_after sizes works pass values cell) ≡ identity_of (values cell)
 devices_same sizes [] pass values cell = refl
 devices_same sizes (work ∷ later) pass values cell =
     devices_same sizes later (worked sizes work pass) (values_worked pass work values) cell
-    ∙ read_same work.job work.ending pass.stage (with_word values work.cell (called work.job work.ending (values work.cell))) cell
+    ∙ read_same work.job work.ending pass.control (with_value values work.cell (called work.job work.ending (values work.cell))) cell
     ∙ word_same values work.cell (called work.job work.ending (values work.cell)) (called_same work.job work.ending (values work.cell)) cell
 
 -- ---- the commit
 
--- the same, seen from a pass of which no more has changed than what it carries
-pub seen_from : (first count : ℕ) (values : ℕ → Value) (old other new : PassState) → other.table ≡ old.table → other.sight ≡ old.sight → other.spare ≡ old.spare
+-- the same, seen from a pass of which no more has changed than what it owns
+pub seen_from : (first count : ℕ) (values : ℕ → Value) (old other new : PassState) → other.table ≡ old.table → other.view ≡ old.view → other.spare ≡ old.spare
     → HasLaid first count values old new → HasLaid first count values other new
-seen_from first count values old other new table sight spare is = record {
+seen_from first count values old other new table view spare is = record {
   table = is.table ∙ sym table;
-  sight = is.sight ∙ sym sight;
+  view = is.view ∙ sym view;
   spare = is.spare ∙ sym spare;
-  carries = subst (λ (s : Sight). Carries s.opened.sizes (λ value. value) (laid (entry_cell s.opened.sizes first) count values (values_of s)) (carried (pass_of s)) new.now) (sym sight) is.carries;
+  owns_slots = subst (λ (s : PassView). OwnsSlots s.opened.sizes (λ value. value) (laid_parts (entry_cell s.opened.sizes first) count values (values_of s)) (still_owned (pass_of s)) new.now) (sym view) is.owns_slots;
 }
 
 some_calls : (page first file at : ℕ) (bytes : List ℕ) → 0 < length (group_steps page first file at bytes)
@@ -224,12 +224,12 @@ some_calls page first file at bytes = let long = length-append (pieces_steps pag
     let three : length (on_part 0 (durable_store 0 0 (first + 1))) ≡ 3 = refl in omega (arith, long, three)
 
 module _ {X : Type 0} (device : X → ℕ) (history : X → List Part) (faults : X → ℕ) (room : X → Room) (pass new : PassState) (file at : ℕ) (bytes : List ℕ) (olds news : List X) (result : Result (Unit {0}) RegionFault) (count : ℕ)
-    (is : IsAtCommit pass (pass_of pass.sight).first file at bytes) (has : HasEntries pass.sight (pass_of pass.sight).first count) (long : length olds ≡ count)
-    (are : (i : ℕ) → i < count → in_row (map (part_value device history faults room) olds) i ≡ values_of pass.sight (entry_cell pass.sight.opened.sizes (pass_of pass.sight).first i))
-    (calls : RowCalls (group_steps pass.sight.opened.sizes.page (pass_of pass.sight).first file at bytes) (map (seen_of history room faults) olds) (map (seen_of history room faults) news) result)
+    (is : IsAtCommit pass (pass_of pass.view).first file at bytes) (has : HasEntries pass.view (pass_of pass.view).first count) (long : length olds ≡ count)
+    (are : (i : ℕ) → i < count → in_row (map (part_value device history faults room) olds) i ≡ values_of pass.view (entry_cell pass.view.opened.sizes (pass_of pass.view).first i))
+    (calls : RowCalls (group_steps pass.view.opened.sizes.page (pass_of pass.view).first file at bytes) (map (seen_of history room faults) olds) (map (seen_of history room faults) news) result)
     (devices : map device news ≡ map device olds) (law : CommitsAreDue) where
   abbrev cells : ℕ → Word
-  cells = entry_cell pass.sight.opened.sizes (pass_of pass.sight).first
+  cells = entry_cell pass.view.opened.sizes (pass_of pass.view).first
 
   many_old : length (map (seen_of history room faults) olds) ≡ count
   many_old = length-map olds (seen_of history room faults) ∙ long
@@ -237,51 +237,51 @@ module _ {X : Type 0} (device : X → ℕ) (history : X → List Part) (faults :
   many_new : length news ≡ count
   many_new = sym (length-map news device) ∙ ap length devices ∙ length-map olds device ∙ long
 
-  committing : IsCommitting pass.sight.opened.sizes (values_of pass.sight) (pass_of pass.sight) (map (seen_of history room faults) olds)
+  committing : IsCommitting pass.view.opened.sizes (values_of pass.view) (pass_of pass.view) (map (seen_of history room faults) olds)
   committing = record {
-    stage = is.stage;
-    some = subst (λ (call : FileCall). 0 < length (commit_steps pass.sight.opened.sizes (pass_of pass.sight) call)) (sym is.call) (some_calls pass.sight.opened.sizes.page (pass_of pass.sight).first file at bytes);
+    control = is.control;
+    some = subst (λ (call : FileCall). 0 < length (commit_steps pass.view.opened.sizes (pass_of pass.view) call)) (sym is.call) (some_calls pass.view.opened.sizes.page (pass_of pass.view).first file at bytes);
     few = let few = has.few in let many = many_old in omega (arith, few, many);
-    here = λ i less. ap (times (cells i)) (sym (carried_all (pass_of pass.sight) is.staying)) ∙ has.here i (let many = many_old in omega (arith, less, many));
-    kept = record { each = λ i default less. row_keeps device history faults room olds (λ i. values_of pass.sight (cells i)) (λ i low. are i (omega (arith, low, long))) i default (let many = many_old in omega (arith, less, many, long)) };
+    here = λ i less. ap (times (cells i)) (sym (still_owned_all (pass_of pass.view) is.staying)) ∙ has.here i (let many = many_old in omega (arith, less, many));
+    kept = record { each = λ i default less. row_keeps device history faults room olds (λ i. values_of pass.view (cells i)) (λ i low. are i (omega (arith, low, long))) i default (let many = many_old in omega (arith, less, many, long)) };
   }
 
-  committed : HasCommitted pass.sight.opened.sizes (values_of pass.sight) (pass_of pass.sight) (map (seen_of history room faults) olds) (map (seen_of history room faults) news) result
-  committed = law pass.sight.opened.sizes (values_of pass.sight) (pass_of pass.sight) (map (seen_of history room faults) olds) (map (seen_of history room faults) news) result committing
-      (subst (λ (call : FileCall). RowCalls (commit_steps pass.sight.opened.sizes (pass_of pass.sight) call) (map (seen_of history room faults) olds) (map (seen_of history room faults) news) result) (sym is.call) calls)
+  committed : HasCommitted pass.view.opened.sizes (values_of pass.view) (pass_of pass.view) (map (seen_of history room faults) olds) (map (seen_of history room faults) news) result
+  committed = law pass.view.opened.sizes (values_of pass.view) (pass_of pass.view) (map (seen_of history room faults) olds) (map (seen_of history room faults) news) result committing
+      (subst (λ (call : FileCall). RowCalls (commit_steps pass.view.opened.sizes (pass_of pass.view) call) (map (seen_of history room faults) olds) (map (seen_of history room faults) news) result) (sym is.call) calls)
 
   abbrev left : Values
-  left = values_after pass.sight.opened.sizes committed.works (pass_of pass.sight) (values_of pass.sight)
+  left = values_after pass.view.opened.sizes committed.works (pass_of pass.view) (values_of pass.view)
 
-  left_same : (i : ℕ) → i < length news → identity_of (values_after pass.sight.opened.sizes committed.works (pass_of pass.sight) (values_of pass.sight) (cells i)) ≡ slice_index_or (map device news) i 0
+  left_same : (i : ℕ) → i < length news → identity_of (values_after pass.view.opened.sizes committed.works (pass_of pass.view) (values_of pass.view) (cells i)) ≡ slice_index_or (map device news) i 0
   left_same i less =
-      devices_same pass.sight.opened.sizes committed.works (pass_of pass.sight) (values_of pass.sight) (cells i)
-      ∙ row_devices device history faults room olds (λ i. values_of pass.sight (cells i)) (λ i low. are i (omega (arith, low, long))) i (let many = many_new in omega (arith, less, many, long))
+      devices_same pass.view.opened.sizes committed.works (pass_of pass.view) (values_of pass.view) (cells i)
+      ∙ row_devices device history faults room olds (λ i. values_of pass.view (cells i)) (λ i low. are i (omega (arith, low, long))) i (let many = many_new in omega (arith, less, many, long))
       ∙ ap (λ row. slice_index_or row i 0) (sym devices)
 
-  left_here : (i : ℕ) → i < count → values_after pass.sight.opened.sizes committed.works (pass_of pass.sight) (values_of pass.sight) (cells i) ≡ laid cells count (in_row (map (part_value device history faults room) news)) (values_of pass.sight) (cells i)
+  left_here : (i : ℕ) → i < count → values_after pass.view.opened.sizes committed.works (pass_of pass.view) (values_of pass.view) (cells i) ≡ laid_parts cells count (in_row (map (part_value device history faults room) news)) (values_of pass.view) (cells i)
   left_here i less =
-      sym (laid_here cells (in_row (map (part_value device history faults room) news)) (values_of pass.sight) count i less (λ j low ne. cells_differ pass.sight.opened.sizes (pass_of pass.sight).first i j count less low has.few (λ same. ne (sym same)))
-      ∙ row_shown device history faults room news (λ i. values_after pass.sight.opened.sizes committed.works (pass_of pass.sight) (values_of pass.sight) (cells i))
+      sym (laid_here cells (in_row (map (part_value device history faults room) news)) (values_of pass.view) count i less (λ j low ne. cells_differ pass.view.opened.sizes (pass_of pass.view).first i j count less low has.few (λ same. ne (sym same)))
+      ∙ row_shown device history faults room news (λ i. values_after pass.view.opened.sizes committed.works (pass_of pass.view) (values_of pass.view) (cells i))
       (λ i default low. committed.kept.each i default (let many = length-map news (seen_of history room faults) in omega (arith, low, many)))
       left_same i (let many = many_new in omega (arith, less, many)))
 
-  left_else : (cell : Word) → ((i : ℕ) → i < count → cell ≢ cells i) → values_after pass.sight.opened.sizes committed.works (pass_of pass.sight) (values_of pass.sight) cell ≡ laid cells count (in_row (map (part_value device history faults room) news)) (values_of pass.sight) cell
+  left_else : (cell : Word) → ((i : ℕ) → i < count → cell ≢ cells i) → values_after pass.view.opened.sizes committed.works (pass_of pass.view) (values_of pass.view) cell ≡ laid_parts cells count (in_row (map (part_value device history faults room) news)) (values_of pass.view) cell
   left_else cell none =
       committed.others cell (λ i less. none i (let many = many_old in omega (arith, less, many)))
-      ∙ sym (laid_else cells (in_row (map (part_value device history faults room) news)) (values_of pass.sight) count cell none)
+      ∙ sym (laid_else cells (in_row (map (part_value device history faults room) news)) (values_of pass.view) count cell none)
 
-  pub made_at : HasLaid (pass_of pass.sight).first count (in_row (map (part_value device history faults room) news)) pass new → HasMadeCommit pass new result
+  pub made_at : HasLaid (pass_of pass.view).first count (in_row (map (part_value device history faults room) news)) pass new → HasMadeCommit pass new result
   made_at laid_so = record {
     works = committed.works;
     due = committed.due;
     table = laid_so.table;
-    sight = laid_so.sight;
+    view = laid_so.view;
     spare = laid_so.spare;
-    carries = carries_kept pass.sight.opened.sizes (λ value. value) (laid cells count (in_row (map (part_value device history faults room) news)) (values_of pass.sight))
-        (values_after pass.sight.opened.sizes committed.works (pass_of pass.sight) (values_of pass.sight)) (carried (pass_of pass.sight)) new.now
-        (λ cell some. of_cells cells count (λ cell. values_after pass.sight.opened.sizes committed.works (pass_of pass.sight) (values_of pass.sight) cell ≡ laid cells count (in_row (map (part_value device history faults room) news)) (values_of pass.sight) cell) left_here left_else cell)
-        laid_so.carries;
+    owns_slots = owns_slots_kept pass.view.opened.sizes (λ value. value) (laid_parts cells count (in_row (map (part_value device history faults room) news)) (values_of pass.view))
+        (values_after pass.view.opened.sizes committed.works (pass_of pass.view) (values_of pass.view)) (still_owned (pass_of pass.view)) new.now
+        (λ cell some. of_cells cells count (λ cell. values_after pass.view.opened.sizes committed.works (pass_of pass.view) (values_of pass.view) cell ≡ laid_parts cells count (in_row (map (part_value device history faults room) news)) (values_of pass.view) cell) left_here left_else cell)
+        laid_so.owns_slots;
     pledging = committed.pledging;
     failing = committed.failing;
   }
@@ -292,29 +292,29 @@ same_count device olds news devices = sym (length-map news device) ∙ ap length
 
 -- what came of the parts that were taken out and laid back
 module _ {X : Type 0} (device : X → ℕ) (history : X → List Part) (faults : X → ℕ) (room : X → Room) (pass mid new : PassState) (sizes : Sizes) (first file at : ℕ) (bytes : List ℕ) (olds news : List X)
-    (result : Result (Unit {0}) RegionFault) (count : ℕ) (same : sizes ≡ pass.sight.opened.sizes) (is : IsAtCommit pass first file at bytes) (has : HasEntries pass.sight first count) (law : CommitsAreDue)
+    (result : Result (Unit {0}) RegionFault) (count : ℕ) (same : sizes ≡ pass.view.opened.sizes) (is : IsAtCommit pass first file at bytes) (has : HasEntries pass.view first count) (law : CommitsAreDue)
     (out : HasLaid first count (λ i. Bare) pass mid) (long : length olds ≡ count) (devices : map device news ≡ map device olds) where
   long_new : length news ≡ count
   long_new = same_count device olds news devices ∙ long
 
-  pub entries_then : HasEntries mid.sight first (length news)
-  entries_then = subst (HasEntries mid.sight first) (sym long_new) (subst (λ (s : Sight). HasEntries s first count) (sym out.sight) has)
+  pub entries_then : HasEntries mid.view first (length news)
+  entries_then = subst (HasEntries mid.view first) (sym long_new) (subst (λ (s : PassView). HasEntries s first count) (sym out.view) has)
 
   pub out_then : HasLaid first (length news) (λ i. Bare) mid mid
-  out_then = subst (λ n. HasLaid first n (λ i. Bare) mid mid) (sym long_new) (seen_from first count (λ i. Bare) pass mid mid out.table out.sight out.spare out)
+  out_then = subst (λ n. HasLaid first n (λ i. Bare) mid mid) (sym long_new) (seen_from first count (λ i. Bare) pass mid mid out.table out.view out.spare out)
 
   abbrev FromNumber : (number : ℕ) → Type 0
   FromNumber number =
-      IsAtCommit pass number file at bytes → HasEntries pass.sight number count
-      → ((i : ℕ) → i < count → in_row (map (part_value device history faults room) olds) i ≡ values_of pass.sight (entry_cell pass.sight.opened.sizes number i))
-      → RowCalls (group_steps pass.sight.opened.sizes.page number file at bytes) (map (seen_of history room faults) olds) (map (seen_of history room faults) news) result
+      IsAtCommit pass number file at bytes → HasEntries pass.view number count
+      → ((i : ℕ) → i < count → in_row (map (part_value device history faults room) olds) i ≡ values_of pass.view (entry_cell pass.view.opened.sizes number i))
+      → RowCalls (group_steps pass.view.opened.sizes.page number file at bytes) (map (seen_of history room faults) olds) (map (seen_of history room faults) news) result
       → HasLaid number count (in_row (map (part_value device history faults room) news)) pass new → HasMadeCommit pass new result
 
-  pub made : ((i : ℕ) → i < count → in_row (map (part_value device history faults room) olds) i ≡ values_of pass.sight (entry_cell pass.sight.opened.sizes first i))
+  pub made : ((i : ℕ) → i < count → in_row (map (part_value device history faults room) olds) i ≡ values_of pass.view (entry_cell pass.view.opened.sizes first i))
       → RowCalls (group_steps sizes.page first file at bytes) (map (seen_of history room faults) olds) (map (seen_of history room faults) news) result
       → HasLaid first (length news) (in_row (map (part_value device history faults room) news)) mid new → HasMadeCommit pass new result
   made are calls back =
       subst FromNumber is.number (λ is has are calls back. made_at device history faults room pass new file at bytes olds news result count is has long are calls devices law back) is has are
       (subst (λ (s : Sizes). RowCalls (group_steps s.page first file at bytes) (map (seen_of history room faults) olds) (map (seen_of history room faults) news) result) same calls)
       (subst (λ n. HasLaid first n (in_row (map (part_value device history faults room) news)) pass new) long_new
-      (seen_from first (length news) (in_row (map (part_value device history faults room) news)) mid pass new (sym out.table) (sym out.sight) (sym out.spare) back))
+      (seen_from first (length news) (in_row (map (part_value device history faults room) news)) mid pass new (sym out.table) (sym out.view) (sym out.spare) back))

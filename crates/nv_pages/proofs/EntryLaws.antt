@@ -6,29 +6,29 @@ use Rattle.std.proofs.lemmas.Nat.{mod_below}
 use Rattle.nv_plain.specs.Images.{lines_for}
 use Rattle.nv_pmem.specs.Part.{Part}
 use Rattle.nv_pmem.specs.Room.{Room}
-use Rattle.nv_core.specs.Rooms.{KeepsReady}
-use Rattle.nv_core.specs.Spares.{spares_of}
-use Rattle.nv_core.specs.Values.{APart, Reads, Failed, called}
-use Rattle.nv_core.specs.Words.{Sizes, ENTRY, ready, held, kind_of, page_of, is_entry_of, place}
-use Rattle.nv_core.specs.Passes.{Pass, Grasping, Restoring}
-use Rattle.nv_core.specs.Deeds.{Holds, Returns, slot_of}
-use Rattle.nv_core.specs.Order.{Values}
-use Rattle.nv_core.specs.Core.{Core}
-use Rattle.nv_core.specs.Loaded.{Looks}
-use Rattle.nv_core.specs.LogWindow.{InWindow, entry_at}
-use Rattle.nv_core.specs.Sound.{Sound}
-use Rattle.nv_core.proofs.SparesLaws.{spares_tell}
-use Rattle.nv_core.proofs.NextSteps.{next_steps_may_come}
-use Rattle.nv_table.specs.Kept.{present, part_value}
-use Rattle.nv_table.specs.Layout.{cell_of}
-use Rattle.nv_table.specs.Acts.{values_before, pass_before}
-use Rattle.nv_table.specs.Changes.{changed}
-use Rattle.nv_table.specs.Opened.{Opened}
-use Rattle.nv_table.specs.Ready.{IsReady}
-use Rattle.nv_table.specs.States.{BoardState, PassState, IsOf}
-use Rattle.nv_table.specs.Turns.{IsDue}
+use Rattle.nv_core.specs.invariant.Rooms.{KeepsReady}
+use Rattle.nv_core.specs.state.Spares.{spares_of}
+use Rattle.nv_core.specs.state.Values.{APart, PageRead, Failed, called}
+use Rattle.nv_core.specs.state.Words.{Sizes, ENTRY, ready, held, kind_of, page_of, is_entry_of, place}
+use Rattle.nv_core.specs.state.Passes.{Pass, HoldEntry, ReturnEntry}
+use Rattle.nv_core.specs.steps.Ops.{Hold, Return, slot_of_entry}
+use Rattle.nv_core.specs.steps.Order.{Values}
+use Rattle.nv_core.specs.state.Core.{Core}
+use Rattle.nv_core.specs.invariant.Loaded.{LooksSound}
+use Rattle.nv_core.specs.invariant.LogWindow.{InWindow, entry_word_at}
+use Rattle.nv_core.specs.invariant.Sound.{Sound}
+use Rattle.nv_core.proofs.state.SparesLaws.{spares_tell}
+use Rattle.nv_core.proofs.steps.NextSteps.{next_steps_may_come}
+use Rattle.nv_table.specs.state.SlotValues.{present, part_value}
+use Rattle.nv_table.specs.state.Layout.{cell_of}
+use Rattle.nv_table.specs.steps.SeatSteps.{values_before, pass_before}
+use Rattle.nv_table.specs.state.Changes.{changed}
+use Rattle.nv_table.specs.state.Opened.{Opened}
+use Rattle.nv_table.specs.steps.StepContracts.{PreconditionAt}
+use Rattle.nv_table.specs.state.States.{BoardState, PassState, IsOf}
+use Rattle.nv_table.specs.steps.CallSteps.{Precondition}
 use Rattle.nv_table.specs.declared.acting.Change.TheVariants.{Add, Subtract}
-use Rattle.nv_table.proofs.LayoutLaws.{cell_there}
+use Rattle.nv_table.proofs.state.LayoutLaws.{cell_there}
 use Rattle.nv_pages.specs.PageWork.{entry_slot}
 
 -- the kind of an entry's word
@@ -44,32 +44,32 @@ falls word low kind = omega (arith, low, kind)
 
 -- the entry that a read is about to hold, and the one that it returns
 module _ (sizes : Sizes) (first : Values) (core : Core) (by page number : ℕ) (sound : Sound sizes first core) where
-  pub held_next : (core.passes by).stage ≡ Grasping page number → entry_at sizes core number < 2 ^ 64 → entry_at sizes core number + 1 ≡ (entry_at sizes core number + 1) % 2 ^ 64
-  held_next stage low =
-      let looks : InWindow core number × (is_entry_of ready page (entry_at sizes core number) ≡ true) = subst (Looks sizes core) stage (sound.loaded.looks by) in
-      rises (entry_at sizes core number) low (kind_is ready page (entry_at sizes core number) looks.1)
+  pub held_next : (core.passes by).control ≡ HoldEntry page number → entry_word_at sizes core number < 2 ^ 64 → entry_word_at sizes core number + 1 ≡ (entry_word_at sizes core number + 1) % 2 ^ 64
+  held_next control low =
+      let looks : InWindow core number × (is_entry_of ready page (entry_word_at sizes core number) ≡ true) = subst (LooksSound sizes core) control (sound.loaded.looks by) in
+      rises (entry_word_at sizes core number) low (kind_is ready page (entry_word_at sizes core number) looks.1)
 
-  pub returned_next : (failed : Bool) → (core.passes by).stage ≡ Restoring page number failed → entry_at sizes core number < 2 ^ 64
-      → entry_at sizes core number - 1 ≡ (entry_at sizes core number + (2 ^ 64 - 1)) % 2 ^ 64
-  returned_next failed stage low =
-      let looks : InWindow core number × (is_entry_of held page (entry_at sizes core number) ≡ true) = subst (Looks sizes core) stage (sound.loaded.looks by) in
-      falls (entry_at sizes core number) low (kind_is held page (entry_at sizes core number) looks.1)
+  pub returned_next : (failed : Bool) → (core.passes by).control ≡ ReturnEntry page number failed → entry_word_at sizes core number < 2 ^ 64
+      → entry_word_at sizes core number - 1 ≡ (entry_word_at sizes core number + (2 ^ 64 - 1)) % 2 ^ 64
+  returned_next failed control low =
+      let looks : InWindow core number × (is_entry_of held page (entry_word_at sizes core number) ≡ true) = subst (LooksSound sizes core) control (sound.loaded.looks by) in
+      falls (entry_word_at sizes core number) low (kind_is held page (entry_word_at sizes core number) looks.1)
 
 -- ---- the word and the slot of a number's entry, as a pass of the board has them
 
 module _ (board : BoardState) (pass : PassState) (entry number : ℕ) (of : IsOf board pass) (same : entry ≡ number) where
-  pub entry_word : (word : ℕ) → word ≡ place board.opened.sizes (ENTRY (slot_of board.opened.sizes entry)) → place pass.sight.opened.sizes (ENTRY (slot_of pass.sight.opened.sizes number)) ≡ word
+  pub entry_word : (word : ℕ) → word ≡ place board.opened.sizes (ENTRY (slot_of_entry board.opened.sizes entry)) → place pass.view.opened.sizes (ENTRY (slot_of_entry pass.view.opened.sizes number)) ≡ word
   entry_word word is =
-      ap₂ (λ (opened : Opened) n. place opened.sizes (ENTRY (slot_of opened.sizes n))) of.same_mount (sym same) ∙ sym is
+      ap₂ (λ (opened : Opened) n. place opened.sizes (ENTRY (slot_of_entry opened.sizes n))) of.same_mount (sym same) ∙ sym is
 
-  pub entry_moves : (slot : ℕ) → slot ≡ entry_slot board.opened.sizes entry → entry_slot pass.sight.opened.sizes number ≡ slot
+  pub entry_moves : (slot : ℕ) → slot ≡ entry_slot board.opened.sizes entry → entry_slot pass.view.opened.sizes number ≡ slot
   entry_moves slot is = ap₂ (λ (opened : Opened) n. entry_slot opened.sizes n) of.same_mount (sym same) ∙ sym is
 
 -- ---- a step that is due is ready
 
-module _ (pass : PassState) (number at : ℕ) (there : place pass.sight.opened.sizes (ENTRY (slot_of pass.sight.opened.sizes number)) ≡ at) where
-  abbrev pub hold_ready : IsDue pass None (Holds number) → IsReady pass None (Holds number) at (changed (Add 1))
-  hold_ready due = let by_kind = next_steps_may_come pass.sight.opened.sizes (values_before pass.sight due.works) (pass_before pass.sight None due.works) (Holds number) due.may in record {
+module _ (pass : PassState) (number at : ℕ) (there : place pass.view.opened.sizes (ENTRY (slot_of_entry pass.view.opened.sizes number)) ≡ at) where
+  abbrev pub hold_ready : Precondition pass None (Hold number) → PreconditionAt pass None (Hold number) at (changed (Add 1))
+  hold_ready due = let by_kind = next_steps_may_come pass.view.opened.sizes (values_before pass.view due.works) (pass_before pass.view None due.works) (Hold number) due.may in record {
     works = due.works;
     next = record {
       due = due.due;
@@ -77,13 +77,13 @@ module _ (pass : PassState) (number at : ℕ) (there : place pass.sight.opened.s
       may = due.may;
       staying = due.staying;
       word = there;
-      value = λ core sound made is low. held_next pass.sight.opened.sizes _ core pass.sight.number by_kind.0 number sound (ap (λ (p : Pass). p.stage) is ∙ by_kind.1) low;
+      value = λ core sound made is low. held_next pass.view.opened.sizes _ core pass.view.number by_kind.0 number sound (ap (λ (p : Pass). p.control) is ∙ by_kind.1) low;
     };
     holds = due.holds;
   }
 
-  abbrev pub return_ready : IsDue pass None (Returns number) → IsReady pass None (Returns number) at (changed (Subtract 1))
-  return_ready due = let by_kind = next_steps_may_come pass.sight.opened.sizes (values_before pass.sight due.works) (pass_before pass.sight None due.works) (Returns number) due.may in record {
+  abbrev pub return_ready : Precondition pass None (Return number) → PreconditionAt pass None (Return number) at (changed (Subtract 1))
+  return_ready due = let by_kind = next_steps_may_come pass.view.opened.sizes (values_before pass.view due.works) (pass_before pass.view None due.works) (Return number) due.may in record {
     works = due.works;
     next = record {
       due = due.due;
@@ -91,7 +91,7 @@ module _ (pass : PassState) (number at : ℕ) (there : place pass.sight.opened.s
       may = due.may;
       staying = due.staying;
       word = there;
-      value = λ core sound made is low. returned_next pass.sight.opened.sizes _ core pass.sight.number by_kind.0 number sound by_kind.1 (ap (λ (p : Pass). p.stage) is ∙ by_kind.2) low;
+      value = λ core sound made is low. returned_next pass.view.opened.sizes _ core pass.view.number by_kind.0 number sound by_kind.1 (ap (λ (p : Pass). p.control) is ∙ by_kind.2) low;
     };
     holds = due.holds;
   }
@@ -100,10 +100,10 @@ module _ (pass : PassState) (number at : ℕ) (there : place pass.sight.opened.s
 
 -- its slot's cell
 pub at_entry : (board : BoardState) (pass : PassState) (number slot : ℕ) → IsOf board pass → 0 < board.opened.sizes.entries → slot ≡ entry_slot board.opened.sizes number
-    → cell_of pass.sight.opened.sizes slot ≡ ENTRY (slot_of board.opened.sizes number)
+    → cell_of pass.view.opened.sizes slot ≡ ENTRY (slot_of_entry board.opened.sizes number)
 at_entry board pass number slot of some is =
     ap₂ (λ (opened : Opened) s. cell_of opened.sizes s) of.same_mount is
-    ∙ (cell_there board.opened.sizes (ENTRY (slot_of board.opened.sizes number)) (entry_slot board.opened.sizes number) (mod_below number board.opened.sizes.entries some) refl).1
+    ∙ (cell_there board.opened.sizes (ENTRY (slot_of_entry board.opened.sizes number)) (entry_slot board.opened.sizes number) (mod_below number board.opened.sizes.entries some) refl).1
 
 module _ {L : Type 0} (device : L → ℕ) (history : L → List Part) (faults : L → ℕ) (room : L → Room) where
   -- it has the lines of an entry
@@ -112,7 +112,7 @@ module _ {L : Type 0} (device : L → ℕ) (history : L → List Part) (faults :
 
   module _ (old new : L) (same_history : history new ≡ history old) (same_device : device new ≡ device old) (same_room : room new ≡ room old) where
     -- where it failed
-    pub part_failed : part_value device history faults room new ≡ called (Reads 0 []) (Failed false (faults new)) (part_value device history faults room old)
+    pub part_failed : part_value device history faults room new ≡ called (PageRead 0 []) (Failed false (faults new)) (part_value device history faults room old)
     part_failed =
         ap₂ (λ states which. APart record { told = present states; faults = faults new; identity = which } (spares_of (room new))) same_history same_device
         ∙ ap (λ r. APart record { told = present (history old); faults = faults new; identity = device old } (spares_of r)) same_room

@@ -2,8 +2,8 @@
 use Rattle.std.proofs.Common.{◌≡◌, ℕ, List, [], false, Result, Ok, Err, ap, ap₂, ◌∙◌}
 use Rattle.std.specs.Prelude.{OnErr}
 use Rattle.nv_store.specs.Store.{Store}
-use Rattle.nv_core.specs.Values.{AStore, Reads, Failed, called}
-use Rattle.nv_table.specs.Kept.{present, store_value}
+use Rattle.nv_core.specs.state.Values.{AStore, PageRead, Failed, called}
+use Rattle.nv_table.specs.state.SlotValues.{present, store_value}
 
 module _ {B : Type 0} (device : B → ℕ) (history : B → List Store) (faults : B → ℕ) (old new : B) (same_history : history new ≡ history old) (same_device : device new ≡ device old) where
   -- it went well
@@ -13,7 +13,7 @@ module _ {B : Type 0} (device : B → ℕ) (history : B → List Store) (faults 
       ∙ ap (λ count. AStore record { told = present (history old); faults = count; identity = device old }) same_faults
 
   -- it failed
-  pub store_failed : store_value device history faults new ≡ called (Reads 0 []) (Failed false (faults new)) (store_value device history faults old)
+  pub store_failed : store_value device history faults new ≡ called (PageRead 0 []) (Failed false (faults new)) (store_value device history faults old)
   store_failed = ap₂ (λ states which. AStore record { told = present states; faults = faults new; identity = which }) same_history same_device
 
 -- what holds at all holds where there is an error

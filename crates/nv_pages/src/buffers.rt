@@ -1,11 +1,11 @@
-//! The buffers of pages in a pass's hands.
+//! The buffers of pages that a pass owns.
 ghost use Rattle.std.specs.Prelude.{◌≡◌, ◌≢◌, ◌+◌, ◌<◌, ◌≤◌, length, Some};
-ghost use Rattle.nv_core.specs.Words.{PAGE, page_total};
-ghost use Rattle.nv_core.specs.Values.{Buffer, ABuffer, lacks_buffer as lacks, emptied, filled, received, patched};
-ghost use Rattle.nv_core.specs.Passes.{IsOneOf};
-ghost use Rattle.nv_table.specs.Kept.{part_value, store_value, slot_value};
-ghost use Rattle.nv_table.specs.Sights.{slot_times};
-ghost use Rattle.nv_table.specs.States.{IsOf};
+ghost use Rattle.nv_core.specs.state.Words.{PAGE, page_total};
+ghost use Rattle.nv_core.specs.state.Values.{Buffer, ABuffer, lacks_buffer as lacks, emptied, filled, received, patched};
+ghost use Rattle.nv_core.specs.state.Passes.{IsOneOf};
+ghost use Rattle.nv_table.specs.state.SlotValues.{part_value, store_value, slot_value};
+ghost use Rattle.nv_table.specs.state.Views.{slot_times};
+ghost use Rattle.nv_table.specs.state.States.{IsOf};
 ghost use Rattle.nv_pages.specs.Altered.{IsAltered};
 ghost use Rattle.nv_pages.specs.PageWork.{OfKept, IsCopied, page_slot, with_page, with_patch, robbed};
 
@@ -15,7 +15,7 @@ use nv_pmem::Lines;
 use nv_store::Backing;
 use nv_table::{Board, PageBuffer, Pass, Slot, exchange};
 
-// Copies the bytes of a slot's buffer from an offset on, where it counts.
+// Copies the bytes of a slot's buffer from an offset on, where it is valid.
 fn copy_from<L: Lines, B: Backing>(held: &Slot<L, B>, at: usize, into: &mut [u8]) -> Option<usize>
     ensures { IsCopied (slot_value (part_value L.device L.history L.fault_count L.room) (store_value B.device B.history B.fault_count) held.now) at into.old into.new result }
 {
@@ -96,7 +96,7 @@ fn rob<L: Lines, B: Backing>(victim: &mut Slot<L, B>, page: &mut Slot<L, B>)
     }
 }
 
-/// Where the buffer of a page that the pass carries counts, copies its bytes from the offset `at` on to the front of `into`, as many as
+/// Where the buffer of a page that the pass owns is valid, copies its bytes from the offset `at` on to the front of `into`, as many as
 /// there are and as there is room for, and tells how many. Else nothing is copied.
 pub fn copy_page<L: Lines, B: Backing>(
     board: &Board<L, B>,
@@ -107,7 +107,7 @@ pub fn copy_page<L: Lines, B: Backing>(
 ) -> Option<usize>
     requires board { IsOf board.now pass.old }
     requires page { page < page_total board.now.opened.sizes }
-    requires carries { slot_times (page_slot board.now.opened.sizes page) pass.old.now ≡ 1 }
+    requires owns_slots { slot_times (page_slot board.now.opened.sizes page) pass.old.now ≡ 1 }
     ensures same { IsAltered (λ kept. kept) pass.old pass.new }
     ensures copied { OfKept pass.old (λ kept. IsCopied (kept (PAGE page)) at into.old into.new result) }
 {
@@ -118,7 +118,7 @@ pub fn copy_page<L: Lines, B: Backing>(
     count
 }
 
-/// Whether a page that the pass carries lacks a buffer.
+/// Whether a page that the pass owns lacks a buffer.
 pub fn lacks_buffer<L: Lines, B: Backing>(
     board: &Board<L, B>,
     pass: &mut Pass<L, B>,
@@ -126,7 +126,7 @@ pub fn lacks_buffer<L: Lines, B: Backing>(
 ) -> bool
     requires board { IsOf board.now pass.old }
     requires page { page < page_total board.now.opened.sizes }
-    requires carries { slot_times (page_slot board.now.opened.sizes page) pass.old.now ≡ 1 }
+    requires owns_slots { slot_times (page_slot board.now.opened.sizes page) pass.old.now ≡ 1 }
     ensures same { IsAltered (λ kept. kept) pass.old pass.new }
     ensures lacks { OfKept pass.old (λ kept. result ≡ lacks (kept (PAGE page))) }
 {
@@ -137,7 +137,7 @@ pub fn lacks_buffer<L: Lines, B: Backing>(
     lacks
 }
 
-/// Puts a page's bytes into its buffer, if it has one, which counts then.
+/// Puts a page's bytes into its buffer, if it has one, which is valid then.
 pub fn fill_page<L: Lines, B: Backing>(
     board: &Board<L, B>,
     pass: &mut Pass<L, B>,
@@ -146,7 +146,7 @@ pub fn fill_page<L: Lines, B: Backing>(
 )
     requires board { IsOf board.now pass.old }
     requires page { page < page_total board.now.opened.sizes }
-    requires carries { slot_times (page_slot board.now.opened.sizes page) pass.old.now ≡ 1 }
+    requires owns_slots { slot_times (page_slot board.now.opened.sizes page) pass.old.now ≡ 1 }
     requires room { (buffer : Buffer) → IsOneOf pass.old.now (page_slot board.now.opened.sizes page, ABuffer (Some buffer)) → length bytes.now ≤ length buffer.bytes }
     ensures { IsAltered (with_page page bytes.now) pass.old pass.new }
 {
@@ -166,7 +166,7 @@ pub fn patch_page<L: Lines, B: Backing>(
 )
     requires board { IsOf board.now pass.old }
     requires page { page < page_total board.now.opened.sizes }
-    requires carries { slot_times (page_slot board.now.opened.sizes page) pass.old.now ≡ 1 }
+    requires owns_slots { slot_times (page_slot board.now.opened.sizes page) pass.old.now ≡ 1 }
     requires room { (buffer : Buffer) → IsOneOf pass.old.now (page_slot board.now.opened.sizes page, ABuffer (Some buffer)) → at + length bytes.now ≤ length buffer.bytes }
     ensures { IsAltered (with_patch page at bytes.now) pass.old pass.new }
 {
@@ -188,8 +188,8 @@ pub fn move_buffer<L: Lines, B: Backing>(
     requires victim { victim < page_total board.now.opened.sizes }
     requires page { page < page_total board.now.opened.sizes }
     requires apart { victim ≢ page }
-    requires carries_victim { slot_times (page_slot board.now.opened.sizes victim) pass.old.now ≡ 1 }
-    requires carries_page { slot_times (page_slot board.now.opened.sizes page) pass.old.now ≡ 1 }
+    requires owns_slots_victim { slot_times (page_slot board.now.opened.sizes victim) pass.old.now ≡ 1 }
+    requires owns_slots_page { slot_times (page_slot board.now.opened.sizes page) pass.old.now ≡ 1 }
     ensures moved { IsAltered (robbed victim page) pass.old pass.new }
     ensures lacks { OfKept pass.old (λ kept. result ≡ lacks (received (kept (PAGE victim)) (kept (PAGE page)))) }
 {

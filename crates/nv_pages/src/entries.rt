@@ -1,15 +1,15 @@
-//! The part of an entry in a pass's hands, and how its piece is laid over a page.
+//! The part of an entry that a pass owns, and how its piece is laid over a page.
 ghost use Rattle.std.specs.Prelude.{◌≡◌, ℕ, ◌+◌, ◌%◌, ◌≤◌, length, take, IfOk, OnOk, OnErr};
 ghost use Rattle.nv_plain.specs.Files.{overwritten};
-ghost use Rattle.nv_core.specs.Words.{ENTRY};
-ghost use Rattle.nv_core.specs.Deeds.{slot_of};
-ghost use Rattle.nv_core.specs.Order.{SaysPieceOf};
-ghost use Rattle.nv_core.specs.Passes.{IsOneOf};
-ghost use Rattle.nv_core.specs.Values.{Value};
-ghost use Rattle.nv_table.specs.Sights.{slot_times};
-ghost use Rattle.nv_table.specs.States.{IsOf};
+ghost use Rattle.nv_core.specs.state.Words.{ENTRY};
+ghost use Rattle.nv_core.specs.steps.Ops.{slot_of_entry as slot_of_entryOp};
+ghost use Rattle.nv_core.specs.steps.Order.{SaysPieceOf};
+ghost use Rattle.nv_core.specs.state.Passes.{IsOneOf};
+ghost use Rattle.nv_core.specs.state.Values.{Value};
+ghost use Rattle.nv_table.specs.state.Views.{slot_times};
+ghost use Rattle.nv_table.specs.state.States.{IsOf};
 ghost use Rattle.nv_pages.specs.Altered.{IsAltered};
-ghost use Rattle.nv_pages.specs.PageWork.{OfKept, HasFailed, IsReadable, entry_slot};
+ghost use Rattle.nv_pages.specs.PageWork.{OfKept, HasFailedCall, IsReadable, entry_slot};
 
 use crate::slots::{put, slot_of_entry};
 use nv_entry::{RegionFault, read_piece};
@@ -24,7 +24,7 @@ pub struct Piece {
     pub size: u64,
 }
 
-/// Reads the piece of the entry of a number, whose part the pass carries: its bytes come to the front of `into`, and all of them lie in one page. It fails exactly
+/// Reads the piece of the entry of a number, whose part the pass owns: its bytes come to the front of `into`, and all of them lie in one page. It fails exactly
 /// where the part's count rose; then `into` may hold anything.
 pub fn read_entry<L: Lines, B: Backing>(
     board: &Board<L, B>,
@@ -33,13 +33,13 @@ pub fn read_entry<L: Lines, B: Backing>(
     into: &mut [u8],
 ) -> Result<Piece, RegionFault>
     requires board { IsOf board.now pass.old }
-    requires carries { slot_times (entry_slot board.now.opened.sizes number) pass.old.now ≡ 1 }
+    requires owns_slots { slot_times (entry_slot board.now.opened.sizes number) pass.old.now ≡ 1 }
     requires part { (value : Value) → IsOneOf pass.old.now (entry_slot board.now.opened.sizes number, value) → IsReadable board.now.opened.sizes value }
     requires page { length into.old ≡ board.now.opened.sizes.page }
     ensures same { OnOk result (IsAltered (λ kept. kept) pass.old pass.new) }
-    ensures says { IfOk result (λ piece. OfKept pass.old (λ kept. SaysPieceOf board.now.opened.sizes piece.at (take piece.size into.new) (kept (ENTRY (slot_of board.now.opened.sizes number))))) }
+    ensures says { IfOk result (λ piece. OfKept pass.old (λ kept. SaysPieceOf board.now.opened.sizes piece.at (take piece.size into.new) (kept (ENTRY (slot_of_entryOp board.now.opened.sizes number))))) }
     ensures fits { IfOk result (λ piece. piece.at % board.now.opened.sizes.page + piece.size ≤ board.now.opened.sizes.page) }
-    ensures failed { OnErr result (HasFailed (ENTRY (slot_of board.now.opened.sizes number)) pass.old pass.new) }
+    ensures failed { OnErr result (HasFailedCall (ENTRY (slot_of_entryOp board.now.opened.sizes number)) pass.old pass.new) }
 {
     let layout = board.layout();
     let slot = slot_of_entry(board, number);

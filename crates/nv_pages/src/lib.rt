@@ -1,4 +1,4 @@
-//! What a pass does with the pages of a call: with the buffers, the store and the parts of entries that it carries, between two steps, the device calls of a
+//! What a pass does with the pages of a call: with the buffers, the store and the parts of entries that it owns, between two steps, the device calls of a
 //! write's commit, and the steps by which it searches a buffer, and holds and returns an entry. None of these calls takes memory or waits.
 #![tactic(auto)]
 

@@ -1,29 +1,29 @@
 //! The steps of a search for a buffer.
 ghost use Rattle.std.specs.Prelude.{◌≡◌, ℕ, ◌<◌, List, None};
-ghost use Rattle.nv_core.specs.Deeds.{Turns, Hints};
-ghost use Rattle.nv_core.specs.Order.{Work};
-ghost use Rattle.nv_table.specs.Ready.{Stepped};
-ghost use Rattle.nv_table.specs.States.{IsOf};
-ghost use Rattle.nv_table.specs.Turns.{IsDue};
+ghost use Rattle.nv_core.specs.steps.Ops.{Turn, Hint};
+ghost use Rattle.nv_core.specs.steps.Order.{Work};
+ghost use Rattle.nv_table.specs.steps.StepContracts.{Postcondition};
+ghost use Rattle.nv_table.specs.state.States.{IsOf};
+ghost use Rattle.nv_table.specs.steps.CallSteps.{Precondition};
 
 use nv_pmem::Lines;
 use nv_store::Backing;
-use nv_table::{Board, Change, Does, HAND, Marks, Moves, Pass, step};
+use nv_table::{Board, Change, HAND, Marks, Moves, Pass, StepSpec, step};
 use std::marker::Brand;
 
 // A step that raises HAND.
-fn turn_by<E: Does, L: Lines, B: Backing>(
+fn turn_by<E: StepSpec, L: Lines, B: Backing>(
     board: &Board<L, B>,
     pass: &mut Pass<L, B>,
     page: u64,
 ) -> u64
     requires board { IsOf board.now pass.old }
     requires opens { E.opens ≡ None }
-    requires deed { E.deed ≡ Turns page }
+    requires op { E.op ≡ Turn page }
     requires said { (works : List Work) → E.said works }
-    requires due { IsDue pass.old None (Turns page) }
+    requires due { Precondition pass.old None (Turn page) }
     ensures board { IsOf board.now pass.new }
-    ensures stepped { Stepped pass.old None (Turns page) result pass.new }
+    ensures stepped { Postcondition pass.old None (Turn page) result pass.new }
 {
     // Only clauses speak of the page.
     let _ = page;
@@ -38,7 +38,7 @@ fn turn_by<E: Does, L: Lines, B: Backing>(
 }
 
 // A step that sets a HINT.
-fn hint_by<E: Does, L: Lines, B: Backing>(
+fn hint_by<E: StepSpec, L: Lines, B: Backing>(
     board: &Board<L, B>,
     pass: &mut Pass<L, B>,
     buffer: u64,
@@ -46,12 +46,12 @@ fn hint_by<E: Does, L: Lines, B: Backing>(
 ) -> u64
     requires board { IsOf board.now pass.old }
     requires opens { E.opens ≡ None }
-    requires deed { E.deed ≡ Hints buffer page }
+    requires op { E.op ≡ Hint buffer page }
     requires said { (works : List Work) → E.said works }
     requires buffer { buffer < board.now.opened.sizes.buffers }
-    requires due { IsDue pass.old None (Hints buffer page) }
+    requires due { Precondition pass.old None (Hint buffer page) }
     ensures board { IsOf board.now pass.new }
-    ensures stepped { Stepped pass.old None (Hints buffer page) result pass.new }
+    ensures stepped { Postcondition pass.old None (Hint buffer page) result pass.new }
 {
     let word = board.layout().hint(buffer);
     step::<E, L, B>(
@@ -67,9 +67,9 @@ fn hint_by<E: Does, L: Lines, B: Backing>(
 /// Raises HAND by 1, modulo 2^64, where that is the pass's next step: a try of a search for a buffer for this page. The result is HAND as it was.
 pub fn turn_hand<L: Lines, B: Backing>(board: &Board<L, B>, pass: &mut Pass<L, B>, page: u64) -> u64
     requires board { IsOf board.now pass.old }
-    requires due { IsDue pass.old None (Turns page) }
+    requires due { Precondition pass.old None (Turn page) }
     ensures board { IsOf board.now pass.new }
-    ensures stepped { Stepped pass.old None (Turns page) result pass.new }
+    ensures stepped { Postcondition pass.old None (Turn page) result pass.new }
 {
     turn_by::<Brand, L, B>(board, pass, page)
 }
@@ -83,9 +83,9 @@ pub fn set_hint<L: Lines, B: Backing>(
 )
     requires board { IsOf board.now pass.old }
     requires buffer { buffer < board.now.opened.sizes.buffers }
-    requires due { IsDue pass.old None (Hints buffer page) }
+    requires due { Precondition pass.old None (Hint buffer page) }
     ensures board { IsOf board.now pass.new }
-    ensures stepped { (found : ℕ) × Stepped pass.old None (Hints buffer page) found pass.new }
+    ensures stepped { (found : ℕ) × Postcondition pass.old None (Hint buffer page) found pass.new }
 {
     hint_by::<Brand, L, B>(board, pass, buffer, page);
 }

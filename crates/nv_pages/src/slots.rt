@@ -1,12 +1,12 @@
 //! The slots of pages, stores and entries, and how something comes back into one.
 ghost use Rattle.std.specs.Prelude.{◌≡◌, ◌<◌};
-ghost use Rattle.nv_core.specs.Words.{page_total};
-ghost use Rattle.nv_core.specs.Passes.{IsOneOf};
-ghost use Rattle.nv_core.specs.Values.{Value, Bare};
-ghost use Rattle.nv_table.specs.Hands.{Exchanges};
-ghost use Rattle.nv_table.specs.Kept.{part_value, store_value, slot_value};
-ghost use Rattle.nv_table.specs.Sights.{slot_times};
-ghost use Rattle.nv_table.specs.States.{IsOf};
+ghost use Rattle.nv_core.specs.state.Words.{page_total};
+ghost use Rattle.nv_core.specs.state.Passes.{IsOneOf};
+ghost use Rattle.nv_core.specs.state.Values.{Value, Bare};
+ghost use Rattle.nv_table.specs.steps.Exchanges.{Exchanges};
+ghost use Rattle.nv_table.specs.state.SlotValues.{part_value, store_value, slot_value};
+ghost use Rattle.nv_table.specs.state.Views.{slot_times};
+ghost use Rattle.nv_table.specs.state.States.{IsOf};
 ghost use Rattle.nv_pages.specs.PageWork.{page_slot, store_slot, entry_slot};
 
 use nv_pmem::Lines;
@@ -39,7 +39,7 @@ pub(crate) fn slot_of_entry<L: Lines, B: Backing>(board: &Board<L, B>, number: u
     (1 + number % layout.entries) as usize
 }
 
-// Puts something into a slot that the pass carries, whose content is away.
+// Puts something into a slot that the pass owns, whose content is away.
 pub(crate) fn put<L: Lines, B: Backing>(
     board: &Board<L, B>,
     pass: &mut Pass<L, B>,
@@ -47,7 +47,7 @@ pub(crate) fn put<L: Lines, B: Backing>(
     held: Slot<L, B>,
 )
     requires board { IsOf board.now pass.old }
-    requires carries { slot_times slot pass.old.now ≡ 1 }
+    requires owns_slots { slot_times slot pass.old.now ≡ 1 }
     requires away { (value : Value) → IsOneOf pass.old.now (slot, value) → value ≡ Bare }
     ensures { Exchanges slot Bare (slot_value (part_value L.device L.history L.fault_count L.room) (store_value B.device B.history B.fault_count) held) pass.old pass.new }
 {

@@ -1,21 +1,21 @@
-//! The store in a pass's hands.
+//! The store that a pass owns.
 ghost use Rattle.std.specs.Prelude.{◌≡◌, ◌<◌, length, OnOk, OnErr};
-ghost use Rattle.nv_core.specs.Words.{STORE};
-ghost use Rattle.nv_core.specs.Order.{SaysOf};
-ghost use Rattle.nv_core.specs.Passes.{IsOneOf};
-ghost use Rattle.nv_core.specs.Shapes.{IsStore};
-ghost use Rattle.nv_core.specs.Values.{Value};
-ghost use Rattle.nv_table.specs.Sights.{slot_times};
-ghost use Rattle.nv_table.specs.States.{IsOf};
+ghost use Rattle.nv_core.specs.state.Words.{STORE};
+ghost use Rattle.nv_core.specs.steps.Order.{SaysOf};
+ghost use Rattle.nv_core.specs.state.Passes.{IsOneOf};
+ghost use Rattle.nv_core.specs.invariant.Shapes.{IsStore};
+ghost use Rattle.nv_core.specs.state.Values.{Value};
+ghost use Rattle.nv_table.specs.state.Views.{slot_times};
+ghost use Rattle.nv_table.specs.state.States.{IsOf};
 ghost use Rattle.nv_pages.specs.Altered.{IsAltered};
-ghost use Rattle.nv_pages.specs.PageWork.{OfKept, HasFailed, store_slot};
+ghost use Rattle.nv_pages.specs.PageWork.{OfKept, HasFailedCall, store_slot};
 
 use crate::slots::{put, slot_of_store};
 use nv_pmem::Lines;
 use nv_store::{Backing, StoreFault};
 use nv_table::{Board, Pass, Slot, exchange};
 
-/// Reads a page of a file from the store that the pass carries: the bytes from the offset `at` on, with zeros behind the end of the file. It fails
+/// Reads a page of a file from the store that the pass owns: the bytes from the offset `at` on, with zeros behind the end of the file. It fails
 /// exactly where the store's count rose; then `into` may hold anything.
 pub fn read_store<L: Lines, B: Backing>(
     board: &Board<L, B>,
@@ -26,12 +26,12 @@ pub fn read_store<L: Lines, B: Backing>(
 ) -> Result<(), StoreFault>
     requires board { IsOf board.now pass.old }
     requires file { file < board.now.opened.sizes.files }
-    requires carries { slot_times (store_slot board.now.opened.sizes file) pass.old.now ≡ 1 }
+    requires owns_slots { slot_times (store_slot board.now.opened.sizes file) pass.old.now ≡ 1 }
     requires store { (value : Value) → IsOneOf pass.old.now (store_slot board.now.opened.sizes file, value) → IsStore value }
     requires page { length into.old ≡ board.now.opened.sizes.page }
     ensures same { OnOk result (IsAltered (λ kept. kept) pass.old pass.new) }
     ensures says { OnOk result (OfKept pass.old (λ kept. SaysOf board.now.opened.sizes at into.new (kept (STORE file)))) }
-    ensures failed { OnErr result (HasFailed (STORE file) pass.old pass.new) }
+    ensures failed { OnErr result (HasFailedCall (STORE file) pass.old pass.new) }
 {
     let slot = slot_of_store(board, file);
     let held = exchange(board, pass, slot, Slot::Away);

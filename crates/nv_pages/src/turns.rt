@@ -1,10 +1,10 @@
 //! The steps of a search for a buffer, and those by which an entry is held and returned.
 ghost use Rattle.std.specs.Prelude.{◌≡◌, ℕ, ◌<◌, None};
-ghost use Rattle.nv_core.specs.Deeds.{Turns, Hints, Holds, Returns, slot_of};
-ghost use Rattle.nv_core.specs.Words.{ENTRY, place};
-ghost use Rattle.nv_table.specs.Ready.{Stepped};
-ghost use Rattle.nv_table.specs.States.{IsOf};
-ghost use Rattle.nv_table.specs.Turns.{IsDue};
+ghost use Rattle.nv_core.specs.steps.Ops.{Turn, Hint, Hold, Return, slot_of_entry as slot_of_entryOp};
+ghost use Rattle.nv_core.specs.state.Words.{ENTRY, place};
+ghost use Rattle.nv_table.specs.steps.StepContracts.{Postcondition};
+ghost use Rattle.nv_table.specs.state.States.{IsOf};
+ghost use Rattle.nv_table.specs.steps.CallSteps.{Precondition};
 
 use crate::slots::slot_of_entry;
 use nv_pmem::Lines;
@@ -14,7 +14,7 @@ use std::marker::Brand;
 
 // The place of the word of a number's entry.
 fn entry_word<L: Lines, B: Backing>(board: &Board<L, B>, number: u64) -> u64
-    ensures { result ≡ place board.now.opened.sizes (ENTRY (slot_of board.now.opened.sizes number)) }
+    ensures { result ≡ place board.now.opened.sizes (ENTRY (slot_of_entryOp board.now.opened.sizes number)) }
 {
     let layout = board.layout();
     layout.entry(number % layout.entries)
@@ -25,9 +25,9 @@ fn hold_by<L: Lines, B: Backing>(board: &Board<L, B>, pass: &mut Pass<L, B>, ent
     ghost number: { ℕ }
     requires board { IsOf board.now pass.old }
     requires entry { entry ≡ number }
-    requires due { IsDue pass.old None (Holds number) }
+    requires due { Precondition pass.old None (Hold number) }
     ensures board { IsOf board.now pass.new }
-    ensures stepped { (found : ℕ) × Stepped pass.old None (Holds number) found pass.new }
+    ensures stepped { (found : ℕ) × Postcondition pass.old None (Hold number) found pass.new }
 {
     let word = entry_word(board, entry);
     let slot = slot_of_entry(board, entry);
@@ -46,9 +46,9 @@ fn return_by<W: Says, L: Lines, B: Backing>(board: &Board<L, B>, pass: &mut Pass
     ghost number: { ℕ }
     requires board { IsOf board.now pass.old }
     requires entry { entry ≡ number }
-    requires due { (due : IsDue pass.old None (Returns number)) × W.said due.works }
+    requires due { (due : Precondition pass.old None (Return number)) × W.said due.works }
     ensures board { IsOf board.now pass.new }
-    ensures stepped { (found : ℕ) × (stepped : Stepped pass.old None (Returns number) found pass.new) × W.said stepped.works }
+    ensures stepped { (found : ℕ) × (stepped : Postcondition pass.old None (Return number) found pass.new) × W.said stepped.works }
 {
     let word = entry_word(board, entry);
     let slot = slot_of_entry(board, entry);
@@ -65,9 +65,9 @@ fn return_by<W: Says, L: Lines, B: Backing>(board: &Board<L, B>, pass: &mut Pass
 /// Holds the entry of a number, which is ready, where that is the pass's next step. Its part comes with it.
 pub fn hold_entry<L: Lines, B: Backing>(board: &Board<L, B>, pass: &mut Pass<L, B>, number: u64)
     requires board { IsOf board.now pass.old }
-    requires due { IsDue pass.old None (Holds number) }
+    requires due { Precondition pass.old None (Hold number) }
     ensures board { IsOf board.now pass.new }
-    ensures stepped { (found : ℕ) × Stepped pass.old None (Holds number) found pass.new }
+    ensures stepped { (found : ℕ) × Postcondition pass.old None (Hold number) found pass.new }
 {
     hold_by(board, pass, number);
 }
@@ -80,9 +80,9 @@ pub fn return_entry<W: Says, L: Lines, B: Backing>(
     number: u64,
 )
     requires board { IsOf board.now pass.old }
-    requires due { (due : IsDue pass.old None (Returns number)) × W.said due.works }
+    requires due { (due : Precondition pass.old None (Return number)) × W.said due.works }
     ensures board { IsOf board.now pass.new }
-    ensures stepped { (found : ℕ) × (stepped : Stepped pass.old None (Returns number) found pass.new) × W.said stepped.works }
+    ensures stepped { (found : ℕ) × (stepped : Postcondition pass.old None (Return number) found pass.new) × W.said stepped.works }
 {
     return_by::<W, L, B>(board, pass, number);
 }

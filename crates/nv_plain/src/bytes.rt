@@ -1,3 +1,4 @@
+//! Bytes, as those of a write or a read.
 ghost use Rattle.std.specs.Prelude.{◌≡◌, ◌==◌, length};
 
 use std::marker::Model;

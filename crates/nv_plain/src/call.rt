@@ -1,3 +1,4 @@
+//! Calls on files, and their replies.
 use crate::Bytes;
 
 /// A call on a file, by the file's number, which counts from 0. Offsets and lengths are in bytes,

@@ -1,3 +1,4 @@
+//! Laws of plain files.
 ghost use Rattle.nv_plain.specs.Faults.{SaturatedCountsRise};
 ghost use Rattle.nv_plain.specs.Files.{WriteLeavesItsBytes, WriteLeavesTheRest, WriteReachesItsEnd};
 ghost use Rattle.nv_plain.specs.Histories.{GoesOnFrom, GoesOnLegally, HistoryKeepsFiles};

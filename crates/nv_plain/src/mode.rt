@@ -1,3 +1,4 @@
+//! What a descriptor was opened for.
 ghost use Rattle.std.specs.Prelude.{◌≡◌};
 ghost use Rattle.nv_plain.specs.Modes.{can_read, can_write};
 

@@ -1,3 +1,4 @@
+//! Which bytes may name a file.
 ghost use Rattle.std.specs.Prelude.{◌≡◌};
 ghost use Rattle.std.specs.List.{list_all};
 ghost use Rattle.nv_plain.specs.Names.{is_name, is_name_byte};

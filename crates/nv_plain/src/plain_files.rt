@@ -1,3 +1,4 @@
+//! Plain files in memory: the slow program beside the definitions.
 ghost use Rattle.std.specs.Prelude.{◌≡◌, ◌+◌, ◌^◌, ◌<◌, ◌≤◌, length, map, IfOk, OnOk, OnErr};
 ghost use Rattle.nv_plain.specs.Files.{empty_files, contents_of, overwritten};
 ghost use Rattle.nv_plain.specs.Calls.{reply_of, files_after, IsWithin, MayTakeMemory};

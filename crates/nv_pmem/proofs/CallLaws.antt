@@ -10,7 +10,7 @@ use Rattle.nv_pmem.specs.Room.{Room, Takes, Keeps, Frees}
 use Rattle.nv_pmem.specs.RoomSteps.{IsOnLine, RoomAfter, RoomAfterFault, RoomThrough}
 use Rattle.nv_pmem.specs.Rows.{RowStep, on_part, row_grown, DidRow, DidSomeRow}
 use Rattle.nv_pmem.specs.Runs.{run, Ran, RanSome, grown}
-use Rattle.nv_pmem.specs.Steps.{Step, Store, Fence, History, Did, DidSome, after_step, line_stores, word_in}
+use Rattle.nv_pmem.specs.Steps.{LineStep, StoreWord, Fence, PartHistory, DidLineStep, DidSome, after_line_step, line_stores, word_in}
 use Rattle.nv_pmem.proofs.LineRooms.{line_is_its_stores}
 use Rattle.nv_pmem.proofs.RowLaws.{on_part-append}
 use Rattle.nv_pmem.proofs.StepLaws.{did_did_some, did_some_front, did_some_all, did_one}
@@ -67,18 +67,18 @@ all_well value each = record { well = each; failed = tt }
 
 -- ---- one call of a part
 
-pub one_well : {step : Step} {old new : Seen} → IsOnLine step old.room → Did (step ∷ []) old.history new.history → RoomAfter step old.room new.room → new.faults ≡ old.faults → EachEnded EndedWell (step ∷ []) old new
+pub one_well : {step : LineStep} {old new : Seen} → IsOnLine step old.room → DidLineStep (step ∷ []) old.history new.history → RoomAfter step old.room new.room → new.faults ≡ old.faults → EachEnded EndedWell (step ∷ []) old new
 unfolding run
 one_well {step} {old} {new} line did room faults =
     record { each = (new, record { line = line; history = did.states; room = room; faults = faults }, refl) }
 
-came_or_not : (step : Step) (old new : History) (count : ℕ) → count ≤ 1 → new ≡ run (grown after_step) (take count (step ∷ [])) old → (new ≡ old) ⊎ (new ≡ grown after_step step old)
+came_or_not : (step : LineStep) (old new : PartHistory) (count : ℕ) → count ≤ 1 → new ≡ run (grown after_line_step) (take count (step ∷ [])) old → (new ≡ old) ⊎ (new ≡ grown after_line_step step old)
 unfolding run
 came_or_not step old new zero few is = inl is
 came_or_not step old new (suc zero) few is = inr is
 came_or_not step old new (suc (suc count)) few is = absurd (omega arith)
 
-pub one_failed : {step : Step} {old new : Seen} → DidSome (step ∷ []) old.history new.history → RoomAfterFault step old.room new.room → Rose old.faults new.faults → OneFailed EndedWell EndedBadly (step ∷ []) old new
+pub one_failed : {step : LineStep} {old new : Seen} → DidSome (step ∷ []) old.history new.history → RoomAfterFault step old.room new.room → Rose old.faults new.faults → OneFailed EndedWell EndedBadly (step ∷ []) old new
 one_failed {step} {old} {new} did room faults = record {
   made = [];
   failed = step;
@@ -90,7 +90,7 @@ one_failed {step} {old} {new} did room faults = record {
 }
 
 -- a fence, whatever its answer
-pub fence_call : {A E : Type 0} (result : Result A E) (old new : Seen) → DidSome (Fence ∷ []) old.history new.history → OnOk result (Did (Fence ∷ []) old.history new.history)
+pub fence_call : {A E : Type 0} (result : Result A E) (old new : Seen) → DidSome (Fence ∷ []) old.history new.history → OnOk result (DidLineStep (Fence ∷ []) old.history new.history)
     → Keeps old.room new.room → OnOk result (Frees old.room new.room) → HasCause old.faults new.faults result → CallsEnded EndedWell EndedBadly (Fence ∷ []) old new result
 fence_call (Ok value) old new begun done keeps frees faults = record { well = one_well tt done (keeps, frees) faults; failed = tt }
 fence_call (Err error) old new begun done keeps frees faults = record { well = tt; failed = one_failed begun keeps faults }
@@ -120,32 +120,32 @@ takes_nothing line room = record {
 -- what is seen, of its three parts
 same_seen : {one other : Seen} → one.history ≡ other.history → one.room ≡ other.room → one.faults ≡ other.faults → one ≡ other
 same_seen {one} {other} history room faults =
-    let First : History → Seen = λ h. record { history = h; room = one.room; faults = one.faults } in
+    let First : PartHistory → Seen = λ h. record { history = h; room = one.room; faults = one.faults } in
     let Second : Room → Seen = λ r. record { history = other.history; room = r; faults = one.faults } in
     let Third : ℕ → Seen = λ f. record { history = other.history; room = other.room; faults = f } in
     ap First history ∙ ap Second room ∙ ap Third faults
 
-stores_of : ℕ → (ℕ → ℕ) → List ℕ → List Step
-stores_of line value words = map (λ word. Store line word (value word)) words
+stores_of : ℕ → (ℕ → ℕ) → List ℕ → List LineStep
+stores_of line value words = map (λ word. StoreWord line word (value word)) words
 
-stores_well : (line : ℕ) (value : ℕ → ℕ) (words : List ℕ) (old new : Seen) → line < old.room.lines → new.history ≡ run (grown after_step) (stores_of line value words) old.history
+stores_well : (line : ℕ) (value : ℕ → ℕ) (words : List ℕ) (old new : Seen) → line < old.room.lines → new.history ≡ run (grown after_line_step) (stores_of line value words) old.history
     → RoomThrough (stores_of line value words) old.room new.room → new.faults ≡ old.faults → Through EndedWell (stores_of line value words) old new
 unfolding run stores_of
 stores_well line value [] old new inside is room faults = same_seen is (sym room) faults
 stores_well line value (word ∷ words) old new inside is room faults =
-    let next : Seen = record { history = grown after_step (Store line word (value word)) old.history; room = room.0; faults = old.faults } in (
+    let next : Seen = record { history = grown after_line_step (StoreWord line word (value word)) old.history; room = room.0; faults = old.faults } in (
       next,
       record { line = inside; history = refl; room = room.1; faults = refl },
       stores_well line value words next new (omega (arith, inside, room.1.lines)) is room.2 faults,
     )
 
 stores_failed : (line : ℕ) (value : ℕ → ℕ) (word : ℕ) (words : List ℕ) (old new : Seen) (count : ℕ) → count ≤ 1 + length words → line < old.room.lines
-    → new.history ≡ run (grown after_step) (take count (stores_of line value (word ∷ words))) old.history → Takes 8 line old.room new.room → Rose old.faults new.faults
+    → new.history ≡ run (grown after_line_step) (take count (stores_of line value (word ∷ words))) old.history → Takes 8 line old.room new.room → Rose old.faults new.faults
     → OneFailed EndedWell EndedBadly (stores_of line value (word ∷ words)) old new
 unfolding run stores_of
 stores_failed line value word words old new zero few inside is room faults = record {
   made = [];
-  failed = Store line word (value word);
+  failed = StoreWord line word (value word);
   rest = stores_of line value words;
   are = refl;
   between = old;
@@ -154,7 +154,7 @@ stores_failed line value word words old new zero few inside is room faults = rec
 }
 stores_failed line value word words old new (suc zero) few inside is room faults = record {
   made = [];
-  failed = Store line word (value word);
+  failed = StoreWord line word (value word);
   rest = stores_of line value words;
   are = refl;
   between = old;
@@ -163,12 +163,12 @@ stores_failed line value word words old new (suc zero) few inside is room faults
 }
 stores_failed line value word [] old new (suc (suc count)) few inside is room faults = absurd (omega arith)
 stores_failed line value word (other ∷ words) old new (suc (suc count)) few inside is room faults =
-    let step = Store line word (value word) in
-    let next : Seen = record { history = grown after_step step old.history; room = old.room; faults = old.faults } in
+    let step = StoreWord line word (value word) in
+    let next : Seen = record { history = grown after_line_step step old.history; room = old.room; faults = old.faults } in
     let first : EachEnded EndedWell (step ∷ []) old next = record { each = (next, record { line = inside; history = refl; room = takes_nothing line old.room; faults = refl }, refl) } in
     each_failed first (stores_failed line value other words next new (suc count) (omega arith) inside is room faults)
 
-pub line_well : (line : ℕ) (bytes : List ℕ) (old new : Seen) → line < old.room.lines → Did (line_stores line bytes) old.history new.history → Takes 8 line old.room new.room → new.faults ≡ old.faults
+pub line_well : (line : ℕ) (bytes : List ℕ) (old new : Seen) → line < old.room.lines → DidLineStep (line_stores line bytes) old.history new.history → Takes 8 line old.room new.room → new.faults ≡ old.faults
     → EachEnded EndedWell (line_stores line bytes) old new
 unfolding line_stores stores_of
 line_well line bytes old new inside did room faults =
@@ -206,7 +206,7 @@ module _ {T S H : Type 0} (Well Badly : T → S → S → Type 0) (after : T →
 
 -- ---- a row
 
-each_on : (i : ℕ) (steps : List Step) (row : List Seen) (was new : Seen) → i < length row → slice_index_or row i was ≡ was → Through EndedWell steps was new → Through (OnOne EndedWell) (on_part i steps) row (slice_set row i new)
+each_on : (i : ℕ) (steps : List LineStep) (row : List Seen) (was new : Seen) → i < length row → slice_index_or row i was ≡ was → Through EndedWell steps was new → Through (OnOne EndedWell) (on_part i steps) row (slice_set row i new)
 each_on i [] row was new inside before is =
     let To : Seen → Type 0 = λ seen. slice_set row i seen ≡ row in
     let Is : Seen → Type 0 = λ seen. slice_set row i seen ≡ row in
@@ -220,7 +220,7 @@ each_on i (step ∷ steps) row was new inside before ended =
       subst To (set-set row i ended.0 new) rest,
     )
 
-failed_on : (i : ℕ) (steps : List Step) (row : List Seen) (was new : Seen) → i < length row → slice_index_or row i was ≡ was → OneFailed EndedWell EndedBadly steps was new
+failed_on : (i : ℕ) (steps : List LineStep) (row : List Seen) (was new : Seen) → i < length row → slice_index_or row i was ≡ was → OneFailed EndedWell EndedBadly steps was new
     → OneFailed (OnOne EndedWell) (OnOne EndedBadly) (on_part i steps) row (slice_set row i new)
 failed_on i steps row was new inside before one = record {
   made = on_part i one.made;
@@ -247,47 +247,47 @@ module _ {X : Type 0} (view : X → Seen) (parts : List X) (i : ℕ) (was new d 
   seen_is : slice_index_or (map view parts) i (view was) ≡ view was
   seen_is = get_or-map view parts i d (view was) inside ∙ ap view (sym is)
 
-  pub each_in_row : {steps : List Step} → EachEnded EndedWell steps (view was) (view new) → EachEnded (OnOne EndedWell) (on_part i steps) (map view parts) (map view (slice_set parts i new))
+  pub each_in_row : {steps : List LineStep} → EachEnded EndedWell steps (view was) (view new) → EachEnded (OnOne EndedWell) (on_part i steps) (map view parts) (map view (slice_set parts i new))
   each_in_row {steps} ended =
       let To : List Seen → Type 0 = λ row. EachEnded (OnOne EndedWell) (on_part i steps) (map view parts) row in
       subst To (sym (map-set view parts i new)) (record { each = each_on i steps (map view parts) (view was) (view new) seen_there seen_is ended.each })
 
-  pub failed_in_row : {steps : List Step} → OneFailed EndedWell EndedBadly steps (view was) (view new) → OneFailed (OnOne EndedWell) (OnOne EndedBadly) (on_part i steps) (map view parts) (map view (slice_set parts i new))
+  pub failed_in_row : {steps : List LineStep} → OneFailed EndedWell EndedBadly steps (view was) (view new) → OneFailed (OnOne EndedWell) (OnOne EndedBadly) (on_part i steps) (map view parts) (map view (slice_set parts i new))
   failed_in_row {steps} one =
       let To : List Seen → Type 0 = λ row. OneFailed (OnOne EndedWell) (OnOne EndedBadly) (on_part i steps) (map view parts) row in
       subst To (sym (map-set view parts i new)) (failed_on i steps (map view parts) (view was) (view new) seen_there seen_is one)
 
 -- ---- the steps of calls
 
-pub part_did : {steps : List Step} {old new : Seen} → EachEnded EndedWell steps old new → Did steps old.history new.history
-part_did ended = each_ran EndedWell EndedBadly (grown after_step) (λ seen. seen.history) (λ step old new one. one.history) ended
+pub part_did : {steps : List LineStep} {old new : Seen} → EachEnded EndedWell steps old new → DidLineStep steps old.history new.history
+part_did ended = each_ran EndedWell EndedBadly (grown after_line_step) (λ seen. seen.history) (λ step old new one. one.history) ended
 
-pub part_began : {A E : Type 0} {steps : List Step} {old new : Seen} {result : Result A E} → CallsEnded EndedWell EndedBadly steps old new result → DidSome steps old.history new.history
+pub part_began : {A E : Type 0} {steps : List LineStep} {old new : Seen} {result : Result A E} → CallsEnded EndedWell EndedBadly steps old new result → DidSome steps old.history new.history
 part_began {result = Ok value} ended = did_some_all (part_did ended.well)
 part_began {result = Err error} ended =
-    failed_ran EndedWell EndedBadly (grown after_step) (λ seen. seen.history) (λ step old new did. did.history) (λ step old new did. did.history) ended.failed
+    failed_ran EndedWell EndedBadly (grown after_line_step) (λ seen. seen.history) (λ step old new did. did.history) (λ step old new did. did.history) ended.failed
 
-pub part_done : {A E : Type 0} {steps : List Step} {old new : Seen} {result : Result A E} → CallsEnded EndedWell EndedBadly steps old new result → OnOk result (Did steps old.history new.history)
+pub part_done : {A E : Type 0} {steps : List LineStep} {old new : Seen} {result : Result A E} → CallsEnded EndedWell EndedBadly steps old new result → OnOk result (DidLineStep steps old.history new.history)
 part_done {result = Ok value} ended = part_did ended.well
 part_done {result = Err error} ended = tt
 
 -- what a row of parts has been
-histories_of : List Seen → List History
+histories_of : List Seen → List PartHistory
 histories_of row = map (λ seen. seen.history) row
 
-history_on : (call : RowStep) (old new : List Seen) {One : Step → Seen → Seen → Type 0} (on : OnOne One call old new) → on.was.history ≡ slice_index_or (histories_of old) call.part []
+history_on : (call : RowStep) (old new : List Seen) {One : LineStep → Seen → Seen → Type 0} (on : OnOne One call old new) → on.was.history ≡ slice_index_or (histories_of old) call.part []
 unfolding histories_of
 history_on call old new on = ap (λ (seen : Seen). seen.history) (sym on.before) ∙ sym (get_or-map (λ (seen : Seen). seen.history) old call.part on.was [] on.there)
 
-row_came : (call : RowStep) (old new : List Seen) {One : Step → Seen → Seen → Type 0} (on : OnOne One call old new) → on.now.history ≡ grown after_step call.step on.was.history → histories_of new ≡ row_grown call (histories_of old)
+row_came : (call : RowStep) (old new : List Seen) {One : LineStep → Seen → Seen → Type 0} (on : OnOne One call old new) → on.now.history ≡ grown after_line_step call.step on.was.history → histories_of new ≡ row_grown call (histories_of old)
 unfolding histories_of
 row_came call old new on came =
-    let To : History → List History = λ now. slice_set (histories_of old) call.part now in
+    let To : PartHistory → List PartHistory = λ now. slice_set (histories_of old) call.part now in
     ap (map (λ (seen : Seen). seen.history)) on.after
     ∙ map-set (λ (seen : Seen). seen.history) old call.part on.now
-    ∙ ap To (came ∙ ap (grown after_step call.step) (history_on call old new on))
+    ∙ ap To (came ∙ ap (grown after_line_step call.step) (history_on call old new on))
 
-row_still : (call : RowStep) (old new : List Seen) {One : Step → Seen → Seen → Type 0} (on : OnOne One call old new) → on.now.history ≡ on.was.history → histories_of new ≡ histories_of old
+row_still : (call : RowStep) (old new : List Seen) {One : LineStep → Seen → Seen → Type 0} (on : OnOne One call old new) → on.now.history ≡ on.was.history → histories_of new ≡ histories_of old
 unfolding histories_of
 row_still call old new on still =
     ap (map (λ (seen : Seen). seen.history)) on.after
@@ -304,7 +304,7 @@ row_failed one =
     one
 
 -- of parts of one type
-module _ {X : Type 0} (history : X → History) (room : X → Room) (faults : X → ℕ) where
+module _ {X : Type 0} (history : X → PartHistory) (room : X → Room) (faults : X → ℕ) where
   row_of : List X → List Seen
   row_of parts = map (seen_of history room faults) parts
 
@@ -315,16 +315,16 @@ module _ {X : Type 0} (history : X → History) (room : X → Room) (faults : X 
   pub parts_did : {calls : List RowStep} (old new : List X) → EachEnded (OnOne EndedWell) calls (map (seen_of history room faults) old) (map (seen_of history room faults) new) → DidRow calls (map history old) (map history new)
   unfolding row_of
   parts_did {calls} old new ended =
-      let From : List History → Type 0 = λ row. DidRow calls row (map history new) in
-      let To : List History → Type 0 = λ row. DidRow calls (histories_of (row_of old)) row in
+      let From : List PartHistory → Type 0 = λ row. DidRow calls row (map history new) in
+      let To : List PartHistory → Type 0 = λ row. DidRow calls (histories_of (row_of old)) row in
       subst From (told old) (subst To (told new) (row_did ended))
 
   pub parts_failed : {calls : List RowStep} (old new : List X) → OneFailed (OnOne EndedWell) (OnOne EndedBadly) calls (map (seen_of history room faults) old) (map (seen_of history room faults) new)
       → DidSomeRow calls (map history old) (map history new)
   unfolding row_of
   parts_failed {calls} old new one =
-      let From : List History → Type 0 = λ row. DidSomeRow calls row (map history new) in
-      let To : List History → Type 0 = λ row. DidSomeRow calls (histories_of (row_of old)) row in
+      let From : List PartHistory → Type 0 = λ row. DidSomeRow calls row (map history new) in
+      let To : List PartHistory → Type 0 = λ row. DidSomeRow calls (histories_of (row_of old)) row in
       subst From (told old) (subst To (told new) (row_failed one))
 
   pub parts_began : {A E : Type 0} {calls : List RowStep} {result : Result A E} (old new : List X) → CallsEnded (OnOne EndedWell) (OnOne EndedBadly) calls (map (seen_of history room faults) old) (map (seen_of history room faults) new) result

@@ -4,10 +4,10 @@ use Rattle.std.proofs.Common.{◌≡◌, ◌≢◌, ℕ, ◌+◌, ◌<◌, ◌�
 use Rattle.std.proofs.lemmas.Bool.{cases_eq, cases_lt, eq-eqb, ne_eqb}
 use Rattle.std.proofs.lemmas.List.{get_or_append_left, get_or_past, get_or_push, get_or_default, get_or-drop, length-drop, length-set, drop_all, length_push, set_past}
 use Rattle.nv_plain.specs.Images.{PartImage}
-use Rattle.nv_pmem.specs.Part.{Line, Part, blank_line, newest, word_at, with_word, stored, flushed, fenced_at, fenced, line_of, word_of}
-use Rattle.nv_pmem.specs.Images.{MayLeave, IsImage, InEachImage, IsQuietLine}
+use Rattle.nv_pmem.specs.Part.{Line, Part, blank_line, newest, word_at, with_word, stored, flushed, fenced_at, fenced, line_of, part_word}
+use Rattle.nv_pmem.specs.Images.{PowerMayLeave, IsPartImage, InEachPartImage, IsQuietLine}
 use Rattle.nv_pmem.specs.Runs.{run}
-use Rattle.nv_pmem.specs.Steps.{Step, Store, Flush, Fence, after_step}
+use Rattle.nv_pmem.specs.Steps.{LineStep, StoreWord, Flush, Fence, after_line_step}
 use Rattle.nv_pmem.specs.Stored.{LeaveLine}
 pub use Rattle.nv_pmem.specs.Stored.{IsStored, IsStoredBy, ComesFrom}
 use Rattle.nv_pmem.proofs.StepLaws.{after_steps}
@@ -16,19 +16,19 @@ use Rattle.nv_pmem.proofs.LineLaws.{last_of, line_of-set_same, line_of-set_other
 -- ---- one line
 
 -- what a load sees may be left
-pub may_leave_newest : (line : Line) → MayLeave line (word_at (newest line))
-unfolding MayLeave newest
+pub may_leave_newest : (line : Line) → PowerMayLeave line (word_at (newest line))
+unfolding PowerMayLeave newest
 may_leave_newest line = (length line.later, omega arith, λ word. ap (λ content. word_at content word) (sym (last_of line.oldest line.later (length line.later) refl)))
 
 -- A line's words after a store: as they might be left before it, but for the word stored, which may be the value.
 pub record LeavesStored (line : Line) (word value : ℕ) (words : ℕ → ℕ) : Type 0 where
   pub before : ℕ → ℕ
-  pub may : MayLeave line before
+  pub may : PowerMayLeave line before
   pub stored : (words word ≡ before word) ⊎ (words word ≡ value)
   pub others : (other : ℕ) → other ≢ word → words other ≡ before other
 
-may_leave_stored : (word value : ℕ) (line : Line) (words : ℕ → ℕ) → MayLeave (stored word value line) words → LeavesStored line word value words
-unfolding MayLeave stored
+may_leave_stored : (word value : ℕ) (line : Line) (words : ℕ → ℕ) → PowerMayLeave (stored word value line) words → LeavesStored line word value words
+unfolding PowerMayLeave stored
 may_leave_stored word value line words (count, there, are) =
     let content = with_word (newest line) word value in
     let more = length_push line.later content in
@@ -58,12 +58,12 @@ may_leave_stored word value line words (count, there, are) =
           }
     ]
 
-may_leave_flushed : (line : Line) (words : ℕ → ℕ) → MayLeave (flushed line) words → MayLeave line words
-unfolding MayLeave flushed
+may_leave_flushed : (line : Line) (words : ℕ → ℕ) → PowerMayLeave (flushed line) words → PowerMayLeave line words
+unfolding PowerMayLeave flushed
 may_leave_flushed line words may = may
 
-may_leave_fenced_at : (line : Line) (noted : Option ℕ) (words : ℕ → ℕ) → MayLeave (fenced_at line noted) words → MayLeave line words
-unfolding MayLeave fenced_at newest
+may_leave_fenced_at : (line : Line) (noted : Option ℕ) (words : ℕ → ℕ) → PowerMayLeave (fenced_at line noted) words → PowerMayLeave line words
+unfolding PowerMayLeave fenced_at newest
 may_leave_fenced_at line None words may = may
 may_leave_fenced_at line (Some count) words (zero, there, are) = elim (cases_lt (length line.later) count) [
   | inl beyond ↦ (
@@ -91,13 +91,13 @@ may_leave_fenced_at line (Some count) words (suc k, there, are) =
           (get_or-drop count line.later k _ ∙ get_or_default line.later (count + k) _ line.oldest (omega arith)),
     )
 
-may_leave_fenced : (line : Line) (words : ℕ → ℕ) → MayLeave (fenced line) words → MayLeave line words
+may_leave_fenced : (line : Line) (words : ℕ → ℕ) → PowerMayLeave (fenced line) words → PowerMayLeave line words
 unfolding fenced
 may_leave_fenced line words may = may_leave_fenced_at line line.flushed words may
 
 -- a quiet line is left as a load sees it
-pub may_leave_quiet : (line : Line) (words : ℕ → ℕ) (word : ℕ) → IsQuietLine line → MayLeave line words → words word ≡ word_at (newest line) word
-unfolding MayLeave IsQuietLine newest
+pub may_leave_quiet : (line : Line) (words : ℕ → ℕ) (word : ℕ) → IsQuietLine line → PowerMayLeave line words → words word ≡ word_at (newest line) word
+unfolding PowerMayLeave IsQuietLine newest
 may_leave_quiet line words word quiet (count, there, are) =
     let none : length line.later ≡ 0 = ap length quiet in
     let first : count ≡ 0 = omega arith in
@@ -108,7 +108,7 @@ may_leave_quiet line words word quiet (count, there, are) =
 -- ---- a part
 
 -- What a load gives is one of the images.
-pub image_of_now : (part : Part) → IsImage part (word_of part)
+pub image_of_now : (part : Part) → IsPartImage part (part_word part)
 image_of_now part = record { lines = λ line. may_leave_newest (line_of part line) }
 
 -- an image of which one line is another
@@ -124,21 +124,21 @@ unfolding with_line
 with_line-other image line i words differs = rw (ne_eqb i line differs)
 
 -- one step
-image_after_store : (part : Part) (line word value : ℕ) (image : PartImage) → line < length part → IsImage (after_step (Store line word value) part) image → ComesFrom part (Store line word value ∷ []) image
+image_after_store : (part : Part) (line word value : ℕ) (image : PartImage) → line < length part → IsPartImage (after_line_step (StoreWord line word value) part) image → ComesFrom part (StoreWord line word value ∷ []) image
 image_after_store part line word value image inside is =
-    let At : Line → Type 0 = λ content. MayLeave content (image line) in
+    let At : Line → Type 0 = λ content. PowerMayLeave content (image line) in
     let here = may_leave_stored word value (line_of part line) (image line) (subst At (line_of-set_same part line (stored word value (line_of part line)) inside) (is.lines line)) in
     record {
       before = with_line image line here.before;
       is = record {
         lines = λ i. elim (cases_eq i line) [
           | inl same ↦
-              let Line_at : ℕ → Type 0 = λ k. MayLeave (line_of part k) here.before in
-              let Words : (ℕ → ℕ) → Type 0 = MayLeave (line_of part i) in
+              let Line_at : ℕ → Type 0 = λ k. PowerMayLeave (line_of part k) here.before in
+              let Words : (ℕ → ℕ) → Type 0 = PowerMayLeave (line_of part i) in
               subst Words (sym (with_line-same image line i here.before same)) (subst Line_at (sym same) here.may)
           | inr differs ↦
-              let Content : Line → Type 0 = λ content. MayLeave content (image i) in
-              let Words : (ℕ → ℕ) → Type 0 = MayLeave (line_of part i) in
+              let Content : Line → Type 0 = λ content. PowerMayLeave content (image i) in
+              let Words : (ℕ → ℕ) → Type 0 = PowerMayLeave (line_of part i) in
               subst Words (sym (with_line-other image line i here.before differs))
               (subst Content (line_of-set_other part line i (stored word value (line_of part line)) differs) (is.lines i))
         ];
@@ -158,48 +158,48 @@ image_after_store part line word value image inside is =
       ];
     }
 
-same_image : (part : Part) (steps : List Step) (image : PartImage) → IsImage part image → ComesFrom part steps image
+same_image : (part : Part) (steps : List LineStep) (image : PartImage) → IsPartImage part image → ComesFrom part steps image
 same_image part steps image is = record { before = image; is = is; words = λ i j. inl refl }
 
-pub image_after_flush : (part : Part) (line : ℕ) (image : PartImage) → IsImage (after_step (Flush line) part) image → IsImage part image
+pub image_after_flush : (part : Part) (line : ℕ) (image : PartImage) → IsPartImage (after_line_step (Flush line) part) image → IsPartImage part image
 image_after_flush part line image is = record {
   lines = λ i. elim (cases_eq i line) [
     | inl same ↦ elim (cases_lt line (length part)) [
       | inl inside ↦
-          let Line_at : ℕ → Type 0 = λ k. MayLeave (line_of part k) (image i) in
-          let Content : Line → Type 0 = λ content. MayLeave content (image i) in
+          let Line_at : ℕ → Type 0 = λ k. PowerMayLeave (line_of part k) (image i) in
+          let Content : Line → Type 0 = λ content. PowerMayLeave content (image i) in
           subst Line_at (sym same)
           (may_leave_flushed (line_of part line) (image i)
-          (subst Content (ap (line_of (after_step (Flush line) part)) same ∙ line_of-set_same part line (flushed (line_of part line)) inside) (is.lines i)))
+          (subst Content (ap (line_of (after_line_step (Flush line) part)) same ∙ line_of-set_same part line (flushed (line_of part line)) inside) (is.lines i)))
       | inr past ↦
-          let At : Part → Type 0 = λ these. MayLeave (line_of these i) (image i) in
+          let At : Part → Type 0 = λ these. PowerMayLeave (line_of these i) (image i) in
           subst At (set_past part line (flushed (line_of part line)) past) (is.lines i)
     ]
     | inr differs ↦
-        let Content : Line → Type 0 = λ content. MayLeave content (image i) in
+        let Content : Line → Type 0 = λ content. PowerMayLeave content (image i) in
         subst Content (line_of-set_other part line i (flushed (line_of part line)) differs) (is.lines i)
   ];
 }
 
-pub image_after_fence : (part : Part) (image : PartImage) → IsImage (after_step Fence part) image → IsImage part image
+pub image_after_fence : (part : Part) (image : PartImage) → IsPartImage (after_line_step Fence part) image → IsPartImage part image
 image_after_fence part image is = record {
   lines = λ i.
-      let Content : Line → Type 0 = λ content. MayLeave content (image i) in
+      let Content : Line → Type 0 = λ content. PowerMayLeave content (image i) in
       may_leave_fenced (line_of part i) (image i) (subst Content (line_of-map fenced part i fenced-blank) (is.lines i));
 }
 
-image_after_step : (step : Step) (part : Part) (image : PartImage) → IsImage (after_step step part) image → ComesFrom part (step ∷ []) image
-image_after_step (Store line word value) part image is = elim (cases_lt line (length part)) [
+image_after_step : (step : LineStep) (part : Part) (image : PartImage) → IsPartImage (after_line_step step part) image → ComesFrom part (step ∷ []) image
+image_after_step (StoreWord line word value) part image is = elim (cases_lt line (length part)) [
   | inl inside ↦ image_after_store part line word value image inside is
   | inr past ↦
-      let At : Part → Type 0 = λ these. IsImage these image in
-      same_image part (Store line word value ∷ []) image (subst At (set_past part line (stored word value (line_of part line)) past) is)
+      let At : Part → Type 0 = λ these. IsPartImage these image in
+      same_image part (StoreWord line word value ∷ []) image (subst At (set_past part line (stored word value (line_of part line)) past) is)
 ]
 image_after_step (Flush line) part image is = same_image part (Flush line ∷ []) image (image_after_flush part line image is)
 image_after_step Fence part image is = same_image part (Fence ∷ []) image (image_after_fence part image is)
 
 -- a word of an image after more steps
-goes_back : (step : Step) (steps : List Step) (i j found between was : ℕ) → (found ≡ between) ⊎ IsStoredBy steps i j found → (between ≡ was) ⊎ IsStoredBy (step ∷ []) i j between → (found ≡ was) ⊎ IsStoredBy (step ∷ steps) i j found
+goes_back : (step : LineStep) (steps : List LineStep) (i j found between was : ℕ) → (found ≡ between) ⊎ IsStoredBy steps i j found → (between ≡ was) ⊎ IsStoredBy (step ∷ []) i j between → (found ≡ was) ⊎ IsStoredBy (step ∷ steps) i j found
 goes_back step steps i j found between was (inr later) earlier = inr (inr later)
 goes_back step steps i j found between was (inl same) (inl kept) = inl (same ∙ kept)
 goes_back step steps i j found between was (inl same) (inr (inl stored)) =
@@ -207,11 +207,11 @@ goes_back step steps i j found between was (inl same) (inr (inl stored)) =
 goes_back step steps i j found between was (inl same) (inr (inr none)) = absurd none
 
 -- An image after some steps: each word is as in an image of before, or is one of the values stored to it since.
-pub image_comes_from : (steps : List Step) (part : Part) (image : PartImage) → IsImage (after_steps steps part) image → ComesFrom part steps image
+pub image_comes_from : (steps : List LineStep) (part : Part) (image : PartImage) → IsPartImage (after_steps steps part) image → ComesFrom part steps image
 unfolding run
 image_comes_from [] part image is = same_image part [] image is
 image_comes_from (step ∷ steps) part image is =
-    let later = image_comes_from steps (after_step step part) image is in
+    let later = image_comes_from steps (after_line_step step part) image is in
     let earlier = image_after_step step part later.before later.is in
     record {
       before = earlier.before;
@@ -220,18 +220,18 @@ image_comes_from (step ∷ steps) part image is =
     }
 
 -- Steps that store nothing leave no other image than before.
-pub image_after_nothing : (steps : List Step) (part : Part) (image : PartImage) → ((line : ℕ) → LeaveLine steps line) → IsImage (after_steps steps part) image → IsImage part image
+pub image_after_nothing : (steps : List LineStep) (part : Part) (image : PartImage) → ((line : ℕ) → LeaveLine steps line) → IsPartImage (after_steps steps part) image → IsPartImage part image
 unfolding run
 image_after_nothing [] part image none is = is
-image_after_nothing (Store line word value ∷ steps) part image none is = absurd (none line word value (inl (refl, refl, refl)))
+image_after_nothing (StoreWord line word value ∷ steps) part image none is = absurd (none line word value (inl (refl, refl, refl)))
 image_after_nothing (Flush line ∷ steps) part image none is =
     image_after_flush part line image
-    (image_after_nothing steps (after_step (Flush line) part) image (λ i j found later. none i j found (inr later)) is)
+    (image_after_nothing steps (after_line_step (Flush line) part) image (λ i j found later. none i j found (inr later)) is)
 image_after_nothing (Fence ∷ steps) part image none is =
-    image_after_fence part image (image_after_nothing steps (after_step Fence part) image (λ i j found later. none i j found (inr later)) is)
+    image_after_fence part image (image_after_nothing steps (after_line_step Fence part) image (λ i j found later. none i j found (inr later)) is)
 
 -- What each image has of a word it has after steps that store only such values to it.
-pub each_word_after : (steps : List Step) (part : Part) (i j : ℕ) (P : ℕ → Type 0) → InEachImage (λ image. P (image i j)) part → ((found : ℕ) → IsStoredBy steps i j found → P found) → InEachImage (λ image. P (image i j)) (after_steps steps part)
+pub each_word_after : (steps : List LineStep) (part : Part) (i j : ℕ) (P : ℕ → Type 0) → InEachPartImage (λ image. P (image i j)) part → ((found : ℕ) → IsStoredBy steps i j found → P found) → InEachPartImage (λ image. P (image i j)) (after_steps steps part)
 each_word_after steps part i j P each stored image is =
     let from = image_comes_from steps part image is in
     elim (from.words i j) [
@@ -242,7 +242,7 @@ each_word_after steps part i j P each stored image is =
 -- ---- quiet lines
 
 -- A quiet line is left as a load sees it.
-pub quiet_image : (part : Part) (image : PartImage) (i j : ℕ) → IsQuietLine (line_of part i) → IsImage part image → image i j ≡ word_of part i j
+pub quiet_image : (part : Part) (image : PartImage) (i j : ℕ) → IsQuietLine (line_of part i) → IsPartImage part image → image i j ≡ part_word part i j
 quiet_image part image i j quiet is = may_leave_quiet (line_of part i) (image i) j quiet (is.lines i)
 
 -- What flushes have led to: a line is open, or the next fence makes it quiet, or it is.
@@ -262,17 +262,17 @@ fenced_more noted_line = quiet_line
 fenced_more quiet_line = quiet_line
 
 -- a line's mark after a step
-abbrev pub mark_after : ℕ → Step → Mark → Mark
-mark_after i (Store line word value) mark = if i == line then open_line else mark
+abbrev pub mark_after : ℕ → LineStep → Mark → Mark
+mark_after i (StoreWord line word value) mark = if i == line then open_line else mark
 mark_after i (Flush line) mark = if i == line then noted_more mark else mark
 mark_after i Fence mark = fenced_more mark
 
 -- and after some steps
-abbrev pub mark_after_all : ℕ → List Step → Mark → Mark
+abbrev pub mark_after_all : ℕ → List LineStep → Mark → Mark
 mark_after_all i [] mark = mark
 mark_after_all i (step ∷ steps) mark = mark_after_all i steps (mark_after i step mark)
 
-pub mark_after_all-append : (i : ℕ) (first rest : List Step) (mark : Mark) → mark_after_all i (first ++ rest) mark ≡ mark_after_all i rest (mark_after_all i first mark)
+pub mark_after_all-append : (i : ℕ) (first rest : List LineStep) (mark : Mark) → mark_after_all i (first ++ rest) mark ≡ mark_after_all i rest (mark_after_all i first mark)
 mark_after_all-append i [] rest mark = refl
 mark_after_all-append i (step ∷ steps) rest mark = mark_after_all-append i steps rest (mark_after i step mark)
 
@@ -341,8 +341,8 @@ has_set mark new part line i content step has = elim (cases_eq i line) [
       rw (ne_eqb i line differs) (subst After (sym (line_of-set_other part line i content differs)) has)
 ]
 
-has_after_step : (i : ℕ) (step : Step) (part : Part) (mark : Mark) → HasMark mark (line_of part i) → HasMark (mark_after i step mark) (line_of (after_step step part) i)
-has_after_step i (Store line word value) part mark has =
+has_after_step : (i : ℕ) (step : LineStep) (part : Part) (mark : Mark) → HasMark mark (line_of part i) → HasMark (mark_after i step mark) (line_of (after_line_step step part) i)
+has_after_step i (StoreWord line word value) part mark has =
     has_set mark open_line part line i (stored word value (line_of part line)) (λ _. tt) has
 has_after_step i (Flush line) part mark has =
     has_set mark (noted_more mark) part line i (flushed (line_of part line)) (has_noted mark (line_of part line)) has
@@ -351,27 +351,27 @@ has_after_step i Fence part mark has =
     subst After (sym (line_of-map fenced part i fenced-blank)) (has_fenced mark (line_of part i) has)
 
 -- The marks say what is so.
-pub has_mark : (i : ℕ) (steps : List Step) (part : Part) (mark : Mark) → HasMark mark (line_of part i) → HasMark (mark_after_all i steps mark) (line_of (after_steps steps part) i)
+pub has_mark : (i : ℕ) (steps : List LineStep) (part : Part) (mark : Mark) → HasMark mark (line_of part i) → HasMark (mark_after_all i steps mark) (line_of (after_steps steps part) i)
 unfolding run
 has_mark i [] part mark has = has
-has_mark i (step ∷ steps) part mark has = has_mark i steps (after_step step part) (mark_after i step mark) (has_after_step i step part mark has)
+has_mark i (step ∷ steps) part mark has = has_mark i steps (after_line_step step part) (mark_after i step mark) (has_after_step i step part mark has)
 
 -- So a line whose marks end quiet is quiet, whatever it was.
-pub quiet_after : (i : ℕ) (steps : List Step) (part : Part) → mark_after_all i steps open_line ≡ quiet_line → IsQuietLine (line_of (after_steps steps part) i)
+pub quiet_after : (i : ℕ) (steps : List LineStep) (part : Part) → mark_after_all i steps open_line ≡ quiet_line → IsQuietLine (line_of (after_steps steps part) i)
 quiet_after i steps part marks =
     let At : Mark → Type 0 = λ mark. HasMark mark (line_of (after_steps steps part) i) in
     subst At marks (has_mark i steps part open_line tt)
 
 -- and a quiet one whose marks stay quiet
-pub quiet_still : (i : ℕ) (steps : List Step) (part : Part) → mark_after_all i steps quiet_line ≡ quiet_line → IsQuietLine (line_of part i) → IsQuietLine (line_of (after_steps steps part) i)
+pub quiet_still : (i : ℕ) (steps : List LineStep) (part : Part) → mark_after_all i steps quiet_line ≡ quiet_line → IsQuietLine (line_of part i) → IsQuietLine (line_of (after_steps steps part) i)
 quiet_still i steps part marks quiet =
     let At : Mark → Type 0 = λ mark. HasMark mark (line_of (after_steps steps part) i) in
     subst At marks (has_mark i steps part quiet_line quiet)
 
 -- A mark stays quiet where nothing is stored in the line,
-mark_stays : (i : ℕ) (steps : List Step) → LeaveLine steps i → mark_after_all i steps quiet_line ≡ quiet_line
+mark_stays : (i : ℕ) (steps : List LineStep) → LeaveLine steps i → mark_after_all i steps quiet_line ≡ quiet_line
 mark_stays i [] none = refl
-mark_stays i (Store line word value ∷ steps) none = elim (cases_eq i line) [
+mark_stays i (StoreWord line word value ∷ steps) none = elim (cases_eq i line) [
   | inl same ↦ absurd (none word value (inl (same, refl, refl)))
   | inr differs ↦ rw (ne_eqb i line differs) (mark_stays i steps (λ j found later. none j found (inr later)))
 ]
@@ -382,9 +382,9 @@ mark_stays i (Flush line ∷ steps) none = elim (cases_eq i line) [
 mark_stays i (Fence ∷ steps) none = mark_stays i steps (λ j found later. none j found (inr later))
 
 -- and that of a flushed line comes to be quiet by a fence.
-mark_settles : (i : ℕ) (between : List Step) → LeaveLine between i → mark_after_all i (between ++ Fence ∷ []) noted_line ≡ quiet_line
+mark_settles : (i : ℕ) (between : List LineStep) → LeaveLine between i → mark_after_all i (between ++ Fence ∷ []) noted_line ≡ quiet_line
 mark_settles i [] none = refl
-mark_settles i (Store line word value ∷ steps) none = elim (cases_eq i line) [
+mark_settles i (StoreWord line word value ∷ steps) none = elim (cases_eq i line) [
   | inl same ↦ absurd (none word value (inl (same, refl, refl)))
   | inr differs ↦ rw (ne_eqb i line differs, mark_after_all) (mark_settles i steps (λ j found later. none j found (inr later)))
 ]
@@ -396,10 +396,10 @@ mark_settles i (Fence ∷ steps) none =
     mark_after_all-append i steps (Fence ∷ []) quiet_line ∙ ap fenced_more (mark_stays i steps (λ j found later. none j found (inr later)))
 
 -- So a line is quiet after a flush and then a fence, with no store in it between them,
-pub quiet_settled_line : (line : ℕ) (between : List Step) (part : Part) → LeaveLine between line → IsQuietLine (line_of (after_steps (Flush line ∷ (between ++ Fence ∷ [])) part) line)
+pub quiet_settled_line : (line : ℕ) (between : List LineStep) (part : Part) → LeaveLine between line → IsQuietLine (line_of (after_steps (Flush line ∷ (between ++ Fence ∷ [])) part) line)
 quiet_settled_line line between part none =
     quiet_after line (Flush line ∷ (between ++ Fence ∷ [])) part (rw (eq-eqb line line refl, mark_after_all) (mark_settles line between none))
 
 -- and stays so until there is one.
-pub quiet_stays : (line : ℕ) (steps : List Step) (part : Part) → LeaveLine steps line → IsQuietLine (line_of part line) → IsQuietLine (line_of (after_steps steps part) line)
+pub quiet_stays : (line : ℕ) (steps : List LineStep) (part : Part) → LeaveLine steps line → IsQuietLine (line_of part line) → IsQuietLine (line_of (after_steps steps part) line)
 quiet_stays line steps part none quiet = quiet_still line steps part (mark_stays line steps none) quiet

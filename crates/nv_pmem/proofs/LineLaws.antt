@@ -2,9 +2,9 @@
 use Rattle.std.proofs.Common.{◌≡◌, ◌≢◌, ℕ, ◌+◌, ◌-◌, ◌<◌, ◌==◌, ◌&&◌, if◌then◌else◌, inl, inr, List, [], ◌∷◌, ◌++◌, length, map, replicate, get_or, drop, slice_set, Option, Some, None, zero, suc, refl, sym, ap, ◌∙◌, subst, arith, length-append}
 use Rattle.std.proofs.lemmas.Bool.{cases_eq, cases_lt, eq-eqb, ne_eqb}
 use Rattle.std.proofs.lemmas.List.{length-set, length-map, length-replicate, get_or-set_same, get_or-set_other, get_or_append_left, get_or-append_right, get_or-replicate, get_or_default, get_or_past, get_or_push, get_or-map, length_push, length-drop, get_or-drop, set_past}
-use Rattle.nv_pmem.specs.Part.{Line, Part, blank_line, newest, word_at, with_word, stored, flushed, fenced_at, fenced, line_of, word_of}
+use Rattle.nv_pmem.specs.Part.{Line, Part, blank_line, newest, word_at, with_word, stored, flushed, fenced_at, fenced, line_of, part_word}
 use Rattle.nv_pmem.specs.Runs.{run}
-use Rattle.nv_pmem.specs.Steps.{Step, Store, Flush, Fence, after_step}
+use Rattle.nv_pmem.specs.Steps.{LineStep, StoreWord, Flush, Fence, after_line_step}
 use Rattle.nv_pmem.specs.Stored.{LeaveWord}
 use Rattle.nv_pmem.proofs.StepLaws.{after_steps}
 
@@ -121,26 +121,26 @@ word_at-stored word value other line =
     ap (λ content. word_at content other) (newest-stored word value line) ∙ word_at-with_word (newest line) word value other
 
 -- after a store the value at its word, and at any other what was there
-pub word_of-after_store : (part : Part) (line word value i j : ℕ) → line < length part → word_of (after_step (Store line word value) part) i j ≡ (if (i == line) && (j == word) then value else word_of part i j)
+pub word_of-after_store : (part : Part) (line word value i j : ℕ) → line < length part → part_word (after_line_step (StoreWord line word value) part) i j ≡ (if (i == line) && (j == word) then value else part_word part i j)
 word_of-after_store part line word value i j inside = elim (cases_eq i line) [
   | inl same ↦
       rw (eq-eqb i line same)
-      (ap (λ k. word_of (after_step (Store line word value) part) k j) same
+      (ap (λ k. part_word (after_line_step (StoreWord line word value) part) k j) same
       ∙ ap (λ content. word_at (newest content) j) (line_of-set_same part line (stored word value (line_of part line)) inside)
       ∙ word_at-stored word value j (line_of part line)
-      ∙ ap (λ k. if j == word then value else word_of part k j) (sym same))
+      ∙ ap (λ k. if j == word then value else part_word part k j) (sym same))
   | inr differs ↦
       rw (ne_eqb i line differs)
       (ap (λ content. word_at (newest content) j) (line_of-set_other part line i (stored word value (line_of part line)) differs))
 ]
 
 -- a flush leaves every word
-pub word_of-after_flush : (part : Part) (line i j : ℕ) → word_of (after_step (Flush line) part) i j ≡ word_of part i j
+pub word_of-after_flush : (part : Part) (line i j : ℕ) → part_word (after_line_step (Flush line) part) i j ≡ part_word part i j
 word_of-after_flush part line i j =
     ap (λ content. word_at content j) (newest-set part line (flushed (line_of part line)) i (newest-flushed (line_of part line)))
 
 -- and so does a fence
-pub word_of-after_fence : (part : Part) (i j : ℕ) → word_of (after_step Fence part) i j ≡ word_of part i j
+pub word_of-after_fence : (part : Part) (i j : ℕ) → part_word (after_line_step Fence part) i j ≡ part_word part i j
 word_of-after_fence part i j =
     ap (λ content. word_at (newest content) j) (line_of-map fenced part i fenced-blank)
     ∙ ap (λ content. word_at content j) (newest-fenced (line_of part i))
@@ -148,66 +148,66 @@ word_of-after_fence part i j =
 -- ---- the number of lines
 
 -- each step keeps the number of lines
-pub length-after_step : (step : Step) (part : Part) → length (after_step step part) ≡ length part
-length-after_step (Store line word value) part = length-set part line (stored word value (line_of part line))
+pub length-after_step : (step : LineStep) (part : Part) → length (after_line_step step part) ≡ length part
+length-after_step (StoreWord line word value) part = length-set part line (stored word value (line_of part line))
 length-after_step (Flush line) part = length-set part line (flushed (line_of part line))
 length-after_step Fence part = length-map part fenced
 
-pub length-after_steps : (steps : List Step) (part : Part) → length (after_steps steps part) ≡ length part
+pub length-after_steps : (steps : List LineStep) (part : Part) → length (after_steps steps part) ≡ length part
 unfolding run
 length-after_steps [] part = refl
-length-after_steps (step ∷ steps) part = length-after_steps steps (after_step step part) ∙ length-after_step step part
+length-after_steps (step ∷ steps) part = length-after_steps steps (after_line_step step part) ∙ length-after_step step part
 
 -- ---- what a load gives after a list of steps
 
 -- a word's value after some steps, which had a value before them
-abbrev pub overlaid : List Step → ℕ → ℕ → ℕ → ℕ
+abbrev pub overlaid : List LineStep → ℕ → ℕ → ℕ → ℕ
 overlaid [] i j was = was
-overlaid (Store line word value ∷ steps) i j was = overlaid steps i j (if (i == line) && (j == word) then value else was)
+overlaid (StoreWord line word value ∷ steps) i j was = overlaid steps i j (if (i == line) && (j == word) then value else was)
 overlaid (Flush line ∷ steps) i j was = overlaid steps i j was
 overlaid (Fence ∷ steps) i j was = overlaid steps i j was
 
-pub overlaid-append : (first rest : List Step) (i j was : ℕ) → overlaid (first ++ rest) i j was ≡ overlaid rest i j (overlaid first i j was)
+pub overlaid-append : (first rest : List LineStep) (i j was : ℕ) → overlaid (first ++ rest) i j was ≡ overlaid rest i j (overlaid first i j was)
 overlaid-append [] rest i j was = refl
-overlaid-append (Store line word value ∷ steps) rest i j was = overlaid-append steps rest i j (if (i == line) && (j == word) then value else was)
+overlaid-append (StoreWord line word value ∷ steps) rest i j was = overlaid-append steps rest i j (if (i == line) && (j == word) then value else was)
 overlaid-append (Flush line ∷ steps) rest i j was = overlaid-append steps rest i j was
 overlaid-append (Fence ∷ steps) rest i j was = overlaid-append steps rest i j was
 
 -- each store is to one of so many lines
-abbrev pub AreInside : ℕ → List Step → Type 0
+abbrev pub AreInside : ℕ → List LineStep → Type 0
 AreInside lines [] = Unit {0}
-AreInside lines (Store line word value ∷ steps) = (line < lines) × AreInside lines steps
+AreInside lines (StoreWord line word value ∷ steps) = (line < lines) × AreInside lines steps
 AreInside lines (Flush line ∷ steps) = AreInside lines steps
 AreInside lines (Fence ∷ steps) = AreInside lines steps
 
-pub inside_append : (lines : ℕ) (first rest : List Step) → AreInside lines first → AreInside lines rest → AreInside lines (first ++ rest)
+pub inside_append : (lines : ℕ) (first rest : List LineStep) → AreInside lines first → AreInside lines rest → AreInside lines (first ++ rest)
 inside_append lines [] rest a b = b
-inside_append lines (Store line word value ∷ steps) rest a b = (a.0, inside_append lines steps rest a.1 b)
+inside_append lines (StoreWord line word value ∷ steps) rest a b = (a.0, inside_append lines steps rest a.1 b)
 inside_append lines (Flush line ∷ steps) rest a b = inside_append lines steps rest a b
 inside_append lines (Fence ∷ steps) rest a b = inside_append lines steps rest a b
 
-still_inside : (step : Step) (steps : List Step) (part : Part) → AreInside (length part) steps → AreInside (length (after_step step part)) steps
+still_inside : (step : LineStep) (steps : List LineStep) (part : Part) → AreInside (length part) steps → AreInside (length (after_line_step step part)) steps
 still_inside step steps part inside = let At : ℕ → Type 0 = λ lines. AreInside lines steps in subst At (sym (length-after_step step part)) inside
 
 -- a word after some steps
-pub word_of-after_steps : (steps : List Step) (part : Part) (i j : ℕ) → AreInside (length part) steps → word_of (after_steps steps part) i j ≡ overlaid steps i j (word_of part i j)
+pub word_of-after_steps : (steps : List LineStep) (part : Part) (i j : ℕ) → AreInside (length part) steps → part_word (after_steps steps part) i j ≡ overlaid steps i j (part_word part i j)
 unfolding run
 word_of-after_steps [] part i j inside = refl
-word_of-after_steps (Store line word value ∷ steps) part i j inside =
-    let step = Store line word value in
-    word_of-after_steps steps (after_step step part) i j (still_inside step steps part inside.1)
+word_of-after_steps (StoreWord line word value ∷ steps) part i j inside =
+    let step = StoreWord line word value in
+    word_of-after_steps steps (after_line_step step part) i j (still_inside step steps part inside.1)
     ∙ ap (overlaid steps i j) (word_of-after_store part line word value i j inside.0)
 word_of-after_steps (Flush line ∷ steps) part i j inside =
-    word_of-after_steps steps (after_step (Flush line) part) i j (still_inside (Flush line) steps part inside)
+    word_of-after_steps steps (after_line_step (Flush line) part) i j (still_inside (Flush line) steps part inside)
     ∙ ap (overlaid steps i j) (word_of-after_flush part line i j)
 word_of-after_steps (Fence ∷ steps) part i j inside =
-    word_of-after_steps steps (after_step Fence part) i j (still_inside Fence steps part inside)
+    word_of-after_steps steps (after_line_step Fence part) i j (still_inside Fence steps part inside)
     ∙ ap (overlaid steps i j) (word_of-after_fence part i j)
 
 -- ---- words that no step stores
 
 -- a store leaves each other word
-kept_by_store : (part : Part) (line word value i j : ℕ) → ¬ ((i ≡ line) × (j ≡ word)) → word_of (after_step (Store line word value) part) i j ≡ word_of part i j
+kept_by_store : (part : Part) (line word value i j : ℕ) → ¬ ((i ≡ line) × (j ≡ word)) → part_word (after_line_step (StoreWord line word value) part) i j ≡ part_word part i j
 kept_by_store part line word value i j other = elim (cases_lt line (length part)) [
   | inl inside ↦
       word_of-after_store part line word value i j inside
@@ -218,21 +218,21 @@ kept_by_store part line word value i j other = elim (cases_lt line (length part)
         ]
         | inr differs ↦ rw (ne_eqb i line differs) refl
       ]
-  | inr past ↦ ap (λ these. word_of these i j) (set_past part line (stored word value (line_of part line)) past)
+  | inr past ↦ ap (λ these. part_word these i j) (set_past part line (stored word value (line_of part line)) past)
 ]
 
 -- and steps that don't store a word leave it
-pub kept_by_steps : (steps : List Step) (part : Part) (i j : ℕ) → LeaveWord steps i j → word_of (after_steps steps part) i j ≡ word_of part i j
+pub kept_by_steps : (steps : List LineStep) (part : Part) (i j : ℕ) → LeaveWord steps i j → part_word (after_steps steps part) i j ≡ part_word part i j
 unfolding run
 kept_by_steps [] part i j none = refl
-kept_by_steps (Store line word value ∷ steps) part i j none =
-    kept_by_steps steps (after_step (Store line word value) part) i j (λ found later. none found (inr later))
+kept_by_steps (StoreWord line word value ∷ steps) part i j none =
+    kept_by_steps steps (after_line_step (StoreWord line word value) part) i j (λ found later. none found (inr later))
     ∙ kept_by_store part line word value i j (λ both. none value (inl (both.0, both.1, refl)))
 kept_by_steps (Flush line ∷ steps) part i j none =
-    kept_by_steps steps (after_step (Flush line) part) i j (λ found later. none found (inr later)) ∙ word_of-after_flush part line i j
+    kept_by_steps steps (after_line_step (Flush line) part) i j (λ found later. none found (inr later)) ∙ word_of-after_flush part line i j
 kept_by_steps (Fence ∷ steps) part i j none =
-    kept_by_steps steps (after_step Fence part) i j (λ found later. none found (inr later)) ∙ word_of-after_fence part i j
+    kept_by_steps steps (after_line_step Fence part) i j (λ found later. none found (inr later)) ∙ word_of-after_fence part i j
 
-pub stored_is_loaded : (part : Part) (line word value : ℕ) → line < length part → word_of (after_step (Store line word value) part) line word ≡ value
+pub stored_is_loaded : (part : Part) (line word value : ℕ) → line < length part → part_word (after_line_step (StoreWord line word value) part) line word ≡ value
 stored_is_loaded part line word value inside =
     word_of-after_store part line word value line word inside ∙ rw (eq-eqb line line refl, eq-eqb word word refl) refl

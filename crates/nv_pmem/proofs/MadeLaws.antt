@@ -2,11 +2,11 @@
 use Rattle.std.proofs.Common.{◌≡◌, ℕ, ◌+◌, ◌/◌, ◌<◌, List, [], ◌∷◌, ◌++◌, length, map, take, replicate, get_or, zero, suc, refl, ap, ◌∙◌, arith}
 use Rattle.std.proofs.lemmas.List.{take_more, length-append, length-replicate}
 use Rattle.std.specs.List.{range_with_len}
-use Rattle.nv_pmem.specs.Images.{IsQuietLine, IsQuiet}
+use Rattle.nv_pmem.specs.Images.{IsQuietLine, IsQuietPart}
 use Rattle.nv_pmem.specs.Made.{words_in, line_in, part_in}
 use Rattle.nv_pmem.specs.Part.{Part, blank_line, line_of}
 use Rattle.nv_pmem.specs.Picked.{settled}
-use Rattle.nv_pmem.specs.Steps.{History}
+use Rattle.nv_pmem.specs.Steps.{PartHistory}
 use Rattle.nv_pmem.proofs.ImageLaws.{quiet_blank}
 
 blanks : (count i : ℕ) → get_or (replicate count blank_line) i blank_line ≡ blank_line
@@ -37,9 +37,9 @@ quiet_lines f (place ∷ places) zero = settled_quiet (f place)
 quiet_lines f (place ∷ places) (suc i) = quiet_lines f places i
 
 -- a part that was made of bytes is quiet
-pub part_in_quiet : (bytes : List ℕ) → IsQuiet (part_in bytes)
+pub part_in_quiet : (bytes : List ℕ) → IsQuietPart (part_in bytes)
 part_in_quiet bytes = record { lines = quiet_lines (λ line. words_in (line_in bytes line)) (range_with_len 0 (length bytes / 64)) }
 
 -- the present state of a part that had no other
-pub now_of_first : (now made : Part) (past : History) → now ∷ past ≡ made ∷ [] → now ≡ made
+pub now_of_first : (now made : Part) (past : PartHistory) → now ∷ past ≡ made ∷ [] → now ≡ made
 now_of_first now made past same = cc

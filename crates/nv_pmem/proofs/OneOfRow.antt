@@ -5,24 +5,24 @@ use Rattle.std.proofs.Math.Seq.{map-set_same}
 use Rattle.std.proofs.lemmas.List.{take_at, get_or-map, map-set, length-map}
 use Rattle.std.proofs.lemmas.List.Sums.{sum_by-set}
 use Rattle.nv_pmem.specs.Rows.{on_part, DidRow, DidSomeRow}
-use Rattle.nv_pmem.specs.Steps.{Step, History, Did, DidSome}
+use Rattle.nv_pmem.specs.Steps.{LineStep, PartHistory, DidLineStep, DidSome}
 use Rattle.nv_pmem.proofs.RowLaws.{did_row_on, did_some_row_on}
 
 -- what was done to one of some parts was done to the row of them
-pub did_in_row : {X : Type 0} (history : X → History) (parts : List X) (i : ℕ) (was new d : X) {steps : List Step} → i < length parts → was ≡ get_or parts i d → Did steps (history was) (history new)
+pub did_in_row : {X : Type 0} (history : X → PartHistory) (parts : List X) (i : ℕ) (was new d : X) {steps : List LineStep} → i < length parts → was ≡ get_or parts i d → DidLineStep steps (history was) (history new)
     → DidRow (on_part i steps) (map history parts) (map history (slice_set parts i new))
 did_in_row history parts i was new d {steps} inside is did =
-    let At : History → Type 0 = λ old. Did steps old (history new) in
-    let To : List History → Type 0 = λ row. DidRow (on_part i steps) (map history parts) row in
+    let At : PartHistory → Type 0 = λ old. DidLineStep steps old (history new) in
+    let To : List PartHistory → Type 0 = λ row. DidRow (on_part i steps) (map history parts) row in
     let old_is : history was ≡ slice_index_or (map history parts) i [] = ap history is ∙ sym (get_or-map history parts i d [] inside) in
     subst To (sym (map-set history parts i new))
     (did_row_on i (map history parts) (omega (arith, length-map parts history)) (subst At old_is did))
 
-pub did_some_in_row : {X : Type 0} (history : X → History) (parts : List X) (i : ℕ) (was new d : X) {steps : List Step} → i < length parts → was ≡ get_or parts i d → DidSome steps (history was) (history new)
+pub did_some_in_row : {X : Type 0} (history : X → PartHistory) (parts : List X) (i : ℕ) (was new d : X) {steps : List LineStep} → i < length parts → was ≡ get_or parts i d → DidSome steps (history was) (history new)
     → DidSomeRow (on_part i steps) (map history parts) (map history (slice_set parts i new))
 did_some_in_row history parts i was new d {steps} inside is did =
-    let At : History → Type 0 = λ old. DidSome steps old (history new) in
-    let To : List History → Type 0 = λ row. DidSomeRow (on_part i steps) (map history parts) row in
+    let At : PartHistory → Type 0 = λ old. DidSome steps old (history new) in
+    let To : List PartHistory → Type 0 = λ row. DidSomeRow (on_part i steps) (map history parts) row in
     let old_is : history was ≡ slice_index_or (map history parts) i [] = ap history is ∙ sym (get_or-map history parts i d [] inside) in
     subst To (sym (map-set history parts i new))
     (did_some_row_on i (map history parts) (omega (arith, length-map parts history)) (subst At old_is did))

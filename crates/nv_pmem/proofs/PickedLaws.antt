@@ -4,8 +4,8 @@ use Rattle.std.proofs.lemmas.Bool.{ne_eqb}
 use Rattle.std.proofs.lemmas.List.{take_more, drop_more, get_or_at, set_at, length-take, take_all, drop_all, append-nil}
 use Rattle.std.specs.List.{refill}
 use Rattle.nv_pmem.specs.Draws.{Draws, next_word, after_draw}
-use Rattle.nv_pmem.specs.Images.{MayLeave, IsImage, IsQuietLine, IsQuiet}
-use Rattle.nv_pmem.specs.Part.{Line, Part, newest, word_at, line_of, word_of}
+use Rattle.nv_pmem.specs.Images.{PowerMayLeave, IsPartImage, IsQuietLine, IsQuietPart}
+use Rattle.nv_pmem.specs.Part.{Line, Part, newest, word_at, line_of, part_word}
 use Rattle.nv_pmem.specs.Picked.{content_of, taken, picked_line, picked}
 use Rattle.nv_pmem.specs.declared.picker.Pick.{Pick}
 use Rattle.nv_pmem.specs.declared.picker.Pick.TheVariants.{Old, New, Torn, Seed}
@@ -87,21 +87,21 @@ taken_within Torn draws line = omega arith
 taken_within (Seed seed) draws line = seed_within (length line.later) (next_word draws) draws (after_draw draws)
 
 -- a line that lost power has a content that it may have
-picked_line_may : (draws : Draws) (line : Line) → MayLeave line (word_at (newest (picked_line draws line).0))
-unfolding MayLeave picked_line content_of newest
+picked_line_may : (draws : Draws) (line : Line) → PowerMayLeave line (word_at (newest (picked_line draws line).0))
+unfolding PowerMayLeave picked_line content_of newest
 picked_line_may draws line = ((taken draws.pick draws line).0, taken_within draws.pick draws line, λ word. refl)
 
 picked_line_quiet : (draws : Draws) (line : Line) → IsQuietLine (picked_line draws line).0
 unfolding IsQuietLine picked_line
 picked_line_quiet draws line = refl
 
-may_leave_picked : (draws : Draws) (part : Part) (i : ℕ) → MayLeave (line_of part i) (word_of (picked draws part).0 i)
+may_leave_picked : (draws : Draws) (part : Part) (i : ℕ) → PowerMayLeave (line_of part i) (part_word (picked draws part).0 i)
 unfolding picked
 may_leave_picked draws [] i = (image_of_now []).lines i
 may_leave_picked draws (line ∷ part) zero = picked_line_may draws line
 may_leave_picked draws (line ∷ part) (suc i) = may_leave_picked (picked_line draws line).1 part i
 
-pub picked_is_image : (draws : Draws) (part : Part) → IsImage part (word_of (picked draws part).0)
+pub picked_is_image : (draws : Draws) (part : Part) → IsPartImage part (part_word (picked draws part).0)
 picked_is_image draws part = record { lines = may_leave_picked draws part }
 
 quiet_line_picked : (draws : Draws) (part : Part) (i : ℕ) → IsQuietLine (line_of (picked draws part).0 i)
@@ -110,10 +110,10 @@ quiet_line_picked draws [] i = quiet_blank
 quiet_line_picked draws (line ∷ part) zero = picked_line_quiet draws line
 quiet_line_picked draws (line ∷ part) (suc i) = quiet_line_picked (picked_line draws line).1 part i
 
-pub picked_is_quiet : (draws : Draws) (part : Part) → IsQuiet (picked draws part).0
+pub picked_is_quiet : (draws : Draws) (part : Part) → IsQuietPart (picked draws part).0
 picked_is_quiet draws part = record { lines = quiet_line_picked draws part }
 
 -- a quiet line can take 15 contents
-pub quiet_spare : (part : Part) (line : ℕ) → IsQuiet part → spare_of (line_of part line) ≡ 15
+pub quiet_spare : (part : Part) (line : ℕ) → IsQuietPart part → spare_of (line_of part line) ≡ 15
 unfolding IsQuietLine
 quiet_spare part line quiet = ap (λ later. 15 - length later) (quiet.lines line)

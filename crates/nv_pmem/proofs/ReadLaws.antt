@@ -5,7 +5,7 @@ use Rattle.std.specs.List.{AllZip}
 use Rattle.nv_plain.specs.Faults.{Rose}
 use Rattle.nv_pmem.specs.Room.{Room, Keeps}
 use Rattle.nv_pmem.specs.Rows.{AreOnlyRead}
-use Rattle.nv_pmem.specs.Steps.{History}
+use Rattle.nv_pmem.specs.Steps.{PartHistory}
 use Rattle.nv_pmem.proofs.Rooms.{Keeps-none, Keeps-more}
 
 map-set_same : {X Y : Type 0} (f : X → Y) (xs : List X) (i : ℕ) (y d : X) → i < length xs → f y ≡ f (get_or xs i d) → map f (set xs i y) ≡ map f xs
@@ -31,11 +31,11 @@ zip_set room (x ∷ parts) zero part d inside keeps = (keeps, zip_refl room part
 zip_set room (x ∷ parts) (suc i) part d inside keeps = (Keeps-none (room x), zip_set room parts i part d (omega arith) keeps)
 
 -- nothing was done
-pub only_read_none : {P : Type 0} (history : P → History) (room : P → Room) (device : P → ℕ) (parts : List P) → AreOnlyRead history room device parts parts
+pub only_read_none : {P : Type 0} (history : P → PartHistory) (room : P → Room) (device : P → ℕ) (parts : List P) → AreOnlyRead history room device parts parts
 only_read_none history room device parts = record { histories = refl; rooms = zip_refl room parts; devices = refl }
 
 -- parts are read, and then read again
-pub only_read_more : {P : Type 0} {history : P → History} {room : P → Room} {device : P → ℕ} {old between new : List P} → AreOnlyRead history room device old between → AreOnlyRead history room device between new → AreOnlyRead history room device old new
+pub only_read_more : {P : Type 0} {history : P → PartHistory} {room : P → Room} {device : P → ℕ} {old between new : List P} → AreOnlyRead history room device old between → AreOnlyRead history room device between new → AreOnlyRead history room device old new
 only_read_more {room = room} {old} {between} {new} a b = record {
   histories = b.histories ∙ a.histories;
   rooms = zip_trans room old between new a.rooms b.rooms;
@@ -43,7 +43,7 @@ only_read_more {room = room} {old} {between} {new} a b = record {
 }
 
 -- one part is read
-pub only_read_one : {P : Type 0} (history : P → History) (room : P → Room) (device : P → ℕ) (parts : List P) (i : ℕ) (part d : P) → i < length parts → history part ≡ history (get_or parts i d) → Keeps (room (get_or parts i d)) (room part) → device part ≡ device (get_or parts i d) → AreOnlyRead history room device parts (set parts i part)
+pub only_read_one : {P : Type 0} (history : P → PartHistory) (room : P → Room) (device : P → ℕ) (parts : List P) (i : ℕ) (part d : P) → i < length parts → history part ≡ history (get_or parts i d) → Keeps (room (get_or parts i d)) (room part) → device part ≡ device (get_or parts i d) → AreOnlyRead history room device parts (set parts i part)
 only_read_one history room device parts i part d inside same keeps is = record {
   histories = map-set_same history parts i part d inside same;
   rooms = zip_set room parts i part d inside keeps;

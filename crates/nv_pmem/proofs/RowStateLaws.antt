@@ -2,17 +2,17 @@
 use Rattle.std.proofs.Common.{◌≡◌, ◌<◌, [], ◌∷◌, length, zero, suc, refl, sym, ap, ◌∙◌, arith}
 use Rattle.std.proofs.lemmas.List.Elements.{All-head, All-tail}
 use Rattle.nv_pmem.specs.Part.{Part}
-use Rattle.nv_pmem.specs.Steps.{History}
+use Rattle.nv_pmem.specs.Steps.{PartHistory}
 use Rattle.nv_pmem.specs.RowStates.{IsNow, TellingRowsHaveStates, RowsHaveOneState, EachPartHasOne}
 
 pub rows_have_states : TellingRowsHaveStates
 rows_have_states [] tell = record { states = []; are = tt }
-rows_have_states ([] ∷ row) tell = absurd (omega (arith, All-head (λ (history : History). 0 < length history) [] row tell))
+rows_have_states ([] ∷ row) tell = absurd (omega (arith, All-head (λ (history : PartHistory). 0 < length history) [] row tell))
 rows_have_states ((now ∷ past) ∷ row) tell =
-    let rest = rows_have_states row (All-tail (λ (history : History). 0 < length history) (now ∷ past) row tell) in
+    let rest = rows_have_states row (All-tail (λ (history : PartHistory). 0 < length history) (now ∷ past) row tell) in
     record { states = now ∷ rest.states; are = (record { past = past; is = refl }, rest.are) }
 
-one_now : (history : History) (a b : Part) → IsNow history a → IsNow history b → a ≡ b
+one_now : (history : PartHistory) (a b : Part) → IsNow history a → IsNow history b → a ≡ b
 one_now history a b one other = let same : a ∷ one.past ≡ b ∷ other.past = sym one.is ∙ other.is in cc
 
 pub rows_have_one_state : RowsHaveOneState

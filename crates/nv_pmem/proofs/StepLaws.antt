@@ -6,7 +6,7 @@ use Rattle.std.proofs.lemmas.List.Elements.{All-nil, All-cons, All-append}
 use Rattle.nv_pmem.specs.Part.{Part}
 use Rattle.nv_pmem.specs.Moments.{Tells, EachMoment}
 use Rattle.nv_pmem.specs.Runs.{run, Ran, RanSome, grown}
-use Rattle.nv_pmem.specs.Steps.{Step, after_step}
+use Rattle.nv_pmem.specs.Steps.{LineStep, after_line_step}
 
 -- ---- runs
 
@@ -69,11 +69,11 @@ did_one is = record { states = is }
 -- ---- the states of a device
 
 -- the part after some steps
-abbrev pub after_steps : List Step → Part → Part
-after_steps steps part = run after_step steps part
+abbrev pub after_steps : List LineStep → Part → Part
+after_steps steps part = run after_line_step steps part
 
-pub after_steps-append : (first rest : List Step) (part : Part) → after_steps (first ++ rest) part ≡ after_steps rest (after_steps first part)
-after_steps-append first rest part = run-append after_step first rest part
+pub after_steps-append : (first rest : List LineStep) (part : Part) → after_steps (first ++ rest) part ≡ after_steps rest (after_steps first part)
+after_steps-append first rest part = run-append after_line_step first rest part
 
 -- a told history stays told, and its present state is the one that the steps lead to
 pub grown-told : {T S : Type 0} (after : T → S → S) (steps : List T) (now : S) (past : List S) → (before : List S) × (run (grown after) steps (now ∷ past) ≡ run after steps now ∷ before)

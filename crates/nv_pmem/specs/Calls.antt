@@ -5,34 +5,34 @@ use Rattle.nv_pmem.specs.Room.{Room}
 use Rattle.nv_pmem.specs.RoomSteps.{IsOnLine, RoomAfter, RoomAfterFault}
 use Rattle.nv_pmem.specs.Rows.{RowStep}
 use Rattle.nv_pmem.specs.Runs.{grown}
-use Rattle.nv_pmem.specs.Steps.{Step, History, after_step}
+use Rattle.nv_pmem.specs.Steps.{LineStep, PartHistory, after_line_step}
 
 -- ---- what is seen of a part, and how one call of it ends
 
 -- the states that it has had, the room of its lines, and how often it has failed
 pub record Seen : Type 0 where
-  pub history : History
+  pub history : PartHistory
   pub room : Room
   pub faults : ℕ
 
-abbrev pub seen_of : {P : Type 0} → (P → History) → (P → Room) → (P → ℕ) → P → Seen
+abbrev pub seen_of : {P : Type 0} → (P → PartHistory) → (P → Room) → (P → ℕ) → P → Seen
 seen_of history room faults part = record { history = history part; room = room part; faults = faults part }
 
 -- It ended well: its step was made, on a line that is there, and no fault was counted.
-pub record EndedWell (step : Step) (old new : Seen) : Type 0 where
+pub record EndedWell (step : LineStep) (old new : Seen) : Type 0 where
   pub line : IsOnLine step old.room
-  pub history : new.history ≡ grown after_step step old.history
+  pub history : new.history ≡ grown after_line_step step old.history
   pub room : RoomAfter step old.room new.room
   pub faults : new.faults ≡ old.faults
 
 -- It failed: its step was made or not, and the part's count of faults rose.
-pub record EndedBadly (step : Step) (old new : Seen) : Type 0 where
-  pub history : (new.history ≡ old.history) ⊎ (new.history ≡ grown after_step step old.history)
+pub record EndedBadly (step : LineStep) (old new : Seen) : Type 0 where
+  pub history : (new.history ≡ old.history) ⊎ (new.history ≡ grown after_line_step step old.history)
   pub room : RoomAfterFault step old.room new.room
   pub faults : Rose old.faults new.faults
 
 -- A call on one part of a row: every other part is as it was.
-pub record OnOne (One : Step → Seen → Seen → Type 0) (call : RowStep) (old new : List Seen) : Type 0 where
+pub record OnOne (One : LineStep → Seen → Seen → Type 0) (call : RowStep) (old new : List Seen) : Type 0 where
   pub was : Seen
   pub now : Seen
   pub there : call.part < length old
@@ -66,7 +66,7 @@ pub record CallsEnded {T S A E : Type 0} (Well Badly : T → S → S → Type 0)
   pub failed : OnErr result (OneFailed Well Badly calls old new)
 
 -- the calls of a part, and those of a row
-abbrev pub PartCalls : {A E : Type 0} → List Step → (old new : Seen) → Result A E → Type 0
+abbrev pub PartCalls : {A E : Type 0} → List LineStep → (old new : Seen) → Result A E → Type 0
 PartCalls steps old new result = CallsEnded EndedWell EndedBadly steps old new result
 
 abbrev pub RowCalls : {A E : Type 0} → List RowStep → (old new : List Seen) → Result A E → Type 0

@@ -3,7 +3,7 @@ use Rattle.std.specs.Prelude.{◌≡◌, ℕ, [], ◌∷◌, length, vec_len}
 use Rattle.nv_pmem.specs.declared.file_part.FilePart.{FilePart}
 use Rattle.nv_pmem.specs.Part.{Part}
 use Rattle.nv_pmem.specs.Room.{Room}
-use Rattle.nv_pmem.specs.Steps.{History}
+use Rattle.nv_pmem.specs.Steps.{PartHistory}
 
 module _ {R : Type 0} where
   -- A part over a file is told from others by nothing.
@@ -11,7 +11,7 @@ module _ {R : Type 0} where
   part_device part = 0
 
   -- it has no states that it tells
-  abbrev pub part_history : FilePart R → History
+  abbrev pub part_history : FilePart R → PartHistory
   part_history part = []
 
   -- Its lines. Any of them can always take 15 contents: it keeps the newest alone, and no list of them.
@@ -20,7 +20,7 @@ module _ {R : Type 0} where
 
   -- how often it has failed, up to 2^64 - 1
   abbrev pub part_faults : FilePart R → ℕ
-  part_faults part = part.health
+  part_faults part = part.fault_counter
 
-  pub part_told_lines : (part : FilePart R) (now : Part) (past : History) → part_history part ≡ now ∷ past → length now ≡ (part_room part).lines
+  pub part_told_lines : (part : FilePart R) (now : Part) (past : PartHistory) → part_history part ≡ now ∷ past → length now ≡ (part_room part).lines
   part_told_lines part now past told = cc

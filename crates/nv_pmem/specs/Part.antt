@@ -54,5 +54,5 @@ abbrev pub line_of : Part → ℕ → Line
 line_of part line = slice_index_or part line blank_line
 
 -- the word that a load gives
-abbrev pub word_of : Part → ℕ → ℕ → ℕ
-word_of part line word = word_at (newest (line_of part line)) word
+abbrev pub part_word : Part → ℕ → ℕ → ℕ
+part_word part line word = word_at (newest (line_of part line)) word

@@ -4,7 +4,7 @@ use Rattle.std.proofs.Common.{refl, sym, ap, subst}
 use Rattle.nv_pmem.specs.Moments.{Tells}
 use Rattle.nv_pmem.specs.Part.{Part}
 use Rattle.nv_pmem.specs.Rows.{RowTells}
-use Rattle.nv_pmem.specs.Steps.{History}
+use Rattle.nv_pmem.specs.Steps.{PartHistory}
 
 -- the present state of a device
 pub record IsNow {S : Type 0} (history : List S) (now : S) : Type 0 where
@@ -62,20 +62,20 @@ row_tells_at {S} ((first ∷ past) ∷ row) P (now ∷ states) are told =
 -- ---- laws on rows of parts
 
 -- the present states of a row
-pub record States (row : List History) : Type 0 where
+pub record States (row : List PartHistory) : Type 0 where
   pub states : List Part
   pub are : AreNow row states
 
 -- A row of which each part tells has present states,
 abbrev pub TellingRowsHaveStates : Type 0
-TellingRowsHaveStates = (row : List History) → All (λ history. 0 < length history) row → States row
+TellingRowsHaveStates = (row : List PartHistory) → All (λ history. 0 < length history) row → States row
 
 -- and no row has others.
 abbrev pub RowsHaveOneState : Type 0
-RowsHaveOneState = (row : List History) (one other : List Part) → AreNow row one → AreNow row other → one ≡ other
+RowsHaveOneState = (row : List PartHistory) (one other : List Part) → AreNow row one → AreNow row other → one ≡ other
 
 -- There is one for each part.
 abbrev pub EachPartHasOne : Type 0
 EachPartHasOne =
-    (row : List History) (states : List Part) (i : ℕ)
+    (row : List PartHistory) (states : List Part) (i : ℕ)
     → AreNow row states → i < length row → IsNow (slice_index_or row i []) (slice_index_or states i [])

@@ -3,11 +3,11 @@ use Rattle.std.specs.Prelude.{ℕ, ◌-◌, ◌∷◌, length, map}
 use Rattle.nv_pmem.specs.declared.told.Told.{Told}
 use Rattle.nv_pmem.specs.Part.{Line, Part, line_of, fenced}
 use Rattle.nv_pmem.specs.Room.{Room}
-use Rattle.nv_pmem.specs.Steps.{History}
+use Rattle.nv_pmem.specs.Steps.{PartHistory}
 
 -- the states of some lines, the present one first
-abbrev pub told_history : Told → History
-told_history told = told.lines.items ∷ map (λ lines. lines.items) told.past.states
+abbrev pub told_part_history : Told → PartHistory
+told_part_history told = told.lines.items ∷ map (λ lines. lines.items) told.past.states
 
 -- how many more contents a line can take, of 16 in all
 abbrev pub spare_of : Line → ℕ

@@ -1,10 +1,11 @@
+//! A word is stored and made durable.
 ghost use Rattle.std.specs.Prelude.{◌≡◌, ◌<◌, ◌≤◌, OnOk};
 ghost use Rattle.nv_plain.specs.Faults.{HasCause};
 ghost use Rattle.nv_pmem.specs.Calls.{PartCalls, seen_of};
-ghost use Rattle.nv_pmem.specs.Images.{InEachImage, IsOldOrStored, IsQuiet};
+ghost use Rattle.nv_pmem.specs.Images.{InEachPartImage, IsOldOrStored, IsQuietPart};
 ghost use Rattle.nv_pmem.specs.Moments.{Tells, EachMoment};
 ghost use Rattle.nv_pmem.specs.Room.{Takes, Settles};
-ghost use Rattle.nv_pmem.specs.Steps.{Did, DidSome, durable_store};
+ghost use Rattle.nv_pmem.specs.Steps.{DidLineStep, DidSome, durable_store};
 
 use crate::{LineFault, Lines};
 
@@ -22,14 +23,14 @@ pub fn store_durably<L: Lines>(
 
     // The calls that change the part are these, in this order. That there is no load among them is shown by a test.
     ensures begun { DidSome (durable_store line word value) (L.history part.old) (L.history part.new) }
-    ensures done { OnOk result (Did (durable_store line word value) (L.history part.old) (L.history part.new)) }
+    ensures done { OnOk result (DidLineStep (durable_store line word value) (L.history part.old) (L.history part.new)) }
     ensures calls { PartCalls (durable_store line word value)
         (seen_of L.history L.room L.fault_count part.old) (seen_of L.history L.room L.fault_count part.new) result }
 
     ensures moments { Tells (L.history part.old) (λ was.
-        EachMoment (InEachImage (IsOldOrStored was line word value)) (L.history part.old) (L.history part.new)) }
-    ensures durable { OnOk result (Tells (L.history part.new) (InEachImage (λ image. image line word ≡ value))) }
-    ensures quiet { OnOk result (Tells (L.history part.old) IsQuiet → Tells (L.history part.new) IsQuiet) }
+        EachMoment (InEachPartImage (IsOldOrStored was line word value)) (L.history part.old) (L.history part.new)) }
+    ensures durable { OnOk result (Tells (L.history part.new) (InEachPartImage (λ image. image line word ≡ value))) }
+    ensures quiet { OnOk result (Tells (L.history part.old) IsQuietPart → Tells (L.history part.new) IsQuietPart) }
 
     ensures room { Takes 1 line (L.room part.old) (L.room part.new) }
     ensures settled { OnOk result (Settles line (L.room part.old) (L.room part.new)) }

@@ -1,8 +1,9 @@
+//! A part over a file.
 ghost use Rattle.std.specs.Prelude.{◌≡◌, ◌<◌, ◌≤◌, vec_len, IfOk};
 ghost use Rattle.nv_pmem.specs.FilePart.{part_device, part_history, part_room, part_faults, part_told_lines};
 
 use crate::durable_file::open_durable;
-use crate::health::Health;
+use crate::fault_counter::FaultCounter;
 use crate::mem_line::word_of_bytes;
 use crate::{LineFault, Lines};
 use std::alloc::{AllocError, AllocFailed, Global};
@@ -31,7 +32,7 @@ pub struct FilePart<R> {
     rt: R,
     path: String,
     lines: Vec<FileLine>,
-    health: Health,
+    fault_counter: FaultCounter,
 }
 
 #[derive(Clone, Copy)]
@@ -87,7 +88,7 @@ impl<R: Files + Copy> FilePart<R> {
             rt,
             path,
             lines: read_lines(alloc, file, lines as usize)?,
-            health: Health::new(None),
+            fault_counter: FaultCounter::new(None),
         })
     }
 
@@ -155,13 +156,13 @@ impl<R: Files + Copy> Lines for FilePart<R> {
 
     fn fence(&mut self) -> Result<(), LineFault> {
         let written = self.write_flushed();
-        self.health.noted(written)?;
+        self.fault_counter.noted(written)?;
         forget_flushes(&mut self.lines);
         Ok(())
     }
 
     fn faults(&self) -> u64 {
-        self.health.faults()
+        self.fault_counter.faults()
     }
 
     ghost told_lines = { part_told_lines };

@@ -1,3 +1,4 @@
+//! Fuses: which device calls in memory fail.
 ghost use Rattle.std.specs.Prelude.{◌≤◌};
 
 use nv_plain::NoMemory;

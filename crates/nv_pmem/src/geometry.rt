@@ -1,3 +1,4 @@
+//! The sizes of a region.
 ghost use Rattle.std.specs.Prelude.{◌≡◌, Err, IfOk, IsOk};
 ghost use Rattle.nv_pmem.specs.Limits.{IsPageSize, IsEntryCount};
 ghost use Rattle.nv_pmem.specs.declared.geometry.GeometryField.TheVariants.{Page, Entries};

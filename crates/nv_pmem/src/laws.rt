@@ -1,5 +1,6 @@
+//! Laws of parts.
 ghost use Rattle.nv_pmem.specs.Laws.{StoredIsLoaded, OthersAreKept, StepsKeepLines, BlankIsZeros};
-ghost use Rattle.nv_pmem.specs.Laws.{LoadsAreAnImage, StepsAddTheirStores, NoStoreAddsNothing, QuietHasOneImage, FlushAndFenceSettle, QuietStays, BlankIsQuiet};
+ghost use Rattle.nv_pmem.specs.Laws.{LoadsAreAnImage, StepsAddTheirStores, NoStoreAddsNothing, QuietPartHasOneImage, FlushAndFenceSettle, QuietStays, BlankIsQuiet};
 ghost use Rattle.nv_pmem.specs.RoomSteps.{LineIsItsStores};
 ghost use Rattle.nv_pmem.specs.RowStates.{TellingRowsHaveStates, RowsHaveOneState, EachPartHasOne};
 
@@ -17,7 +18,7 @@ pub fn images_follow_calls()
     ensures now { LoadsAreAnImage }
     ensures stores { StepsAddTheirStores }
     ensures nothing { NoStoreAddsNothing }
-    ensures quiet { QuietHasOneImage }
+    ensures quiet { QuietPartHasOneImage }
     ensures settled { FlushAndFenceSettle }
     ensures stays { QuietStays }
     ensures blank { BlankIsQuiet }

@@ -3,10 +3,10 @@
 
 mod durable;
 mod durable_file;
+mod fault_counter;
 mod file_part;
 mod fuse;
 mod geometry;
-mod health;
 mod laws;
 mod lines;
 mod mem_line;
@@ -17,10 +17,10 @@ mod told;
 
 pub use durable::store_durably;
 pub use durable_file::{open_durable, sync_folder_of};
+pub use fault_counter::{FaultCounter, Refused};
 pub use file_part::{FilePart, PartError};
 pub use fuse::Fuse;
 pub use geometry::{BadGeometry, Geometry, GeometryField};
-pub use health::{Health, Refused};
 pub use laws::{images_follow_calls, loads_follow_calls, rooms_follow_calls, rows_have_states};
 pub use lines::{LineFault, Lines, RegionFault};
 pub use mem_part::MemPart;

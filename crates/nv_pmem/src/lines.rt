@@ -1,8 +1,9 @@
+//! Parts: lines of words that are stored, flushed and fenced.
 ghost use Rattle.std.specs.Prelude.{◌≡◌, ℕ, ◌<◌, ◌≤◌, [], ◌∷◌, length, IfOk, OnOk};
 ghost use Rattle.nv_plain.specs.Faults.{HasCause};
-ghost use Rattle.nv_pmem.specs.Part.{Part, word_of};
+ghost use Rattle.nv_pmem.specs.Part.{Part, part_word};
 ghost use Rattle.nv_pmem.specs.Moments.{Tells};
-ghost use Rattle.nv_pmem.specs.Steps.{Store, Flush, Fence, History, Did, DidSome, line_stores};
+ghost use Rattle.nv_pmem.specs.Steps.{StoreWord, Flush, Fence, PartHistory, DidLineStep, DidSome, line_stores};
 ghost use Rattle.nv_pmem.specs.Room.{Room, Keeps, Takes, Frees};
 
 use crate::Refused;
@@ -39,7 +40,7 @@ pub trait Lines {
     ghost device: { Self → ℕ };
 
     /// The states that it has had, the present one first; empty where it doesn't tell. Loads leave no trace in it.
-    ghost history: { Self → History };
+    ghost history: { Self → PartHistory };
 
     /// How many lines it has, and how many more contents each can take.
     ghost room: { Self → Room };
@@ -55,7 +56,7 @@ pub trait Lines {
     fn load(&mut self, line: u64, word: u64) -> Result<u64, LineFault>
         requires line { line < (room self.old).lines }
         requires word { word < 8 }
-        ensures value { IfOk result (λ value. Tells (history self.old) (λ part. value ≡ word_of part line word)) }
+        ensures value { IfOk result (λ value. Tells (history self.old) (λ part. value ≡ part_word part line word)) }
         ensures history { history self.new ≡ history self.old }
         ensures room { Keeps (room self.old) (room self.new) }
         ensures same_room { room self.new ≡ room self.old }
@@ -67,8 +68,8 @@ pub trait Lines {
         requires line { line < (room self.old).lines }
         requires word { word < 8 }
         requires spare { 1 ≤ (room self.old).spare line }
-        ensures begun { DidSome (Store line word value ∷ []) (history self.old) (history self.new) }
-        ensures done { OnOk result (Did (Store line word value ∷ []) (history self.old) (history self.new)) }
+        ensures begun { DidSome (StoreWord line word value ∷ []) (history self.old) (history self.new) }
+        ensures done { OnOk result (DidLineStep (StoreWord line word value ∷ []) (history self.old) (history self.new)) }
         ensures room { Takes 1 line (room self.old) (room self.new) }
         ensures cause { HasCause (fault_count self.old) (fault_count self.new) result }
         ensures device { device self.new ≡ device self.old };
@@ -78,7 +79,7 @@ pub trait Lines {
         requires line { line < (room self.old).lines }
         requires spare { 8 ≤ (room self.old).spare line }
         ensures begun { DidSome (line_stores line bytes.now) (history self.old) (history self.new) }
-        ensures done { OnOk result (Did (line_stores line bytes.now) (history self.old) (history self.new)) }
+        ensures done { OnOk result (DidLineStep (line_stores line bytes.now) (history self.old) (history self.new)) }
         ensures room { Takes 8 line (room self.old) (room self.new) }
         ensures cause { HasCause (fault_count self.old) (fault_count self.new) result }
         ensures device { device self.new ≡ device self.old };
@@ -87,7 +88,7 @@ pub trait Lines {
     fn flush(&mut self, line: u64) -> Result<(), LineFault>
         requires line { line < (room self.old).lines }
         ensures begun { DidSome (Flush line ∷ []) (history self.old) (history self.new) }
-        ensures done { OnOk result (Did (Flush line ∷ []) (history self.old) (history self.new)) }
+        ensures done { OnOk result (DidLineStep (Flush line ∷ []) (history self.old) (history self.new)) }
         ensures room { Keeps (room self.old) (room self.new) }
         ensures flushed { OnOk result (15 ≤ (room self.new).after_fence line) }
         ensures cause { HasCause (fault_count self.old) (fault_count self.new) result }
@@ -96,7 +97,7 @@ pub trait Lines {
     /// Makes the flushed contents durable.
     fn fence(&mut self) -> Result<(), LineFault>
         ensures begun { DidSome (Fence ∷ []) (history self.old) (history self.new) }
-        ensures done { OnOk result (Did (Fence ∷ []) (history self.old) (history self.new)) }
+        ensures done { OnOk result (DidLineStep (Fence ∷ []) (history self.old) (history self.new)) }
         ensures room { Keeps (room self.old) (room self.new) }
         ensures freed { OnOk result (Frees (room self.old) (room self.new)) }
         ensures cause { HasCause (fault_count self.old) (fault_count self.new) result }
@@ -107,5 +108,5 @@ pub trait Lines {
         ensures { result ≡ fault_count self.now };
 
     /// The present state has the part's lines.
-    ghost told_lines: { (p : Self) (now : Part) (past : History) → history p ≡ now ∷ past → length now ≡ (room p).lines };
+    ghost told_lines: { (p : Self) (now : Part) (past : PartHistory) → history p ≡ now ∷ past → length now ≡ (room p).lines };
 }

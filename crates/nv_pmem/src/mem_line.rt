@@ -1,3 +1,4 @@
+//! A line in memory, with all contents that it can have.
 ghost use Rattle.std.specs.Prelude.{◌≡◌, ◌<◌, ◌≤◌, length};
 ghost use Rattle.nv_pmem.specs.Part.{blank_line, newest, word_at, stored, flushed, fenced};
 ghost use Rattle.nv_pmem.specs.Made.{words_in};

@@ -1,13 +1,14 @@
+//! A part in memory.
 ghost use Rattle.std.specs.Prelude.{◌≡◌, ℕ, ◌%◌, ◌<◌, ◌≤◌, [], ◌∷◌, length, IfOk, OnOk, OnErr};
 ghost use Rattle.nv_plain.specs.Faults.{HasCause};
-ghost use Rattle.nv_pmem.specs.Images.{IsImage, IsQuiet};
+ghost use Rattle.nv_pmem.specs.Images.{IsPartImage, IsQuietPart};
 ghost use Rattle.nv_pmem.specs.Made.{part_in, resized};
-ghost use Rattle.nv_pmem.specs.Part.{word_of};
+ghost use Rattle.nv_pmem.specs.Part.{part_word};
 ghost use Rattle.nv_pmem.specs.Picked.{picked};
-ghost use Rattle.nv_pmem.specs.Steps.{Store, Flush, Fence, Did, DidSome, line_stores};
+ghost use Rattle.nv_pmem.specs.Steps.{StoreWord, Flush, Fence, DidLineStep, DidSome, line_stores};
 ghost use Rattle.nv_pmem.specs.Room.{Keeps, Takes, Frees};
 
-use crate::health::Health;
+use crate::fault_counter::FaultCounter;
 use crate::told::Told;
 use crate::{Fuse, LineFault, Lines, Picker};
 use nv_plain::NoMemory;
@@ -17,15 +18,15 @@ use std::alloc::Global;
 #[derive(Drop)]
 pub struct MemPart {
     told: Told,
-    health: Health,
+    fault_counter: FaultCounter,
 }
 
 impl MemPart {
-    ghost use Rattle.nv_pmem.specs.MemPart.{IsBlank, IsNew, part_now, part_history, part_room, part_faults, part_device};
+    ghost use Rattle.nv_pmem.specs.MemPart.{IsBlankMemPart, IsNewPart, part_now, part_history, part_room, part_faults, part_device};
 
     /// A part of so many lines of zeros, durable, whose calls all go well. It takes about 1,050 bytes a line.
     pub fn new(alloc: Global, lines: u64) -> Result<Self, NoMemory>
-        ensures { IfOk result (IsBlank lines) }
+        ensures { IfOk result (IsBlankMemPart lines) }
     {
         Self::blank(alloc, lines, None)
     }
@@ -33,17 +34,17 @@ impl MemPart {
     /// As `new`, but the calls that the fuse counts out fail. Each call of `Lines` but `lines` and `faults` counts
     /// as one, and one that fails leaves the part as it was, but for the count of faults.
     pub fn fused(alloc: Global, lines: u64, fuse: Fuse) -> Result<Self, NoMemory>
-        ensures { IfOk result (IsBlank lines) }
+        ensures { IfOk result (IsBlankMemPart lines) }
     {
         Self::blank(alloc, lines, Some(fuse))
     }
 
     fn blank(alloc: Global, lines: u64, fuse: Option<Fuse>) -> Result<Self, NoMemory>
-        ensures { IfOk result (IsBlank lines) }
+        ensures { IfOk result (IsBlankMemPart lines) }
     {
         Ok(MemPart {
             told: Told::blank(alloc, lines as usize)?,
-            health: Health::new(fuse),
+            fault_counter: FaultCounter::new(fuse),
         })
     }
 
@@ -51,23 +52,23 @@ impl MemPart {
     /// says; with no fuse they all go well.
     pub fn of(alloc: Global, bytes: &[u8], fuse: Option<Fuse>) -> Result<Self, NoMemory>
         requires { length bytes.now % 64 ≡ 0 }
-        ensures made { IfOk result (IsNew (part_in bytes.now)) }
-        ensures quiet { IfOk result (λ part. IsQuiet (part_now part)) }
+        ensures made { IfOk result (IsNewPart (part_in bytes.now)) }
+        ensures quiet { IfOk result (λ part. IsQuietPart (part_now part)) }
     {
         Ok(MemPart {
             told: Told::of(alloc, bytes)?,
-            health: Health::new(fuse),
+            fault_counter: FaultCounter::new(fuse),
         })
     }
 
     /// A part of so many lines that holds what this one does, each line with all of its contents: new ones are zeros, and
     /// those that are too many are left out. It is a new device: its history and its count of faults begin with it.
     pub fn resized(&self, alloc: Global, lines: u64, fuse: Option<Fuse>) -> Result<Self, NoMemory>
-        ensures { IfOk result (IsNew (resized lines (part_now self.now))) }
+        ensures { IfOk result (IsNewPart (resized lines (part_now self.now))) }
     {
         Ok(MemPart {
             told: self.told.resized(alloc, lines as usize)?,
-            health: Health::new(fuse),
+            fault_counter: FaultCounter::new(fuse),
         })
     }
 
@@ -75,7 +76,7 @@ impl MemPart {
     pub fn peek(&self, line: u64, word: u64) -> u64
         requires line { line < (part_room self.now).lines }
         requires word { word < 8 }
-        ensures { result ≡ word_of (part_now self.now) line word }
+        ensures { result ≡ part_word (part_now self.now) line word }
     {
         self.told.load(line as usize, word as usize)
     }
@@ -86,8 +87,8 @@ impl MemPart {
     pub fn image(&mut self, picker: &mut Picker)
         ensures picked { part_history self.new ≡ (picked picker.old (part_now self.old)).0 ∷ part_history self.old }
         ensures draws { picker.new ≡ (picked picker.old (part_now self.old)).1 }
-        ensures image { IsImage (part_now self.old) (word_of (part_now self.new)) }
-        ensures quiet { IsQuiet (part_now self.new) }
+        ensures image { IsPartImage (part_now self.old) (part_word (part_now self.new)) }
+        ensures quiet { IsQuietPart (part_now self.new) }
         ensures lines { (part_room self.new).lines ≡ (part_room self.old).lines }
         ensures spare { (line : ℕ) → (part_room self.new).spare line ≡ 15 }
         ensures faults { part_faults self.new ≡ part_faults self.old }
@@ -113,7 +114,7 @@ impl Lines for MemPart {
     }
 
     fn load(&mut self, line: u64, word: u64) -> Result<u64, LineFault> {
-        self.health.begin()?;
+        self.fault_counter.begin()?;
         Ok(self.told.load(line as usize, word as usize))
     }
 
@@ -121,14 +122,14 @@ impl Lines for MemPart {
         requires line { line < (part_room self.old).lines }
         requires word { word < 8 }
         requires spare { 1 ≤ (part_room self.old).spare line }
-        ensures begun { DidSome (Store line word value ∷ []) (part_history self.old) (part_history self.new) }
-        ensures done { OnOk result (Did (Store line word value ∷ []) (part_history self.old) (part_history self.new)) }
+        ensures begun { DidSome (StoreWord line word value ∷ []) (part_history self.old) (part_history self.new) }
+        ensures done { OnOk result (DidLineStep (StoreWord line word value ∷ []) (part_history self.old) (part_history self.new)) }
         ensures refused { OnErr result (part_history self.new ≡ part_history self.old) }
         ensures room { Takes 1 line (part_room self.old) (part_room self.new) }
         ensures cause { HasCause (part_faults self.old) (part_faults self.new) result }
         ensures device { part_device self.new ≡ part_device self.old }
     {
-        self.health.begin()?;
+        self.fault_counter.begin()?;
         self.told.store(line as usize, word as usize, value);
         Ok(())
     }
@@ -137,13 +138,13 @@ impl Lines for MemPart {
         requires line { line < (part_room self.old).lines }
         requires spare { 8 ≤ (part_room self.old).spare line }
         ensures begun { DidSome (line_stores line bytes.now) (part_history self.old) (part_history self.new) }
-        ensures done { OnOk result (Did (line_stores line bytes.now) (part_history self.old) (part_history self.new)) }
+        ensures done { OnOk result (DidLineStep (line_stores line bytes.now) (part_history self.old) (part_history self.new)) }
         ensures refused { OnErr result (part_history self.new ≡ part_history self.old) }
         ensures room { Takes 8 line (part_room self.old) (part_room self.new) }
         ensures cause { HasCause (part_faults self.old) (part_faults self.new) result }
         ensures device { part_device self.new ≡ part_device self.old }
     {
-        self.health.begin()?;
+        self.fault_counter.begin()?;
         self.told.store_line(line as usize, bytes);
         Ok(())
     }
@@ -151,34 +152,34 @@ impl Lines for MemPart {
     fn flush(&mut self, line: u64) -> Result<(), LineFault>
         requires line { line < (part_room self.old).lines }
         ensures begun { DidSome (Flush line ∷ []) (part_history self.old) (part_history self.new) }
-        ensures done { OnOk result (Did (Flush line ∷ []) (part_history self.old) (part_history self.new)) }
+        ensures done { OnOk result (DidLineStep (Flush line ∷ []) (part_history self.old) (part_history self.new)) }
         ensures refused { OnErr result (part_history self.new ≡ part_history self.old) }
         ensures room { Keeps (part_room self.old) (part_room self.new) }
         ensures flushed { OnOk result (15 ≤ (part_room self.new).after_fence line) }
         ensures cause { HasCause (part_faults self.old) (part_faults self.new) result }
         ensures device { part_device self.new ≡ part_device self.old }
     {
-        self.health.begin()?;
+        self.fault_counter.begin()?;
         self.told.flush(line as usize);
         Ok(())
     }
 
     fn fence(&mut self) -> Result<(), LineFault>
         ensures begun { DidSome (Fence ∷ []) (part_history self.old) (part_history self.new) }
-        ensures done { OnOk result (Did (Fence ∷ []) (part_history self.old) (part_history self.new)) }
+        ensures done { OnOk result (DidLineStep (Fence ∷ []) (part_history self.old) (part_history self.new)) }
         ensures refused { OnErr result (part_history self.new ≡ part_history self.old) }
         ensures room { Keeps (part_room self.old) (part_room self.new) }
         ensures freed { OnOk result (Frees (part_room self.old) (part_room self.new)) }
         ensures cause { HasCause (part_faults self.old) (part_faults self.new) result }
         ensures device { part_device self.new ≡ part_device self.old }
     {
-        self.health.begin()?;
+        self.fault_counter.begin()?;
         self.told.fence();
         Ok(())
     }
 
     fn faults(&self) -> u64 {
-        self.health.faults()
+        self.fault_counter.faults()
     }
 
     ghost told_lines = { part_told_lines };

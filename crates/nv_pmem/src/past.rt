@@ -1,3 +1,4 @@
+//! The states that a device in memory has had, for clauses alone.
 ghost use Rattle.std.specs.Prelude.{◌≡◌, List, [], ◌∷◌};
 ghost use Rattle.std.specs.Borrow.{ftrue};
 

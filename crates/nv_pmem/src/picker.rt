@@ -1,3 +1,4 @@
+//! Which image a power failure leaves.
 ghost use Rattle.std.specs.Prelude.{◌≡◌};
 
 use rand_core::SeedableRng;

@@ -1,10 +1,11 @@
+//! Lines in memory, with the states that they have had.
 ghost use Rattle.std.specs.Prelude.{◌≡◌, ◌+◌, ◌*◌, ◌<◌, ◌≤◌, [], ◌∷◌, length, replicate, IfOk};
 ghost use Rattle.nv_pmem.specs.Made.{words_in, line_in, part_in, resized};
-ghost use Rattle.nv_pmem.specs.Part.{blank_line, line_of, word_of};
+ghost use Rattle.nv_pmem.specs.Part.{blank_line, line_of, part_word};
 ghost use Rattle.nv_pmem.specs.Picked.{settled, picked};
 ghost use Rattle.nv_pmem.specs.Room.{Keeps, Takes, Frees};
 ghost use Rattle.nv_pmem.specs.Runs.{run, grown};
-ghost use Rattle.nv_pmem.specs.Steps.{Store, Flush, Fence, after_step, line_stores};
+ghost use Rattle.nv_pmem.specs.Steps.{StoreWord, Flush, Fence, after_line_step, line_stores};
 
 use crate::Picker;
 use crate::mem_line::{MemLine, word_of_bytes};
@@ -20,10 +21,10 @@ pub(crate) struct Told {
 }
 
 impl Told {
-    ghost use Rattle.nv_pmem.specs.Told.{told_history, told_room};
+    ghost use Rattle.nv_pmem.specs.Told.{told_part_history, told_room};
 
     pub(crate) fn blank(alloc: Global, count: usize) -> Result<Self, NoMemory>
-        ensures { IfOk result (λ told. told_history told ≡ replicate count blank_line ∷ []) }
+        ensures { IfOk result (λ told. told_part_history told ≡ replicate count blank_line ∷ []) }
     {
         let mut lines = Vec::with_capacity(alloc, count)?;
         for _ in 0..count {
@@ -37,7 +38,7 @@ impl Told {
 
     /// The lines that hold these bytes; what is behind the last whole line is left out.
     pub(crate) fn of(alloc: Global, bytes: &[u8]) -> Result<Self, NoMemory>
-        ensures { IfOk result (λ told. told_history told ≡ part_in bytes.now ∷ []) }
+        ensures { IfOk result (λ told. told_part_history told ≡ part_in bytes.now ∷ []) }
     {
         let mut lines = Vec::new(alloc);
         for line in 0..bytes.len() / 64 {
@@ -51,7 +52,7 @@ impl Told {
 
     /// A copy of so many of the lines, with lines of zeros where there are fewer.
     pub(crate) fn resized(&self, alloc: Global, count: usize) -> Result<Self, NoMemory>
-        ensures { IfOk result (λ told. told_history told ≡ resized count self.now.lines.items ∷ []) }
+        ensures { IfOk result (λ told. told_part_history told ≡ resized count self.now.lines.items ∷ []) }
     {
         let mut lines = Vec::new(alloc);
         for line in 0..count {
@@ -82,7 +83,7 @@ impl Told {
     pub(crate) fn load(&self, line: usize, word: usize) -> u64
         requires line { line < (told_room self.now).lines }
         requires word { word < 8 }
-        ensures { result ≡ word_of self.now.lines.items line word }
+        ensures { result ≡ part_word self.now.lines.items line word }
     {
         self.lines[line].load(word)
     }
@@ -91,7 +92,7 @@ impl Told {
         requires line { line < (told_room self.old).lines }
         requires word { word < 8 }
         requires spare { 1 ≤ (told_room self.old).spare line }
-        ensures history { told_history self.new ≡ grown after_step (Store line word value) (told_history self.old) }
+        ensures history { told_part_history self.new ≡ grown after_line_step (StoreWord line word value) (told_part_history self.old) }
         ensures room { Takes 1 line (told_room self.old) (told_room self.new) }
     {
         self.past.note(&self.lines);
@@ -102,7 +103,7 @@ impl Told {
     pub(crate) fn store_line(&mut self, line: usize, bytes: &[u8; 64])
         requires line { line < (told_room self.old).lines }
         requires spare { 8 ≤ (told_room self.old).spare line }
-        ensures history { told_history self.new ≡ run (grown after_step) (line_stores line bytes.now) (told_history self.old) }
+        ensures history { told_part_history self.new ≡ run (grown after_line_step) (line_stores line bytes.now) (told_part_history self.old) }
         ensures room { Takes 8 line (told_room self.old) (told_room self.new) }
     {
         for word in 0..8 {
@@ -112,7 +113,7 @@ impl Told {
 
     pub(crate) fn flush(&mut self, line: usize)
         requires { line < (told_room self.old).lines }
-        ensures history { told_history self.new ≡ grown after_step (Flush line) (told_history self.old) }
+        ensures history { told_part_history self.new ≡ grown after_line_step (Flush line) (told_part_history self.old) }
         ensures room { Keeps (told_room self.old) (told_room self.new) }
         ensures flushed { 15 ≤ (told_room self.new).after_fence line }
     {
@@ -121,7 +122,7 @@ impl Told {
     }
 
     pub(crate) fn fence(&mut self)
-        ensures history { told_history self.new ≡ grown after_step Fence (told_history self.old) }
+        ensures history { told_part_history self.new ≡ grown after_line_step Fence (told_part_history self.old) }
         ensures room { Keeps (told_room self.old) (told_room self.new) }
         ensures freed { Frees (told_room self.old) (told_room self.new) }
     {
@@ -133,7 +134,7 @@ impl Told {
 
     /// Loses power: each line is left as the picker takes it, and its contents are one.
     pub(crate) fn lose_power(&mut self, picker: &mut Picker)
-        ensures history { told_history self.new ≡ (picked picker.old self.old.lines.items).0 ∷ told_history self.old }
+        ensures history { told_part_history self.new ≡ (picked picker.old self.old.lines.items).0 ∷ told_part_history self.old }
         ensures draws { picker.new ≡ (picked picker.old self.old.lines.items).1 }
     {
         self.past.note(&self.lines);

@@ -6,9 +6,9 @@ use Rattle.std.specs.Prelude.{fold}
 use Rattle.nv_plain.specs.Files.{Files, contents_of, with_contents, overwritten}
 use Rattle.nv_plain.specs.Images.{Image, entry_at, slot_part, data_of}
 use Rattle.nv_plain.specs.Recovered.{with_entry, recovered}
-use Rattle.nv_store.specs.Images.{IsImage}
-use Rattle.nv_store.specs.Steps.{Write, after_step}
-use Rattle.nv_store.specs.Store.{Store, IsWhole}
+use Rattle.nv_store.specs.Images.{IsStoreImage}
+use Rattle.nv_store.specs.Steps.{Write, after_store_step}
+use Rattle.nv_store.specs.Store.{Store, IsWholeStore}
 use Rattle.nv_store.proofs.ImageLaws.{image_of_quiet}
 use Rattle.nv_store.proofs.WriteLaws.{covered}
 use Rattle.nv_recover.specs.Applying.{AreAmong, HasPiece, StaysAlike, OneWritten, OneTorn, LeftOrOneTorn}
@@ -94,14 +94,14 @@ module _ (image : Image) (number file at : ℕ) (bytes : List ℕ) (piece : HasP
       ∙ sym (ap (fold (with_entry image) before) among.all)
 
   -- A piece that was written, or torn, leaves the stores alike.
-  pub alike_torn : (was now : List Store) → file < length was → ((none : Store) → IsWhole (slice_index_or was file none)) → AreAmong image (number ∷ [])
+  pub alike_torn : (was now : List Store) → file < length was → ((none : Store) → IsWholeStore (slice_index_or was file none)) → AreAmong image (number ∷ [])
       → OneTorn file at (length bytes) was now → StaysAlike image was now
   alike_torn was now inside whole among torn these are =
       let long : length now ≡ length was = ap length torn.is ∙ length-set was file torn.new in
-      let IsOne : Store → Type 0 = λ store. IsImage store (contents_of these file) in
+      let IsOne : Store → Type 0 = λ store. IsStoreImage store (contents_of these file) in
       let new_is : slice_index_or now file torn.old ≡ torn.new =
       ap (λ stores. slice_index_or stores file torn.old) torn.is ∙ get_or-set_same was file torn.new torn.old inside in
-      let cover = covered at bytes torn.old torn.new (contents_of these file) (subst IsWhole (torn.old_is torn.old) (whole torn.old)) torn.torn
+      let cover = covered at bytes torn.old torn.new (contents_of these file) (subst IsWholeStore (torn.old_is torn.old) (whole torn.old)) torn.torn
       (subst IsOne new_is (are.each file torn.old (omega arith))) in
       let before = with_contents these file cover.before in
       record {
@@ -110,22 +110,22 @@ module _ (image : Image) (number file at : ℕ) (bytes : List ℕ) (piece : HasP
           count = length-set these.contents file cover.before ∙ are.count ∙ long;
           each = λ i none within. elim (cases_eq i file) [
             | inl same ↦
-                let At : ℕ → Type 0 = λ k. IsImage (slice_index_or was k none) (contents_of before k) in
-                let Of : Store → Type 0 = λ store. IsImage store (contents_of before file) in
+                let At : ℕ → Type 0 = λ k. IsStoreImage (slice_index_or was k none) (contents_of before k) in
+                let Of : Store → Type 0 = λ store. IsStoreImage store (contents_of before file) in
                 subst At (sym same)
                 (subst Of (sym (torn.old_is none))
-                (subst (IsImage torn.old) (sym (contents_same these file cover.before (omega (arith, are.count)))) cover.is_image))
+                (subst (IsStoreImage torn.old) (sym (contents_same these file cover.before (omega (arith, are.count)))) cover.is_image))
             | inr differs ↦
-                let Of : Store → Type 0 = λ store. IsImage store (contents_of before i) in
+                let Of : Store → Type 0 = λ store. IsStoreImage store (contents_of before i) in
                 subst Of (ap (λ stores. slice_index_or stores i none) torn.is ∙ get_or-set_other was file i torn.new none differs)
-                (subst (IsImage (slice_index_or now i none)) (sym (get_or-set_other these.contents file i cover.before [] differs))
+                (subst (IsStoreImage (slice_index_or now i none)) (sym (get_or-set_other these.contents file i cover.before [] differs))
                 (are.each i none (omega arith)))
           ];
         };
         same = same_at_last these before among (same_once these cover.before (omega (arith, are.count)) cover.same);
       }
 
-  pub alike_left_or_torn : (was now : List Store) → file < length was → ((none : Store) → IsWhole (slice_index_or was file none)) → AreAmong image (number ∷ [])
+  pub alike_left_or_torn : (was now : List Store) → file < length was → ((none : Store) → IsWholeStore (slice_index_or was file none)) → AreAmong image (number ∷ [])
       → LeftOrOneTorn file at (length bytes) was now → StaysAlike image was now
   alike_left_or_torn was now inside whole among (inl same) = alike_same image was now same
   alike_left_or_torn was now inside whole among (inr torn) = alike_torn was now inside whole among torn
@@ -135,7 +135,7 @@ module _ (image : Image) (number file at : ℕ) (bytes : List ℕ) (piece : HasP
   written_files was now inside one =
       let seen : Store → List ℕ = λ store. store.seen in
       ap files_of one.is
-      ∙ same_files (files_of (set was file (after_step (Write at bytes) one.old))) (with_contents (files_of was) file (overwritten one.old.seen at bytes))
-      (map-set seen was file (after_step (Write at bytes) one.old))
+      ∙ same_files (files_of (set was file (after_store_step (Write at bytes) one.old))) (with_contents (files_of was) file (overwritten one.old.seen at bytes))
+      (map-set seen was file (after_store_step (Write at bytes) one.old))
       ∙ ap (λ old. with_contents (files_of was) file (overwritten old at bytes)) (sym (ap seen (one.old_is one.old)) ∙ sym (seen_at was file one.old inside))
       ∙ sym (entry_is image number file at bytes (files_of was) piece)

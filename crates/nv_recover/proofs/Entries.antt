@@ -11,8 +11,8 @@ use Rattle.nv_pmem.specs.Steps as lines
 use Rattle.nv_pmem.proofs.RowLaws.{row_tells_any, row_tells_more, row_tells_both}
 use Rattle.nv_entry.specs.declared.bounds.Bounds.{Bounds}
 use Rattle.nv_entry.specs.Checks.{SaysBounds}
-use Rattle.nv_store.specs.Steps.{History}
-use Rattle.nv_store.specs.Store.{Store, IsWhole}
+use Rattle.nv_store.specs.Steps.{StoreHistory}
+use Rattle.nv_store.specs.Store.{Store, IsWholeStore}
 use Rattle.nv_pmem.specs.RowStates.{row_tells_at, row_tells_from}
 use Rattle.nv_recover.specs.Applying.{AcrossTells, AcrossThroughout, ChangesAtMostOne, IsGroupOf, IsNumberOf, HasPiece, StaysAlike, OneWritten, LeftOrOneTorn}
 use Rattle.nv_recover.specs.Changes.{ThroughoutRow}
@@ -28,7 +28,7 @@ use Rattle.nv_recover.proofs.StoreRows.{row_whole}
 use Rattle.nv_recover.proofs.Throughout.{row_throughout_more}
 
 -- stores that nothing was done to
-pub unwritten : (parts : List lines.History) (row : List History) (R : Image → List Store → List Store → Type 0) → ((image : Image) (was : List Store) → R image was was) → AcrossTells parts row row R
+pub unwritten : (parts : List lines.PartHistory) (row : List StoreHistory) (R : Image → List Store → List Store → Type 0) → ((image : Image) (was : List Store) → R image was was) → AcrossTells parts row row R
 unwritten parts row R each =
     row_tells_any parts (λ these. RowTells row (λ was. RowTells row (R (row_words these) was)))
     (λ these. row_tells_from row (λ was. RowTells row (R (row_words these) was))
@@ -36,7 +36,7 @@ unwritten parts row R each =
     (λ now were. subst (R (row_words these) was) (are_now_same row was now are were) (each (row_words these) was))))
 
 -- what the header says of an entry
-pub size_within : (row : List lines.History) (bounds : Bounds) (number : ℕ) → RowTells row (λ parts. SaysBounds bounds (row_words parts)) → RowTells row (λ parts. IsNumberOf (row_words parts) number)
+pub size_within : (row : List lines.PartHistory) (bounds : Bounds) (number : ℕ) → RowTells row (λ parts. SaysBounds bounds (row_words parts)) → RowTells row (λ parts. IsNumberOf (row_words parts) number)
     → RowTells row (λ parts. (entry_at (row_words parts) number).size ≤ bounds.page)
 size_within row bounds number says is =
     let Says : List Part → Type 0 = λ parts. SaysBounds bounds (row_words parts) in
@@ -46,7 +46,7 @@ size_within row bounds number says is =
     (row_tells_both row Says Is says is)
 
 -- no entry names a file that isn't there
-pub file_there : (row : List lines.History) (bounds : Bounds) (number file at : ℕ) (bytes : List ℕ) → bounds.files ≤ file → RowTells row (λ parts. SaysBounds bounds (row_words parts)) → RowTells row (λ parts. IsNumberOf (row_words parts) number)
+pub file_there : (row : List lines.PartHistory) (bounds : Bounds) (number file at : ℕ) (bytes : List ℕ) → bounds.files ≤ file → RowTells row (λ parts. SaysBounds bounds (row_words parts)) → RowTells row (λ parts. IsNumberOf (row_words parts) number)
     → RowTells row (λ parts. HasPiece (row_words parts) number file at bytes) → RowTells row (λ parts. ⊥)
 file_there row bounds number file at bytes past says is has =
     let Says : List Part → Type 0 = λ parts. SaysBounds bounds (row_words parts) in
@@ -57,7 +57,7 @@ file_there row bounds number file at bytes past says is has =
     (λ parts all. omega (arith, all.0.files, all.1.0.piece.known, all.1.1.file_is))
     (row_tells_both row Says Both says (row_tells_both row Is Has is has))
 
-module _ {X : Type 0} (history : X → History) (told_whole : (x : X) (now : Store) (past : History) → history x ≡ now ∷ past → IsWhole now) (row : List lines.History) (old new : List X) (number file at : ℕ) (bytes : List ℕ) (inside : file < length old) (is : RowTells row (λ parts. IsNumberOf (row_words parts) number)) (has : RowTells row (λ parts. HasPiece (row_words parts) number file at bytes)) where
+module _ {X : Type 0} (history : X → StoreHistory) (told_whole : (x : X) (now : Store) (past : StoreHistory) → history x ≡ now ∷ past → IsWholeStore now) (row : List lines.PartHistory) (old new : List X) (number file at : ℕ) (bytes : List ℕ) (inside : file < length old) (is : RowTells row (λ parts. IsNumberOf (row_words parts) number)) (has : RowTells row (λ parts. HasPiece (row_words parts) number file at bytes)) where
   both_tell : RowTells row (λ parts. IsNumberOf (row_words parts) number × HasPiece (row_words parts) number file at bytes)
   both_tell =
       let Is : List Part → Type 0 = λ parts. IsNumberOf (row_words parts) number in
@@ -94,7 +94,7 @@ module _ {X : Type 0} (history : X → History) (told_whole : (x : X) (now : Sto
 
 -- ---- groups
 
-pub group_tells_number : (row : List lines.History) (group : Group) (number : ℕ) → group.leader ≤ number → number < group.leader + group.count → RowTells row (λ parts. IsGroupOf (row_words parts) group) → RowTells row (λ parts. IsNumberOf (row_words parts) number)
+pub group_tells_number : (row : List lines.PartHistory) (group : Group) (number : ℕ) → group.leader ≤ number → number < group.leader + group.count → RowTells row (λ parts. IsGroupOf (row_words parts) group) → RowTells row (λ parts. IsNumberOf (row_words parts) number)
 group_tells_number row group number low high told =
     row_tells_more row (λ parts. IsGroupOf (row_words parts) group) (λ parts. IsNumberOf (row_words parts) number)
     (λ parts is. number_of (row_words parts) group number low high is) told
@@ -109,7 +109,7 @@ group_begun leader image was =
     ap (λ n. fold (with_entry image) (files_of was) (range_with_len leader n)) (sym none)
 
 -- after all of them
-pub group_all : (parts : List lines.History) (old new : List History) (group : Group) (number : ℕ) → (group.leader + group.count ≤ 2 ^ 60 → number ≡ group.leader + group.count)
+pub group_all : (parts : List lines.PartHistory) (old new : List StoreHistory) (group : Group) (number : ℕ) → (group.leader + group.count ≤ 2 ^ 60 → number ≡ group.leader + group.count)
     → RowTells parts (λ these. IsGroupOf (row_words these) group) → AcrossTells parts old new (GroupSoFar group.leader number)
     → AcrossTells parts old new (λ image was now. files_of now ≡ fold (with_entry image) (files_of was) (range_with_len group.leader group.count))
 group_all parts old new group number at_end told so_far =
@@ -126,7 +126,7 @@ group_all parts old new group number at_end told so_far =
 
 -- ---- all groups
 
-pub groups_tell_group : (row : List lines.History) (groups : List Group) (i : ℕ) (d : Group) → i < length groups → RowTells row (λ parts. AreGroups (row_words parts) groups) → RowTells row (λ parts. IsGroupOf (row_words parts) (get_or groups i d))
+pub groups_tell_group : (row : List lines.PartHistory) (groups : List Group) (i : ℕ) (d : Group) → i < length groups → RowTells row (λ parts. AreGroups (row_words parts) groups) → RowTells row (λ parts. IsGroupOf (row_words parts) (get_or groups i d))
 groups_tell_group row groups i d inside told =
     row_tells_more row (λ parts. AreGroups (row_words parts) groups) (λ parts. IsGroupOf (row_words parts) (get_or groups i d))
     (λ parts are. group_of (row_words parts) groups i d inside are) told
@@ -136,7 +136,7 @@ abbrev pub GroupsSoFar : List Group → ℕ → Image → List Store → List St
 GroupsSoFar groups i image was now = files_of now ≡ fold (with_entry image) (files_of was) (numbers_of (take i groups))
 
 -- after all of them
-pub groups_all : (parts : List lines.History) (old new : List History) (groups : List Group) (i : ℕ) → length groups ≤ i → RowTells parts (λ these. AreGroups (row_words these) groups) → AcrossTells parts old new (GroupsSoFar groups i)
+pub groups_all : (parts : List lines.PartHistory) (old new : List StoreHistory) (groups : List Group) (i : ℕ) → length groups ≤ i → RowTells parts (λ these. AreGroups (row_words these) groups) → AcrossTells parts old new (GroupsSoFar groups i)
     → AcrossTells parts old new (λ image was now. files_of now ≡ (recovered image (files_of was)).files)
 groups_all parts old new groups i over told so_far =
     let Are : List Part → Type 0 = λ these. AreGroups (row_words these) groups in
@@ -157,19 +157,19 @@ groups_all parts old new groups i over told so_far =
 -- ---- each moment
 
 -- one call after another
-pub alike_throughout : (parts : List lines.History) (old between new : List History) → (AllTell old → AllTell between)
+pub alike_throughout : (parts : List lines.PartHistory) (old between new : List StoreHistory) → (AllTell old → AllTell between)
     → AcrossThroughout parts old between StaysAlike → AcrossThroughout parts between new StaysAlike → AcrossThroughout parts old new StaysAlike
 alike_throughout parts old between new tells first second =
     across_throughout parts old between new StaysAlike StaysAlike StaysAlike tells (λ image was now alike. alike) alike_more first second
 
 -- an entry after others
-pub entry_throughout : (parts : List lines.History) (old between new : List History) → (AllTell old → AllTell between)
+pub entry_throughout : (parts : List lines.PartHistory) (old between new : List StoreHistory) → (AllTell old → AllTell between)
     → AcrossThroughout parts old between StaysAlike → ChangesAtMostOne between new → AcrossTells parts between new StaysAlike → AcrossThroughout parts old new StaysAlike
 entry_throughout parts old between new tells first one after =
     alike_throughout parts old between new tells first (across_one parts between new StaysAlike alike_none one after)
 
 -- stores that were quiet recover alike
-pub quiet_alike : (parts : List lines.History) (old new : List History) → RowTells old AreQuietStores → AcrossThroughout parts old new StaysAlike → AcrossThroughout parts old new RecoverAlike
+pub quiet_alike : (parts : List lines.PartHistory) (old new : List StoreHistory) → RowTells old AreQuietStores → AcrossThroughout parts old new StaysAlike → AcrossThroughout parts old new RecoverAlike
 quiet_alike parts old new quiet alike =
     row_tells_more parts (λ these. RowTells old (λ was. ThroughoutRow (StaysAlike (row_words these) was) old new)) (λ these. RowTells old (λ was. ThroughoutRow (RecoverAlike (row_words these) was) old new))
     (λ these told.

@@ -8,7 +8,7 @@ use Rattle.nv_plain.specs.Layouts.{version_1}
 use Rattle.nv_pmem.specs.Moments.{Tells}
 use Rattle.nv_pmem.specs.Part.{Part}
 use Rattle.nv_pmem.specs.Rows.{RowTells, row_words}
-use Rattle.nv_pmem.specs.Steps.{History}
+use Rattle.nv_pmem.specs.Steps.{PartHistory}
 use Rattle.nv_pmem.proofs.RowLaws.{row_tells_more}
 use Rattle.nv_entry.specs.declared.bounds.Bounds.{Bounds}
 use Rattle.nv_entry.specs.Checks.{SaysBounds}
@@ -19,7 +19,7 @@ use Rattle.nv_header.specs.Needs.{header_history}
 use Rattle.nv_header.specs.Regions.{ReadsAs}
 use Rattle.nv_recover.specs.Bounding.{HasBounds}
 
-header_first : (row : List History) → header_history row ≡ slice_index_or row 0 []
+header_first : (row : List PartHistory) → header_history row ≡ slice_index_or row 0 []
 header_first [] = refl
 header_first (history ∷ row) = refl
 
@@ -51,20 +51,20 @@ says_bounds lines head bounds parts has is =
       tail = sym is.tail ∙ has.tail;
     }
 
-told_first : (row : List History) (Q : Part → Type 0) (P : List Part → Type 0) → 1 ≤ length row → ((parts : List Part) → Q (slice_index_or parts 0 []) → P parts) → Tells (header_history row) Q → RowTells row P
+told_first : (row : List PartHistory) (Q : Part → Type 0) (P : List Part → Type 0) → 1 ≤ length row → ((parts : List Part) → Q (slice_index_or parts 0 []) → P parts) → Tells (header_history row) Q → RowTells row P
 told_first row Q P some step told =
-    let At : History → Type 0 = λ history. Tells history Q in
+    let At : PartHistory → Type 0 = λ history. Tells history Q in
     row_tells_more row (λ parts. Q (slice_index_or parts 0 [])) P step
     (row_tells_part row 0 Q (omega arith) (subst At (header_first row) told))
 
 -- The row says what the head does.
-pub row_reads_as : (lines : ℕ) (head : Head) (bounds : Bounds) (row : List History) → HasBounds head bounds → 1 ≤ length row → Tells (header_history row) (λ now. IsHeadOf version_1 lines (header_image now) head)
+pub row_reads_as : (lines : ℕ) (head : Head) (bounds : Bounds) (row : List PartHistory) → HasBounds head bounds → 1 ≤ length row → Tells (header_history row) (λ now. IsHeadOf version_1 lines (header_image now) head)
     → RowTells row (λ parts. ReadsAs version_1 bounds.page bounds.entries head.names bounds.tail (row_words parts))
 row_reads_as lines head bounds row has some told =
     told_first row (λ now. IsHeadOf version_1 lines (header_image now) head) (λ parts. ReadsAs version_1 bounds.page bounds.entries head.names bounds.tail (row_words parts))
     some (λ parts. reads_as lines head bounds parts has) told
 
-pub row_says_bounds : (lines : ℕ) (head : Head) (bounds : Bounds) (row : List History) → HasBounds head bounds → 1 ≤ length row → Tells (header_history row) (λ now. IsHeadOf version_1 lines (header_image now) head)
+pub row_says_bounds : (lines : ℕ) (head : Head) (bounds : Bounds) (row : List PartHistory) → HasBounds head bounds → 1 ≤ length row → Tells (header_history row) (λ now. IsHeadOf version_1 lines (header_image now) head)
     → RowTells row (λ parts. SaysBounds bounds (row_words parts))
 row_says_bounds lines head bounds row has some told =
     told_first row (λ now. IsHeadOf version_1 lines (header_image now) head) (λ parts. SaysBounds bounds (row_words parts)) some

@@ -12,7 +12,7 @@ use Rattle.nv_store.specs.Store.{Store}
 use Rattle.nv_header.specs.Heads.{first_names}
 use Rattle.nv_pmem.specs.RowStates.{AreNow, row_tells_at}
 use Rattle.nv_recover.specs.Changes.{Devices, devices_after_change}
-use Rattle.nv_recover.specs.Interrupted.{HasDoneLog, Start, StartReads, StartFits, files_from, start_of, IsRun, IsStop, AreStops, last_of}
+use Rattle.nv_recover.specs.Interrupted.{HasDoneLog, Start, StartReads, StartFits, files_from, start_of, IsRecoveryRun, IsRecoveryStop, AreStops, last_of}
 use Rattle.nv_recover.specs.Recovering.{StandThroughout}
 use Rattle.nv_recover.specs.Standing.{AreStoreImages, HasEmptiedLog, HasSameLog, StandsFor, StandsStill, ReadsAlike, TakesPlace}
 use Rattle.nv_recover.specs.Telling.{AllTell}
@@ -22,7 +22,7 @@ use Rattle.nv_recover.proofs.Present.{presents}
 use Rattle.nv_recover.proofs.RowMoments.{still_tell}
 
 -- what one stop comes to takes the place of before
-stop_stands : (before after : Start) → IsStop before after → TakesPlace before.image before.bytes after.image after.bytes
+stop_stands : (before after : Start) → IsRecoveryStop before after → TakesPlace before.image before.bytes after.image after.bytes
 stop_stands before after stop =
     let devices = run devices_after_change (take stop.count stop.run_is.steps) stop.old in
     let Stands : List Part → List Store → Type 0 = StandsStill before.image before.bytes in
@@ -31,9 +31,9 @@ stop_stands before after stop =
     after.image after.bytes stop.image stop.bytes
 
 -- the clause of `recover` is a run
-pub promise_is_run : (old new : Devices) (parts : List Part) (stores : List Store) → AreNow old.parts parts → AreNow old.stores stores → StandThroughout old new → IsRun (start_of parts stores) old new
+pub promise_is_run : (old new : Devices) (parts : List Part) (stores : List Store) → AreNow old.parts parts → AreNow old.stores stores → StandThroughout old new → IsRecoveryRun (start_of parts stores) old new
 promise_is_run old new parts stores parts_are stores_are promise =
-    let Runs : List Part → List Store → Type 0 = λ these held. IsRun (start_of these held) old new in
+    let Runs : List Part → List Store → Type 0 = λ these held. IsRecoveryRun (start_of these held) old new in
     row_tells_at old.stores (Runs parts) stores stores_are (row_tells_at old.parts (λ these. RowTells old.stores (Runs these)) parts parts_are promise)
 
 -- and the devices still tell
@@ -46,8 +46,8 @@ promise_keeps_telling old new parts_tell stores_tell promise =
     subst Tell (sym through.did.states) (still_tell through.steps old (parts_tell, stores_tell))
 
 -- after its last change there is one moment more
-pub end_is_stop : (before after : Start) (old new : Devices) (parts : List Part) (stores : List Store) → IsRun before old new → AreNow new.parts parts → AreNow new.stores stores
-    → IsRowImage parts after.image → AreStoreImages stores after.bytes → IsStop before after
+pub end_is_stop : (before after : Start) (old new : Devices) (parts : List Part) (stores : List Store) → IsRecoveryRun before old new → AreNow new.parts parts → AreNow new.stores stores
+    → IsRowImage parts after.image → AreStoreImages stores after.bytes → IsRecoveryStop before after
 end_is_stop before after old new parts stores runs parts_are stores_are image bytes =
     let all : run devices_after_change (take (length runs.steps) runs.steps) old ≡ new =
     ap (λ steps. run devices_after_change steps old) (take_all (length runs.steps) runs.steps (omega arith)) ∙ sym runs.did.states in

@@ -4,11 +4,11 @@ use Rattle.std.proofs.lemmas.Bool.{cases_eq, cases_lt}
 use Rattle.std.proofs.lemmas.List.{get_or_past, get_or-set_same, get_or-set_other, length-map, length-set, map-set}
 use Rattle.nv_plain.specs.Images.{Image}
 use Rattle.nv_plain.specs.Layouts.{version_1}
-use Rattle.nv_pmem.specs.Images.{IsQuiet}
+use Rattle.nv_pmem.specs.Images.{IsQuietPart}
 use Rattle.nv_pmem.specs.Part.{Part}
 use Rattle.nv_pmem.specs.Moments.{Tells, EachMoment}
 use Rattle.nv_pmem.specs.Rows.{RowTells, IsRowImage, InEachRowImage, row_words, AreQuiet}
-use Rattle.nv_pmem.specs.Steps.{History}
+use Rattle.nv_pmem.specs.Steps.{PartHistory}
 use Rattle.nv_pmem.proofs.RowLaws.{row_image_of_now, row_tells_more, row_tells_both}
 use Rattle.nv_header.specs.Regions.{ReadsAs, IsAtRest}
 use Rattle.nv_pmem.specs.RowStates.{row_tells_at, row_tells_from}
@@ -29,19 +29,19 @@ record IsFirst (R : Part → Part → Type 0) (i : ℕ) (was now : Part) : Type 
   header : i ≡ 0 → R was now
   others : i ≢ 0 → now ≡ was
 
-first_rows : (R : Part → Part → Type 0) (count : ℕ) (row : List History) (history : History) → length row ≡ count → 1 ≤ count → BothTell (slice_index_or row 0 []) history R → RowsTell row (slice_set row 0 history) (EachPair (IsFirst R) count)
+first_rows : (R : Part → Part → Type 0) (count : ℕ) (row : List PartHistory) (history : PartHistory) → length row ≡ count → 1 ≤ count → BothTell (slice_index_or row 0 []) history R → RowsTell row (slice_set row 0 history) (EachPair (IsFirst R) count)
 first_rows R count row history long some told =
     let new = slice_set row 0 history in
     rows_each row new (IsFirst R) count long (omega (arith, length-set row 0 history)) (λ i below. elim (cases_eq i 0) [
       | inl first ↦
-          let Old : History → Type 0 = λ these. BothTell these history R in
-          let New : History → Type 0 = λ these. BothTell (slice_index_or row i []) these (IsFirst R i) in
+          let Old : PartHistory → Type 0 = λ these. BothTell these history R in
+          let New : PartHistory → Type 0 = λ these. BothTell (slice_index_or row i []) these (IsFirst R i) in
           subst New (sym (ap (λ k. slice_index_or new k []) first ∙ get_or-set_same row 0 history [] (omega arith)))
           (both_more (slice_index_or row i []) history R (IsFirst R i) (λ was now here. record { header = λ _. here; others = λ other. absurd (other first) })
           (subst Old (ap (λ k. slice_index_or row k []) (sym first)) told))
       | inr other ↦
           let was = slice_index_or row i [] in
-          let New : History → Type 0 = λ these. BothTell was these (IsFirst R i) in
+          let New : PartHistory → Type 0 = λ these. BothTell was these (IsFirst R i) in
           subst New (sym (get_or-set_other row 0 i history [] other))
           (both_more was was (λ before now. now ≡ before) (IsFirst R i) (λ before now is. record { header = λ zero. absurd (other zero); others = λ _. is }) (both_itself was))
     ])
@@ -96,10 +96,10 @@ at_rest page entries names tail next count was now some low small can pairs =
     record {
       quiet = record {
         each = λ i.
-            let Quiet : Part → Type 0 = IsQuiet in
+            let Quiet : Part → Type 0 = IsQuietPart in
             elim (cases_eq i 0) [
               | inl first ↦
-                  let At : ℕ → Type 0 = λ k. IsQuiet (slice_index_or now k []) in
+                  let At : ℕ → Type 0 = λ k. IsQuietPart (slice_index_or now k []) in
                   subst At (sym first) (header.1 (can.quiet.each 0)).0
               | inr other ↦ subst Quiet (sym (other_same (IsTailMoved next) count was now pairs i other)) (can.quiet.each i)
             ];
@@ -112,7 +112,7 @@ at_rest page entries names tail next count was now some low small can pairs =
 
 -- ---- what the devices tell
 
-rows_can : (page entries : ℕ) (names : List (List ℕ)) (tail next : ℕ) (row : List History) → RowTells row AreQuiet → RowTells row (λ was. HasNoneAbove (row_words was)) → RowTells row (λ was. CommitsNoneFrom next (row_words was))
+rows_can : (page entries : ℕ) (names : List (List ℕ)) (tail next : ℕ) (row : List PartHistory) → RowTells row AreQuiet → RowTells row (λ was. HasNoneAbove (row_words was)) → RowTells row (λ was. CommitsNoneFrom next (row_words was))
     → RowTells row (λ was. ReadsAs version_1 page entries names tail (row_words was)) → RowTells row (CanMove page entries names tail next)
 rows_can page entries names tail next row quiet above none reads =
     let Above : List Part → Type 0 = λ was. HasNoneAbove (row_words was) in
@@ -123,7 +123,7 @@ rows_can page entries names tail next row quiet above none reads =
     (row_tells_both row (λ was. AreQuiet was × Above was) (λ was. None was × Reads was)
     (row_tells_both row AreQuiet Above quiet above) (row_tells_both row None Reads none reads))
 
-moved_row : (page entries : ℕ) (names : List (List ℕ)) (tail next : ℕ) (row : List History) (header : History) → 1 ≤ length row → tail ≤ next → next ≤ 2 ^ 60
+moved_row : (page entries : ℕ) (names : List (List ℕ)) (tail next : ℕ) (row : List PartHistory) (header : PartHistory) → 1 ≤ length row → tail ≤ next → next ≤ 2 ^ 60
     → RowTells row (CanMove page entries names tail next) → BothTell (slice_index_or row 0 []) header (MayBeMoved next)
     → RowsTell row (slice_set row 0 header) (λ was. InEachRowImage (SaysTheSameOrEmpty page entries names next (row_words was)))
 moved_row page entries names tail next row header some low small can moved =
@@ -134,12 +134,12 @@ moved_row page entries names tail next row header some low small can moved =
     can (first_rows (MayBeMoved next) count row header refl (omega arith) moved)
 
 -- While the tail moves, each image says the same as before, or has an empty log.
-pub moving_throughout : {X : Type 0} (history : X → History) (page entries : ℕ) (names : List (List ℕ)) (tail next : ℕ) (parts : List X) (was new d : X) → 1 ≤ length parts → was ≡ get_or parts 0 d → tail ≤ next → next ≤ 2 ^ 60
+pub moving_throughout : {X : Type 0} (history : X → PartHistory) (page entries : ℕ) (names : List (List ℕ)) (tail next : ℕ) (parts : List X) (was new d : X) → 1 ≤ length parts → was ≡ get_or parts 0 d → tail ≤ next → next ≤ 2 ^ 60
     → RowTells (map history parts) (CanMove page entries names tail next) → Tells (history was) (λ before. EachMoment (MayBeMoved next before) (history was) (history new))
     → RowTells (map history parts) (λ these. ThroughoutRow (InEachRowImage (SaysTheSameOrEmpty page entries names next (row_words these))) (map history parts) (map history (slice_set parts 0 new)))
 moving_throughout history page entries names tail next parts was new d some is low small can moments =
-    let row : List History = map history parts in
-    let after : List History = map history (slice_set parts 0 new) in
+    let row : List PartHistory = map history parts in
+    let after : List PartHistory = map history (slice_set parts 0 new) in
     let Says : List Part → List Part → Type 0 = λ these. InEachRowImage (SaysTheSameOrEmpty page entries names next (row_words these)) in
     row_tells_from row (λ these. ThroughoutRow (Says these) row after)
     (λ these are.
@@ -149,18 +149,18 @@ moving_throughout history page entries names tail next parts was new d some is l
     (moved_row page entries names tail next row header (omega (arith, length-map parts history)) low small can moved))
     moments)
 
-pub rest_rows : {X : Type 0} (history : X → History) (page entries : ℕ) (names : List (List ℕ)) (tail next : ℕ) (parts : List X) (was new d : X) → 1 ≤ length parts → was ≡ get_or parts 0 d → tail ≤ next → next ≤ 2 ^ 60
+pub rest_rows : {X : Type 0} (history : X → PartHistory) (page entries : ℕ) (names : List (List ℕ)) (tail next : ℕ) (parts : List X) (was new d : X) → 1 ≤ length parts → was ≡ get_or parts 0 d → tail ≤ next → next ≤ 2 ^ 60
     → (AllTell (map history (slice_set parts 0 new)) → AllTell (map history parts))
     → RowTells (map history parts) (CanMove page entries names tail next) → BothTell (history was) (history new) (MayBeMoved next) → BothTell (history was) (history new) (HasTail next)
     → RowTells (map history (slice_set parts 0 new)) (IsAtRest version_1 page entries names next)
 rest_rows history page entries names tail next parts was new d some is low small back can moved settled =
-    let row : List History = map history parts in
+    let row : List PartHistory = map history parts in
     let count = length row in
     let long = length-map parts history in
     let after = slice_set row 0 (history new) in
-    let From : History → Type 0 = λ these. BothTell these (history new) (IsTailMoved next) in
-    let Back : List History → Type 0 = λ these. AllTell these → AllTell row in
-    let To : List History → Type 0 = λ these. RowTells these (IsAtRest version_1 page entries names next) in
+    let From : PartHistory → Type 0 = λ these. BothTell these (history new) (IsTailMoved next) in
+    let Back : List PartHistory → Type 0 = λ these. AllTell these → AllTell row in
+    let To : List PartHistory → Type 0 = λ these. RowTells these (IsAtRest version_1 page entries names next) in
     subst To (sym (map-set history parts 0 new))
     (rows_new row after (IsAtRest version_1 page entries names next) (subst Back (map-set history parts 0 new) back)
     (rows_more row after (CanMove page entries names tail next) (EachPair (IsFirst (IsTailMoved next)) count) (λ before now. IsAtRest version_1 page entries names next now)
@@ -171,7 +171,7 @@ rest_rows history page entries names tail next parts was new d some is low small
 
 -- ---- after parts that say the same of the log
 
-same_now : (old new : List History) → RowsTell old new (λ was. InEachRowImage (SayTheSame (row_words was))) → RowsTell old new (λ was now. SayTheSame (row_words was) (row_words now))
+same_now : (old new : List PartHistory) → RowsTell old new (λ was. InEachRowImage (SayTheSame (row_words was))) → RowsTell old new (λ was now. SayTheSame (row_words was) (row_words now))
 same_now old new same =
     row_tells_more old (λ was. RowTells new (InEachRowImage (SayTheSame (row_words was)))) (λ was. RowTells new (λ now. SayTheSame (row_words was) (row_words now)))
     (λ was. row_tells_more new (InEachRowImage (SayTheSame (row_words was))) (λ now. SayTheSame (row_words was) (row_words now))
@@ -179,24 +179,24 @@ same_now old new same =
     same
 
 -- what an image says of the log, rows say that say the same
-carried : (P : Image → Type 0) (old new : List History) → ((was now : Image) → SayTheSame was now → P was → P now) → (AllTell new → AllTell old) → RowsTell old new (λ was. InEachRowImage (SayTheSame (row_words was)))
+carried : (P : Image → Type 0) (old new : List PartHistory) → ((was now : Image) → SayTheSame was now → P was → P now) → (AllTell new → AllTell old) → RowsTell old new (λ was. InEachRowImage (SayTheSame (row_words was)))
     → RowTells old (λ was. P (row_words was)) → RowTells new (λ now. P (row_words now))
 carried P old new step back same told =
     rows_new old new (λ now. P (row_words now)) back
     (rows_more old new (λ was. P (row_words was)) (λ was now. SayTheSame (row_words was) (row_words now)) (λ was now. P (row_words now))
     (λ was now has says. step (row_words was) (row_words now) says has) told (same_now old new same))
 
-none_carried : (next : ℕ) (old new : List History) → (AllTell new → AllTell old) → RowsTell old new (λ was. InEachRowImage (SayTheSame (row_words was))) → RowTells old (λ was. CommitsNoneFrom next (row_words was)) → RowTells new (λ now. CommitsNoneFrom next (row_words now))
+none_carried : (next : ℕ) (old new : List PartHistory) → (AllTell new → AllTell old) → RowsTell old new (λ was. InEachRowImage (SayTheSame (row_words was))) → RowTells old (λ was. CommitsNoneFrom next (row_words was)) → RowTells new (λ now. CommitsNoneFrom next (row_words now))
 none_carried next old new back same told =
     carried (CommitsNoneFrom next) old new (λ was now says. none_too was now next says) back same told
 
-reads_carried : (page entries : ℕ) (names : List (List ℕ)) (tail : ℕ) (old new : List History) → (AllTell new → AllTell old) → RowsTell old new (λ was. InEachRowImage (SayTheSame (row_words was)))
+reads_carried : (page entries : ℕ) (names : List (List ℕ)) (tail : ℕ) (old new : List PartHistory) → (AllTell new → AllTell old) → RowsTell old new (λ was. InEachRowImage (SayTheSame (row_words was)))
     → RowTells old (λ was. ReadsAs version_1 page entries names tail (row_words was)) → RowTells new (λ now. ReadsAs version_1 page entries names tail (row_words now))
 reads_carried page entries names tail old new back same told =
     carried (ReadsAs version_1 page entries names tail) old new (λ was now says. reads_too page entries names tail was now says.header) back same told
 
 -- Images that say the same, and then images that do or have an empty log.
-pub same_then : (page entries : ℕ) (names : List (List ℕ)) (next : ℕ) (old between new : List History) → (AllTell old → AllTell between)
+pub same_then : (page entries : ℕ) (names : List (List ℕ)) (next : ℕ) (old between new : List PartHistory) → (AllTell old → AllTell between)
     → RowTells old (λ was. ThroughoutRow (InEachRowImage (SayTheSame (row_words was))) old between)
     → RowTells between (λ was. ThroughoutRow (InEachRowImage (SaysTheSameOrEmpty page entries names next (row_words was))) between new)
     → RowTells old (λ was. ThroughoutRow (InEachRowImage (SaysTheSameOrEmpty page entries names next (row_words was))) old new)
@@ -210,7 +210,7 @@ same_then page entries names next old between new on same later =
     ])
     same later
 
-pub same_alone : (page entries : ℕ) (names : List (List ℕ)) (next : ℕ) (old new : List History) → RowTells old (λ was. ThroughoutRow (InEachRowImage (SayTheSame (row_words was))) old new)
+pub same_alone : (page entries : ℕ) (names : List (List ℕ)) (next : ℕ) (old new : List PartHistory) → RowTells old (λ was. ThroughoutRow (InEachRowImage (SayTheSame (row_words was))) old new)
     → RowTells old (λ was. ThroughoutRow (InEachRowImage (SaysTheSameOrEmpty page entries names next (row_words was))) old new)
 same_alone page entries names next old new same =
     let Same : List Part → List Part → Type 0 = λ was. InEachRowImage (SayTheSame (row_words was)) in
@@ -220,7 +220,7 @@ same_alone page entries names next old new same =
     same
 
 -- a row whose words are cleared can have its tail moved
-pub can_after : (page entries : ℕ) (names : List (List ℕ)) (tail next : ℕ) (old new : List History) → (AllTell new → AllTell old) → RowsTell old new (λ was. InEachRowImage (SayTheSame (row_words was)))
+pub can_after : (page entries : ℕ) (names : List (List ℕ)) (tail next : ℕ) (old new : List PartHistory) → (AllTell new → AllTell old) → RowsTell old new (λ was. InEachRowImage (SayTheSame (row_words was)))
     → RowTells new AreQuiet → RowTells new (λ now. HasNoneAbove (row_words now)) → RowTells old (λ was. CommitsNoneFrom next (row_words was)) → RowTells old (λ was. ReadsAs version_1 page entries names tail (row_words was))
     → RowTells new (CanMove page entries names tail next)
 can_after page entries names tail next old new back same quiet above none reads =

@@ -9,7 +9,7 @@ use Rattle.nv_pmem.specs.Runs.{run, grown}
 use Rattle.nv_pmem.specs.Steps as lines
 use Rattle.nv_pmem.proofs.RowLaws.{row_tells_more, row_tells_both}
 use Rattle.nv_pmem.proofs.StepLaws.{tells_more}
-use Rattle.nv_store.specs.Steps.{History}
+use Rattle.nv_store.specs.Steps.{StoreHistory}
 use Rattle.nv_store.specs.Store.{Store}
 use Rattle.nv_pmem.specs.RowStates.{row_tells_at, row_tells_from, tells_at, tells_from}
 use Rattle.nv_recover.specs.Applying.{AcrossTells, AcrossThroughout, ChangesAtMostOne}
@@ -101,9 +101,9 @@ device_throughout {S = S} history parts i was new d R P inside at tell each mome
     (tells_at (slice_index_or row i []) (λ before. EachMoment (R before) (slice_index_or row i []) (history new)) here.state here.is (subst At is moments)))
 
 -- one change at most
-pub one_throughout : (P : List Store → Type 0) (old new : List History) → ChangesAtMostOne old new → RowTells old P → RowTells new P → ThroughoutRow P old new
+pub one_throughout : (P : List Store → Type 0) (old new : List StoreHistory) → ChangesAtMostOne old new → RowTells old P → RowTells new P → ThroughoutRow P old new
 one_throughout P old new (inl same) before after =
-    let Through : List History → Type 0 = λ row. ThroughoutRow P old row in
+    let Through : List StoreHistory → Type 0 = λ row. ThroughoutRow P old row in
     subst Through (sym same) (throughout_none (λ row. RowTells row P) old before)
 one_throughout P old new (inr one) before after = throughout_one (λ row. RowTells row P) one.0 old new one.1 before after
 
@@ -115,7 +115,7 @@ rows_last old new R through =
     row_tells_more old (λ was. ThroughoutRow (R was) old new) (λ was. RowTells new (R was))
     (λ was here. throughout_last (λ row. RowTells row (R was)) here) through
 
-pub across_last : (parts : List lines.History) (old new : List History) (R : Image → List Store → List Store → Type 0) → AcrossThroughout parts old new R → AcrossTells parts old new R
+pub across_last : (parts : List lines.PartHistory) (old new : List StoreHistory) (R : Image → List Store → List Store → Type 0) → AcrossThroughout parts old new R → AcrossTells parts old new R
 across_last parts old new R through =
     row_tells_more parts (λ these. RowTells old (λ was. ThroughoutRow (R (row_words these) was) old new)) (λ these. RowTells old (λ was. RowTells new (R (row_words these) was)))
     (λ these here. rows_last old new (R (row_words these)) here) through
@@ -125,7 +125,7 @@ pub rows_still : {S : Type 0} (row : List (List S)) (R : List S → List S → T
 rows_still row R here =
     row_tells_more row (λ was. RowTells row (R was)) (λ was. ThroughoutRow (R was) row row) (λ was at. throughout_none (λ these. RowTells these (R was)) row at) here
 
-pub across_still : (parts : List lines.History) (row : List History) (R : Image → List Store → List Store → Type 0) → AcrossTells parts row row R → AcrossThroughout parts row row R
+pub across_still : (parts : List lines.PartHistory) (row : List StoreHistory) (R : Image → List Store → List Store → Type 0) → AcrossTells parts row row R → AcrossThroughout parts row row R
 across_still parts row R here =
     row_tells_more parts (λ these. RowTells row (λ was. RowTells row (R (row_words these) was))) (λ these. RowTells row (λ was. ThroughoutRow (R (row_words these) was) row row))
     (λ these at. rows_still row (R (row_words these)) at) here
@@ -146,18 +146,18 @@ rows_throughout {S} old between new A B C tells front step first second =
     (row_tells_at between (λ then. ThroughoutRow (B then) between new) mid.states mid.are second)))
 
 -- one change more
-pub rows_one_more : (old between new : List History) (R : List Store → List Store → Type 0) → RowTells old (λ was. ThroughoutRow (R was) old between) → ChangesAtMostOne between new → RowsTell old new R
+pub rows_one_more : (old between new : List StoreHistory) (R : List Store → List Store → Type 0) → RowTells old (λ was. ThroughoutRow (R was) old between) → ChangesAtMostOne between new → RowsTell old new R
     → RowTells old (λ was. ThroughoutRow (R was) old new)
 rows_one_more old between new R through one after =
     let Before : List Store → Type 0 = λ was. ThroughoutRow (R was) old between in
     let After : List Store → Type 0 = λ was. RowTells new (R was) in
     row_tells_more old (λ was. Before was × After was) (λ was. ThroughoutRow (R was) old new)
     (λ was both.
-    let At : List History → Type 0 = λ row. RowTells row (R was) in
+    let At : List StoreHistory → Type 0 = λ row. RowTells row (R was) in
     throughout_then At both.0 (one_throughout (R was) between new one (throughout_last At both.0) both.1))
     (row_tells_both old Before After through after)
 
-pub across_throughout : (parts : List lines.History) (old between new : List History) (A B C : Image → List Store → List Store → Type 0) → (AllTell old → AllTell between)
+pub across_throughout : (parts : List lines.PartHistory) (old between new : List StoreHistory) (A B C : Image → List Store → List Store → Type 0) → (AllTell old → AllTell between)
     → ((image : Image) (was now : List Store) → A image was now → C image was now) → ((image : Image) (was then now : List Store) → A image was then → B image then now → C image was now)
     → AcrossThroughout parts old between A → RowTells parts (λ these. RowTells between (λ then. ThroughoutRow (B (row_words these) then) between new)) → AcrossThroughout parts old new C
 across_throughout parts old between new A B C tells front step first second =
@@ -169,7 +169,7 @@ across_throughout parts old between new A B C tells front step first second =
     (row_tells_at parts (λ these. RowTells between (λ then. ThroughoutRow (B (row_words these) then) between new)) these are second))
 
 -- one change at most, by what holds before it and after it
-pub across_one : (parts : List lines.History) (old new : List History) (R : Image → List Store → List Store → Type 0) → ((image : Image) (was : List Store) → R image was was)
+pub across_one : (parts : List lines.PartHistory) (old new : List StoreHistory) (R : Image → List Store → List Store → Type 0) → ((image : Image) (was : List Store) → R image was was)
     → ChangesAtMostOne old new → AcrossTells parts old new R → AcrossThroughout parts old new R
 across_one parts old new R none one after =
     row_tells_from parts (λ these. RowTells old (λ was. ThroughoutRow (R (row_words these) was) old new))

@@ -10,8 +10,8 @@ use Rattle.nv_pmem.specs.Rows.{RowTells, InEachRowImage, IsRowImage, row_words, 
 use Rattle.nv_pmem.specs.Steps as lines
 use Rattle.nv_pmem.proofs.ImageLaws.{quiet_image as quiet_line}
 use Rattle.nv_pmem.proofs.RowLaws.{row_tells_any, row_tells_more, row_tells_both}
-use Rattle.nv_store.specs.Steps.{History, Sync, after_step}
-use Rattle.nv_store.specs.Store.{Store, IsQuiet}
+use Rattle.nv_store.specs.Steps.{StoreHistory, Sync, after_store_step}
+use Rattle.nv_store.specs.Store.{Store, IsQuietStore}
 use Rattle.nv_store.proofs.StoreLaws.{quiet_is_quiet}
 use Rattle.nv_entry.specs.declared.bounds.Bounds.{Bounds}
 use Rattle.nv_entry.specs.Checks.{SaysBounds}
@@ -114,30 +114,30 @@ module _ (page entries : ℕ) (names : List (List ℕ)) (tail : ℕ) where
 -- ---- rows
 
 -- stores that nothing was done to recover alike
-pub alike_still : (parts : List lines.History) (row : List History) → RowTells row AreQuietStores → AcrossThroughout parts row row RecoverAlike
+pub alike_still : (parts : List lines.PartHistory) (row : List StoreHistory) → RowTells row AreQuietStores → AcrossThroughout parts row row RecoverAlike
 alike_still parts row quiet = quiet_alike parts row row quiet (across_still parts row StaysAlike (unwritten parts row StaysAlike alike_none))
 
 -- where the stores are synced after that
-pub alike_synced : (parts : List lines.History) (old between new : List History) → (AllTell old → AllTell between) → AcrossThroughout parts old between RecoverAlike
+pub alike_synced : (parts : List lines.PartHistory) (old between new : List StoreHistory) → (AllTell old → AllTell between) → AcrossThroughout parts old between RecoverAlike
     → RowTells between (λ was. ThroughoutRow (LeaveNoMore was) between new) → AcrossThroughout parts old new RecoverAlike
 alike_synced parts old between new tells alike moments =
     across_throughout parts old between new RecoverAlike (λ image. LeaveNoMore) RecoverAlike tells (λ image was now like. like)
     (λ image was then now like less bytes are. like bytes (less bytes are)) alike
     (row_tells_any parts (λ these. RowTells between (λ was. ThroughoutRow (LeaveNoMore was) between new)) (λ these. moments))
 
-quiet_synced : (stores : List Store) → AreQuietStores (map (after_step Sync) stores)
+quiet_synced : (stores : List Store) → AreQuietStores (map (after_store_step Sync) stores)
 quiet_synced stores i d inside =
     let store = slice_index_or stores i d in
-    let below : i < length stores = omega (arith, length-map stores (after_step Sync)) in
-    subst IsQuiet (sym (get_or-map (after_step Sync) stores i d d below)) (quiet_is_quiet store.seen)
+    let below : i < length stores = omega (arith, length-map stores (after_store_step Sync)) in
+    subst IsQuietStore (sym (get_or-map (after_store_step Sync) stores i d d below)) (quiet_is_quiet store.seen)
 
-pub hold_synced : (parts : List lines.History) (old between new : List History) → (AllTell old → AllTell between)
+pub hold_synced : (parts : List lines.PartHistory) (old between new : List StoreHistory) → (AllTell old → AllTell between)
     → AcrossTells parts old between (λ image was now. files_of now ≡ (recovered image (files_of was)).files)
-    → RowTells between (λ was. RowTells new (λ now. now ≡ map (after_step Sync) was)) → RowTells between (λ was. RowTells new (λ now. files_of now ≡ files_of was))
+    → RowTells between (λ was. RowTells new (λ now. now ≡ map (after_store_step Sync) was)) → RowTells between (λ was. RowTells new (λ now. files_of now ≡ files_of was))
     → AcrossTells parts old new HoldRecovered
 hold_synced parts old between new tells written synced seen =
     let Wrote : Image → List Store → List Store → Type 0 = λ image was now. files_of now ≡ (recovered image (files_of was)).files in
-    let Synced : List Store → List Store → Type 0 = λ was now. now ≡ map (after_step Sync) was in
+    let Synced : List Store → List Store → Type 0 = λ was now. now ≡ map (after_store_step Sync) was in
     let Seen : List Store → List Store → Type 0 = λ was now. files_of now ≡ files_of was in
     let Both : List Store → List Store → Type 0 = λ was now. Synced was now × Seen was now in
     across_tells parts old between new Wrote (λ image. Both) HoldRecovered tells
@@ -152,11 +152,11 @@ hold_synced parts old between new tells written synced seen =
 -- ---- each moment
 
 -- the devices of two rows of histories
-abbrev pub both_rows : List lines.History → List History → Devices
+abbrev pub both_rows : List lines.PartHistory → List StoreHistory → Devices
 both_rows parts stores = record { parts = parts; stores = stores }
 
 -- while the stores are written, and the parts only read
-module _ (page entries : ℕ) (names : List (List ℕ)) (tail : ℕ) (parts : List lines.History) (reads : RowTells parts (λ these. ReadsAs version_1 page entries names tail (row_words these))) (quiet : RowTells parts AreQuiet) (old new : List History) (alike : AcrossThroughout parts old new RecoverAlike) where
+module _ (page entries : ℕ) (names : List (List ℕ)) (tail : ℕ) (parts : List lines.PartHistory) (reads : RowTells parts (λ these. ReadsAs version_1 page entries names tail (row_words these))) (quiet : RowTells parts AreQuiet) (old new : List StoreHistory) (alike : AcrossThroughout parts old new RecoverAlike) where
   stands_written : (these : List Part) (was : List Store) → AreNow parts these → AreNow old was → ThroughoutDevices (StandsStill (row_words these) (files_of was)) (both_rows parts old) (both_rows parts new)
   stands_written these was are were =
       let image = row_words these in
@@ -180,7 +180,7 @@ module _ (page entries : ℕ) (names : List (List ℕ)) (tail : ℕ) (parts : Li
       (λ was were. stands_written these was are were))
 
   -- and then the log is emptied, and the stores stay
-  pub stand_emptied : (next : ℕ) (parts_now : List lines.History) → RowTells parts (λ these. (stores : Files) → next ≡ (recovered (row_words these) stores).next)
+  pub stand_emptied : (next : ℕ) (parts_now : List lines.PartHistory) → RowTells parts (λ these. (stores : Files) → next ≡ (recovered (row_words these) stores).next)
       → RowTells parts (λ was. ThroughoutRow (InEachRowImage (SaysTheSameOrEmpty page entries names next (row_words was))) parts parts_now)
       → AcrossTells parts old new HoldRecovered → StandThroughout (both_rows parts old) (both_rows parts_now new)
   stand_emptied next parts_now goes_on says hold =
@@ -213,26 +213,26 @@ module _ (page entries : ℕ) (names : List (List ℕ)) (tail : ℕ) (parts : Li
 -- ---- in the rows that calls leave, which were read
 
 -- while the stores are written
-pub stand_on : (page entries : ℕ) (names : List (List ℕ)) (tail : ℕ) (first read then : List lines.History) (old new : List History) → read ≡ first → then ≡ read
+pub stand_on : (page entries : ℕ) (names : List (List ℕ)) (tail : ℕ) (first read then : List lines.PartHistory) (old new : List StoreHistory) → read ≡ first → then ≡ read
     → RowTells first (λ these. ReadsAs version_1 page entries names tail (row_words these)) → RowTells first AreQuiet
     → AcrossThroughout read old new RecoverAlike → StandThroughout (both_rows first old) (both_rows then new)
 stand_on page entries names tail first read then old new one two reads quiet alike =
-    let At : List lines.History → Type 0 = λ row. StandThroughout (both_rows first old) (both_rows row new) in
-    let Alike : List lines.History → Type 0 = λ row. AcrossThroughout row old new RecoverAlike in
+    let At : List lines.PartHistory → Type 0 = λ row. StandThroughout (both_rows first old) (both_rows row new) in
+    let Alike : List lines.PartHistory → Type 0 = λ row. AcrossThroughout row old new RecoverAlike in
     subst At (sym (two ∙ one)) (stand_read page entries names tail first reads quiet old new (subst Alike one alike))
 
 -- and then the log is emptied
-pub stand_last : (page entries : ℕ) (names : List (List ℕ)) (tail : ℕ) (first read then last : List lines.History) (old new : List History) (found : Recovered) → read ≡ first → then ≡ read
+pub stand_last : (page entries : ℕ) (names : List (List ℕ)) (tail : ℕ) (first read then last : List lines.PartHistory) (old new : List StoreHistory) (found : Recovered) → read ≡ first → then ≡ read
     → RowTells first (λ these. ReadsAs version_1 page entries names tail (row_words these)) → RowTells first AreQuiet
     → AcrossThroughout read old new RecoverAlike → AcrossTells read old new HoldRecovered → RowTells first (λ these. HasFoundAll (row_words these) found)
     → ((these : List (List ℕ)) → RowTells then (λ was. ReadsAs version_1 page entries these tail (row_words was))
     → RowTells then (λ was. ThroughoutRow (InEachRowImage (SaysTheSameOrEmpty page entries these found.next (row_words was))) then last))
     → StandThroughout (both_rows first old) (both_rows last new)
 stand_last page entries names tail first read then last old new found one two reads quiet alike hold found_all says =
-    let Alike : List lines.History → Type 0 = λ row. AcrossThroughout row old new RecoverAlike in
-    let Hold : List lines.History → Type 0 = λ row. AcrossTells row old new HoldRecovered in
-    let Reads : List lines.History → Type 0 = λ row. RowTells row (λ these. ReadsAs version_1 page entries names tail (row_words these)) in
-    let Says : List lines.History → Type 0 = λ row.
+    let Alike : List lines.PartHistory → Type 0 = λ row. AcrossThroughout row old new RecoverAlike in
+    let Hold : List lines.PartHistory → Type 0 = λ row. AcrossTells row old new HoldRecovered in
+    let Reads : List lines.PartHistory → Type 0 = λ row. RowTells row (λ these. ReadsAs version_1 page entries names tail (row_words these)) in
+    let Says : List lines.PartHistory → Type 0 = λ row.
     RowTells row (λ was. ThroughoutRow (InEachRowImage (SaysTheSameOrEmpty page entries names found.next (row_words was))) row last) in
     stand_emptied page entries names tail first reads quiet old new (subst Alike one alike) found.next last
     (row_tells_more first (λ these. HasFoundAll (row_words these) found) (λ these. (stores : Files) → found.next ≡ (recovered (row_words these) stores).next) (λ these all. all.next) found_all)
@@ -241,20 +241,20 @@ stand_last page entries names tail first read then last old new found one two re
 -- ---- an image that doesn't fit
 
 -- nothing was written
-pub unfit_read : (parts now : List lines.History) (stores : List History) → now ≡ parts → UnfitIsUnwritten (both_rows parts stores) (both_rows now stores)
+pub unfit_read : (parts now : List lines.PartHistory) (stores : List StoreHistory) → now ≡ parts → UnfitIsUnwritten (both_rows parts stores) (both_rows now stores)
 unfit_read parts now stores same =
     row_tells_any parts (λ these. ¬ Fits version_1 (row_words these) → both_rows now stores ≡ both_rows parts stores)
     (λ these unfit. ap (λ row. both_rows row stores) same)
 
 -- none was found to fit
-pub unfit_found : (parts : List lines.History) (stores : List History) (groups : List Group) (new : Devices) → RowTells parts (λ these. AreGroups (row_words these) groups) → UnfitIsUnwritten (both_rows parts stores) new
+pub unfit_found : (parts : List lines.PartHistory) (stores : List StoreHistory) (groups : List Group) (new : Devices) → RowTells parts (λ these. AreGroups (row_words these) groups) → UnfitIsUnwritten (both_rows parts stores) new
 unfit_found parts stores groups new found =
     row_tells_more parts (λ these. AreGroups (row_words these) groups) (λ these. ¬ Fits version_1 (row_words these) → new ≡ both_rows parts stores)
     (λ these are unfit. absurd (unfit are.fits)) found
 
 -- ---- what was found
 
-module _ (row : List lines.History) (bounds : Bounds) (groups : List Group) (says : RowTells row (λ parts. SaysBounds bounds (row_words parts))) (are : RowTells row (λ parts. AreGroups (row_words parts) groups)) where
+module _ (row : List lines.PartHistory) (bounds : Bounds) (groups : List Group) (says : RowTells row (λ parts. SaysBounds bounds (row_words parts))) (are : RowTells row (λ parts. AreGroups (row_words parts) groups)) where
   both : RowTells row (λ parts. SaysBounds bounds (row_words parts) × AreGroups (row_words parts) groups)
   both =
       let Says : List Part → Type 0 = λ parts. SaysBounds bounds (row_words parts) in

@@ -6,7 +6,7 @@ use Rattle.nv_pmem.specs.Runs.{run, Ran}
 use Rattle.nv_pmem.specs.Steps as lines
 use Rattle.nv_pmem.proofs.RowLaws.{row_tells_more}
 use Rattle.nv_pmem.proofs.StepLaws.{did_none, did_did, did_one, Always, always_last, always_front, always_by_fronts, always_append}
-use Rattle.nv_store.specs.Steps.{History}
+use Rattle.nv_store.specs.Steps.{StoreHistory}
 use Rattle.nv_store.specs.Store.{Store}
 use Rattle.nv_recover.specs.Changes.{Throughout, row_after_change, ThroughoutRow, DevicesTell, devices_after_change, ThroughoutDevices}
 use Rattle.nv_recover.specs.Changes.DeviceChange.{OfParts, OfStores}
@@ -74,16 +74,16 @@ row_throughout_more P Q step through =
     throughout_more (λ row. RowTells row P) (λ row. RowTells row Q) (λ row. row_tells_more row P Q step) through
 
 -- what holds throughout a call on the stores, of the parts as they stay
-pub stores_throughout : (parts : List lines.History) (P : List Store → Type 0) (Q : List Part → List Store → Type 0) {old new : List History}
-    → ((row : List History) → RowTells row P → RowTells parts (λ states. RowTells row (Q states)))
+pub stores_throughout : (parts : List lines.PartHistory) (P : List Store → Type 0) (Q : List Part → List Store → Type 0) {old new : List StoreHistory}
+    → ((row : List StoreHistory) → RowTells row P → RowTells parts (λ states. RowTells row (Q states)))
     → ThroughoutRow P old new → ThroughoutDevices Q (record { parts = parts; stores = old }) (record { parts = parts; stores = new })
 stores_throughout parts P Q step through =
     throughout_as row_after_change devices_after_change OfStores (λ row. record { parts = parts; stores = row }) (λ change row. refl)
     (λ row. RowTells row P) (λ devices. DevicesTell devices Q) step through
 
 -- and on the parts
-pub parts_throughout : (stores : List History) (P : List Part → Type 0) (Q : List Part → List Store → Type 0) {old new : List lines.History}
-    → ((row : List lines.History) → RowTells row P → RowTells row (λ states. RowTells stores (Q states)))
+pub parts_throughout : (stores : List StoreHistory) (P : List Part → Type 0) (Q : List Part → List Store → Type 0) {old new : List lines.PartHistory}
+    → ((row : List lines.PartHistory) → RowTells row P → RowTells row (λ states. RowTells stores (Q states)))
     → ThroughoutRow P old new → ThroughoutDevices Q (record { parts = old; stores = stores }) (record { parts = new; stores = stores })
 parts_throughout stores P Q step through =
     throughout_as row_after_change devices_after_change OfParts (λ row. record { parts = row; stores = stores }) (λ change row. refl)

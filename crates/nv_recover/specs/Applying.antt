@@ -8,7 +8,7 @@ use Rattle.nv_plain.specs.Recovered.{IsGroup, IsPiece, committed, group_numbers,
 use Rattle.nv_pmem.specs.Rows.{RowTells, row_words}
 use Rattle.nv_pmem.specs.Steps as lines
 use Rattle.nv_store.specs.Steps as stores
-use Rattle.nv_store.specs.Steps.{Write, after_step}
+use Rattle.nv_store.specs.Steps.{Write, after_store_step}
 use Rattle.nv_store.specs.Store.{Store}
 use Rattle.nv_store.specs.Torn.{IsTorn}
 use Rattle.nv_recover.specs.Changes.{Change, row_after_change, ThroughoutRow}
@@ -16,11 +16,11 @@ use Rattle.nv_recover.specs.Standing.{AreStoreImages}
 use Rattle.nv_recover.specs.declared.group.Group.{Group}
 
 -- a fact about the words of a region and its stores before and after a call, where all of them tell
-abbrev pub AcrossTells : List lines.History → List stores.History → List stores.History → (Image → List Store → List Store → Type 0) → Type 0
+abbrev pub AcrossTells : List lines.PartHistory → List stores.StoreHistory → List stores.StoreHistory → (Image → List Store → List Store → Type 0) → Type 0
 AcrossTells parts old new R = RowTells parts (λ parts. RowTells old (λ was. RowTells new (λ now. R (row_words parts) was now)))
 
 -- a fact about the words of a region and its stores, as they were and as they are at each moment of a call
-abbrev pub AcrossThroughout : List lines.History → List stores.History → List stores.History → (Image → List Store → List Store → Type 0) → Type 0
+abbrev pub AcrossThroughout : List lines.PartHistory → List stores.StoreHistory → List stores.StoreHistory → (Image → List Store → List Store → Type 0) → Type 0
 AcrossThroughout parts old new R = RowTells parts (λ parts. RowTells old (λ was. ThroughoutRow (R (row_words parts) was) old new))
 
 -- ---- which numbers are written
@@ -69,7 +69,7 @@ StaysAlike image was now = (bytes : Files) → AreStoreImages now bytes → Reco
 pub record OneWritten (file at : ℕ) (bytes : List ℕ) (was now : List Store) : Type 0 where
   pub old : Store
   pub old_is : (none : Store) → slice_index_or was file none ≡ old
-  pub is : now ≡ slice_set was file (after_step (Write at bytes) old)
+  pub is : now ≡ slice_set was file (after_store_step (Write at bytes) old)
 
 -- or a write to it was torn
 pub record OneTorn (file at count : ℕ) (was now : List Store) : Type 0 where
@@ -84,5 +84,5 @@ abbrev pub LeftOrOneTorn : ℕ → ℕ → ℕ → List Store → List Store →
 LeftOrOneTorn file at count was now = (now ≡ was) ⊎ OneTorn file at count was now
 
 -- A call on stores made one change at most: they are as they were, or one of those that tell comes to a further state.
-abbrev pub ChangesAtMostOne : List stores.History → List stores.History → Type 0
+abbrev pub ChangesAtMostOne : List stores.StoreHistory → List stores.StoreHistory → Type 0
 ChangesAtMostOne old new = (new ≡ old) ⊎ ((change : Change Store) × (new ≡ row_after_change change old))

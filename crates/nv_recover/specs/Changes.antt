@@ -35,11 +35,11 @@ ThroughoutRow P old new = Throughout row_after_change (λ row. RowTells row P) o
 
 -- the histories of a region's parts and of its stores
 pub record Devices : Type 0 where
-  pub parts : List lines.History
-  pub stores : List stores.History
+  pub parts : List lines.PartHistory
+  pub stores : List stores.StoreHistory
 
 -- those of some parts and stores
-abbrev pub devices_of : {X Y : Type 0} → (X → lines.History) → (Y → stores.History) → List X → List Y → Devices
+abbrev pub devices_of : {X Y : Type 0} → (X → lines.PartHistory) → (Y → stores.StoreHistory) → List X → List Y → Devices
 devices_of part_history store_history parts stores = record { parts = map part_history parts; stores = map store_history stores }
 
 -- one part comes to a further state, or one store

@@ -3,9 +3,9 @@ use Rattle.std.specs.Prelude.{◌≡◌, ◌≢◌, ◌⊎◌, ℕ, ◌+◌, ◌
 use Rattle.nv_plain.specs.Images.{Image, PartImage, header_of, entry_of}
 use Rattle.nv_plain.specs.Layouts.{version_1}
 use Rattle.nv_plain.specs.Recovered.{IsCommitted}
-use Rattle.nv_pmem.specs.Images.{InEachImage, IsQuiet}
+use Rattle.nv_pmem.specs.Images.{InEachPartImage, IsQuietPart}
 use Rattle.nv_pmem.specs.Moments.{Tells}
-use Rattle.nv_pmem.specs.Part.{Part, word_of}
+use Rattle.nv_pmem.specs.Part.{Part, part_word}
 use Rattle.nv_entry.specs.declared.bounds.Bounds.{Bounds}
 use Rattle.nv_header.specs.Regions.{ReadsAs, HasEmptyLog}
 use Rattle.nv_recover.specs.Alike.{SayTheSame}
@@ -21,11 +21,11 @@ pub record IsTrimmed (most : ℕ) (was image : PartImage) : Type 0 where
 
 -- whatever a power failure leaves of a part that was quiet is trimmed at most
 abbrev pub MayBeTrimmed : ℕ → Part → Part → Type 0
-MayBeTrimmed most was now = IsQuiet was → InEachImage (IsTrimmed most (word_of was)) now
+MayBeTrimmed most was now = IsQuietPart was → InEachPartImage (IsTrimmed most (part_word was)) now
 
 -- a part that was quiet is so, and its commit word isn't greater than this
 abbrev pub HasSmallWord : ℕ → Part → Part → Type 0
-HasSmallWord most was now = IsQuiet was → IsQuiet now × (word_of now 0 0 ≤ most)
+HasSmallWord most was now = IsQuietPart was → IsQuietPart now × (part_word now 0 0 ≤ most)
 
 -- No entry has a commit word past the window of the tail.
 pub record HasNoneAbove (image : Image) : Type 0 where

@@ -37,14 +37,14 @@ abbrev pub files_from : Start → Files
 files_from start = (recovered start.image start.bytes).files
 
 -- A recovery that began on a start led its devices from these histories to those, as it promises.
-abbrev pub IsRun : Start → Devices → Devices → Type 0
-IsRun start old new = ThroughoutDevices (StandsStill start.image start.bytes) old new
+abbrev pub IsRecoveryRun : Start → Devices → Devices → Type 0
+IsRecoveryRun start old new = ThroughoutDevices (StandsStill start.image start.bytes) old new
 
 -- A recovery began on one start. Power failed at some moment of it, and what was left of the devices is the other start.
-pub record IsStop (before after : Start) : Type 0 where
+pub record IsRecoveryStop (before after : Start) : Type 0 where
   pub old : Devices
   pub new : Devices
-  pub run_is : IsRun before old new
+  pub run_is : IsRecoveryRun before old new
   -- how many changes it had made
   pub count : ℕ
   pub no_more : count ≤ length run_is.steps
@@ -60,13 +60,13 @@ pub record IsStop (before after : Start) : Type 0 where
 abbrev pub EndsAreStops : Type 0
 EndsAreStops =
     (before after : Start) (old new : Devices) (parts : List Part) (stores : List Store)
-    → IsRun before old new → AreNow new.parts parts → AreNow new.stores stores
-    → IsRowImage parts after.image → AreStoreImages stores after.bytes → IsStop before after
+    → IsRecoveryRun before old new → AreNow new.parts parts → AreNow new.stores stores
+    → IsRowImage parts after.image → AreStoreImages stores after.bytes → IsRecoveryStop before after
 
 -- Any number of stops, each of a recovery that began on what the one before it came to.
 abbrev pub AreStops : Start → List Start → Type 0
 AreStops first [] = Unit {0}
-AreStops first (next ∷ later) = IsStop first next × AreStops next later
+AreStops first (next ∷ later) = IsRecoveryStop first next × AreStops next later
 
 -- the start that they come to in the end; the first one, where there are none
 abbrev pub last_of : Start → List Start → Start
@@ -78,7 +78,7 @@ abbrev pub PromisesAreRuns : Type 0
 PromisesAreRuns =
     (old new : Devices) (parts : List Part) (stores : List Store)
     → AreNow old.parts parts → AreNow old.stores stores → StandThroughout old new
-    → IsRun (start_of parts stores) old new
+    → IsRecoveryRun (start_of parts stores) old new
 
 -- And the devices that told still tell.
 abbrev pub PromisesKeepTelling : Type 0

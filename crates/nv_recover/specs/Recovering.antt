@@ -43,7 +43,7 @@ StandThroughout old new =
 -- What recovery keeps of parts and stores, whichever answer came: at each moment they can take the place of what was there;
 -- where the image doesn't fit nothing is written; the parts behind the first so many are left alone; and each is the device
 -- that it was, in its place, with as many lines.
-pub record AreKept {X Y : Type 0} (history : X → lines.History) (room : X → Room) (device : X → ℕ) (held : Y → stores.History) (disk : Y → ℕ)
+pub record AreKept {X Y : Type 0} (history : X → lines.PartHistory) (room : X → Room) (device : X → ℕ) (held : Y → stores.StoreHistory) (disk : Y → ℕ)
     (used : ℕ) (parts : List X) (backing : List Y) (parts_now : List X) (backing_now : List Y) : Type 0 where
   pub moments : StandThroughout (devices_of history held parts backing) (devices_of history held parts_now backing_now)
   pub unfit : UnfitIsUnwritten (devices_of history held parts backing) (devices_of history held parts_now backing_now)

@@ -8,8 +8,8 @@ use Rattle.nv_pmem.specs.Part.{Part}
 use Rattle.nv_pmem.specs.Rows.{IsRowImage}
 use Rattle.nv_header.specs.Heads.{IsHead, first_names}
 use Rattle.nv_header.specs.Regions.{HasEmptyLog}
-use Rattle.nv_store.specs.Images.{IsImage}
-use Rattle.nv_store.specs.Store.{Store, IsQuiet}
+use Rattle.nv_store.specs.Images.{IsStoreImage}
+use Rattle.nv_store.specs.Store.{Store, IsQuietStore}
 
 -- the bytes that reads of the stores give
 abbrev pub files_of : List Store → Files
@@ -18,7 +18,7 @@ files_of stores = record { contents = map (λ store. store.seen) stores }
 -- An image of the stores: one of each, freely.
 pub record AreStoreImages (stores : List Store) (bytes : Files) : Type 0 where
   pub count : length bytes.contents ≡ length stores
-  pub each : (i : ℕ) (none : Store) → i < length stores → IsImage (slice_index_or stores i none) (contents_of bytes i)
+  pub each : (i : ℕ) (none : Store) → i < length stores → IsStoreImage (slice_index_or stores i none) (contents_of bytes i)
 
 -- A power failure leaves nothing of the stores now that it might not have left of them before.
 abbrev pub LeaveNoMore : List Store → List Store → Type 0
@@ -26,7 +26,7 @@ LeaveNoMore was now = (bytes : Files) → AreStoreImages now bytes → AreStoreI
 
 -- each store is quiet
 abbrev pub AreQuietStores : List Store → Type 0
-AreQuietStores stores = All IsQuiet stores
+AreQuietStores stores = All IsQuietStore stores
 
 -- An image whose header can be read stands for the files that it recovers to.
 abbrev pub ReadableStandsForRecovered : Type 0

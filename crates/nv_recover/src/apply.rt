@@ -1,3 +1,4 @@
+//! The pieces of the groups are written to the stores.
 ghost use Rattle.std.specs.Prelude.{◌≡◌, ◌≢◌, ℕ, ◌+◌, ◌<◌, ◌≤◌, length, map, take, drop, fold, sum_by, All, Err, IfOk, OnOk, MatchOption};
 ghost use Rattle.std.specs.List.{range_with_len};
 ghost use Rattle.nv_plain.specs.Faults.{HasCause};
@@ -7,10 +8,10 @@ ghost use Rattle.nv_pmem.specs.Limits.{entry_lines};
 ghost use Rattle.nv_pmem.specs.Moments.{Tells};
 ghost use Rattle.nv_pmem.specs.Room.{Keeps};
 ghost use Rattle.nv_pmem.specs.Rows.{RowTells, AreOnlyRead, row_words};
-ghost use Rattle.nv_pmem.specs.Part.{word_of};
+ghost use Rattle.nv_pmem.specs.Part.{part_word};
 ghost use Rattle.nv_store.specs.Causes.{HasWriteCause};
-ghost use Rattle.nv_store.specs.Steps.{Sync, after_step};
-ghost use Rattle.nv_store.specs.Store.{IsQuiet};
+ghost use Rattle.nv_store.specs.Steps.{Sync, after_store_step};
+ghost use Rattle.nv_store.specs.Store.{IsQuietStore};
 ghost use Rattle.nv_entry.specs.Checks.{SaysBounds};
 ghost use Rattle.nv_entry.specs.Reading.{head_of, IsFilled};
 ghost use Rattle.nv_recover.specs.Applying.{AcrossTells, AcrossThroughout, ChangesAtMostOne, IsGroupOf, IsNumberOf, HasPiece, StaysAlike, OneWritten, LeftOrOneTorn};
@@ -163,7 +164,7 @@ fn load_piece<L: Lines>(
 fn load_fitting<L: Lines>(part: &mut L, page: &mut [u8]) -> Result<Option<PieceHead>, RegionFault>
     requires lines { 1 + lines_for (length page.old) ≤ (L.room part.old).lines }
     ensures piece { IfOk result (λ found. Tells (L.history part.old) (λ now. MatchOption found
-        (length page.old < (entry_of (word_of now)).size)
+        (length page.old < (entry_of (part_word now)).size)
         (λ head. (head ≡ head_of now) × IsFilled now head.size page.old page.new))) }
     ensures size { IfOk result (λ found. MatchOption found (Unit {0}) (λ head. head.size ≤ length page.old)) }
     ensures history { L.history part.new ≡ L.history part.old }
@@ -203,8 +204,8 @@ fn write_piece<B: Backing>(
 pub(crate) fn sync_all<B: Backing>(stores: &mut [B]) -> Result<(), StoreFault>
     ensures moments { RowTells (map B.history stores.old) (λ was. ThroughoutRow (LeaveNoMore was) (map B.history stores.old) (map B.history stores.new)) }
     ensures synced { OnOk result (RowTells (map B.history stores.old) (λ was. RowTells (map B.history stores.new) (λ now.
-        now ≡ map (after_step Sync) was))) }
-    ensures quiet { OnOk result (All (λ store. Tells (B.history store) IsQuiet) stores.new) }
+        now ≡ map (after_store_step Sync) was))) }
+    ensures quiet { OnOk result (All (λ store. Tells (B.history store) IsQuietStore) stores.new) }
     ensures seen { RowTells (map B.history stores.old) (λ was. RowTells (map B.history stores.new) (λ now. files_of now ≡ files_of was)) }
     ensures tells { AllTell (map B.history stores.old) → AllTell (map B.history stores.new) }
     ensures cause { HasCause (sum_by B.fault_count stores.old) (sum_by B.fault_count stores.new) result }

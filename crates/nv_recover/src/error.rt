@@ -1,3 +1,4 @@
+//! Why a region is not recovered.
 use nv_plain::NoMemory;
 use nv_pmem::RegionFault;
 use nv_store::{StoreError, StoreFault};

@@ -1,3 +1,4 @@
+//! The committed groups of a log are found.
 ghost use Rattle.std.specs.Prelude.{◌≡◌, ◌≢◌, ℕ, ◌+◌, ◌<◌, ◌≤◌, length, map, take, drop, sum_by, All, Err, IfOk, OnOk};
 ghost use Rattle.nv_plain.specs.Images.{entry_at};
 ghost use Rattle.nv_plain.specs.Layouts.{version_1};

@@ -1,3 +1,4 @@
+//! Laws of recovery.
 ghost use Rattle.nv_recover.specs.Groups.{FittingHasNoBad};
 ghost use Rattle.nv_recover.specs.Interrupted.{EndsAreStops, LastHoldsFiles, PromisesAreRuns, PromisesKeepTelling, StopsKeepFiles, StopsKeepFit, StopsKeepHeader, StopsKeepLog};
 ghost use Rattle.nv_recover.specs.Standing.{ReadableStandsForRecovered};

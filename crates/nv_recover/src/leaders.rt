@@ -1,3 +1,4 @@
+//! The numbers of the leaders of some groups.
 ghost use Rattle.std.specs.Prelude.{◌≡◌};
 
 use std::marker::Model;

@@ -1,11 +1,12 @@
+//! Recovery, whole.
 ghost use Rattle.std.specs.Prelude.{◌≡◌, ◌≢◌, ℕ, ◌+◌, ◌^◌, ◌≤◌, length, map, take, drop, sum_by, All, Err, IfOk, IfErr, OnOk};
 ghost use Rattle.nv_plain.specs.Layouts.{version_1};
 ghost use Rattle.nv_pmem.specs.Limits.{entry_lines};
 ghost use Rattle.nv_pmem.specs.Moments.{Tells};
 ghost use Rattle.nv_pmem.specs.Rows.{RowTells, AreOnlyRead, row_words, AreQuiet};
-ghost use Rattle.nv_store.specs.Store.{IsQuiet};
+ghost use Rattle.nv_store.specs.Store.{IsQuietStore};
 ghost use Rattle.nv_entry.specs.Checks.{SaysBounds};
-ghost use Rattle.nv_header.specs.Heads.{IsHeadOf, IsWithinLimits, header_image};
+ghost use Rattle.nv_header.specs.Heads.{IsHeadOf, HeadIsWithinLimits, header_image};
 ghost use Rattle.nv_header.specs.Needs.{header_history};
 ghost use Rattle.nv_header.specs.Regions.{HasParts, IsAtRest};
 ghost use Rattle.nv_recover.specs.Answers.{answer_of, parts_after};
@@ -59,7 +60,7 @@ pub fn recover<L: Lines + Drop, B: Backing>(
     parts: Vec<L>,
     stores: &mut Vec<B>,
 ) -> Result<(Region<L>, Recovered), (Vec<L>, RecoverError)>
-    requires limits { IsWithinLimits version_1 head }
+    requires limits { HeadIsWithinLimits version_1 head }
     requires head { Tells (header_history (map L.history parts.items)) (λ now.
         IsHeadOf version_1 version_1.header_lines (header_image now) head) }
     requires parts { HasParts version_1 head.geometry.page head.geometry.entries (map L.room parts.items) }
@@ -71,7 +72,7 @@ pub fn recover<L: Lines + Drop, B: Backing>(
     ensures found { IfOk result (λ done. RowTells (map L.history parts.items) (λ told. HasFoundAll (row_words told) done.1)) }
     ensures files { IfOk result (λ done. AcrossTells (map L.history parts.items) (map B.history stores.old.items)
         (map B.history stores.new.items) HoldRecovered) }
-    ensures quiet { OnOk result (All (λ store. Tells (B.history store) IsQuiet) stores.new.items) }
+    ensures quiet { OnOk result (All (λ store. Tells (B.history store) IsQuietStore) stores.new.items) }
     ensures geometry { IfOk result (λ done. done.0.geometry ≡ head.geometry) }
     ensures names { IfOk result (λ done. done.0.names ≡ head.names) }
     ensures next { IfOk result (λ done. done.0.next ≡ done.1.next) }
@@ -101,7 +102,7 @@ pub fn recover<L: Lines + Drop, B: Backing>(
 
 /// What a head says of the log.
 pub fn bounds_of(head: &Head) -> Bounds
-    requires { IsWithinLimits version_1 head.now }
+    requires { HeadIsWithinLimits version_1 head.now }
     ensures { HasBounds head.now result }
 {
     Bounds {
@@ -129,7 +130,7 @@ pub fn recover_parts<L: Lines, B: Backing>(
     requires synced { RowTells (map B.history stores.old) AreQuietStores }
     ensures found { IfOk result (λ found. RowTells (map L.history parts.old) (λ told. HasFoundAll (row_words told) found)) }
     ensures files { OnOk result (AcrossTells (map L.history parts.old) (map B.history stores.old) (map B.history stores.new) HoldRecovered) }
-    ensures quiet { OnOk result (All (λ store. Tells (B.history store) IsQuiet) stores.new) }
+    ensures quiet { OnOk result (All (λ store. Tells (B.history store) IsQuietStore) stores.new) }
     ensures rest { IfOk result (λ found. RowTells (map L.history parts.new)
         (IsAtRest version_1 bounds.now.page bounds.now.entries names.now found.next)) }
     ensures parts { OnOk result (HasParts version_1 bounds.now.page bounds.now.entries (map L.room parts.new)) }
@@ -241,7 +242,7 @@ fn replay<L: Lines, B: Backing>(
     ensures read { AreOnlyRead L.history L.room L.device parts.old parts.new }
     ensures moments { AcrossThroughout (map L.history parts.old) (map B.history stores.old) (map B.history stores.new) RecoverAlike }
     ensures done { OnOk result (AcrossTells (map L.history parts.old) (map B.history stores.old) (map B.history stores.new) HoldRecovered) }
-    ensures quiet { OnOk result (All (λ store. Tells (B.history store) IsQuiet) stores.new) }
+    ensures quiet { OnOk result (All (λ store. Tells (B.history store) IsQuietStore) stores.new) }
     ensures bad { (number : ℕ) → result ≡ Err (error.BadEntry number) → RowTells (map L.history parts.old) (λ told. ⊥) }
     ensures tells { AllTell (map B.history stores.old) → AllTell (map B.history stores.new) }
     ensures region_cause { HasRegionCause (sum_by L.fault_count parts.old) (sum_by L.fault_count parts.new) result }

@@ -6,27 +6,27 @@ use Rattle.std.proofs.lemmas.List.FromFn.{length-map-range_with_len, get_or-map-
 use Rattle.nv_pmem.specs.declared.picker.Pick.{Pick}
 use Rattle.nv_pmem.specs.declared.picker.Pick.TheVariants.{Old, New, Torn, Seed}
 use Rattle.nv_pmem.specs.Draws.{Draws, after_draw}
-use Rattle.nv_store.specs.Store.{Store, is_unsynced, durable_byte, IsWhole, IsQuiet}
-use Rattle.nv_store.specs.Images.{IsImage}
+use Rattle.nv_store.specs.Store.{Store, is_unsynced, durable_byte, IsWholeStore, IsQuietStore}
+use Rattle.nv_store.specs.Images.{IsStoreImage}
 use Rattle.nv_store.specs.Picked.{image_with, has_unsynced, drawn_len, redrawn, image_by, picked_image}
 use Rattle.nv_store.specs.Replaced.{replaced}
 use Rattle.nv_store.proofs.Choices.{chosen, chosen_other, chosen_same, length-replaced, byte-replaced}
 
 -- what reads give of a whole store is an image
-pub seen_is_image : (store : Store) → IsWhole store → IsImage store store.seen
+pub seen_is_image : (store : Store) → IsWholeStore store → IsStoreImage store store.seen
 seen_is_image store whole = record { no_shorter = whole.no_longer; no_longer = omega arith; synced = whole.synced }
 
 -- and so are the durable bytes
-pub durable_is_image : (store : Store) → IsWhole store → IsImage store store.durable
+pub durable_is_image : (store : Store) → IsWholeStore store → IsStoreImage store store.durable
 durable_is_image store whole = record { no_shorter = omega arith; no_longer = whole.no_longer; synced = λ i clear. refl }
 
 -- what reads give is the one image of a quiet store
-pub image_of_quiet : (store : Store) (image : List ℕ) → IsQuiet store → IsImage store image → image ≡ store.seen
+pub image_of_quiet : (store : Store) (image : List ℕ) → IsQuietStore store → IsStoreImage store image → image ≡ store.seen
 image_of_quiet store image quiet is =
     ext_get_or 0 image store.seen (omega (arith, is.no_shorter, is.no_longer, ap length quiet.durable))
     (λ i inside. is.synced i (quiet.none i) ∙ ap (λ bytes. get_or bytes i 0) quiet.durable)
 
-pub seen_of_quiet : (store : Store) → IsQuiet store → IsImage store store.seen
+pub seen_of_quiet : (store : Store) → IsQuietStore store → IsStoreImage store store.seen
 seen_of_quiet store quiet = record {
   no_shorter = omega (arith, ap length quiet.durable);
   no_longer = omega arith;
@@ -46,7 +46,7 @@ byte-image_with : (store : Store) (len : ℕ) (other : ℕ → ℕ) (i : ℕ) �
 unfolding image_with choice
 byte-image_with store len other i inside = get_or-map-range_with_len (choice store other) 0 len i i 0 inside (omega arith)
 
-image_with_is_image : (store : Store) (len : ℕ) (other : ℕ → ℕ) → length store.durable ≤ len → len ≤ length store.seen → IsImage store (image_with store len other)
+image_with_is_image : (store : Store) (len : ℕ) (other : ℕ → ℕ) → length store.durable ≤ len → len ≤ length store.seen → IsStoreImage store (image_with store len other)
 unfolding choice
 image_with_is_image store len other low high = record {
   no_shorter = omega (arith, length-image_with store len other);
@@ -62,19 +62,19 @@ image_with_is_image store len other low high = record {
 drawn_len_within : (store : Store) (draws : Draws) → length store.durable ≤ length store.seen → drawn_len store draws ≤ length store.seen
 drawn_len_within store draws grown = omega arith
 
-drawn_is_image : (store : Store) (draws : Draws) (some : Bool) → IsWhole store
-    → IsImage store (if some then image_with store (drawn_len store draws) (redrawn store.unsynced (after_draw draws)) else store.seen)
+drawn_is_image : (store : Store) (draws : Draws) (some : Bool) → IsWholeStore store
+    → IsStoreImage store (if some then image_with store (drawn_len store draws) (redrawn store.unsynced (after_draw draws)) else store.seen)
 drawn_is_image store draws true whole =
     image_with_is_image store (drawn_len store draws) _ (omega arith) (drawn_len_within store draws whole.no_longer)
 drawn_is_image store draws false whole = seen_is_image store whole
 
-image_by_is_image : (pick : Pick) (store : Store) (draws : Draws) → IsWhole store → IsImage store (image_by pick store draws)
+image_by_is_image : (pick : Pick) (store : Store) (draws : Draws) → IsWholeStore store → IsStoreImage store (image_by pick store draws)
 image_by_is_image Old store draws whole = durable_is_image store whole
 image_by_is_image New store draws whole = seen_is_image store whole
 image_by_is_image Torn store draws whole = image_with_is_image store (length store.seen) _ whole.no_longer (omega arith)
 image_by_is_image (Seed state) store draws whole = drawn_is_image store draws (has_unsynced store) whole
 
-pub picked_is_image : (store : Store) (draws : Draws) → IsWhole store → IsImage store (picked_image store draws)
+pub picked_is_image : (store : Store) (draws : Draws) → IsWholeStore store → IsStoreImage store (picked_image store draws)
 picked_is_image store draws whole = image_by_is_image draws.pick store draws whole
 
 -- ---- how it is made: bytes replaced in place
@@ -85,17 +85,17 @@ pub record AreFirst (store : Store) (bytes : List ℕ) : Type 0 where
   pub no_longer : length bytes ≤ length store.seen
   pub same : (i : ℕ) → i < length bytes → get_or bytes i 0 ≡ get_or store.seen i 0
 
-pub all_are_first : (store : Store) → IsWhole store → AreFirst store store.seen
+pub all_are_first : (store : Store) → IsWholeStore store → AreFirst store store.seen
 all_are_first store whole = record { no_shorter = whole.no_longer; no_longer = omega arith; same = λ i inside. refl }
 
-pub front_is_first : (store : Store) (len : ℕ) → IsWhole store → length store.durable ≤ len → len ≤ length store.seen → AreFirst store (take len store.seen)
+pub front_is_first : (store : Store) (len : ℕ) → IsWholeStore store → length store.durable ≤ len → len ≤ length store.seen → AreFirst store (take len store.seen)
 front_is_first store len whole low high = record {
   no_shorter = omega (arith, length-take len store.seen);
   no_longer = omega (arith, length-take len store.seen);
   same = λ i inside. get_or-take len store.seen i 0 (omega (arith, length-take len store.seen));
 }
 
-chosen_is_choice : (store : Store) (bytes : List ℕ) (other : ℕ → ℕ) → IsWhole store → AreFirst store bytes → (i : ℕ) → i < length bytes
+chosen_is_choice : (store : Store) (bytes : List ℕ) (other : ℕ → ℕ) → IsWholeStore store → AreFirst store bytes → (i : ℕ) → i < length bytes
     → chosen store.unsynced other bytes i ≡ choice store other i
 unfolding choice
 chosen_is_choice store bytes other whole first i inside = elim (cases_Bool (is_unsynced store i)) [
@@ -110,7 +110,7 @@ pub replaced_in : (by : List Bool → ℕ → ℕ) {now slice bytes : List ℕ} 
 replaced_in by {slice = slice} {flags = flags} is of_flags of_bytes =
     is ∙ ap (λ these. replaced these (by these) slice) of_flags ∙ ap (replaced flags (by flags)) of_bytes
 
-pub replaced_is_image_with : (store : Store) (bytes : List ℕ) (other : ℕ → ℕ) → IsWhole store → AreFirst store bytes
+pub replaced_is_image_with : (store : Store) (bytes : List ℕ) (other : ℕ → ℕ) → IsWholeStore store → AreFirst store bytes
     → replaced store.unsynced other bytes ≡ image_with store (length bytes) other
 unfolding image_with choice
 replaced_is_image_with store bytes other whole first =
@@ -118,9 +118,9 @@ replaced_is_image_with store bytes other whole first =
     (λ i inside. byte-replaced store.unsynced other bytes i inside ∙ chosen_is_choice store bytes other whole first i inside)
 
 -- the store in which they stand is whole
-pub whole_replaced : (store : Store) (bytes : List ℕ) (other : ℕ → ℕ) (flags : List Bool) → IsWhole store → AreFirst store bytes
+pub whole_replaced : (store : Store) (bytes : List ℕ) (other : ℕ → ℕ) (flags : List Bool) → IsWholeStore store → AreFirst store bytes
     → length flags ≡ length bytes → ((i : ℕ) → i < length bytes → get_or flags i false ≡ is_unsynced store i)
-    → let new : Store = record { seen = replaced store.unsynced other bytes; durable = store.durable; unsynced = flags } in IsWhole new
+    → let new : Store = record { seen = replaced store.unsynced other bytes; durable = store.durable; unsynced = flags } in IsWholeStore new
 whole_replaced store bytes other flags whole first all each = record {
   flags = all ∙ sym (length-replaced store.unsynced other bytes);
   no_longer = omega (arith, length-replaced store.unsynced other bytes, first.no_shorter);

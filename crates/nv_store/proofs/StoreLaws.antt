@@ -5,8 +5,8 @@ use Rattle.std.proofs.lemmas.Bool.Decides.{nat_tests}
 use Rattle.std.proofs.lemmas.List.{length-take, length-replicate, get_or-take, get_or-replicate, get_or-drop, get_or_past, take_all, ext_get_or}
 use Rattle.nv_plain.specs.Files.{padded, overwritten}
 use Rattle.nv_plain.proofs.FileLemmas.{length-padded, get_or-padded, length-overwritten_grows, get_or-overwritten_inside, get_or-overwritten_below, get_or-overwritten_above}
-use Rattle.nv_store.specs.Store.{Store, quiet_store, is_unsynced, durable_byte, IsWhole, IsQuiet, is_in_range, marked}
-use Rattle.nv_store.specs.Steps.{Step, Write, Sync, after_step}
+use Rattle.nv_store.specs.Store.{Store, quiet_store, is_unsynced, durable_byte, IsWholeStore, IsQuietStore, is_in_range, marked}
+use Rattle.nv_store.specs.Steps.{StoreStep, Write, Sync, after_store_step}
 use Rattle.nv_store.specs.Torn.{IsTorn, with_marks}
 use Rattle.nv_store.proofs.Flags.{in_range, length-marked, flag-marked, marked_none}
 
@@ -53,7 +53,7 @@ durable_past store no_longer i past = get_or_past store.durable i 0 (omega arith
 -- ---- torn writes
 
 -- a torn write may be whole
-pub write_is_torn : (at : ℕ) (bytes : List ℕ) (store : Store) → IsTorn at (length bytes) store (after_step (Write at bytes) store)
+pub write_is_torn : (at : ℕ) (bytes : List ℕ) (store : Store) → IsTorn at (length bytes) store (after_store_step (Write at bytes) store)
 write_is_torn at bytes store = record {
   bytes = bytes;
   many = refl;
@@ -75,7 +75,7 @@ torn_outside at count old new torn i inside out =
     ∙ get_or-take (length new.seen) (overwritten old.seen at torn.bytes) i 0 inside
     ∙ byte_outside old.seen torn.bytes at i aside
 
-pub whole_torn : (at count : ℕ) (old new : Store) → IsWhole old → IsTorn at count old new → IsWhole new
+pub whole_torn : (at count : ℕ) (old new : Store) → IsWholeStore old → IsTorn at count old new → IsWholeStore new
 whole_torn at count old new whole torn = record {
   flags = ap length torn.unsynced ∙ length-marked at count (length new.seen) old.unsynced;
   no_longer = omega (arith, ap length torn.durable, whole.no_longer, torn.no_shorter);
@@ -127,7 +127,7 @@ marks_are_torn at count store = record {
 -- ---- whole and quiet stores
 
 -- a store of the same bytes and flags as a whole one
-pub whole_same : (store new : Store) → new.seen ≡ store.seen → new.durable ≡ store.durable → new.unsynced ≡ store.unsynced → IsWhole store → IsWhole new
+pub whole_same : (store new : Store) → new.seen ≡ store.seen → new.durable ≡ store.durable → new.unsynced ≡ store.unsynced → IsWholeStore store → IsWholeStore new
 whole_same store new seen durable unsynced whole = record {
   flags = ap length unsynced ∙ whole.flags ∙ sym (ap length seen);
   no_longer = omega (arith, ap length durable, whole.no_longer, ap length seen);
@@ -143,19 +143,19 @@ is_unsynced-quiet bytes i = elim (cases_lt i (length bytes)) [
   | inr past ↦ get_or_past (replicate (length bytes) false) i false (omega (arith, length-replicate {A = Bool} (length bytes) false))
 ]
 
-pub quiet_is_quiet : (bytes : List ℕ) → IsQuiet (quiet_store bytes)
+pub quiet_is_quiet : (bytes : List ℕ) → IsQuietStore (quiet_store bytes)
 quiet_is_quiet bytes = record { none = is_unsynced-quiet bytes; durable = refl }
 
-pub quiet_is_whole : (bytes : List ℕ) → IsWhole (quiet_store bytes)
+pub quiet_is_whole : (bytes : List ℕ) → IsWholeStore (quiet_store bytes)
 quiet_is_whole bytes = record { flags = length-replicate (length bytes) false; no_longer = omega arith; synced = λ i clear. refl }
 
-pub whole_after_step : (step : Step) (store : Store) → IsWhole store → IsWhole (after_step step store)
+pub whole_after_step : (step : StoreStep) (store : Store) → IsWholeStore store → IsWholeStore (after_store_step step store)
 whole_after_step (Write at bytes) store whole =
-    whole_torn at (length bytes) store (after_step (Write at bytes) store) whole (write_is_torn at bytes store)
+    whole_torn at (length bytes) store (after_store_step (Write at bytes) store) whole (write_is_torn at bytes store)
 whole_after_step Sync store whole = quiet_is_whole store.seen
 
 -- a write of no bytes leaves a whole store as it is
-pub write_nothing : (at : ℕ) (store : Store) → IsWhole store → after_step (Write at []) store ≡ store
+pub write_nothing : (at : ℕ) (store : Store) → IsWholeStore store → after_store_step (Write at []) store ≡ store
 write_nothing at store whole =
     ap (λ flags. let after : Store = record { seen = store.seen; durable = store.durable; unsynced = flags } in after)
     (marked_none at (length store.seen) store.unsynced whole.flags)

@@ -6,9 +6,9 @@ use Rattle.std.proofs.lemmas.List.FromFn.{length-map-range_with_len, get_or-map-
 use Rattle.std.specs.List.{range_with_len}
 use Rattle.nv_plain.specs.Files.{overwritten}
 use Rattle.nv_plain.proofs.FileLemmas.{length-overwritten, get_or-overwritten_inside}
-use Rattle.nv_store.specs.Store.{Store, is_unsynced, durable_byte, is_in_range, IsWhole}
+use Rattle.nv_store.specs.Store.{Store, is_unsynced, durable_byte, is_in_range, IsWholeStore}
 use Rattle.nv_store.specs.Torn.{IsTorn}
-use Rattle.nv_store.specs.Images.{IsImage}
+use Rattle.nv_store.specs.Images.{IsStoreImage}
 use Rattle.nv_store.specs.Laws.{IsCovered}
 use Rattle.nv_store.proofs.Flags.{marked_none}
 use Rattle.nv_store.proofs.StoreLaws.{in_range_low, in_range_high, outside, still_unmarked, byte_outside}
@@ -53,7 +53,7 @@ module _ (at count : ℕ) (store : Store) (image : List ℕ) where
   before_synced i inside there clear =
       byte-before i inside ∙ ap (λ test. if test then durable_byte store i else get_or image i 0) (certain_inside at count store i there clear)
 
-module _ (at count : ℕ) (old new : Store) (image : List ℕ) (whole : IsWhole old) (torn : IsTorn at count old new) (is : IsImage new image) where
+module _ (at count : ℕ) (old new : Store) (image : List ℕ) (whole : IsWholeStore old) (torn : IsTorn at count old new) (is : IsStoreImage new image) where
   -- outside the range a byte that was synced still is
   still_synced : (i : ℕ) → i < length new.seen → is_in_range at count i ≡ false → is_unsynced old i ≡ false → get_or image i 0 ≡ durable_byte old i
   still_synced i inside out clear =
@@ -66,7 +66,7 @@ module _ (at count : ℕ) (old new : Store) (image : List ℕ) (whole : IsWhole 
       still_synced i (omega (arith, is.no_longer)) out (get_or_past old.unsynced i false (omega (arith, whole.flags)))
       ∙ get_or_past old.durable i 0 (omega (arith, whole.no_longer))
 
-  before_is_image : IsImage old (before at count old image)
+  before_is_image : IsStoreImage old (before at count old image)
   before_is_image = record {
     no_shorter = omega (arith, length-before at count old image, ap length torn.durable, is.no_shorter, whole.no_longer);
     no_longer = omega (arith, length-before at count old image);
@@ -110,7 +110,7 @@ torn_nothing at old new torn =
     let same : new.seen ≡ take (length new.seen) old.seen = torn.seen ∙ ap (λ bytes. take (length new.seen) (overwritten old.seen at bytes)) none in
     omega (arith, ap length same, length-take (length new.seen) old.seen, torn.no_shorter)
 
-pub covered : (at : ℕ) (bytes : List ℕ) (old new : Store) (image : List ℕ) → IsWhole old → IsTorn at (length bytes) old new → IsImage new image → IsCovered at bytes old image
+pub covered : (at : ℕ) (bytes : List ℕ) (old new : Store) (image : List ℕ) → IsWholeStore old → IsTorn at (length bytes) old new → IsStoreImage new image → IsCovered at bytes old image
 covered at [] old new image whole torn is = record {
   before = image;
   is_image = record {

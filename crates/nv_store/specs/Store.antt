@@ -23,13 +23,13 @@ durable_byte store i = slice_index store.durable i
 
 -- A store is whole where each byte has its flag, the durable bytes are no more than those that reads give, and a byte
 -- that wasn't written since the last sync is the durable one.
-pub record IsWhole (store : Store) : Type 0 where
+pub record IsWholeStore (store : Store) : Type 0 where
   pub flags : length store.unsynced ≡ length store.seen
   pub no_longer : length store.durable ≤ length store.seen
   pub synced : (i : ℕ) → is_unsynced store i ≡ false → slice_index store.seen i ≡ durable_byte store i
 
 -- It is quiet where no byte was written since the last sync, and reads give the durable bytes.
-pub record IsQuiet (store : Store) : Type 0 where
+pub record IsQuietStore (store : Store) : Type 0 where
   pub none : (i : ℕ) → is_unsynced store i ≡ false
   pub durable : store.durable ≡ store.seen
 

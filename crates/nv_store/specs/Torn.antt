@@ -2,7 +2,7 @@
 use Rattle.std.specs.Prelude.{◌≡◌, ℕ, ◌≤◌, ◌⊎◌, List, ◌∷◌, length, take}
 use Rattle.nv_plain.specs.Files.{overwritten}
 use Rattle.nv_store.specs.Store.{Store, marked}
-use Rattle.nv_store.specs.Steps.{History}
+use Rattle.nv_store.specs.Steps.{StoreHistory}
 
 -- A write of so many bytes is torn where any bytes came in their place, up to any length from the old one on. The part of
 -- the range below that length is then written and not yet durable, whatever came.
@@ -20,14 +20,14 @@ with_marks at count store =
     record { seen = store.seen; durable = store.durable; unsynced = marked at count (length store.seen) store.unsynced }
 
 -- the states go on by one more, in which a write to the present one is torn
-pub record Tore (at count : ℕ) (old new : History) : Type 0 where
+pub record Tore (at count : ℕ) (old new : StoreHistory) : Type 0 where
   pub now : Store
-  pub past : History
+  pub past : StoreHistory
   pub told : old ≡ now ∷ past
   pub next : Store
   pub torn : IsTorn at count now next
   pub states : new ≡ next ∷ old
 
 -- a write that failed left the states as they were, or was torn
-abbrev pub LeftOrTore : ℕ → ℕ → History → History → Type 0
+abbrev pub LeftOrTore : ℕ → ℕ → StoreHistory → StoreHistory → Type 0
 LeftOrTore at count old new = (new ≡ old) ⊎ Tore at count old new

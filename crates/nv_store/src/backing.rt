@@ -1,9 +1,10 @@
+//! Stores: what a file lies in.
 ghost use Rattle.std.specs.Prelude.{◌≡◌, ℕ, ◌≤◌, ◌++◌, [], ◌∷◌, drop, length, Err, IfOk, OnOk, OnErr};
 ghost use Rattle.nv_plain.specs.Faults.{HasCause};
 ghost use Rattle.nv_plain.specs.Files.{bytes_at};
 ghost use Rattle.nv_pmem.specs.Moments.{Tells};
-ghost use Rattle.nv_store.specs.Store.{Store, IsWhole};
-ghost use Rattle.nv_store.specs.Steps.{Write, Sync, History, Did};
+ghost use Rattle.nv_store.specs.Store.{Store, IsWholeStore};
+ghost use Rattle.nv_store.specs.Steps.{Write, Sync, StoreHistory, DidStoreStep};
 ghost use Rattle.nv_store.specs.Torn.{LeftOrTore};
 ghost use Rattle.nv_store.specs.Causes.{HasWriteCause};
 ghost use Rattle.nv_store.specs.declared.backing.StoreError.TheVariants.{NoMemory as NoRoom};
@@ -75,7 +76,7 @@ pub trait Backing {
     ghost device: { Self → ℕ };
 
     /// The states that it has had, the present one first; empty where it doesn't tell.
-    ghost history: { Self → History };
+    ghost history: { Self → StoreHistory };
 
     /// How often it has failed, up to 2^64 - 1, where the count stands still.
     ghost fault_count: { Self → ℕ };
@@ -102,7 +103,7 @@ pub trait Backing {
 
     /// Writes from an offset on, past the end too; a gap reads as zeros. No bytes change nothing.
     fn pwrite(&mut self, at: u64, bytes: &[u8]) -> Result<(), StoreError>
-        ensures done { OnOk result (Did (Write at bytes.now ∷ []) (history self.old) (history self.new)) }
+        ensures done { OnOk result (DidStoreStep (Write at bytes.now ∷ []) (history self.old) (history self.new)) }
         ensures failed { OnErr result (LeftOrTore at (length bytes.now) (history self.old) (history self.new)) }
         ensures memory { result ≡ Err NoRoom → history self.new ≡ history self.old }
         ensures cause { HasWriteCause (fault_count self.old) (fault_count self.new) result }
@@ -110,7 +111,7 @@ pub trait Backing {
 
     /// Makes durable what reads give.
     fn sync(&mut self) -> Result<(), StoreFault>
-        ensures done { OnOk result (Did (Sync ∷ []) (history self.old) (history self.new)) }
+        ensures done { OnOk result (DidStoreStep (Sync ∷ []) (history self.old) (history self.new)) }
         ensures failed { OnErr result (history self.new ≡ history self.old) }
         ensures cause { HasCause (fault_count self.old) (fault_count self.new) result }
         ensures device { device self.new ≡ device self.old };
@@ -120,5 +121,5 @@ pub trait Backing {
         ensures { result ≡ fault_count self.now };
 
     /// The present state is whole.
-    ghost told_whole: { (store : Self) (now : Store) (past : History) → history store ≡ now ∷ past → IsWhole now };
+    ghost told_whole: { (store : Self) (now : Store) (past : StoreHistory) → history store ≡ now ∷ past → IsWholeStore now };
 }

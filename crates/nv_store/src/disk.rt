@@ -1,6 +1,7 @@
+//! A disk in memory, and what of it is durable.
 ghost use Rattle.std.specs.Prelude.{◌≡◌, ◌+◌, ◌<◌, ◌≤◌, ◌++◌, drop, max, length, IfOk, OnOk, OnErr, vec_len, vec_capacity};
 ghost use Rattle.nv_plain.specs.Files.{bytes_at, overwritten};
-ghost use Rattle.nv_store.specs.Store.{Store, IsWhole, quiet_store, marked};
+ghost use Rattle.nv_store.specs.Store.{Store, IsWholeStore, quiet_store, marked};
 ghost use Rattle.nv_store.specs.Picked.{redrawn, count_below, after_draws};
 ghost use Rattle.nv_store.specs.Replaced.{replaced};
 
@@ -18,14 +19,14 @@ pub(crate) struct Disk {
     durable: Vec<u8>,
     unsynced: Vec<bool>,
     pub ghost whole: { let store : Store = record { seen = seen.items; durable = durable.items; unsynced = unsynced.items } in
-        IsWhole store },
+        IsWholeStore store },
     // So a sync needs no memory.
     pub ghost room: { vec_len seen ≤ vec_capacity durable },
 }
 
 impl Disk {
-    ghost use Rattle.nv_store.specs.Disk.{store_of, HasRoom};
-    ghost use Rattle.nv_store.specs.Steps.{Write, Sync, after_step};
+    ghost use Rattle.nv_store.specs.Disk.{disk_store, DiskHasRoom};
+    ghost use Rattle.nv_store.specs.Steps.{Write, Sync, after_store_step};
     ghost use Rattle.nv_store.specs.Torn.{with_marks};
     ghost use Rattle.nv_pmem.specs.Draws.{after_draw};
     ghost use Rattle.nv_store.specs.Picked.{image_with, torn_image, picked_image, draws_after};
@@ -33,7 +34,7 @@ impl Disk {
 
     /// A disk that holds these bytes, durable.
     pub(crate) fn new(alloc: Global, bytes: &[u8]) -> Result<Self, NoMemory>
-        ensures { IfOk result (λ disk. store_of disk ≡ quiet_store bytes.now) }
+        ensures { IfOk result (λ disk. disk_store disk ≡ quiet_store bytes.now) }
     {
         Ok(Disk {
             seen: Vec::from_slice(alloc, bytes)?,
@@ -44,15 +45,15 @@ impl Disk {
 
     /// How many bytes reads give.
     pub(crate) fn len(&self) -> usize
-        ensures { result ≡ length (store_of self.now).seen }
+        ensures { result ≡ length (disk_store self.now).seen }
     {
         self.seen.len()
     }
 
     /// Reads from an offset on, and says how many bytes there were.
     pub(crate) fn read(&self, at: usize, buf: &mut [u8]) -> usize
-        ensures count { result ≡ length (bytes_at (store_of self.now).seen at (length buf.old)) }
-        ensures bytes { buf.new ≡ bytes_at (store_of self.now).seen at (length buf.old) ++ drop result buf.old }
+        ensures count { result ≡ length (bytes_at (disk_store self.now).seen at (length buf.old)) }
+        ensures bytes { buf.new ≡ bytes_at (disk_store self.now).seen at (length buf.old) ++ drop result buf.old }
         ensures limit { result ≤ length buf.old }
     {
         let from = at.min(self.seen.len());
@@ -63,10 +64,10 @@ impl Disk {
 
     /// Takes the room for a write of so many bytes, and for the sync of all that reads give after it.
     pub(crate) fn reserve(&mut self, at: usize, count: usize) -> Result<(), NoMemory>
-        ensures room { OnOk result (0 < count → HasRoom (at + count) self.new) }
-        ensures same { store_of self.new ≡ store_of self.old }
+        ensures room { OnOk result (0 < count → DiskHasRoom (at + count) self.new) }
+        ensures same { disk_store self.new ≡ disk_store self.old }
         ensures some { OnErr result (0 < count) }
-        ensures grows { OnErr result (length (store_of self.old).seen < at + count) }
+        ensures grows { OnErr result (length (disk_store self.old).seen < at + count) }
     {
         if count == 0 {
             return Ok(());
@@ -82,8 +83,8 @@ impl Disk {
 
     /// Writes from an offset on, past the end too.
     pub(crate) fn write(&mut self, at: usize, bytes: &[u8])
-        requires { 0 < length bytes.now → HasRoom (at + length bytes.now) self.old }
-        ensures { store_of self.new ≡ after_step (Write at bytes.now) (store_of self.old) }
+        requires { 0 < length bytes.now → DiskHasRoom (at + length bytes.now) self.old }
+        ensures { disk_store self.new ≡ after_store_step (Write at bytes.now) (disk_store self.old) }
     {
         if !bytes.is_empty() {
             overwrite(&mut self.seen, at, bytes);
@@ -93,14 +94,14 @@ impl Disk {
 
     /// Counts the bytes of a range as written since the last sync.
     pub(crate) fn mark(&mut self, at: usize, count: usize)
-        ensures { store_of self.new ≡ with_marks at count (store_of self.old) }
+        ensures { disk_store self.new ≡ with_marks at count (disk_store self.old) }
     {
         mark(&mut self.unsynced, at, count);
     }
 
     /// Makes durable what reads give.
     pub(crate) fn sync(&mut self)
-        ensures { store_of self.new ≡ after_step Sync (store_of self.old) }
+        ensures { disk_store self.new ≡ after_store_step Sync (disk_store self.old) }
     {
         self.durable.clear();
         let copied = self.durable.extend_from_slice(&self.seen).is_ok();
@@ -110,8 +111,8 @@ impl Disk {
 
     /// Leaves the image that a picker takes, durable.
     pub(crate) fn lose_power(&mut self, picker: &mut Picker)
-        ensures image { store_of self.new ≡ quiet_store (picked_image (store_of self.old) picker.old) }
-        ensures draws { picker.new ≡ draws_after (store_of self.old) picker.old }
+        ensures image { disk_store self.new ≡ quiet_store (picked_image (disk_store self.old) picker.old) }
+        ensures draws { picker.new ≡ draws_after (disk_store self.old) picker.old }
     {
         match picker.pick() {
             Pick::Old => self.forget(),
@@ -123,7 +124,7 @@ impl Disk {
     }
 
     fn forget(&mut self)
-        ensures { (store_of self.new).seen ≡ (store_of self.old).durable }
+        ensures { (disk_store self.new).seen ≡ (disk_store self.old).durable }
     {
         self.seen.truncate(self.durable.len());
         self.unsynced.truncate(self.durable.len());
@@ -131,14 +132,14 @@ impl Disk {
     }
 
     fn tear(&mut self)
-        ensures { (store_of self.new).seen ≡ torn_image (store_of self.old) }
+        ensures { (disk_store self.new).seen ≡ torn_image (disk_store self.old) }
     {
         tear(&mut self.seen, &self.unsynced);
     }
 
     fn draw(&mut self, picker: &mut Picker)
-        ensures seen { (store_of self.new).seen ≡ drawn_image (store_of self.old) picker.old }
-        ensures draws { picker.new ≡ after_drawn (store_of self.old) picker.old }
+        ensures seen { (disk_store self.new).seen ≡ drawn_image (disk_store self.old) picker.old }
+        ensures draws { picker.new ≡ after_drawn (disk_store self.old) picker.old }
     {
         if self.has_unsynced() {
             let len = self.draw_len(picker);
@@ -147,14 +148,14 @@ impl Disk {
     }
 
     fn has_unsynced(&self) -> bool
-        ensures { result ≡ has_unsynced (store_of self.now) }
+        ensures { result ≡ has_unsynced (disk_store self.now) }
     {
         self.unsynced.iter().any(|flag| *flag)
     }
 
     // A length from the durable to the present one.
     fn draw_len(&self, picker: &mut Picker) -> usize
-        ensures len { result ≡ drawn_len (store_of self.now) picker.old }
+        ensures len { result ≡ drawn_len (disk_store self.now) picker.old }
         ensures draws { picker.new ≡ after_draw picker.old }
     {
         let grown = (self.seen.len() - self.durable.len()) as u64;
@@ -163,11 +164,11 @@ impl Disk {
 
     // Cuts what reads give, and draws each byte of it that isn't synced.
     fn cut(&mut self, len: usize, picker: &mut Picker)
-        requires durable { length (store_of self.old).durable ≤ len }
-        requires seen { len ≤ length (store_of self.old).seen }
-        ensures seen { (store_of self.new).seen
-            ≡ image_with (store_of self.old) len (redrawn (store_of self.old).unsynced picker.old) }
-        ensures draws { picker.new ≡ after_draws (count_below (store_of self.old).unsynced len) picker.old }
+        requires durable { length (disk_store self.old).durable ≤ len }
+        requires seen { len ≤ length (disk_store self.old).seen }
+        ensures seen { (disk_store self.new).seen
+            ≡ image_with (disk_store self.old) len (redrawn (disk_store self.old).unsynced picker.old) }
+        ensures draws { picker.new ≡ after_draws (count_below (disk_store self.old).unsynced len) picker.old }
     {
         self.seen.truncate(len);
         redraw(&mut self.seen, &self.unsynced, picker);

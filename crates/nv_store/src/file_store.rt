@@ -1,8 +1,9 @@
+//! A store over a file.
 ghost use Rattle.std.specs.Prelude.{◌≡◌, IfOk};
 ghost use Rattle.nv_store.specs.FileStore.{store_device, store_history, store_faults, store_told_whole};
 
 use crate::{Backing, StoreError, StoreFault};
-use nv_pmem::{Health, open_durable};
+use nv_pmem::{FaultCounter, open_durable};
 use std::fs::OpenFile;
 use std::io::{self, ErrorKind, Read, Seek, SeekFrom, Write};
 use std::rt::Files;
@@ -14,7 +15,7 @@ pub struct FileStore<F> {
     file: F,
     // A host may forget what it could not write, and then say of a later sync that it went well.
     is_lost: bool,
-    health: Health,
+    fault_counter: FaultCounter,
 }
 
 impl<F: Read + Write + Seek + OpenFile> FileStore<F> {
@@ -35,7 +36,7 @@ impl<F: Read + Write + Seek + OpenFile> FileStore<F> {
         FileStore {
             file,
             is_lost: false,
-            health: Health::new(None),
+            fault_counter: FaultCounter::new(None),
         }
     }
 }
@@ -49,19 +50,19 @@ impl<F: Read + Write + Seek + OpenFile> Backing for FileStore<F> {
 
     fn len(&mut self) -> Result<u64, StoreFault> {
         let metadata = self.file.metadata();
-        Ok(self.health.noted(metadata)?.len())
+        Ok(self.fault_counter.noted(metadata)?.len())
     }
 
     fn pread(&mut self, at: u64, buf: &mut [u8]) -> Result<u64, StoreFault> {
         let count = self.len()?.saturating_sub(at).min(buf.len() as u64);
         let read = read_from(&mut self.file, at, &mut buf[..count as usize]);
-        self.health.noted(read)?;
+        self.fault_counter.noted(read)?;
         Ok(count)
     }
 
     fn pwrite(&mut self, at: u64, bytes: &[u8]) -> Result<(), StoreError> {
         let written = write_from(&mut self.file, at, bytes);
-        match self.health.noted(written) {
+        match self.fault_counter.noted(written) {
             Ok(()) => Ok(()),
             Err(_) => Err(StoreError::Fault),
         }
@@ -69,12 +70,12 @@ impl<F: Read + Write + Seek + OpenFile> Backing for FileStore<F> {
 
     fn sync(&mut self) -> Result<(), StoreFault> {
         let synced = sync_unless_lost(&self.file, &mut self.is_lost);
-        self.health.noted(synced)?;
+        self.fault_counter.noted(synced)?;
         Ok(())
     }
 
     fn faults(&self) -> u64 {
-        self.health.faults()
+        self.fault_counter.faults()
     }
 
     ghost told_whole = { store_told_whole };

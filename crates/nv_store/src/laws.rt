@@ -1,9 +1,10 @@
-ghost use Rattle.nv_store.specs.Laws.{SeenIsAnImage, QuietHasOneImage, SyncedHasOneImage, StepsKeepWhole, TornWritesKeepWhole, WritesAreTorn, WritesAreCovered};
+//! Laws of stores.
+ghost use Rattle.nv_store.specs.Laws.{SeenIsAnImage, QuietStoreHasOneImage, SyncedHasOneImage, StepsKeepWhole, TornWritesKeepWhole, WritesAreTorn, WritesAreCovered};
 
 /// What a power failure may leave of a store: what reads give, always, and after a sync nothing else.
 pub fn store_images()
     ensures seen { SeenIsAnImage }
-    ensures quiet { QuietHasOneImage }
+    ensures quiet { QuietStoreHasOneImage }
     ensures synced { SyncedHasOneImage }
 {}
 

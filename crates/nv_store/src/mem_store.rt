@@ -1,10 +1,11 @@
+//! A store in memory.
 ghost use Rattle.std.specs.Prelude.{◌≡◌, ◌+◌, ◌<◌, ◌≤◌, ◌++◌, [], ◌∷◌, drop, length, Err, IfOk, OnOk, OnErr};
 ghost use Rattle.nv_plain.specs.Faults.{HasCause};
 ghost use Rattle.nv_plain.specs.Files.{bytes_at};
-ghost use Rattle.nv_store.specs.Store.{IsQuiet, quiet_store};
-ghost use Rattle.nv_store.specs.Steps.{Write, Sync, Did};
+ghost use Rattle.nv_store.specs.Store.{IsQuietStore, quiet_store};
+ghost use Rattle.nv_store.specs.Steps.{Write, Sync, DidStoreStep};
 ghost use Rattle.nv_store.specs.Torn.{LeftOrTore, with_marks};
-ghost use Rattle.nv_store.specs.Images.{IsImage};
+ghost use Rattle.nv_store.specs.Images.{IsStoreImage};
 ghost use Rattle.nv_store.specs.Picked.{picked_image, draws_after};
 ghost use Rattle.nv_store.specs.Causes.{HasWriteCause};
 ghost use Rattle.nv_store.specs.declared.backing.StoreError.TheVariants.{Fault, NoMemory as NoRoom};
@@ -12,22 +13,22 @@ ghost use Rattle.nv_store.specs.declared.backing.StoreError.TheVariants.{Fault, 
 use crate::told::Told;
 use crate::{Backing, StoreError, StoreFault};
 use nv_plain::NoMemory;
-use nv_pmem::{Fuse, Health, Picker};
+use nv_pmem::{FaultCounter, Fuse, Picker};
 use std::alloc::Global;
 
 /// A store in memory. Its contents end with it; it is for trying out what stands on `Backing`.
 #[derive(Drop)]
 pub struct MemStore {
     told: Told,
-    health: Health,
+    fault_counter: FaultCounter,
 }
 
 impl MemStore {
-    ghost use Rattle.nv_store.specs.MemStore.{IsNew, store_now, store_device, store_faults, store_history};
+    ghost use Rattle.nv_store.specs.MemStore.{IsNewStore, store_now, store_device, store_faults, store_history};
 
     /// A store that holds these bytes, durable, and whose calls all go well. It takes three bytes for each of them.
     pub fn new(alloc: Global, bytes: &[u8]) -> Result<Self, NoMemory>
-        ensures { IfOk result (IsNew bytes.now) }
+        ensures { IfOk result (IsNewStore bytes.now) }
     {
         Self::made(alloc, bytes, None)
     }
@@ -35,17 +36,17 @@ impl MemStore {
     /// As `new`, but the calls that the fuse counts out fail. Each call of `Backing` but `faults` counts as one. One
     /// that fails leaves the store and the buffer as they were, but for `pwrite`: what there is of its range is then unsynced.
     pub fn fused(alloc: Global, bytes: &[u8], fuse: Fuse) -> Result<Self, NoMemory>
-        ensures { IfOk result (IsNew bytes.now) }
+        ensures { IfOk result (IsNewStore bytes.now) }
     {
         Self::made(alloc, bytes, Some(fuse))
     }
 
     fn made(alloc: Global, bytes: &[u8], fuse: Option<Fuse>) -> Result<Self, NoMemory>
-        ensures { IfOk result (IsNew bytes.now) }
+        ensures { IfOk result (IsNewStore bytes.now) }
     {
         Ok(MemStore {
             told: Told::new(alloc, bytes)?,
-            health: Health::new(fuse),
+            fault_counter: FaultCounter::new(fuse),
         })
     }
 
@@ -55,8 +56,8 @@ impl MemStore {
         ensures picked { store_history self.new
             ≡ quiet_store (picked_image (store_now self.old) picker.old) ∷ store_history self.old }
         ensures draws { picker.new ≡ draws_after (store_now self.old) picker.old }
-        ensures image { IsImage (store_now self.old) (store_now self.new).seen }
-        ensures quiet { IsQuiet (store_now self.new) }
+        ensures image { IsStoreImage (store_now self.old) (store_now self.new).seen }
+        ensures quiet { IsQuietStore (store_now self.new) }
         ensures faults { store_faults self.new ≡ store_faults self.old }
         ensures device { store_device self.new ≡ store_device self.old }
     {
@@ -74,7 +75,7 @@ impl Backing for MemStore {
     ghost fault_count = { store_faults };
 
     fn len(&mut self) -> Result<u64, StoreFault> {
-        self.health.begin()?;
+        self.fault_counter.begin()?;
         Ok(self.told.len() as u64)
     }
 
@@ -89,12 +90,12 @@ impl Backing for MemStore {
         ensures cause { HasCause (store_faults self.old) (store_faults self.new) result }
         ensures device { store_device self.new ≡ store_device self.old }
     {
-        self.health.begin()?;
+        self.fault_counter.begin()?;
         Ok(self.told.read(at as usize, buf) as u64)
     }
 
     fn pwrite(&mut self, at: u64, bytes: &[u8]) -> Result<(), StoreError>
-        ensures done { OnOk result (Did (Write at bytes.now ∷ []) (store_history self.old) (store_history self.new)) }
+        ensures done { OnOk result (DidStoreStep (Write at bytes.now ∷ []) (store_history self.old) (store_history self.new)) }
         ensures failed { OnErr result (LeftOrTore at (length bytes.now) (store_history self.old) (store_history self.new)) }
         ensures refused { result ≡ Err Fault
             → store_history self.new ≡ with_marks at (length bytes.now) (store_now self.old) ∷ store_history self.old }
@@ -104,7 +105,7 @@ impl Backing for MemStore {
         ensures cause { HasWriteCause (store_faults self.old) (store_faults self.new) result }
         ensures device { store_device self.new ≡ store_device self.old }
     {
-        if self.health.begin().is_err() {
+        if self.fault_counter.begin().is_err() {
             self.told.mark(at as usize, bytes.len());
             return Err(StoreError::Fault);
         }
@@ -115,13 +116,13 @@ impl Backing for MemStore {
     }
 
     fn sync(&mut self) -> Result<(), StoreFault> {
-        self.health.begin()?;
+        self.fault_counter.begin()?;
         self.told.sync();
         Ok(())
     }
 
     fn faults(&self) -> u64 {
-        self.health.faults()
+        self.fault_counter.faults()
     }
 
     ghost told_whole = { store_told_whole };

@@ -1,11 +1,12 @@
+//! A disk in memory, with the states that it has had.
 ghost use Rattle.std.specs.Prelude.{◌≡◌, ◌+◌, ◌<◌, ◌≤◌, ◌++◌, [], ◌∷◌, drop, length, IfOk, OnOk, OnErr};
 ghost use Rattle.nv_plain.specs.Files.{bytes_at};
 ghost use Rattle.nv_store.specs.Store.{quiet_store};
 ghost use Rattle.nv_pmem.specs.Runs.{grown};
-ghost use Rattle.nv_store.specs.Steps.{Write, Sync, after_step};
+ghost use Rattle.nv_store.specs.Steps.{Write, Sync, after_store_step};
 ghost use Rattle.nv_store.specs.Torn.{with_marks};
 ghost use Rattle.nv_store.specs.Picked.{picked_image, draws_after};
-ghost use Rattle.nv_store.specs.Disk.{store_of};
+ghost use Rattle.nv_store.specs.Disk.{disk_store};
 
 use crate::disk::Disk;
 use nv_plain::NoMemory;
@@ -20,10 +21,10 @@ pub(crate) struct Told {
 }
 
 impl Told {
-    ghost use Rattle.nv_store.specs.Told.{told_history};
+    ghost use Rattle.nv_store.specs.Told.{told_store_history};
 
     pub(crate) fn new(alloc: Global, bytes: &[u8]) -> Result<Self, NoMemory>
-        ensures { IfOk result (λ told. told_history told ≡ quiet_store bytes.now ∷ []) }
+        ensures { IfOk result (λ told. told_store_history told ≡ quiet_store bytes.now ∷ []) }
     {
         Ok(Told {
             disk: Disk::new(alloc, bytes)?,
@@ -32,14 +33,14 @@ impl Told {
     }
 
     pub(crate) fn len(&self) -> usize
-        ensures { result ≡ length (store_of self.now.disk).seen }
+        ensures { result ≡ length (disk_store self.now.disk).seen }
     {
         self.disk.len()
     }
 
     pub(crate) fn read(&self, at: usize, buf: &mut [u8]) -> usize
-        ensures count { result ≡ length (bytes_at (store_of self.now.disk).seen at (length buf.old)) }
-        ensures bytes { buf.new ≡ bytes_at (store_of self.now.disk).seen at (length buf.old) ++ drop result buf.old }
+        ensures count { result ≡ length (bytes_at (disk_store self.now.disk).seen at (length buf.old)) }
+        ensures bytes { buf.new ≡ bytes_at (disk_store self.now.disk).seen at (length buf.old) ++ drop result buf.old }
         ensures limit { result ≤ length buf.old }
     {
         self.disk.read(at, buf)
@@ -47,10 +48,10 @@ impl Told {
 
     /// Writes from an offset on. Memory is asked for before anything changes.
     pub(crate) fn write(&mut self, at: usize, bytes: &[u8]) -> Result<(), NoMemory>
-        ensures done { OnOk result (told_history self.new ≡ grown after_step (Write at bytes.now) (told_history self.old)) }
-        ensures same { OnErr result (told_history self.new ≡ told_history self.old) }
+        ensures done { OnOk result (told_store_history self.new ≡ grown after_store_step (Write at bytes.now) (told_store_history self.old)) }
+        ensures same { OnErr result (told_store_history self.new ≡ told_store_history self.old) }
         ensures some { OnErr result (0 < length bytes.now) }
-        ensures grows { OnErr result (length (store_of self.old.disk).seen < at + length bytes.now) }
+        ensures grows { OnErr result (length (disk_store self.old.disk).seen < at + length bytes.now) }
     {
         self.disk.reserve(at, bytes.len())?;
         self.past.note(&self.disk);
@@ -60,23 +61,23 @@ impl Told {
 
     /// What a refused write leaves.
     pub(crate) fn mark(&mut self, at: usize, count: usize)
-        ensures { told_history self.new ≡ with_marks at count (store_of self.old.disk) ∷ told_history self.old }
+        ensures { told_store_history self.new ≡ with_marks at count (disk_store self.old.disk) ∷ told_store_history self.old }
     {
         self.past.note(&self.disk);
         self.disk.mark(at, count);
     }
 
     pub(crate) fn sync(&mut self)
-        ensures { told_history self.new ≡ grown after_step Sync (told_history self.old) }
+        ensures { told_store_history self.new ≡ grown after_store_step Sync (told_store_history self.old) }
     {
         self.past.note(&self.disk);
         self.disk.sync();
     }
 
     pub(crate) fn lose_power(&mut self, picker: &mut Picker)
-        ensures image { told_history self.new
-            ≡ quiet_store (picked_image (store_of self.old.disk) picker.old) ∷ told_history self.old }
-        ensures draws { picker.new ≡ draws_after (store_of self.old.disk) picker.old }
+        ensures image { told_store_history self.new
+            ≡ quiet_store (picked_image (disk_store self.old.disk) picker.old) ∷ told_store_history self.old }
+        ensures draws { picker.new ≡ draws_after (disk_store self.old.disk) picker.old }
     {
         self.past.note(&self.disk);
         self.disk.lose_power(picker);

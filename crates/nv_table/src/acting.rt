@@ -1,13 +1,13 @@
 //! One atomic step of a seat.
 ghost use Rattle.std.specs.Prelude.{◌≡◌, ◌<◌, true, List, Option, None};
-ghost use Rattle.nv_core.specs.Order.{Work};
+ghost use Rattle.nv_core.specs.steps.Order.{Work};
 ghost use Rattle.nv_plain.specs.declared.call.FileCall.{FileCall};
-ghost use Rattle.nv_core.specs.Deeds.{Deed, Splits};
-ghost use Rattle.nv_table.specs.Acts.{MayAct, Acted};
-ghost use Rattle.nv_table.specs.Changes.{changed};
+ghost use Rattle.nv_core.specs.steps.Ops.{Op, Split};
+ghost use Rattle.nv_table.specs.steps.SeatSteps.{SeatPrecondition, SeatPostcondition};
+ghost use Rattle.nv_table.specs.state.Changes.{changed};
 
 use crate::laws::laws_of_the_core;
-use crate::rule::{OneRun, Opening};
+use crate::rule::{Opening, TableInvariantRule};
 use crate::{Shown, View};
 use atomic_table::{Play, Seat, Shared};
 use std::marker::{Brand, PhantomData};
@@ -17,7 +17,7 @@ use std::snapshot::Snapshot;
 #[derive(Clone, Copy, Debug)]
 pub enum Change {
     /// It is read.
-    Load,
+    Keep,
     /// It rises by so many, modulo 2^64.
     Add(u64),
     /// It falls by so many, modulo 2^64.
@@ -28,18 +28,18 @@ pub enum Change {
     Exchange(u64, u64),
 }
 
-/// A kind of step, for contracts alone: the deed, the call that it begins, if it does, and what is so of the device calls that its pass
+/// A kind of step, for contracts alone: the operation, the call that it begins, if it does, and what is so of the device calls that its pass
 /// has made since its last step.
-pub trait Does {
-    ghost deed: { Deed };
+pub trait StepSpec {
+    ghost op: { Op };
 
     ghost opens: { Option FileCall };
 
     ghost said: { List Work → Type 0 };
 }
 
-impl Does for Brand {
-    ghost deed = { Splits };
+impl StepSpec for Brand {
+    ghost op = { Split };
 
     ghost opens = { None };
 
@@ -51,13 +51,13 @@ pub struct Acting<E, S> {
     marker: PhantomData<(E, S)>,
 }
 
-impl<E: Does, S: Shown> Play<S, View> for Acting<E, S> {
-    ghost then = { λ step old found new. (acted : Acted S.shown old E.opens E.deed found new) × E.said acted.works };
+impl<E: StepSpec, S: Shown> Play<S, View> for Acting<E, S> {
+    ghost then = { λ step old found new. (acted : SeatPostcondition S.shown old E.opens E.op found new) × E.said acted.works };
 }
 
 /// One step of a kind on the word at a place.
-pub(crate) fn act<E: Does, S: Shown>(
-    shared: &Shared<S, View, Snapshot<Opening<S>>, OneRun<S>>,
+pub(crate) fn act<E: StepSpec, S: Shown>(
+    shared: &Shared<S, View, Snapshot<Opening<S>>, TableInvariantRule<S>>,
     seat: &mut Seat<S, View>,
     place: usize,
     change: Change,
@@ -65,14 +65,14 @@ pub(crate) fn act<E: Does, S: Shown>(
     requires table { seat.old.table_id ≡ shared.now.table_id }
     requires live { seat.old.me.0.live ≡ true }
     requires place { place < shared.now.table_id.words }
-    requires may { (may : MayAct S.shown seat.old.me E.opens E.deed place (changed change)) × E.said may.works }
+    requires may { (may : SeatPrecondition S.shown seat.old.me E.opens E.op place (changed change)) × E.said may.works }
     ensures table { seat.new.table_id ≡ seat.old.table_id }
     ensures seat { seat.new.id ≡ seat.old.id }
-    ensures acted { (acted : Acted S.shown seat.old.me E.opens E.deed result seat.new.me) × E.said acted.works }
+    ensures acted { (acted : SeatPostcondition S.shown seat.old.me E.opens E.op result seat.new.me) × E.said acted.works }
 {
     laws_of_the_core();
     match change {
-        Change::Load => shared.load::<Acting<E, S>>(seat, place),
+        Change::Keep => shared.load::<Acting<E, S>>(seat, place),
         Change::Add(count) => shared.fetch_add::<Acting<E, S>>(seat, place, count),
         Change::Subtract(count) => shared.fetch_sub::<Acting<E, S>>(seat, place, count),
         Change::Set(value) => shared.swap::<Acting<E, S>>(seat, place, value),

@@ -3,20 +3,20 @@ ghost use Rattle.std.specs.Prelude.{◌≡◌, ℕ, ◌<◌, ◌≤◌, ◌^◌,
 ghost use Rattle.atomic_table.specs.Table.{opening as laid};
 ghost use Rattle.nv_plain.specs.Layouts.{version_1};
 ghost use Rattle.nv_header.specs.Regions.{HasParts};
-ghost use Rattle.nv_core.specs.Shapes.{HaveShapes, IsStore};
-ghost use Rattle.nv_core.specs.Words.{STORE};
-ghost use Rattle.nv_table.specs.Begun.{begun_sizes, IsBegun};
-ghost use Rattle.nv_table.specs.Kept.{part_value, store_value, slot_value};
-ghost use Rattle.nv_table.specs.Keys.{opened_of, sizes_of};
-ghost use Rattle.nv_table.specs.Layout.{slot_total};
-ghost use Rattle.nv_table.specs.Limits.{IsWithinLimits};
-ghost use Rattle.nv_table.specs.Opened.{mount_of};
-ghost use Rattle.nv_table.specs.OpeningWords.{AreOpeningWords};
-ghost use Rattle.nv_table.specs.Shows.{Shows};
-ghost use Rattle.nv_table.specs.Sights.{newcomer};
+ghost use Rattle.nv_core.specs.invariant.Shapes.{HaveShapes, IsStore};
+ghost use Rattle.nv_core.specs.state.Words.{STORE};
+ghost use Rattle.nv_table.specs.ends.Begun.{begun_sizes, IsBegun};
+ghost use Rattle.nv_table.specs.state.SlotValues.{part_value, store_value, slot_value};
+ghost use Rattle.nv_table.specs.state.Keys.{opened_of, sizes_of};
+ghost use Rattle.nv_table.specs.state.Layout.{slot_total};
+ghost use Rattle.nv_table.specs.state.Limits.{MountIsWithinLimits};
+ghost use Rattle.nv_table.specs.state.Opened.{mount_of};
+ghost use Rattle.nv_table.specs.ends.OpeningWords.{AreOpeningWords};
+ghost use Rattle.nv_table.specs.invariant.TableInvariant.{TableInvariant};
+ghost use Rattle.nv_table.specs.state.Views.{first_view};
 
 use crate::opening::{Filled, Unfilled, slots_of, unfill, words_of};
-use crate::rule::{OneRun, Opening};
+use crate::rule::{Opening, TableInvariantRule};
 use crate::{Layout, Pass, Shown, Slot, View};
 use atomic_table::{Seat, Table};
 use nv_core::spares_tell_the_room;
@@ -34,7 +34,7 @@ pub struct Board<L: Lines, B: Backing> {
         Slot<L, B>,
         View,
         Snapshot<Opening<Slot<L, B>>>,
-        OneRun<Slot<L, B>>,
+        TableInvariantRule<Slot<L, B>>,
         Global,
     >,
     pub(crate) layout: Layout,
@@ -42,11 +42,11 @@ pub struct Board<L: Lines, B: Backing> {
 
 impl<L: Lines, B: Backing> Model for Board<L, B> {
     ghost use Rattle.std.specs.Prelude.{◌≡◌};
-    ghost use Rattle.nv_table.specs.States.{BoardState};
-    ghost use Rattle.nv_table.specs.Begun.{BeganFilled};
-    ghost use Rattle.nv_table.specs.Layout.{word_total, slot_total};
-    ghost use Rattle.nv_table.specs.Kept.{part_value, store_value, slot_value};
-    ghost use Rattle.nv_table.specs.Keys.{opened_of, sizes_of};
+    ghost use Rattle.nv_table.specs.state.States.{BoardState};
+    ghost use Rattle.nv_table.specs.ends.Begun.{BeganFilled};
+    ghost use Rattle.nv_table.specs.state.Layout.{word_total, slot_total};
+    ghost use Rattle.nv_table.specs.state.SlotValues.{part_value, store_value, slot_value};
+    ghost use Rattle.nv_table.specs.state.Keys.{opened_of, sizes_of};
 
     ghost Value = { BoardState };
 
@@ -76,7 +76,7 @@ struct Memory {
 }
 
 fn memory_for(alloc: Global, layout: Layout, next: u64, lengths: &[u64]) -> Result<Memory, NoMemory>
-    requires limits { IsWithinLimits (sizes_of layout) }
+    requires limits { MountIsWithinLimits (sizes_of layout) }
     requires lengths { length lengths.now ≡ layout.files }
     ensures words { IfOk result (λ memory. AreOpeningWords (sizes_of layout) next lengths.now memory.words.items) }
     ensures lengths { IfOk result (λ memory. memory.lengths.items ≡ lengths.now) }
@@ -100,17 +100,17 @@ fn lay<S: Shown>(
     opening: Opening<S>,
 ) -> Result<
     (
-        Table<S, View, Snapshot<Opening<S>>, OneRun<S>, Global>,
+        Table<S, View, Snapshot<Opening<S>>, TableInvariantRule<S>, Global>,
         Seat<S, View>,
     ),
     Vec<S>,
 >
-    requires { Shows S.shown (opened_of S.shown opening) (laid words.now opening.slots.items (newcomer (opened_of S.shown opening))) }
+    requires { TableInvariant S.shown (opened_of S.shown opening) (laid words.now opening.slots.items (first_view (opened_of S.shown opening))) }
     ensures key { IfOk result (λ made. made.0.shared.key.value ≡ opening) }
     ensures words { IfOk result (λ made. made.0.shared.table_id.words ≡ length words.now) }
     ensures slots { IfOk result (λ made. made.0.shared.table_id.slots ≡ length opening.slots.items) }
     ensures table { IfOk result (λ made. made.1.table_id ≡ made.0.shared.table_id) }
-    ensures seat { IfOk result (λ made. made.1.me ≡ (newcomer (opened_of S.shown opening), [])) }
+    ensures seat { IfOk result (λ made. made.1.me ≡ (first_view (opened_of S.shown opening), [])) }
     ensures none { IfErr result (λ slots. slots.items ≡ opening.slots.items) }
 {
     let key = Snapshot::of(&opening);
@@ -136,7 +136,7 @@ fn board_of<L: Lines + Drop, B: Backing + Drop>(
     parts: Vec<L>,
     stores: Vec<B>,
 ) -> Result<(Board<L, B>, Pass<L, B>), Unfilled<L, B>>
-    requires limits { IsWithinLimits (sizes_of layout) }
+    requires limits { MountIsWithinLimits (sizes_of layout) }
     requires next { next ≤ 2 ^ 60 }
     requires parts { HasParts version_1 layout.page layout.entries (map L.room parts.items) }
     requires stores { length stores.items ≡ layout.files }

@@ -1,12 +1,12 @@
 //! The end of a board: what its slots hold comes out.
 ghost use Rattle.std.specs.Prelude.{◌≡◌, ◌+◌, ◌≤◌, ◌++◌, [], length, vec_capacity};
 ghost use Rattle.std.specs.Mem.Slots.{IsFull, slots_items};
-ghost use Rattle.nv_table.specs.Between.{IsStill};
-ghost use Rattle.nv_table.specs.Closing.{IsClosed};
-ghost use Rattle.nv_table.specs.Kept.{part_value, store_value, slot_value};
-ghost use Rattle.nv_table.specs.OpeningSlots.{parts_in, stores_in};
-ghost use Rattle.nv_table.specs.Sights.{made_of};
-ghost use Rattle.nv_table.specs.States.{IsOf};
+ghost use Rattle.nv_table.specs.passes.PassesMade.{IsShownStill};
+ghost use Rattle.nv_table.specs.ends.Closing.{IsClosed};
+ghost use Rattle.nv_table.specs.state.SlotValues.{part_value, store_value, slot_value};
+ghost use Rattle.nv_table.specs.ends.OpeningSlots.{parts_in, stores_in};
+ghost use Rattle.nv_table.specs.state.Views.{made_of};
+ghost use Rattle.nv_table.specs.state.States.{IsOf};
 
 use crate::opening::{Unfilled, take_apart};
 use crate::seats::put_back;
@@ -52,13 +52,13 @@ fn empty_slots<L: Drop, B: Drop>(
 }
 
 impl<L: Lines + Drop, B: Backing + Drop> Board<L, B> {
-    /// Closes the board by pass 0, which has taken in all passes that it made. What it carries goes home first, while the locks of these
+    /// Closes the board by pass 0, which has taken in all passes that it made. What it owns goes home first, while the locks of these
     /// cells stay shut. No device call may have come since its last step. Takes no memory.
     pub fn close(self, mut pass: Pass<L, B>) -> Closed<L, B>
         requires board { IsOf self pass }
-        requires zero { pass.sight.number ≡ 0 }
-        requires all { length pass.sight.ended ≡ made_of pass.sight }
-        requires still { IsStill pass }
+        requires zero { pass.view.number ≡ 0 }
+        requires all { length pass.view.ended ≡ made_of pass.view }
+        requires still { IsShownStill pass }
         ensures { IsClosed L.device B.device
             (slot_value (part_value L.device L.history L.fault_count L.room) (store_value B.device B.history B.fault_count))
             self pass result.parts.items result.stores.items result.placed result.tail }

@@ -1,7 +1,7 @@
 //! What of the core's laws the table rests on, and laws of passes that calls rest on.
-ghost use Rattle.nv_table.specs.Alone.{NothingComesBetween, StaysAlone, NoLockIsHeld, LoadsTellHead, HeadStaysKnown, NoDrawIsLost};
-ghost use Rattle.nv_table.specs.BetweenCalls.{NewPassIsIdle, SplitsLeaveIdle, JoinsLeaveIdle};
-ghost use Rattle.nv_table.specs.CoreLaws.{CoreLaws};
+ghost use Rattle.nv_table.specs.passes.Alone.{NothingComesBetween, StaysAlone, NoLockIsHeld, LoadsTellHead, HeadStaysKnown, NoDrawIsLost};
+ghost use Rattle.nv_table.specs.passes.BetweenCalls.{NewPassIsIdle, SplitsLeaveIdle, JoinsLeaveIdle};
+ghost use Rattle.nv_table.specs.invariant.CoreLaws.{CoreLaws};
 
 use nv_core::{passes_are_left_alone, runs_are_sound, words_have_places_of_their_own};
 

@@ -1,5 +1,5 @@
 //! How the words and slots of a mount are numbered.
-ghost use Rattle.nv_table.specs.Limits.{IsWithinLimits};
+ghost use Rattle.nv_table.specs.state.Limits.{MountIsWithinLimits};
 
 /// STOP: 0, or 1 after a device fault.
 pub const STOP: u64 = 0;
@@ -32,18 +32,18 @@ pub struct Layout {
     pub entries: u64,
     /// Buffers: up to one for each page of all files.
     pub buffers: u64,
-    pub ghost limits: { IsWithinLimits record { page = page; files = files; pages = pages; entries = entries; buffers = buffers } },
+    pub ghost limits: { MountIsWithinLimits record { page = page; files = files; pages = pages; entries = entries; buffers = buffers } },
 }
 
 impl Layout {
     ghost use Rattle.std.specs.Prelude.{◌≡◌, ◌<◌, ◌*◌};
-    ghost use Rattle.nv_core.specs.Words.{SIZE, LENGTH, STORE, ENTRY, HINT, PAGE, CLEANUP, DIRTY, place};
-    ghost use Rattle.nv_table.specs.Keys.{sizes_of};
-    ghost use Rattle.nv_table.specs.Layout.{word_at, slot_of, word_total, slot_total};
+    ghost use Rattle.nv_core.specs.state.Words.{SIZE, LENGTH, STORE, ENTRY, HINT, PAGE, CLEANUP, DIRTY, place};
+    ghost use Rattle.nv_table.specs.state.Keys.{sizes_of};
+    ghost use Rattle.nv_table.specs.state.Layout.{word_of_place, slot_of_cell, word_total, slot_total};
 
     /// A page of `page` bytes, `files` files of `pages` pages each, `entries` entries of the log, and `buffers` buffers of a page.
     pub fn new(page: u64, files: u64, pages: u64, entries: u64, buffers: u64) -> Layout
-        requires limits { IsWithinLimits record { page = page; files = files; pages = pages; entries = entries; buffers = buffers } }
+        requires limits { MountIsWithinLimits record { page = page; files = files; pages = pages; entries = entries; buffers = buffers } }
         ensures { sizes_of result ≡ record { page = page; files = files; pages = pages; entries = entries; buffers = buffers } }
     {
         Layout {
@@ -135,7 +135,7 @@ impl Layout {
 
     /// The slot of the cell at a place, if that cell keeps something.
     pub fn slot(&self, word: u64) -> Option<usize>
-        ensures { result ≡ slot_of (sizes_of self.now) (word_at (sizes_of self.now) word) }
+        ensures { result ≡ slot_of_cell (sizes_of self.now) (word_of_place (sizes_of self.now) word) }
     {
         if word < FILES {
             return (word == HEADER).then_some(0);

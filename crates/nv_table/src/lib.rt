@@ -2,7 +2,7 @@
 //! entry's part, each file's store, and each page's buffer. Threads share a [`Board`] by reference; each steps with a [`Pass`] of its own. There
 //! is no lock and no waiting, and no step takes memory.
 //!
-//! What contracts see of a pass is the run so far: all events of all passes up to its own last one. The rule of the table says that
+//! What contracts see of a pass is the run so far: all events of all passes up to its own last one. The table's invariant says that
 //! its words and its slots at home are those of the state that one run of the core (`nv_core`) leads to, and that each pass has seen all of its own
 //! events. So a step is one event of the core, after the device calls that its pass has made since its last one, and nothing else changes the
 //! table. `docs/machine.md` has all of it in words.
@@ -14,8 +14,7 @@
 mod acting;
 mod board;
 mod closing;
-mod desk;
-mod hands;
+mod exchanges;
 mod laws;
 mod layout;
 mod opening;
@@ -27,16 +26,16 @@ mod slot;
 mod stepping;
 mod turns;
 mod view;
+mod workspace;
 
-pub use acting::{Change, Does};
+pub use acting::{Change, StepSpec};
 pub use board::{Board, Refused};
 pub use closing::Closed;
-pub use desk::Desk;
-pub use hands::exchange;
+pub use exchanges::exchange;
 pub use laws::{a_pass_alone_is_not_refused, passes_stay_between_calls};
 pub use layout::{CLEANER, HAND, HEAD, HEADER, Layout, ORDER, STOP, TAIL};
 pub use pass::Pass;
-pub use seats::{Note, hear, join_pass, split_pass, write_note};
+pub use seats::{ExportedView, export_view, import_view, join_pass, split_pass};
 pub use slot::{PageBuffer, Shown, Slot};
 pub use stepping::{Marks, Moves, step};
 pub use turns::{
@@ -44,3 +43,4 @@ pub use turns::{
     take,
 };
 pub use view::View;
+pub use workspace::Workspace;

@@ -1,9 +1,9 @@
 //! What a mount begins with: its words, and what its slots hold.
 ghost use Rattle.std.specs.Prelude.{◌≡◌, ◌+◌, ◌≤◌, [], ◌∷◌, ◌++◌, length, drop, vec_capacity, IfOk, IfErr};
-ghost use Rattle.nv_table.specs.Keys.{sizes_of};
-ghost use Rattle.nv_table.specs.Limits.{IsWithinLimits};
-ghost use Rattle.nv_table.specs.OpeningSlots.{AreBuffers, AreOpeningSlots, parts_in, stores_in};
-ghost use Rattle.nv_table.specs.OpeningWords.{AreOpeningWords};
+ghost use Rattle.nv_table.specs.state.Keys.{sizes_of};
+ghost use Rattle.nv_table.specs.state.Limits.{MountIsWithinLimits};
+ghost use Rattle.nv_table.specs.ends.OpeningSlots.{AreBuffers, AreOpeningSlots, parts_in, stores_in};
+ghost use Rattle.nv_table.specs.ends.OpeningWords.{AreOpeningWords};
 
 use crate::{Layout, PageBuffer, Slot};
 use nv_plain::NoMemory;
@@ -18,7 +18,7 @@ pub(crate) fn words_of(
     next: u64,
     lengths: &[u64],
 ) -> Result<Vec<u64>, NoMemory>
-    requires limits { IsWithinLimits (sizes_of layout) }
+    requires limits { MountIsWithinLimits (sizes_of layout) }
     requires lengths { length lengths.now ≡ layout.files }
     ensures { IfOk result (λ words. AreOpeningWords (sizes_of layout) next lengths.now words.items) }
 {
@@ -62,7 +62,7 @@ pub(crate) fn slots_of<L: Lines, B: Backing>(
     mut parts: Vec<L>,
     mut stores: Vec<B>,
 ) -> Result<Filled<L, B>, Unfilled<L, B>>
-    requires limits { IsWithinLimits (sizes_of layout) }
+    requires limits { MountIsWithinLimits (sizes_of layout) }
     requires parts { 1 + layout.entries ≤ length parts.items }
     requires stores { length stores.items ≡ layout.files }
     ensures slots { IfOk result (λ filled. AreOpeningSlots (sizes_of layout) parts.items stores.items filled.slots.items) }
@@ -100,7 +100,7 @@ pub(crate) fn slots_of<L: Lines, B: Backing>(
 
 // A buffer for each of the first pages, and none for the others.
 fn buffers_of(alloc: Global, layout: Layout) -> Result<Vec<Option<PageBuffer>>, NoMemory>
-    requires limits { IsWithinLimits (sizes_of layout) }
+    requires limits { MountIsWithinLimits (sizes_of layout) }
     ensures { IfOk result (λ buffers. AreBuffers (sizes_of layout) buffers.items) }
 {
     let mut buffers = Vec::new(alloc);

@@ -1,14 +1,14 @@
 //! The passes: each thread's own, with which it steps.
 ghost use Rattle.std.specs.Prelude.{◌≡◌, ◌≢◌, ℕ, ◌<◌, ◌≤◌, ◌++◌, [], take, drop, length, slice_index, Some};
-ghost use Rattle.nv_core.specs.Opening.{IsMount};
-ghost use Rattle.nv_table.specs.Acts.{IsFirst};
-ghost use Rattle.nv_table.specs.Between.{IsStill};
-ghost use Rattle.nv_table.specs.Drawn.{drawn_by, or_else as either_number};
-ghost use Rattle.nv_table.specs.Opened.{mount_of, IsRunOf};
-ghost use Rattle.nv_table.specs.Passing.{KnowsTaken};
-ghost use Rattle.nv_table.specs.Sights.{slot_times};
-ghost use Rattle.nv_table.specs.Turned.{SameButTurned};
-ghost use Rattle.nv_table.specs.Turns.{DueStepsStand};
+ghost use Rattle.nv_core.specs.steps.Opening.{IsMount};
+ghost use Rattle.nv_table.specs.steps.SeatSteps.{IsFirst};
+ghost use Rattle.nv_table.specs.passes.PassesMade.{IsShownStill};
+ghost use Rattle.nv_table.specs.invariant.Drawn.{drawn_by, or_else as either_number};
+ghost use Rattle.nv_table.specs.state.Opened.{mount_of, IsRunOf};
+ghost use Rattle.nv_table.specs.invariant.BetweenSteps.{KnowsTaken};
+ghost use Rattle.nv_table.specs.state.Views.{slot_times};
+ghost use Rattle.nv_table.specs.state.Rotated.{SameButTurned};
+ghost use Rattle.nv_table.specs.steps.CallSteps.{DueStepsStand};
 
 use crate::laws::laws_of_the_core;
 use crate::{Slot, View};
@@ -36,23 +36,23 @@ pub struct Pass<L: Lines, B: Backing> {
 
 impl<L: Lines, B: Backing> Model for Pass<L, B> {
     ghost use Rattle.std.specs.Prelude.{map, vec_capacity};
-    ghost use Rattle.nv_table.specs.States.{PassState, shown_in};
+    ghost use Rattle.nv_table.specs.state.States.{PassState, shown_in};
     ghost use Rattle.std.specs.Prelude.{◌≡◌};
-    ghost use Rattle.nv_table.specs.Drawn.{inherited_of};
-    ghost use Rattle.nv_table.specs.Passing.{HasPlaces, IsPass};
-    ghost use Rattle.nv_table.specs.Kept.{part_value, store_value, slot_value};
+    ghost use Rattle.nv_table.specs.invariant.Drawn.{inherited_of};
+    ghost use Rattle.nv_table.specs.invariant.BetweenSteps.{HasPlacesBack, IsPass};
+    ghost use Rattle.nv_table.specs.state.SlotValues.{part_value, store_value, slot_value};
 
     ghost Value = { PassState };
 
     ghost view = { λ p. record {
       table = p.seat.table_id;
-      sight = p.seat.me.0;
+      view = p.seat.me.0;
       now = shown_in (slot_value (part_value L.device L.history L.fault_count L.room) (store_value B.device B.history B.fault_count)) p.seat.me.1;
       spare = map (part_value L.device L.history L.fault_count L.room) p.parts.items;
     } };
 
     ghost invariant = { λ p. IsPass p.seat.me.0 p.seat.me.1 p.number p.made p.joined p.held.items (vec_capacity p.held) p.drawn p.lost
-        × HasPlaces p.seat.me.0.opened.sizes p.number p.parts.items (vec_capacity p.parts) p.stores.items (vec_capacity p.stores)
+        × HasPlacesBack p.seat.me.0.opened.sizes p.number p.parts.items (vec_capacity p.parts) p.stores.items (vec_capacity p.stores)
         × (p.inherited ≡ inherited_of p.seat.me.0.opened p.seat.me.0.ended) };
 }
 
@@ -94,15 +94,15 @@ fn turn<S>(seat: &mut Seat<S, View>, count: usize)
 impl<L: Lines, B: Backing> Pass<L, B> {
     /// A law: its mount is one of which the core's laws speak, and what it has seen is a run of it.
     pub fn sees_a_run(&self)
-        ensures mount { IsMount (mount_of self.now.sight.opened) }
-        ensures run { IsRunOf self.now.sight.opened self.now.sight.run }
+        ensures mount { IsMount (mount_of self.now.view.opened) }
+        ensures run { IsRunOf self.now.view.opened self.now.view.run }
     {
         let _ = &self.number;
     }
 
-    /// A law: where it carries nothing, no device call has come since its last step.
+    /// A law: where it owns nothing, no device call has come since its last step.
     pub fn bare_is_still(&self)
-        ensures { self.now.now ≡ [] → IsStill self.now }
+        ensures { self.now.now ≡ [] → IsShownStill self.now }
     {
         let _ = &self.number;
     }
@@ -117,7 +117,7 @@ impl<L: Lines, B: Backing> Pass<L, B> {
 
     /// A law: those that pass 0 took in are those that the core has as taken in, and all of their events lie in what it has seen.
     pub fn has_taken_in(&self)
-        ensures { self.now.sight.number ≡ 0 → KnowsTaken self.now.sight }
+        ensures { self.now.view.number ≡ 0 → KnowsTaken self.now.view }
     {
         let _ = &self.number;
     }
@@ -125,12 +125,12 @@ impl<L: Lines, B: Backing> Pass<L, B> {
     /// The first number of the log that its write drew which has no place yet, be it open or ended by a device fault. Where it has no such
     /// write, it is that of the passes that it took in, of the last one that has one; `None` where there is none.
     pub fn drawn(&self) -> Option<u64>
-        ensures { result ≡ drawn_by self.now.sight }
+        ensures { result ≡ drawn_by self.now.view }
     {
         or_else(self.drawn, self.inherited)
     }
 
-    // A slot that it carries comes to the front.
+    // A slot that it owns comes to the front.
     pub(crate) fn bring(&mut self, slot: usize)
         requires { slot_times slot self.old.now ≡ 1 }
         ensures same { SameButTurned self.old self.new }

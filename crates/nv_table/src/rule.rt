@@ -1,7 +1,7 @@
-//! The rule of the table: its words, the values at home and what its seats see show a state that a run of the core leads to.
-ghost use Rattle.nv_table.specs.Keys.{opened_of};
-ghost use Rattle.nv_table.specs.Shows.{Shows};
-ghost use Rattle.nv_table.specs.Sights.{newcomer};
+//! The table's invariant: its words, the values at home and what its seats see show a state that a run of the core leads to.
+ghost use Rattle.nv_table.specs.state.Keys.{opened_of};
+ghost use Rattle.nv_table.specs.invariant.TableInvariant.{TableInvariant};
+ghost use Rattle.nv_table.specs.state.Views.{first_view};
 
 use crate::{Layout, Shown, View};
 use atomic_table::TableRule;
@@ -17,12 +17,12 @@ pub struct Opening<S> {
 }
 
 /// The rule.
-pub struct OneRun<S> {
+pub struct TableInvariantRule<S> {
     marker: PhantomData<S>,
 }
 
-impl<S: Shown> TableRule<S, View, Snapshot<Opening<S>>> for OneRun<S> {
-    ghost holds = { λ key. Shows S.shown (opened_of S.shown key.value) };
+impl<S: Shown> TableRule<S, View, Snapshot<Opening<S>>> for TableInvariantRule<S> {
+    ghost holds = { λ key. TableInvariant S.shown (opened_of S.shown key.value) };
 
-    ghost first = { λ key. newcomer (opened_of S.shown key.value) };
+    ghost first = { λ key. first_view (opened_of S.shown key.value) };
 }

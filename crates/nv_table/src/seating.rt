@@ -1,13 +1,13 @@
 //! How a pass is made, told, taken in and given up: the steps between passes, and what a seat is cut into and joined with.
 ghost use Rattle.std.specs.Prelude.{◌≡◌, ◌≢◌, ◌+◌, ◌<◌, true, false, List, []};
-ghost use Rattle.nv_core.specs.Words.{Word, STOP, keeps_something};
-ghost use Rattle.nv_core.specs.Passes.{times};
-ghost use Rattle.nv_core.specs.Deeds.{Splits, Joins};
-ghost use Rattle.nv_table.specs.Sights.{Past, SeesAll, pass_of, made_of, ended_of, carried, numbers};
-ghost use Rattle.nv_table.specs.Seats.{parent, child, note, heard, joined, spent, Passed, MaySplit, MayLeave, Left, MayJoin};
+ghost use Rattle.nv_core.specs.state.Words.{Word, STOP, keeps_something};
+ghost use Rattle.nv_core.specs.state.Passes.{times};
+ghost use Rattle.nv_core.specs.steps.Ops.{Split as SplitOp, Join as JoinOp};
+ghost use Rattle.nv_table.specs.state.Views.{Past, SeesAll, pass_of, made_of, ended_of, still_owned, numbers};
+ghost use Rattle.nv_table.specs.passes.Seats.{parent, child, exported, imported, joined, spent, PassingTells, MaySplit, MayPutBack, HasPutBack, MayJoin};
 
 use crate::laws::laws_of_the_core;
-use crate::rule::{OneRun, Opening};
+use crate::rule::{Opening, TableInvariantRule};
 use crate::{Shown, View};
 use atomic_table::{Join, Play, Seat, Shared, Split};
 use std::marker::{Brand, PhantomData};
@@ -21,12 +21,12 @@ pub struct Splitting {
 }
 
 impl<S> Play<S, View> for Splitting {
-    ghost then = { λ step old found new. Passed old.0 Splits found new.0 × (new.1 ≡ old.1) };
+    ghost then = { λ step old found new. PassingTells old.0 SplitOp found new.0 × (new.1 ≡ old.1) };
 }
 
 /// Pass 0 makes another pass.
 pub(crate) fn split<S: Shown>(
-    shared: &Shared<S, View, Snapshot<Opening<S>>, OneRun<S>>,
+    shared: &Shared<S, View, Snapshot<Opening<S>>, TableInvariantRule<S>>,
     seat: &mut Seat<S, View>,
 ) -> u64
     requires table { seat.old.table_id ≡ shared.now.table_id }
@@ -35,7 +35,7 @@ pub(crate) fn split<S: Shown>(
     requires may { MaySplit seat.old.me.0 }
     ensures table { seat.new.table_id ≡ seat.old.table_id }
     ensures seat { seat.new.id ≡ seat.old.id }
-    ensures passed { Passed seat.old.me.0 Splits result seat.new.me.0 }
+    ensures passed { PassingTells seat.old.me.0 SplitOp result seat.new.me.0 }
     ensures slots { seat.new.me.1 ≡ seat.old.me.1 }
 {
     laws_of_the_core();
@@ -57,21 +57,21 @@ pub struct PutBack<E, S> {
 }
 
 impl<E: Leaving, S: Shown> Play<S, View> for PutBack<E, S> {
-    ghost then = { λ step old found new. Left S.shown old E.cell found new };
+    ghost then = { λ step old found new. HasPutBack S.shown old E.cell found new };
 }
 
-/// A pass puts back what a cell in its hands keeps.
+/// A pass puts back what a cell that it owns keeps.
 pub(crate) fn leave<E: Leaving, S: Shown>(
-    shared: &Shared<S, View, Snapshot<Opening<S>>, OneRun<S>>,
+    shared: &Shared<S, View, Snapshot<Opening<S>>, TableInvariantRule<S>>,
     seat: &mut Seat<S, View>,
 ) -> u64
     requires table { seat.old.table_id ≡ shared.now.table_id }
     requires place { 0 < shared.now.table_id.words }
     requires live { seat.old.me.0.live ≡ true }
-    requires may { MayLeave S.shown seat.old.me E.cell }
+    requires may { MayPutBack S.shown seat.old.me E.cell }
     ensures table { seat.new.table_id ≡ seat.old.table_id }
     ensures seat { seat.new.id ≡ seat.old.id }
-    ensures left { Left S.shown seat.old.me E.cell result seat.new.me }
+    ensures left { HasPutBack S.shown seat.old.me E.cell result seat.new.me }
 {
     laws_of_the_core();
     shared.load::<PutBack<E, S>>(seat, 0)
@@ -96,12 +96,12 @@ pub struct TakenIn<E> {
 }
 
 impl<E: Joining, S> Play<S, View> for TakenIn<E> {
-    ghost then = { λ step old found new. Passed old.0 (Joins E.past.number) found new.0 × (new.1 ≡ old.1) × SeesAll E.past.number E.past.run new.0.run };
+    ghost then = { λ step old found new. PassingTells old.0 (JoinOp E.past.number) found new.0 × (new.1 ≡ old.1) × SeesAll E.past.number E.past.run new.0.run };
 }
 
 /// Pass 0 takes in the pass whose seat it has taken last.
 pub(crate) fn join<E: Joining, S: Shown>(
-    shared: &Shared<S, View, Snapshot<Opening<S>>, OneRun<S>>,
+    shared: &Shared<S, View, Snapshot<Opening<S>>, TableInvariantRule<S>>,
     seat: &mut Seat<S, View>,
 ) -> u64
     requires table { seat.old.table_id ≡ shared.now.table_id }
@@ -110,7 +110,7 @@ pub(crate) fn join<E: Joining, S: Shown>(
     requires may { MayJoin seat.old.me.0 E.past E.before }
     ensures table { seat.new.table_id ≡ seat.old.table_id }
     ensures seat { seat.new.id ≡ seat.old.id }
-    ensures passed { Passed seat.old.me.0 (Joins E.past.number) result seat.new.me.0 }
+    ensures passed { PassingTells seat.old.me.0 (JoinOp E.past.number) result seat.new.me.0 }
     ensures slots { seat.new.me.1 ≡ seat.old.me.1 }
     ensures behind { SeesAll E.past.number E.past.run seat.new.me.0.run }
 {
@@ -133,7 +133,7 @@ impl Split<View> for Parting {
 
 /// The seat of the pass that pass 0 has made last.
 pub(crate) fn part<S: Shown>(
-    shared: &Shared<S, View, Snapshot<Opening<S>>, OneRun<S>>,
+    shared: &Shared<S, View, Snapshot<Opening<S>>, TableInvariantRule<S>>,
     seat: &mut Seat<S, View>,
 ) -> Seat<S, View>
     requires table { seat.old.table_id ≡ shared.now.table_id }
@@ -150,20 +150,20 @@ pub(crate) fn part<S: Shown>(
     shared.split_seat::<Parting>(seat)
 }
 
-/// How a note is taken of a seat.
+/// How an exported view is taken of a seat.
 pub struct Telling {
     marker: PhantomData<()>,
 }
 
 impl Split<View> for Telling {
-    ghost left = { λ sight. sight };
+    ghost left = { λ view. view };
 
-    ghost right = { note };
+    ghost right = { exported };
 }
 
-/// A note of the run so far, which is a seat of no pass.
+/// An exported view of the run so far, which is a seat of no pass.
 pub(crate) fn tell<S: Shown>(
-    shared: &Shared<S, View, Snapshot<Opening<S>>, OneRun<S>>,
+    shared: &Shared<S, View, Snapshot<Opening<S>>, TableInvariantRule<S>>,
     seat: &mut Seat<S, View>,
 ) -> Seat<S, View>
     requires table { seat.old.table_id ≡ shared.now.table_id }
@@ -172,39 +172,39 @@ pub(crate) fn tell<S: Shown>(
     ensures seat { seat.new.id ≡ seat.old.id }
     ensures same { seat.new.me ≡ seat.old.me }
     ensures same_table { result.table_id ≡ seat.old.table_id }
-    ensures note { result.me ≡ (note seat.old.me.0, []) }
+    ensures exported { result.me ≡ (exported seat.old.me.0, []) }
 {
     shared.split_seat::<Telling>(seat)
 }
 
-/// How a seat is told what a note says.
+/// How a seat is told what an exported view says.
 pub struct Hearing {
     marker: PhantomData<()>,
 }
 
 impl Join<View> for Hearing {
-    ghost both = { heard };
+    ghost both = { imported };
 
     ghost spent = { spent };
 }
 
-/// A seat is told what a note says.
-pub(crate) fn hear<S: Shown>(
-    shared: &Shared<S, View, Snapshot<Opening<S>>, OneRun<S>>,
+/// A seat is told what an exported view says.
+pub(crate) fn import_view<S: Shown>(
+    shared: &Shared<S, View, Snapshot<Opening<S>>, TableInvariantRule<S>>,
     seat: &mut Seat<S, View>,
-    note: Seat<S, View>,
+    exported: Seat<S, View>,
 )
     requires table { seat.old.table_id ≡ shared.now.table_id }
-    requires note_table { note.table_id ≡ shared.now.table_id }
+    requires note_table { exported.table_id ≡ shared.now.table_id }
     requires place { 0 < shared.now.table_id.words }
     requires live { seat.old.me.0.live ≡ true }
-    requires of_no_pass { note.me.0.live ≡ false }
-    requires slots { note.me.1 ≡ [] }
+    requires of_no_pass { exported.me.0.live ≡ false }
+    requires slots { exported.me.1 ≡ [] }
     ensures table { seat.new.table_id ≡ seat.old.table_id }
     ensures seat { seat.new.id ≡ seat.old.id }
-    ensures heard { seat.new.me ≡ (heard seat.old.me.0 note.me.0, seat.old.me.1) }
+    ensures imported { seat.new.me ≡ (imported seat.old.me.0 exported.me.0, seat.old.me.1) }
 {
-    shared.join_seat::<Hearing>(seat, note)
+    shared.join_seat::<Hearing>(seat, exported)
 }
 
 /// How pass 0 takes another pass's seat.
@@ -218,9 +218,9 @@ impl Join<View> for TakingIn {
     ghost spent = { spent };
 }
 
-/// Pass 0 takes the seat of a pass that carries nothing.
+/// Pass 0 takes the seat of a pass that owns nothing.
 pub(crate) fn take_in<S: Shown>(
-    shared: &Shared<S, View, Snapshot<Opening<S>>, OneRun<S>>,
+    shared: &Shared<S, View, Snapshot<Opening<S>>, TableInvariantRule<S>>,
     seat: &mut Seat<S, View>,
     other: Seat<S, View>,
 )
@@ -232,7 +232,7 @@ pub(crate) fn take_in<S: Shown>(
     requires ended { ended_of seat.old.me.0 ≡ numbers seat.old.me.0.ended }
     requires other_live { other.me.0.live ≡ true }
     requires other_some { other.me.0.number ≢ 0 }
-    requires other_bare { (cell : Word) → keeps_something cell ≡ true → times cell (carried (pass_of other.me.0)) ≡ 0 }
+    requires other_bare { (cell : Word) → keeps_something cell ≡ true → times cell (still_owned (pass_of other.me.0)) ≡ 0 }
     requires slots { other.me.1 ≡ [] }
     ensures table { seat.new.table_id ≡ seat.old.table_id }
     ensures seat { seat.new.id ≡ seat.old.id }

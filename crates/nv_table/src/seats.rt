@@ -1,12 +1,12 @@
 //! How passes are made and taken in, and how one tells another the run so far.
 ghost use Rattle.std.specs.Prelude.{◌≡◌, ◌≢◌, ◌+◌, ◌<◌, ◌≤◌, ◌^◌, List, [], ◌∷◌, ℕ, length, IfOk, OnErr};
-ghost use Rattle.nv_core.specs.Words.{Word};
-ghost use Rattle.nv_table.specs.Between.{IsStill, IsSplit, PutsBack, IsTakenIn, told_by};
-ghost use Rattle.nv_table.specs.Sights.{pass_of, made_of};
-ghost use Rattle.nv_table.specs.States.{IsOf};
+ghost use Rattle.nv_core.specs.state.Words.{Word};
+ghost use Rattle.nv_table.specs.passes.PassesMade.{IsShownStill, IsSplit, PutsBack, IsTakenIn, imported_by};
+ghost use Rattle.nv_table.specs.state.Views.{pass_of, made_of};
+ghost use Rattle.nv_table.specs.state.States.{IsOf};
 
 use crate::pass::or_else;
-use crate::seating::{hear as hear_note, join, leave, part, split, take_in, tell};
+use crate::seating::{import_view as import_note, join, leave, part, split, take_in, tell};
 use crate::{Board, Pass, Slot, View};
 use atomic_table::Seat;
 use nv_core::{passes_are_left_alone, runs_are_sound};
@@ -16,16 +16,16 @@ use nv_store::Backing;
 use std::alloc::Global;
 use std::marker::{Brand, Model};
 
-/// The run of all passes up to some pass's last step, which another pass may hear. It has no bytes.
-pub struct Note<L: Lines, B: Backing> {
+/// The run of all passes up to some pass's last step, which another pass may import. It has no bytes.
+pub struct ExportedView<L: Lines, B: Backing> {
     seat: Seat<Slot<L, B>, View>,
 }
 
-impl<L: Lines, B: Backing> Model for Note<L, B> {
+impl<L: Lines, B: Backing> Model for ExportedView<L, B> {
     ghost use Rattle.std.specs.Prelude.{◌≡◌, false, []};
-    ghost use Rattle.nv_table.specs.Between.{NoteState};
+    ghost use Rattle.nv_table.specs.passes.PassesMade.{ExportedViewState};
 
-    ghost Value = { NoteState };
+    ghost Value = { ExportedViewState };
 
     ghost view = { λ n. record { table = n.seat.table_id; run = n.seat.me.0.run } };
 
@@ -35,24 +35,24 @@ impl<L: Lines, B: Backing> Model for Note<L, B> {
 impl<L: Lines + Drop, B: Backing + Drop> Pass<L, B> {
     /// Its number: 0 for the pass that the board was made with, and from 1 on, in their order, for those that it made.
     pub fn number(&self) -> u64
-        ensures { result ≡ self.now.sight.number }
+        ensures { result ≡ self.now.view.number }
     {
         self.number
     }
 
     /// How many passes pass 0 has made.
     pub fn made(&self) -> u64
-        requires zero { self.now.sight.number ≡ 0 }
-        ensures { result ≡ made_of self.now.sight }
+        requires zero { self.now.view.number ≡ 0 }
+        ensures { result ≡ made_of self.now.view }
     {
         self.made
     }
 
     /// How many passes pass 0 has taken in: at most as many as it has made.
     pub fn joined(&self) -> u64
-        requires zero { self.now.sight.number ≡ 0 }
-        ensures count { result ≡ length self.now.sight.ended }
-        ensures most { result ≤ made_of self.now.sight }
+        requires zero { self.now.view.number ≡ 0 }
+        ensures count { result ≡ length self.now.view.ended }
+        ensures most { result ≤ made_of self.now.view }
     {
         runs_are_sound();
         self.joined
@@ -67,9 +67,9 @@ pub fn split_pass<L: Lines + Drop, B: Backing + Drop>(
     pass: &mut Pass<L, B>,
 ) -> Result<Pass<L, B>, NoMemory>
     requires board { IsOf board.now pass.old }
-    requires zero { pass.old.sight.number ≡ 0 }
-    requires staying { (pass_of pass.old.sight).left ≡ [] }
-    requires few { made_of pass.old.sight + 1 < 2 ^ 32 }
+    requires zero { pass.old.view.number ≡ 0 }
+    requires staying { (pass_of pass.old.view).left ≡ [] }
+    requires few { made_of pass.old.view + 1 < 2 ^ 32 }
     ensures made { IfOk result (λ other. IsSplit pass.old pass.new other) }
     ensures refused { OnErr result (pass.new ≡ pass.old) }
 {
@@ -96,25 +96,25 @@ pub fn split_pass<L: Lines + Drop, B: Backing + Drop>(
 // The slot that stands first goes home, and the lock of its cell stays shut.
 fn put_back_first<L: Lines, B: Backing>(board: &Board<L, B>, pass: &mut Pass<L, B>)
     requires board { IsOf board.now pass.old }
-    requires still { IsStill pass.old }
+    requires still { IsShownStill pass.old }
     requires some { pass.old.now ≢ [] }
     ensures board { IsOf board.now pass.new }
-    ensures still { IsStill pass.new }
+    ensures still { IsShownStill pass.new }
     ensures spare { pass.new.spare ≡ pass.old.spare }
     ensures fewer { length pass.new.now + 1 ≡ length pass.old.now }
-    ensures back { (cell : Word × ℕ) × PutsBack (cell ∷ []) pass.old.sight pass.new.sight }
+    ensures back { (cell : Word × ℕ) × PutsBack (cell ∷ []) pass.old.view pass.new.view }
 {
     leave::<Brand, Slot<L, B>>(&board.table.shared, &mut pass.seat);
     pass.held.rotate_left(1);
     pass.held.pop();
 }
 
-// All that it carries goes home, and the locks stay shut.
+// All that it owns goes home, and the locks stay shut.
 pub(crate) fn put_back<L: Lines, B: Backing>(board: &Board<L, B>, pass: &mut Pass<L, B>)
     requires board { IsOf board.now pass.old }
-    requires still { IsStill pass.old }
+    requires still { IsShownStill pass.old }
     ensures board { IsOf board.now pass.new }
-    ensures back { (cells : List (Word × ℕ)) × PutsBack cells pass.old.sight pass.new.sight }
+    ensures back { (cells : List (Word × ℕ)) × PutsBack cells pass.old.view pass.new.view }
     ensures spare { pass.new.spare ≡ pass.old.spare }
     ensures bare { pass.new.now ≡ [] }
 {
@@ -123,7 +123,7 @@ pub(crate) fn put_back<L: Lines, B: Backing>(board: &Board<L, B>, pass: &mut Pas
     }
 }
 
-/// Takes in a pass that pass 0 made, whatever it is at: what it carries goes home first, while the locks of these cells stay shut, and what it
+/// Takes in a pass that pass 0 made, whatever it is at: what it owns goes home first, while the locks of these cells stay shut, and what it
 /// has drawn for a write that has no place goes over. No device call may have come since its last step. Takes no memory.
 pub fn join_pass<L: Lines + Drop, B: Backing + Drop>(
     board: &Board<L, B>,
@@ -132,10 +132,10 @@ pub fn join_pass<L: Lines + Drop, B: Backing + Drop>(
 )
     requires board { IsOf board.now pass.old }
     requires other_board { IsOf board.now other }
-    requires zero { pass.old.sight.number ≡ 0 }
-    requires other_number { other.sight.number ≢ 0 }
-    requires staying { (pass_of pass.old.sight).left ≡ [] }
-    requires still { IsStill other }
+    requires zero { pass.old.view.number ≡ 0 }
+    requires other_number { other.view.number ≢ 0 }
+    requires staying { (pass_of pass.old.view).left ≡ [] }
+    requires still { IsShownStill other }
     ensures taken { IsTakenIn pass.old other pass.new }
 {
     runs_are_sound();
@@ -163,23 +163,30 @@ pub fn join_pass<L: Lines + Drop, B: Backing + Drop>(
 }
 
 /// Writes down the run of all passes up to a pass's last step.
-pub fn write_note<L: Lines, B: Backing>(board: &Board<L, B>, from: &mut Pass<L, B>) -> Note<L, B>
+pub fn export_view<L: Lines, B: Backing>(
+    board: &Board<L, B>,
+    from: &mut Pass<L, B>,
+) -> ExportedView<L, B>
     requires board { IsOf board.now from.old }
     ensures from { from.new ≡ from.old }
     ensures table { result.table ≡ from.old.table }
-    ensures run { result.run ≡ from.old.sight.run }
+    ensures run { result.run ≡ from.old.view.run }
 {
-    Note {
+    ExportedView {
         seat: tell(&board.table.shared, &mut from.seat),
     }
 }
 
-/// A pass hears a note: each of its later steps comes behind that run, and behind those of the notes that it has heard before.
-pub fn hear<L: Lines, B: Backing>(board: &Board<L, B>, to: &mut Pass<L, B>, note: Note<L, B>)
+/// A pass imports an exported view: each of its later steps comes behind that run, and behind those of the exported views that it has imported before.
+pub fn import_view<L: Lines, B: Backing>(
+    board: &Board<L, B>,
+    to: &mut Pass<L, B>,
+    exported: ExportedView<L, B>,
+)
     requires board { IsOf board.now to.old }
-    requires note { note.table ≡ board.now.table }
-    ensures to { to.new ≡ told_by to.old note.run }
+    requires exported { exported.table ≡ board.now.table }
+    ensures to { to.new ≡ imported_by to.old exported.run }
 {
-    let Note { seat } = note;
-    hear_note(&board.table.shared, &mut to.seat, seat);
+    let ExportedView { seat } = exported;
+    import_note(&board.table.shared, &mut to.seat, seat);
 }

@@ -1,6 +1,6 @@
 //! What the slots of the table hold.
-ghost use Rattle.nv_core.specs.Values.{Value};
-ghost use Rattle.nv_table.specs.Kept.{part_value, store_value, slot_value};
+ghost use Rattle.nv_core.specs.state.Values.{Value};
+ghost use Rattle.nv_table.specs.state.SlotValues.{part_value, store_value, slot_value};
 
 use nv_pmem::Lines;
 use nv_store::Backing;

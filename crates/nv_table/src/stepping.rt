@@ -1,17 +1,17 @@
 //! A step of any kind.
 ghost use Rattle.std.specs.Prelude.{◌≡◌, ◌≢◌, ℕ};
-ghost use Rattle.nv_core.specs.Deeds.{move_of};
-ghost use Rattle.nv_table.specs.Changes.{changed};
-ghost use Rattle.nv_table.specs.Drawn.{marks_of, IsFromHead, drawn_then, lost_then};
-ghost use Rattle.nv_table.specs.Moving.{shift_said, comes_by};
-ghost use Rattle.nv_table.specs.Ready.{IsReady, Stepped};
-ghost use Rattle.nv_table.specs.Sights.{pass_of};
-ghost use Rattle.nv_table.specs.States.{IsOf, Out, shift_of};
+ghost use Rattle.nv_core.specs.steps.Ops.{move_of};
+ghost use Rattle.nv_table.specs.state.Changes.{changed};
+ghost use Rattle.nv_table.specs.invariant.Drawn.{marks_of, IsFromHead, drawn_then, lost_then};
+ghost use Rattle.nv_table.specs.steps.Moving.{shift_said, comes_by};
+ghost use Rattle.nv_table.specs.steps.StepContracts.{PreconditionAt, Postcondition};
+ghost use Rattle.nv_table.specs.state.Views.{pass_of};
+ghost use Rattle.nv_table.specs.state.States.{IsOf, Out, shift_of};
 ghost use Rattle.nv_table.specs.declared.stepping.Moves.TheVariants.{Goes};
 
 use crate::acting::act;
 use crate::laws::laws_of_the_core;
-use crate::{Board, Change, Does, Pass, Slot};
+use crate::{Board, Change, Pass, Slot, StepSpec};
 use nv_pmem::Lines;
 use nv_store::Backing;
 
@@ -78,7 +78,7 @@ impl Marks {
 }
 
 // A step whose slot goes home: it comes to the front first.
-fn go<E: Does, L: Lines, B: Backing>(
+fn go<E: StepSpec, L: Lines, B: Backing>(
     board: &Board<L, B>,
     pass: &mut Pass<L, B>,
     place: usize,
@@ -87,12 +87,12 @@ fn go<E: Does, L: Lines, B: Backing>(
     marks: Marks,
 ) -> u64
     requires board { IsOf board.now pass.old }
-    requires next { (next : IsReady pass.old E.opens E.deed place (changed change)) × E.said next.works }
-    requires marks { marks_of E.opens E.deed ≡ marks }
-    requires head { IsFromHead marks change (pass_of pass.old.sight).head }
-    requires moves { (found : ℕ) → shift_of pass.old.sight.opened.sizes (move_of pass.old.sight.opened.sizes E.deed found) ≡ Out slot }
+    requires next { (next : PreconditionAt pass.old E.opens E.op place (changed change)) × E.said next.works }
+    requires marks { marks_of E.opens E.op ≡ marks }
+    requires head { IsFromHead marks change (pass_of pass.old.view).head }
+    requires moves { (found : ℕ) → shift_of pass.old.view.opened.sizes (move_of pass.old.view.opened.sizes E.op found) ≡ Out slot }
     ensures board { IsOf board.now pass.new }
-    ensures stepped { (stepped : Stepped pass.old E.opens E.deed result pass.new) × E.said stepped.works }
+    ensures stepped { (stepped : Postcondition pass.old E.opens E.op result pass.new) × E.said stepped.works }
 {
     laws_of_the_core();
     // A field is used, so that what keeps the pass is known before its slots turn.
@@ -108,7 +108,7 @@ fn go<E: Does, L: Lines, B: Backing>(
 }
 
 // Another step: where a slot comes, it is the first then.
-fn come<E: Does, L: Lines, B: Backing>(
+fn come<E: StepSpec, L: Lines, B: Backing>(
     board: &Board<L, B>,
     pass: &mut Pass<L, B>,
     place: usize,
@@ -117,13 +117,13 @@ fn come<E: Does, L: Lines, B: Backing>(
     marks: Marks,
 ) -> u64
     requires board { IsOf board.now pass.old }
-    requires next { (next : IsReady pass.old E.opens E.deed place (changed change)) × E.said next.works }
-    requires marks { marks_of E.opens E.deed ≡ marks }
-    requires head { IsFromHead marks change (pass_of pass.old.sight).head }
-    requires moves { (found : ℕ) → shift_of pass.old.sight.opened.sizes (move_of pass.old.sight.opened.sizes E.deed found) ≡ shift_said moves found }
+    requires next { (next : PreconditionAt pass.old E.opens E.op place (changed change)) × E.said next.works }
+    requires marks { marks_of E.opens E.op ≡ marks }
+    requires head { IsFromHead marks change (pass_of pass.old.view).head }
+    requires moves { (found : ℕ) → shift_of pass.old.view.opened.sizes (move_of pass.old.view.opened.sizes E.op found) ≡ shift_said moves found }
     requires stays { (slot : ℕ) → moves ≢ Goes slot }
     ensures board { IsOf board.now pass.new }
-    ensures stepped { (stepped : Stepped pass.old E.opens E.deed result pass.new) × E.said stepped.works }
+    ensures stepped { (stepped : Postcondition pass.old E.opens E.op result pass.new) × E.said stepped.works }
 {
     laws_of_the_core();
     let found = act::<E, Slot<L, B>>(&board.table.shared, &mut pass.seat, place, change);
@@ -139,7 +139,7 @@ fn come<E: Does, L: Lines, B: Backing>(
 }
 
 /// One step of a kind, on the word at a place, which moves a slot or none, and marks what its pass has drawn.
-pub fn step<E: Does, L: Lines, B: Backing>(
+pub fn step<E: StepSpec, L: Lines, B: Backing>(
     board: &Board<L, B>,
     pass: &mut Pass<L, B>,
     place: usize,
@@ -148,12 +148,12 @@ pub fn step<E: Does, L: Lines, B: Backing>(
     marks: Marks,
 ) -> u64
     requires board { IsOf board.now pass.old }
-    requires next { (next : IsReady pass.old E.opens E.deed place (changed change)) × E.said next.works }
-    requires marks { marks_of E.opens E.deed ≡ marks }
-    requires head { IsFromHead marks change (pass_of pass.old.sight).head }
-    requires moves { (found : ℕ) → shift_of pass.old.sight.opened.sizes (move_of pass.old.sight.opened.sizes E.deed found) ≡ shift_said moves found }
+    requires next { (next : PreconditionAt pass.old E.opens E.op place (changed change)) × E.said next.works }
+    requires marks { marks_of E.opens E.op ≡ marks }
+    requires head { IsFromHead marks change (pass_of pass.old.view).head }
+    requires moves { (found : ℕ) → shift_of pass.old.view.opened.sizes (move_of pass.old.view.opened.sizes E.op found) ≡ shift_said moves found }
     ensures board { IsOf board.now pass.new }
-    ensures stepped { (stepped : Stepped pass.old E.opens E.deed result pass.new) × E.said stepped.works }
+    ensures stepped { (stepped : Postcondition pass.old E.opens E.op result pass.new) × E.said stepped.works }
 {
     match moves {
         Moves::Goes(slot) => go::<E, L, B>(board, pass, place, change, slot, marks),

@@ -1,23 +1,23 @@
 //! The steps that every call makes, and a cleaner too.
 ghost use Rattle.std.specs.Prelude.{◌≡◌, ◌==◌, ℕ, true, if◌then◌else◌, List, Option, None, Some, IfErr, OnErr};
-ghost use Rattle.nv_core.specs.Order.{Work};
+ghost use Rattle.nv_core.specs.steps.Order.{Work};
 ghost use Rattle.nv_plain.specs.declared.call.FileCall.{FileCall};
 ghost use Rattle.nv_plain.specs.declared.call.FileCall.TheVariants.{Sync};
-ghost use Rattle.nv_core.specs.Deeds.{Loads, Takes};
-ghost use Rattle.nv_core.specs.Words.{STOP as stop_word};
-ghost use Rattle.nv_core.specs.Standing.{has_call};
-ghost use Rattle.nv_table.specs.Alone.{IsAlone};
-ghost use Rattle.nv_table.specs.Found.{found_by};
-ghost use Rattle.nv_table.specs.Layout.{word_at};
-ghost use Rattle.nv_table.specs.Moving.{shift_said};
-ghost use Rattle.nv_table.specs.Ready.{Stepped};
-ghost use Rattle.nv_table.specs.Sights.{pass_of};
-ghost use Rattle.nv_table.specs.States.{IsOf, Rests, coming, going};
-ghost use Rattle.nv_table.specs.Turns.{IsDue, IsLoad, IsTake, IsStop, IsPlaced, load_deed, take_deed, give_deed, place_deed};
+ghost use Rattle.nv_core.specs.steps.Ops.{Load, Take};
+ghost use Rattle.nv_core.specs.state.Words.{STOP as stop_word};
+ghost use Rattle.nv_core.specs.invariant.ControlFacts.{has_call};
+ghost use Rattle.nv_table.specs.passes.Alone.{IsAlone};
+ghost use Rattle.nv_table.specs.steps.Found.{found_by};
+ghost use Rattle.nv_table.specs.state.Layout.{word_of_place};
+ghost use Rattle.nv_table.specs.steps.Moving.{shift_said};
+ghost use Rattle.nv_table.specs.steps.StepContracts.{Postcondition};
+ghost use Rattle.nv_table.specs.state.Views.{pass_of};
+ghost use Rattle.nv_table.specs.state.States.{IsOf, Rests, coming, going};
+ghost use Rattle.nv_table.specs.steps.CallSteps.{Precondition, IsLoad, IsTake, IsStop, IsPlaced, load_op, take_op, give_op, place_op};
 
 use crate::laws::a_pass_alone_is_not_refused;
 use crate::stepping::{Marks, Moves, step};
-use crate::{Board, Change, Does, ORDER, Pass, STOP};
+use crate::{Board, Change, ORDER, Pass, STOP, StepSpec};
 use nv_core::runs_are_sound;
 use nv_pmem::Lines;
 use nv_store::Backing;
@@ -71,42 +71,42 @@ fn goes(slot: Option<usize>) -> Moves
 }
 
 // A step that loads a word.
-fn load_by<E: Does, L: Lines, B: Backing>(
+fn load_by<E: StepSpec, L: Lines, B: Backing>(
     board: &Board<L, B>,
     pass: &mut Pass<L, B>,
     word: u64,
 ) -> u64
     requires board { IsOf board.now pass.old }
-    requires deed { IsLoad E.deed (word_at pass.old.sight.opened.sizes word) }
-    requires due { IsDue pass.old E.opens E.deed }
+    requires op { IsLoad E.op (word_of_place pass.old.view.opened.sizes word) }
+    requires due { Precondition pass.old E.opens E.op }
     requires said { (works : List Work) → E.said works }
     ensures board { IsOf board.now pass.new }
-    ensures stepped { (stepped : Stepped pass.old E.opens E.deed result pass.new) × E.said stepped.works }
+    ensures stepped { (stepped : Postcondition pass.old E.opens E.op result pass.new) × E.said stepped.works }
 {
     step::<E, L, B>(
         board,
         pass,
         word as usize,
-        Change::Load,
+        Change::Keep,
         Moves::Stays,
         Marks::Nothing,
     )
 }
 
 // A step that takes a lock.
-fn take_by<E: Does, L: Lines, B: Backing>(
+fn take_by<E: StepSpec, L: Lines, B: Backing>(
     board: &Board<L, B>,
     pass: &mut Pass<L, B>,
     cell: u64,
 ) -> Result<(), Busy>
     requires board { IsOf board.now pass.old }
-    requires deed { IsTake E.deed (word_at pass.old.sight.opened.sizes cell) }
-    requires due { IsDue pass.old E.opens E.deed }
+    requires op { IsTake E.op (word_of_place pass.old.view.opened.sizes cell) }
+    requires due { Precondition pass.old E.opens E.op }
     requires said { (works : List Work) → E.said works }
     ensures board { IsOf board.now pass.new }
-    ensures stepped { (stepped : Stepped pass.old E.opens E.deed (found_by result) pass.new) × E.said stepped.works }
+    ensures stepped { (stepped : Postcondition pass.old E.opens E.op (found_by result) pass.new) × E.said stepped.works }
     ensures busy { IfErr result (λ busy. busy.cell ≡ cell) }
-    ensures alone { IsAlone pass.old.sight → E.deed ≡ Takes (word_at pass.old.sight.opened.sizes cell) → OnErr result ⊥ }
+    ensures alone { IsAlone pass.old.view → E.op ≡ Take (word_of_place pass.old.view.opened.sizes cell) → OnErr result ⊥ }
 {
     runs_are_sound();
     a_pass_alone_is_not_refused();
@@ -131,9 +131,9 @@ fn take_by<E: Does, L: Lines, B: Backing>(
 /// Loads a word, by its place, where that is the pass's next step.
 pub fn load_word<L: Lines, B: Backing>(board: &Board<L, B>, pass: &mut Pass<L, B>, word: u64) -> u64
     requires board { IsOf board.now pass.old }
-    requires due { IsDue pass.old None (load_deed (pass_of pass.old.sight).stage (word_at pass.old.sight.opened.sizes word)) }
+    requires due { Precondition pass.old None (load_op (pass_of pass.old.view).control (word_of_place pass.old.view.opened.sizes word)) }
     ensures board { IsOf board.now pass.new }
-    ensures stepped { Stepped pass.old None (load_deed (pass_of pass.old.sight).stage (word_at pass.old.sight.opened.sizes word)) result pass.new }
+    ensures stepped { Postcondition pass.old None (load_op (pass_of pass.old.view).control (word_of_place pass.old.view.opened.sizes word)) result pass.new }
 {
     load_by::<Brand, L, B>(board, pass, word)
 }
@@ -144,9 +144,9 @@ pub fn begin_with_load<C: Calls, L: Lines, B: Backing>(
     pass: &mut Pass<L, B>,
 ) -> u64
     requires board { IsOf board.now pass.old }
-    requires due { IsDue pass.old (Some C.call) (Loads stop_word) }
+    requires due { Precondition pass.old (Some C.call) (Load stop_word) }
     ensures board { IsOf board.now pass.new }
-    ensures stepped { Stepped pass.old (Some C.call) (Loads stop_word) result pass.new }
+    ensures stepped { Postcondition pass.old (Some C.call) (Load stop_word) result pass.new }
 {
     load_by::<Brand, L, B>(board, pass, STOP)
 }
@@ -159,11 +159,11 @@ pub fn take<L: Lines, B: Backing>(
     cell: u64,
 ) -> Result<(), Busy>
     requires board { IsOf board.now pass.old }
-    requires due { IsDue pass.old None (take_deed (pass_of pass.old.sight).stage (word_at pass.old.sight.opened.sizes cell)) }
+    requires due { Precondition pass.old None (take_op (pass_of pass.old.view).control (word_of_place pass.old.view.opened.sizes cell)) }
     ensures board { IsOf board.now pass.new }
-    ensures stepped { Stepped pass.old None (take_deed (pass_of pass.old.sight).stage (word_at pass.old.sight.opened.sizes cell)) (found_by result) pass.new }
+    ensures stepped { Postcondition pass.old None (take_op (pass_of pass.old.view).control (word_of_place pass.old.view.opened.sizes cell)) (found_by result) pass.new }
     ensures busy { IfErr result (λ busy. busy.cell ≡ cell) }
-    ensures alone { IsAlone pass.old.sight → has_call (pass_of pass.old.sight).stage ≡ true → OnErr result ⊥ }
+    ensures alone { IsAlone pass.old.view → has_call (pass_of pass.old.view).control ≡ true → OnErr result ⊥ }
 {
     take_by::<Brand, L, B>(board, pass, cell)
 }
@@ -175,11 +175,11 @@ pub fn begin_with_take<C: Calls, L: Lines, B: Backing>(
     cell: u64,
 ) -> Result<(), Busy>
     requires board { IsOf board.now pass.old }
-    requires due { IsDue pass.old (Some C.call) (Takes (word_at pass.old.sight.opened.sizes cell)) }
+    requires due { Precondition pass.old (Some C.call) (Take (word_of_place pass.old.view.opened.sizes cell)) }
     ensures board { IsOf board.now pass.new }
-    ensures stepped { Stepped pass.old (Some C.call) (Takes (word_at pass.old.sight.opened.sizes cell)) (found_by result) pass.new }
+    ensures stepped { Postcondition pass.old (Some C.call) (Take (word_of_place pass.old.view.opened.sizes cell)) (found_by result) pass.new }
     ensures busy { IfErr result (λ busy. busy.cell ≡ cell) }
-    ensures alone { IsAlone pass.old.sight → OnErr result ⊥ }
+    ensures alone { IsAlone pass.old.view → OnErr result ⊥ }
 {
     take_by::<Brand, L, B>(board, pass, cell)
 }
@@ -187,9 +187,9 @@ pub fn begin_with_take<C: Calls, L: Lines, B: Backing>(
 /// Gives a lock back, by its place, with what its cell keeps, where that is the pass's next step.
 pub fn give<L: Lines, B: Backing>(board: &Board<L, B>, pass: &mut Pass<L, B>, cell: u64)
     requires board { IsOf board.now pass.old }
-    requires due { IsDue pass.old None (give_deed (pass_of pass.old.sight).stage (word_at pass.old.sight.opened.sizes cell)) }
+    requires due { Precondition pass.old None (give_op (pass_of pass.old.view).control (word_of_place pass.old.view.opened.sizes cell)) }
     ensures board { IsOf board.now pass.new }
-    ensures stepped { (found : ℕ) × Stepped pass.old None (give_deed (pass_of pass.old.sight).stage (word_at pass.old.sight.opened.sizes cell)) found pass.new }
+    ensures stepped { (found : ℕ) × Postcondition pass.old None (give_op (pass_of pass.old.view).control (word_of_place pass.old.view.opened.sizes cell)) found pass.new }
 {
     give_after::<Brand, L, B>(board, pass, cell);
 }
@@ -201,9 +201,9 @@ pub fn give_after<W: Says, L: Lines, B: Backing>(
     cell: u64,
 )
     requires board { IsOf board.now pass.old }
-    requires due { (due : IsDue pass.old None (give_deed (pass_of pass.old.sight).stage (word_at pass.old.sight.opened.sizes cell))) × W.said due.works }
+    requires due { (due : Precondition pass.old None (give_op (pass_of pass.old.view).control (word_of_place pass.old.view.opened.sizes cell))) × W.said due.works }
     ensures board { IsOf board.now pass.new }
-    ensures stepped { (found : ℕ) × (stepped : Stepped pass.old None (give_deed (pass_of pass.old.sight).stage (word_at pass.old.sight.opened.sizes cell)) found pass.new) × W.said stepped.works }
+    ensures stepped { (found : ℕ) × (stepped : Postcondition pass.old None (give_op (pass_of pass.old.view).control (word_of_place pass.old.view.opened.sizes cell)) found pass.new) × W.said stepped.works }
 {
     let moves = goes(board.layout.slot(cell));
     step::<Brand, L, B>(
@@ -219,10 +219,10 @@ pub fn give_after<W: Says, L: Lines, B: Backing>(
 /// Takes the place of the call at hand in the history, where that is the pass's next step. The result is how many calls had theirs before.
 pub fn place<L: Lines, B: Backing>(board: &Board<L, B>, pass: &mut Pass<L, B>) -> u64
     requires board { IsOf board.now pass.old }
-    requires due { IsDue pass.old None (place_deed pass.old.sight) }
+    requires due { Precondition pass.old None (place_op pass.old.view) }
     ensures board { IsOf board.now pass.new }
-    ensures stepped { Stepped pass.old None (place_deed pass.old.sight) result pass.new }
-    ensures placed { IsPlaced pass.old.sight pass.new.sight result }
+    ensures stepped { Postcondition pass.old None (place_op pass.old.view) result pass.new }
+    ensures placed { IsPlaced pass.old.view pass.new.view result }
 {
     runs_are_sound();
     pass.sees_a_run();
@@ -238,13 +238,13 @@ pub fn place<L: Lines, B: Backing>(board: &Board<L, B>, pass: &mut Pass<L, B>) -
 
 /// Sets STOP after a device fault, of a call or of a cleaner's batch, where that is the pass's next step. What is so of the device calls that the
 /// pass has made since its last step, it is of those that the step tells.
-pub fn stop<E: Does, L: Lines, B: Backing>(board: &Board<L, B>, pass: &mut Pass<L, B>)
+pub fn stop<E: StepSpec, L: Lines, B: Backing>(board: &Board<L, B>, pass: &mut Pass<L, B>)
     requires board { IsOf board.now pass.old }
-    requires deed { IsStop E.deed }
+    requires op { IsStop E.op }
     requires opens { E.opens ≡ None }
-    requires due { (due : IsDue pass.old None E.deed) × E.said due.works }
+    requires due { (due : Precondition pass.old None E.op) × E.said due.works }
     ensures board { IsOf board.now pass.new }
-    ensures stepped { (found : ℕ) × (stepped : Stepped pass.old None E.deed found pass.new) × E.said stepped.works }
+    ensures stepped { (found : ℕ) × (stepped : Postcondition pass.old None E.op found pass.new) × E.said stepped.works }
 {
     step::<E, L, B>(
         board,

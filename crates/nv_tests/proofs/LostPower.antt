@@ -1,7 +1,7 @@
 -- Devices in memory that have lost power.
 use Rattle.std.proofs.Common.{◌≡◌, ℕ, ◌+◌, ◌<◌, List, [], ◌∷◌, All, length, get_or, set, map, slice_index_or, zero, suc, arith}
 use Rattle.std.proofs.lemmas.List.Elements.{All-cons, All-head, All-tail}
-use Rattle.nv_pmem.specs.Images.{IsQuiet}
+use Rattle.nv_pmem.specs.Images.{IsQuietPart}
 use Rattle.nv_pmem.specs.MemPart.{part_history, part_now, part_room}
 use Rattle.nv_pmem.specs.Part.{Part}
 use Rattle.nv_pmem.specs.Rows.{RowTells, AreQuiet}
@@ -9,13 +9,13 @@ use Rattle.nv_pmem.specs.declared.mem_part.MemPart.{MemPart}
 use Rattle.nv_pmem.proofs.ImageLaws.{quiet_blank}
 use Rattle.nv_pmem.proofs.RowLaws.{row_tells_more}
 use Rattle.nv_store.specs.MemStore.{store_history, store_now}
-use Rattle.nv_store.specs.Store.{IsQuiet as IsQuietStore}
+use Rattle.nv_store.specs.Store.{IsQuietStore}
 use Rattle.nv_store.specs.declared.mem_store.MemStore.{MemStore}
 use Rattle.nv_recover.specs.Standing.{AreQuietStores}
 
 -- a part that has
 pub record HasLostPower (part : MemPart) : Type 0 where
-  pub quiet : IsQuiet (part_now part)
+  pub quiet : IsQuietPart (part_now part)
   pub spare : (line : ℕ) → (part_room part).spare line ≡ 15
 
 -- a store that has
@@ -35,10 +35,10 @@ first_more P (y ∷ ys) (suc at) x inside holds front zero none below = front 0 
 first_more P (y ∷ ys) (suc at) x inside holds front (suc i) none below =
     first_more P ys at x (omega arith) holds (λ k d before. front (suc k) d (omega arith)) i none (omega arith)
 
-quiet_nothing : (i : ℕ) → IsQuiet (slice_index_or [] i [])
+quiet_nothing : (i : ℕ) → IsQuietPart (slice_index_or [] i [])
 quiet_nothing i = record { lines = λ line. quiet_blank }
 
-quiet_more : (now : Part) (others : List Part) → IsQuiet now → AreQuiet others → (i : ℕ) → IsQuiet (slice_index_or (now ∷ others) i [])
+quiet_more : (now : Part) (others : List Part) → IsQuietPart now → AreQuiet others → (i : ℕ) → IsQuietPart (slice_index_or (now ∷ others) i [])
 quiet_more now others quiet are zero = quiet
 quiet_more now others quiet are (suc i) = are.each i
 

@@ -1,3 +1,4 @@
+//! Tests of headers.
 ghost use Rattle.std.specs.Prelude.{ℕ, ◌<◌, ◌≤◌, OnOk};
 ghost use Rattle.nv_pmem.specs.MemPart.{part_room};
 

@@ -1,3 +1,4 @@
+//! Tests of the log of one thread.
 ghost use Rattle.std.specs.Prelude.{◌≡◌, [], length, map, false, IfOk};
 ghost use Rattle.nv_plain.specs.Layouts.{version_1};
 ghost use Rattle.nv_pmem.specs.MemPart.{part_history, part_room};

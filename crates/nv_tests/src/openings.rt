@@ -1,3 +1,4 @@
+//! Tests of openings.
 ghost use Rattle.std.specs.Prelude.{◌≡◌, [], false, true, length, IfOk, IfSome, OnOk};
 ghost use Rattle.nv_plain.specs.Layouts.{version_1};
 ghost use Rattle.nv_open.specs.Adding.{AreWanted};

@@ -1,3 +1,4 @@
+//! Tests of recoveries.
 ghost use Rattle.std.specs.Prelude.{◌≡◌, ℕ, ◌+◌, ◌<◌, ◌≤◌, length, map, All, IfOk};
 ghost use Rattle.nv_pmem.specs.MemPart.{part_history, part_room};
 ghost use Rattle.nv_pmem.specs.Rows.{RowTells, AreQuiet};

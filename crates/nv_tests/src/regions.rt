@@ -1,3 +1,4 @@
+//! Tests of regions.
 ghost use Rattle.std.specs.Prelude.{map, IfOk};
 ghost use Rattle.nv_plain.specs.Layouts.{version_1};
 ghost use Rattle.nv_pmem.specs.MemPart.{part_history, part_room};

@@ -7,14 +7,14 @@ use Rattle.nv_plain.specs.declared.call.Reply.TheVariants.{Count}
 use Rattle.nv_pmem.specs.Steps as lines
 use Rattle.nv_store.specs.Steps as stores
 use Rattle.nv_engine.specs.Holding.{Holds, written}
-use Rattle.nv_engine.specs.Laid.{Piece, with_piece}
+use Rattle.nv_engine.specs.Laid.{LaidPiece, with_laid_piece}
 use Rattle.nv_engine.specs.Refusals.{write_refusal, most_pages, IsRefusedWrite}
 use Rattle.nv_engine.specs.declared.log.Log.{Log}
 use Rattle.nv_engine.specs.declared.error.WriteError.{WriteError}
 use Rattle.nv_trace.specs.declared.trace.Descriptor.{Descriptor}
 use Rattle.nv_trace.specs.declared.trace.TraceCall.TheVariants.{Pwrite}
 use Rattle.nv_trace.specs.declared.report.Refusal.TheVariants.{BadDescriptor, TooFar, TooLong}
-use Rattle.nv_top.specs.Answers.{IsAnswer, sizes_of}
+use Rattle.nv_top.specs.Answers.{IsAnswer, sizes_of_region}
 use Rattle.nv_top.specs.Faithful.{barred_there, descriptor_at, is_allowed}
 
 -- a byte at least lies in a page at least
@@ -38,10 +38,10 @@ none_where_ok (Some refusal) value refused = cc
 none_where_ok None value refused = refl
 
 -- a write that was made
-pub write_answered : {L B : Type 0} (history : L → lines.History) (held : B → stores.History) (descriptors : List Descriptor) (old new : Log L B) (fd at : ℕ) (bytes : List ℕ) (count : ℕ)
+pub write_answered : {L B : Type 0} (history : L → lines.PartHistory) (held : B → stores.StoreHistory) (descriptors : List Descriptor) (old new : Log L B) (fd at : ℕ) (bytes : List ℕ) (count : ℕ)
     → old.stopped ≡ false → is_allowed descriptors (Pwrite fd at bytes) ≡ true
     → IsRefusedWrite (write_refusal old at (length bytes)) (Ok count) → new.stopped ≡ old.stopped → count ≡ length bytes → new.head ≡ old.head + pages_touched at (length bytes) old.geometry.page
-    → ((pieces : List Piece) (files : Files) → Holds history held old pieces files → Holds history held new (pieces ++ written (descriptor_at descriptors fd).file at bytes ∷ []) files)
+    → ((pieces : List LaidPiece) (files : Files) → Holds history held old pieces files → Holds history held new (pieces ++ written (descriptor_at descriptors fd).file at bytes ∷ []) files)
     → IsAnswer history held descriptors (Pwrite fd at bytes) old new (Count count)
 write_answered history held descriptors old new fd at bytes count running allowed refused still counted drew holds =
     let page = old.geometry.page in
@@ -51,12 +51,12 @@ write_answered history held descriptors old new fd at bytes count running allowe
     let passes = passed far long _ _ _ (none_where_ok (write_refusal old at len) count refused) in
     record {
       running = still ∙ running;
-      may = ap (λ allowed. if allowed then barred_there (sizes_of old) (Pwrite fd at bytes) else Some BadDescriptor) allowed ∙ not_barred far long TooFar TooLong passes.0 passes.1;
+      may = ap (λ allowed. if allowed then barred_there (sizes_of_region old) (Pwrite fd at bytes) else Some BadDescriptor) allowed ∙ not_barred far long TooFar TooLong passes.0 passes.1;
       head = drew;
       answered = λ pieces files here. record {
         more = pieces ++ written (descriptor_at descriptors fd).file at bytes ∷ [];
         holds = holds pieces files here;
         reply_is = ap Count counted;
-        files_are = fold_push with_piece files pieces (written (descriptor_at descriptors fd).file at bytes);
+        files_are = fold_push with_laid_piece files pieces (written (descriptor_at descriptors fd).file at bytes);
       };
     }

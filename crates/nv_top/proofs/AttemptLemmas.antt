@@ -12,7 +12,7 @@ use Rattle.nv_pmem.specs.declared.geometry.Geometry.{Geometry}
 use Rattle.nv_store.specs.Steps as stores
 use Rattle.nv_engine.specs.Holding.{Holds, HoldsOrOneMore}
 use Rattle.nv_engine.specs.Keeping.{IsLog, IsSameRegion}
-use Rattle.nv_engine.specs.Laid.{Piece, all_entries, laid}
+use Rattle.nv_engine.specs.Laid.{LaidPiece, all_entries, laid}
 use Rattle.nv_engine.specs.Refusals.{write_refusal, most_pages, IsRefusedWrite}
 use Rattle.nv_engine.specs.declared.error.WriteError.{WriteError}
 use Rattle.nv_engine.specs.declared.error.WriteError.TheVariants as write_error
@@ -21,18 +21,18 @@ use Rattle.nv_trace.specs.declared.trace.Descriptor.{Descriptor}
 use Rattle.nv_trace.specs.declared.trace.TracedCall.{TracedCall}
 use Rattle.nv_trace.specs.declared.report.Refusal.{Refusal}
 use Rattle.nv_trace.specs.declared.report.Refusal.TheVariants.{BadDescriptor, TooFar, TooLong, Stopped, Spent, Again, RegionFault, StoreFault}
-use Rattle.nv_top.specs.Answers.{IsAnswer, IsRefusedAt, sizes_of}
+use Rattle.nv_top.specs.Answers.{IsAnswer, IsRefusedAt, sizes_of_region}
 use Rattle.nv_top.specs.Attempts.{HasRunTo, IsHeld, IsLeftAt, IsTurn, IsTurnedDown}
-use Rattle.nv_top.specs.Faithful.{Basis, Sizes, barred, entries_taken}
-use Rattle.nv_top.specs.LogRuns.{IsFirst}
-use Rattle.nv_top.specs.Outcomes.{placed_call, placed_calls, refused_call, refused_calls, left_call, left_calls}
+use Rattle.nv_top.specs.Faithful.{Basis, RunSizes, barred, entries_taken}
+use Rattle.nv_top.specs.LogRuns.{IsFirstRun}
+use Rattle.nv_top.specs.Outcomes.{placed_call, placed_outcomes, refused_call, refused_calls, left_call, left_calls}
 use Rattle.nv_top.specs.Reports.{PlacedCall, RefusedCall}
 use Rattle.nv_top.specs.Runs.{AreMade, IsAfterAll}
 use Rattle.nv_top.specs.declared.outcome.Left as outcome
 use Rattle.nv_top.specs.declared.outcome.Outcome.{Outcome}
 use Rattle.nv_top.proofs.RunLemmas.{made_nothing, made_while, made_placed, made_barred, made_again, made_spent, made_stopped, made_region_fault, made_store_fault, made_open}
 
-abbrev sized : (page entries pages : ℕ) → Sizes
+abbrev sized : (page entries pages : ℕ) → RunSizes
 sized page entries pages = record { page = page; entries = entries; pages = pages }
 
 -- a write that wasn't refused found a log that runs
@@ -70,22 +70,22 @@ abbrev HaveDrawn : Basis → (next : ℕ) → List outcome.Left → Type 0
 HaveDrawn basis next left = All (λ one. HasDrawn basis next one) left
 
 -- a log that runs has no write that was left open
-record HasNoneLeft {L B : Type 0} (history : L → lines.History) (held : B → stores.History) (log : Log L B) (pieces : List Piece) (next : ℕ) (files : Files) (left : List outcome.Left) : Type 0 where
+record HasNoneLeft {L B : Type 0} (history : L → lines.PartHistory) (held : B → stores.StoreHistory) (log : Log L B) (pieces : List LaidPiece) (next : ℕ) (files : Files) (left : List outcome.Left) : Type 0 where
   none : left ≡ []
   holds : Holds history held log pieces files
   next_is : next ≡ log.head
 
-module _ {L B : Type 0} (history : L → lines.History) (held : B → stores.History) (descriptors : List Descriptor) where
-  none_left : (log : Log L B) (pieces : List Piece) (next : ℕ) (files : Files) (left : List outcome.Left) → log.stopped ≡ false
+module _ {L B : Type 0} (history : L → lines.PartHistory) (held : B → stores.StoreHistory) (descriptors : List Descriptor) where
+  none_left : (log : Log L B) (pieces : List LaidPiece) (next : ℕ) (files : Files) (left : List outcome.Left) → log.stopped ≡ false
       → IsHeld history held descriptors log pieces next files left → HasNoneLeft history held log pieces next files left
   none_left log pieces next files [] running here = record { none = refl; holds = here.0; next_is = here.1 }
   none_left log pieces next files (one ∷ []) running here = absurd (true≢false (sym here.1 ∙ running))
   none_left log pieces next files (one ∷ two ∷ more) running here = absurd here
 
   -- what a log holds a refusal leaves
-  held_on : (old new : Log L B) (pieces : List Piece) (next : ℕ) (files : Files) (left : List outcome.Left) → new.head ≡ old.head → new.tail ≡ old.tail → new.geometry ≡ old.geometry
+  held_on : (old new : Log L B) (pieces : List LaidPiece) (next : ℕ) (files : Files) (left : List outcome.Left) → new.head ≡ old.head → new.tail ≡ old.tail → new.geometry ≡ old.geometry
       → (old.stopped ≡ true → new.stopped ≡ true) → (Holds history held old pieces files → Holds history held new pieces files)
-      → ((more : Piece) → HoldsOrOneMore history held old pieces more files → HoldsOrOneMore history held new pieces more files)
+      → ((more : LaidPiece) → HoldsOrOneMore history held old pieces more files → HoldsOrOneMore history held new pieces more files)
       → IsHeld history held descriptors old pieces next files left → IsHeld history held descriptors new pieces next files left
   held_on old new pieces next files [] head tail geometry still holds or_more here = (holds here.0, here.1 ∙ sym head)
   held_on old new pieces next files (one ∷ []) head tail geometry still holds or_more here = (
@@ -97,12 +97,12 @@ module _ {L B : Type 0} (history : L → lines.History) (held : B → stores.His
   held_on old new pieces next files (one ∷ two ∷ more) head tail geometry still holds or_more here = absurd here
 
   -- a run begins
-  pub begins : (failed : Type 0) (basis : Basis) (log : Log L B) (outcome : Outcome) → log.stopped ≡ false → IsFirst history held basis log
+  pub begins : (failed : Type 0) (basis : Basis) (log : Log L B) (outcome : Outcome) → log.stopped ≡ false → IsFirstRun history held basis log
       → outcome.placed.items ≡ [] → outcome.refused.items ≡ [] → outcome.left.items ≡ [] → HasRunTo history held failed basis descriptors [] log outcome
   begins failed basis log outcome running first none_placed none_refused none_left =
       let Placed_so : List PlacedCall → Type 0 = λ placed. AreMade failed basis descriptors [] basis.next basis.files placed [] [] in
-      let Refused_so : List RefusedCall → Type 0 = λ refused. AreMade failed basis descriptors [] basis.next basis.files (placed_calls outcome) refused [] in
-      let Left_so : List TracedCall → Type 0 = λ left. AreMade failed basis descriptors [] basis.next basis.files (placed_calls outcome) (refused_calls outcome) left in
+      let Refused_so : List RefusedCall → Type 0 = λ refused. AreMade failed basis descriptors [] basis.next basis.files (placed_outcomes outcome) refused [] in
+      let Left_so : List TracedCall → Type 0 = λ left. AreMade failed basis descriptors [] basis.next basis.files (placed_outcomes outcome) (refused_calls outcome) left in
       record {
         sizes_are = first.sizes_are;
         next_is = first.next_is;
@@ -117,18 +117,18 @@ module _ {L B : Type 0} (history : L → lines.History) (held : B → stores.His
             (subst Placed_so (sym (ap (map placed_call) none_placed)) (made_nothing failed basis descriptors)));
       }
 
-module _ {L B : Type 0} (history : L → lines.History) (room : L → Room) (held : B → stores.History) (failed more : Type 0) (basis : Basis) (descriptors : List Descriptor)
+module _ {L B : Type 0} (history : L → lines.PartHistory) (room : L → Room) (held : B → stores.StoreHistory) (failed more : Type 0) (basis : Basis) (descriptors : List Descriptor)
     (calls : List TracedCall) (old new : Log L B) (before after_it : Outcome) (call : Bor TracedCall) (on : failed → more) (same : IsSameRegion old new) (log : IsLog history room held new)
     (after_all : IsAfterAll calls call.now) (still : old.stopped ≡ true → new.stopped ≡ true) (stops : new.stopped ≡ true → (old.stopped ≡ true) ⊎ more)
     (run : HasRunTo history held failed basis descriptors calls old before) where
-  sizes_stay : sizes_of new ≡ basis.sizes
+  sizes_stay : sizes_of_region new ≡ basis.sizes
   sizes_stay =
       ap (λ (geometry : Geometry). sized geometry.page geometry.entries new.pages) same.geometry
       ∙ ap (sized old.geometry.page old.geometry.entries) same.pages
       ∙ run.sizes_are
 
   fits : new.head ≤ basis.next + basis.sizes.entries
-  fits = omega (arith, log.few, same.tail, run.next_is, ap (λ (sizes : Sizes). sizes.entries) sizes_stay)
+  fits = omega (arith, log.few, same.tail, run.next_is, ap (λ (sizes : RunSizes). sizes.entries) sizes_stay)
 
   stops_so : new.stopped ≡ true → more
   stops_so is = elim (stops is) [ inl was ↦ on (run.stopped_so was) | inr rose ↦ rose ]
@@ -136,13 +136,13 @@ module _ {L B : Type 0} (history : L → lines.History) (room : L → Room) (hel
   abbrev now : Files
   now = laid basis.files run.pieces
 
-  made_so_far : AreMade more basis descriptors calls run.next now (placed_calls before) (refused_calls before) (left_calls before)
-  made_so_far = made_while failed more basis descriptors calls run.next now (placed_calls before) (refused_calls before) (left_calls before) on run.made
+  made_so_far : AreMade more basis descriptors calls run.next now (placed_outcomes before) (refused_calls before) (left_calls before)
+  made_so_far = made_while failed more basis descriptors calls run.next now (placed_outcomes before) (refused_calls before) (left_calls before) on run.made
 
   made_as : (next : ℕ) (files : Files) (placed : List PlacedCall) (refused : List RefusedCall) (left : List TracedCall)
-      → placed_calls after_it ≡ placed → refused_calls after_it ≡ refused → left_calls after_it ≡ left
+      → placed_outcomes after_it ≡ placed → refused_calls after_it ≡ refused → left_calls after_it ≡ left
       → AreMade more basis descriptors (calls ++ call.now ∷ []) next files placed refused left
-      → AreMade more basis descriptors (calls ++ call.now ∷ []) next files (placed_calls after_it) (refused_calls after_it) (left_calls after_it)
+      → AreMade more basis descriptors (calls ++ call.now ∷ []) next files (placed_outcomes after_it) (refused_calls after_it) (left_calls after_it)
   made_as next files placed refused left a b c made =
       let Placed_so : List PlacedCall → Type 0 = λ placed. AreMade more basis descriptors (calls ++ call.now ∷ []) next files placed (refused_calls after_it) (left_calls after_it) in
       let Refused_so : List RefusedCall → Type 0 = λ refused. AreMade more basis descriptors (calls ++ call.now ∷ []) next files placed refused (left_calls after_it) in
@@ -159,7 +159,7 @@ module _ {L B : Type 0} (history : L → lines.History) (room : L → Room) (hel
   on_answer reply running answer pushed others lefts =
       let none = running_so running in
       let here = answer.answered run.pieces basis.files none.holds in
-      let MayBe : Sizes → Type 0 = λ sizes. barred sizes descriptors call.now.call ≡ None in
+      let MayBe : RunSizes → Type 0 = λ sizes. barred sizes descriptors call.now.call ≡ None in
       record {
         sizes_are = sizes_stay;
         next_is = same.tail ∙ run.next_is;
@@ -169,9 +169,9 @@ module _ {L B : Type 0} (history : L → lines.History) (room : L → Room) (hel
         here = subst (IsHeld history held descriptors new here.more new.head basis.files) (sym (lefts ∙ none.none)) (here.holds, refl);
         drew_last = subst (HaveDrawn basis new.head) (sym (lefts ∙ none.none)) (All-nil (HasDrawn basis new.head));
         made =
-            made_as new.head (laid basis.files here.more) (placed_calls before ++ record { call = call.now; reply = reply } ∷ []) (refused_calls before) (left_calls before)
+            made_as new.head (laid basis.files here.more) (placed_outcomes before ++ record { call = call.now; reply = reply } ∷ []) (refused_calls before) (left_calls before)
             (ap (map placed_call) pushed ∙ map_push placed_call before.placed.items (record { call = call; reply = reply })) (ap (map refused_call) others) (ap (map left_call) lefts)
-            (made_placed more basis descriptors calls run.next now (placed_calls before) (refused_calls before) (left_calls before) call.now made_so_far after_all
+            (made_placed more basis descriptors calls run.next now (placed_outcomes before) (refused_calls before) (left_calls before) call.now made_so_far after_all
             reply new.head (laid basis.files here.more) (subst MayBe run.sizes_are answer.may) here.reply_is here.files_are
             (answer.head ∙ ap (λ sizes. old.head + entries_taken sizes call.now.call) run.sizes_are
             ∙ ap (λ head. head + entries_taken basis.sizes call.now.call) (sym none.next_is)) fits);
@@ -179,49 +179,49 @@ module _ {L B : Type 0} (history : L → lines.History) (room : L → Room) (hel
 
   abbrev refused_with : Refusal → Type 0
   refused_with refusal =
-      AreMade more basis descriptors (calls ++ call.now ∷ []) run.next now (placed_calls before) (refused_calls before ++ record { call = call.now; refusal = refusal } ∷ []) (left_calls before)
+      AreMade more basis descriptors (calls ++ call.now ∷ []) run.next now (placed_outcomes before) (refused_calls before ++ record { call = call.now; refusal = refusal } ∷ []) (left_calls before)
 
-  may_be : barred (sizes_of old) descriptors call.now.call ≡ None → barred basis.sizes descriptors call.now.call ≡ None
+  may_be : barred (sizes_of_region old) descriptors call.now.call ≡ None → barred basis.sizes descriptors call.now.call ≡ None
   may_be may =
-      let MayBe : Sizes → Type 0 = λ sizes. barred sizes descriptors call.now.call ≡ None in
+      let MayBe : RunSizes → Type 0 = λ sizes. barred sizes descriptors call.now.call ≡ None in
       subst MayBe run.sizes_are may
 
   -- a refusal of a log that runs
-  at_run : (refusal : Refusal) → old.stopped ≡ false → IsRefusedAt (sizes_of old) descriptors old.head old.tail call.now.call refusal → IsRefusedAt basis.sizes descriptors run.next basis.next call.now.call refusal
+  at_run : (refusal : Refusal) → old.stopped ≡ false → IsRefusedAt (sizes_of_region old) descriptors old.head old.tail call.now.call refusal → IsRefusedAt basis.sizes descriptors run.next basis.next call.now.call refusal
   at_run refusal running at =
       let none = running_so running in
-      let Of : Sizes → Type 0 = λ sizes. IsRefusedAt sizes descriptors old.head old.tail call.now.call refusal in
+      let Of : RunSizes → Type 0 = λ sizes. IsRefusedAt sizes descriptors old.head old.tail call.now.call refusal in
       let From : ℕ → Type 0 = λ tail. IsRefusedAt basis.sizes descriptors old.head tail call.now.call refusal in
       let To : ℕ → Type 0 = λ head. IsRefusedAt basis.sizes descriptors head basis.next call.now.call refusal in
       subst To (sym none.next_is) (subst From run.next_is (subst Of run.sizes_are at))
 
   turned : (refusal : Refusal) → IsTurnedDown descriptors old new call.now.call refusal → refused_with refusal
   turned BadDescriptor cause =
-      let Is : Sizes → Type 0 = λ sizes. barred sizes descriptors call.now.call ≡ Some BadDescriptor in
-      made_barred more basis descriptors calls run.next now (placed_calls before) (refused_calls before) (left_calls before) call.now made_so_far after_all BadDescriptor (subst Is run.sizes_are cause)
+      let Is : RunSizes → Type 0 = λ sizes. barred sizes descriptors call.now.call ≡ Some BadDescriptor in
+      made_barred more basis descriptors calls run.next now (placed_outcomes before) (refused_calls before) (left_calls before) call.now made_so_far after_all BadDescriptor (subst Is run.sizes_are cause)
   turned TooFar cause =
-      let Is : Sizes → Type 0 = λ sizes. barred sizes descriptors call.now.call ≡ Some TooFar in
-      made_barred more basis descriptors calls run.next now (placed_calls before) (refused_calls before) (left_calls before) call.now made_so_far after_all TooFar (subst Is run.sizes_are cause)
+      let Is : RunSizes → Type 0 = λ sizes. barred sizes descriptors call.now.call ≡ Some TooFar in
+      made_barred more basis descriptors calls run.next now (placed_outcomes before) (refused_calls before) (left_calls before) call.now made_so_far after_all TooFar (subst Is run.sizes_are cause)
   turned TooLong cause =
-      let Is : Sizes → Type 0 = λ sizes. barred sizes descriptors call.now.call ≡ Some TooLong in
-      made_barred more basis descriptors calls run.next now (placed_calls before) (refused_calls before) (left_calls before) call.now made_so_far after_all TooLong (subst Is run.sizes_are cause)
+      let Is : RunSizes → Type 0 = λ sizes. barred sizes descriptors call.now.call ≡ Some TooLong in
+      made_barred more basis descriptors calls run.next now (placed_outcomes before) (refused_calls before) (left_calls before) call.now made_so_far after_all TooLong (subst Is run.sizes_are cause)
   turned Stopped cause =
-      made_stopped more basis descriptors calls run.next now (placed_calls before) (refused_calls before) (left_calls before) call.now made_so_far after_all (may_be cause.0) (on (run.stopped_so cause.1))
+      made_stopped more basis descriptors calls run.next now (placed_outcomes before) (refused_calls before) (left_calls before) call.now made_so_far after_all (may_be cause.0) (on (run.stopped_so cause.1))
   turned (Spent found) cause =
       let at = at_run (Spent found) cause.0 cause.1 in
       let At : ℕ → Type 0 = λ found. refused_with (Spent found) in
       subst At (sym at.3)
-      (made_spent more basis descriptors calls run.next now (placed_calls before) (refused_calls before) (left_calls before) call.now made_so_far after_all at.0 at.1 at.2)
+      (made_spent more basis descriptors calls run.next now (placed_outcomes before) (refused_calls before) (left_calls before) call.now made_so_far after_all at.0 at.1 at.2)
   turned (Again seen least) cause =
       let at = at_run (Again seen least) cause.0 cause.1 in
       let At : ℕ → Type 0 = λ seen. refused_with (Again seen least) in
       let From : ℕ → Type 0 = λ least. refused_with (Again run.next least) in
       subst At (sym at.3) (subst From (sym at.4)
-      (made_again more basis descriptors calls run.next now (placed_calls before) (refused_calls before) (left_calls before) call.now made_so_far after_all at.0 at.1 at.2))
+      (made_again more basis descriptors calls run.next now (placed_outcomes before) (refused_calls before) (left_calls before) call.now made_so_far after_all at.0 at.1 at.2))
   turned RegionFault cause =
-      made_region_fault more basis descriptors calls run.next now (placed_calls before) (refused_calls before) (left_calls before) call.now made_so_far after_all (may_be cause.0) cause.1 (stops_so cause.2)
+      made_region_fault more basis descriptors calls run.next now (placed_outcomes before) (refused_calls before) (left_calls before) call.now made_so_far after_all (may_be cause.0) cause.1 (stops_so cause.2)
   turned StoreFault cause =
-      made_store_fault more basis descriptors calls run.next now (placed_calls before) (refused_calls before) (left_calls before) call.now made_so_far after_all (may_be cause.0) cause.1 (stops_so cause.2)
+      made_store_fault more basis descriptors calls run.next now (placed_outcomes before) (refused_calls before) (left_calls before) call.now made_so_far after_all (may_be cause.0) cause.1 (stops_so cause.2)
 
   -- by a call that was refused
   pub on_refusal : (refusal : Refusal) → IsTurn history held descriptors call.now.call old new refusal
@@ -239,7 +239,7 @@ module _ {L B : Type 0} (history : L → lines.History) (room : L → Room) (hel
         (turn.holds run.pieces basis.files) (λ more. turn.or_more run.pieces more basis.files) run.here);
     drew_last = subst (HaveDrawn basis run.next) (sym lefts) run.drew_last;
     made =
-        made_as run.next now (placed_calls before) (refused_calls before ++ record { call = call.now; refusal = refusal } ∷ []) (left_calls before)
+        made_as run.next now (placed_outcomes before) (refused_calls before ++ record { call = call.now; refusal = refusal } ∷ []) (left_calls before)
         (ap (map placed_call) others) (ap (map refused_call) pushed ∙ map_push refused_call before.refused.items (record { call = call; refusal = refusal })) (ap (map left_call) lefts)
         (turned refusal turn.cause);
   }
@@ -269,16 +269,16 @@ module _ {L B : Type 0} (history : L → lines.History) (room : L → Room) (hel
             subst (HaveDrawn basis next) (sym (pushed ∙ ap (λ left. left ++ one ∷ []) none.none))
             (All-cons (HasDrawn basis next) one [] (ap (λ number. number + entries_taken basis.sizes call.now.call) (none.next_is ∙ sym is.number_is)) (All-nil (HasDrawn basis next)));
         made =
-            made_as next now (placed_calls before) (refused_calls before) (left_calls before ++ call.now ∷ [])
+            made_as next now (placed_outcomes before) (refused_calls before) (left_calls before ++ call.now ∷ [])
             (ap (map placed_call) others) (ap (map refused_call) refusals) (ap (map left_call) pushed ∙ map_push left_call before.left.items one)
-            (made_open more basis descriptors calls run.next now (placed_calls before) (refused_calls before) (left_calls before) call.now made_so_far after_all
+            (made_open more basis descriptors calls run.next now (placed_outcomes before) (refused_calls before) (left_calls before) call.now made_so_far after_all
             next (record { is_write = is.is_write; failed_so = stops_so is.stopped; not_barred = may_be is.may }) refl
             (omega (
               arith,
               is.room,
               none.next_is,
               run.next_is,
-              ap (λ (sizes : Sizes). entries_taken sizes call.now.call) run.sizes_are,
-              ap (λ (sizes : Sizes). sizes.entries) run.sizes_are,
+              ap (λ (sizes : RunSizes). entries_taken sizes call.now.call) run.sizes_are,
+              ap (λ (sizes : RunSizes). sizes.entries) run.sizes_are,
             )));
       }

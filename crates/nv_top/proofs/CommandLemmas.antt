@@ -39,7 +39,7 @@ module _ (old mid : BenchState) (names : List (List ℕ)) (holding : Holding) (l
       ap (λ (one : Option Holding). option_map (back mid.lent) one) mid_told
       ∙ ap (λ lent. Some (back lent (record { parts = []; stores = without_stores names holding.stores }))) mid_lent
 
-  pub leaves : {X Y : Type 0} (history : X → lines.History) (held : Y → stores.History) (files : Files) (parts : List X) (backing : List Y) (then : Option Holding)
+  pub leaves : {X Y : Type 0} (history : X → lines.PartHistory) (held : Y → stores.StoreHistory) (files : Files) (parts : List X) (backing : List Y) (then : Option Holding)
       → AreLeft history held names files parts backing
       → ((now : List Part) (disks : List Store) → AreNow (map history parts) now → AreNow (map held backing) disks → then ≡ told_back now disks mid)
       → Leaves names files holding then

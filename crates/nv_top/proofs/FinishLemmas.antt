@@ -12,13 +12,13 @@ use Rattle.nv_recover.specs.Interrupted.{PromisesKeepTelling}
 use Rattle.nv_recover.specs.Recovering.{StandThroughout}
 use Rattle.nv_recover.specs.Standing.{AreQuietStores, files_of}
 use Rattle.nv_engine.specs.Holding.{Holds}
-use Rattle.nv_engine.specs.Laid.{Piece, laid}
+use Rattle.nv_engine.specs.Laid.{LaidPiece, laid}
 use Rattle.nv_engine.specs.declared.log.Log.{Log}
 use Rattle.nv_top.specs.Leaving.{AreLeft}
 use Rattle.nv_top.proofs.RowLemmas.{all_tell, present}
 
 -- what parts and stores that tell are left with
-pub left_with : {X Y : Type 0} (history : X → lines.History) (held : Y → stores.History) (names : List (List ℕ)) (files : Files) (page entries next : ℕ)
+pub left_with : {X Y : Type 0} (history : X → lines.PartHistory) (held : Y → stores.StoreHistory) (names : List (List ℕ)) (files : Files) (page entries next : ℕ)
     (parts : List X) (backing backing_now : List Y) (now : List _) (disks : List _)
     → AreNow (map history parts) now → AreNow (map held backing) disks
     → RowTells (map history parts) (IsAtRest version_1 page entries names next)
@@ -26,7 +26,7 @@ pub left_with : {X Y : Type 0} (history : X → lines.History) (held : Y → sto
     → map held backing_now ≡ map held backing
     → AreLeft history held names files parts backing_now
 left_with history held names files page entries next parts backing backing_now now disks now_are disks_are rest shown synced same =
-    let At : List stores.History → Type 0 = λ row. AreNow row disks in
+    let At : List stores.StoreHistory → Type 0 = λ row. AreNow row disks in
     record {
       page = page;
       entries = entries;
@@ -40,8 +40,8 @@ left_with history held names files page entries next parts backing backing_now n
       synced = row_tells_at (map held backing) AreQuietStores disks disks_are synced;
     }
 
-pub finished : {L B : Type 0} (history : L → lines.History) (held : B → stores.History) (log : Log L B) (names : List (List ℕ)) (page entries next : ℕ)
-    (parts : List L) (backing backing_now : List B) (pieces : List Piece) (files : Files)
+pub finished : {L B : Type 0} (history : L → lines.PartHistory) (held : B → stores.StoreHistory) (log : Log L B) (names : List (List ℕ)) (page entries next : ℕ)
+    (parts : List L) (backing backing_now : List B) (pieces : List LaidPiece) (files : Files)
     → PromisesKeepTelling
     → StandThroughout (devices_of history held log.parts.items log.stores.items) (devices_of history held parts backing)
     → Holds history held log pieces files

@@ -14,12 +14,12 @@ use Rattle.nv_open.specs.Refusals.{IsRefusedFor}
 use Rattle.nv_open.specs.declared.error.Refusal.{Refusal}
 use Rattle.nv_open.specs.declared.error.Refusal.TheVariants as refusals
 use Rattle.nv_pmem.specs.Laws.{BlankIsQuiet}
-use Rattle.nv_store.specs.Store.{IsQuiet}
+use Rattle.nv_store.specs.Store.{IsQuietStore}
 use Rattle.nv_trace.specs.Reading.{ending_of, Whole}
 use Rattle.nv_trace.specs.declared.trace.Form.TheVariants as forms
 use Rattle.nv_trace.specs.Traced.{Traced}
 use Rattle.nv_top.specs.Commands.{IsNotRun}
-use Rattle.nv_top.specs.Headline.{IsRefused, IsShown, IsShownOf, IsUnwritten, command_over, may_stop, possible}
+use Rattle.nv_top.specs.Headline.{IsCommandRefused, IsShown, IsShownOf, IsRegionUnwritten, command_over, may_stop, possible}
 use Rattle.nv_top.specs.LogRuns.{lines_in}
 use Rattle.nv_top.specs.Words.{AreInLimits, command_of}
 use Rattle.nv_top.specs.declared.words.Command.{Command}
@@ -76,19 +76,19 @@ shown_from options (Some input) old new trace text whole ran =
 
 pub refused_from : (options : RunOptions) (left : Option (List ℕ)) (old new : BenchState) (trace : Traced) (why : Refusal)
     → IfSome left (λ input. ending_of forms.Run input ≡ Whole trace)
-    → (IsStrictlyIncreasing (lines_in trace) → IfSome old.told (λ holding. IsNotRun options holding trace.names why × IsUnwritten old new why))
-    → IfSome old.told (λ holding. IsRefused (Run options) left old new holding why)
-refused_from options None old new trace why whole refused = if_told old.told (λ holding. IsRefused (Run options) None old new holding why) (λ holding told. tt)
+    → (IsStrictlyIncreasing (lines_in trace) → IfSome old.told (λ holding. IsNotRun options holding trace.names why × IsRegionUnwritten old new why))
+    → IfSome old.told (λ holding. IsCommandRefused (Run options) left old new holding why)
+refused_from options None old new trace why whole refused = if_told old.told (λ holding. IsCommandRefused (Run options) None old new holding why) (λ holding told. tt)
 refused_from options (Some input) old new trace why whole refused =
-    if_told old.told (λ holding. IsRefused (Run options) (Some input) old new holding why) (λ holding told.
-    let both = told_at old.told (λ holding. IsNotRun options holding trace.names why × IsUnwritten old new why) holding told (refused (lines_rise forms.Run input trace whole)) in
+    if_told old.told (λ holding. IsCommandRefused (Run options) (Some input) old new holding why) (λ holding told.
+    let both = told_at old.told (λ holding. IsNotRun options holding trace.names why × IsRegionUnwritten old new why) holding told (refused (lines_rise forms.Run input trace whole)) in
     (trace, whole, both.0, both.1))
 
 pub both_told : (options : RunOptions) (old new : BenchState) (names : List (List ℕ)) (why : Refusal) → IfSome old.told (λ holding. IsNotRun options holding names why)
     → (¬ (why ≡ refusals.TooManyFiles) → IfSome old.told (λ holding. new.told ≡ told_after why old.told))
-    → IfSome old.told (λ holding. IsNotRun options holding names why × IsUnwritten old new why)
+    → IfSome old.told (λ holding. IsNotRun options holding names why × IsRegionUnwritten old new why)
 both_told options old new names why refused unwritten =
-    if_told old.told (λ holding. IsNotRun options holding names why × IsUnwritten old new why) (λ holding told. (
+    if_told old.told (λ holding. IsNotRun options holding names why × IsRegionUnwritten old new why) (λ holding told. (
       told_at old.told (λ holding. IsNotRun options holding names why) holding told refused,
       λ other. told_at old.told (λ holding. new.told ≡ told_after why old.told) holding told (unwritten other),
     ))
@@ -140,7 +140,7 @@ pub quiet_left : (blank : BlankIsQuiet) (names : List (List ℕ)) (told : Option
 quiet_left blank names None quiet = tt
 quiet_left blank names (Some holding) quiet = record {
   parts = record { each = λ i. record { lines = λ line. blank } };
-  stores = kept_in_all (λ (named : NamedStore). IsQuiet named.store) names holding.stores quiet.stores;
+  stores = kept_in_all (λ (named : NamedStore). IsQuietStore named.store) names holding.stores quiet.stores;
 }
 
 -- ---- the report of a command
@@ -159,7 +159,7 @@ same_some {one} {other} is = cc
 -- why a recovery is refused
 pub recovery_refused : (left : Option (List ℕ)) (old new : BenchState) (why : Refusal)
     → IfSome old.told (λ holding. IsRefusedFor holding.parts why) → new.told ≡ told_after why old.told
-    → IfSome old.told (λ holding. IsRefused Recover left old new holding why)
+    → IfSome old.told (λ holding. IsCommandRefused Recover left old new holding why)
 recovery_refused left old new why refused unwritten =
-    if_told old.told (λ holding. IsRefused Recover left old new holding why) (λ holding told.
+    if_told old.told (λ holding. IsCommandRefused Recover left old new holding why) (λ holding told.
     (told_at old.told (λ holding. IsRefusedFor holding.parts why) holding told refused, λ not_many. unwritten))

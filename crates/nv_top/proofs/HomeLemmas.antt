@@ -5,8 +5,8 @@ use Rattle.std.specs.Cmp.Lexicographic.{same_text, other_text}
 use Rattle.std.proofs.lemmas.List.{ext_get_or}
 use Rattle.std.proofs.lemmas.List.Elements.{All-nil, All-cons, All-head, All-tail}
 use lib.Pointwise.{pointwise}
-use Rattle.nv_store.specs.Images.{IsImage}
-use Rattle.nv_store.specs.Store.{Store, IsQuiet}
+use Rattle.nv_store.specs.Images.{IsStoreImage}
+use Rattle.nv_store.specs.Store.{Store, IsQuietStore}
 use Rattle.nv_bench.specs.Holding.{Holding, NamedStore, is_named, named_stores, store_of}
 use Rattle.nv_bench.specs.Laws.{IsHoldingImage}
 use Rattle.nv_open.specs.Lending.{stores_named}
@@ -27,7 +27,7 @@ other_name : (one other : List ℕ) → one ≢ other → pointwise nat_eq one o
 other_name one other differ = false_unless (pointwise nat_eq one other) (λ same. differ (same_text one other same))
 
 -- the bytes of an image of a quiet store are its own
-seen_again : (store : Store) (bytes : List ℕ) → IsQuiet store → IsImage store bytes → bytes ≡ store.seen
+seen_again : (store : Store) (bytes : List ℕ) → IsQuietStore store → IsStoreImage store bytes → bytes ≡ store.seen
 seen_again store bytes quiet image =
     let long : length store.durable ≡ length store.seen = ap (λ (these : List ℕ). length these) quiet.durable in
     ext_get_or 0 bytes store.seen (omega (arith, image.no_shorter, image.no_longer, long))
@@ -36,7 +36,7 @@ seen_again store bytes quiet image =
 -- what stores were, and an image of each of them, under the same names
 record AreImagesOf (was now : List NamedStore) : Type 0 where
   names : map (λ (named : NamedStore). named.name) now ≡ map (λ (named : NamedStore). named.name) was
-  images : (i : ℕ) (none : NamedStore) → i < length was → IsImage (get_or was i none).store (get_or now i none).store.seen
+  images : (i : ℕ) (none : NamedStore) → i < length was → IsStoreImage (get_or was i none).store (get_or now i none).store.seen
 
 same_head : (a b : List ℕ) (xs ys : List (List ℕ)) → a ∷ xs ≡ b ∷ ys → a ≡ b
 same_head a b xs ys is = cc
@@ -48,7 +48,7 @@ either : (is : Bool) (now was now_rest was_rest : Store) → now.seen ≡ was.se
 either true now was now_rest was_rest one others = one
 either false now was now_rest was_rest one others = others
 
-found_again : (name : List ℕ) (was now : List NamedStore) → AreImagesOf was now → All (λ (named : NamedStore). IsQuiet named.store) was → (store_of name now).seen ≡ (store_of name was).seen
+found_again : (name : List ℕ) (was now : List NamedStore) → AreImagesOf was now → All (λ (named : NamedStore). IsQuietStore named.store) was → (store_of name now).seen ≡ (store_of name was).seen
 found_again name [] [] images quiet = refl
 found_again name [] (n ∷ now) images quiet = let never = images.names in absurd cc
 found_again name (w ∷ was) [] images quiet = let never = images.names in absurd cc
@@ -60,12 +60,12 @@ found_again name (w ∷ was) (n ∷ now) images quiet =
       images = λ i none inside. images.images (suc i) none (omega arith);
     } in
     let one : n.store.seen ≡ w.store.seen =
-    seen_again w.store n.store.seen (All-head (λ (named : NamedStore). IsQuiet named.store) w was quiet) (images.images zero w (omega arith)) in
-    let others = found_again name was now rest (All-tail (λ (named : NamedStore). IsQuiet named.store) w was quiet) in
+    seen_again w.store n.store.seen (All-head (λ (named : NamedStore). IsQuietStore named.store) w was quiet) (images.images zero w (omega arith)) in
+    let others = found_again name was now rest (All-tail (λ (named : NamedStore). IsQuietStore named.store) w was quiet) in
     ap (λ known. (cond (pointwise nat_eq known name) n.store (store_of name now)).seen) same
     ∙ either (pointwise nat_eq w.name name) n.store w.store (store_of name now) (store_of name was) one others
 
-all_again : (names : List (List ℕ)) (was now : List NamedStore) → AreImagesOf was now → All (λ (named : NamedStore). IsQuiet named.store) was
+all_again : (names : List (List ℕ)) (was now : List NamedStore) → AreImagesOf was now → All (λ (named : NamedStore). IsQuietStore named.store) was
     → map (λ (store : Store). store.seen) (stores_named names now) ≡ map (λ (store : Store). store.seen) (stores_named names was)
 all_again [] was now images quiet = refl
 all_again (name ∷ names) was now images quiet =
@@ -113,7 +113,7 @@ own_stores (name ∷ names) (store ∷ stores) long distinct =
 pub files_again : (names : List (List ℕ)) (home : List NamedStore) (stores : List Store) (was now : Holding) → was.stores ≡ home ++ named_stores names stores → length names ≡ length stores
     → ((i j : ℕ) → i < j → j < length names → slice_index_or names i [] ≢ slice_index_or names j [])
     → All (λ name. All (λ named. is_named name named ≡ false) home) names
-    → IsHoldingImage was now → All (λ (named : NamedStore). IsQuiet named.store) was.stores → files_of (stores_named names now.stores) ≡ files_of stores
+    → IsHoldingImage was now → All (λ (named : NamedStore). IsQuietStore named.store) was.stores → files_of (stores_named names now.stores) ≡ files_of stores
 files_again names home stores was now back long distinct away image quiet =
     ap (λ (contents : List (List ℕ)). record { contents = contents }) (all_again names was.stores now.stores (record { names = image.names; images = image.stores }) quiet)
     ∙ ap (λ (stores : List NamedStore). files_of (stores_named names stores)) back

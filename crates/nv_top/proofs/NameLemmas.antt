@@ -12,7 +12,7 @@ use Rattle.nv_open.specs.Adding.{all_names, is_known}
 use Rattle.nv_trace.specs.Shape.{IsWellFormed}
 use Rattle.nv_trace.specs.Traced.{Traced}
 use Rattle.nv_top.specs.Faithful.{descriptors_in, named, placed_in}
-use Rattle.nv_trace.specs.Said.{place_of}
+use Rattle.nv_trace.specs.Said.{said_place}
 use Rattle.nv_top.specs.Readings.{IsPlainByte, HavePlainNames}
 
 second : (a b : Bool) → (a && b) ≡ true → b ≡ true
@@ -40,7 +40,7 @@ names_plain most (name ∷ names) (bytes ∷ contents) allowed =
     (names_plain most names contents (All-tail (λ name. is_name most name ≡ true) name names allowed))
 
 -- each descriptor's file is one of a region that has the names of the trace
-pub descriptors_known : (names : List (List ℕ)) (trace : Traced) → IsWellFormed trace → All (λ name. place_of name names < length names) trace.names
+pub descriptors_known : (names : List (List ℕ)) (trace : Traced) → IsWellFormed trace → All (λ name. said_place name names < length names) trace.names
     → All (λ descriptor. descriptor.file < length names) (descriptors_in names trace)
 descriptors_known names trace well_formed known =
     All-map (λ descriptor. descriptor.file < length names) (placed_in names trace) trace.descriptors
@@ -85,7 +85,7 @@ either_side true b which other = refl
 either_side false b which other = other refl
 
 -- each name that is wanted is one of all
-pub wanted_known : (known wanted : List (List ℕ)) → All (λ name. place_of name (all_names known wanted) < length (all_names known wanted)) wanted
+pub wanted_known : (known wanted : List (List ℕ)) → All (λ name. said_place name (all_names known wanted) < length (all_names known wanted)) wanted
 wanted_known known wanted k d inside =
     let name = get_or wanted k d in
     let test : List ℕ → Bool = λ one. pointwise nat_eq one name in

@@ -5,8 +5,8 @@ use Rattle.std.proofs.lemmas.List.Elements.{All-cons, All-head, All-tail}
 use Rattle.nv_pmem.specs.Moments.{Tells}
 use Rattle.nv_pmem.specs.RowStates.{AreNow, row_tells_from, tells_at}
 use Rattle.nv_pmem.specs.Rows.{RowTells}
-use Rattle.nv_store.specs.Steps.{History}
-use Rattle.nv_store.specs.Store.{IsQuiet, Store}
+use Rattle.nv_store.specs.Steps.{StoreHistory}
+use Rattle.nv_store.specs.Store.{IsQuietStore, Store}
 use Rattle.nv_recover.specs.Standing.{AreQuietStores}
 
 -- ---- rows that tell
@@ -37,13 +37,13 @@ lent_back items now new len same long still = take_at new (drop (length new) ite
 
 -- ---- stores that are quiet where they tell
 
-all_quiet : {Y : Type 0} (history : Y → History) (stores : List Y) (states : List Store) → All (λ store. Tells (history store) IsQuiet) stores → AreNow (map history stores) states → AreQuietStores states
+all_quiet : {Y : Type 0} (history : Y → StoreHistory) (stores : List Y) (states : List Store) → All (λ store. Tells (history store) IsQuietStore) stores → AreNow (map history stores) states → AreQuietStores states
 all_quiet history [] [] quiet are = λ k d inside. absurd (omega arith)
 all_quiet history [] (now ∷ states) quiet are = absurd are
 all_quiet history (store ∷ stores) [] quiet are = absurd are
 all_quiet history (store ∷ stores) (now ∷ states) quiet are =
-    All-cons IsQuiet now states (tells_at (history store) IsQuiet now are.0 (All-head (λ store. Tells (history store) IsQuiet) store stores quiet))
-    (all_quiet history stores states (All-tail (λ store. Tells (history store) IsQuiet) store stores quiet) are.1)
+    All-cons IsQuietStore now states (tells_at (history store) IsQuietStore now are.0 (All-head (λ store. Tells (history store) IsQuietStore) store stores quiet))
+    (all_quiet history stores states (All-tail (λ store. Tells (history store) IsQuietStore) store stores quiet) are.1)
 
-pub quiet_row : {Y : Type 0} (history : Y → History) (stores : List Y) → All (λ store. Tells (history store) IsQuiet) stores → RowTells (map history stores) AreQuietStores
+pub quiet_row : {Y : Type 0} (history : Y → StoreHistory) (stores : List Y) → All (λ store. Tells (history store) IsQuietStore) stores → RowTells (map history stores) AreQuietStores
 quiet_row history stores quiet = row_tells_from (map history stores) AreQuietStores (λ states are. all_quiet history stores states quiet are)

@@ -26,7 +26,7 @@ use Rattle.nv_trace.specs.declared.trace.Form.{Form}
 use Rattle.nv_trace.specs.declared.trace.TracedCall.{TracedCall}
 use Rattle.nv_trace.specs.declared.report.Refusal.{Refusal}
 use Rattle.nv_trace.specs.declared.report.Refusal.TheVariants.{BadDescriptor, TooFar, TooLong, Stopped, Spent, Again, RegionFault, StoreFault}
-use Rattle.nv_top.specs.Faithful.{Basis, Sizes, IsAllowed, IsDrawn, IsLeftOpen, IsRead, WasRefused, barred, entries_of, entries_taken, file_call, history_of, lines_of, not_later}
+use Rattle.nv_top.specs.Faithful.{Basis, RunSizes, IsAllowedRefusal, MayBeDrawn, IsLeftOpen, IsReadCall, WasRefused, barred, entries_of, entries_taken, file_call, history_of, lines_of, not_later}
 use Rattle.nv_top.specs.Reports.{PlacedCall, RefusedCall}
 use Rattle.nv_top.specs.Runs.{AreMade, IsAfterAll, drawing, listed}
 
@@ -75,10 +75,10 @@ lines_rise_on thread calls call rises after_all =
 
 -- ---- how many entries some calls drew, beside the later ones of a call's own thread
 
-drawn_by : Sizes → TracedCall → List TracedCall → ℕ
+drawn_by : RunSizes → TracedCall → List TracedCall → ℕ
 drawn_by sizes call calls = entries_of sizes (not_later call calls)
 
-drawn-append : (sizes : Sizes) (call : TracedCall) (some more : List TracedCall) → drawn_by sizes call (some ++ more) ≡ drawn_by sizes call some + drawn_by sizes call more
+drawn-append : (sizes : RunSizes) (call : TracedCall) (some more : List TracedCall) → drawn_by sizes call (some ++ more) ≡ drawn_by sizes call some + drawn_by sizes call more
 unfolding drawn_by
 drawn-append sizes call some more =
     let test : TracedCall → Bool = λ other. not (other.thread == call.thread && nat_lt call.line other.line) in
@@ -87,7 +87,7 @@ drawn-append sizes call some more =
 
 -- they are no fewer where more calls drew
 drawn_grows : (basis : Basis) (drew more : List TracedCall) (call : TracedCall) (head : ℕ) → drawn_by basis.sizes call drew ≤ drawn_by basis.sizes call more
-    → IsDrawn basis drew call head → IsDrawn basis more call head
+    → MayBeDrawn basis drew call head → MayBeDrawn basis more call head
 unfolding drawn_by
 drawn_grows basis drew more call head grows drawn = omega (arith, grows, drawn)
 
@@ -111,7 +111,7 @@ where_not_barred P Q (Some cause) refusal on is = is
 
 -- more calls that drew take no refusal's cause away
 allowed_on : (failed : Type 0) (basis : Basis) (descriptors : List Descriptor) (drew more : List TracedCall) (call : TracedCall) (refusal : Refusal) → drawn_by basis.sizes call drew ≤ drawn_by basis.sizes call more
-    → IsAllowed failed basis descriptors drew call refusal → IsAllowed failed basis descriptors more call refusal
+    → IsAllowedRefusal failed basis descriptors drew call refusal → IsAllowedRefusal failed basis descriptors more call refusal
 allowed_on failed basis descriptors drew more call refusal grows =
     where_not_barred (WasRefused failed basis drew call refusal) (WasRefused failed basis more call refusal) (barred basis.sizes descriptors call.call) refusal
     (refused_on failed basis drew more call refusal grows)
@@ -190,7 +190,7 @@ made_while failed more basis descriptors calls head now placed refused left on m
   refused_in_order = made.refused_in_order;
   open_in_order = made.open_in_order;
   allowed =
-      All-weaker (λ r. IsAllowed failed basis descriptors (drawing placed left) r.call r.refusal) (λ r. IsAllowed more basis descriptors (drawing placed left) r.call r.refusal)
+      All-weaker (λ r. IsAllowedRefusal failed basis descriptors (drawing placed left) r.call r.refusal) (λ r. IsAllowedRefusal more basis descriptors (drawing placed left) r.call r.refusal)
       (λ r. where_not_barred (WasRefused failed basis (drawing placed left) r.call r.refusal) (WasRefused more basis (drawing placed left) r.call r.refusal)
       (barred basis.sizes descriptors r.call.call) r.refusal (refused_while failed more basis (drawing placed left) r.call r.refusal on)) refused made.allowed;
   not_barred = made.not_barred;
@@ -232,7 +232,7 @@ module _ (failed : Type 0) (basis : Basis) (descriptors : List Descriptor) (call
   drawing_earlier = All-append (λ earlier. earlier.line < call.line) (map (λ p. p.call) placed) left placed_earlier left_earlier
 
   -- the number that the log goes on with is one that the call may find
-  head_drawn : IsDrawn basis (drawing placed left) call head
+  head_drawn : MayBeDrawn basis (drawing placed left) call head
   head_drawn = omega (arith, made.drawn, ap (entries_of basis.sizes) (none_later (drawing placed left) call drawing_earlier))
 
   -- the call was answered
@@ -271,7 +271,7 @@ module _ (failed : Type 0) (basis : Basis) (descriptors : List Descriptor) (call
         refused_in_order = made.refused_in_order;
         open_in_order = made.open_in_order;
         allowed =
-            All-weaker (λ r. IsAllowed failed basis descriptors (drawing placed left) r.call r.refusal) (λ r. IsAllowed failed basis descriptors (drawing (placed ++ last ∷ []) left) r.call r.refusal)
+            All-weaker (λ r. IsAllowedRefusal failed basis descriptors (drawing placed left) r.call r.refusal) (λ r. IsAllowedRefusal failed basis descriptors (drawing (placed ++ last ∷ []) left) r.call r.refusal)
             (λ r. allowed_on failed basis descriptors (drawing placed left) (drawing (placed ++ last ∷ []) left) r.call r.refusal
             (omega (
               arith,
@@ -297,7 +297,7 @@ module _ (failed : Type 0) (basis : Basis) (descriptors : List Descriptor) (call
       }
 
   -- the call was refused, as it may be
-  made_refused : (refusal : Refusal) → IsAllowed failed basis descriptors (drawing placed left) call refusal
+  made_refused : (refusal : Refusal) → IsAllowedRefusal failed basis descriptors (drawing placed left) call refusal
       → AreMade failed basis descriptors (calls ++ call ∷ []) head now placed (refused ++ record { call = call; refusal = refusal } ∷ []) left
   made_refused refusal may =
       let last : RefusedCall = record { call = call; refusal = refusal } in
@@ -318,7 +318,7 @@ module _ (failed : Type 0) (basis : Basis) (descriptors : List Descriptor) (call
             subst IsStrictlyIncreasing (sym (map_push line_of refused last))
             (IsStrictlyIncreasing-push (map line_of refused) call.line made.refused_in_order (All-map (λ n. n < call.line) line_of refused earlier));
         open_in_order = made.open_in_order;
-        allowed = All-push (λ r. IsAllowed failed basis descriptors (drawing placed left) r.call r.refusal) refused last made.allowed may;
+        allowed = All-push (λ r. IsAllowedRefusal failed basis descriptors (drawing placed left) r.call r.refusal) refused last made.allowed may;
         not_barred = made.not_barred;
         left_open = made.left_open;
         drawn = made.drawn;
@@ -360,12 +360,12 @@ module _ (failed : Type 0) (basis : Basis) (descriptors : List Descriptor) (call
   made_stopped may because = made_otherwise Stopped may because
 
   -- a part failed while it read
-  pub made_region_fault : barred basis.sizes descriptors call.call ≡ None → IsRead call.call → failed
+  pub made_region_fault : barred basis.sizes descriptors call.call ≡ None → IsReadCall call.call → failed
       → AreMade failed basis descriptors (calls ++ call ∷ []) head now placed (refused ++ record { call = call; refusal = RegionFault } ∷ []) left
   made_region_fault may reads because = made_otherwise RegionFault may (reads, because)
 
   -- a store failed while it read
-  pub made_store_fault : barred basis.sizes descriptors call.call ≡ None → IsRead call.call → failed
+  pub made_store_fault : barred basis.sizes descriptors call.call ≡ None → IsReadCall call.call → failed
       → AreMade failed basis descriptors (calls ++ call ∷ []) head now placed (refused ++ record { call = call; refusal = StoreFault } ∷ []) left
   made_store_fault may reads because = made_otherwise StoreFault may (reads, because)
 
@@ -390,7 +390,7 @@ module _ (failed : Type 0) (basis : Basis) (descriptors : List Descriptor) (call
             subst IsStrictlyIncreasing (sym (map_push line_of left call))
             (IsStrictlyIncreasing-push (map line_of left) call.line made.open_in_order (All-map (λ n. n < call.line) line_of left left_earlier));
         allowed =
-            All-weaker (λ r. IsAllowed failed basis descriptors (drawing placed left) r.call r.refusal) (λ r. IsAllowed failed basis descriptors (drawing placed (left ++ call ∷ [])) r.call r.refusal)
+            All-weaker (λ r. IsAllowedRefusal failed basis descriptors (drawing placed left) r.call r.refusal) (λ r. IsAllowedRefusal failed basis descriptors (drawing placed (left ++ call ∷ [])) r.call r.refusal)
             (λ r. allowed_on failed basis descriptors (drawing placed left) (drawing placed (left ++ call ∷ [])) r.call r.refusal
             (omega (arith, drawn-append basis.sizes r.call before left, drawn-append basis.sizes r.call before (left ++ call ∷ []), drawn-append basis.sizes r.call left (call ∷ [])))) refused made.allowed;
         not_barred = made.not_barred;

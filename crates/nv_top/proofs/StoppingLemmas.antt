@@ -16,7 +16,7 @@ use Rattle.nv_pmem.specs.Room.{Room}
 use Rattle.nv_pmem.specs.Steps as lines
 use Rattle.nv_pmem.specs.declared.picker.Pick.{Pick}
 use Rattle.nv_store.specs.Steps as stores
-use Rattle.nv_store.specs.Store.{Store, IsQuiet}
+use Rattle.nv_store.specs.Store.{Store, IsQuietStore}
 use Rattle.nv_bench.specs.Benches.{BenchState, armed_with, told_back, with_faults}
 use Rattle.nv_bench.specs.Holding.{Holding, IsQuietHolding, NamedStore, named_stores}
 use Rattle.nv_bench.specs.Laws.{AreWholeStores, PowerLeavesAnImage}
@@ -30,19 +30,19 @@ use Rattle.nv_recover.specs.Standing.{AreQuietStores, ReadableStandsForRecovered
 use Rattle.nv_recover.specs.Recovering.{HasFoundAll}
 use Rattle.nv_recover.specs.declared.recovering.Recovered as recover
 use Rattle.nv_engine.specs.Keeping.{IsLog}
-use Rattle.nv_engine.specs.Laid.{Piece, laid}
+use Rattle.nv_engine.specs.Laid.{LaidPiece, laid}
 use Rattle.nv_engine.specs.Logged.{AreFitting, HasLog, LoggedImagesRecover}
 use Rattle.nv_engine.specs.declared.log.Log.{Log}
 use Rattle.nv_trace.specs.declared.trace.Descriptor.{Descriptor}
 use Rattle.nv_trace.specs.Traced.{Traced}
 use Rattle.nv_trace.specs.declared.trace.TracedCall.{TracedCall}
-use Rattle.nv_top.specs.Attempts.{HasRunTo, IsHeld, piece_of}
+use Rattle.nv_top.specs.Attempts.{HasRunTo, IsHeld, piece_of_call}
 use Rattle.nv_top.specs.Faithful.{Basis, IsLeftOpen, IsWrite, after_open, descriptors_in, entries_of, entries_taken, named}
 use Rattle.nv_top.specs.Fates.{fate_of, fated, fated_report, RecoversAsFated}
-use Rattle.nv_top.specs.Outcomes.{left_call, left_calls, placed_calls, refused_calls}
+use Rattle.nv_top.specs.Outcomes.{left_call, left_calls, placed_outcomes, refused_calls}
 use Rattle.nv_top.specs.Reports.{OpenCall, report_text}
 use Rattle.nv_top.specs.Runs.{AreMade}
-use Rattle.nv_top.specs.Stopping.{HasStoppedOn, IsAway, IsFated, RestsWith, ShowsRecovered, fate_in}
+use Rattle.nv_top.specs.Stopping.{HasStoppedOn, IsAway, IsFatedCall, RestsWith, ShowsRecovered, fate_in}
 use Rattle.nv_top.specs.Stops.{CountHasCause, StopHasCause}
 use Rattle.nv_top.specs.declared.ending.Stop.{Stop}
 use Rattle.nv_top.specs.declared.ending.Stop.TheVariants.{Usage, BadLine, InputLong, Read, Device, Region, NoMemory}
@@ -89,7 +89,7 @@ told_again old lent holding names now disks told_is home lent_is =
 
 -- a recovery's report shows what the bench stood for
 pub shows : (old lent : BenchState) (new_told : Option Holding) (holding : Holding) (outcome : Outcome) (text : List ℕ) (found : recover.Recovered) (page entries next : ℕ) (names shown : List (List ℕ))
-    (parts_row : List lines.History) (row : List stores.History)
+    (parts_row : List lines.PartHistory) (row : List stores.StoreHistory)
     → old.told ≡ Some holding → old.lent ≡ [] → lent ≡ with_faults lent.faults (all_lent names old) → names ≡ shown
     → ((now : List Store) → AreNow row now → text ≡ report_text (fated_report outcome found shown (files_of now)))
     → IsRecovered holding.parts page entries names next found
@@ -126,7 +126,7 @@ shows old lent new_told holding outcome text found page entries next names shown
 -- ---- what a stopped run left
 
 -- the states of a log's devices
-pub record HasDevices {L B : Type 0} (history : L → lines.History) (held : B → stores.History) (log : Log L B) (files : Files) : Type 0 where
+pub record HasDevices {L B : Type 0} (history : L → lines.PartHistory) (held : B → stores.StoreHistory) (log : Log L B) (files : Files) : Type 0 where
   pub parts : List Part
   pub parts_are : AreNow (map history log.parts.items) parts
   pub stores : List Store
@@ -134,7 +134,7 @@ pub record HasDevices {L B : Type 0} (history : L → lines.History) (held : B �
   pub synced : AreQuietStores stores
   pub files_are : files_of stores ≡ files
 
-pub devices_held : {L B : Type 0} (history : L → lines.History) (held : B → stores.History) (descriptors : List Descriptor) (log : Log L B) (pieces : List Piece) (next : ℕ) (files : Files) (left : List outcome.Left)
+pub devices_held : {L B : Type 0} (history : L → lines.PartHistory) (held : B → stores.StoreHistory) (descriptors : List Descriptor) (log : Log L B) (pieces : List LaidPiece) (next : ℕ) (files : Files) (left : List outcome.Left)
     → IsHeld history held descriptors log pieces next files left → HasDevices history held log files
 devices_held history held descriptors log pieces next files [] here = record {
   parts = here.0.parts;
@@ -159,7 +159,7 @@ calls_of_left first groups [] = refl
 calls_of_left first groups (one ∷ left) = ap (λ calls. one.call.now ∷ calls) (calls_of_left first groups left)
 
 -- at most one write is left open
-at_most_one : {L B : Type 0} (history : L → lines.History) (held : B → stores.History) (descriptors : List Descriptor) (log : Log L B) (pieces : List Piece) (next : ℕ) (files : Files) (left : List outcome.Left)
+at_most_one : {L B : Type 0} (history : L → lines.PartHistory) (held : B → stores.StoreHistory) (descriptors : List Descriptor) (log : Log L B) (pieces : List LaidPiece) (next : ℕ) (files : Files) (left : List outcome.Left)
     → IsHeld history held descriptors log pieces next files left → length left ≤ 1
 at_most_one history held descriptors log pieces next files [] here = omega arith
 at_most_one history held descriptors log pieces next files (one ∷ []) here = omega arith
@@ -180,13 +180,13 @@ fates_in basis parts found next placed (one ∷ []) all drew drawn few =
     ∙ ap (λ number. fate_in parts basis.files number) number) (All-nil Has)
 fates_in basis parts found next placed (one ∷ two ∷ more) all drew drawn few = absurd (omega (arith, few))
 
-is_fated : {L B : Type 0} (history : L → lines.History) (held : B → stores.History) (failed : Type 0) (basis : Basis) (descriptors : List Descriptor) (calls : List TracedCall) (log : Log L B) (outcome : Outcome)
+is_fated : {L B : Type 0} (history : L → lines.PartHistory) (held : B → stores.StoreHistory) (failed : Type 0) (basis : Basis) (descriptors : List Descriptor) (calls : List TracedCall) (log : Log L B) (outcome : Outcome)
     (parts : List Part) (found : recover.Recovered) (names : List (List ℕ)) (files : Files)
-    → HasRunTo history held failed basis descriptors calls log outcome → HasFoundAll (row_words parts) found → IsFated basis parts (fated_report outcome found names files)
+    → HasRunTo history held failed basis descriptors calls log outcome → HasFoundAll (row_words parts) found → IsFatedCall basis parts (fated_report outcome found names files)
 is_fated history held failed basis descriptors calls log outcome parts found names files run all =
     let few = at_most_one history held descriptors log run.pieces run.next basis.files outcome.left.items run.here in
     record {
-      fates = fates_in basis parts found run.next (map (λ p. p.call) (placed_calls outcome)) outcome.left.items all run.drew_last run.made.drawn few;
+      fates = fates_in basis parts found run.next (map (λ p. p.call) (placed_outcomes outcome)) outcome.left.items all run.drew_last run.made.drawn few;
       at_most_one = omega (arith, few, length-map outcome.left.items (fated found.first found.groups));
     }
 
@@ -200,7 +200,7 @@ names_read : (parts : List Part) → header_names parts ≡ first_names version_
 unfolding first_names
 names_read parts = refl
 
-pub faithful_after : {L B : Type 0} (recover_so : LoggedImagesRecover) (stand_so : ReadableStandsForRecovered) (history : L → lines.History) (held : B → stores.History) (failed : Type 0)
+pub faithful_after : {L B : Type 0} (recover_so : LoggedImagesRecover) (stand_so : ReadableStandsForRecovered) (history : L → lines.PartHistory) (held : B → stores.StoreHistory) (failed : Type 0)
     (basis : Basis) (trace : Traced) (descriptors : List Descriptor) (log : Log L B) (outcome : Outcome) (bench : BenchState) (text : List ℕ) (after : Holding)
     (run : HasRunTo history held failed basis descriptors trace.calls log outcome) (devices : HasDevices history held log basis.files)
     → descriptors ≡ descriptors_in basis.names trace → log.names ≡ basis.names → AreFileNames version_1 log.names
@@ -226,8 +226,8 @@ faithful_after recover_so stand_so history held failed basis trace descriptors l
     ∙ ap (λ bytes. (recovered image_now bytes).files) (stores_again ∙ devices.files_are)
     ∙ fated_so
     ∙ ap (λ descriptors. after_open descriptors open_calls files) same_descriptors in
-    let Of : List Descriptor → Type 0 = λ descriptors. AreMade failed basis descriptors trace.calls run.next files (placed_calls outcome) (refused_calls outcome) (left_calls outcome) in
-    let Left : List TracedCall → Type 0 = λ left. AreMade failed basis (descriptors_in basis.names trace) trace.calls run.next files (placed_calls outcome) (refused_calls outcome) left in
+    let Of : List Descriptor → Type 0 = λ descriptors. AreMade failed basis descriptors trace.calls run.next files (placed_outcomes outcome) (refused_calls outcome) (left_calls outcome) in
+    let Left : List TracedCall → Type 0 = λ left. AreMade failed basis (descriptors_in basis.names trace) trace.calls run.next files (placed_outcomes outcome) (refused_calls outcome) left in
     let made = subst Left (calls_of_left found.first found.groups left) (subst Of same_descriptors run.made) in
     let shown_files = files_named after.parts (header_names after.parts) after.stores in
     let named_so : named basis.names shown_files ≡ named basis.names (after_open (descriptors_in basis.names trace) open_calls files) = ap (named basis.names) files_so in
@@ -241,7 +241,7 @@ faithful_after recover_so stand_so history held failed basis trace descriptors l
       fated = is_fated history held failed basis descriptors trace.calls log outcome after.parts found basis.names shown_files run shown.log;
       rests = subst FilesRest shown_so (subst NamesRest (names_so ∙ same_names) shown.left);
       report = fated_report outcome found basis.names shown_files;
-      faithful = made_faithful failed basis trace run.next files (placed_calls outcome) (refused_calls outcome) open_calls (named basis.names shown_files) made named_so;
+      faithful = made_faithful failed basis trace run.next files (placed_outcomes outcome) (refused_calls outcome) open_calls (named basis.names shown_files) made named_so;
       plain = names_plain version_1.name_limit basis.names shown_files.contents (each_allowed basis.names (subst Named same_names allowed));
       text_is = shown.text_is ∙ ap (λ names. report_text (fated_report outcome found names shown_files)) (names_so ∙ same_names);
     }
@@ -249,7 +249,7 @@ faithful_after recover_so stand_so history held failed basis trace descriptors l
 -- ---- the whole
 
 -- what is known of what failed may be weaker
-pub run_while : {L B : Type 0} (history : L → lines.History) (held : B → stores.History) (failed more : Type 0) (basis : Basis) (descriptors : List Descriptor) (calls : List TracedCall) (log : Log L B) (outcome : Outcome)
+pub run_while : {L B : Type 0} (history : L → lines.PartHistory) (held : B → stores.StoreHistory) (failed more : Type 0) (basis : Basis) (descriptors : List Descriptor) (calls : List TracedCall) (log : Log L B) (outcome : Outcome)
     → (failed → more) → HasRunTo history held failed basis descriptors calls log outcome → HasRunTo history held more basis descriptors calls log outcome
 run_while history held failed more basis descriptors calls log outcome on run = record {
   sizes_are = run.sizes_are;
@@ -259,16 +259,16 @@ run_while history held failed more basis descriptors calls log outcome on run = 
   next = run.next;
   here = run.here;
   drew_last = run.drew_last;
-  made = made_while failed more basis descriptors calls run.next (laid basis.files run.pieces) (placed_calls outcome) (refused_calls outcome) (left_calls outcome) on run.made;
+  made = made_while failed more basis descriptors calls run.next (laid basis.files run.pieces) (placed_outcomes outcome) (refused_calls outcome) (left_calls outcome) on run.made;
 }
 
 -- what an image has of a log's parts: pieces that the log may have
 pub record HasFitting {L B : Type 0} (log : Log L B) (image : Image) : Type 0 where
-  pub pieces : List Piece
+  pub pieces : List LaidPiece
   pub logged : HasLog version_1 log.geometry.page log.geometry.entries log.names log.tail pieces image
   pub fitting : AreFitting version_1 log.geometry.page log.geometry.entries (length log.names) log.tail pieces
 
-pub fitting_at : {L B : Type 0} (history : L → lines.History) (held : B → stores.History) (descriptors : List Descriptor) (log : Log L B) (pieces : List Piece) (next : ℕ) (files : Files) (left : List outcome.Left)
+pub fitting_at : {L B : Type 0} (history : L → lines.PartHistory) (held : B → stores.StoreHistory) (descriptors : List Descriptor) (log : Log L B) (pieces : List LaidPiece) (next : ℕ) (files : Files) (left : List outcome.Left)
     (parts : List Part) (image : Image) → AreNow (map history log.parts.items) parts → IsRowImage parts image
     → IsHeld history held descriptors log pieces next files left → HasFitting log image
 fitting_at history held descriptors log pieces next files [] parts image now is here =
@@ -280,23 +280,23 @@ fitting_at history held descriptors log pieces next files (one ∷ []) parts ima
     let image_of : IsRowImage here.0.parts image = subst (λ parts. IsRowImage parts image) same is in
     elim (here.0.logs image image_of) [
       | inl logged ↦ record { pieces = pieces; logged = logged; fitting = here.0.fitting_before }
-      | inr logged ↦ record { pieces = pieces ++ piece_of descriptors one.call.now.call ∷ []; logged = logged; fitting = here.0.fitting }
+      | inr logged ↦ record { pieces = pieces ++ piece_of_call descriptors one.call.now.call ∷ []; logged = logged; fitting = here.0.fitting }
     ]
 fitting_at history held descriptors log pieces next files (one ∷ two ∷ more) parts image now is here = absurd here
 
-named_quiet : (names : List (List ℕ)) (stores : List Store) → All IsQuiet stores → All (λ (named : NamedStore). IsQuiet named.store) (named_stores names stores)
-named_quiet [] stores quiet = All-nil (λ (named : NamedStore). IsQuiet named.store)
-named_quiet (name ∷ names) [] quiet = All-nil (λ (named : NamedStore). IsQuiet named.store)
+named_quiet : (names : List (List ℕ)) (stores : List Store) → All IsQuietStore stores → All (λ (named : NamedStore). IsQuietStore named.store) (named_stores names stores)
+named_quiet [] stores quiet = All-nil (λ (named : NamedStore). IsQuietStore named.store)
+named_quiet (name ∷ names) [] quiet = All-nil (λ (named : NamedStore). IsQuietStore named.store)
 named_quiet (name ∷ names) (store ∷ stores) quiet =
-    All-cons (λ (named : NamedStore). IsQuiet named.store) (record { name = name; store = store }) (named_stores names stores) (All-head IsQuiet store stores quiet)
-    (named_quiet names stores (All-tail IsQuiet store stores quiet))
+    All-cons (λ (named : NamedStore). IsQuietStore named.store) (record { name = name; store = store }) (named_stores names stores) (All-head IsQuietStore store stores quiet)
+    (named_quiet names stores (All-tail IsQuietStore store stores quiet))
 
 -- what a bench holds to which parts and stores came back
 abbrev pub home_with : Holding → List (List ℕ) → List Part → List Store → Holding
 home_with left names parts stores = record { parts = parts; stores = left.stores ++ named_stores names stores }
 
 -- what a bench holds to which the parts and the stores of a log came back
-pub given_home : {L B : Type 0} (history : L → lines.History) (held : B → stores.History) (log : Log L B) (k : ℕ) (start armed : BenchState) (home : Option Holding) (left : Holding) (parts : List L) (backing : List B)
+pub given_home : {L B : Type 0} (history : L → lines.PartHistory) (held : B → stores.StoreHistory) (log : Log L B) (k : ℕ) (start armed : BenchState) (home : Option Holding) (left : Holding) (parts : List L) (backing : List B)
     → ((now : List Part) (disks : List Store) → AreNow (map history parts) now → AreNow (map held backing) disks → home ≡ told_back now disks armed)
     → parts ≡ log.parts.items → backing ≡ log.stores.items → armed ≡ armed_with k start → start.told ≡ Some left → start.lent ≡ log.names
     → (now : List Part) (disks : List Store) → AreNow (map history log.parts.items) now → AreNow (map held log.stores.items) disks → home ≡ Some (home_with left log.names now disks)
@@ -308,14 +308,14 @@ given_home history held log k start armed home left parts backing gives same_par
     ∙ ap (λ (told : Option Holding). option_map (λ (holding : Holding). home_with holding start.lent now disks) told) told_is
     ∙ ap (λ names. Some (home_with left names now disks)) lent
 
-pub stopped_on : {L B : Type 0} (recover_so : LoggedImagesRecover) (stand_so : ReadableStandsForRecovered) (power_so : PowerLeavesAnImage) (history : L → lines.History) (room : L → Room) (held : B → stores.History)
+pub stopped_on : {L B : Type 0} (recover_so : LoggedImagesRecover) (stand_so : ReadableStandsForRecovered) (power_so : PowerLeavesAnImage) (history : L → lines.PartHistory) (room : L → Room) (held : B → stores.StoreHistory)
     (failed : Type 0) (basis : Basis) (trace : Traced) (descriptors : List Descriptor) (log : Log L B) (outcome : Outcome) (bench : BenchState) (text : List ℕ) (pick : Pick) (left : Holding) (given off : Option Holding)
     → HasRunTo history held failed basis descriptors trace.calls log outcome
     → descriptors ≡ descriptors_in basis.names trace → log.names ≡ basis.names → IsLog history room held log
     → ((parts : List Part) (stores : List Store) → AreNow (map history log.parts.items) parts → AreNow (map held log.stores.items) stores → given ≡ Some (home_with left log.names parts stores))
     → off ≡ option_map (powered pick) given → bench.left ≡ option_map (λ (holding : Holding). (powered pick holding).parts) given
     → ((holding : Holding) → given ≡ Some holding → AreWholeStores holding)
-    → All (λ (named : NamedStore). IsQuiet named.store) left.stores → IsAway log.names left
+    → All (λ (named : NamedStore). IsQuietStore named.store) left.stores → IsAway log.names left
     → IfSome off (λ holding. ShowsRecovered holding outcome bench.told text)
     → HasStoppedOn failed basis trace bench text
 stopped_on recover_so stand_so power_so history room held failed basis trace descriptors log outcome bench text pick left given off run same_descriptors same_names is_log gives powers leaves whole quiet away shown =
@@ -327,8 +327,8 @@ stopped_on recover_so stand_so power_so history room held failed basis trace des
     let image = (power_so pick before (whole before given_is)).0 in
     let long : length log.names ≡ length devices.stores =
     omega (arith, is_log.store_each, length_now (map held log.stores.items) devices.stores devices.stores_are, length-map log.stores.items held) in
-    let all_quiet : All (λ (named : NamedStore). IsQuiet named.store) before.stores =
-    All-append (λ (named : NamedStore). IsQuiet named.store) left.stores (named_stores log.names devices.stores) quiet (named_quiet log.names devices.stores devices.synced) in
+    let all_quiet : All (λ (named : NamedStore). IsQuietStore named.store) before.stores =
+    All-append (λ (named : NamedStore). IsQuietStore named.store) left.stores (named_stores log.names devices.stores) quiet (named_quiet log.names devices.stores devices.synced) in
     faithful_after recover_so stand_so history held failed basis trace descriptors log outcome bench text after run devices same_descriptors same_names is_log.names_are image.parts
     (fitting_at history held descriptors log run.pieces run.next basis.files outcome.left.items devices.parts (row_words after.parts) devices.parts_are image.parts run.here).logged.header
     (files_again log.names left.stores devices.stores before after refl long is_log.names_are.distinct away image all_quiet)

@@ -4,7 +4,7 @@ use Rattle.std.specs.Prelude.{Option, Some, None, IfSome, Result, Ok, Err, OnOk,
 use Rattle.std.proofs.lemmas.List.Elements.{All-nil}
 use Rattle.nv_pmem.specs.Laws.{BlankIsQuiet}
 use Rattle.nv_pmem.specs.declared.picker.Pick.{Pick}
-use Rattle.nv_store.specs.Store.{IsQuiet}
+use Rattle.nv_store.specs.Store.{IsQuietStore}
 use Rattle.nv_bench.specs.Benches.{BenchState, with_faults}
 use Rattle.nv_bench.specs.Holding.{Holding, NamedStore, IsQuietHolding}
 use Rattle.nv_bench.specs.Laws.{PowerLeavesAnImage}
@@ -34,7 +34,7 @@ quiet_after law pick bench told is =
 pub quiet_new : BlankIsQuiet → (state : BenchState) → state ≡ new_state (record { parts = []; stores = [] }) → IfSome state.told IsQuietHolding
 quiet_new blank state is =
     subst (λ (one : Option Holding). IfSome one IsQuietHolding) (sym (ap (λ (one : BenchState). one.told) is))
-    (record { parts = record { each = λ i. record { lines = λ line. blank } }; stores = All-nil (λ (named : NamedStore). IsQuiet named.store) })
+    (record { parts = record { each = λ i. record { lines = λ line. blank } }; stores = All-nil (λ (named : NamedStore). IsQuietStore named.store) })
 
 -- ---- what a command leaves of a bench of which nothing was lent
 

@@ -84,7 +84,7 @@ powered_rooms draws (part ∷ parts) =
     ∙ ap (λ rooms. room_with (length part) ∷ rooms) (powered_rooms one.1 parts)
 
 pub never_refused : {L B : Type 0} (fits_so : LoggedImagesFit) (good_so : FittingHasNoBad) (read_so : ReadIsNotRefused) (power_so : PowerLeavesAnImage)
-    (history : L → lines.History) (held : B → stores.History) (failed : Type 0) (basis : Basis) (descriptors : List Descriptor) (calls : List TracedCall) (log : Log L B) (outcome : Outcome)
+    (history : L → lines.PartHistory) (held : B → stores.StoreHistory) (failed : Type 0) (basis : Basis) (descriptors : List Descriptor) (calls : List TracedCall) (log : Log L B) (outcome : Outcome)
     (pick : Pick) (left : Holding) (given off : Option Holding) (why : Refusal)
     → HasRunTo history held failed basis descriptors calls log outcome → IsLong history log
     → ((parts : List Part) (stores : List Store) → AreNow (map history log.parts.items) parts → AreNow (map held log.stores.items) stores → given ≡ Some (home_with left log.names parts stores))

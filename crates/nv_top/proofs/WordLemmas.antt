@@ -8,7 +8,7 @@ use Rattle.std.specs.List.{list_any}
 use Rattle.clap.specs.Kinds.{Kinds}
 use Rattle.clap.specs.Words.{App, Row, built, fault_of, first_of, is_simple, is_simple_and_free, matches_of}
 use Rattle.nv_pmem.specs.Limits.{IsEntryCount, IsPageSize}
-use Rattle.nv_top.specs.Words.{AreInLimits, command_of, if_lines, image_in, is_dashes, largest_number, look_in, number_in, number_or, options_in, page_in, run_app, run_in, stop_in, unless_refused}
+use Rattle.nv_top.specs.Words.{AreInLimits, command_of, if_lines, image_in, is_dashes, largest_number, look_in, number_in, number_or, options_in, page_of_words, run_app, run_in, stop_in, unless_refused}
 use Rattle.nv_top.specs.declared.words.Command.{Command}
 use Rattle.nv_top.specs.declared.words.Command.TheVariants.{Look, Recover, Run}
 use Rattle.nv_top.specs.declared.words.RunOptions.{RunOptions}
@@ -72,7 +72,7 @@ lines_of found page low high is = by_test (found % 64 == 0) refl is where
       subst IsPageSize same (record { least = low; most = high; whole_lines = eqb-true (found % 64) 0 whole })
   by_test false whole is = cc
 
-page_allowed : (rows : List Row) (page : ℕ) → page_in rows ≡ Some page → IsPageSize page
+page_allowed : (rows : List Row) (page : ℕ) → page_of_words rows ≡ Some page → IsPageSize page
 page_allowed rows page is =
     let found = and_then_some if_lines (number_or 64 64 4096 (first_of (codes "page") rows)) page is in
     let between = option_between 64 64 4096 (first_of (codes "page") rows) found.0 (omega arith) (omega arith) found.1 in
@@ -93,7 +93,7 @@ stop_counts (Some text) stop is =
 
 options_allowed : (rows : List Row) (options : RunOptions) → options_in rows ≡ Some options → AreInLimits options × IfSome options.stop (λ k. 1 ≤ k)
 options_allowed rows options is =
-    let page = and_then_some _ (page_in rows) options is in
+    let page = and_then_some _ (page_of_words rows) options is in
     let entries = and_then_some _ (number_or 16 2 1024 (first_of (codes "entries") rows)) options page.2 in
     let cache = and_then_some _ (number_or 4 1 16384 (first_of (codes "cache") rows)) options entries.2 in
     let batch = and_then_some _ (number_or 4 1 1024 (first_of (codes "batch") rows)) options cache.2 in

@@ -6,7 +6,7 @@ use Rattle.nv_plain.specs.declared.call.Reply.{Reply}
 use Rattle.nv_pmem.specs.Steps as lines
 use Rattle.nv_store.specs.Steps as stores
 use Rattle.nv_engine.specs.Holding.{Holds}
-use Rattle.nv_engine.specs.Laid.{Piece, laid}
+use Rattle.nv_engine.specs.Laid.{LaidPiece, laid}
 use Rattle.nv_engine.specs.declared.log.Log.{Log}
 use Rattle.nv_engine.specs.declared.error.ReadError.{ReadError}
 use Rattle.nv_engine.specs.declared.error.ReadError.TheVariants as read_error
@@ -19,7 +19,7 @@ use Rattle.nv_trace.specs.declared.report.Refusal.TheVariants.{BadDescriptor, To
 use Rattle.nv_top.specs.declared.calls.CallError.{CallError}
 use Rattle.nv_top.specs.declared.calls.CallError.TheVariants.{Refused, Stop}
 use Rattle.nv_top.specs.declared.ending.Stop.TheVariants as stops
-use Rattle.nv_top.specs.Faithful.{Sizes, barred, entries_taken, file_call}
+use Rattle.nv_top.specs.Faithful.{RunSizes, barred, entries_taken, file_call}
 use Rattle.nv_top.specs.Stops.{StopHasCause}
 
 -- the answer of a write of the log that wasn't made
@@ -41,29 +41,29 @@ of_read read_error.StoreFault = Stop stops.Device
 of_read read_error.NoMemory = Stop stops.NoMemory
 
 -- the sizes of a run over a log
-abbrev pub sizes_of : {L B : Type 0} → Log L B → Sizes
-sizes_of log = record { page = log.geometry.page; entries = log.geometry.entries; pages = log.pages }
+abbrev pub sizes_of_region : {L B : Type 0} → Log L B → RunSizes
+sizes_of_region log = record { page = log.geometry.page; entries = log.geometry.entries; pages = log.pages }
 
 -- how often the devices of a log have failed
 abbrev pub log_faults : {L B : Type 0} → (L → ℕ) → (B → ℕ) → Log L B → ℕ
 log_faults part_faults store_faults log = sum_by part_faults log.parts.items + sum_by store_faults log.stores.items
 
 -- A call was answered: the log has further pieces, and over the same stores they make of the files what the call makes of them.
-pub record HasAnswered {L B : Type 0} (history : L → lines.History) (held : B → stores.History) (descriptors : List Descriptor) (call : TraceCall) (new : Log L B) (reply : Reply)
-    (pieces : List Piece) (files : Files) : Type 0 where
-  pub more : List Piece
+pub record HasAnswered {L B : Type 0} (history : L → lines.PartHistory) (held : B → stores.StoreHistory) (descriptors : List Descriptor) (call : TraceCall) (new : Log L B) (reply : Reply)
+    (pieces : List LaidPiece) (files : Files) : Type 0 where
+  pub more : List LaidPiece
   pub holds : Holds history held new more files
   pub reply_is : reply ≡ reply_of (file_call descriptors call) (laid files pieces)
   pub files_are : laid files more ≡ files_after (file_call descriptors call) (laid files pieces)
 
-pub record IsAnswer {L B : Type 0} (history : L → lines.History) (held : B → stores.History) (descriptors : List Descriptor) (call : TraceCall) (old new : Log L B) (reply : Reply) : Type 0 where
+pub record IsAnswer {L B : Type 0} (history : L → lines.PartHistory) (held : B → stores.StoreHistory) (descriptors : List Descriptor) (call : TraceCall) (old new : Log L B) (reply : Reply) : Type 0 where
   pub running : new.stopped ≡ false
-  pub may : barred (sizes_of old) descriptors call ≡ None
-  pub head : new.head ≡ old.head + entries_taken (sizes_of old) call
-  pub answered : (pieces : List Piece) (files : Files) → Holds history held old pieces files → HasAnswered history held descriptors call new reply pieces files
+  pub may : barred (sizes_of_region old) descriptors call ≡ None
+  pub head : new.head ≡ old.head + entries_taken (sizes_of_region old) call
+  pub answered : (pieces : List LaidPiece) (files : Files) → Holds history held old pieces files → HasAnswered history held descriptors call new reply pieces files
 
 -- Why a call is refused: its arguments bar it, or no number or no entry is left for it.
-abbrev pub IsRefusedAt : Sizes → List Descriptor → (head tail : ℕ) → TraceCall → Refusal → Type 0
+abbrev pub IsRefusedAt : RunSizes → List Descriptor → (head tail : ℕ) → TraceCall → Refusal → Type 0
 IsRefusedAt sizes descriptors head tail call BadDescriptor = barred sizes descriptors call ≡ Some BadDescriptor
 IsRefusedAt sizes descriptors head tail call TooFar = barred sizes descriptors call ≡ Some TooFar
 IsRefusedAt sizes descriptors head tail call TooLong = barred sizes descriptors call ≡ Some TooLong
@@ -76,16 +76,16 @@ IsRefusedAt sizes descriptors head tail call RegionFault = ⊥
 IsRefusedAt sizes descriptors head tail call StoreFault = ⊥
 
 -- A call was refused: the log is as it was.
-pub record IsRefusal {L B : Type 0} (history : L → lines.History) (held : B → stores.History) (descriptors : List Descriptor) (call : TraceCall) (old new : Log L B) (refusal : Refusal) : Type 0 where
+pub record IsRefusalOfCall {L B : Type 0} (history : L → lines.PartHistory) (held : B → stores.StoreHistory) (descriptors : List Descriptor) (call : TraceCall) (old new : Log L B) (refusal : Refusal) : Type 0 where
   pub running : new.stopped ≡ false
   pub head : new.head ≡ old.head
-  pub cause : IsRefusedAt (sizes_of old) descriptors old.head old.tail call refusal
-  pub holds : (pieces : List Piece) (files : Files) → Holds history held old pieces files → Holds history held new pieces files
+  pub cause : IsRefusedAt (sizes_of_region old) descriptors old.head old.tail call refusal
+  pub holds : (pieces : List LaidPiece) (files : Files) → Holds history held old pieces files → Holds history held new pieces files
 
 -- what an answer says
-abbrev pub AnswerSays : {L B : Type 0} → (history : L → lines.History) → (held : B → stores.History) → (descriptors : List Descriptor) → TraceCall → (old new : Log L B) → Result Reply CallError → Type 0
+abbrev pub AnswerSays : {L B : Type 0} → (history : L → lines.PartHistory) → (held : B → stores.StoreHistory) → (descriptors : List Descriptor) → TraceCall → (old new : Log L B) → Result Reply CallError → Type 0
 AnswerSays history held descriptors call old new (Ok reply) = IsAnswer history held descriptors call old new reply
-AnswerSays history held descriptors call old new (Err (Refused refusal)) = IsRefusal history held descriptors call old new refusal
+AnswerSays history held descriptors call old new (Err (Refused refusal)) = IsRefusalOfCall history held descriptors call old new refusal
 AnswerSays history held descriptors call old new (Err (Stop stop)) = Unit {0}
 
 -- and what it says of the count of faults

@@ -7,7 +7,7 @@ use Rattle.nv_pmem.specs.declared.geometry.Geometry.{Geometry}
 use Rattle.nv_bench.specs.Benches.{BenchState, with_faults}
 use Rattle.nv_bench.specs.Holding.{Holding}
 use Rattle.nv_open.specs.Adding.{all_names}
-use Rattle.nv_open.specs.Begun.{IsBegun, IsNotOpened, files_with}
+use Rattle.nv_open.specs.Begun.{IsOpeningBegun, IsNotOpened, files_with}
 use Rattle.nv_open.specs.declared.error.Refusal.{Refusal}
 use Rattle.nv_open.specs.Held.{files_named, header_names}
 use Rattle.nv_open.specs.Lending.{stores_named}
@@ -34,7 +34,7 @@ pub record IsBasis (options : RunOptions) (holding : Holding) (wanted : List (Li
   pub page_is : geometry.page ≡ options.page
   pub entries_are : geometry.entries ≡ options.entries
   pub known : List (List ℕ)
-  pub begun : IsBegun holding.parts geometry basis.sizes.page basis.sizes.entries known basis.next
+  pub begun : IsOpeningBegun holding.parts geometry basis.sizes.page basis.sizes.entries known basis.next
   pub pages_are : basis.sizes.pages ≡ options.pages
   pub names_are : basis.names ≡ all_names known wanted
   pub files_are : basis.files ≡ files_with holding.parts known wanted holding.stores

@@ -18,13 +18,13 @@ use Rattle.nv_trace.specs.declared.report.Fate.{Fate}
 use Rattle.nv_trace.specs.declared.report.Fate.TheVariants.{Kept, Lost}
 use Rattle.nv_trace.specs.declared.report.Refusal.{Refusal}
 use Rattle.nv_trace.specs.declared.report.Refusal.TheVariants.{BadDescriptor, TooFar, TooLong, Stopped, Spent, Again, RegionFault, StoreFault}
-use Rattle.nv_trace.specs.Said.{place_of}
+use Rattle.nv_trace.specs.Said.{said_place}
 use Rattle.nv_trace.specs.Traced.{Traced}
 use Rattle.nv_trace.specs.declared.trace.Descriptor.{Descriptor}
 use Rattle.nv_top.specs.Reports.{PlacedCall, OpenCall, NamedFile, Report}
 
 -- the sizes of a run: bytes of a page, entries of the log, pages of a file
-pub record Sizes : Type 0 where
+pub record RunSizes : Type 0 where
   pub page : ℕ
   pub entries : ℕ
   pub pages : ℕ
@@ -32,7 +32,7 @@ pub record Sizes : Type 0 where
 -- What a run begins with: its sizes; all files of its region, by their names in the header's order and by their bytes; and the
 -- number that its log begins with.
 pub record Basis : Type 0 where
-  pub sizes : Sizes
+  pub sizes : RunSizes
   pub names : List (List ℕ)
   pub files : Files
   pub next : ℕ
@@ -41,7 +41,7 @@ pub record Basis : Type 0 where
 
 -- a descriptor of a trace, its file by the place of its name among all names
 abbrev pub placed_in : List (List ℕ) → Traced → Descriptor → Descriptor
-placed_in names trace descriptor = record { file = place_of (slice_index_or trace.names descriptor.file []) names; mode = descriptor.mode }
+placed_in names trace descriptor = record { file = said_place (slice_index_or trace.names descriptor.file []) names; mode = descriptor.mode }
 
 -- the descriptors of a trace, each file by the place of its name among all names
 abbrev pub descriptors_in : List (List ℕ) → Traced → List Descriptor
@@ -79,14 +79,14 @@ named names files = map (λ pair. record { name = pair.0; bytes = pair.1 }) (zip
 -- ---- refusals and their causes
 
 -- why a call that moves so many bytes can't be made, where it may touch so many pages
-abbrev pub barred_by : Sizes → (most at len : ℕ) → Option Refusal
+abbrev pub barred_by : RunSizes → (most at len : ℕ) → Option Refusal
 barred_by sizes most at len =
     if nat_lt (sizes.page * sizes.pages) (at + len) then Some TooFar
     else if nat_lt most (pages_touched at len sizes.page) then Some TooLong
     else None
 
 -- why a call is barred by where it reads or writes: it ends too far, or touches more pages than a group may have entries, or than the log has
-abbrev pub barred_there : Sizes → TraceCall → Option Refusal
+abbrev pub barred_there : RunSizes → TraceCall → Option Refusal
 barred_there sizes (Pread fd at len) = barred_by sizes (min version_1.group_limit sizes.entries) at len
 barred_there sizes (Pwrite fd at bytes) = barred_by sizes (min version_1.group_limit sizes.entries) at (length bytes)
 barred_there sizes (Fsync fd) = None
@@ -98,17 +98,17 @@ is_allowed descriptors (Pwrite fd at bytes) = can_write (descriptor_at descripto
 is_allowed descriptors (Fsync fd) = true
 
 -- why a call can't be made, whatever the log holds
-abbrev pub barred : Sizes → List Descriptor → TraceCall → Option Refusal
+abbrev pub barred : RunSizes → List Descriptor → TraceCall → Option Refusal
 barred sizes descriptors call = if is_allowed descriptors call then barred_there sizes call else Some BadDescriptor
 
 -- how many entries a call takes
-abbrev pub entries_taken : Sizes → TraceCall → ℕ
+abbrev pub entries_taken : RunSizes → TraceCall → ℕ
 entries_taken sizes (Pread fd at len) = 0
 entries_taken sizes (Pwrite fd at bytes) = pages_touched at (length bytes) sizes.page
 entries_taken sizes (Fsync fd) = 0
 
 -- and some calls
-abbrev pub entries_of : Sizes → List TracedCall → ℕ
+abbrev pub entries_of : RunSizes → List TracedCall → ℕ
 entries_of sizes calls = sum_by (λ traced. entries_taken sizes traced.call) calls
 
 -- the calls but the later ones of a call's own thread
@@ -116,26 +116,26 @@ abbrev pub not_later : TracedCall → List TracedCall → List TracedCall
 not_later call calls = filter (λ other. not (other.thread == call.thread && nat_lt call.line other.line)) calls
 
 -- a number that a call may find as the next: the first, and at most what the calls drew that are not later ones of its own thread
-abbrev pub IsDrawn : Basis → (drew : List TracedCall) → TracedCall → ℕ → Type 0
-IsDrawn basis drew call head = head ≤ basis.next + entries_of basis.sizes (not_later call drew)
+abbrev pub MayBeDrawn : Basis → (drew : List TracedCall) → TracedCall → ℕ → Type 0
+MayBeDrawn basis drew call head = head ≤ basis.next + entries_of basis.sizes (not_later call drew)
 
 -- The log had no room for a call that takes entries: nothing was retired.
 pub record HadNoRoom (basis : Basis) (drew : List TracedCall) (call : TracedCall) (head tail : ℕ) : Type 0 where
   pub takes : 0 < entries_taken basis.sizes call.call
   pub retired : tail ≡ basis.next
   pub full : tail + basis.sizes.entries < head + entries_taken basis.sizes call.call
-  pub drawn : IsDrawn basis drew call head
+  pub drawn : MayBeDrawn basis drew call head
 
 -- The numbers were used up for a call that takes entries.
 pub record HadNoNumber (basis : Basis) (drew : List TracedCall) (call : TracedCall) (found : ℕ) : Type 0 where
   pub takes : 0 < entries_taken basis.sizes call.call
   pub spent : 2 ^ 60 < found + entries_taken basis.sizes call.call
-  pub drawn : IsDrawn basis drew call found
+  pub drawn : MayBeDrawn basis drew call found
 
-abbrev pub IsRead : TraceCall → Type 0
-IsRead (Pread fd at len) = Unit {0}
-IsRead (Pwrite fd at bytes) = ⊥
-IsRead (Fsync fd) = ⊥
+abbrev pub IsReadCall : TraceCall → Type 0
+IsReadCall (Pread fd at len) = Unit {0}
+IsReadCall (Pwrite fd at bytes) = ⊥
+IsReadCall (Fsync fd) = ⊥
 
 abbrev pub IsWrite : TraceCall → Type 0
 IsWrite (Pread fd at len) = ⊥
@@ -151,12 +151,12 @@ WasRefused failed basis drew call TooLong = ⊥
 WasRefused failed basis drew call Stopped = failed
 WasRefused failed basis drew call (Spent found) = HadNoNumber basis drew call found
 WasRefused failed basis drew call (Again head tail) = HadNoRoom basis drew call head tail
-WasRefused failed basis drew call RegionFault = IsRead call.call × failed
-WasRefused failed basis drew call StoreFault = IsRead call.call × failed
+WasRefused failed basis drew call RegionFault = IsReadCall call.call × failed
+WasRefused failed basis drew call StoreFault = IsReadCall call.call × failed
 
 -- A refusal that may be shown: the one that bars the call, or, where none does, one that has such a cause.
-abbrev pub IsAllowed : (failed : Type 0) → Basis → List Descriptor → (drew : List TracedCall) → TracedCall → Refusal → Type 0
-IsAllowed failed basis descriptors drew call refusal =
+abbrev pub IsAllowedRefusal : (failed : Type 0) → Basis → List Descriptor → (drew : List TracedCall) → TracedCall → Refusal → Type 0
+IsAllowedRefusal failed basis descriptors drew call refusal =
     MatchOption (barred basis.sizes descriptors call.call) (WasRefused failed basis drew call refusal) (λ cause. refusal ≡ cause)
 
 -- a call that may be left open: a write that nothing bars, where devices failed
@@ -202,7 +202,7 @@ pub record IsFaithful (failed : Type 0) (basis : Basis) (trace : Traced) (report
   pub refused_in_order : IsStrictlyIncreasing (map (λ r. r.call.line) report.refused)
   pub open_in_order : IsStrictlyIncreasing (map (λ call. call.line) (open_calls_of report))
   -- a refusal has its cause, and what is barred is refused
-  pub allowed : All (λ r. IsAllowed failed basis (descriptors_in basis.names trace) (drawing_calls report) r.call r.refusal) report.refused
+  pub allowed : All (λ r. IsAllowedRefusal failed basis (descriptors_in basis.names trace) (drawing_calls report) r.call r.refusal) report.refused
   pub not_barred : All (λ call. barred basis.sizes (descriptors_in basis.names trace) call.call ≡ None) (placed_calls report)
   -- only a write is left open, where a device failed
   pub left_open : All (IsLeftOpen failed basis (descriptors_in basis.names trace)) (open_calls_of report)

@@ -9,7 +9,7 @@ use Rattle.nv_trace.specs.declared.trace.Descriptor.{Descriptor}
 use Rattle.nv_trace.specs.declared.report.Fate.{Fate}
 use Rattle.nv_trace.specs.declared.report.Fate.TheVariants.{Kept, Lost}
 use Rattle.nv_top.specs.Faithful.{after_open, named}
-use Rattle.nv_top.specs.Outcomes.{placed_calls, refused_calls}
+use Rattle.nv_top.specs.Outcomes.{placed_outcomes, refused_calls}
 use Rattle.nv_top.specs.Reports.{OpenCall, Report}
 use Rattle.nv_top.specs.declared.outcome.Left.{Left}
 use Rattle.nv_top.specs.declared.outcome.Outcome.{Outcome}
@@ -31,7 +31,7 @@ RecoversAsFated descriptors image stores found left files =
 -- the report of a run after a recovery, which shows these files
 abbrev pub fated_report : Outcome → recover.Recovered → (names : List (List ℕ)) → Files → Report
 fated_report outcome found names files = record {
-  history = placed_calls outcome;
+  history = placed_outcomes outcome;
   refused = refused_calls outcome;
   open_calls = map (fated found.first found.groups) outcome.left.items;
   files = named names files;

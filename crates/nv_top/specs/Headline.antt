@@ -68,12 +68,12 @@ IsShown Recover input old new holding text = HasRecovered holding new.told text
 IsShown (Look files) input old new holding text = HasLooked files holding text
 
 -- A region that was refused is as it was, unless it was refused for its files.
-abbrev pub IsUnwritten : (old new : BenchState) → Refusal → Type 0
-IsUnwritten old new why = ¬ (why ≡ refusals.TooManyFiles) → new.told ≡ told_after why old.told
+abbrev pub IsRegionUnwritten : (old new : BenchState) → Refusal → Type 0
+IsRegionUnwritten old new why = ¬ (why ≡ refusals.TooManyFiles) → new.told ≡ told_after why old.told
 
 -- why a command is refused by the region of a bench that held this, and what it leaves of it
-abbrev pub IsRefused : Command → (input : Option (List ℕ)) → (old new : BenchState) → Holding → Refusal → Type 0
-IsRefused (Run options) input old new holding why =
-    IfSome input (λ input. (trace : Traced) × (ending_of forms.Run input ≡ Whole trace) × IsNotRun options holding trace.names why × IsUnwritten old new why)
-IsRefused Recover input old new holding why = IsRefusedFor holding.parts why × IsUnwritten old new why
-IsRefused (Look files) input old new holding why = IsNotShown files holding why
+abbrev pub IsCommandRefused : Command → (input : Option (List ℕ)) → (old new : BenchState) → Holding → Refusal → Type 0
+IsCommandRefused (Run options) input old new holding why =
+    IfSome input (λ input. (trace : Traced) × (ending_of forms.Run input ≡ Whole trace) × IsNotRun options holding trace.names why × IsRegionUnwritten old new why)
+IsCommandRefused Recover input old new holding why = IsRefusedFor holding.parts why × IsRegionUnwritten old new why
+IsCommandRefused (Look files) input old new holding why = IsNotShown files holding why

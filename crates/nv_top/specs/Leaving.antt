@@ -13,7 +13,7 @@ use Rattle.nv_store.specs.Store.{Store}
 use Rattle.nv_recover.specs.Standing.{AreQuietStores, files_of}
 
 -- The parts are a region with these names, at rest with an empty log; the stores hold these files, durable.
-pub record AreLeft {X Y : Type 0} (history : X → lines.History) (held : Y → stores.History) (names : List (List ℕ)) (files : Files) (parts : List X) (backing : List Y) : Type 0 where
+pub record AreLeft {X Y : Type 0} (history : X → lines.PartHistory) (held : Y → stores.StoreHistory) (names : List (List ℕ)) (files : Files) (parts : List X) (backing : List Y) : Type 0 where
   pub page : ℕ
   pub entries : ℕ
   pub next : ℕ

@@ -13,8 +13,8 @@ use Rattle.nv_top.specs.declared.outcome.Outcome.{Outcome}
 abbrev pub placed_call : Placed → PlacedCall
 placed_call placed = record { call = placed.call.now; reply = placed.reply }
 
-abbrev pub placed_calls : Outcome → List PlacedCall
-placed_calls outcome = map placed_call outcome.placed.items
+abbrev pub placed_outcomes : Outcome → List PlacedCall
+placed_outcomes outcome = map placed_call outcome.placed.items
 
 -- a refused call, without where it lies in memory
 abbrev pub refused_call : Refused → RefusedCall
@@ -37,7 +37,7 @@ open_call o = record { call = o.call.now; fate = o.fate }
 -- the report of a run
 abbrev pub report_of : Outcome → List Open → (names contents : List (List ℕ)) → Report
 report_of outcome unanswered names contents = record {
-  history = placed_calls outcome;
+  history = placed_outcomes outcome;
   refused = refused_calls outcome;
   open_calls = map open_call unanswered;
   files = named names (record { contents = contents });

@@ -5,7 +5,7 @@ use Rattle.nv_plain.specs.Files.{Files}
 use Rattle.nv_plain.specs.Histories.{IsLegal, after}
 use Rattle.nv_trace.specs.declared.trace.Descriptor.{Descriptor}
 use Rattle.nv_trace.specs.declared.trace.TracedCall.{TracedCall}
-use Rattle.nv_top.specs.Faithful.{Basis, IsAllowed, IsLeftOpen, barred, entries_of, history_of, lines_of}
+use Rattle.nv_top.specs.Faithful.{Basis, IsAllowedRefusal, IsLeftOpen, barred, entries_of, history_of, lines_of}
 use Rattle.nv_top.specs.Reports.{PlacedCall, RefusedCall}
 
 -- the calls that drew entries: those in their places, and those left open
@@ -26,7 +26,7 @@ pub record AreMade (failed : Type 0) (basis : Basis) (descriptors : List Descrip
   pub in_order : (thread : ℕ) → IsStrictlyIncreasing (lines_of thread (map (λ p. p.call) placed))
   pub refused_in_order : IsStrictlyIncreasing (map (λ r. r.call.line) refused)
   pub open_in_order : IsStrictlyIncreasing (map (λ call. call.line) left)
-  pub allowed : All (λ r. IsAllowed failed basis descriptors (drawing placed left) r.call r.refusal) refused
+  pub allowed : All (λ r. IsAllowedRefusal failed basis descriptors (drawing placed left) r.call r.refusal) refused
   pub not_barred : All (λ call. barred basis.sizes descriptors call.call ≡ None) (map (λ p. p.call) placed)
   pub left_open : All (IsLeftOpen failed basis descriptors) left
   pub drawn : head ≡ basis.next + entries_of basis.sizes (drawing placed left)

@@ -57,9 +57,9 @@ StopSettles settled now Device = Rose settled now
 StopSettles settled now (Region refusal) = now ≤ settled
 StopSettles settled now NoMemory = now ≤ settled
 
-abbrev pub Settles : {T : Type 0} → (settled now : ℕ) → Result T Stop → Type 0
-Settles settled now (Ok _) = now ≡ settled
-Settles settled now (Err stop) = StopSettles settled now stop
+abbrev pub IsSettledStop : {T : Type 0} → (settled now : ℕ) → Result T Stop → Type 0
+IsSettledStop settled now (Ok _) = now ≡ settled
+IsSettledStop settled now (Err stop) = StopSettles settled now stop
 
 -- No store of these names is at home.
 abbrev pub IsAway : List (List ℕ) → Holding → Type 0
@@ -99,7 +99,7 @@ fate_in parts files number =
     fate_of log.first log.groups number
 
 -- At most one write was left open, and it is kept or lost as the log says that stands in these parts.
-pub record IsFated (basis : Basis) (parts : List Part) (report : Report) : Type 0 where
+pub record IsFatedCall (basis : Basis) (parts : List Part) (report : Report) : Type 0 where
   pub fates : All (λ o. o.fate ≡ fate_in parts basis.files (open_number basis report)) report.open_calls
   pub at_most_one : length report.open_calls ≤ 1
 
@@ -112,5 +112,5 @@ pub record HasStoppedOn (failed : Type 0) (basis : Basis) (trace : Traced) (benc
   pub text_is : text ≡ report_text report
   pub parts : List Part
   pub power_left : bench.left ≡ Some parts
-  pub fated : IsFated basis parts report
+  pub fated : IsFatedCall basis parts report
   pub rests : RestsWith basis.names (files_shown basis trace report) bench.told

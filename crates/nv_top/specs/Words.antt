@@ -55,8 +55,8 @@ abbrev pub if_lines : ℕ → Option ℕ
 if_lines page = if page % 64 == 0 then Some page else None
 
 -- bytes of a page
-abbrev pub page_in : List Row → Option ℕ
-page_in rows = option_and_then if_lines (number_or 64 64 4096 (first_of (codes "page") rows))
+abbrev pub page_of_words : List Row → Option ℕ
+page_of_words rows = option_and_then if_lines (number_or 64 64 4096 (first_of (codes "page") rows))
 
 -- which device call a run is stopped at, if at all
 abbrev pub stop_in : Option (List ℕ) → Option (Option ℕ)
@@ -84,7 +84,7 @@ options_in rows =
     (number_or 4 1 1024 (first_of (codes "batch") rows)))
     (number_or 4 1 16384 (first_of (codes "cache") rows)))
     (number_or 16 2 1024 (first_of (codes "entries") rows)))
-    (page_in rows)
+    (page_of_words rows)
 
 -- The sizes of a run are within the limits of a region and of a file.
 pub record AreInLimits (options : RunOptions) : Type 0 where

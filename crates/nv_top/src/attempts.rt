@@ -1,3 +1,4 @@
+//! Calls on a log while its devices may stop it.
 ghost use Rattle.std.specs.Prelude.{◌≡◌, ◌⊎◌, ℕ, ◌+◌, ◌<◌, ◌≤◌, ◌∷◌, [], ◌++◌, List, false, true, length, map, sum_by, All, IfOk, OnOk};
 ghost use Rattle.std.specs.List.Sorted.{IsStrictlyIncreasing};
 ghost use Rattle.nv_plain.specs.Faults.{Rose};
@@ -7,7 +8,7 @@ ghost use Rattle.nv_trace.specs.declared.trace.TracedCall.{TracedCall};
 ghost use Rattle.nv_top.specs.Answers.{log_faults};
 ghost use Rattle.nv_top.specs.Early.{IsBusy};
 ghost use Rattle.nv_top.specs.Faithful.{Basis, is_allowed};
-ghost use Rattle.nv_top.specs.LogRuns.{IsFirst};
+ghost use Rattle.nv_top.specs.LogRuns.{IsFirstRun};
 ghost use Rattle.nv_top.specs.Runs.{IsAfterAll};
 ghost use Rattle.nv_top.specs.Attempts.{AttemptSays, AttemptHasCause, HasRunTo, IsLong, of_read_error, of_write_error};
 
@@ -71,7 +72,7 @@ pub(crate) fn make_calls_on<'a, L: Lines + Drop, B: Backing + Drop>(
     ensures log { IsLog L.history L.room B.history log.new }
     ensures region { IsSameRegion log.old log.new }
     ensures long { IsLong L.history log.new }
-    ensures made { IfOk result (λ outcome. (basis : Basis) → IsFirst L.history B.history basis log.old
+    ensures made { IfOk result (λ outcome. (basis : Basis) → IsFirstRun L.history B.history basis log.old
         → IsStrictlyIncreasing (map (λ traced. traced.line) calls.now)
         → HasRunTo L.history B.history (Rose (log_faults L.fault_count B.fault_count log.old) (log_faults L.fault_count B.fault_count log.new))
         basis descriptors.now calls.now log.new outcome) }

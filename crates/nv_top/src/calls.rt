@@ -1,3 +1,4 @@
+//! Calls on a log that no device has stopped.
 ghost use Rattle.std.specs.Prelude.{◌≡◌, ◌+◌, ◌<◌, false, true, length, sum_by, All, Err};
 ghost use Rattle.nv_engine.specs.Keeping.{IsLog, IsSameRegion};
 ghost use Rattle.nv_trace.specs.Shape.{IsCallWithin};

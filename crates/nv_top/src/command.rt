@@ -1,3 +1,4 @@
+//! The command: what a program does, whole.
 ghost use Rattle.std.specs.Prelude.{◌≡◌, ◌≢◌, ◌≤◌, ◌<◌, ◌⊎◌, ◌+◌, ◌-◌, ◌^◌, ℕ, List, [], map, string_bytes, false, true, None, Some, IfSome, IfOk, IfErr, OnOk, Err};
 ghost use Rattle.std.specs.List.Sorted.{IsStrictlyIncreasing};
 ghost use Rattle.nv_plain.specs.Faults.{Rose};
@@ -11,9 +12,9 @@ ghost use Rattle.nv_trace.specs.Shape.{IsWellFormed};
 ghost use Rattle.nv_trace.specs.Streams.{Appends};
 ghost use Rattle.nv_top.specs.Commands.{IsGivenBack, IsNotRun};
 ghost use Rattle.nv_top.specs.Endings.{IsErrorLine, AppendsFront, usage_line, read_line, device_line, memory_line, input_line, region_line, IsTrace};
-ghost use Rattle.nv_top.specs.Headline.{HasStopped, IsLeftBy, IsRefused, IsShown, IsShownOf, command_over, expected_faults, possible};
+ghost use Rattle.nv_top.specs.Headline.{HasStopped, IsLeftBy, IsCommandRefused, IsShown, IsShownOf, command_over, expected_faults, possible};
 ghost use Rattle.nv_top.specs.LogRuns.{lines_in};
-ghost use Rattle.nv_top.specs.Stopping.{IsPoweredBack, Settles};
+ghost use Rattle.nv_top.specs.Stopping.{IsPoweredBack, IsSettledStop};
 ghost use Rattle.nv_top.specs.Stops.{IsCauseOf};
 ghost use Rattle.nv_top.specs.Words.{AreInLimits};
 ghost use Rattle.nv_top.specs.declared.ending.Stop.TheVariants as stops;
@@ -97,7 +98,7 @@ pub fn nv_main<R: Threads + Wait + Sync, I: Source, O: Sink, B: Bench, G: Gate +
     ensures region { result ≡ BAD_REGION → (why : Refusal) × Appends (O.written out.old) (O.written out.new) (region_line why)
         × ((command : Command) → command_over B.can_lose_power (map string_bytes words.now) ≡ Some command
         → IfSome (B.state bench.old).told (λ holding.
-        IsRefused command (I.left src.old) (B.state bench.old) (B.state bench.new) holding why)) }
+        IsCommandRefused command (I.left src.old) (B.state bench.old) (B.state bench.new) holding why)) }
     ensures unarmed { result ≡ BAD_REGION → IfSome (I.left src.old) (λ input. IfSome (B.state bench.old).told (λ holding.
         (B.state bench.new).arms ≡ (B.state bench.old).arms)) }
 
@@ -154,7 +155,7 @@ fn report<I: Source, B: Bench>(
     ensures region { (why : _) → result ≡ Err (stops.Region why)
         → (command : Command) → command_over B.can_lose_power (map string_bytes words.now) ≡ Some command
         → IfSome (B.state bench.old).told (λ holding.
-        IsRefused command (I.left src.old) (B.state bench.old) (B.state bench.new) holding why) }
+        IsCommandRefused command (I.left src.old) (B.state bench.old) (B.state bench.new) holding why) }
     ensures unarmed { (why : _) → result ≡ Err (stops.Region why) → IfSome (I.left src.old) (λ input.
         IfSome (B.state bench.old).told (λ holding. (B.state bench.new).arms ≡ (B.state bench.old).arms)) }
     ensures report { IfOk result (λ text. (command : Command) → command_over B.can_lose_power (map string_bytes words.now) ≡ Some command
@@ -213,7 +214,7 @@ fn run_input<I: Source, B: Bench>(
         → (B.state bench.new).faults ≤ expected_faults (B.state bench.old) (B.state bench.new) }
     ensures good_input { OnOk result (IfSome (I.left src.old) (λ input. IsTrace input × (I.left src.new ≡ Some []))) }
     ensures region { (why : _) → result ≡ Err (stops.Region why) → IfSome (B.state bench.old).told (λ holding.
-        IsRefused (commands.Run options) (I.left src.old) (B.state bench.old) (B.state bench.new) holding why) }
+        IsCommandRefused (commands.Run options) (I.left src.old) (B.state bench.old) (B.state bench.new) holding why) }
     ensures unarmed { (why : _) → result ≡ Err (stops.Region why) → IfSome (I.left src.old) (λ input.
         IfSome (B.state bench.old).told (λ holding. (B.state bench.new).arms ≡ (B.state bench.old).arms)) }
     ensures report { IfOk result (λ text. IfSome (B.state bench.old).told (λ holding.
@@ -239,7 +240,7 @@ fn run_trace<T: Bench>(
     requires stop { IfSome options.stop (λ k. (1 ≤ k) × (T.can_lose_power ≡ true)) }
     requires well_formed { IsWellFormed trace.now }
     ensures back { IsLeftBy (commands.Run options) (T.state bench.old) (T.state bench.new) }
-    ensures cause { Settles (expected_faults (T.state bench.old) (T.state bench.new)) (T.state bench.new).faults result }
+    ensures cause { IsSettledStop (expected_faults (T.state bench.old) (T.state bench.new)) (T.state bench.new).faults result }
     ensures ran { IfOk result (λ text. IsStrictlyIncreasing (lines_in trace.now) → IfSome (T.state bench.old).told (λ holding.
         IsShownOf options.stop options (T.state bench.old) (T.state bench.new) holding trace.now text.items)) }
     ensures refused { (why : _) → result ≡ Err (stops.Region why)
@@ -274,7 +275,7 @@ fn stop_run<T: Bench>(
     requires k { 1 ≤ k }
     requires well_formed { IsWellFormed trace.now }
     ensures back { IsPoweredBack k (T.state bench.old) (T.state bench.new) ⊎ IsGivenBack (T.state bench.old) (T.state bench.new) }
-    ensures cause { Settles (expected_faults (T.state bench.old) (T.state bench.new)) (T.state bench.new).faults result }
+    ensures cause { IsSettledStop (expected_faults (T.state bench.old) (T.state bench.new)) (T.state bench.new).faults result }
     ensures ran { IfOk result (λ text. IsStrictlyIncreasing (lines_in trace.now) → IfSome (T.state bench.old).told (λ holding.
         HasStopped (Rose (T.state bench.old).faults (T.state bench.new).faults) options holding (T.state bench.new) trace.now text.items)) }
     ensures refused { (why : _) → result ≡ Err (stops.Region why) → (T.state bench.new).arms ≡ (T.state bench.old).arms

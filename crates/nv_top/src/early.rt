@@ -1,3 +1,4 @@
+//! Calls that are answered without the log.
 ghost use Rattle.std.specs.Prelude.{◌≡◌, nat_lt, if◌then◌else◌, length, Ok, Err};
 ghost use Rattle.nv_engine.specs.Keeping.{IsLog};
 ghost use Rattle.nv_engine.specs.Refusals.{file_limit};

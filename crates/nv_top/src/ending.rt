@@ -1,3 +1,4 @@
+//! A program's statuses, and the ways to each.
 ghost use Rattle.std.specs.Prelude.{◌≡◌, ◌≢◌, ℕ, List, Err};
 ghost use Rattle.nv_plain.specs.Faults.{Rose};
 ghost use Rattle.nv_trace.specs.Streams.{Appends};

@@ -1,3 +1,4 @@
+//! What became of the writes that were left open.
 ghost use Rattle.std.specs.Prelude.{◌≡◌, map, IfOk};
 ghost use Rattle.nv_top.specs.Fates.{fate_of, fated};
 ghost use Rattle.nv_top.specs.Outcomes.{open_call};

@@ -1,3 +1,4 @@
+//! The files, as the stores have them.
 ghost use Rattle.std.specs.Prelude.{◌≡◌, List, length, map, sum_by, Err, IfOk};
 ghost use Rattle.nv_pmem.specs.Moments.{Tells};
 ghost use Rattle.nv_pmem.specs.RowStates.{AreNow};

@@ -1,3 +1,4 @@
+//! A law of reports.
 ghost use Rattle.nv_top.specs.Readings.{OneNumber, OneReading, OneRecoveryReading};
 
 /// The text of a report has one reading: reports of one text list the same lines, field by field, those of runs and those of

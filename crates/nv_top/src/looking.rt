@@ -1,3 +1,4 @@
+//! A look at the region of a bench, and its report.
 ghost use Rattle.std.specs.Prelude.{◌≡◌, [], false, Err, IfOk, IfSome};
 ghost use Rattle.nv_bench.specs.Holding.{IsQuietHolding};
 ghost use Rattle.nv_top.specs.Commands.{HasLooked, IsLookedAt, IsNotShown};

@@ -1,3 +1,4 @@
+//! The descriptors of a trace, by the names of a region.
 ghost use Rattle.std.specs.Prelude.{◌≡◌, ◌<◌, length, IfOk};
 ghost use Rattle.nv_trace.specs.Shape.{IsWellFormed};
 ghost use Rattle.nv_top.specs.Faithful as faithful;

@@ -1,3 +1,4 @@
+//! What became of the calls of a run.
 use nv_plain::Reply;
 use nv_trace::{Fate, Refusal, TracedCall};
 

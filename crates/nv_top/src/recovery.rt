@@ -1,3 +1,4 @@
+//! The recovery of a region, and its report.
 ghost use Rattle.std.specs.Prelude.{◌≡◌, [], false, List, length, map, sum_by, Err, IfOk, IfSome};
 ghost use Rattle.nv_pmem.specs.RowStates.{AreNow};
 ghost use Rattle.nv_store.specs.Store.{Store};

@@ -1,3 +1,4 @@
+//! Why a region is refused, as text.
 ghost use Rattle.std.specs.Prelude.{◌≡◌, IfOk, string_bytes};
 ghost use Rattle.nv_top.specs.Endings.{region_line};
 ghost use Rattle.nv_top.specs.RegionTexts.{field_text, region_text};

@@ -1,3 +1,4 @@
+//! A run of a trace, and its report.
 ghost use Rattle.std.specs.Prelude.{◌≡◌, ◌+◌, ◌<◌, ◌≤◌, ◌∷◌, [], ◌++◌, List, false, length, map, sum_by, All, Err, IfOk, IfSome, OnOk};
 ghost use Rattle.std.specs.List.Sorted.{IsStrictlyIncreasing};
 ghost use Rattle.nv_plain.specs.Files.{Files};
@@ -10,17 +11,17 @@ ghost use Rattle.nv_bench.specs.Holding.{IsQuietHolding};
 ghost use Rattle.nv_recover.specs.Standing.{AreQuietStores, files_of};
 ghost use Rattle.nv_engine.specs.Holding.{Holds};
 ghost use Rattle.nv_engine.specs.Keeping.{IsLog, IsSameRegion};
-ghost use Rattle.nv_engine.specs.Laid.{Piece, laid};
+ghost use Rattle.nv_engine.specs.Laid.{LaidPiece, laid};
 ghost use Rattle.nv_trace.specs.Shape.{IsCallWithin, IsWellFormed};
 ghost use Rattle.nv_trace.specs.declared.trace.TracedCall.{TracedCall};
 ghost use Rattle.nv_top.specs.Answers.{log_faults};
 ghost use Rattle.nv_open.specs.Held.{told_after};
 ghost use Rattle.nv_open.specs.declared.error.Refusal.TheVariants as refusals;
 ghost use Rattle.nv_top.specs.Commands.{HasRunOn, IsGivenBack, IsNotRun};
-ghost use Rattle.nv_trace.specs.Said.{place_of};
+ghost use Rattle.nv_trace.specs.Said.{said_place};
 ghost use Rattle.nv_top.specs.Faithful.{Basis, descriptors_in};
 ghost use Rattle.nv_top.specs.Leaving.{AreLeft};
-ghost use Rattle.nv_top.specs.LogRuns.{HasRun, HasRunOver, IsFirst, basis_over, lines_in};
+ghost use Rattle.nv_top.specs.LogRuns.{HasRun, HasRunOver, IsFirstRun, basis_over, lines_in};
 ghost use Rattle.nv_top.specs.Outcomes.{report_of};
 ghost use Rattle.nv_top.specs.Reports.{report_text};
 ghost use Rattle.nv_top.specs.Runs.{IsAfterAll};
@@ -92,7 +93,7 @@ pub(crate) fn make_calls<'a, L: Lines + Drop, B: Backing + Drop>(
     ensures log { IsLog L.history L.room B.history log.new }
     ensures region { IsSameRegion log.old log.new }
     ensures running { OnOk result (log.new.stopped ≡ false) }
-    ensures made { IfOk result (λ outcome. (basis : Basis) → IsFirst L.history B.history basis log.old
+    ensures made { IfOk result (λ outcome. (basis : Basis) → IsFirstRun L.history B.history basis log.old
         → IsStrictlyIncreasing (map (λ traced. traced.line) calls.now)
         → HasRun L.history B.history ⊥ basis descriptors.now calls.now log.new outcome) }
     ensures never { (why : _) → ¬ (result ≡ Err (stops.Region why)) }
@@ -164,7 +165,7 @@ pub(crate) fn run_over<L: Lines + Drop, B: Backing + Drop>(
     requires stores { length stores.items ≡ length region.names }
     requires quiet { RowTells (map B.history stores.items) AreQuietStores }
     requires well_formed { IsWellFormed trace.now }
-    requires known { All (λ name. place_of name region.names < length region.names) trace.now.names }
+    requires known { All (λ name. said_place name region.names < length region.names) trace.now.names }
     ensures count { length result.stores.items ≡ length stores.items }
     ensures ran { IfOk result.report (λ text. (parts : List Part) (now : List Store)
         → AreNow (map L.history region.parts.items) parts → AreNow (map B.history stores.items) now → IsStrictlyIncreasing (lines_in trace.now)
@@ -204,10 +205,10 @@ fn run_log<L: Lines + Drop, B: Backing + Drop>(
     requires descriptors { descriptors.now ≡ descriptors_in log.names trace.now }
     requires files { All (λ descriptor. descriptor.file < length log.names) descriptors.now }
     ensures count { length result.stores.items ≡ length log.stores.items }
-    ensures ran { IfOk result.report (λ text. (basis : Basis) → IsFirst L.history B.history basis log → basis.names ≡ log.names → IsStrictlyIncreasing (lines_in trace.now)
+    ensures ran { IfOk result.report (λ text. (basis : Basis) → IsFirstRun L.history B.history basis log → basis.names ≡ log.names → IsStrictlyIncreasing (lines_in trace.now)
         → HasRunOver L.history B.history basis trace.now text.items result.parts.items result.stores.items) }
     ensures whole { (why : _) → result.report ≡ Err (stops.Region why) → IsStrictlyIncreasing (lines_in trace.now)
-        → (basis : Basis) → ¬ IsFirst L.history B.history basis log }
+        → (basis : Basis) → ¬ IsFirstRun L.history B.history basis log }
     ensures cause { CountHasCause (log_faults L.fault_count B.fault_count log)
         (sum_by L.fault_count result.parts.items + sum_by B.fault_count result.stores.items) result.report }
 {
@@ -234,10 +235,10 @@ fn finish<L: Lines + Drop, B: Backing + Drop>(
     requires log { IsLog L.history L.room B.history log }
     requires running { log.stopped ≡ false }
     ensures count { length result.stores.items ≡ length log.stores.items }
-    ensures shown { IfOk result.report (λ text. (pieces : List Piece) (files : Files) → Holds L.history B.history log pieces files
+    ensures shown { IfOk result.report (λ text. (pieces : List LaidPiece) (files : Files) → Holds L.history B.history log pieces files
         → (text.items ≡ report_text (report_of outcome.now [] log.names (laid files pieces).contents))
         × AreLeft L.history B.history log.names (laid files pieces) result.parts.items result.stores.items) }
-    ensures whole { (why : _) → result.report ≡ Err (stops.Region why) → (pieces : List Piece) (files : Files) → ¬ Holds L.history B.history log pieces files }
+    ensures whole { (why : _) → result.report ≡ Err (stops.Region why) → (pieces : List LaidPiece) (files : Files) → ¬ Holds L.history B.history log pieces files }
     ensures cause { CountHasCause (log_faults L.fault_count B.fault_count log)
         (sum_by L.fault_count result.parts.items + sum_by B.fault_count result.stores.items) result.report }
 {

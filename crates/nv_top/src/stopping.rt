@@ -1,3 +1,4 @@
+//! A run that power ends, and its recovery.
 ghost use Rattle.std.specs.Prelude.{◌≡◌, ◌⊎◌, ◌+◌, ◌-◌, ◌^◌, ◌<◌, ◌≤◌, [], List, true, false, length, map, sum_by, All, None, Err, IfOk, IfSome, OnOk};
 ghost use Rattle.std.specs.List.Sorted.{IsStrictlyIncreasing};
 ghost use Rattle.nv_plain.specs.Faults.{Rose, saturated};
@@ -11,12 +12,12 @@ ghost use Rattle.nv_open.specs.Refusals.{IsRefusedFor};
 ghost use Rattle.nv_recover.specs.Standing.{AreQuietStores, files_of};
 ghost use Rattle.nv_trace.specs.Shape.{IsWellFormed};
 ghost use Rattle.nv_top.specs.Answers.{log_faults};
-ghost use Rattle.nv_trace.specs.Said.{place_of};
+ghost use Rattle.nv_trace.specs.Said.{said_place};
 ghost use Rattle.nv_top.specs.Faithful.{Basis, descriptors_in};
 ghost use Rattle.nv_top.specs.Fates.{fated_report};
-ghost use Rattle.nv_top.specs.LogRuns.{IsFirst, basis_over, lines_in};
+ghost use Rattle.nv_top.specs.LogRuns.{IsFirstRun, basis_over, lines_in};
 ghost use Rattle.nv_top.specs.Reports.{report_text};
-ghost use Rattle.nv_top.specs.Stopping.{HasStoppedOn, IsAway, IsBack, IsBackUnarmed, IsPoweredBack, Settles, ShowsRecovered};
+ghost use Rattle.nv_top.specs.Stopping.{HasStoppedOn, IsAway, IsBack, IsBackUnarmed, IsPoweredBack, IsSettledStop, ShowsRecovered};
 ghost use Rattle.nv_top.specs.Stops.{CountHasCause};
 ghost use Rattle.nv_top.specs.Words.{AreInLimits};
 ghost use Rattle.nv_top.specs.declared.ending.Stop.TheVariants as stops;
@@ -59,11 +60,11 @@ pub(crate) fn run_to_stop<T: Bench>(
     requires stores { length opened.stores.items ≡ length opened.region.names }
     requires synced { RowTells (map T.Store.history opened.stores.items) AreQuietStores }
     requires well_formed { IsWellFormed trace.now }
-    requires known { All (λ name. place_of name opened.region.names < length opened.region.names) trace.now.names }
+    requires known { All (λ name. said_place name opened.region.names < length opened.region.names) trace.now.names }
     ensures back { IsPoweredBack k (T.state bench.old) (T.state bench.new) ⊎ IsBackUnarmed (T.state bench.old) (T.state bench.new) }
     ensures armed { OnOk result (IsPoweredBack k (T.state bench.old) (T.state bench.new)) }
     ensures settled { (T.state bench.new).arms ≡ (T.state bench.old).arms + 1
-        → Settles (T.state bench.new).settled (T.state bench.new).faults result }
+        → IsSettledStop (T.state bench.new).settled (T.state bench.new).faults result }
     ensures cause { (T.state bench.new).arms ≡ (T.state bench.old).arms → CountHasCause (saturated ((T.state bench.old).faults
         + (sum_by T.Part.fault_count opened.region.parts.items + sum_by T.Store.fault_count opened.stores.items))) (T.state bench.new).faults result }
     ensures refused { (why : _) → result ≡ Err (stops.Region why) → IsPoweredBack k (T.state bench.old) (T.state bench.new) }
@@ -116,11 +117,11 @@ fn stop_log<T: Bench>(
     requires descriptors { descriptors.now ≡ descriptors_in log.names trace.now }
     requires files { All (λ descriptor. descriptor.file < length log.names) descriptors.now }
     ensures back { IsPoweredBack k (T.state bench.old) (T.state bench.new) }
-    ensures settled { Settles (T.state bench.new).settled (T.state bench.new).faults result }
-    ensures never { (why : _) → result ≡ Err (stops.Region why) → (basis : Basis) → IsFirst T.Part.history T.Store.history basis log
+    ensures settled { IsSettledStop (T.state bench.new).settled (T.state bench.new).faults result }
+    ensures never { (why : _) → result ≡ Err (stops.Region why) → (basis : Basis) → IsFirstRun T.Part.history T.Store.history basis log
         → IsStrictlyIncreasing (lines_in trace.now) → (T.state bench.old).told ≡ None }
     ensures no_less { saturated ((T.state bench.old).faults + log_faults T.Part.fault_count T.Store.fault_count log) ≤ (T.state bench.new).settled }
-    ensures ran { IfOk result (λ text. (basis : Basis) → IsFirst T.Part.history T.Store.history basis log → basis.names ≡ log.names
+    ensures ran { IfOk result (λ text. (basis : Basis) → IsFirstRun T.Part.history T.Store.history basis log → basis.names ≡ log.names
         → IsStrictlyIncreasing (lines_in trace.now) → IfSome (T.state bench.old).told (λ left. IsAway log.names left
         → HasStoppedOn (Rose (saturated ((T.state bench.old).faults + log_faults T.Part.fault_count T.Store.fault_count log)) (T.state bench.new).faults)
         basis trace.now (T.state bench.new) text.items)) }

@@ -1,3 +1,4 @@
+//! Reports, as text.
 ghost use Rattle.std.specs.Prelude.{◌≡◌, ◌++◌, ◌+◌, length, map, IfOk, OnOk};
 ghost use Rattle.nv_top.specs.Faithful.{named};
 ghost use Rattle.nv_top.specs.Outcomes.{placed_call, refused_call, open_call, report_of};

@@ -1,7 +1,8 @@
+//! The words behind a program's name.
 ghost use Rattle.std.specs.Prelude.{◌≡◌, ◌≢◌, ◌&&◌, false, nat_le, [], Some, None, Err, IfOk, codes, map, string_bytes, option_map, if◌then◌else◌};
 ghost use Rattle.std.specs.List.{list_any};
 ghost use Rattle.clap.specs.Words.{app_of, fault_of, first_of, found_of, rows_of, matches_of as rows_in, rule_of, with_rule};
-ghost use Rattle.nv_top.specs.Words.{command_of, image_in, is_dashes, look_in, noworker_rule, number_in, number_or, option_rule, options_in, page_in, run_app, run_in, stop_in};
+ghost use Rattle.nv_top.specs.Words.{command_of, image_in, is_dashes, look_in, noworker_rule, number_in, number_or, option_rule, options_in, page_of_words, run_app, run_in, stop_in};
 ghost use Rattle.nv_top.specs.declared.words.WordsError.TheVariants.{Usage, NoMemory as NoRoom};
 
 use clap::error::ErrorKind;
@@ -182,7 +183,7 @@ fn options_of(matches: &ArgMatches<'_>) -> Option<RunOptions>
 
 // The bytes of a page, which are whole lines.
 fn page_of(matches: &ArgMatches<'_>) -> Option<u64>
-    ensures { result ≡ page_in (rows_of (found_of matches.now)) }
+    ensures { result ≡ page_of_words (rows_of (found_of matches.now)) }
 {
     let page = number_of(matches, "page", 64, 64, 4096)?;
     if page % 64 == 0 { Some(page) } else { None }

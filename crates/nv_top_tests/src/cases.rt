@@ -1,3 +1,4 @@
+//! The commands that tests run, with what they print.
 use crate::commands::{RECOVER, RUN, call, filled, lose_power, new_bench};
 use nv_pmem::Pick;
 use nv_top::{

@@ -1,3 +1,4 @@
+//! Tests of commands over folders.
 use crate::commands::{RECOVER, strings};
 use nv_bench::{Bench, FolderBench};
 use nv_entry::commit_group;

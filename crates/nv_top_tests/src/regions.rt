@@ -1,3 +1,4 @@
+//! Tests of commands over regions that are refused.
 ghost use Rattle.std.specs.Prelude.{◌≡◌, ◌≤◌, ◌%◌, [], false, length, IfOk, IfSome};
 ghost use Rattle.nv_bench.specs.Holding.{IsQuietHolding};
 ghost use Rattle.nv_bench.specs.MemBench.{mem_state};

@@ -1,3 +1,4 @@
+//! Tests of runs that are stopped.
 use crate::commands::{RECOVER, RUN, call, filled, lose_power, new_bench};
 use nv_pmem::Pick;
 use nv_top::{DEVICE_FAULT, DONE};

@@ -4,7 +4,7 @@ use Rattle.std.proofs.lemmas.List.{length-take-le, take_at, take-append-drop}
 use Rattle.nv_trace.specs.Streams.{Gives, HasRead}
 use Rattle.nv_trace.specs.Traced.{Traced}
 use Rattle.nv_trace.specs.Reading.{ending_of, Whole}
-use Rattle.nv_trace.specs.Refused.{Tells, IsRefusedAs}
+use Rattle.nv_trace.specs.Refused.{RefusalTells, IsRefusedAs}
 use Rattle.nv_trace.specs.Pending.{input_ends}
 use Rattle.nv_trace.specs.declared.trace.Form.{Form}
 use Rattle.nv_trace.specs.declared.reader.LineReader.{LineReader}
@@ -35,11 +35,11 @@ module _ (form : Form) (left next : Option (List ℕ)) (reader : LineReader) (co
       let gives = gives_of ends.0 ends.1 read in
       (drop count ends.0, next_of ends.0 ends.1 read, goes_on (drop count ends.0) ∙ ap (input_ends reader) (taken gives) ∙ ends.2)
 
-  pub refused_at : (told : Option (List ℕ)) (error : ReadError) → EndsAlike form told left reader → HasRead left next count buffer filled → ((rest : List ℕ) → Tells error (input_ends reader (take count filled ++ rest))) → IfSome told (IsRefusedAs form error)
+  pub refused_at : (told : Option (List ℕ)) (error : ReadError) → EndsAlike form told left reader → HasRead left next count buffer filled → ((rest : List ℕ) → RefusalTells error (input_ends reader (take count filled ++ rest))) → IfSome told (IsRefusedAs form error)
   refused_at None error ends read refused = tt
   refused_at (Some input) error ends read refused =
       let gives = gives_of ends.0 ends.1 read in
-      subst (Tells error) (ap (input_ends reader) (taken gives) ∙ ends.2) (refused (drop count ends.0))
+      subst (RefusalTells error) (ap (input_ends reader) (taken gives) ∙ ends.2) (refused (drop count ends.0))
 
 -- a read of no byte is the end
 pub ended_at : (form : Form) (told left next : Option (List ℕ)) (reader : LineReader) (buffer filled : List ℕ) → EndsAlike form told left reader → HasRead left next 0 buffer filled → 0 < length buffer → IfSome told (λ input. (next ≡ Some []) × (input_ends reader [] ≡ ending_of form input))
@@ -67,6 +67,6 @@ module _ (form : Form) (reader : LineReader) (next : Option (List ℕ)) where
   whole_end None trace ended whole = tt
   whole_end (Some input) trace ended whole = sym ended.1 ∙ whole
 
-  pub refused_end : (told : Option (List ℕ)) (error : ReadError) → IfSome told (λ input. (next ≡ Some []) × (input_ends reader [] ≡ ending_of form input)) → Tells error (input_ends reader []) → IfSome told (IsRefusedAs form error)
+  pub refused_end : (told : Option (List ℕ)) (error : ReadError) → IfSome told (λ input. (next ≡ Some []) × (input_ends reader [] ≡ ending_of form input)) → RefusalTells error (input_ends reader []) → IfSome told (IsRefusedAs form error)
   refused_end None error ended refused = tt
-  refused_end (Some input) error ended refused = subst (Tells error) ended.1 refused
+  refused_end (Some input) error ended refused = subst (RefusalTells error) ended.1 refused

@@ -9,7 +9,7 @@ use Rattle.std.proofs.lemmas.List.Sums.{prefix_len-le-length, prefix_len_passes}
 use lib.Pointwise.{pointwise}
 use Rattle.nv_plain.specs.Layouts.{version_1}
 use Rattle.nv_plain.specs.Names.{is_name}
-use Rattle.nv_trace.specs.Said.{place_of}
+use Rattle.nv_trace.specs.Said.{said_place}
 use Rattle.nv_trace.specs.Shape.{IsCallWithin, IsWellFormed, MayFollow}
 use Rattle.nv_trace.specs.Traced.{Traced}
 use Rattle.nv_trace.specs.Reading.{with_statement}
@@ -20,7 +20,7 @@ use Rattle.nv_trace.specs.declared.trace.TracedCall.{TracedCall}
 use Rattle.nv_trace.specs.declared.trace.TraceCall.{TraceCall}
 use Rattle.nv_trace.specs.declared.trace.TraceCall.TheVariants.{Pread, Pwrite, Fsync}
 
-pub place_within : (name : List ℕ) (names : List (List ℕ)) → place_of name names ≤ length names
+pub place_within : (name : List ℕ) (names : List (List ℕ)) → said_place name names ≤ length names
 place_within name names = prefix_len-le-length (λ known. not (pointwise nat_eq known name)) names
 
 same_name : (name : List ℕ) → pointwise nat_eq name name ≡ true
@@ -39,7 +39,7 @@ not_true true e = absurd (true≢false (sym e))
 not_true false e = refl
 
 -- a name that is found nowhere differs from all
-new_name : (name : List ℕ) (names : List (List ℕ)) → place_of name names ≡ length names → (i : ℕ) → i < length names → slice_index_or names i [] ≢ name
+new_name : (name : List ℕ) (names : List (List ℕ)) → said_place name names ≡ length names → (i : ℕ) → i < length names → slice_index_or names i [] ≢ name
 new_name name names none i inside same =
     true≢false (sym (same_name name) ∙ ap (λ known. pointwise nat_eq known name) (sym same) ∙ not_true (pointwise nat_eq (slice_index_or names i []) name) (prefix_len_passes (λ known. not (pointwise nat_eq known name)) names i [] (omega arith)))
 

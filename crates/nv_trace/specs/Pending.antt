@@ -41,7 +41,7 @@ abbrev pub input_ends : LineReader → (rest : List ℕ) → Ending
 input_ends reader rest = ending_from reader.trace reader.number reader.line.items reader.taken rest
 
 -- a reader has taken no more than the largest input, and a byte at least for each line
-pub record IsWithin (reader : LineReader) : Type 0 where
+pub record IsWithinLines (reader : LineReader) : Type 0 where
   pub taken : reader.taken ≤ largest_input
   pub number : reader.number ≤ reader.taken + 1
 

@@ -14,15 +14,15 @@ IsBadLine trace number line (line_errors.Bad bad) = (after_line trace number lin
 IsBadLine trace number line line_errors.NoMemory = Unit {0}
 
 -- the ending that an error tells; a failed read and want of memory tell none
-abbrev pub Tells : ReadError → Ending → Type 0
-Tells (read_errors.Bad bad) ending = ending ≡ Bad bad
-Tells read_errors.InputLong ending = ending ≡ Long
-Tells read_errors.Failed ending = Unit {0}
-Tells read_errors.NoMemory ending = Unit {0}
+abbrev pub RefusalTells : ReadError → Ending → Type 0
+RefusalTells (read_errors.Bad bad) ending = ending ≡ Bad bad
+RefusalTells read_errors.InputLong ending = ending ≡ Long
+RefusalTells read_errors.Failed ending = Unit {0}
+RefusalTells read_errors.NoMemory ending = Unit {0}
 
 -- the input ends so
 abbrev pub IsRefusedAs : Form → ReadError → List ℕ → Type 0
-IsRefusedAs form error input = Tells error (ending_of form input)
+IsRefusedAs form error input = RefusalTells error (ending_of form input)
 
 -- the refusal of an input whose line is refused
 abbrev pub read_error : LineError → ReadError

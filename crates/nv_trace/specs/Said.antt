@@ -16,8 +16,8 @@ use Rattle.nv_trace.specs.declared.statement.Statement.TheVariants.{File, Opened
 use Rattle.nv_trace.specs.declared.trace.TraceCall.TheVariants.{Pread, Pwrite, Fsync}
 
 -- the place of a name among some names, or how many there are
-abbrev pub place_of : List ℕ → List (List ℕ) → ℕ
-place_of name names = position_or_len (λ known. pointwise nat_eq known name) names
+abbrev pub said_place : List ℕ → List (List ℕ) → ℕ
+said_place name names = position_or_len (λ known. pointwise nat_eq known name) names
 
 -- the name of a file that is declared: no call may stand before it, nor 16 files, nor the same name
 unfoldable pub new_name : Traced → List ℕ → Result (List ℕ) Why
@@ -25,7 +25,7 @@ new_name trace name =
     if nat_lt 0 (length trace.calls) then Err Late
     else if nat_le most_files (length trace.names) then Err Many
     else if not (is_name version_1.name_limit name) then Err Name
-    else if nat_lt (place_of name trace.names) (length trace.names) then Err Repeat
+    else if nat_lt (said_place name trace.names) (length trace.names) then Err Repeat
     else Ok name
 
 -- a descriptor's number: it is that of the earlier ones
@@ -34,10 +34,10 @@ turn_of trace field =
     and_then (λ number. if number == length trace.descriptors then Ok number else Err Number) (number_of (most_descriptors - 1) field)
 
 -- the place of a file that is declared, by its name
-unfoldable pub file_of : Traced → List ℕ → Result ℕ Why
-file_of trace name =
+unfoldable pub said_file : Traced → List ℕ → Result ℕ Why
+said_file trace name =
     if not (is_name version_1.name_limit name) then Err Name
-    else if nat_lt (place_of name trace.names) (length trace.names) then Ok (place_of name trace.names)
+    else if nat_lt (said_place name trace.names) (length trace.names) then Ok (said_place name trace.names)
     else Err Unknown
 
 -- a descriptor that is declared: no call may stand before it, nor 64 descriptors
@@ -45,7 +45,7 @@ unfoldable pub new_descriptor : Traced → (number name mode : List ℕ) → Res
 new_descriptor trace number name mode =
     if nat_lt 0 (length trace.calls) then Err Late
     else if nat_le most_descriptors (length trace.descriptors) then Err Many
-    else and_then (λ _. and_then (λ file. and_then (λ mode. Ok (Opened (record { file = file; mode = mode }))) (mode_of mode)) (file_of trace name)) (turn_of trace number)
+    else and_then (λ _. and_then (λ file. and_then (λ mode. Ok (Opened (record { file = file; mode = mode }))) (mode_of mode)) (said_file trace name)) (turn_of trace number)
 
 -- the descriptor of a call, by its thread, which is 0, and its number
 unfoldable pub call_on : Traced → (thread fd : List ℕ) → Result ℕ Why

@@ -4,7 +4,7 @@ use Rattle.std.specs.List.{slice_index_or}
 use Rattle.nv_plain.specs.Layouts.{version_1}
 use Rattle.nv_plain.specs.Names.{is_name}
 use Rattle.nv_trace.specs.Grammar.{largest_offset, largest_count, most_files, most_descriptors}
-use Rattle.nv_trace.specs.Said.{place_of}
+use Rattle.nv_trace.specs.Said.{said_place}
 use Rattle.nv_trace.specs.Traced.{Traced}
 use Rattle.nv_trace.specs.declared.statement.Statement.{Statement}
 use Rattle.nv_trace.specs.declared.statement.Statement.TheVariants.{File, Opened, Call}
@@ -20,7 +20,7 @@ IsCallWithin descriptors (Fsync fd) = fd < descriptors
 -- a statement may follow: a name that is new, a descriptor of a file that is declared, a call on a descriptor
 abbrev pub MayFollow : Traced → Statement → Type 0
 MayFollow trace (File name) =
-    (length trace.names < most_files) × (is_name version_1.name_limit name ≡ true) × (place_of name trace.names ≡ length trace.names) × (length trace.calls ≡ 0)
+    (length trace.names < most_files) × (is_name version_1.name_limit name ≡ true) × (said_place name trace.names ≡ length trace.names) × (length trace.calls ≡ 0)
 MayFollow trace (Opened descriptor) =
     (length trace.descriptors < most_descriptors) × (descriptor.file < length trace.names) × (length trace.calls ≡ 0)
 MayFollow trace (Call call) = IsCallWithin (length trace.descriptors) call

@@ -1,3 +1,4 @@
+//! Lines that are in no trace, and why.
 use nv_plain::NoMemory;
 use std::alloc::{AllocError, Global};
 use thiserror::Error;

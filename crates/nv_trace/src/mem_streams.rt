@@ -1,3 +1,4 @@
+//! Sources and sinks in memory.
 ghost use Rattle.std.specs.Prelude.{◌≡◌, ◌<◌, ◌≤◌, ◌↔◌, IsErr, IsTrue, IfOk, IfSome, OnErr, Some, length, take};
 ghost use Rattle.nv_plain.specs.Faults.{HasCause, Rose};
 ghost use Rattle.nv_trace.specs.Streams.{HasRead, Appends};

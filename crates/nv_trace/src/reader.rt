@@ -1,3 +1,4 @@
+//! The reading of a trace.
 ghost use Rattle.std.specs.List.{list_all};
 ghost use Rattle.std.specs.Prelude.{◌≡◌, ◌≢◌, ℕ, ◌+◌, ◌^◌, ◌<◌, ◌≤◌, Bool, List, [], ◌∷◌, ◌++◌, length, slice_index, Ok, Err, IfOk, IfErr, IfSome, IfNone, OnOk, OnErr, vec_len};
 ghost use Rattle.nv_plain.specs.Faults.{Rose};
@@ -5,8 +6,8 @@ ghost use Rattle.nv_trace.specs.Reading as reading;
 ghost use Rattle.nv_trace.specs.Reading.{after_line, ending_of, Whole};
 ghost use Rattle.nv_trace.specs.Grammar.{is_printable};
 ghost use Rattle.nv_trace.specs.Said.{IsUnsaid};
-ghost use Rattle.nv_trace.specs.Refused.{IsBadLine, IsRefusedAs, Tells, read_error};
-ghost use Rattle.nv_trace.specs.Pending.{input_ends, lines_end, room_for, IsWithin, EndsAt};
+ghost use Rattle.nv_trace.specs.Refused.{IsBadLine, IsRefusedAs, RefusalTells, read_error};
+ghost use Rattle.nv_trace.specs.Pending.{input_ends, lines_end, room_for, IsWithinLines, EndsAt};
 ghost use Rattle.nv_trace.specs.declared.reader.LineError.TheVariants as line_errors;
 ghost use Rattle.nv_trace.specs.declared.reader.ReadError.TheVariants as read_errors;
 
@@ -178,7 +179,7 @@ struct LineReader {
 impl LineReader {
     fn new(alloc: Global, form: Form) -> Self
         ensures start { (input : List ℕ) → input_ends result input ≡ ending_of form input }
-        ensures within { IsWithin result }
+        ensures within { IsWithinLines result }
     {
         LineReader {
             trace: Trace::new(alloc, form),
@@ -190,11 +191,11 @@ impl LineReader {
 
     /// Takes the next bytes of the input, up to the limit.
     fn take(&mut self, bytes: &[u8]) -> Result<(), ReadError>
-        requires { IsWithin self.old }
+        requires { IsWithinLines self.old }
         ensures goes_on { OnOk result ((rest : List ℕ) → input_ends self.new rest ≡ input_ends self.old (bytes.now ++ rest)) }
-        ensures within { OnOk result (IsWithin self.new) }
+        ensures within { OnOk result (IsWithinLines self.new) }
         ensures taken { OnOk result (self.new.taken ≡ self.old.taken + length bytes.now) }
-        ensures refused { IfErr result (λ error. (rest : List ℕ) → Tells error (input_ends self.old (bytes.now ++ rest))) }
+        ensures refused { IfErr result (λ error. (rest : List ℕ) → RefusalTells error (input_ends self.old (bytes.now ++ rest))) }
         ensures no_fault { result ≢ Err read_errors.Failed }
     {
         let room = LARGEST_INPUT - self.taken;
@@ -253,9 +254,9 @@ impl LineReader {
 
     /// The trace at the end of the input, where an open line that isn't empty is taken too.
     fn finish(mut self) -> Result<Trace, ReadError>
-        requires { IsWithin self }
+        requires { IsWithinLines self }
         ensures whole { IfOk result (λ trace. input_ends self [] ≡ Whole trace) }
-        ensures refused { IfErr result (λ error. Tells error (input_ends self [])) }
+        ensures refused { IfErr result (λ error. RefusalTells error (input_ends self [])) }
         ensures no_fault { result ≢ Err read_errors.Failed }
     {
         if !self.line.is_empty() {

@@ -1,3 +1,4 @@
+//! The lines of a report.
 ghost use Rattle.std.specs.Prelude.{◌≡◌, IfOk, string_bytes};
 ghost use Rattle.nv_trace.specs.Report.{history_text, refused_text, open_text, recovered_text, file_text, end_text, call_fields, spaced, reply_text, refusal_text, fate_text, hex_text};
 

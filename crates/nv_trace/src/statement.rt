@@ -1,3 +1,4 @@
+//! The lines of a trace.
 ghost use Rattle.std.specs.Prelude.{◌≡◌, ◌<◌, ◌≤◌, ◌^◌, ◌==◌, [], ◌∷◌, length, map, nat_eq, IfSome, IfOk, MatchOption, OnOk, SomeIff, Ok};
 ghost use Rattle.std.specs.List.{list_all, list_any};
 ghost use lib.Pointwise.{pointwise};
@@ -169,9 +170,9 @@ fn check_turn(trace: &Trace, field: &[u8]) -> Result<u64, Why>
 }
 
 /// The place of a file that is declared, by its name.
-#[tactic(auto, unfolding(crate::specs::Said::file_of))]
+#[tactic(auto, unfolding(crate::specs::Said::said_file))]
 fn file_of(trace: &Trace, name: &[u8]) -> Result<u64, Why>
-    ensures read { result ≡ said.file_of trace.now name.now }
+    ensures read { result ≡ said.said_file trace.now name.now }
     ensures declared { IfOk result (λ file. file < length trace.now.names) }
 {
     if !is_file_name(name, NAME_LIMIT) {
@@ -428,7 +429,7 @@ fn says(field: &[u8], word: &str) -> bool
 
 /// The place of a name among some names, or how many there are.
 pub fn place_of(names: &[Bytes], name: &[u8]) -> u64
-    ensures { result ≡ said.place_of name.now names.now }
+    ensures { result ≡ said.said_place name.now names.now }
 {
     for (place, known) in names.iter().enumerate() {
         if known.as_slice() == name {

@@ -1,3 +1,4 @@
+//! Where traces come from and reports go.
 ghost use Rattle.std.specs.Prelude.{◌≡◌, ℕ, ◌<◌, ◌≤◌, List, length, take, Option, Some, IfOk, IfSome, OnOk, OnErr};
 ghost use Rattle.nv_plain.specs.Faults.{HasCause};
 ghost use Rattle.nv_trace.specs.Streams.{HasRead, Appends};

@@ -1,3 +1,4 @@
+//! Traces, as data.
 ghost use Rattle.std.specs.Prelude.{◌≡◌, IfOk, OnErr, OnOk};
 ghost use Rattle.nv_trace.specs.Shape.{IsWellFormed, MayFollow};
 ghost use Rattle.nv_trace.specs.Traced.{empty_trace};

@@ -1,3 +1,4 @@
+//! Tests of the check of a group.
 ghost use Rattle.std.specs.Prelude.{◌≡◌, ◌+◌, ◌<◌, ◌≤◌, [], length, vec_len, IfOk};
 
 use crate::{Bounds, EntryWords, GroupCheck, PieceHead, check_group, entry_words};

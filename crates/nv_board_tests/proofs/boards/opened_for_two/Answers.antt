@@ -1,7 +1,7 @@
 -- Pass 0 is idle after it has made another, which is idle too.
 use Rattle.std.proofs.Common.{rules}
-use Rattle.nv_table.specs.Between.{IsSplit}
-use Rattle.nv_table.proofs.CallLaws.{parent_is_idle, child_is_idle}
+use Rattle.nv_table.specs.passes.PassesMade.{IsSplit}
+use Rattle.nv_table.proofs.steps.CallLaws.{parent_is_idle, child_is_idle}
 use Rattle.nv_board_tests.proofs.boards.opened_for_two.Goals as goal
 
 pub returns-clause-idle : goal.returns-clause-idle

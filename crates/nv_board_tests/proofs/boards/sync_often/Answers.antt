@@ -1,5 +1,5 @@
 -- Each sync leaves the pass between two calls.
-use Rattle.nv_table.proofs.CallLaws.{later_self, later_on}
+use Rattle.nv_table.proofs.steps.CallLaws.{later_self, later_on}
 use Rattle.nv_board_tests.proofs.boards.sync_often.Goals as goal
 
 pub loop-init : goal.loop-init

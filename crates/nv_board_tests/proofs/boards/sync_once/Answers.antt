@@ -1,8 +1,8 @@
 -- Each step is due, and the pass is idle again after each way out.
 use Rattle.std.proofs.Common.{◌<◌, subst, sym, arith}
 use Rattle.nv_plain.specs.declared.call.FileCall.TheVariants.{Sync}
-use Rattle.nv_table.specs.Opened.{Opened}
-use Rattle.nv_table.proofs.CallLaws.{sync_due, sync_begun, order_due, order_loaded, place_due, sync_placed, later_by, later_on}
+use Rattle.nv_table.specs.state.Opened.{Opened}
+use Rattle.nv_table.proofs.steps.CallLaws.{sync_due, sync_begun, order_due, order_loaded, place_due, sync_placed, later_by, later_on}
 use Rattle.nv_board_tests.proofs.boards.sync_once.Goals as goal
 
 pub begin_with_load-requires-clause-due : goal.begin_with_load-requires-clause-due

@@ -1,8 +1,8 @@
 use Rattle.std.proofs.Common.{◌≡◌, ap, ◌∙◌, sym, subst}
 use Rattle.std.specs.Prelude.{Result, Ok, IfOk}
-use Rattle.nv_table.specs.Between.{IsSplit}
-use Rattle.nv_table.specs.Sights.{pass_of}
-use Rattle.nv_table.specs.States.{BoardState, PassState, IsOf}
+use Rattle.nv_table.specs.passes.PassesMade.{IsSplit}
+use Rattle.nv_table.specs.state.Views.{pass_of}
+use Rattle.nv_table.specs.state.States.{BoardState, PassState, IsOf}
 use Rattle.nv_board_tests.proofs.SplitLaws.{newcomer_left, split_of, other_of, split_now, split_left, taken_of, taken_now}
 use Rattle.nv_board_tests.proofs.mounts.a_mount_is_closed_once_all_passes_are_in.Goals as goal
 
@@ -34,8 +34,8 @@ pub join_pass-requires-clause-staying : goal.join_pass-requires-clause-staying
 join_pass-requires-clause-staying g c =
     let split : IsSplit c.in-Ok.pass c.split_pass.new.pass c.expect-other.result = at_ok c.split_pass.result c.expect-other.result (IsSplit c.in-Ok.pass c.split_pass.new.pass) c.expect-other.ensures c.split_pass.ensures.made in
     let pass_back : c.in-Err-close.pass ≡ c.split_pass.new.pass = c.in-Err-close.ensures.pass_back in
-    ap (λ (p : PassState). (pass_of p.sight).left) pass_back
-    ∙ split_left split (newcomer_left c.in-Ok.pass.sight c.in-Ok.mount.board.opened c.in-Ok.ensures.sight)
+    ap (λ (p : PassState). (pass_of p.view).left) pass_back
+    ∙ split_left split (newcomer_left c.in-Ok.pass.view c.in-Ok.mount.board.opened c.in-Ok.ensures.view)
 
 pub close-requires-2-clause-board : goal.close-requires-2-clause-board
 close-requires-2-clause-board g c =

@@ -1,16 +1,16 @@
 -- The other pass's read has made its first step, and it is the same pass when that read is over.
 use Rattle.std.proofs.Common.{◌≡◌, List, ℕ, rules, sym, subst, ◌∙◌}
-use Rattle.nv_table.specs.States.{PassState}
+use Rattle.nv_table.specs.state.States.{PassState}
 use Rattle.nv_mount.specs.declared.fds.Fd.{Fd}
 use Rattle.nv_calls.specs.declared.machine.Progress.{Progress}
 use Rattle.nv_calls.specs.declared.machine.Progress.TheVariants.{More}
 use Rattle.nv_calls.specs.declared.reading.ReadMachine.{ReadMachine}
-use Rattle.nv_calls.specs.Reads.{IsUnderWay, ReadGoes}
+use Rattle.nv_calls.specs.reads.Reads.{IsReadUnderWay, ReadGoes}
 use Rattle.nv_board_tests.proofs.reads.a_held_page_is_busy.Goals as goal
 
 -- a read with more to do is under way
 more_way : (fds : List Fd) (start : PassState) (m : ReadMachine) (list : List ℕ) (now : PassState) (progress : Progress) → progress ≡ More → ReadGoes fds start m list now progress
-    → IsUnderWay fds m list start now
+    → IsReadUnderWay fds m list start now
 more_way fds start m list now progress is goes = subst (ReadGoes fds start m list now) is goes
 
 pub read_slowly-kinds-requires-clause-way : goal.read_slowly-kinds-requires-clause-way

@@ -1,5 +1,5 @@
 -- Each read leaves the pass between two calls.
-use Rattle.nv_table.proofs.CallLaws.{later_self}
+use Rattle.nv_table.proofs.steps.CallLaws.{later_self}
 use Rattle.nv_board_tests.proofs.reads.read_often.Goals as goal
 
 pub loop-i-init : goal.loop-i-init

@@ -1,6 +1,6 @@
 -- The pass is between two calls.
-use Rattle.nv_table.specs.Idle.{IsIdle, IsLater}
-use Rattle.nv_table.specs.States.{IsOf}
+use Rattle.nv_table.specs.invariant.Idle.{IsIdle, IsLater}
+use Rattle.nv_table.specs.state.States.{IsOf}
 use Rattle.nv_board_tests.proofs.reads.read_often.Given as goal
 
 abbrev pub invariant-loop-i : goal.invariant-loop-i

@@ -1,4 +1,4 @@
-use Rattle.nv_calls.proofs.AloneLaws.{no_read_is_busy}
+use Rattle.nv_calls.proofs.reads.AloneLaws.{no_read_is_busy}
 use Rattle.nv_calls.proofs.alone.a_read_alone_is_not_busy.Goals as goal
 
 pub returns : goal.returns

@@ -1,4 +1,4 @@
-use Rattle.nv_calls.proofs.HeedsLaws.{reads_heed_stop, syncs_heed_stop}
+use Rattle.nv_calls.proofs.histories.HeedsLaws.{reads_heed_stop, syncs_heed_stop}
 use Rattle.nv_calls.proofs.laws.ended_calls_heed_stop.Goals as goal
 
 pub returns : goal.returns

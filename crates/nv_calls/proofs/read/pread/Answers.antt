@@ -1,12 +1,12 @@
 -- The last try has its place since the start.
 use Rattle.std.proofs.Common.{◌≡◌, ◌∷◌, length, refl, sym, ap, subst, ◌∙◌, arith}
 use Rattle.std.specs.Prelude.{Err, OnErr}
-use Rattle.nv_table.proofs.CallLaws.{later_on}
+use Rattle.nv_table.proofs.steps.CallLaws.{later_on}
 use Rattle.nv_calls.specs.declared.answers.Refusal.TheVariants.{Busy}
-use Rattle.nv_calls.specs.Answers.{IsUnplaced}
-use Rattle.nv_calls.specs.Reads.{IsReadOver}
-use Rattle.nv_calls.specs.Tries.{WereBusy}
-use Rattle.nv_calls.proofs.OverLaws.{ok_since}
+use Rattle.nv_calls.specs.histories.Answers.{IsUnplaced}
+use Rattle.nv_calls.specs.reads.Reads.{IsReadOver}
+use Rattle.nv_calls.specs.histories.Tries.{WereBusy}
+use Rattle.nv_calls.proofs.histories.OverLaws.{ok_since}
 use Rattle.nv_calls.proofs.read.pread.Goals as goal
 
 pub loop-preserved : goal.loop-preserved
@@ -21,7 +21,7 @@ loop-preserved g c =
     let refused : c.try_pread-result.result ≡ Err c.in-Err-Busy.field-0 = c.in-Err-Busy.is in
     let held : c.in-Err-Busy.field-0 ≡ Busy cell = (rw c.in-Err-Busy.is at c.in-Err-Busy.field-0-is) in
     let busy : c.try_pread-result.result ≡ Err (Busy cell) = refused ∙ ap Err held in
-    let kept : IsUnplaced old.sight new.sight = subst (λ r. OnErr r (IsUnplaced old.sight new.sight)) busy ensures.kept in
+    let kept : IsUnplaced old.view new.view = subst (λ r. OnErr r (IsUnplaced old.view new.view)) busy ensures.kept in
     let len : length list ≡ length c.loop.buf = omega arith in
     record {
       board = ensures.board;

@@ -1,10 +1,10 @@
 -- The tries so far were answered Busy, and have placed nothing.
 use Rattle.std.proofs.Common.{◌≡◌, List, length}
-use Rattle.nv_table.specs.Idle.{IsIdle, IsLater}
-use Rattle.nv_table.specs.States.{IsOf}
-use Rattle.nv_calls.specs.Answers.{IsUnplaced}
-use Rattle.nv_calls.specs.Heeds.{HasSeenStop}
-use Rattle.nv_calls.specs.Tries.{Try, WereBusy}
+use Rattle.nv_table.specs.invariant.Idle.{IsIdle, IsLater}
+use Rattle.nv_table.specs.state.States.{IsOf}
+use Rattle.nv_calls.specs.histories.Answers.{IsUnplaced}
+use Rattle.nv_calls.specs.histories.Heeds.{HasSeenStop}
+use Rattle.nv_calls.specs.histories.Tries.{Try, WereBusy}
 use Rattle.nv_calls.proofs.read.pread.Given as goal
 
 abbrev pub invariant-loop : goal.invariant-loop
@@ -13,7 +13,7 @@ invariant-loop g l = record {
   idle : IsIdle l.pass;
   later : IsLater l.initial.pass l.pass;
   spare : l.pass.spare ≡ l.initial.pass.spare;
-  unplaced : IsUnplaced l.initial.pass.sight l.pass.sight;
+  unplaced : IsUnplaced l.initial.pass.view l.pass.view;
   tried : (tries : List Try) × WereBusy l.mount.fds l.fd l.at (length l.buf) tries l.initial.pass l.pass;
   stays : HasSeenStop l.initial.pass → HasSeenStop l.pass;
   next : (goal.iterator-loop g).can_next l.iterator';

@@ -1,7 +1,7 @@
 -- The read goes on by its advances, and what it told when it is over is told of it.
 use Rattle.std.proofs.Common.{sym, subst, ◌∙◌}
-use Rattle.nv_calls.specs.Reads.{IsReadOver}
-use Rattle.nv_calls.proofs.OverLaws.{over_told, goes_on, fewer}
+use Rattle.nv_calls.specs.reads.Reads.{IsReadOver}
+use Rattle.nv_calls.proofs.histories.OverLaws.{over_told, goes_on, fewer}
 use Rattle.nv_calls.proofs.read.try_pread.Goals as goal
 
 pub returns-in-Ended-clause-over : goal.returns-in-Ended-clause-over

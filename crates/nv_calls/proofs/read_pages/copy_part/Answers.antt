@@ -4,10 +4,10 @@ use Rattle.std.specs.Prelude.{Option, Some, None}
 use Rattle.std.proofs.lemmas.List.{length-take, length-drop}
 use borrow.Rule.Slice.PartMut.{put_mid, put_same}
 use Rattle.nv_plain.specs.Files.{bytes_at}
-use Rattle.nv_core.specs.Words.{PAGE}
-use Rattle.nv_core.specs.Values.{Value, bytes_in}
+use Rattle.nv_core.specs.state.Words.{PAGE}
+use Rattle.nv_core.specs.state.Values.{Value, bytes_in}
 use Rattle.nv_pages.specs.PageWork.{IsCopied}
-use Rattle.nv_calls.specs.Copied.{IsPut}
+use Rattle.nv_calls.specs.reads.Copied.{IsPut}
 use Rattle.nv_calls.proofs.read_pages.copy_part.Goals as goal
 
 put_there : (value : Value) (at from size : ℕ) (old middle : List ℕ) (result : Option ℕ) → from + size ≤ length old → IsCopied value at (take (from + size - from) (drop from old)) middle result
@@ -26,5 +26,5 @@ put_there value at from size old middle (Some count) room is =
 put_there value at from size old middle None room is = (is.0, ap (put_mid from (from + size - from) old) is.1 ∙ put_same from (from + size - from) old)
 
 pub returns-clause-copied : goal.returns-clause-copied
-returns-clause-copied g c kept cells carries =
-    put_there (kept (PAGE c.args.page)) c.args.at c.args.from c.args.size c.args.list.now c.copy_page.new.into c.copy_page.result c.requires.room (c.copy_page.ensures.copied kept cells carries)
+returns-clause-copied g c kept cells owns_slots =
+    put_there (kept (PAGE c.args.page)) c.args.at c.args.from c.args.size c.args.list.now c.copy_page.new.into c.copy_page.result c.requires.room (c.copy_page.ensures.copied kept cells owns_slots)

@@ -1,5 +1,5 @@
 use Rattle.std.proofs.Common.{refl}
-use Rattle.nv_engine.specs.Laid.{entries_of}
+use Rattle.nv_engine.specs.Laid.{entries_of_piece}
 use Rattle.nv_engine.proofs.Logs.{logged_fits, logged_recovers}
 use Rattle.nv_engine.proofs.OneLog.{one_log, quiet_logs, nothing_more, one_more}
 use Rattle.nv_engine.proofs.laws.logs_have_one_meaning.Goals as goal
@@ -21,4 +21,4 @@ returns-clause-uncommitted c = nothing_more
 
 pub returns-clause-committed : goal.returns-clause-committed
 returns-clause-committed c = λ layout page entries names tail pieces more image other log room differs commits holds.
-    one_more layout page entries names tail pieces (entries_of page more) image other log room differs more refl commits holds
+    one_more layout page entries names tail pieces (entries_of_piece page more) image other log room differs more refl commits holds

@@ -6,7 +6,7 @@ use Rattle.nv_plain.specs.Files.{bytes_at}
 use Rattle.nv_pmem.specs.RowStates.{IsNow, tells_at}
 use Rattle.nv_pmem.proofs.OneOfRow.{same_in_row}
 use Rattle.nv_pmem.proofs.ReadLaws.{only_read_none}
-use Rattle.nv_store.specs.Steps.{History}
+use Rattle.nv_store.specs.Steps.{StoreHistory}
 use Rattle.nv_store.specs.Store.{Store, quiet_store}
 use Rattle.nv_engine.specs.Overlaid.{overlaid}
 use Rattle.nv_engine.specs.Windows.{window_of}
@@ -53,11 +53,11 @@ returns-clause-window g c = λ told now pieces are stores_are held.
     let stores = c.args.stores.now in
     let item = c.index-stores-file.result in
     let none = quiet_store [] in
-    let row : List History = map g.B.Backing.history stores in
+    let row : List StoreHistory = map g.B.Backing.history stores in
     let in_row : file < length row = omega (arith, length-map stores g.B.Backing.history, c.requires.file) in
     let there : file < length now = omega (arith, length_now row now stores_are) in
     let store = slice_index_or now file none in
-    let Is : History → Type 0 = λ history. IsNow history store in
+    let Is : StoreHistory → Type 0 = λ history. IsNow history store in
     let is = subst Is (get_or-map g.B.Backing.history stores file item [] c.requires.file) (now_at row now file none stores_are in_row) in
     let count = c.in_ok-pread.field-0 in
     let size = length c.args.window.now in

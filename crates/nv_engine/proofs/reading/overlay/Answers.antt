@@ -2,11 +2,11 @@
 use Rattle.std.proofs.Common.{◌≡◌, ℕ, ◌+◌, ◌-◌, ◌%◌, ◌<◌, ◌≤◌, List, [], length, get_or, map, take, slice_index_or, refl, ap, sym, subst, ◌∙◌, arith}
 use Rattle.std.proofs.lemmas.List.{length-map, take_all, get_or-map}
 use Rattle.nv_pmem.specs.RowStates.{IsNow}
-use Rattle.nv_pmem.specs.Part.{word_of}
-use Rattle.nv_pmem.specs.Steps.{History}
+use Rattle.nv_pmem.specs.Part.{part_word}
+use Rattle.nv_pmem.specs.Steps.{PartHistory}
 use Rattle.nv_pmem.proofs.ReadLaws.{only_read_none, only_read_more, only_read_one, faults_set_same}
 use Rattle.nv_recover.proofs.RoomLaws.{parts_still}
-use Rattle.nv_engine.specs.Laid.{Piece}
+use Rattle.nv_engine.specs.Laid.{LaidPiece}
 use Rattle.nv_engine.specs.Overlaid.{with_own, overlaid}
 use Rattle.nv_engine.specs.Windows.{window_of, HoldsPieceOf}
 use Rattle.nv_engine.proofs.OneLog.{no_piece}
@@ -54,7 +54,7 @@ loop-number-preserved g c =
     let part = c.overlay_entry.new.part in
     let inside : slot < length parts =
     omega (arith, c.requires.slots, parts_count g.L.Lines.room (length c.args.page.now) slots c.args.parts.now c.requires.parts, c.loop-number.auto.parts) in
-    let row : List History = map g.L.Lines.history c.args.parts.now in
+    let row : List PartHistory = map g.L.Lines.history c.args.parts.now in
     record {
       parts =
           only_read_more c.loop-number.invariant.parts
@@ -68,13 +68,13 @@ loop-number-preserved g c =
           let piece = slice_index_or pieces i no_piece in
           let so_far = overlaid c.args.file bytes (take i pieces) in
           let number_is : tail + i ≡ number = omega arith in
-          let Here : ℕ → Type 0 = λ n. HoldsPieceOf (length c.args.page.now) piece (word_of (slice_index_or told (1 + n % slots) [])) in
-          let Long : ℕ → Type 0 = λ n. HoldsPieceOf n piece (word_of (slice_index_or told slot [])) in
+          let Here : ℕ → Type 0 = λ n. HoldsPieceOf (length c.args.page.now) piece (part_word (slice_index_or told (1 + n % slots) [])) in
+          let Long : ℕ → Type 0 = λ n. HoldsPieceOf n piece (part_word (slice_index_or told slot [])) in
           let holds = subst Long (sym c.loop-number.auto.page) (subst Here number_is (held.each i no_piece below)) in
-          let Is : History → Type 0 = λ history. IsNow history (slice_index_or told slot []) in
+          let Is : PartHistory → Type 0 = λ history. IsNow history (slice_index_or told slot []) in
           let in_row : slot < length row = omega (arith, length-map c.args.parts.now g.L.Lines.history, c.loop-number.auto.parts) in
           let here : slice_index_or row slot [] ≡ g.L.Lines.history (get_or parts slot item) =
-          ap (λ (these : List History). slice_index_or these slot []) (sym c.loop-number.invariant.parts.histories) ∙ get_or-map g.L.Lines.history parts slot item [] inside in
+          ap (λ (these : List PartHistory). slice_index_or these slot []) (sym c.loop-number.invariant.parts.histories) ∙ get_or-map g.L.Lines.history parts slot item [] inside in
           let next : i + 1 ≡ number + 1 - tail = omega arith in
           let Window : ℕ → Type 0 = λ n. c.overlay_entry.new.window ≡ window_of (overlaid c.args.file bytes (take n pieces)) c.args.at (length c.args.window.now) in
           subst Window next
@@ -87,5 +87,5 @@ loop-number-preserved g c =
 pub returns-clause-window : goal.returns-clause-window
 returns-clause-window g c = λ told bytes pieces are held was.
     c.loop-number.invariant.window told bytes pieces are held was
-    ∙ ap (λ (these : List Piece). window_of (overlaid c.args.file bytes these) c.args.at (length c.args.window.now))
+    ∙ ap (λ (these : List LaidPiece). window_of (overlaid c.args.file bytes these) c.args.at (length c.args.window.now))
     (take_all (c.loop-number.number - c.args.numbers.tail) pieces (omega (arith, held.count)))

@@ -3,7 +3,7 @@ use Rattle.nv_plain.specs.Images.{entry_at}
 use Rattle.nv_plain.specs.Layouts.{version_1}
 use Rattle.nv_pmem.specs.Part.{Part}
 use Rattle.nv_pmem.specs.Rows.{RowTells, row_words}
-use Rattle.nv_pmem.specs.Steps.{History}
+use Rattle.nv_pmem.specs.Steps.{PartHistory}
 use Rattle.nv_pmem.proofs.ReadLaws.{only_read_more}
 use Rattle.nv_pmem.proofs.RowLaws.{row_tells_more, row_tells_both}
 use Rattle.nv_entry.specs.Checks.{IsFirstBad, SaysBounds, SaysOfGroup, as_entry}
@@ -14,7 +14,7 @@ use Rattle.nv_entry.proofs.check.check_group.Goals as goal
 
 pub returns-then-not-fit_first-clause-check : goal.returns-then-not-fit_first-clause-check
 returns-then-not-fit_first-clause-check g c =
-    let row : List History = map g.L.Lines.history c.args.parts.now in
+    let row : List PartHistory = map g.L.Lines.history c.args.parts.now in
     let Says : List Part → Type 0 = λ parts. SaysBounds c.args.bounds.now (row_words parts) in
     let Has : List Part → Type 0 = λ parts. as_entry c.in_ok-first.first ≡ entry_at (row_words parts) c.args.leader in
     row_tells_more row (λ parts. Says parts × Has parts) (λ parts. IsFirstBad version_1 (row_words parts) c.args.leader c.args.leader)
@@ -24,7 +24,7 @@ returns-then-not-fit_first-clause-check g c =
 
 pub loop-number-init : goal.loop-number-init
 loop-number-init g c =
-    let row : List History = map g.L.Lines.history c.args.parts.now in
+    let row : List PartHistory = map g.L.Lines.history c.args.parts.now in
     let first = c.in_ok-first.first in
     let Says : List Part → Type 0 = λ parts. SaysBounds c.args.bounds.now (row_words parts) in
     let Has : List Part → Type 0 = λ parts. as_entry first ≡ entry_at (row_words parts) c.args.leader in
@@ -48,7 +48,7 @@ read_entry-requires-in-loop-number-clause-lines g c =
 
 pub read_entry-requires-in-loop-number-clause-header : goal.read_entry-requires-in-loop-number-clause-header
 read_entry-requires-in-loop-number-clause-header g c =
-    let Says : List History → Type 0 = λ row. RowTells row (λ parts. SaysBounds c.args.bounds.now (row_words parts)) in
+    let Says : List PartHistory → Type 0 = λ row. RowTells row (λ parts. SaysBounds c.args.bounds.now (row_words parts)) in
     subst Says (sym c.loop-number.invariant.read.histories) c.requires.header
 
 pub returns-in_err-entry-clause-read : goal.returns-in_err-entry-clause-read
@@ -56,10 +56,10 @@ returns-in_err-entry-clause-read g c = only_read_more c.loop-number.invariant.re
 
 pub returns-then-not-fit_next-clause-check : goal.returns-then-not-fit_next-clause-check
 returns-then-not-fit_next-clause-check g c =
-    let row : List History = map g.L.Lines.history c.args.parts.now in
+    let row : List PartHistory = map g.L.Lines.history c.args.parts.now in
     let first = c.in_ok-first.first in
     let number = c.loop-number.number in
-    let At : List History → Type 0 = λ these. RowTells these (λ parts. as_entry c.in_ok-entry.entry ≡ entry_at (row_words parts) number) in
+    let At : List PartHistory → Type 0 = λ these. RowTells these (λ parts. as_entry c.in_ok-entry.entry ≡ entry_at (row_words parts) number) in
     entry_tells row c.args.bounds.now c.in_ok-entry.entry c.args.leader number first.head.count first.head.file c.loop-number.end
     (λ parts. SaysOfGroup version_1 (row_words parts) c.args.leader (Bad number))
     (λ parts so_far says has.
@@ -73,11 +73,11 @@ returns-then-not-fit_next-clause-read g c = only_read_more c.loop-number.invaria
 
 pub loop-number-preserved : goal.loop-number-preserved
 loop-number-preserved g c =
-    let row : List History = map g.L.Lines.history c.args.parts.now in
+    let row : List PartHistory = map g.L.Lines.history c.args.parts.now in
     let first = c.in_ok-first.first in
     let entry = c.in_ok-entry.entry in
     let number = c.loop-number.number in
-    let At : List History → Type 0 = λ these. RowTells these (λ parts. as_entry entry ≡ entry_at (row_words parts) number) in
+    let At : List PartHistory → Type 0 = λ these. RowTells these (λ parts. as_entry entry ≡ entry_at (row_words parts) number) in
     record {
       checked =
           entry_tells row c.args.bounds.now entry c.args.leader number first.head.count first.head.file c.loop-number.end
@@ -95,7 +95,7 @@ loop-number-preserved g c =
 
 pub returns-clause-check : goal.returns-clause-check
 returns-clause-check g c =
-    let row : List History = map g.L.Lines.history c.args.parts.now in
+    let row : List PartHistory = map g.L.Lines.history c.args.parts.now in
     let first = c.in_ok-first.first in
     row_tells_more row
     (λ parts. HasChecked version_1 (row_words parts) c.args.leader c.loop-number.number first.head.count first.head.file c.loop-number.end)

@@ -1,7 +1,7 @@
 use Rattle.std.proofs.Common.{◌≡◌, ◌*◌, length, ap, subst, ◌∙◌, arith}
-use Rattle.nv_pmem.specs.Part.{word_of}
+use Rattle.nv_pmem.specs.Part.{part_word}
 use Rattle.nv_pmem.specs.Moments.{Tells}
-use Rattle.nv_pmem.specs.Steps.{History}
+use Rattle.nv_pmem.specs.Steps.{PartHistory}
 use Rattle.nv_pmem.proofs.Ranges.{length-put_mid}
 use Rattle.nv_entry.proofs.Filling.{told_word_put}
 use Rattle.nv_pmem.proofs.Rooms.{Keeps-more}
@@ -10,7 +10,7 @@ use Rattle.nv_entry.proofs.piece.load_line.Goals as goal
 pub loop-word-preserved : goal.loop-word-preserved
 loop-word-preserved g c =
     let copy = c.copy_from_slice.ensures.after ∙ c.to_le_bytes.ensures in
-    let Loaded : History → Type 0 = λ history. Tells history (λ now. c.in_ok-value.value ≡ word_of now c.args.line c.loop-word.word) in
+    let Loaded : PartHistory → Type 0 = λ history. Tells history (λ now. c.in_ok-value.value ≡ part_word now c.args.line c.loop-word.word) in
     record {
       size = length-put_mid (8 * c.loop-word.word) _ c.loop-word.bytes c.copy_from_slice.new.self (omega arith) (omega (arith, ap length copy)) ∙ c.loop-word.invariant.size;
       loaded =

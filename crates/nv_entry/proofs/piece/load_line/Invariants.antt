@@ -1,7 +1,7 @@
 use Rattle.std.proofs.Common.{◌≡◌, ◌*◌, length, take}
 use Rattle.std.specs.Int.{to_le_bytes, w64}
 use Rattle.std.specs.List.{flat_map, range_with_len}
-use Rattle.nv_pmem.specs.Part.{word_of}
+use Rattle.nv_pmem.specs.Part.{part_word}
 use Rattle.nv_pmem.specs.Room.{Keeps}
 use Rattle.nv_pmem.specs.Moments.{Tells}
 use Rattle.nv_entry.proofs.piece.load_line.Given as goal
@@ -11,7 +11,7 @@ abbrev pub invariant-loop-word : goal.invariant-loop-word
 invariant-loop-word g l = record {
   size : length l.bytes ≡ 64;
   loaded : Tells (g.L.Lines.history l.fn.part) (λ now.
-      take (8 * l.word) l.bytes ≡ flat_map (λ j. to_le_bytes w64 (word_of now l.line j)) (range_with_len 0 l.word));
+      take (8 * l.word) l.bytes ≡ flat_map (λ j. to_le_bytes w64 (part_word now l.line j)) (range_with_len 0 l.word));
   history : g.L.Lines.history l.part ≡ g.L.Lines.history l.fn.part;
   room : Keeps (g.L.Lines.room l.fn.part) (g.L.Lines.room l.part);
   same_room : g.L.Lines.room l.part ≡ g.L.Lines.room l.fn.part;

@@ -1,15 +1,15 @@
 use Rattle.std.proofs.Common.{◌≡◌, ◌+◌, subst, ◌∙◌, arith}
 use Rattle.nv_plain.specs.Images.{line_bytes}
-use Rattle.nv_pmem.specs.Part.{word_of}
+use Rattle.nv_pmem.specs.Part.{part_word}
 use Rattle.nv_pmem.specs.Moments.{Tells}
-use Rattle.nv_pmem.specs.Steps.{History}
+use Rattle.nv_pmem.specs.Steps.{PartHistory}
 use Rattle.nv_entry.proofs.Filling.{told_line_put}
 use Rattle.nv_pmem.proofs.Rooms.{Keeps-more}
 use Rattle.nv_entry.proofs.piece.read_data.Goals as goal
 
 pub loop-k-preserved : goal.loop-k-preserved
 loop-k-preserved g c =
-    let Loaded : History → Type 0 = λ history. Tells history (λ now. c.in_ok-line.line ≡ line_bytes (word_of now (1 + c.loop-k.k))) in
+    let Loaded : PartHistory → Type 0 = λ history. Tells history (λ now. c.in_ok-line.line ≡ line_bytes (part_word now (1 + c.loop-k.k))) in
     record {
       read =
           told_line_put (g.L.Lines.history c.args.part.now) c.loop-k.k c.min-end.result c.loop-k.into c.copy_from_slice.new.self c.in_ok-line.line

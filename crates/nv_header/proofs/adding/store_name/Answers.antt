@@ -1,6 +1,6 @@
 use Rattle.std.proofs.Common.{◌≡◌, ℕ, ◌+◌, ◌≤◌, List, [], ◌∷◌, ◌++◌, length, ap, sym, ◌∙◌, subst, arith}
 use Rattle.nv_plain.specs.Layouts.{version_1}
-use Rattle.nv_pmem.specs.Steps.{Step, Flush, Fence, Did, DidSome, line_stores, durable_store}
+use Rattle.nv_pmem.specs.Steps.{LineStep, Flush, Fence, DidLineStep, DidSome, line_stores, durable_store}
 use Rattle.nv_pmem.proofs.StepLaws.{did_did, did_did_some, did_some_all, did_some_front}
 use Rattle.nv_header.specs.Heads.{record_line}
 use Rattle.nv_header.specs.HeaderSteps.{name_record, record_steps, add_file_steps}
@@ -32,19 +32,19 @@ in_line i name fits =
 pub returns-in_err-store_record-clause-begun : goal.returns-in_err-store_record-clause-begun
 unfolding add_file_steps
 returns-in_err-store_record-clause-begun g c =
-    let At : List Step → Type 0 = λ steps. DidSome steps (g.L.Lines.history c.args.header.now) (g.L.Lines.history c.store_record.new.header) in
+    let At : List LineStep → Type 0 = λ steps. DidSome steps (g.L.Lines.history c.args.header.now) (g.L.Lines.history c.store_record.new.header) in
     did_some_front (durable_store 0 4 (c.args.index + 1)) (subst At (in_line c.args.index c.args.name.now c.requires.size) c.store_record.ensures.begun)
 
 pub returns-in_err-store_durably-clause-begun : goal.returns-in_err-store_durably-clause-begun
 unfolding add_file_steps
 returns-in_err-store_durably-clause-begun g c =
-    let At : List Step → Type 0 = λ steps. Did steps (g.L.Lines.history c.args.header.now) (g.L.Lines.history c.store_record.new.header) in
+    let At : List LineStep → Type 0 = λ steps. DidLineStep steps (g.L.Lines.history c.args.header.now) (g.L.Lines.history c.store_record.new.header) in
     did_did_some (subst At (in_line c.args.index c.args.name.now c.requires.size) c.in_ok-store_record.ensures.done) c.store_durably.ensures.begun
 
 pub returns-clause-done : goal.returns-clause-done
 unfolding add_file_steps
 returns-clause-done g c =
-    let At : List Step → Type 0 = λ steps. Did steps (g.L.Lines.history c.args.header.now) (g.L.Lines.history c.store_record.new.header) in
+    let At : List LineStep → Type 0 = λ steps. DidLineStep steps (g.L.Lines.history c.args.header.now) (g.L.Lines.history c.store_record.new.header) in
     did_did (subst At (in_line c.args.index c.args.name.now c.requires.size) c.in_ok-store_record.ensures.done) c.in_ok-store_durably.ensures.done
 
 pub returns-clause-begun : goal.returns-clause-begun

@@ -3,7 +3,7 @@ use Rattle.std.specs.Prelude.{IfSome}
 use Rattle.std.proofs.lemmas.List.{length_push}
 use Rattle.nv_plain.specs.Layouts.{version_1}
 use Rattle.nv_pmem.specs.Moments.{Tells}
-use Rattle.nv_pmem.specs.Steps.{History}
+use Rattle.nv_pmem.specs.Steps.{PartHistory}
 use Rattle.nv_header.specs.FileNames.{AreFileNames, IsNewName}
 use Rattle.nv_header.specs.Heads.{header_image}
 use Rattle.nv_header.specs.NextName.{AreNames, IsNextName}
@@ -27,7 +27,7 @@ loop-i-init g c =
 
 pub loop-i-preserved : goal.loop-i-preserved
 loop-i-preserved g c =
-    let Next : Option (List ℕ) → History → Type 0 = λ next history. Tells history (λ now. IsNextName version_1 (header_image now) c.loop-i.names c.loop-i.i next) in
+    let Next : Option (List ℕ) → PartHistory → Type 0 = λ next history. Tells history (λ now. IsNextName version_1 (header_image now) c.loop-i.names c.loop-i.i next) in
     let At : Option (List ℕ) → Type 0 = λ next. Next next (g.L.Lines.history c.loop-i.part) in
     let Are : List (List ℕ) → Type 0 = λ names. Tells (g.L.Lines.history c.args.part.now) (λ now. AreNames version_1 (header_image now) (c.loop-i.i + 1) names) in
     let May : Option (List ℕ) → Type 0 = λ next. IfSome next (IsNewName version_1 c.loop-i.names) in

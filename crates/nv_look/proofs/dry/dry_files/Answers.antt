@@ -7,7 +7,7 @@ use Rattle.nv_pmem.specs.RowStates.{AreNow}
 use Rattle.nv_pmem.specs.Rows.{RowTells, row_words}
 use Rattle.nv_pmem.proofs.ReadLaws.{only_read_none}
 use Rattle.nv_store.specs.MemStore.{store_history}
-use Rattle.nv_store.specs.Steps.{History}
+use Rattle.nv_store.specs.Steps.{StoreHistory}
 use Rattle.nv_store.specs.Store.{Store}
 use Rattle.nv_recover.specs.Standing.{AreQuietStores, files_of}
 use Rattle.nv_recover.proofs.HeadRows.{row_says_bounds}
@@ -31,7 +31,7 @@ files_after-requires-clause-header g c =
 -- the copies have the histories of what was read
 pub files_after-requires-clause-synced : goal.files_after-requires-clause-synced
 files_after-requires-clause-synced g c =
-    let Quiet : List History → Type 0 = λ row. RowTells row AreQuietStores in
+    let Quiet : List StoreHistory → Type 0 = λ row. RowTells row AreQuietStores in
     subst Quiet (sym (ap (map store_history) c.deref_mut.ensures.value ∙ c.in_ok-copies.ensures)) (copies_quiet c.deref.result.now)
 
 pub returns-clause-files : goal.returns-clause-files
@@ -39,7 +39,7 @@ returns-clause-files g c = λ was are.
     let slice : List Held = c.deref.result.now in
     let states : List Store = map copy_of slice in
     let row : map store_history c.deref_mut.result.now ≡ map copied slice = ap (map store_history) c.deref_mut.ensures.value ∙ c.in_ok-copies.ensures in
-    let Now : List History → Type 0 = λ these. AreNow these states in
+    let Now : List StoreHistory → Type 0 = λ these. AreNow these states in
     let seen : map (λ (store : Store). store.seen) states ≡ map (λ (store : Store). store.seen) was =
     copies_seen slice ∙ ap (map (λ (bytes : Held). bytes.items)) c.deref.ensures.value ∙ c.in_ok-held.ensures.bytes was are in
     let same : files_of states ≡ files_of was = ap (λ contents. record { contents = contents }) seen in

@@ -4,7 +4,7 @@ use Rattle.nv_pmem.specs.RowStates.{row_tells_at}
 use Rattle.nv_pmem.specs.Rows.{RowTells, row_words}
 use Rattle.nv_pmem.proofs.RowLaws.{row_tells_more}
 use Rattle.nv_store.specs.MemStore.{store_history}
-use Rattle.nv_store.specs.Steps.{History}
+use Rattle.nv_store.specs.Steps.{StoreHistory}
 use Rattle.nv_recover.specs.Recovering.{HoldRecovered}
 use Rattle.nv_recover.specs.Standing.{files_of}
 use Rattle.nv_recover.proofs.Present.{presents, presents_tell}
@@ -12,8 +12,8 @@ use Rattle.nv_look.proofs.dry.files_after.Goals as goal
 
 pub returns-clause-files : goal.returns-clause-files
 returns-clause-files g c = λ was are.
-    let old : List History = map store_history c.args.copies.now in
-    let new : List History = map store_history c.replay.new.copies in
+    let old : List StoreHistory = map store_history c.args.copies.now in
+    let new : List StoreHistory = map store_history c.replay.new.copies in
     let states = presents new (c.replay.ensures.tells (presents_tell old was are)) in
     let files : c.from_vec.result ≡ files_of states.states = c.from_vec.ensures ∙ ap (λ contents. record { contents = contents }) (c.in_ok-contents.ensures.bytes states.states states.are) in
     row_tells_more (map g.L.Lines.history c.args.parts.now) (λ parts. RowTells old (λ was. RowTells new (λ now. HoldRecovered (row_words parts) was now)))

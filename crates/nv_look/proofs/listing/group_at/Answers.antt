@@ -2,13 +2,13 @@ use Rattle.std.proofs.Common.{◌≡◌, List, map, refl, sym, ap, subst}
 use Rattle.nv_plain.specs.Images.{entry_at}
 use Rattle.nv_pmem.specs.Part.{Part}
 use Rattle.nv_pmem.specs.Rows.{RowTells, row_words}
-use Rattle.nv_pmem.specs.Steps.{History}
+use Rattle.nv_pmem.specs.Steps.{PartHistory}
 use Rattle.nv_pmem.proofs.ReadLaws.{only_read_more}
 use Rattle.nv_pmem.proofs.RowLaws.{row_tells_more, row_tells_both}
 use Rattle.nv_entry.proofs.Slots.{slots_still}
 use Rattle.nv_entry.specs.Checks.{SaysBounds, as_entry}
 use Rattle.nv_look.specs.Listings.{IsRow, group_bytes}
-use Rattle.nv_look.specs.Walks.{IsWhole}
+use Rattle.nv_look.specs.Walks.{IsWholeWalk}
 use Rattle.nv_look.specs.declared.listing.Row.TheVariants.{Group}
 use Rattle.nv_look.proofs.listing.group_at.Goals as goal
 
@@ -18,12 +18,12 @@ group_len-requires-clause-lines g c =
 
 pub group_len-requires-clause-header : goal.group_len-requires-clause-header
 group_len-requires-clause-header g c =
-    let Says : List History → Type 0 = λ row. RowTells row (λ told. SaysBounds c.args.bounds.now (row_words told)) in
+    let Says : List PartHistory → Type 0 = λ row. RowTells row (λ told. SaysBounds c.args.bounds.now (row_words told)) in
     subst Says (sym c.read_entry.ensures.read.histories) c.requires.header
 
 pub group_len-requires-clause-whole : goal.group_len-requires-clause-whole
 group_len-requires-clause-whole g c =
-    let Is : List History → Type 0 = λ row. RowTells row (λ told. IsWhole (row_words told) c.args.leader c.args.count) in
+    let Is : List PartHistory → Type 0 = λ row. RowTells row (λ told. IsWholeWalk (row_words told) c.args.leader c.args.count) in
     subst Is (sym c.read_entry.ensures.read.histories) c.requires.whole
 
 pub returns-clause-read : goal.returns-clause-read
@@ -34,14 +34,14 @@ returns-in_err-len-clause-read g c = only_read_more c.read_entry.ensures.read c.
 
 pub returns-clause-row : goal.returns-clause-row
 returns-clause-row g c =
-    let row : List History = map g.L.Lines.history c.args.parts.now in
+    let row : List PartHistory = map g.L.Lines.history c.args.parts.now in
     let leader = c.args.leader in
     let words = c.in_ok-file.field-0 in
     let len = c.in_ok-len.len in
-    let Is : List Part → Type 0 = λ parts. IsWhole (row_words parts) leader c.args.count in
+    let Is : List Part → Type 0 = λ parts. IsWholeWalk (row_words parts) leader c.args.count in
     let Read : List Part → Type 0 = λ parts. as_entry words ≡ entry_at (row_words parts) leader in
     let Has : List Part → Type 0 = λ parts. len ≡ group_bytes (row_words parts) leader in
-    let At : List History → Type 0 = λ row. RowTells row Has in
+    let At : List PartHistory → Type 0 = λ row. RowTells row Has in
     row_tells_more row (λ parts. Is parts × (Read parts × Has parts)) (λ parts. IsRow (row_words parts) leader (Group leader c.args.count words.head.file words.head.at len))
     (λ parts all. (refl, all.0.0, all.0.1, ap (λ e. e.file) all.1.0, ap (λ e. e.at) all.1.0, all.1.1))
     (row_tells_both row Is (λ parts. Read parts × Has parts) c.requires.whole

@@ -2,7 +2,7 @@ use Rattle.std.proofs.Common.{◌≡◌, ◌+◌, List, [], map, refl, ◌∙◌
 use Rattle.std.proofs.lemmas.List.Elements.{All-nil}
 use Rattle.nv_pmem.specs.Part.{Part}
 use Rattle.nv_pmem.specs.Rows.{RowTells, row_words}
-use Rattle.nv_pmem.specs.Steps.{History}
+use Rattle.nv_pmem.specs.Steps.{PartHistory}
 use Rattle.nv_pmem.proofs.ReadLaws.{only_read_none, only_read_more}
 use Rattle.nv_pmem.proofs.RowLaws.{row_tells_more, row_tells_both}
 use Rattle.nv_entry.proofs.Slots.{slots_still}
@@ -15,7 +15,7 @@ use Rattle.nv_look.proofs.listing.list_log.Goals as goal
 
 pub loop-number-init : goal.loop-number-init
 loop-number-init g c =
-    let row : List History = map g.L.Lines.history c.args.parts.now in
+    let row : List PartHistory = map g.L.Lines.history c.args.parts.now in
     let tail = c.args.bounds.now.tail in
     let empty : c.new-rows.result.items ≡ [] = c.new-rows.ensures.items in
     record {
@@ -36,12 +36,12 @@ returns-in_err-list_number-clause-read g c = only_read_more c.loop-number.invari
 
 pub loop-number-preserved : goal.loop-number-preserved
 loop-number-preserved g c =
-    let first : List History = map g.L.Lines.history c.args.parts.now in
+    let first : List PartHistory = map g.L.Lines.history c.args.parts.now in
     let tail = c.args.bounds.now.tail in
     let So_far : List Part → Type 0 = λ parts. HasListed (row_words parts) tail c.loop-number.number c.loop-number.rows.items in
     let Now : List Part → Type 0 = λ parts. HasListed (row_words parts) tail (c.loop-number.number + 1) c.list_number.new.rows.items in
     let Then : List Part → Type 0 = λ parts. So_far parts → Now parts in
-    let At : List History → Type 0 = λ row. RowTells row Then in
+    let At : List PartHistory → Type 0 = λ row. RowTells row Then in
     record {
       listed =
           row_tells_more first (λ parts. So_far parts × Then parts) Now (λ parts both. both.1 both.0)
@@ -54,7 +54,7 @@ loop-number-preserved g c =
 
 pub returns-clause-listing : goal.returns-clause-listing
 returns-clause-listing g c =
-    let first : List History = map g.L.Lines.history c.args.parts.now in
+    let first : List PartHistory = map g.L.Lines.history c.args.parts.now in
     let bounds = c.args.bounds.now in
     let Says : List Part → Type 0 = λ parts. SaysBounds bounds (row_words parts) in
     let So_far : List Part → Type 0 = λ parts. HasListed (row_words parts) bounds.tail c.loop-number.number c.loop-number.rows.items in

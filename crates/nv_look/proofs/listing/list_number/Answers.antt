@@ -2,7 +2,7 @@ use Rattle.std.proofs.Common.{◌≡◌, ◌≢◌, ◌+◌, List, map, sym, ap,
 use Rattle.nv_plain.specs.Images.{entry_at}
 use Rattle.nv_pmem.specs.Part.{Part}
 use Rattle.nv_pmem.specs.Rows.{RowTells, row_words}
-use Rattle.nv_pmem.specs.Steps.{History}
+use Rattle.nv_pmem.specs.Steps.{PartHistory}
 use Rattle.nv_pmem.proofs.ReadLaws.{only_read_more}
 use Rattle.nv_pmem.proofs.RowLaws.{row_tells_more, row_tells_both}
 use Rattle.nv_entry.proofs.Slots.{slots_still}
@@ -39,13 +39,13 @@ returns-clause-read g c = only_read_more c.in_ok-entry.ensures.read c.row_at.ens
 
 pub returns-clause-listed : goal.returns-clause-listed
 returns-clause-listed g c =
-    let first : List History = map g.L.Lines.history c.args.parts.now in
+    let first : List PartHistory = map g.L.Lines.history c.args.parts.now in
     let commit : c.in_ok-entry.entry.commit ≡ c.args.number + 1 = omega arith in
     let row : Row = c.in_ok-row.row in
     let rows : List Row = c.args.rows.now.items in
     let Has : List Part → Type 0 = λ parts. as_entry c.in_ok-entry.entry ≡ entry_at (row_words parts) c.args.number in
     let Is : List Part → Type 0 = λ parts. IsRow (row_words parts) c.args.number row in
-    let At : List History → Type 0 = λ these. RowTells these Is in
+    let At : List PartHistory → Type 0 = λ these. RowTells these Is in
     let tail = c.args.bounds.now.tail in
     row_tells_more first (λ parts. Has parts × Is parts)
     (λ parts. HasListed (row_words parts) tail c.args.number rows → HasListed (row_words parts) tail (c.args.number + 1) c.push.new.self.items)

@@ -1,7 +1,7 @@
 use Rattle.std.proofs.Common.{◌≡◌, ℕ, List, map, refl, sym, subst, arith}
 use Rattle.nv_plain.specs.Layouts.{version_1}
 use Rattle.nv_pmem.specs.Rows.{RowTells, row_words}
-use Rattle.nv_pmem.specs.Steps.{History}
+use Rattle.nv_pmem.specs.Steps.{PartHistory}
 use Rattle.nv_pmem.proofs.ReadLaws.{only_read_more}
 use Rattle.nv_pmem.proofs.RowLaws.{row_tells_more}
 use Rattle.nv_entry.proofs.Slots.{slots_still}
@@ -10,12 +10,12 @@ use Rattle.nv_entry.specs.Checks.{SaysBounds, SaysOfGroup, IsOfGroup}
 use Rattle.nv_entry.specs.declared.check.GroupCheck.{GroupCheck}
 use Rattle.nv_entry.specs.declared.check.GroupCheck.TheVariants.{Bad as BadAt}
 use Rattle.nv_look.specs.Listings.{IsRow}
-use Rattle.nv_look.specs.Walks.{IsWhole}
+use Rattle.nv_look.specs.Walks.{IsWholeWalk}
 use Rattle.nv_look.specs.declared.listing.Row.TheVariants.{Bad}
 use Rattle.nv_look.proofs.listing.row_at.Goals as goal
 
 -- a number whose check names a bad one
-bad_row : (row : List History) (leader bad : ℕ) (check : GroupCheck) → check ≡ BadAt bad → RowTells row (λ parts. SaysOfGroup version_1 (row_words parts) leader check) → RowTells row (λ parts. IsRow (row_words parts) leader (Bad leader))
+bad_row : (row : List PartHistory) (leader bad : ℕ) (check : GroupCheck) → check ≡ BadAt bad → RowTells row (λ parts. SaysOfGroup version_1 (row_words parts) leader check) → RowTells row (λ parts. IsRow (row_words parts) leader (Bad leader))
 bad_row row leader bad check is told =
     let Says : GroupCheck → Type 0 = λ check. RowTells row (λ parts. SaysOfGroup version_1 (row_words parts) leader check) in
     row_tells_more row (λ parts. SaysOfGroup version_1 (row_words parts) leader (BadAt bad)) (λ parts. IsRow (row_words parts) leader (Bad leader))
@@ -28,7 +28,7 @@ group_at-requires-clause-lines g c =
 
 pub group_at-requires-clause-header : goal.group_at-requires-clause-header
 group_at-requires-clause-header g c =
-    let Says : List History → Type 0 = λ row. RowTells row (λ told. SaysBounds c.args.bounds.now (row_words told)) in
+    let Says : List PartHistory → Type 0 = λ row. RowTells row (λ told. SaysBounds c.args.bounds.now (row_words told)) in
     subst Says (sym c.check_group.ensures.read.histories) c.requires.header
 
 -- a whole group of so many entries ends in the window
@@ -41,7 +41,7 @@ group_at-requires-clause-few g c =
 pub group_at-requires-clause-whole : goal.group_at-requires-clause-whole
 group_at-requires-clause-whole g c =
     let Says : GroupCheck → Type 0 = λ check. RowTells (map g.L.Lines.history c.args.parts.now) (λ parts. SaysOfGroup version_1 (row_words parts) c.args.number check) in
-    let Is : List History → Type 0 = λ row. RowTells row (λ told. IsWhole (row_words told) c.args.number c.in-Whole.count) in
+    let Is : List PartHistory → Type 0 = λ row. RowTells row (λ told. IsWholeWalk (row_words told) c.args.number c.in-Whole.count) in
     subst Is (sym c.check_group.ensures.read.histories) (subst Says c.in-Whole.is c.in_ok-check_group.ensures.check)
 
 pub returns-in-Whole-clause-read : goal.returns-in-Whole-clause-read

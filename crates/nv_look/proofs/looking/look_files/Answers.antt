@@ -3,7 +3,7 @@ use Rattle.nv_plain.specs.Files.{Files}
 use Rattle.nv_plain.specs.Recovered.{recovered}
 use Rattle.nv_pmem.specs.Rows.{RowTells, row_words}
 use Rattle.nv_pmem.specs.RowStates.{row_tells_from, row_tells_at}
-use Rattle.nv_pmem.specs.Steps.{History}
+use Rattle.nv_pmem.specs.Steps.{PartHistory}
 use Rattle.nv_pmem.proofs.ReadLaws.{only_read_more}
 use Rattle.nv_recover.proofs.RoomLaws.{parts_still}
 use Rattle.nv_recover.specs.Standing.{files_of}
@@ -30,7 +30,7 @@ returns-clause-text g c = λ was are.
     let row = map g.L.Lines.history c.args.parts.now in
     let head = c.args.head.now in
     let rows = c.in_ok-listing.listing in
-    let Lists : List History → Type 0 = λ row. RowTells row (λ told. IsListing (row_words told) rows) in
+    let Lists : List PartHistory → Type 0 = λ row. RowTells row (λ told. IsListing (row_words told) rows) in
     let listed = subst Lists c.in_ok-files.ensures.read.histories c.in_ok-listing.ensures.listing in
     row_tells_from row (λ told. IsLookText head (row_words told) (recovered (row_words told) (files_of was)).files.contents c.in_ok-show.field-0) (λ told now.
     let same : c.in_ok-files.files ≡ (recovered (row_words told) (files_of was)).files =

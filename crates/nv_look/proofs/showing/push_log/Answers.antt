@@ -1,6 +1,6 @@
 use Rattle.std.proofs.Common.{◌≡◌, ◌++◌, ◌+◌, ◌∷◌, [], List, drop, get_or, ap, ◌∙◌, sym}
 use Rattle.std.proofs.lemmas.List.{drop_all, append-nil}
-use Rattle.nv_look.specs.Rows.{start_of, end_of}
+use Rattle.nv_look.specs.Rows.{row_start, row_end}
 use Rattle.nv_look.specs.Texts.{hole_text, log_text, row_text}
 use Rattle.nv_look.specs.declared.listing.Row.{Row}
 use Rattle.nv_look.specs.declared.listing.Row.TheVariants.{Group}
@@ -14,11 +14,11 @@ loop-row-preserved c =
     let row : Row = get_or rows i (Group 0 0 0 0 0) in
     let from = c.loop-row.from in
     let next : drop i rows ≡ row ∷ drop (i + 1) rows = drop-or rows i (Group 0 0 0 0 0) c.loop-row-test.true in
-    let rest = log_text (end_of row) (drop (i + 1) rows) in
+    let rest = log_text (row_end row) (drop (i + 1) rows) in
     let all = c.args.text.now.items ++ log_text c.args.tail rows in
     ap (λ e. c.push_row.new.text.items ++ log_text e (drop (i + 1) rows)) c.end-from.ensures
     ∙ goes_on c.push_hole.new.text.items (row_text row) rest all c.push_row.new.text.items c.in_ok-push_row.ensures
-    (goes_on c.loop-row.text.items (hole_text from (start_of row)) (row_text row ++ rest) all c.push_hole.new.text.items
+    (goes_on c.loop-row.text.items (hole_text from (row_start row)) (row_text row ++ rest) all c.push_hole.new.text.items
     (c.in_ok-push_hole.ensures ∙ ap (λ to. c.loop-row.text.items ++ hole_text from to) c.start.ensures)
     (ap (λ (these : List Row). c.loop-row.text.items ++ log_text from these) (sym next) ∙ c.loop-row.invariant))
 

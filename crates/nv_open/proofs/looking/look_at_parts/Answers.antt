@@ -3,7 +3,7 @@ use Rattle.std.proofs.lemmas.Result.{err_from_is_err_and}
 use Rattle.nv_plain.specs.Layouts.{version_1}
 use Rattle.nv_pmem.specs.Moments.{Tells}
 use Rattle.nv_pmem.specs.Rows.{RowTells, row_words}
-use Rattle.nv_pmem.specs.Steps.{History}
+use Rattle.nv_pmem.specs.Steps.{PartHistory}
 use Rattle.nv_pmem.proofs.ReadLaws.{only_read_more}
 use Rattle.nv_header.specs.Heads.{IsHeadOf, header_image}
 use Rattle.nv_header.specs.Needs.{header_history, header_lines_in}
@@ -16,7 +16,7 @@ use Rattle.nv_open.proofs.looking.look_at_parts.Goals as goal
 pub look-requires-clause-head : goal.look-requires-clause-head
 look-requires-clause-head g c =
     let old = c.args.parts.now in
-    let Says : List History → Type 0 = λ row. Tells (header_history row) (λ now. IsHeadOf version_1 (header_lines_in (map g.L.Lines.room old)) (header_image now) c.in_ok-head.head) in
+    let Says : List PartHistory → Type 0 = λ row. Tells (header_history row) (λ now. IsHeadOf version_1 (header_lines_in (map g.L.Lines.room old)) (header_image now) c.in_ok-head.head) in
     head_needs (map g.L.Lines.history c.read_header.new.parts) (header_lines_in (map g.L.Lines.room old)) c.in_ok-head.head
     (subst Says (sym c.in_ok-head.ensures.read.histories) c.in_ok-head.ensures.head)
 
@@ -34,7 +34,7 @@ returns-clause-text g c =
     let mid = c.read_header.new.parts in
     let head = c.in_ok-head.head in
     let has = has_lines_same version_1 head.geometry.page head.geometry.entries (map room mid) (map room old) (kept_counts room old mid c.in_ok-head.ensures.read.rooms) c.in_ok-head.ensures.lines in
-    let Shows : List History → Type 0 = λ row. RowTells row (λ told. IsLookText head (row_words told) [] c.in_ok-look.field-0) in
+    let Shows : List PartHistory → Type 0 = λ row. RowTells row (λ told. IsLookText head (row_words told) [] c.in_ok-look.field-0) in
     region_shown history room g.met.L.Lines.told_lines old head (some_part room old (λ short. omega (arith, has.header))) has c.in_ok-head.ensures.head [] c.in_ok-look.field-0
     (subst Shows c.in_ok-head.ensures.read.histories c.in_ok-look.ensures.text)
 

@@ -13,7 +13,7 @@ use Rattle.nv_open.proofs.Additions.{if_ok_any, if_err_never, held_more}
 use Rattle.nv_open.proofs.NewNames.{all_are_names}
 use Rattle.std.proofs.lemmas.List.Elements.{All-append}
 use Rattle.nv_pmem.specs.Moments.{Tells}
-use Rattle.nv_store.specs.Store.{IsQuiet}
+use Rattle.nv_store.specs.Store.{IsQuietStore}
 use Rattle.nv_open.proofs.Tells.{opened_quiet}
 use Rattle.nv_open.proofs.opening.add_wanted.Goals as goal
 
@@ -64,8 +64,8 @@ pub returns-clause-quiet : goal.returns-clause-quiet
 returns-clause-quiet g c = λ quiet.
     let history = g.T.Store.Backing.history in
     let opened = c.in_default-open_stores.ensures.opened in
-    let Quiet : List _ → Type 0 = λ stores. All (λ store. Tells (history store) IsQuiet) stores in
+    let Quiet : List _ → Type 0 = λ stores. All (λ store. Tells (history store) IsQuietStore) stores in
     if_ok_any c.add_names.result
     (λ added. subst Quiet (sym opened.behind)
-    (All-append (λ store. Tells (history store) IsQuiet) c.args.stores.now.items opened.stores quiet
+    (All-append (λ store. Tells (history store) IsQuietStore) c.args.stores.now.items opened.stores quiet
     (opened_quiet history (g.T.Bench.state c.args.bench.now).told c.in-Ok.missing opened.stores c.requires.synced opened.told opened.untold)))

@@ -10,7 +10,7 @@ use Rattle.nv_header.specs.Laws.{HasSpare}
 use Rattle.nv_header.specs.Regions.{IsBlankRow}
 use Rattle.nv_header.specs.Needs.{HasLines}
 use Rattle.nv_plain.specs.Layouts.{version_1}
-use Rattle.nv_open.specs.Begun.{IsFormatted, IsBegun}
+use Rattle.nv_open.specs.Begun.{IsFormatted, IsOpeningBegun}
 use Rattle.nv_open.specs.Held.{HoldFiles, IsRecovered, files_named, AreUnwritten}
 use Rattle.nv_open.specs.Refusals.{rooms_of, IsRefusedFor, IsBadHeader}
 use Rattle.nv_open.specs.declared.error.OpenError.TheVariants as error
@@ -26,7 +26,7 @@ format_parts-requires-clause-blank g c =
     let new = c.are_blank.new.parts in
     let items = c.args.parts.items in
     let same = ap (map history) (written_back c.args.parts.len new items (omega (arith, c.are_blank.auto.parts, c.deref_mut.ensures.len))) ∙ c.are_blank.ensures.read.histories ∙ ap (map history) c.deref_mut.ensures.value in
-    subst (λ (row : List lines.History). RowTells row IsBlankRow) (sym same)
+    subst (λ (row : List lines.PartHistory). RowTells row IsBlankRow) (sym same)
     (blank_rows c.images_follow_calls.ensures.quiet (map history items) c.requires.quiet
     (tells_test (map history c.deref_mut.result.now) (map history items) c.in-Ok-true.field-0 true (ap (map history) c.deref_mut.ensures.value) c.in-Ok-true.ensures.told c.in-Ok-true.field-0-test))
 
@@ -47,18 +47,18 @@ recover_parts-requires-clause-spare g c κs lives =
 pub returns-in-Ok-true-clause-begun : goal.returns-in-Ok-true-clause-begun
 returns-in-Ok-true-clause-begun g c =
     let history = g.T.Part.Lines.history in
-    let row : List lines.History = map history c.args.parts.items in
+    let row : List lines.PartHistory = map history c.args.parts.items in
     let geometry = c.args.geometry in
     let blank = tells_test (map history c.deref_mut.result.now) row c.in-Ok-true.field-0 true (ap (map history) c.deref_mut.ensures.value) c.in-Ok-true.ensures.told c.in-Ok-true.field-0-test in
     if_ok_map (λ region. IsFormatted geometry region.geometry.page region.geometry.entries region.names region.next)
-    (λ region. RowTells row (λ told. IsBegun told geometry region.geometry.page region.geometry.entries region.names region.next)) c.format_parts.result
+    (λ region. RowTells row (λ told. IsOpeningBegun told geometry region.geometry.page region.geometry.entries region.names region.next)) c.format_parts.result
     (λ region formatted. begun_formatted row geometry region.geometry.page region.geometry.entries region.names region.next blank formatted) c.format_parts.ensures.formatted
 
 pub returns-in-Ok-true-clause-files : goal.returns-in-Ok-true-clause-files
 returns-in-Ok-true-clause-files g c =
     let history = g.T.Part.Lines.history in
     let store_history = g.T.Store.Backing.history in
-    let row : List lines.History = map history c.args.parts.items in
+    let row : List lines.PartHistory = map history c.args.parts.items in
     let geometry = c.args.geometry in
     let told = (g.T.Bench.state c.args.bench.now).told in
     let blank = tells_test (map history c.deref_mut.result.now) row c.in-Ok-true.field-0 true (ap (map history) c.deref_mut.ensures.value) c.in-Ok-true.ensures.told c.in-Ok-true.field-0-test in
@@ -71,7 +71,7 @@ returns-in-Ok-true-clause-refused g c why =
     let history = g.T.Part.Lines.history in
     let new = c.are_blank.new.parts in
     let items = c.args.parts.items in
-    let row : List lines.History = map history items in
+    let row : List lines.PartHistory = map history items in
     let back = take c.args.parts.len (new ++ drop (length new) items) in
     let geometry = c.args.geometry in
     let told = (g.T.Bench.state c.args.bench.now).told in
@@ -80,7 +80,7 @@ returns-in-Ok-true-clause-refused g c why =
     if_err_map (λ failed. failed.1 ≡ error.Refused why → RowTells (map history back) (λ parts. ¬ (HasLines version_1 geometry.page geometry.entries (rooms_of parts))))
     (λ failed. failed.1 ≡ error.Refused why → IfSome told (λ holding. RowTells row (λ parts. (is_blank parts ≡ false) × IsRefusedFor parts why))) c.format_parts.result
     (λ failed short is. if_some_map told c.requires.long (λ long. not_short row geometry (λ parts. (is_blank parts ≡ false) × IsRefusedFor parts why) blank long
-    (subst (λ (these : List lines.History). RowTells these (λ parts. ¬ (HasLines version_1 geometry.page geometry.entries (rooms_of parts)))) same (short is)))) (c.format_parts.ensures.short why)
+    (subst (λ (these : List lines.PartHistory). RowTells these (λ parts. ¬ (HasLines version_1 geometry.page geometry.entries (rooms_of parts)))) same (short is)))) (c.format_parts.ensures.short why)
 
 pub returns-in-Ok-true-clause-unwritten : goal.returns-in-Ok-true-clause-unwritten
 returns-in-Ok-true-clause-unwritten g c why =
@@ -89,7 +89,7 @@ returns-in-Ok-true-clause-unwritten g c why =
     let state = g.T.Bench.state c.args.bench.now in
     let new = c.are_blank.new.parts in
     let items = c.args.parts.items in
-    let row : List lines.History = map history items in
+    let row : List lines.PartHistory = map history items in
     let back = take c.args.parts.len (new ++ drop (length new) items) in
     let none = opened_none store_history g.T.Store.Backing.fault_count state c.args.stores.now.items c.args.stores.now.items refl in
     let same = ap (map history) (written_back c.args.parts.len new items (omega (arith, c.are_blank.auto.parts, c.deref_mut.ensures.len))) ∙ c.are_blank.ensures.read.histories ∙ ap (map history) c.deref_mut.ensures.value in
@@ -106,12 +106,12 @@ returns-in-Ok-clause-begun g c =
     let history = g.T.Part.Lines.history in
     let new = c.are_blank.new.parts in
     let items = c.args.parts.items in
-    let row : List lines.History = map history items in
+    let row : List lines.PartHistory = map history items in
     let region = c.in-Ok.region in
     let same = ap (map history) (written_back c.args.parts.len new items (omega (arith, c.are_blank.auto.parts, c.deref_mut.ensures.len))) ∙ c.are_blank.ensures.read.histories ∙ ap (map history) c.deref_mut.ensures.value in
     let blank = tells_test (map history c.deref_mut.result.now) row c.in-Ok-false.field-0 false (ap (map history) c.deref_mut.ensures.value) c.in-Ok-false.ensures.told c.in-Ok-false.field-0-test in
     begun_kept row c.args.geometry region.geometry.page region.geometry.entries region.names region.next c.in-Ok._found blank
-    (subst (λ (these : List lines.History). RowTells these (λ told. IsRecovered told region.geometry.page region.geometry.entries region.names region.next c.in-Ok._found)) same c.in-Ok.ensures.recovered)
+    (subst (λ (these : List lines.PartHistory). RowTells these (λ told. IsRecovered told region.geometry.page region.geometry.entries region.names region.next c.in-Ok._found)) same c.in-Ok.ensures.recovered)
 
 pub returns-in-Ok-clause-files : goal.returns-in-Ok-clause-files
 returns-in-Ok-clause-files g c =
@@ -120,7 +120,7 @@ returns-in-Ok-clause-files g c =
     let new = c.are_blank.new.parts in
     let items = c.args.parts.items in
     let same = ap (map history) (written_back c.args.parts.len new items (omega (arith, c.are_blank.auto.parts, c.deref_mut.ensures.len))) ∙ c.are_blank.ensures.read.histories ∙ ap (map history) c.deref_mut.ensures.value in
-    subst (λ (row : List lines.History). IfSome (g.T.Bench.state c.args.bench.now).told (λ holding. RowTells row (λ told. HoldFiles (map store_history c.recover_parts.new.stores.items) (files_named told c.in-Ok.region.names holding.stores)))) same
+    subst (λ (row : List lines.PartHistory). IfSome (g.T.Bench.state c.args.bench.now).told (λ holding. RowTells row (λ told. HoldFiles (map store_history c.recover_parts.new.stores.items) (files_named told c.in-Ok.region.names holding.stores)))) same
     c.in-Ok.ensures.files
 
 pub returns-in-Err-recover_parts-clause-refused : goal.returns-in-Err-recover_parts-clause-refused
@@ -128,10 +128,10 @@ returns-in-Err-recover_parts-clause-refused g c why is =
     let history = g.T.Part.Lines.history in
     let new = c.are_blank.new.parts in
     let items = c.args.parts.items in
-    let row : List lines.History = map history items in
+    let row : List lines.PartHistory = map history items in
     let same = ap (map history) (written_back c.args.parts.len new items (omega (arith, c.are_blank.auto.parts, c.deref_mut.ensures.len))) ∙ c.are_blank.ensures.read.histories ∙ ap (map history) c.deref_mut.ensures.value in
     let blank = tells_test (map history c.deref_mut.result.now) row c.in-Ok-false.field-0 false (ap (map history) c.deref_mut.ensures.value) c.in-Ok-false.ensures.told c.in-Ok-false.field-0-test in
-    if_some_any (g.T.Bench.state c.args.bench.now).told (refused_kept row why blank (subst (λ (these : List lines.History). RowTells these (λ told. IsRefusedFor told why)) same (c.in-Err-recover_parts.ensures.refused why (ap Err is))))
+    if_some_any (g.T.Bench.state c.args.bench.now).told (refused_kept row why blank (subst (λ (these : List lines.PartHistory). RowTells these (λ told. IsRefusedFor told why)) same (c.in-Err-recover_parts.ensures.refused why (ap Err is))))
 
 pub returns-in-Err-recover_parts-clause-unwritten : goal.returns-in-Err-recover_parts-clause-unwritten
 returns-in-Err-recover_parts-clause-unwritten g c why is =

@@ -1,7 +1,7 @@
 use Rattle.std.proofs.Common.{Some, Err, length, map, refl}
 use Rattle.nv_bench.specs.Holding.{Holding}
 use Rattle.nv_bench.specs.Opening.{opened}
-use Rattle.nv_open.specs.Begun.{IsOpened, IsNotOpened}
+use Rattle.nv_open.specs.Begun.{IsRegionOpened, IsNotOpened}
 use Rattle.nv_open.proofs.HeadLaws.{error_is}
 use Rattle.nv_open.proofs.AsHeld.{given_long, given_kept, some_map, opened_before, not_opened_before}
 use Rattle.nv_open.proofs.Regions.{given_quiet, given_spare, given_tell, lent_told, quiet_parts, some_stores, still_untold, returned_told}
@@ -40,11 +40,11 @@ returns-in-Ok-clause-opened g c =
     let wanted = c.args.wanted.now in
     let region = c.in-Ok.region in
     let row = map g.T.Store.Backing.history c.open_parts.new.stores.items in
-    some_map old.told (λ holding. IsOpened (record { parts = opened (Some geometry) holding.parts; stores = holding.stores }) geometry wanted region.geometry.page region.geometry.entries region.names region.next row)
-    (λ holding. IsOpened holding geometry wanted region.geometry.page region.geometry.entries region.names region.next row)
+    some_map old.told (λ holding. IsRegionOpened (record { parts = opened (Some geometry) holding.parts; stores = holding.stores }) geometry wanted region.geometry.page region.geometry.entries region.names region.next row)
+    (λ holding. IsRegionOpened holding geometry wanted region.geometry.page region.geometry.entries region.names region.next row)
     (λ holding is. opened_before geometry holding wanted region.geometry.page region.geometry.entries region.names region.next row is)
     (some_stores old.told mid.told (λ (holding : Holding). opened (Some geometry) holding.parts) (map g.T.Part.Lines.history c.in_ok-parts.parts.items)
-    (λ parts held. IsOpened (record { parts = parts; stores = held }) geometry wanted region.geometry.page region.geometry.entries region.names region.next row) (lent_told old mid c.in_ok-parts.ensures.lent)
+    (λ parts held. IsRegionOpened (record { parts = parts; stores = held }) geometry wanted region.geometry.page region.geometry.entries region.names region.next row) (lent_told old mid c.in_ok-parts.ensures.lent)
     c.in_ok-parts.ensures.told c.in-Ok.ensures.opened)
 
 pub returns-in-Err-clause-refused : goal.returns-in-Err-clause-refused

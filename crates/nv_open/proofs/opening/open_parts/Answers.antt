@@ -35,7 +35,7 @@ returns-in-Ok-clause-opened g c =
 pub returns-in-Ok-clause-refused : goal.returns-in-Ok-clause-refused
 returns-in-Ok-clause-refused g c why =
     let region = c.in-Ok.region in
-    let row : List lines.History = map g.T.Part.Lines.history c.args.parts.items in
+    let row : List lines.PartHistory = map g.T.Part.Lines.history c.args.parts.items in
     if_err_map (λ failed. failed.1 ≡ error.Refused why → (why ≡ TooManyFiles) × (16 < length (all_names region.names c.args.wanted.now)))
     (λ failed. failed.1 ≡ error.Refused why → IfSome (g.T.Bench.state c.args.bench.now).told (λ holding. RowTells row (λ told. IsNotOpened told c.args.geometry c.args.wanted.now why))) c.add_wanted.result
     (λ failed refused is. if_some_any (g.T.Bench.state c.args.bench.now).told (too_many row c.args.geometry c.args.wanted.now region.geometry.page region.geometry.entries region.names region.next why c.in-Ok.ensures.begun (refused is).0 (refused is).1)) (c.add_wanted.ensures.refused why)

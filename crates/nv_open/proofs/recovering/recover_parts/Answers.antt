@@ -22,7 +22,7 @@ use Rattle.nv_open.proofs.recovering.recover_parts.Goals as goal
 
 pub returns-in-Err-clause-refused : goal.returns-in-Err-clause-refused
 returns-in-Err-clause-refused g c why is =
-    let row : List lines.History = map g.T.Part.Lines.history c.args.parts.items in
+    let row : List lines.PartHistory = map g.T.Part.Lines.history c.args.parts.items in
     refused_alone row why IsBadHeader
     (subst (λ these. RowTells (map g.T.Part.Lines.history these) (λ told. IsRefusedFor told why × IsBadHeader why)) c.deref_mut.ensures.value
     (c.in-Err.ensures.refused why (ap Err (error_is (Err c.in-Err.error) _ _ refl is))))
@@ -32,7 +32,7 @@ returns-in-Err-clause-unwritten g c why is =
     let history = g.T.Part.Lines.history in
     let new = c.read_header.new.parts in
     let state = g.T.Bench.state c.args.bench.now in
-    let row : List lines.History = map history c.args.parts.items in
+    let row : List lines.PartHistory = map history c.args.parts.items in
     let none = opened_none g.T.Store.Backing.history g.T.Store.Backing.fault_count state c.args.stores.now.items c.args.stores.now.items refl in
     unwritten_by history g.T.Store.Backing.history why [] state state c.args.parts.items
     (take c.args.parts.len (new ++ drop (length new) c.args.parts.items)) [] c.args.stores.now.items
@@ -91,7 +91,7 @@ returns-clause-unwritten g c why is =
     let head = c.in-Ok.head in
     let opened = c.in_default.ensures.opened in
     let told = (g.T.Bench.state c.args.bench.now).told in
-    let row : List lines.History = map history c.args.parts.items in
+    let row : List lines.PartHistory = map history c.args.parts.items in
     let value = c.deref_mut.ensures.value in
     let same = ap (map history) (written_back c.args.parts.len new c.args.parts.items (omega (arith, c.read_header.auto.parts, c.deref_mut.ensures.len)))
     ∙ c.in-Ok.ensures.read.histories ∙ ap (map history) value in

@@ -1,6 +1,6 @@
 -- The buffer has room for the bytes.
 use Rattle.std.proofs.Common.{◌≤◌, length, ap, ◌∙◌, arith}
-use Rattle.nv_table.specs.Kept.{part_value, store_value, slot_value}
+use Rattle.nv_table.specs.state.SlotValues.{part_value, store_value, slot_value}
 use Rattle.nv_table.specs.declared.slot.Slot.TheVariants.{Page as PageSlot}
 use Rattle.nv_pages.proofs.buffers.fill.Goals as goal
 

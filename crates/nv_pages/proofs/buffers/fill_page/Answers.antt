@@ -1,7 +1,7 @@
 -- What was taken out comes back filled.
-use Rattle.nv_core.specs.Words.{PAGE}
-use Rattle.nv_core.specs.Values.{filled}
-use Rattle.nv_table.specs.Kept.{part_value, store_value, slot_value}
+use Rattle.nv_core.specs.state.Words.{PAGE}
+use Rattle.nv_core.specs.state.Values.{filled}
+use Rattle.nv_table.specs.state.SlotValues.{part_value, store_value, slot_value}
 use Rattle.nv_pages.proofs.AlterLaws.{at_page, altered_by}
 use Rattle.nv_pages.proofs.buffers.fill_page.Goals as goal
 

@@ -1,7 +1,7 @@
 -- What was taken out comes back with the bytes over it.
-use Rattle.nv_core.specs.Words.{PAGE}
-use Rattle.nv_core.specs.Values.{patched}
-use Rattle.nv_table.specs.Kept.{part_value, store_value, slot_value}
+use Rattle.nv_core.specs.state.Words.{PAGE}
+use Rattle.nv_core.specs.state.Values.{patched}
+use Rattle.nv_table.specs.state.SlotValues.{part_value, store_value, slot_value}
 use Rattle.nv_pages.proofs.AlterLaws.{at_page, altered_by}
 use Rattle.nv_pages.proofs.buffers.patch_page.Goals as goal
 

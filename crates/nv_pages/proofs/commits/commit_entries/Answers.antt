@@ -4,10 +4,10 @@ use Rattle.std.specs.Prelude.{All}
 use Rattle.nv_entry.specs.Group.{group_steps, IsReady}
 use Rattle.nv_pmem.specs.Calls.{RowCalls, seen_of}
 use Rattle.nv_pmem.proofs.OneOfRow.{lent}
-use Rattle.nv_core.specs.Words.{Sizes}
-use Rattle.nv_table.specs.Keys.{sizes_of}
-use Rattle.nv_table.specs.Opened.{Opened}
-use Rattle.nv_table.specs.Sights.{values_of}
+use Rattle.nv_core.specs.state.Words.{Sizes}
+use Rattle.nv_table.specs.state.Keys.{sizes_of}
+use Rattle.nv_table.specs.state.Opened.{Opened}
+use Rattle.nv_table.specs.state.Views.{values_of}
 use Rattle.nv_pages.specs.CommitCalls.{entry_cell}
 use Rattle.nv_pages.proofs.CommittingLaws.{ready_to_commit, parts_ready, same_count, entries_then, out_then, made}
 use Rattle.nv_pages.proofs.commits.commit_entries.Goals as goal
@@ -53,7 +53,7 @@ write_group-written-requires-clause-number g c =
 
 pub write_group-written-requires-clause-ready : goal.write_group-written-requires-clause-ready
 write_group-written-requires-clause-ready g c =
-    let sizes = c.args.pass.now.sight.opened.sizes in
+    let sizes = c.args.pass.now.view.opened.sizes in
     let same = c.layout-layout.ensures ∙ ap (λ (opened : Opened). opened.sizes) (sym c.requires.board.same_mount) in
     let ready = ready_to_commit (sizes_of c.layout-layout.result) c.piece_count-count.result c.args.pass.now c.args.first c.args.file c.args.at c.args.bytes.now
     c.layout-layout.result.limits (c.layout-layout.ensures ∙ ap (λ (opened : Opened). opened.sizes) (sym c.requires.board.same_mount))
@@ -61,7 +61,7 @@ write_group-written-requires-clause-ready g c =
     let items = c.take_parts.new.parts.items in
     subst (All (λ part. IsReady c.layout-layout.result.page (g.L.Lines.room part))) (sym c.deref_mut.ensures.value)
     (subst (λ (s : Sizes). All (λ part. IsReady s.page (g.L.Lines.room part)) items) (sym same)
-    (parts_ready g.L.Lines.device g.L.Lines.history g.L.Lines.fault_count g.L.Lines.room sizes items (λ i. values_of c.args.pass.now.sight (entry_cell sizes c.args.first i))
+    (parts_ready g.L.Lines.device g.L.Lines.history g.L.Lines.fault_count g.L.Lines.room sizes items (λ i. values_of c.args.pass.now.view (entry_cell sizes c.args.first i))
     (λ i less. c.take_parts.ensures.parts i (let count = c.take_parts.ensures.count in omega (arith, less, count)))
     (λ i less. ready.entries.ready i (let count = c.take_parts.ensures.count in omega (arith, less, count)))))
 

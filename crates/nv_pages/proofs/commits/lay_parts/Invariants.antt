@@ -1,5 +1,5 @@
 use Rattle.std.proofs.Common.{◌≡◌, ◌++◌, List, length, map, vec_capacity}
-use Rattle.nv_table.specs.Kept.{part_value}
+use Rattle.nv_table.specs.state.SlotValues.{part_value}
 use Rattle.nv_pages.specs.Commits.{HasLaid}
 use Rattle.nv_pages.proofs.LaidLaws.{lying}
 use Rattle.nv_pages.proofs.commits.lay_parts.Given as goal

@@ -1,6 +1,6 @@
 -- An entry that is due to be held is ready for it.
 use Rattle.std.proofs.Common.{ap}
-use Rattle.nv_table.specs.States.{In}
+use Rattle.nv_table.specs.state.States.{In}
 use Rattle.nv_pages.proofs.EntryLaws.{entry_word, entry_moves, hold_ready}
 use Rattle.nv_pages.proofs.turns.hold_by.Goals as goal
 

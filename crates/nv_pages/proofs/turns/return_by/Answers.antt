@@ -1,6 +1,6 @@
 -- An entry that is due to be returned is ready for it.
 use Rattle.std.proofs.Common.{ap}
-use Rattle.nv_table.specs.States.{Out}
+use Rattle.nv_table.specs.state.States.{Out}
 use Rattle.nv_pages.proofs.EntryLaws.{entry_word, entry_moves, return_ready}
 use Rattle.nv_pages.proofs.turns.return_by.Goals as goal
 

@@ -3,14 +3,14 @@ use Rattle.std.proofs.lemmas.List.{length-map, get_or-map}
 use Rattle.std.specs.Prelude.{MatchOption}
 use Rattle.nv_plain.specs.Images.{entry_of}
 use Rattle.nv_pmem.specs.Moments.{Tells}
-use Rattle.nv_pmem.specs.Steps.{History}
+use Rattle.nv_pmem.specs.Steps.{PartHistory}
 use Rattle.nv_pmem.proofs.ReadLaws.{only_read_one}
 use Rattle.nv_entry.specs.declared.piece.PieceHead.{PieceHead}
 use Rattle.nv_entry.specs.Reading.{head_of, IsFilled}
 use Rattle.nv_entry.proofs.Slots.{slot_lines}
 use Rattle.nv_recover.proofs.Pieces.{slot_piece, slot_too_long, lines_of_page}
 use Rattle.nv_pmem.specs.Limits.{entry_lines}
-use Rattle.nv_pmem.specs.Part.{word_of}
+use Rattle.nv_pmem.specs.Part.{part_word}
 use Rattle.nv_recover.proofs.apply.load_piece.Goals as goal
 
 pub load_fitting-requires : goal.load_fitting-requires
@@ -39,12 +39,12 @@ returns-in-None-clause-read g c =
 
 pub returns-in-Some-clause-piece : goal.returns-in-Some-clause-piece
 returns-in-Some-clause-piece g c =
-    let row : List History = map g.L.Lines.history c.args.parts.now in
+    let row : List PartHistory = map g.L.Lines.history c.args.parts.now in
     let slot = 1 + c.args.number % c.args.bounds.now.entries in
     let head = c.in-Some.head in
     let inside : slot < length c.args.parts.now = omega arith in
-    let Said : Option PieceHead → History → Type 0 = λ found history. Tells history (λ now. MatchOption found
-    (length c.args.page.now < (entry_of (word_of now)).size)
+    let Said : Option PieceHead → PartHistory → Type 0 = λ found history. Tells history (λ now. MatchOption found
+    (length c.args.page.now < (entry_of (part_word now)).size)
     (λ head. (head ≡ head_of now) × IsFilled now head.size c.args.page.now c.load_fitting.new.page)) in
     let Short : Option PieceHead → Type 0 = λ found. MatchOption found (Unit {0}) (λ head. head.size ≤ length c.args.page.now) in
     slot_piece row c.args.bounds.now c.args.number (omega (arith, length-map c.args.parts.now g.L.Lines.history)) c.requires.header head c.args.page.now c.load_fitting.new.page
@@ -54,13 +54,13 @@ returns-in-Some-clause-piece g c =
 
 pub returns-in-None-clause-bad : goal.returns-in-None-clause-bad
 returns-in-None-clause-bad g c = λ other is.
-    let row : List History = map g.L.Lines.history c.args.parts.now in
+    let row : List PartHistory = map g.L.Lines.history c.args.parts.now in
     let slot = 1 + c.args.number % c.args.bounds.now.entries in
     let inside : slot < length c.args.parts.now = omega arith in
-    let Said : Option PieceHead → History → Type 0 = λ found history. Tells history (λ now. MatchOption found
-    (length c.args.page.now < (entry_of (word_of now)).size)
+    let Said : Option PieceHead → PartHistory → Type 0 = λ found history. Tells history (λ now. MatchOption found
+    (length c.args.page.now < (entry_of (part_word now)).size)
     (λ head. (head ≡ head_of now) × IsFilled now head.size c.args.page.now c.load_fitting.new.page)) in
-    let Long : ℕ → Type 0 = λ limit. Tells (slice_index_or row slot []) (λ now. limit < (entry_of (word_of now)).size) in
+    let Long : ℕ → Type 0 = λ limit. Tells (slice_index_or row slot []) (λ now. limit < (entry_of (part_word now)).size) in
     slot_too_long row c.args.bounds.now c.args.number (omega (arith, length-map c.args.parts.now g.L.Lines.history)) c.requires.header
     c.args.bounds.now.page c.requires.size
     (subst Long c.requires.page

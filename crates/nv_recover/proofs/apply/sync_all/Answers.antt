@@ -3,7 +3,7 @@ use Rattle.std.proofs.Math.Seq.{map-set_same}
 use Rattle.std.proofs.lemmas.List.{length-map}
 use Rattle.nv_pmem.specs.Rows.{RowTells}
 use Rattle.nv_pmem.proofs.ReadLaws.{faults_set_same}
-use Rattle.nv_store.specs.Steps.{History, Sync}
+use Rattle.nv_store.specs.Steps.{StoreHistory, Sync}
 use Rattle.nv_recover.specs.Changes.{ThroughoutRow}
 use Rattle.nv_recover.specs.Standing.{LeaveNoMore}
 use Rattle.nv_recover.specs.Telling.{AllTell}
@@ -13,7 +13,7 @@ use Rattle.nv_recover.proofs.apply.sync_all.Goals as goal
 
 pub loop-store-init : goal.loop-store-init
 loop-store-init g c =
-    let row : List History = map g.B.Backing.history c.args.stores.now in
+    let row : List StoreHistory = map g.B.Backing.history c.args.stores.now in
     record {
       moments = rows_still row LeaveNoMore (row_synced_images g.B.Backing.history g.met.B.Backing.told_whole c.args.stores.now row 0 (row_unsynced row));
       synced = row_unsynced row;
@@ -25,22 +25,22 @@ loop-store-init g c =
 
 pub returns-in_err-sync-clause-moments : goal.returns-in_err-sync-clause-moments
 returns-in_err-sync-clause-moments g c =
-    let old : List History = map g.B.Backing.history c.args.stores.now in
-    let At : List History → Type 0 = λ row. RowTells old (λ was. ThroughoutRow (LeaveNoMore was) old row) in
+    let old : List StoreHistory = map g.B.Backing.history c.args.stores.now in
+    let At : List StoreHistory → Type 0 = λ row. RowTells old (λ was. ThroughoutRow (LeaveNoMore was) old row) in
     subst At (sym (map-set_same g.B.Backing.history c.loop-store.stores c.loop-store.store-index c.sync.new.self c.store-item.result c.in_err-sync.ensures.failed))
     c.loop-store.invariant.moments
 
 pub returns-in_err-sync-clause-seen : goal.returns-in_err-sync-clause-seen
 returns-in_err-sync-clause-seen g c =
-    let old : List History = map g.B.Backing.history c.args.stores.now in
+    let old : List StoreHistory = map g.B.Backing.history c.args.stores.now in
     let i = c.loop-store.store-index in
-    let At : List History → Type 0 = λ row. RowSynced i old row in
+    let At : List StoreHistory → Type 0 = λ row. RowSynced i old row in
     row_synced_seen old (map g.B.Backing.history (slice_set c.loop-store.stores i c.sync.new.self)) i
     (subst At (sym (map-set_same g.B.Backing.history c.loop-store.stores i c.sync.new.self c.store-item.result c.in_err-sync.ensures.failed)) c.loop-store.invariant.synced)
 
 pub returns-in_err-sync-clause-tells : goal.returns-in_err-sync-clause-tells
 returns-in_err-sync-clause-tells g c =
-    let Tell : List History → Type 0 = λ row. AllTell (map g.B.Backing.history c.args.stores.now) → AllTell row in
+    let Tell : List StoreHistory → Type 0 = λ row. AllTell (map g.B.Backing.history c.args.stores.now) → AllTell row in
     subst Tell (sym (map-set_same g.B.Backing.history c.loop-store.stores c.loop-store.store-index c.sync.new.self c.store-item.result c.in_err-sync.ensures.failed))
     c.loop-store.invariant.tells
 
@@ -51,11 +51,11 @@ returns-in_err-sync-clause-devices g c =
 
 pub loop-store-preserved : goal.loop-store-preserved
 loop-store-preserved g c =
-    let old : List History = map g.B.Backing.history c.args.stores.now in
+    let old : List StoreHistory = map g.B.Backing.history c.args.stores.now in
     let stores = c.loop-store.stores in
     let i = c.loop-store.store-index in
     let inside : i < length stores = omega arith in
-    let new : List History = map g.B.Backing.history (slice_set stores i c.sync.new.self) in
+    let new : List StoreHistory = map g.B.Backing.history (slice_set stores i c.sync.new.self) in
     let synced =
     row_synced_more g.B.Backing.history old stores i c.store-item.result c.sync.new.self inside
     (omega (arith, c.loop-store.auto.stores, length-map c.args.stores.now g.B.Backing.history)) c.loop-store.invariant.tells

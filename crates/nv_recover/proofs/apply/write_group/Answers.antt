@@ -6,7 +6,7 @@ use Rattle.nv_pmem.proofs.ReadLaws.{only_read_none, only_read_more}
 use Rattle.nv_entry.proofs.Slots.{slots_still}
 use Rattle.nv_plain.specs.Images.{Image}
 use Rattle.nv_plain.specs.Recovered.{with_entry}
-use Rattle.nv_store.specs.Steps.{History}
+use Rattle.nv_store.specs.Steps.{StoreHistory}
 use Rattle.nv_store.specs.Store.{Store}
 use Rattle.nv_recover.specs.Applying.{AcrossTells, IsGroupOf, StaysAlike}
 use Rattle.nv_recover.specs.Standing.{files_of}
@@ -19,8 +19,8 @@ use Rattle.nv_recover.proofs.apply.write_group.Goals as goal
 
 pub loop-number-init : goal.loop-number-init
 loop-number-init g c =
-    let parts : List lines.History = map g.L.Lines.history c.args.parts.now in
-    let stores : List History = map g.B.Backing.history c.args.stores.now in
+    let parts : List lines.PartHistory = map g.L.Lines.history c.args.parts.now in
+    let stores : List StoreHistory = map g.B.Backing.history c.args.stores.now in
     record {
       read = only_read_none g.L.Lines.history g.L.Lines.room g.L.Lines.device c.args.parts.now;
       moments = across_still parts stores StaysAlike (unwritten parts stores StaysAlike alike_none);
@@ -37,7 +37,7 @@ write_entry-requires-clause-lines g c =
 
 pub write_entry-requires-clause-number : goal.write_entry-requires-clause-number
 write_entry-requires-clause-number g c =
-    let Are : List lines.History → Type 0 = λ row. RowTells row (λ parts. IsGroupOf (row_words parts) c.args.group) in
+    let Are : List lines.PartHistory → Type 0 = λ row. RowTells row (λ parts. IsGroupOf (row_words parts) c.args.group) in
     group_tells_number (map g.L.Lines.history c.loop-number.parts) c.args.group c.loop-number.number
     (omega arith) (omega (arith, c.saturating_add-number-end.ensures))
     (subst Are (sym c.loop-number.invariant.read.histories) c.requires.group)
@@ -47,24 +47,24 @@ returns-in_err-write_entry-clause-read g c = only_read_more c.loop-number.invari
 
 pub returns-in_err-write_entry-clause-moments : goal.returns-in_err-write_entry-clause-moments
 returns-in_err-write_entry-clause-moments g c =
-    let old : List History = map g.B.Backing.history c.args.stores.now in
-    let between : List History = map g.B.Backing.history c.loop-number.stores in
-    let new : List History = map g.B.Backing.history c.write_entry.new.stores in
-    let Step : List lines.History → Type 0 = λ parts. AcrossTells parts between new StaysAlike in
+    let old : List StoreHistory = map g.B.Backing.history c.args.stores.now in
+    let between : List StoreHistory = map g.B.Backing.history c.loop-number.stores in
+    let new : List StoreHistory = map g.B.Backing.history c.write_entry.new.stores in
+    let Step : List lines.PartHistory → Type 0 = λ parts. AcrossTells parts between new StaysAlike in
     entry_throughout (map g.L.Lines.history c.args.parts.now) old between new c.loop-number.invariant.tells c.loop-number.invariant.moments c.write_entry.ensures.one
     (subst Step c.loop-number.invariant.read.histories c.write_entry.ensures.alike)
 
 pub loop-number-preserved : goal.loop-number-preserved
 loop-number-preserved g c =
-    let parts : List lines.History = map g.L.Lines.history c.args.parts.now in
-    let old : List History = map g.B.Backing.history c.args.stores.now in
-    let between : List History = map g.B.Backing.history c.loop-number.stores in
-    let new : List History = map g.B.Backing.history c.write_entry.new.stores in
+    let parts : List lines.PartHistory = map g.L.Lines.history c.args.parts.now in
+    let old : List StoreHistory = map g.B.Backing.history c.args.stores.now in
+    let between : List StoreHistory = map g.B.Backing.history c.loop-number.stores in
+    let new : List StoreHistory = map g.B.Backing.history c.write_entry.new.stores in
     let leader = c.args.group.leader in
     let number = c.loop-number.number in
     let Next : Image → List Store → List Store → Type 0 = λ image was now. files_of now ≡ with_entry image (files_of was) number in
-    let Alike : List lines.History → Type 0 = λ parts. AcrossTells parts between new StaysAlike in
-    let Wrote : List lines.History → Type 0 = λ parts. AcrossTells parts between new Next in
+    let Alike : List lines.PartHistory → Type 0 = λ parts. AcrossTells parts between new StaysAlike in
+    let Wrote : List lines.PartHistory → Type 0 = λ parts. AcrossTells parts between new Next in
     record {
       read = only_read_more c.loop-number.invariant.read c.write_entry.ensures.read;
       moments =

@@ -8,7 +8,7 @@ use Rattle.nv_pmem.proofs.ReadLaws.{only_read_none, only_read_more}
 use Rattle.nv_entry.proofs.Slots.{slots_still}
 use Rattle.nv_plain.specs.Images.{Image}
 use Rattle.nv_plain.specs.Recovered.{with_entry}
-use Rattle.nv_store.specs.Steps.{History}
+use Rattle.nv_store.specs.Steps.{StoreHistory}
 use Rattle.nv_store.specs.Store.{Store}
 use Rattle.nv_recover.specs.Applying.{AcrossTells, AcrossThroughout, StaysAlike}
 use Rattle.nv_recover.specs.Groups.{AreGroups}
@@ -23,8 +23,8 @@ use Rattle.nv_recover.proofs.apply.write_groups.Goals as goal
 
 pub loop-group-init : goal.loop-group-init
 loop-group-init g c =
-    let parts : List lines.History = map g.L.Lines.history c.args.parts.now in
-    let stores : List History = map g.B.Backing.history c.args.stores.now in
+    let parts : List lines.PartHistory = map g.L.Lines.history c.args.parts.now in
+    let stores : List StoreHistory = map g.B.Backing.history c.args.stores.now in
     record {
       read = only_read_none g.L.Lines.history g.L.Lines.room g.L.Lines.device c.args.parts.now;
       moments = across_still parts stores StaysAlike (unwritten parts stores StaysAlike alike_none);
@@ -42,7 +42,7 @@ write_group-requires-clause-lines g c =
 pub write_group-requires-clause-group : goal.write_group-requires-clause-group
 write_group-requires-clause-group g c =
     let none : Group = record { leader = 0; count = 0 } in
-    let Are : List lines.History → Type 0 = λ row. RowTells row (λ parts. AreGroups (row_words parts) c.args.groups.now) in
+    let Are : List lines.PartHistory → Type 0 = λ row. RowTells row (λ parts. AreGroups (row_words parts) c.args.groups.now) in
     groups_tell_group (map g.L.Lines.history c.loop-group.parts) c.args.groups.now c.loop-group.group-index none (omega arith)
     (subst Are (sym c.loop-group.invariant.read.histories) c.requires.groups)
 
@@ -51,28 +51,28 @@ returns-in_err-write_group-clause-read g c = only_read_more c.loop-group.invaria
 
 pub returns-in_err-write_group-clause-moments : goal.returns-in_err-write_group-clause-moments
 returns-in_err-write_group-clause-moments g c =
-    let parts : List lines.History = map g.L.Lines.history c.args.parts.now in
-    let old : List History = map g.B.Backing.history c.args.stores.now in
-    let between : List History = map g.B.Backing.history c.loop-group.stores in
-    let new : List History = map g.B.Backing.history c.write_group.new.stores in
-    let Step : List lines.History → Type 0 = λ parts. AcrossThroughout parts between new StaysAlike in
+    let parts : List lines.PartHistory = map g.L.Lines.history c.args.parts.now in
+    let old : List StoreHistory = map g.B.Backing.history c.args.stores.now in
+    let between : List StoreHistory = map g.B.Backing.history c.loop-group.stores in
+    let new : List StoreHistory = map g.B.Backing.history c.write_group.new.stores in
+    let Step : List lines.PartHistory → Type 0 = λ parts. AcrossThroughout parts between new StaysAlike in
     quiet_alike parts old new c.requires.quiet
     (alike_throughout parts old between new c.loop-group.invariant.tells c.loop-group.invariant.moments
     (subst Step c.loop-group.invariant.read.histories c.write_group.ensures.moments))
 
 pub loop-group-preserved : goal.loop-group-preserved
 loop-group-preserved g c =
-    let parts : List lines.History = map g.L.Lines.history c.args.parts.now in
-    let old : List History = map g.B.Backing.history c.args.stores.now in
-    let between : List History = map g.B.Backing.history c.loop-group.stores in
-    let new : List History = map g.B.Backing.history c.write_group.new.stores in
+    let parts : List lines.PartHistory = map g.L.Lines.history c.args.parts.now in
+    let old : List StoreHistory = map g.B.Backing.history c.args.stores.now in
+    let between : List StoreHistory = map g.B.Backing.history c.loop-group.stores in
+    let new : List StoreHistory = map g.B.Backing.history c.write_group.new.stores in
     let groups = c.args.groups.now in
     let i = c.loop-group.group-index in
     let none : Group = record { leader = 0; count = 0 } in
     let Next : Image → List Store → List Store → Type 0 = λ image was now.
     files_of now ≡ fold (with_entry image) (files_of was) (range_with_len (get_or groups i none).leader (get_or groups i none).count) in
-    let Alike : List lines.History → Type 0 = λ parts. AcrossThroughout parts between new StaysAlike in
-    let Wrote : List lines.History → Type 0 = λ parts. AcrossTells parts between new Next in
+    let Alike : List lines.PartHistory → Type 0 = λ parts. AcrossThroughout parts between new StaysAlike in
+    let Wrote : List lines.PartHistory → Type 0 = λ parts. AcrossTells parts between new Next in
     record {
       read = only_read_more c.loop-group.invariant.read c.write_group.ensures.read;
       moments =

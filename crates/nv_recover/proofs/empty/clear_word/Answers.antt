@@ -1,5 +1,5 @@
 use Rattle.std.proofs.Common.{◌↔◌, ◌<◌, length, subst}
-use Rattle.nv_pmem.specs.Steps.{History}
+use Rattle.nv_pmem.specs.Steps.{PartHistory}
 use Rattle.nv_recover.proofs.EmptyParts.{untrimmed_moments, trimmed_moments, stored_small, same_small}
 use Rattle.nv_recover.proofs.Present.{some_tells}
 use Rattle.nv_recover.proofs.empty.clear_word.Goals as goal
@@ -15,7 +15,7 @@ returns-in_err-store_durably-clause-moments g c =
 
 pub returns-in_err-store_durably-clause-tells : goal.returns-in_err-store_durably-clause-tells
 returns-in_err-store_durably-clause-tells g c =
-    let At : History → Type 0 = λ old. (0 < length old) ↔ (0 < length (g.L.Lines.history c.store_durably.new.part)) in
+    let At : PartHistory → Type 0 = λ old. (0 < length old) ↔ (0 < length (g.L.Lines.history c.store_durably.new.part)) in
     subst At c.load.ensures.history (some_tells c.store_durably.ensures.begun)
 
 pub returns-in_ok-store_durably-clause-moments : goal.returns-in_ok-store_durably-clause-moments
@@ -30,7 +30,7 @@ returns-in_ok-store_durably-clause-cleared g c =
 
 pub returns-in_ok-store_durably-clause-tells : goal.returns-in_ok-store_durably-clause-tells
 returns-in_ok-store_durably-clause-tells g c =
-    let At : History → Type 0 = λ old. (0 < length old) ↔ (0 < length (g.L.Lines.history c.store_durably.new.part)) in
+    let At : PartHistory → Type 0 = λ old. (0 < length old) ↔ (0 < length (g.L.Lines.history c.store_durably.new.part)) in
     subst At c.load.ensures.history (some_tells c.store_durably.ensures.begun)
 
 pub returns-else-branch-most-clause-moments : goal.returns-else-branch-most-clause-moments

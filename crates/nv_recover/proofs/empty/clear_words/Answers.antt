@@ -3,7 +3,7 @@ use Rattle.std.proofs.Math.Seq.{map-set_same}
 use Rattle.std.proofs.lemmas.List.{length-map}
 use Rattle.nv_plain.specs.Layouts.{version_1}
 use Rattle.nv_pmem.specs.Rows.{InEachRowImage, row_words}
-use Rattle.nv_pmem.specs.Steps.{History}
+use Rattle.nv_pmem.specs.Steps.{PartHistory}
 use Rattle.nv_pmem.proofs.OneOfRow.{same_sum_in_row}
 use Rattle.nv_header.proofs.InRow.{has_parts_set}
 use Rattle.nv_recover.specs.Alike.{SayTheSame}
@@ -18,7 +18,7 @@ pub loop-entry-init : goal.loop-entry-init
 loop-entry-init g c = record {
   done = cleared_none (c.args.bounds.now.tail + c.args.bounds.now.entries) (map g.L.Lines.history c.args.parts.now);
   moments =
-      let row : List History = map g.L.Lines.history c.args.parts.now in
+      let row : List PartHistory = map g.L.Lines.history c.args.parts.now in
       let most = c.args.bounds.now.tail + c.args.bounds.now.entries in
       rows_still row (λ was. InEachRowImage (SayTheSame (row_words was)))
       (rows_same c.args.bounds.now (length row) row row c.requires.quiet c.requires.header (cleared_rows most 0 (length row) row row (cleared_none most row) refl));
@@ -76,7 +76,7 @@ loop-entry-preserved g c =
     let d = c.index-parts-entry.result in
     let was = get_or parts i d in
     let new = c.clear_word.new.part in
-    let old : List History = map g.L.Lines.history c.args.parts.now in
+    let old : List PartHistory = map g.L.Lines.history c.args.parts.now in
     let inside = entry_inside g.L.Lines.room c.args.bounds.now.page c.args.bounds.now.entries parts c.loop-entry.entry c.loop-entry.invariant.parts (omega arith) in
     record {
       done =
@@ -98,8 +98,8 @@ loop-entry-preserved g c =
 pub returns-clause-cleared : goal.returns-clause-cleared
 returns-clause-cleared g c =
     let bounds = c.args.bounds.now in
-    let old : List History = map g.L.Lines.history c.args.parts.now in
-    let new : List History = map g.L.Lines.history c.loop-entry.parts in
+    let old : List PartHistory = map g.L.Lines.history c.args.parts.now in
+    let new : List PartHistory = map g.L.Lines.history c.loop-entry.parts in
     let At : _ → Type 0 = λ count. AreClearedTo (bounds.tail + bounds.entries) count old new in
     let count : c.loop-entry.entry ≡ bounds.entries = omega arith in
     rows_none_above bounds (length old) old new
@@ -110,8 +110,8 @@ returns-clause-cleared g c =
 pub returns-clause-quiet : goal.returns-clause-quiet
 returns-clause-quiet g c =
     let bounds = c.args.bounds.now in
-    let old : List History = map g.L.Lines.history c.args.parts.now in
-    let new : List History = map g.L.Lines.history c.loop-entry.parts in
+    let old : List PartHistory = map g.L.Lines.history c.args.parts.now in
+    let new : List PartHistory = map g.L.Lines.history c.loop-entry.parts in
     let At : _ → Type 0 = λ count. AreClearedTo (bounds.tail + bounds.entries) count old new in
     let count : c.loop-entry.entry ≡ bounds.entries = omega arith in
     rows_quiet (bounds.tail + bounds.entries) bounds.entries (length old) old new c.loop-entry.invariant.done.tells.1 c.requires.quiet

@@ -2,7 +2,7 @@ use Rattle.std.proofs.Common.{◌<◌, ◌≤◌, List, length, get_or, map, sli
 use Rattle.std.proofs.lemmas.Result.{on_ok_weaker}
 use Rattle.nv_plain.specs.Layouts.{version_1}
 use Rattle.nv_pmem.specs.Rows.{InEachRowImage, row_words}
-use Rattle.nv_pmem.specs.Steps.{History}
+use Rattle.nv_pmem.specs.Steps.{PartHistory}
 use Rattle.nv_header.proofs.InRow.{has_parts_set, stays_settled}
 use Rattle.nv_recover.specs.Alike.{SayTheSame}
 use Rattle.nv_recover.proofs.EmptyParts.{MayBeMoved, moved_moments, stored_tail}
@@ -33,8 +33,8 @@ returns-clause-moments g c names reads =
     let cleared = c.in_ok-clear_words.ensures in
     let inside : 1 ≤ length parts = omega (arith, parts_count g.L.Lines.room bounds.page bounds.entries parts cleared.parts) in
     let was = get_or parts 0 c.index-parts-0.result in
-    let old : List History = map g.L.Lines.history c.args.parts.now in
-    let between : List History = map g.L.Lines.history parts in
+    let old : List PartHistory = map g.L.Lines.history c.args.parts.now in
+    let between : List PartHistory = map g.L.Lines.history parts in
     let same = rows_last old between (λ was. InEachRowImage (SayTheSame (row_words was))) cleared.moments in
     same_then bounds.page bounds.entries names c.args.next old between (map g.L.Lines.history (slice_set parts 0 c.move_tail.new.header)) cleared.tells.0 cleared.moments
     (moving_throughout g.L.Lines.history bounds.page bounds.entries names bounds.tail c.args.next parts was c.move_tail.new.header c.index-parts-0.result inside
@@ -60,8 +60,8 @@ returns-clause-rest g c =
     let cleared = c.in_ok-clear_words.ensures in
     let inside : 0 < length parts = omega (arith, parts_count g.L.Lines.room bounds.page bounds.entries parts cleared.parts) in
     let was = get_or parts 0 d in
-    let old : List History = map g.L.Lines.history c.args.parts.now in
-    let between : List History = map g.L.Lines.history parts in
+    let old : List PartHistory = map g.L.Lines.history c.args.parts.now in
+    let between : List PartHistory = map g.L.Lines.history parts in
     let more = devices_tell g.L.Lines.history parts 0 was new d inside refl (some_tells c.move_tail.ensures.begun) in
     let same = rows_last old between (λ was. InEachRowImage (SayTheSame (row_words was))) cleared.moments in
     on_both c.move_tail.result

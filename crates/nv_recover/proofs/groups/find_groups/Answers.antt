@@ -2,7 +2,7 @@ use Rattle.std.proofs.Common.{◌≡◌, ◌+◌, List, Err, map, refl, ap, ◌�
 use Rattle.std.proofs.lemmas.Result.{err_from_is_err_and}
 use Rattle.nv_pmem.specs.Part.{Part}
 use Rattle.nv_pmem.specs.Rows.{RowTells, row_words}
-use Rattle.nv_pmem.specs.Steps.{History}
+use Rattle.nv_pmem.specs.Steps.{PartHistory}
 use Rattle.nv_pmem.proofs.ReadLaws.{only_read_none, only_read_more}
 use Rattle.nv_pmem.proofs.RowLaws.{row_tells_more, row_tells_both}
 use Rattle.nv_entry.proofs.Slots.{slots_still}
@@ -16,7 +16,7 @@ use Rattle.nv_recover.proofs.groups.find_groups.Goals as goal
 
 pub loop-number-init : goal.loop-number-init
 loop-number-init g c =
-    let row : List History = map g.L.Lines.history c.args.parts.now in
+    let row : List PartHistory = map g.L.Lines.history c.args.parts.now in
     record {
       found =
           row_tells_more row (λ parts. SaysBounds c.args.bounds.now (row_words parts))
@@ -33,12 +33,12 @@ look_at-requires-clause-lines g c =
 
 pub returns-in_err-look_at-clause-bad : goal.returns-in_err-look_at-clause-bad
 returns-in_err-look_at-clause-bad g c = λ bad is.
-    let first : List History = map g.L.Lines.history c.args.parts.now in
+    let first : List PartHistory = map g.L.Lines.history c.args.parts.now in
     let p = err_from_is_err_and c.from_residual.result c.from_residual.ensures.1 in
     let same : c.in_err-look_at.field-0.0 ≡ BadEntry bad = cc (p.1, p.2, is) in
     let So_far : List Part → Type 0 = λ parts. HasFound (row_words parts) c.args.bounds.now.tail c.loop-number.number c.loop-number.groups.items in
     let Then : List Part → Type 0 = λ parts. So_far parts → IsLeastBad version_1 (row_words parts) bad in
-    let At : List History → Type 0 = λ row. RowTells row Then in
+    let At : List PartHistory → Type 0 = λ row. RowTells row Then in
     row_tells_more first (λ parts. So_far parts × Then parts) (λ parts. IsLeastBad version_1 (row_words parts) bad)
     (λ parts both. both.1 both.0)
     (row_tells_both first So_far Then c.loop-number.invariant.found
@@ -49,11 +49,11 @@ returns-in_err-look_at-clause-read g c = only_read_more c.loop-number.invariant.
 
 pub loop-number-preserved : goal.loop-number-preserved
 loop-number-preserved g c =
-    let first : List History = map g.L.Lines.history c.args.parts.now in
+    let first : List PartHistory = map g.L.Lines.history c.args.parts.now in
     let So_far : List Part → Type 0 = λ parts. HasFound (row_words parts) c.args.bounds.now.tail c.loop-number.number c.loop-number.groups.items in
     let Now : List Part → Type 0 = λ parts. HasFound (row_words parts) c.args.bounds.now.tail (c.loop-number.number + 1) c.look_at.new.groups.items in
     let Then : List Part → Type 0 = λ parts. So_far parts → Now parts in
-    let At : List History → Type 0 = λ row. RowTells row Then in
+    let At : List PartHistory → Type 0 = λ row. RowTells row Then in
     record {
       found =
           row_tells_more first (λ parts. So_far parts × Then parts) Now (λ parts both. both.1 both.0)
@@ -65,7 +65,7 @@ loop-number-preserved g c =
 
 pub returns-clause-found : goal.returns-clause-found
 returns-clause-found g c =
-    let first : List History = map g.L.Lines.history c.args.parts.now in
+    let first : List PartHistory = map g.L.Lines.history c.args.parts.now in
     let So_far : List Part → Type 0 = λ parts. HasFound (row_words parts) c.args.bounds.now.tail c.loop-number.number c.loop-number.groups.items in
     let Says : List Part → Type 0 = λ parts. SaysBounds c.args.bounds.now (row_words parts) in
     row_tells_more first (λ parts. Says parts × So_far parts) (λ parts. AreGroups (row_words parts) c.loop-number.groups.items)

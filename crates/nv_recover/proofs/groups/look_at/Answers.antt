@@ -5,7 +5,7 @@ use Rattle.nv_plain.specs.Layouts.{version_1}
 use Rattle.nv_plain.specs.Recovered.{IsGroup}
 use Rattle.nv_pmem.specs.Part.{Part}
 use Rattle.nv_pmem.specs.Rows.{RowTells, row_words}
-use Rattle.nv_pmem.specs.Steps.{History}
+use Rattle.nv_pmem.specs.Steps.{PartHistory}
 use Rattle.nv_pmem.proofs.ReadLaws.{only_read_more}
 use Rattle.nv_pmem.proofs.RowLaws.{row_tells_more, row_tells_both}
 use Rattle.nv_entry.proofs.Slots.{slots_still}
@@ -18,7 +18,7 @@ use Rattle.nv_recover.proofs.groups.look_at.Goals as goal
 
 pub returns-then-entry-number-clause-found : goal.returns-then-entry-number-clause-found
 returns-then-entry-number-clause-found g c =
-    let row : List History = map g.L.Lines.history c.args.parts.now in
+    let row : List PartHistory = map g.L.Lines.history c.args.parts.now in
     let differs : c.in_ok-entry.entry.commit ≢ c.args.number + 1 = omega arith in
     row_tells_more row (λ parts. as_entry c.in_ok-entry.entry ≡ entry_at (row_words parts) c.args.number)
     (λ parts. HasFound (row_words parts) c.args.bounds.now.tail c.args.number c.args.groups.now.items
@@ -34,7 +34,7 @@ checked-requires-clause-lines g c =
 
 pub returns-in_err-group-clause-bad : goal.returns-in_err-group-clause-bad
 returns-in_err-group-clause-bad g c = λ bad is.
-    let first : List History = map g.L.Lines.history c.args.parts.now in
+    let first : List PartHistory = map g.L.Lines.history c.args.parts.now in
     let p = err_from_is_err_and c.from_residual-in_err-group.result c.from_residual-in_err-group.ensures.1 in
     let same : c.in_err-group.field-0.0 ≡ BadEntry bad = cc (p.1, p.2, is) in
     let breaks = c.checked.ensures.bad bad (c.in_err-group.was ∙ ap Err same) in
@@ -43,7 +43,7 @@ returns-in_err-group-clause-bad g c = λ bad is.
     let Breaks : List Part → Type 0 = λ parts. IsFirstBad version_1 (row_words parts) c.args.number bad in
     let Says : List Part → Type 0 = λ parts. SaysBounds c.args.bounds.now (row_words parts) in
     let Both : List Part → Type 0 = λ parts. Has parts × Breaks parts in
-    let At : List History → Type 0 = λ row. RowTells row Breaks in
+    let At : List PartHistory → Type 0 = λ row. RowTells row Breaks in
     row_tells_more first (λ parts. Says parts × Both parts)
     (λ parts. HasFound (row_words parts) c.args.bounds.now.tail c.args.number c.args.groups.now.items → IsLeastBad version_1 (row_words parts) bad)
     (λ parts all so_far.
@@ -60,13 +60,13 @@ returns-in_err-push-clause-read g c = only_read_more c.in_ok-entry.ensures.read 
 
 pub returns-clause-found : goal.returns-clause-found
 returns-clause-found g c =
-    let first : List History = map g.L.Lines.history c.args.parts.now in
+    let first : List PartHistory = map g.L.Lines.history c.args.parts.now in
     let commit : c.in_ok-entry.entry.commit ≡ c.args.number + 1 = omega arith in
     let group = c.in_ok-group.group in
     let Has : List Part → Type 0 = λ parts. as_entry c.in_ok-entry.entry ≡ entry_at (row_words parts) c.args.number in
     let Whole : List Part → Type 0 = λ parts.
     IsGroup version_1 (row_words parts) c.args.number × (group.count ≡ (entry_at (row_words parts) c.args.number).count) in
-    let At : List History → Type 0 = λ row. RowTells row Whole in
+    let At : List PartHistory → Type 0 = λ row. RowTells row Whole in
     let items = c.in_ok-push.ensures.items in
     row_tells_more first (λ parts. Has parts × Whole parts)
     (λ parts. HasFound (row_words parts) c.args.bounds.now.tail c.args.number c.args.groups.now.items

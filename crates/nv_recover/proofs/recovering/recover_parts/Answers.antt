@@ -5,7 +5,7 @@ use Rattle.nv_pmem.specs.Rows.{RowTells, row_words}
 use Rattle.nv_pmem.specs.Steps as lines
 use Rattle.nv_pmem.proofs.ReadLaws.{only_read_more}
 use Rattle.nv_pmem.proofs.RowLaws.{row_tells_more}
-use Rattle.nv_store.specs.Steps.{History}
+use Rattle.nv_store.specs.Steps.{StoreHistory}
 use Rattle.nv_entry.specs.Checks.{SaysBounds}
 use Rattle.nv_recover.specs.Emptying.{CommitsNoneFrom}
 use Rattle.nv_recover.specs.Groups.{IsLeastBad}
@@ -24,9 +24,9 @@ read_log-requires-clause-lines g c =
 pub returns-in_err-groups-clause-kept : goal.returns-in_err-groups-clause-kept
 returns-in_err-groups-clause-kept g c =
     let bounds = c.args.bounds.now in
-    let first : List lines.History = map g.L.Lines.history c.args.parts.now in
-    let then : List lines.History = map g.L.Lines.history c.read_log.new.parts in
-    let stores : List History = map g.B.Backing.history c.args.stores.now in
+    let first : List lines.PartHistory = map g.L.Lines.history c.args.parts.now in
+    let then : List lines.PartHistory = map g.L.Lines.history c.read_log.new.parts in
+    let stores : List StoreHistory = map g.B.Backing.history c.args.stores.now in
     let read = c.read_log.ensures.read in
     record {
       moments =
@@ -50,14 +50,14 @@ replay-requires-clause-lines g c =
 
 pub replay-requires-clause-header : goal.replay-requires-clause-header
 replay-requires-clause-header g c =
-    let Says : List lines.History → Type 0 = λ row. RowTells row (λ told. SaysBounds c.args.bounds.now (row_words told)) in
+    let Says : List lines.PartHistory → Type 0 = λ row. RowTells row (λ told. SaysBounds c.args.bounds.now (row_words told)) in
     subst Says (sym c.read_log.ensures.read.histories) c.requires.header
 
 pub returns-in_err-replay-clause-bad : goal.returns-in_err-replay-clause-bad
 returns-in_err-replay-clause-bad g c number is =
     let p = err_from_is_err_and c.from_residual-in_err-replay.result c.from_residual-in_err-replay.ensures.1 in
     let same : c.in_err-replay.field-0.0 ≡ BadEntry number = cc (p.1, p.2, is) in
-    let Never : List lines.History → Type 0 = λ row. RowTells row (λ parts. ⊥) in
+    let Never : List lines.PartHistory → Type 0 = λ row. RowTells row (λ parts. ⊥) in
     row_tells_more (map g.L.Lines.history c.args.parts.now) (λ parts. ⊥) (λ parts. IsLeastBad version_1 (row_words parts) number) (λ parts never. absurd never)
     (subst Never c.read_log.ensures.read.histories (c.replay.ensures.bad number (c.in_err-replay.was ∙ ap Err same)))
 
@@ -68,10 +68,10 @@ returns-in_err-replay-clause-only_read g c =
 pub returns-in_err-replay-clause-kept : goal.returns-in_err-replay-clause-kept
 returns-in_err-replay-clause-kept g c =
     let bounds = c.args.bounds.now in
-    let first : List lines.History = map g.L.Lines.history c.args.parts.now in
-    let then : List lines.History = map g.L.Lines.history c.replay.new.parts in
-    let old : List History = map g.B.Backing.history c.args.stores.now in
-    let new : List History = map g.B.Backing.history c.replay.new.stores in
+    let first : List lines.PartHistory = map g.L.Lines.history c.args.parts.now in
+    let then : List lines.PartHistory = map g.L.Lines.history c.replay.new.parts in
+    let old : List StoreHistory = map g.B.Backing.history c.args.stores.now in
+    let new : List StoreHistory = map g.B.Backing.history c.replay.new.stores in
     let read = only_read_more c.read_log.ensures.read c.replay.ensures.read in
     record {
       moments =
@@ -93,21 +93,21 @@ empty_log-requires-clause-parts g c =
 
 pub empty_log-requires-clause-header : goal.empty_log-requires-clause-header
 empty_log-requires-clause-header g c =
-    let Says : List lines.History → Type 0 = λ row. RowTells row (λ told. SaysBounds c.args.bounds.now (row_words told)) in
+    let Says : List lines.PartHistory → Type 0 = λ row. RowTells row (λ told. SaysBounds c.args.bounds.now (row_words told)) in
     subst Says (sym (c.replay.ensures.read.histories ∙ c.read_log.ensures.read.histories)) c.requires.header
 
 pub empty_log-requires-clause-none : goal.empty_log-requires-clause-none
 empty_log-requires-clause-none g c =
-    let None : List lines.History → Type 0 = λ row. RowTells row (λ told. CommitsNoneFrom c.in_ok-groups.found.next (row_words told)) in
+    let None : List lines.PartHistory → Type 0 = λ row. RowTells row (λ told. CommitsNoneFrom c.in_ok-groups.found.next (row_words told)) in
     subst None (sym (c.replay.ensures.read.histories ∙ c.read_log.ensures.read.histories)) c.in_ok-groups.ensures.none
 
 pub returns-in_err-empty_log-clause-kept : goal.returns-in_err-empty_log-clause-kept
 returns-in_err-empty_log-clause-kept g c =
     let bounds = c.args.bounds.now in
-    let first : List lines.History = map g.L.Lines.history c.args.parts.now in
-    let last : List lines.History = map g.L.Lines.history c.empty_log.new.parts in
-    let old : List History = map g.B.Backing.history c.args.stores.now in
-    let new : List History = map g.B.Backing.history c.replay.new.stores in
+    let first : List lines.PartHistory = map g.L.Lines.history c.args.parts.now in
+    let last : List lines.PartHistory = map g.L.Lines.history c.empty_log.new.parts in
+    let old : List StoreHistory = map g.B.Backing.history c.args.stores.now in
+    let new : List StoreHistory = map g.B.Backing.history c.replay.new.stores in
     let read = only_read_more c.read_log.ensures.read c.replay.ensures.read in
     record {
       moments =
@@ -124,10 +124,10 @@ returns-in_err-empty_log-clause-kept g c =
 pub returns-clause-kept : goal.returns-clause-kept
 returns-clause-kept g c =
     let bounds = c.args.bounds.now in
-    let first : List lines.History = map g.L.Lines.history c.args.parts.now in
-    let last : List lines.History = map g.L.Lines.history c.empty_log.new.parts in
-    let old : List History = map g.B.Backing.history c.args.stores.now in
-    let new : List History = map g.B.Backing.history c.replay.new.stores in
+    let first : List lines.PartHistory = map g.L.Lines.history c.args.parts.now in
+    let last : List lines.PartHistory = map g.L.Lines.history c.empty_log.new.parts in
+    let old : List StoreHistory = map g.B.Backing.history c.args.stores.now in
+    let new : List StoreHistory = map g.B.Backing.history c.replay.new.stores in
     let read = only_read_more c.read_log.ensures.read c.replay.ensures.read in
     record {
       moments =

@@ -24,14 +24,14 @@ replay-requires-clause-lines g c =
 
 pub replay-requires-clause-header : goal.replay-requires-clause-header
 replay-requires-clause-header g c =
-    let Says : List lines.History → Type 0 = λ row. RowTells row (λ told. SaysBounds c.args.bounds.now (row_words told)) in
+    let Says : List lines.PartHistory → Type 0 = λ row. RowTells row (λ told. SaysBounds c.args.bounds.now (row_words told)) in
     subst Says (sym c.read_log.ensures.read.histories) c.requires.header
 
 pub returns-in_err-replay-clause-bad : goal.returns-in_err-replay-clause-bad
 returns-in_err-replay-clause-bad g c number is =
     let p = err_from_is_err_and c.from_residual-in_err-replay.result c.from_residual-in_err-replay.ensures.1 in
     let same : c.in_err-replay.field-0.0 ≡ BadEntry number = cc (p.1, p.2, is) in
-    let Never : List lines.History → Type 0 = λ row. RowTells row (λ parts. ⊥) in
+    let Never : List lines.PartHistory → Type 0 = λ row. RowTells row (λ parts. ⊥) in
     row_tells_more (map g.L.Lines.history c.args.parts.now) (λ parts. ⊥) (λ parts. IsLeastBad version_1 (row_words parts) number) (λ parts never. absurd never)
     (subst Never c.read_log.ensures.read.histories (c.replay.ensures.bad number (c.in_err-replay.was ∙ ap Err same)))
 

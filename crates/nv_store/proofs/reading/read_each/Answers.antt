@@ -2,7 +2,7 @@
 use Rattle.std.proofs.Common.{◌≡◌, ◌<◌, List, [], ◌∷◌, ◌++◌, length, map, take, slice_index_or, get_or, Vec, ℕ, sym, ap, ◌∙◌, subst, arith}
 use Rattle.std.proofs.lemmas.List.{length-map, get_or-map, map-append, take_more, take_all}
 use Rattle.nv_pmem.specs.RowStates.{IsNow, tells_at}
-use Rattle.nv_store.specs.Steps.{History}
+use Rattle.nv_store.specs.Steps.{StoreHistory}
 use Rattle.nv_store.specs.Store.{Store, quiet_store}
 use Rattle.nv_store.proofs.RowReads.{same_in_row, same_sum_in_row, now_at, length_now}
 use Rattle.nv_store.proofs.reading.read_each.Goals as goal
@@ -13,7 +13,7 @@ loop-store-preserved g c =
     let i = c.loop-store.store-index in
     let item = c.store-item.result in
     let inside : i < length stores = omega arith in
-    let row : List History = map g.B.Backing.history c.args.stores.now in
+    let row : List StoreHistory = map g.B.Backing.history c.args.stores.now in
     record {
       histories =
           same_in_row g.B.Backing.history stores i item c.read_all.new.store item c.store-item.is (c.read_all.ensures.history ∙ ap g.B.Backing.history (sym c.store-item.is))
@@ -29,9 +29,9 @@ loop-store-preserved g c =
           let none = quiet_store [] in
           let long : i < length row = omega (arith, length-map c.args.stores.now g.B.Backing.history) in
           let there : i < length now = omega (arith, length_now row now are) in
-          let Is : History → Type 0 = λ history. IsNow history (slice_index_or now i none) in
+          let Is : StoreHistory → Type 0 = λ history. IsNow history (slice_index_or now i none) in
           let here : slice_index_or row i [] ≡ g.B.Backing.history (get_or stores i item) =
-          ap (λ (these : List History). slice_index_or these i []) (sym c.loop-store.invariant.histories) ∙ get_or-map g.B.Backing.history stores i item [] inside in
+          ap (λ (these : List StoreHistory). slice_index_or these i []) (sym c.loop-store.invariant.histories) ∙ get_or-map g.B.Backing.history stores i item [] inside in
           let read : List ℕ = c.in_ok-read_all.field-0.items in
           let shown : read ≡ (slice_index_or now i none).seen = tells_at (g.B.Backing.history (get_or stores i item)) (λ store. read ≡ store.seen) (slice_index_or now i none)
           (subst Is here (now_at row now i none are long)) c.in_ok-read_all.ensures.bytes in
@@ -71,7 +71,7 @@ returns-in_err-push-clause-devices g c =
 pub returns-clause-bytes : goal.returns-clause-bytes
 returns-clause-bytes g c = λ now are.
     let seen = map (λ (store : Store). store.seen) now in
-    let row : List History = map g.B.Backing.history c.args.stores.now in
+    let row : List StoreHistory = map g.B.Backing.history c.args.stores.now in
     c.loop-store.invariant.bytes now are
     ∙ take_all c.loop-store.store-index seen
     (omega (arith, length-map now (λ (store : Store). store.seen), length_now row now are, length-map c.args.stores.now g.B.Backing.history))

@@ -1,14 +1,14 @@
 use Rattle.std.proofs.Common.{◌≡◌, ◌+◌, ◌++◌, List, length, take, drop, refl, sym, ap, ap₂, subst, ◌∙◌, arith, take-append-drop, length-append}
 use Rattle.std.proofs.lemmas.List.{length-map, length-drop}
-use Rattle.nv_core.specs.Opening.{IsMount}
+use Rattle.nv_core.specs.steps.Opening.{IsMount}
 use Rattle.nv_table.specs.declared.slot.Slot.{Slot}
-use Rattle.nv_table.specs.Kept.{part_value, store_value, slot_value}
-use Rattle.nv_table.specs.Keys.{opened_of, sizes_of}
-use Rattle.nv_table.specs.Opened.{mount_of}
-use Rattle.nv_table.specs.OpeningSlots.{parts_in, stores_in}
-use Rattle.nv_table.specs.OpeningWords.{AreOpeningWords}
-use Rattle.nv_table.proofs.BeginLaws.{begins, first_pass}
-use Rattle.nv_table.proofs.UnfillLaws.{parts_came, stores_came}
+use Rattle.nv_table.specs.state.SlotValues.{part_value, store_value, slot_value}
+use Rattle.nv_table.specs.state.Keys.{opened_of, sizes_of}
+use Rattle.nv_table.specs.state.Opened.{mount_of}
+use Rattle.nv_table.specs.ends.OpeningSlots.{parts_in, stores_in}
+use Rattle.nv_table.specs.ends.OpeningWords.{AreOpeningWords}
+use Rattle.nv_table.proofs.ends.BeginLaws.{begins, first_pass}
+use Rattle.nv_table.proofs.ends.UnfillLaws.{parts_came, stores_came}
 use Rattle.nv_table.proofs.board.board_of.Goals as goal
 use Rattle.nv_table.proofs.board.board_of.Goals.{After-deref}
 

@@ -3,7 +3,7 @@ use Rattle.std.specs.Mem.Slots.{slots_items, slots_filled, slots_counts}
 use mathlib.Core.Option.{some}
 use lib.ListN.{get_elem?}
 use Rattle.nv_table.specs.declared.slot.Slot.{Slot}
-use Rattle.nv_table.proofs.UnfillLaws.{slot_fits, slot_unfilled}
+use Rattle.nv_table.proofs.ends.UnfillLaws.{slot_fits, slot_unfilled}
 use Rattle.nv_table.proofs.closing.empty_slots.Goals as goal
 
 pub take_apart-requires-clause-part_place : goal.take_apart-requires-clause-part_place

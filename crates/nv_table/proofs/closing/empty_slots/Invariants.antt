@@ -1,7 +1,7 @@
 use Rattle.std.proofs.Common.{◌≡◌, ◌<◌, ℕ, false, take, drop, get_or, vec_capacity}
 use Rattle.std.specs.Mem.Slots.{slots_items, slots_filled, slots_len}
 use Rattle.std.specs.Mem.Slots.Ownership.{Filled}
-use Rattle.nv_table.proofs.UnfillLaws.{HasUnfilled}
+use Rattle.nv_table.proofs.ends.UnfillLaws.{HasUnfilled}
 use Rattle.nv_table.proofs.closing.empty_slots.Given as goal
 
 abbrev pub invariant-loop-slot : goal.invariant-loop-slot

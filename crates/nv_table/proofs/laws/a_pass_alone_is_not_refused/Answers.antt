@@ -1,4 +1,4 @@
-use Rattle.nv_table.proofs.AloneLaws.{nothing_comes_between, stays_alone, no_lock_is_held, loads_tell_head, head_stays_known, no_draw_is_lost}
+use Rattle.nv_table.proofs.passes.AloneLaws.{nothing_comes_between, stays_alone, no_lock_is_held, loads_tell_head, head_stays_known, no_draw_is_lost}
 use Rattle.nv_table.proofs.laws.a_pass_alone_is_not_refused.Goals as goal
 
 pub returns-clause-next : goal.returns-clause-next

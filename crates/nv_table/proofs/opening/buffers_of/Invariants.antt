@@ -1,5 +1,5 @@
-use Rattle.nv_table.specs.Keys.{sizes_of}
-use Rattle.nv_table.proofs.BufferLaws.{AreSome}
+use Rattle.nv_table.specs.state.Keys.{sizes_of}
+use Rattle.nv_table.proofs.state.BufferLaws.{AreSome}
 use Rattle.nv_table.proofs.opening.buffers_of.Given as goal
 
 abbrev pub invariant-loop-page : goal.invariant-loop-page

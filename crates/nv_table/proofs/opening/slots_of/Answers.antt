@@ -1,7 +1,7 @@
 use Rattle.std.proofs.Common.{[], ◌+◌, ◌++◌, length, map, take, drop, reverse, ap, ◌∙◌, arith}
 use Rattle.std.proofs.lemmas.List.{reverse-reverse, length-reverse}
 use Rattle.nv_table.specs.declared.slot.Slot.TheVariants.{Part, Store, Page}
-use Rattle.nv_table.proofs.MoveLaws.{none_yet, one_more}
+use Rattle.nv_table.proofs.state.MoveLaws.{none_yet, one_more}
 use Rattle.nv_table.proofs.opening.slots_of.Goals as goal
 
 pub loop-part-preserved : goal.loop-part-preserved

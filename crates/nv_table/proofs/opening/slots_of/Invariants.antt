@@ -1,8 +1,8 @@
 use Rattle.std.proofs.Common.{◌≡◌, [], ◌++◌, ◌+◌, ◌≤◌, map, take, reverse, vec_len, vec_capacity}
 use Rattle.nv_table.specs.declared.slot.Slot.TheVariants.{Part, Store, Page}
-use Rattle.nv_table.specs.Keys.{sizes_of}
-use Rattle.nv_table.specs.Layout.{slot_total}
-use Rattle.nv_table.proofs.MoveLaws.{HasMoved}
+use Rattle.nv_table.specs.state.Keys.{sizes_of}
+use Rattle.nv_table.specs.state.Layout.{slot_total}
+use Rattle.nv_table.proofs.state.MoveLaws.{HasMoved}
 use Rattle.nv_table.proofs.opening.slots_of.Given as goal
 
 abbrev pub invariant-loop-part : goal.invariant-loop-part

@@ -1,8 +1,8 @@
 use Rattle.std.proofs.Common.{◌≡◌, List, length, ap, arith}
 use Rattle.std.specs.Vec.Iter.{into_iter_items}
 use Rattle.nv_table.specs.declared.slot.Slot.{Slot}
-use Rattle.nv_table.specs.OpeningSlots.{parts_in, stores_in}
-use Rattle.nv_table.proofs.UnfillLaws.{one_unfilled, part_fits, store_fits}
+use Rattle.nv_table.specs.ends.OpeningSlots.{parts_in, stores_in}
+use Rattle.nv_table.proofs.ends.UnfillLaws.{one_unfilled, part_fits, store_fits}
 use Rattle.nv_table.proofs.opening.unfill.Goals as goal
 
 pub take_apart-requires-clause-part_place : goal.take_apart-requires-clause-part_place

@@ -1,6 +1,6 @@
 use Rattle.std.proofs.Common.{◌≡◌, length, vec_capacity}
 use Rattle.std.specs.Vec.Iter.{into_iter_items, into_iter_len}
-use Rattle.nv_table.proofs.UnfillLaws.{HasUnfilled}
+use Rattle.nv_table.proofs.ends.UnfillLaws.{HasUnfilled}
 use Rattle.nv_table.proofs.opening.unfill.Given as goal
 
 abbrev pub invariant-loop-slot : goal.invariant-loop-slot

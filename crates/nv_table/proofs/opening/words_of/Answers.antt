@@ -1,7 +1,7 @@
 use Rattle.std.proofs.Common.{◌+◌, refl, subst, arith}
-use Rattle.nv_core.specs.Words.{first_page_word}
-use Rattle.nv_table.specs.Keys.{sizes_of}
-use Rattle.nv_table.proofs.OpeningWordLaws.{AreFirst, file_first, entry_first, hint_first, page_first, all_first}
+use Rattle.nv_core.specs.state.Words.{first_page_word}
+use Rattle.nv_table.specs.state.Keys.{sizes_of}
+use Rattle.nv_table.proofs.ends.OpeningWordLaws.{AreFirst, file_first, entry_first, hint_first, page_first, all_first}
 use Rattle.nv_table.proofs.opening.words_of.Goals as goal
 
 pub loop-length-preserved : goal.loop-length-preserved

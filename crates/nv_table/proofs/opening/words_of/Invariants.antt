@@ -1,7 +1,7 @@
 use Rattle.std.proofs.Common.{◌+◌, ◌*◌}
-use Rattle.nv_core.specs.Words.{first_page_word}
-use Rattle.nv_table.specs.Keys.{sizes_of}
-use Rattle.nv_table.proofs.OpeningWordLaws.{AreFirst}
+use Rattle.nv_core.specs.state.Words.{first_page_word}
+use Rattle.nv_table.specs.state.Keys.{sizes_of}
+use Rattle.nv_table.proofs.ends.OpeningWordLaws.{AreFirst}
 use Rattle.nv_table.proofs.opening.words_of.Given as goal
 
 abbrev pub invariant-loop-length : goal.invariant-loop-length

@@ -1,6 +1,6 @@
 use Rattle.std.proofs.Common.{ap, ◌∙◌, arith}
 use Rattle.atomic_table.specs.Table.{turned}
-use Rattle.nv_table.proofs.TurnLaws.{turned_more}
+use Rattle.nv_table.proofs.steps.TurnLaws.{turned_more}
 use Rattle.nv_table.proofs.pass.turn.Goals as goal
 
 pub loop-preserved : goal.loop-preserved

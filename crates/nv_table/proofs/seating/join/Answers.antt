@@ -1,5 +1,5 @@
-use Rattle.nv_table.specs.Keys.{opened_of}
-use Rattle.nv_table.proofs.SeatLaws.{joins_allow}
+use Rattle.nv_table.specs.state.Keys.{opened_of}
+use Rattle.nv_table.proofs.passes.SeatLaws.{joins_allow}
 use Rattle.nv_table.proofs.seating.join.Goals as goal
 
 pub load-requires : goal.load-requires

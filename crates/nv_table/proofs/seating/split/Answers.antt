@@ -1,5 +1,5 @@
-use Rattle.nv_table.specs.Keys.{opened_of}
-use Rattle.nv_table.proofs.SeatLaws.{splits_allow}
+use Rattle.nv_table.specs.state.Keys.{opened_of}
+use Rattle.nv_table.proofs.passes.SeatLaws.{splits_allow}
 use Rattle.nv_table.proofs.seating.split.Goals as goal
 
 pub load-requires : goal.load-requires

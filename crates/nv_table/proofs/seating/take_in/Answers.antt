@@ -1,5 +1,5 @@
-use Rattle.nv_table.specs.Keys.{opened_of}
-use Rattle.nv_table.proofs.PartLaws.{takes_in}
+use Rattle.nv_table.specs.state.Keys.{opened_of}
+use Rattle.nv_table.proofs.invariant.PartLaws.{takes_in}
 use Rattle.nv_table.proofs.seating.take_in.Goals as goal
 
 pub join_seat-requires : goal.join_seat-requires

@@ -1,5 +1,5 @@
-use Rattle.nv_table.specs.Keys.{opened_of}
-use Rattle.nv_table.proofs.PartLaws.{notes}
+use Rattle.nv_table.specs.state.Keys.{opened_of}
+use Rattle.nv_table.proofs.invariant.PartLaws.{notes}
 use Rattle.nv_table.proofs.seating.tell.Goals as goal
 
 pub split_seat-requires : goal.split_seat-requires

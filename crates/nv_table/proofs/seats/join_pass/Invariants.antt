@@ -1,5 +1,5 @@
 use Rattle.std.proofs.Common.{drop}
-use Rattle.nv_table.proofs.BetweenLaws.{last_taken}
+use Rattle.nv_table.proofs.passes.BetweenLaws.{last_taken}
 use Rattle.nv_table.proofs.seats.join_pass.Given as goal
 
 abbrev pub ghosts-join : goal.ghosts-join

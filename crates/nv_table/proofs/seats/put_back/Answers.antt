@@ -1,5 +1,5 @@
 use Rattle.std.proofs.Common.{◌∙◌, ◌++◌, ◌∷◌, [], sym}
-use Rattle.nv_table.proofs.BetweenLaws.{puts_more}
+use Rattle.nv_table.proofs.passes.BetweenLaws.{puts_more}
 use Rattle.nv_table.proofs.seats.put_back.Goals as goal
 
 pub loop-pass-preserved : goal.loop-pass-preserved
@@ -11,5 +11,5 @@ loop-pass-preserved g c =
       opened = after.board.same_mount ∙ sym c.requires.board.same_mount;
       still = after.still;
       spare = after.spare ∙ before.spare;
-      back = (before.back.0 ++ after.back.0 ∷ [], puts_more before.back.0 after.back.0 c.args.pass.now.sight c.loop-pass.pass.sight c.put_back_first.new.pass.sight before.back.1 after.back.1);
+      back = (before.back.0 ++ after.back.0 ∷ [], puts_more before.back.0 after.back.0 c.args.pass.now.view c.loop-pass.pass.view c.put_back_first.new.pass.view before.back.1 after.back.1);
     }

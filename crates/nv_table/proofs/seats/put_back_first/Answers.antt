@@ -1,15 +1,15 @@
 use Rattle.std.proofs.Common.{◌∙◌, ◌+◌, length, refl, sym, ap, subst}
 use Rattle.std.proofs.lemmas.List.{length-map}
 use Rattle.std.specs.Vec.{vec_capacity}
-use Rattle.nv_core.specs.Deeds.{Leaves}
-use Rattle.nv_table.specs.Kept.{part_value, store_value, slot_value}
-use Rattle.nv_table.specs.Layout.{cell_of}
-use Rattle.nv_table.specs.Seats.{Passed}
-use Rattle.nv_table.specs.Sights.{Sight}
-use Rattle.nv_table.specs.States.{PassState}
-use Rattle.nv_table.proofs.BetweenLaws.{may_leave, still_held, some_held, popped, left_fewer, left_still, left_pass}
-use Rattle.nv_table.proofs.PassLaws.{same_places, same_inherited}
-use Rattle.nv_table.proofs.TurnLaws.{first_slot}
+use Rattle.nv_core.specs.steps.Ops.{PutBack}
+use Rattle.nv_table.specs.state.SlotValues.{part_value, store_value, slot_value}
+use Rattle.nv_table.specs.state.Layout.{cell_of}
+use Rattle.nv_table.specs.passes.Seats.{PassingTells}
+use Rattle.nv_table.specs.state.Views.{PassView}
+use Rattle.nv_table.specs.state.States.{PassState}
+use Rattle.nv_table.proofs.passes.BetweenLaws.{may_leave, still_held, some_held, popped, left_fewer, left_still, left_pass}
+use Rattle.nv_table.proofs.invariant.PassLaws.{same_places, same_inherited}
+use Rattle.nv_table.proofs.steps.TurnLaws.{first_slot}
 use Rattle.nv_table.proofs.seats.put_back_first.Goals as goal
 
 pub leave-requires-clause-may : goal.leave-requires-clause-may
@@ -31,8 +31,8 @@ invariant_of-pass g c =
           (popped i.held.items c.rotate_left.new.self.items c.pop.new.self.items (Rattle.std.specs.Vec.vec_len c.rotate_left.new.self)
           c.rotate_left.ensures.items c.rotate_left.new.self.ok.0 c.pop.ensures.rest)
           (c.pop.ensures.capacity ∙ c.rotate_left.ensures.capacity),
-      same_places (ap (λ (s : Sight). s.opened) c.leave.ensures.left.passed.is) c.pass.invariant.1,
-      same_inherited i.seat.me.0 c.leave.new.seat.me.0 (ap (λ (s : Sight). s.opened) c.leave.ensures.left.passed.is) (ap (λ (s : Sight). s.ended) c.leave.ensures.left.passed.is) c.pass.invariant.2,
+      same_places (ap (λ (s : PassView). s.opened) c.leave.ensures.left.passed.is) c.pass.invariant.1,
+      same_inherited i.seat.me.0 c.leave.new.seat.me.0 (ap (λ (s : PassView). s.opened) c.leave.ensures.left.passed.is) (ap (λ (s : PassView). s.ended) c.leave.ensures.left.passed.is) c.pass.invariant.2,
     )
 
 pub returns-clause-still : goal.returns-clause-still
@@ -56,5 +56,5 @@ pub returns-clause-back : goal.returns-clause-back
 returns-clause-back g c =
     let cell = cell_of c.pass.inside.seat.me.0.opened.sizes (first_slot c.pass.inside.seat.me.1) in (
       (cell, c.leave.result),
-      (c.leave.new.seat.me.0, subst (λ (sight : Sight). Passed sight (Leaves cell) c.leave.result c.leave.new.seat.me.0) (ap (λ (p : PassState). p.sight) c.pass.view_is) c.leave.ensures.left.passed, refl),
+      (c.leave.new.seat.me.0, subst (λ (view : PassView). PassingTells view (PutBack cell) c.leave.result c.leave.new.seat.me.0) (ap (λ (p : PassState). p.view) c.pass.view_is) c.leave.ensures.left.passed, refl),
     )

@@ -1,5 +1,5 @@
-use Rattle.nv_table.specs.Layout.{cell_of}
-use Rattle.nv_table.proofs.TurnLaws.{first_slot}
+use Rattle.nv_table.specs.state.Layout.{cell_of}
+use Rattle.nv_table.proofs.steps.TurnLaws.{first_slot}
 use Rattle.nv_table.proofs.seats.put_back_first.Given as goal
 
 abbrev pub ghosts-leave : goal.ghosts-leave

@@ -1,18 +1,18 @@
 use Rattle.std.proofs.Common.{rules, ◌≡◌, ◌<◌, ◌∙◌, ◌+◌, ◌^◌, refl, sym, ap, subst, arith}
-use Rattle.nv_table.specs.Layout.{slot_total}
-use Rattle.nv_table.specs.Opened.{Opened}
-use Rattle.nv_core.specs.Deeds.{Splits}
-use Rattle.nv_table.specs.Seats.{Passed}
-use Rattle.nv_table.specs.Sights.{Sight, made_of}
-use Rattle.nv_table.specs.States.{BoardState, PassState}
-use Rattle.nv_table.proofs.BetweenLaws.{made_fresh, parent_pass, child_pass}
-use Rattle.nv_table.proofs.PassLaws.{same_places, same_inherited}
+use Rattle.nv_table.specs.state.Layout.{slot_total}
+use Rattle.nv_table.specs.state.Opened.{Opened}
+use Rattle.nv_core.specs.steps.Ops.{Split}
+use Rattle.nv_table.specs.passes.Seats.{PassingTells}
+use Rattle.nv_table.specs.state.Views.{PassView, made_of}
+use Rattle.nv_table.specs.state.States.{BoardState, PassState}
+use Rattle.nv_table.proofs.passes.BetweenLaws.{made_fresh, parent_pass, child_pass}
+use Rattle.nv_table.proofs.invariant.PassLaws.{same_places, same_inherited}
 use Rattle.nv_table.proofs.seats.split_pass.Goals as goal
 
 pub invariant_of-result : goal.invariant_of-result
 invariant_of-result g c =
-    let zero = ap (λ (p : PassState). p.sight.number) c.pass.view_is ∙ c.requires.zero in
-    let sizes = ap (λ (p : PassState). p.sight.opened.sizes) c.pass.view_is ∙ ap (λ (o : Opened). o.sizes) c.requires.board.same_mount
+    let zero = ap (λ (p : PassState). p.view.number) c.pass.view_is ∙ c.requires.zero in
+    let sizes = ap (λ (p : PassState). p.view.opened.sizes) c.pass.view_is ∙ ap (λ (o : Opened). o.sizes) c.requires.board.same_mount
     ∙ sym (ap (λ (b : BoardState). b.opened.sizes) c.board.view_is) ∙ sym c.board.invariant.0 in
     let total = ap slot_total sizes ∙ sym c.board.invariant.2 ∙ sym c.slot_count.ensures in
     rw (c.part-seat.ensures.child, c.reserve.ensures.items, c.new-held.ensures.items) (
@@ -30,24 +30,24 @@ invariant_of-result g c =
 
 pub invariant_of-pass : goal.invariant_of-pass
 invariant_of-pass g c =
-    let zero = ap (λ (p : PassState). p.sight.number) c.pass.view_is ∙ c.requires.zero in
-    let made : made_of c.pass.inside.seat.me.0 + 1 < 2 ^ 32 = subst (λ (p : PassState). made_of p.sight + 1 < 2 ^ 32) (sym c.pass.view_is) c.requires.few in
+    let zero = ap (λ (p : PassState). p.view.number) c.pass.view_is ∙ c.requires.zero in
+    let made : made_of c.pass.inside.seat.me.0 + 1 < 2 ^ 32 = subst (λ (p : PassState). made_of p.view + 1 < 2 ^ 32) (sym c.pass.view_is) c.requires.few in
     let made_is : made_of c.pass.inside.seat.me.0 ≡ c.pass.inside.made = (c.pass.invariant.0.keeper zero).made_is in
     rw (c.part-seat.ensures.parent, c.split.ensures.slots) (
       parent_pass c.pass.inside.seat.me.0 c.split.new.seat.me.0 c.split.result c.split.ensures.passed c.pass.inside.seat.me.1 c.pass.inside.number c.pass.inside.made c.pass.inside.joined
           c.pass.inside.held.items (Rattle.std.specs.Vec.vec_capacity c.pass.inside.held) c.pass.invariant.0 zero (omega (arith, made, made_is)),
-      same_places (ap (λ (s : Sight). s.opened) c.split.ensures.passed.is) c.pass.invariant.1,
-      same_inherited c.pass.inside.seat.me.0 c.split.new.seat.me.0 (ap (λ (s : Sight). s.opened) c.split.ensures.passed.is) (ap (λ (s : Sight). s.ended) c.split.ensures.passed.is) c.pass.invariant.2,
+      same_places (ap (λ (s : PassView). s.opened) c.split.ensures.passed.is) c.pass.invariant.1,
+      same_inherited c.pass.inside.seat.me.0 c.split.new.seat.me.0 (ap (λ (s : PassView). s.opened) c.split.ensures.passed.is) (ap (λ (s : PassView). s.ended) c.split.ensures.passed.is) c.pass.invariant.2,
     )
 
 pub returns-clause-made : goal.returns-clause-made
 returns-clause-made g c =
-    let made = subst (λ (p : PassState). Passed p.sight Splits c.split.result c.split.new.seat.me.0) c.pass.view_is c.split.ensures.passed in
+    let made = subst (λ (p : PassState). PassingTells p.view Split c.split.result c.split.new.seat.me.0) c.pass.view_is c.split.ensures.passed in
     record {
       found = c.split.result;
       middle = c.split.new.seat.me.0;
       made = made;
-      fresh = made_fresh c.args.pass.now.sight c.split.new.seat.me.0 c.split.result made;
+      fresh = made_fresh c.args.pass.now.view c.split.new.seat.me.0 c.split.result made;
       parent_is = search rules;
       child_is = search rules;
     }

@@ -1,5 +1,5 @@
 -- The call has its place where ORDER was found.
-use Rattle.nv_table.proofs.TurnDeeds.{placed}
+use Rattle.nv_table.proofs.steps.CallOps.{placed}
 use Rattle.nv_table.proofs.turns.place.Goals as goal
 
 pub returns-clause-placed : goal.returns-clause-placed

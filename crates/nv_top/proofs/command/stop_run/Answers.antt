@@ -12,7 +12,7 @@ use Rattle.nv_open.specs.Adding.{all_names}
 use Rattle.nv_open.specs.Lending.{without_stores}
 use Rattle.nv_recover.specs.Standing.{files_of}
 use Rattle.nv_top.specs.Commands.{IsBasis, IsNotRun}
-use Rattle.nv_trace.specs.Said.{place_of}
+use Rattle.nv_trace.specs.Said.{said_place}
 use Rattle.nv_top.specs.Headline.{HasStopped}
 use Rattle.nv_top.specs.LogRuns.{basis_over, lines_in}
 use Rattle.nv_top.specs.Stopping.{HasStoppedOn, IsAway}
@@ -52,7 +52,7 @@ run_to_stop-requires-clause-synced g c κs within = quiet_row g.T.Store.Backing.
 pub run_to_stop-requires-clause-known : goal.run_to_stop-requires-clause-known
 run_to_stop-requires-clause-known g c κs within =
     let known = c.in_ok-opened.ensures.known in
-    let Known : List (List ℕ) → Type 0 = λ names. All (λ name. place_of name names < length names) c.args.trace.now.names in
+    let Known : List (List ℕ) → Type 0 = λ names. All (λ name. said_place name names < length names) c.args.trace.now.names in
     let wanted = c.in_ok-wanted.ensures ∙ c.names.ensures in
     subst Known (sym (known.1 ∙ ap (all_names known.0) wanted)) (wanted_known known.0 c.args.trace.now.names)
 

@@ -1,6 +1,6 @@
 use Rattle.std.proofs.Common.{ℕ, List, [], ap, get_or, ◌∙◌}
 use Rattle.std.proofs.lemmas.List.{get_or_default}
-use Rattle.nv_trace.specs.Said.{place_of}
+use Rattle.nv_trace.specs.Said.{said_place}
 use Rattle.nv_trace.specs.declared.trace.Descriptor.{Descriptor}
 use Rattle.nv_top.proofs.names.placed_in.Goals as goal
 
@@ -10,4 +10,4 @@ returns c =
     let file = c.args.descriptor.now.file in
     let name = c.index-names-descriptor.result in
     let here = c.index-names-descriptor.is ∙ ap (λ (names : List (List ℕ)). get_or names file name) c.names.ensures ∙ get_or_default c.args.trace.now.names file name [] c.requires in
-    ap Placed (c.place_of.ensures ∙ ap (λ (name : List ℕ). place_of name c.args.names.now) (c.as_slice.ensures ∙ here))
+    ap Placed (c.place_of.ensures ∙ ap (λ (name : List ℕ). said_place name c.args.names.now) (c.as_slice.ensures ∙ here))

@@ -10,7 +10,7 @@ use Rattle.nv_store.specs.Store.{Store}
 use Rattle.nv_header.specs.Regions.{IsAtRest}
 use Rattle.nv_recover.specs.Standing.{files_of}
 use Rattle.nv_engine.specs.Holding.{Holds}
-use Rattle.nv_engine.specs.Laid.{Piece, laid}
+use Rattle.nv_engine.specs.Laid.{LaidPiece, laid}
 use Rattle.nv_top.specs.Leaving.{AreLeft}
 use Rattle.nv_top.specs.Outcomes.{report_of}
 use Rattle.nv_top.specs.Reports.{report_text}
@@ -30,7 +30,7 @@ returns-in-Ok-clause-shown g c =
     let names = c.args.log.names in
     IfOk-weaker c.show-report.result
     (λ text. (now : List Store) → AreNow (map held backing) now → text.items ≡ report_text (report_of outcome [] c.names.result.now (files_of now).contents))
-    (λ text. (pieces : List Piece) (files : Files) → Holds history held c.args.log pieces files
+    (λ text. (pieces : List LaidPiece) (files : Files) → Holds history held c.args.log pieces files
     → (text.items ≡ report_text (report_of outcome [] names (laid files pieces).contents))
     × AreLeft history held names (laid files pieces) c.into_parts.result.items c.show-report.new.stores.items)
     (λ text told pieces files holds.
@@ -42,7 +42,7 @@ returns-in-Ok-clause-shown g c =
     c.recoveries_give_the_same_files.ensures.tell c.in-Ok.ensures.kept.moments holds
     (subst RestOf (sym same_parts) (subst Rest c.in-Ok.ensures.names c.into_parts.ensures.region.tells))
     (c.in-Ok.ensures.files pieces files holds) (c.in-Ok.ensures.synced pieces files holds) c.show-report.ensures.histories in
-    let At : List stores.History → Type 0 = λ row. AreNow row left.disks in (
+    let At : List stores.StoreHistory → Type 0 = λ row. AreNow row left.disks in (
       told left.disks (subst At c.show-report.ensures.histories left.disks_are)
           ∙ ap (λ (names : List (List ℕ)). report_text (report_of outcome [] names (files_of left.disks).contents)) (c.names.ensures ∙ c.in-Ok.ensures.names)
           ∙ ap (λ (files : Files). report_text (report_of outcome [] names files.contents)) left.files_are,

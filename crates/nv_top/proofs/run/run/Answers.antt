@@ -10,7 +10,7 @@ use Rattle.nv_top.specs.Commands.{HasRunOn, IsBasis}
 use Rattle.nv_top.specs.LogRuns.{HasRunOver, basis_over, lines_in}
 use Rattle.nv_top.proofs.CommandLemmas.{if_told, leaves, told_at}
 use Rattle.nv_open.specs.Adding.{all_names}
-use Rattle.nv_trace.specs.Said.{place_of}
+use Rattle.nv_trace.specs.Said.{said_place}
 use Rattle.nv_top.proofs.NameLemmas.{wanted_known}
 use Rattle.nv_top.proofs.RowLemmas.{present, quiet_row}
 use Rattle.std.proofs.Common.{Err}
@@ -27,8 +27,8 @@ run_over-ended-requires-clause-quiet g c = quiet_row g.T.Store.Backing.history c
 pub run_over-ended-requires-clause-known : goal.run_over-ended-requires-clause-known
 run_over-ended-requires-clause-known g c =
     let known = c.in_ok-region.ensures.known in
-    let Known : List (List ℕ) → Type 0 = λ names. All (λ name. place_of name names < length names) c.args.trace.now.names in
-    let In : List (List ℕ) → Type 0 = λ wanted. All (λ name. place_of name (all_names known.0 wanted) < length (all_names known.0 wanted)) wanted in
+    let Known : List (List ℕ) → Type 0 = λ names. All (λ name. said_place name names < length names) c.args.trace.now.names in
+    let In : List (List ℕ) → Type 0 = λ wanted. All (λ name. said_place name (all_names known.0 wanted) < length (all_names known.0 wanted)) wanted in
     let wanted = c.in_ok-wanted.ensures ∙ c.names.ensures in
     subst Known (sym (known.1 ∙ ap (all_names known.0) wanted)) (wanted_known known.0 c.args.trace.now.names)
 

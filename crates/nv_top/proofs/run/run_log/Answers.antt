@@ -3,11 +3,11 @@ use Rattle.std.specs.List.Sorted.{IsStrictlyIncreasing}
 use Rattle.std.proofs.lemmas.Result.{IfOk-weaker}
 use Rattle.nv_plain.specs.Files.{Files}
 use Rattle.nv_engine.specs.Holding.{Holds}
-use Rattle.nv_engine.specs.Laid.{Piece, laid}
+use Rattle.nv_engine.specs.Laid.{LaidPiece, laid}
 use Rattle.nv_trace.specs.declared.trace.TracedCall.{TracedCall}
 use Rattle.nv_top.specs.Faithful.{Basis, descriptors_in}
 use Rattle.nv_top.specs.Leaving.{AreLeft}
-use Rattle.nv_top.specs.LogRuns.{HasRun, HasRunOver, IsFirst, lines_in}
+use Rattle.nv_top.specs.LogRuns.{HasRun, HasRunOver, IsFirstRun, lines_in}
 use Rattle.nv_top.specs.Outcomes.{report_of}
 use Rattle.nv_top.specs.Reports.{report_text}
 use Rattle.nv_top.proofs.LogRunLemmas.{run_over}
@@ -21,9 +21,9 @@ returns-in-Ok-clause-ran g c =
     let log = c.make_calls.new.log in
     let outcome = c.in-Ok.outcome in
     IfOk-weaker c.finish.result.report
-    (λ text. (pieces : List Piece) (files : Files) → Holds history held log pieces files
+    (λ text. (pieces : List LaidPiece) (files : Files) → Holds history held log pieces files
     → (text.items ≡ report_text (report_of outcome [] log.names (laid files pieces).contents)) × AreLeft history held log.names (laid files pieces) c.finish.result.parts.items c.finish.result.stores.items)
-    (λ text. (basis : Basis) → IsFirst history held basis c.args.log → basis.names ≡ c.args.log.names → IsStrictlyIncreasing (lines_in trace)
+    (λ text. (basis : Basis) → IsFirstRun history held basis c.args.log → basis.names ≡ c.args.log.names → IsStrictlyIncreasing (lines_in trace)
     → HasRunOver history held basis trace text.items c.finish.result.parts.items c.finish.result.stores.items)
     (λ text shown basis first named rise.
     let Rising : List TracedCall → Type 0 = λ calls. IsStrictlyIncreasing (map (λ traced. traced.line) calls) in

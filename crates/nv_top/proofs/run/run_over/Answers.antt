@@ -7,7 +7,7 @@ use Rattle.nv_store.specs.Store.{Store}
 use Rattle.nv_recover.specs.Standing.{files_of}
 use Rattle.nv_trace.specs.declared.trace.Descriptor.{Descriptor}
 use Rattle.nv_top.specs.Faithful.{Basis, descriptors_in}
-use Rattle.nv_top.specs.LogRuns.{HasRunOver, IsFirst, basis_over, lines_in}
+use Rattle.nv_top.specs.LogRuns.{HasRunOver, IsFirstRun, basis_over, lines_in}
 use Rattle.nv_top.proofs.LogRunLemmas.{begins}
 use Rattle.nv_top.proofs.NameLemmas.{descriptors_known}
 use Rattle.nv_top.proofs.run.run_over.Goals as goal
@@ -32,7 +32,7 @@ returns-in-Ok-new-clause-ran g c =
     let log = c.in-Ok-new.log in
     let made = c.in-Ok-new.ensures in
     IfOk-weaker c.run_log.result.report
-    (λ text. (basis : Basis) → IsFirst history held basis log → basis.names ≡ log.names → IsStrictlyIncreasing (lines_in trace)
+    (λ text. (basis : Basis) → IsFirstRun history held basis log → basis.names ≡ log.names → IsStrictlyIncreasing (lines_in trace)
     → HasRunOver history held basis trace text.items c.run_log.result.parts.items c.run_log.result.stores.items)
     (λ text. (parts : List Part) (now : List Store) → AreNow (map history region.parts.items) parts → AreNow (map held c.args.stores.items) now → IsStrictlyIncreasing (lines_in trace)
     → HasRunOver history held (basis_over region c.args.pages (files_of now)) trace text.items c.run_log.result.parts.items c.run_log.result.stores.items)

@@ -9,7 +9,7 @@ use Rattle.nv_recover.specs.Standing.{files_of}
 use Rattle.nv_trace.specs.declared.trace.Descriptor.{Descriptor}
 use Rattle.nv_top.specs.Answers.{log_faults}
 use Rattle.nv_top.specs.Faithful.{Basis, descriptors_in}
-use Rattle.nv_top.specs.LogRuns.{IsFirst, basis_over, lines_in}
+use Rattle.nv_top.specs.LogRuns.{IsFirstRun, basis_over, lines_in}
 use Rattle.nv_top.specs.Stopping.{HasStoppedOn, IsAway}
 use Rattle.nv_top.proofs.LogRunLemmas.{begins}
 use Rattle.nv_top.proofs.NameLemmas.{descriptors_known}
@@ -44,7 +44,7 @@ returns-in-Ok-new-clause-ran g c =
     let same_faults : log_faults pf sf log ≡ before =
     ap (λ (parts : List _). sum_by pf parts + sum_by sf log.stores.items) made.parts ∙ ap (λ count. sum_by pf region.parts.items + count) made.cause in
     IfOk-weaker c.stop_log.result
-    (λ text. (basis : Basis) → IsFirst history held basis log → basis.names ≡ log.names → IsStrictlyIncreasing (lines_in trace)
+    (λ text. (basis : Basis) → IsFirstRun history held basis log → basis.names ≡ log.names → IsStrictlyIncreasing (lines_in trace)
     → IfSome start.told (λ left. IsAway log.names left → HasStoppedOn (Rose (saturated (start.faults + log_faults pf sf log)) last) basis trace stopped text.items))
     (λ text. (parts : List Part) (now : List Store) → AreNow (map history region.parts.items) parts → AreNow (map held c.args.opened.stores.items) now → IsStrictlyIncreasing (lines_in trace)
     → IfSome start.told (λ left. IsAway region.names left → HasStoppedOn (Rose (saturated (start.faults + before)) last) (basis_over region c.args.options.pages (files_of now)) trace stopped text.items))

@@ -40,6 +40,6 @@ returns-clause-shown g c =
     (subst Told (sym same_parts) (at_some old.told (λ holding. AllTell (map history region.parts.items)) holding told_is opened.tell))
     c.into_parts.ensures.region.tells
     (λ now disks now_are disks_are.
-    let At : List stores.History → Type 0 = λ row. AreNow row disks in
+    let At : List stores.StoreHistory → Type 0 = λ row. AreNow row disks in
     c.give_back.ensures.told now disks now_are (subst At (sym c.show_fates-report.ensures.histories) disks_are))))
     c.show_fates-report.ensures.text

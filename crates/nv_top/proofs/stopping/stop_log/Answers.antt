@@ -8,7 +8,7 @@ use Rattle.nv_trace.specs.declared.trace.TracedCall.{TracedCall}
 use Rattle.nv_top.specs.Answers.{log_faults}
 use Rattle.nv_top.specs.Attempts.{HasRunTo}
 use Rattle.nv_top.specs.Faithful.{Basis, descriptors_in}
-use Rattle.nv_top.specs.LogRuns.{IsFirst, lines_in}
+use Rattle.nv_top.specs.LogRuns.{IsFirstRun, lines_in}
 use Rattle.nv_top.specs.Stopping.{HasStoppedOn, IsAway, ShowsRecovered}
 use Rattle.nv_top.proofs.StoppingLemmas.{at_some, count_grows, given_home, if_some, none_unless, quiet_after, rose_home, run_while, stopped_on}
 use Rattle.nv_top.proofs.UnrefusedLemmas.{never_refused}
@@ -48,7 +48,7 @@ returns-clause-ran g c =
     omega (arith, home_faults, ap (λ (s : BenchState). s.faults) c.in_ok-power.ensures.off, count_grows off.faults last.faults c.show_recovered.result c.show_recovered.ensures.cause) in
     IfOk-weaker c.show_recovered.result
     (λ text. IfSome off.told (λ holding. ShowsRecovered holding outcome last.told text.items))
-    (λ text. (basis : Basis) → IsFirst history held basis c.args.log → basis.names ≡ c.args.log.names → IsStrictlyIncreasing (lines_in trace)
+    (λ text. (basis : Basis) → IsFirstRun history held basis c.args.log → basis.names ≡ c.args.log.names → IsStrictlyIncreasing (lines_in trace)
     → IfSome start.told (λ left. IsAway c.args.log.names left → HasStoppedOn failed basis trace last text.items))
     (λ text shown basis first named rise.
     let Rising : List TracedCall → Type 0 = λ calls. IsStrictlyIncreasing (map (λ traced. traced.line) calls) in

@@ -1,7 +1,7 @@
 use Rattle.std.proofs.Common.{◌++◌, take, refl, ap, ◌∙◌, subst, arith}
 use Rattle.std.proofs.lemmas.List.{with_items_is}
 use Rattle.std.proofs.lemmas.Result.{err_from_is_err_and, IfOk-weaker, IfErr-weaker}
-use Rattle.nv_trace.specs.Refused.{Tells}
+use Rattle.nv_trace.specs.Refused.{RefusalTells}
 use Rattle.nv_trace.specs.Pending.{input_ends}
 use Rattle.nv_trace.proofs.Inputs.{at_start, after_read, refused_at, ended_at, failed_tells, told_end, whole_end, refused_end}
 use Rattle.nv_trace.proofs.reader.read_trace.Goals as goal
@@ -70,4 +70,4 @@ returns-in_err-take-clause-refused g c =
     rw (p.1, p.2)
     (refused_at c.args.form (g.I.Source.left c.loop-buffer.src) (g.I.Source.left c.read.new.self) reader count c.deref_mut.result.now c.read.new.buf
     (g.I.Source.left c.args.src.now) error c.loop-buffer.invariant.ends c.in_ok-count.ensures.told
-    (λ rest. subst (λ bytes. Tells error (input_ends reader (take count bytes ++ rest))) slice (c.in_err-take.ensures.refused rest)))
+    (λ rest. subst (λ bytes. RefusalTells error (input_ends reader (take count bytes ++ rest))) slice (c.in_err-take.ensures.refused rest)))

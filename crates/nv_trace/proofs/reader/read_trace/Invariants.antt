@@ -1,6 +1,6 @@
 use Rattle.std.proofs.Common.{◌≡◌, ◌-◌, vec_len}
 use Rattle.nv_trace.specs.Reading.{largest_input}
-use Rattle.nv_trace.specs.Pending.{IsWithin}
+use Rattle.nv_trace.specs.Pending.{IsWithinLines}
 use Rattle.nv_trace.proofs.Inputs.{EndsAlike}
 use Rattle.nv_trace.proofs.reader.read_trace.Given as goal
 
@@ -9,7 +9,7 @@ invariant-loop-buffer g l = record {
   ends : EndsAlike l.fn.form (g.I.Source.left l.fn.src) (g.I.Source.left l.src) l.reader;
   faults : g.I.Source.fault_count l.src ≡ g.I.Source.fault_count l.fn.src;
   room : vec_len l.buffer ≡ 65536;
-  within : IsWithin l.reader;
+  within : IsWithinLines l.reader;
 }
 
 abbrev pub decreases-loop-buffer : goal.decreases-loop-buffer

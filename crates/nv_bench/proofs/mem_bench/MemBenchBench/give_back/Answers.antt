@@ -5,7 +5,7 @@ use Rattle.nv_pmem.specs.Part.{Part}
 use Rattle.nv_store.specs.Store.{Store}
 use Rattle.nv_bench.specs.Holding.{Holding, NamedStore, named_stores}
 use Rattle.nv_bench.specs.Naming.{AreDistinct, names_of}
-use Rattle.nv_bench.specs.Shelf.{shelved}
+use Rattle.nv_bench.specs.BenchStores.{held_stores}
 use Rattle.nv_store.specs.MemStore.{store_now}
 use Rattle.nv_bench.proofs.PartLaws.{are_parts}
 use Rattle.nv_bench.proofs.StoreLaws.{are_stores}
@@ -24,13 +24,13 @@ returns-clause-told c now stores parts_now stores_now =
     let lent = map string_bytes c.args.self.now.lent.items in
     holdings _ now _ _ (are_parts c.args.parts.items now parts_now)
     (c.put.ensures.stores
-    ∙ ap (λ (these : List Store). shelved c.args.self.now.shelf ++ named_stores lent these) (sym (are_stores c.args.stores.items stores stores_now)))
+    ∙ ap (λ (these : List Store). held_stores c.args.self.now.bench_stores ++ named_stores lent these) (sym (are_stores c.args.stores.items stores stores_now)))
 
 pub invariant_of-self-clause-named : goal.invariant_of-self-clause-named
 invariant_of-self-clause-named c =
     let lent = map string_bytes c.args.self.now.lent.items in
     let stores = map store_now c.args.stores.items in
-    let Named : List (List ℕ) → Type 0 = λ names. AreDistinct (names_of (shelved c.put.new.self) ++ names) in
+    let Named : List (List ℕ) → Type 0 = λ names. AreDistinct (names_of (held_stores c.put.new.self) ++ names) in
     subst Named (sym (ap (map string_bytes) c.put.ensures.names))
-    (distinct_back (shelved c.put.new.self) (shelved c.args.self.now.shelf) lent stores c.put.ensures.stores
+    (distinct_back (held_stores c.put.new.self) (held_stores c.args.self.now.bench_stores) lent stores c.put.ensures.stores
     (omega (arith, c.requires.stores, length-map c.args.stores.items store_now)) c.args.self.now.named)

@@ -1,19 +1,19 @@
--- Each page whose buffer counts is copied behind those before it.
+-- Each page whose buffer is valid is copied behind those before it.
 use Rattle.std.proofs.Common.{◌≡◌, ◌≢◌, ℕ, ◌-◌, ◌%◌, ◌<◌, sym, ap, subst, ◌∙◌, arith}
 use Rattle.std.specs.Prelude.{Some, None}
-use Rattle.nv_core.specs.Words.{Sizes, PAGE, page_total}
-use Rattle.nv_core.specs.Passes.{first_page, end_read}
+use Rattle.nv_core.specs.state.Words.{Sizes, PAGE, page_total}
+use Rattle.nv_core.specs.state.Passes.{first_page, end_read}
 use Rattle.nv_plain.specs.Pieces.{Piece, pages_touched}
-use Rattle.nv_table.specs.Keys.{sizes_of}
-use Rattle.nv_table.specs.Opened.{Opened}
-use Rattle.nv_table.specs.Sights.{pass_of, values_of, slot_times}
+use Rattle.nv_table.specs.state.Keys.{sizes_of}
+use Rattle.nv_table.specs.state.Opened.{Opened}
+use Rattle.nv_table.specs.state.Views.{pass_of, values_of, slot_times}
 use Rattle.nv_pages.specs.PageWork.{page_slot}
 use Rattle.nv_pages.proofs.AlterLaws.{altered_then}
-use Rattle.nv_calls.specs.Copied.{IsPut}
-use Rattle.nv_calls.specs.Reads.{call_of, page_piece, IsLooking}
-use Rattle.nv_calls.proofs.ArmLaws.{some_page, opened_by}
-use Rattle.nv_calls.proofs.BelowLaws.{fetched_below}
-use Rattle.nv_calls.proofs.LookLaws.{altered_none, of_kept, piece_is, looking_few, looking_most, looking_more, looked_there, looked_carried}
+use Rattle.nv_calls.specs.reads.Copied.{IsPut}
+use Rattle.nv_calls.specs.reads.Reads.{call_of, page_piece, IsLooking}
+use Rattle.nv_calls.proofs.reads.ArmLaws.{some_page, opened_by}
+use Rattle.nv_calls.proofs.reads.BelowLaws.{fetched_below}
+use Rattle.nv_calls.proofs.reads.LookLaws.{altered_none, of_kept, piece_is, looking_few, looking_most, looking_more, looked_there, looked_still_owned}
 use Rattle.nv_calls.proofs.reading.ReadMachine.copy_on.Goals as goal
 
 pub loop-page-init : goal.loop-page-init
@@ -48,25 +48,25 @@ copy_part-requires-clause-page g c =
     (looked_there c.args.self.now c.loop-page.list c.requires.looking.0 c.args.pass.now page c.loop-page.copied (c.loop-page.invariant.looking c.requires.looking.0 c.requires.looking.1)
     c.layout_of-layout.result.limits c.layout_of-layout.ensures c.end_read-end.result c.end_read-end.ensures (apart page c.end_read-end.result c.loop-page-test.true) c.requires.allowed)
 
-pub copy_part-requires-clause-carries : goal.copy_part-requires-clause-carries
-copy_part-requires-clause-carries g c =
+pub copy_part-requires-clause-owns_slots : goal.copy_part-requires-clause-owns_slots
+copy_part-requires-clause-owns_slots g c =
     let page = c.loop-page.page in
     subst (λ (o : Opened). slot_times (page_slot o.sizes page) c.loop-page.pass.now ≡ 1) (opened_by c.requires.board c.board.ensures)
-    (looked_carried c.args.self.now c.loop-page.list c.requires.looking.0 c.args.pass.now page c.loop-page.copied (c.loop-page.invariant.looking c.requires.looking.0 c.requires.looking.1)
+    (looked_still_owned c.args.self.now c.loop-page.list c.requires.looking.0 c.args.pass.now page c.loop-page.copied (c.loop-page.invariant.looking c.requires.looking.0 c.requires.looking.1)
     c.layout_of-layout.result.limits c.layout_of-layout.ensures c.end_read-end.result c.end_read-end.ensures (apart page c.end_read-end.result c.loop-page-test.true) c.requires.allowed
     c.loop-page.pass c.loop-page.invariant.same c.requires.still)
 
 pub copy_part-requires-clause-room : goal.copy_part-requires-clause-room
 copy_part-requires-clause-room g c =
     let old = c.args.pass.now in
-    let sizes = old.sight.opened.sizes in
+    let sizes = old.view.opened.sizes in
     let m = c.args.self.now in
     let page = c.loop-page.page in
     let at = c.loop-page.invariant.looking c.requires.looking.0 c.requires.looking.1 in
     let more = subst (λ n. page < n) (c.end_read-end.ensures at.len at.covers ∙ ap (λ (s : Sizes). end_read s (call_of m) at.len) c.layout_of-layout.ensures) c.loop-page-test.true in
     let some = some_page c.layout_of-layout.result.limits c.layout_of-layout.ensures in
-    let most = looking_most sizes m c.loop-page.list c.requires.looking.0 (values_of old.sight) (pass_of old.sight) page c.loop-page.copied at some more in
-    let few = looking_few sizes m c.loop-page.list c.requires.looking.0 (values_of old.sight) (pass_of old.sight) page c.loop-page.copied at in
+    let most = looking_most sizes m c.loop-page.list c.requires.looking.0 (values_of old.view) (pass_of old.view) page c.loop-page.copied at some more in
+    let few = looking_few sizes m c.loop-page.list c.requires.looking.0 (values_of old.view) (pass_of old.view) page c.loop-page.copied at in
     let from = c.cut-span.ensures.from ∙ ap (λ (p : Piece). p.from) (piece_is sizes (sizes_of c.layout_of-layout.result) m page c.first_page-first.result c.layout_of-layout.ensures c.first_page-first.ensures) in
     let inside = c.cut-span.ensures.inside in
     let long = c.loop-page.auto.list in
@@ -76,7 +76,7 @@ copy_part-requires-clause-room g c =
 pub loop-page-preserved : goal.loop-page-preserved
 loop-page-preserved g c =
     let old = c.args.pass.now in
-    let sizes = old.sight.opened.sizes in
+    let sizes = old.view.opened.sizes in
     let m = c.args.self.now in
     let page = c.loop-page.page in
     let some = some_page c.layout_of-layout.result.limits c.layout_of-layout.ensures in
@@ -89,8 +89,8 @@ loop-page-preserved g c =
       looking = λ base is.
           let at = c.loop-page.invariant.looking base is in
           let more = subst (λ n. page < n) (c.end_read-end.ensures at.len at.covers ∙ ap (λ (s : Sizes). end_read s (call_of m) at.len) c.layout_of-layout.ensures) c.loop-page-test.true in
-          looking_more sizes m c.loop-page.list base (values_of old.sight) (pass_of old.sight) page c.loop-page.copied at some more
-          (fetched_below old.sight.opened old.sight.run old.sight.number c.sees_a_run.ensures.run)
+          looking_more sizes m c.loop-page.list base (values_of old.view) (pass_of old.view) page c.loop-page.copied at some more
+          (fetched_below old.view.opened old.view.run old.view.number c.sees_a_run.ensures.run)
           (c.cut-span.result.at % c.layout_of-layout.result.page) c.cut-span.result.size c.in-Some.count c.copy_part.new.list
           (ap (λ n. n % c.layout_of-layout.result.page) (c.cut-span.ensures.at ∙ ap (λ (p : Piece). p.at) piece) ∙ ap (λ (s : Sizes). (page_piece sizes m page).at % s.page) c.layout_of-layout.ensures)
           (c.cut-span.ensures.size ∙ ap (λ (p : Piece). p.size) piece) put;
@@ -114,7 +114,7 @@ returns-in_default-clause-looking g c base is =
     let old = c.args.pass.now in
     let put = of_kept old c.loop-page.pass (λ kept. IsPut (kept (PAGE c.loop-page.page)) (c.cut-span.result.at % c.layout_of-layout.result.page) c.loop-page.copied c.cut-span.result.size c.loop-page.list c.copy_part.new.list None)
     c.loop-page.invariant.same c.requires.still c.in_default.ensures.copied in
-    subst (λ list. IsLooking old.sight.opened.sizes (record c.args.self.now { copied = c.loop-page.copied }) list base (values_of old.sight) (pass_of old.sight) c.loop-page.page) (sym put.1) (c.loop-page.invariant.looking base is)
+    subst (λ list. IsLooking old.view.opened.sizes (record c.args.self.now { copied = c.loop-page.copied }) list base (values_of old.view) (pass_of old.view) c.loop-page.page) (sym put.1) (c.loop-page.invariant.looking base is)
 
 pub returns-in_default-clause-missed : goal.returns-in_default-clause-missed
 returns-in_default-clause-missed g c len covers more =

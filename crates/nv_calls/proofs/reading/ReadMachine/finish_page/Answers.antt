@@ -1,21 +1,21 @@
 -- The page's bytes have a place in its buffer and in the list.
 use Rattle.std.proofs.Common.{◌+◌, ◌-◌, ◌%◌, ◌<◌, ◌≤◌, sym, ap, subst, ◌∙◌, arith}
 use Rattle.std.proofs.lemmas.List.{length-take}
-use Rattle.nv_core.specs.Words.{Sizes, page_total}
-use Rattle.nv_core.specs.Passes.{first_page}
+use Rattle.nv_core.specs.state.Words.{Sizes, page_total}
+use Rattle.nv_core.specs.state.Passes.{first_page}
 use Rattle.nv_plain.specs.Pieces.{piece_of, pages_touched}
-use Rattle.nv_calls.specs.Reads.{call_of}
-use Rattle.nv_table.specs.Keys.{sizes_of}
-use Rattle.nv_table.specs.Opened.{Opened}
-use Rattle.nv_table.specs.States.{BoardState}
-use Rattle.nv_calls.proofs.LookLaws.{read_page_there, read_piece}
+use Rattle.nv_calls.specs.reads.Reads.{call_of}
+use Rattle.nv_table.specs.state.Keys.{sizes_of}
+use Rattle.nv_table.specs.state.Opened.{Opened}
+use Rattle.nv_table.specs.state.States.{BoardState}
+use Rattle.nv_calls.proofs.reads.LookLaws.{read_page_there, read_piece}
 use Rattle.nv_calls.proofs.reading.ReadMachine.finish_page.Goals as goal
 
 pub fill_page-requires-clause-page : goal.fill_page-requires-clause-page
 fill_page-requires-clause-page g c =
     subst (λ (b : BoardState). c.args.page < page_total b.opened.sizes) (sym c.board.ensures)
     (subst (λ (o : Opened). c.args.page < page_total o.sizes) c.requires.board.same_mount
-    (read_page_there c.args.pass.now.sight.opened.sizes c.args.self.now c.args.page c.requires.allowed c.requires.covered c.requires.first c.requires.read))
+    (read_page_there c.args.pass.now.view.opened.sizes c.args.self.now c.args.page c.requires.allowed c.requires.covered c.requires.first c.requires.read))
 
 pub slice_bounds-put-end : goal.slice_bounds-put-end
 slice_bounds-put-end g c =

@@ -3,13 +3,13 @@ use Rattle.std.proofs.Common.{◌≡◌, ◌+◌, ◌-◌, ◌<◌, false, ◌�
 use Rattle.std.specs.Prelude.{None}
 use Rattle.std.proofs.Math.Nat.{mul-le-mul_left}
 use Rattle.nv_plain.specs.declared.call.FileCall.{FileCall}
-use Rattle.nv_core.specs.Words.{Sizes, SIZE, PAGE, place, page_total}
-use Rattle.nv_core.specs.Passes.{first_page}
-use Rattle.nv_table.specs.Keys.{sizes_of}
+use Rattle.nv_core.specs.state.Words.{Sizes, SIZE, PAGE, place, page_total}
+use Rattle.nv_core.specs.state.Passes.{first_page}
+use Rattle.nv_table.specs.state.Keys.{sizes_of}
 use Rattle.nv_calls.specs.declared.reading.Held.{Held}
-use Rattle.nv_calls.specs.Ends.{BeginsWithin}
-use Rattle.nv_calls.specs.Reads.{call_of, pages_from, held_cells}
-use Rattle.nv_calls.proofs.LeaveLaws.{last_page, held_size, held_pages}
+use Rattle.nv_calls.specs.reads.Ends.{BeginsWithin}
+use Rattle.nv_calls.specs.reads.Reads.{call_of, pages_from, held_cells}
+use Rattle.nv_calls.proofs.reads.LeaveLaws.{last_page, held_size, held_pages}
 use Rattle.nv_calls.proofs.reading.ReadMachine.last_held.Goals as goal
 
 -- the last of the pages that are held, where nothing else is

@@ -1,7 +1,7 @@
 -- What was put into the room is in front of it.
 use Rattle.std.proofs.Common.{◌≡◌, ℕ, length, arith}
 use Rattle.std.proofs.lemmas.List.{length-take}
-use Rattle.nv_calls.proofs.PatchedLaws.{room_put}
+use Rattle.nv_calls.proofs.reads.PatchedLaws.{room_put}
 use Rattle.nv_calls.proofs.reading.ReadMachine.lay.Goals as goal
 
 pub returns-clause-room : goal.returns-clause-room

@@ -6,7 +6,7 @@ use Rattle.nv_pmem.specs.Rows.{RowTells}
 use Rattle.nv_pmem.specs.RowStates.{AreNow, row_tells_at}
 use Rattle.nv_pmem.specs.declared.geometry.Geometry.{Geometry}
 use Rattle.nv_pmem.proofs.RowLaws.{row_tells_more}
-use Rattle.nv_store.specs.Steps.{History}
+use Rattle.nv_store.specs.Steps.{StoreHistory}
 use Rattle.nv_header.specs.Regions.{IsRegion, IsAtRest}
 use Rattle.nv_recover.specs.Standing.{AreQuietStores}
 use Rattle.nv_engine.specs.Holding.{HasSomePieces}
@@ -31,7 +31,7 @@ returns-in-Ok-clause-log g c =
     let items = with_items_is c.args.stores c.make_room.new.stores (c.make_room.auto.stores ∙ c.deref_mut.ensures.len) in
     let held : map g.B.Backing.history c.make_room.new.stores ≡ map g.B.Backing.history c.args.stores.items =
     c.in-Ok.ensures.histories ∙ ap (map g.B.Backing.history) c.deref_mut.ensures.value in
-    let Quiet : List History → Type 0 = λ these. RowTells these AreQuietStores in
+    let Quiet : List StoreHistory → Type 0 = λ these. RowTells these AreQuietStores in
     record {
       some_pages = c.requires.some_pages;
       few_pages = c.requires.few_pages;
@@ -68,7 +68,7 @@ returns-in-Ok-clause-holds g c = λ parts_now now parts_are stores_are.
     let held : map g.B.Backing.history c.make_room.new.stores ≡ map g.B.Backing.history c.args.stores.items =
     c.in-Ok.ensures.histories ∙ ap (map g.B.Backing.history) c.deref_mut.ensures.value in
     let Parts = λ (these : List g.row.L.Denot). AreNow (map g.L.Lines.history these) parts_now in
-    let Stores : List History → Type 0 = λ these. AreNow these now in
+    let Stores : List StoreHistory → Type 0 = λ these. AreNow these now in
     let Before = λ (these : List g.row.B.Denot). AreNow (map g.B.Backing.history these) now in
     let are = subst Parts (ap (λ these. these.items) (sym c.into_parts_and_names-parts.ensures.parts)) parts_are in
     record {

@@ -7,12 +7,12 @@ use Rattle.nv_plain.specs.Layouts.{version_1}
 use Rattle.nv_pmem.specs.Rows.{row_after, DidRow, DidSomeRow}
 use Rattle.nv_pmem.specs.RowStates.{AreNow, row_tells_at, row_tells_from}
 use Rattle.nv_pmem.specs.Runs.{run}
-use Rattle.nv_pmem.specs.Steps.{History}
+use Rattle.nv_pmem.specs.Steps.{PartHistory}
 use Rattle.nv_pmem.proofs.RowLaws.{row_tells_did}
 use Rattle.nv_pmem.proofs.StepLaws.{did_some_none}
 use Rattle.nv_header.specs.Regions.{HasParts}
 use Rattle.nv_engine.specs.Holding.{HasSomePieces, written}
-use Rattle.nv_engine.specs.Laid.{entries_of}
+use Rattle.nv_engine.specs.Laid.{entries_of_piece}
 use Rattle.nv_engine.specs.Written.{write_steps}
 use Rattle.nv_engine.proofs.Lengths.{lengths_more, files_count}
 use Rattle.nv_engine.proofs.States.{now_after}
@@ -45,7 +45,7 @@ returns-clause-holds g c = λ pieces files holds.
     let did = subst Did c.deref_mut.ensures.value (on_ok_here c.commit.result none c.commit.ensures.done) in
     let now = run row_after steps holds.parts in
     let more = has_more g.L.Lines.history g.L.Lines.room log piece made pieces holds.parts holds.has holds.parts_are in
-    let Row : List History → Type 0 = λ row. AreNow row now in
+    let Row : List PartHistory → Type 0 = λ row. AreNow row now in
     let are = subst Row (sym did.states) (now_after steps (map g.L.Lines.history log.parts.items) holds.parts holds.parts_are) in
     let Now : List g.row.L.Denot → Type 0 = λ these. AreNow (map g.L.Lines.history these) now in
     record {
@@ -89,7 +89,7 @@ returns-clause-log g c =
     let did = subst Did c.deref_mut.ensures.value (on_ok_here c.commit.result none c.commit.ensures.done) in
     let Has : List g.row.L.Denot → Type 0 = λ these. HasParts version_1 log.geometry.page log.geometry.entries (map g.L.Lines.room these) in
     let row = map g.L.Lines.history log.parts.items in
-    let after = record log { head = log.head + entries_of log.geometry.page piece } in
+    let after = record log { head = log.head + entries_of_piece log.geometry.page piece } in
     let told = row_tells_did (λ was. HasSomePieces log was × AreNow row was) (HasSomePieces after)
     (row_tells_from row (λ was. HasSomePieces log was × AreNow row was) (λ was are. (row_tells_at row (HasSomePieces log) was are (c.requires.log.told running), are)))
     (λ was some. (some.0.0 ++ piece ∷ [], has_more g.L.Lines.history g.L.Lines.room log piece made some.0.0 was some.0.1 some.1))
@@ -137,7 +137,7 @@ returns-then-is_err-clause-faulted g c = λ _ pieces files holds.
     let Did : List g.row.L.Denot → Type 0 = λ these. DidSomeRow steps (map g.L.Lines.history these) (map g.L.Lines.history new) in
     let did = subst Did c.deref_mut.ensures.value c.commit.ensures.begun in
     let now = run row_after (take did.count steps) holds.parts in
-    let Row : List History → Type 0 = λ row. AreNow row now in
+    let Row : List PartHistory → Type 0 = λ row. AreNow row now in
     let are = subst Row (sym did.states) (now_after (take did.count steps) (map g.L.Lines.history log.parts.items) holds.parts holds.parts_are) in
     let Now : List g.row.L.Denot → Type 0 = λ these. AreNow (map g.L.Lines.history these) now in
     record {

@@ -1,7 +1,7 @@
 use Rattle.std.proofs.Common.{◌≡◌, ◌+◌, ◌*◌, length, ap, subst, ◌∙◌, arith}
 use Rattle.nv_pmem.specs.Moments.{Tells}
-use Rattle.nv_pmem.specs.Part.{word_of}
-use Rattle.nv_pmem.specs.Steps.{History}
+use Rattle.nv_pmem.specs.Part.{part_word}
+use Rattle.nv_pmem.specs.Steps.{PartHistory}
 use Rattle.nv_pmem.proofs.Rooms.{Keeps-more}
 use Rattle.nv_pmem.proofs.Ranges.{length-put_mid}
 use Rattle.nv_header.proofs.Records.{told_word_put, told_room, told_length}
@@ -10,7 +10,7 @@ use Rattle.nv_header.proofs.record.Record.load.Goals as goal
 pub loop-k-preserved : goal.loop-k-preserved
 loop-k-preserved g c =
     let copy = c.copy_from_slice.ensures.after ∙ c.to_le_bytes.ensures in
-    let Loaded : History → Type 0 = λ history. Tells history (λ now. c.in_ok-value.value ≡ word_of now (2 + c.args.i) (1 + c.loop-k.k)) in
+    let Loaded : PartHistory → Type 0 = λ history. Tells history (λ now. c.in_ok-value.value ≡ part_word now (2 + c.args.i) (1 + c.loop-k.k)) in
     record {
       size = length-put_mid (8 * c.loop-k.k) _ c.loop-k.room c.copy_from_slice.new.self (omega arith) (omega (arith, ap length copy)) ∙ c.loop-k.invariant.size;
       loaded =

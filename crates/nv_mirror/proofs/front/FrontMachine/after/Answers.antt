@@ -1,7 +1,7 @@
 -- The page is one of the mount.
-use Rattle.nv_table.specs.Keys.{sizes_of}
+use Rattle.nv_table.specs.state.Keys.{sizes_of}
 use Rattle.nv_mirror.proofs.FrontLaws.{lock_there}
 use Rattle.nv_mirror.proofs.front.FrontMachine.after.Goals as goal
 
 pub page_lock-requires : goal.page_lock-requires
-page_lock-requires c = record { there = lock_there (sizes_of c.args.layout) c.args.self c.requires c.in-Begins.is }
+page_lock-requires c = record { there = lock_there (sizes_of c.args.layout) c.args.self c.requires c.in-Begin.is }

@@ -1,13 +1,13 @@
 -- Each step is the core's.
 use Rattle.std.proofs.Common.{sym, ap, subst, ◌∙◌}
 use Rattle.std.specs.Prelude.{None}
-use Rattle.nv_core.specs.Words.{Sizes}
-use Rattle.nv_table.specs.Opened.{Opened}
-use Rattle.nv_table.specs.Ready.{Stepped}
-use Rattle.nv_table.specs.Sights.{pass_of}
-use Rattle.nv_table.specs.Turns.{IsDue}
+use Rattle.nv_core.specs.state.Words.{Sizes}
+use Rattle.nv_table.specs.state.Opened.{Opened}
+use Rattle.nv_table.specs.steps.StepContracts.{Postcondition}
+use Rattle.nv_table.specs.state.Views.{pass_of}
+use Rattle.nv_table.specs.steps.CallSteps.{Precondition}
 use Rattle.nv_op.specs.declared.op.Op.{Op}
-use Rattle.nv_op.specs.Ops.{Fits, deed_of}
+use Rattle.nv_op.specs.Ops.{Fits, core_op_of}
 use Rattle.nv_mirror.specs.declared.write.PageWrite.{PageWrite}
 use Rattle.nv_mirror.specs.Writes.{IsUnderWay, write_after}
 use Rattle.nv_mirror.proofs.WriteLaws.{write_fits, write_due, write_on}
@@ -18,14 +18,14 @@ perform-found-requires-clause-fits g c =
     let m = c.args.self.now in
     let pass = c.args.pass.now in
     let way = c.requires.way.1 in
-    subst (λ (op : Op). Fits pass.sight.opened.sizes None (pass_of pass.sight) op) (sym c.next.ensures) (write_fits m m.stage c.requires.way.0 pass way.0 c.requires.plain way.1)
+    subst (λ (op : Op). Fits pass.view.opened.sizes None (pass_of pass.view) op) (sym c.next.ensures) (write_fits m m.control c.requires.way.0 pass way.0 c.requires.plain way.1)
 
 pub perform-found-requires-clause-due : goal.perform-found-requires-clause-due
 perform-found-requires-clause-due g c =
     let m = c.args.self.now in
     let pass = c.args.pass.now in
     let way = c.requires.way.1 in
-    subst (λ (op : Op). IsDue pass None (deed_of pass.sight op)) (sym c.next.ensures) (write_due m m.stage c.requires.way.0 pass c.requires.plain way.1)
+    subst (λ (op : Op). Precondition pass None (core_op_of pass.view op)) (sym c.next.ensures) (write_due m m.control c.requires.way.0 pass c.requires.plain way.1)
 
 pub returns-clause-one : goal.returns-clause-one
 returns-clause-one g c =
@@ -34,7 +34,7 @@ returns-clause-one g c =
     let found = c.perform-found.result in
     let same = c.layout-layout.ensures ∙ sym (ap (λ (o : Opened). o.sizes) c.requires.board.same_mount) in (
       found,
-      subst (λ (op : Op). Stepped pass None (deed_of pass.sight op) found c.perform-found.new.pass) c.next.ensures c.perform-found.ensures.stepped,
+      subst (λ (op : Op). Postcondition pass None (core_op_of pass.view op) found c.perform-found.new.pass) c.next.ensures c.perform-found.ensures.stepped,
       c.after.ensures ∙ ap (λ (s : Sizes). write_after s m found) same,
     )
 
@@ -46,6 +46,6 @@ returns-clause-way g c start way =
     let found = c.perform-found.result in
     let same = c.layout-layout.ensures ∙ sym (ap (λ (o : Opened). o.sizes) c.requires.board.same_mount) in
     subst (λ (next : PageWrite). IsUnderWay next start new) (sym (c.after.ensures ∙ ap (λ (s : Sizes). write_after s m found) same))
-    (write_on m start pass new found way.0 m.stage
+    (write_on m start pass new found way.0 m.control
     (record { sound = c.runs_are_sound.ensures.runs; content = c.runs_keep_content.ensures.runs; legally = c.history_goes_on.ensures.legal; mount = c.sees_a_run.ensures.mount }) c.requires.plain way.1
-    (subst (λ (op : Op). Stepped pass None (deed_of pass.sight op) found new) c.next.ensures c.perform-found.ensures.stepped))
+    (subst (λ (op : Op). Postcondition pass None (core_op_of pass.view op) found new) c.next.ensures c.perform-found.ensures.stepped))

@@ -5,6 +5,6 @@ use Rattle.nv_mirror.proofs.write.PageWrite.goes_on.Goals as goal
 pub returns : goal.returns
 returns c = record {
   behind = λ f start now behind way. write_behind f c.args.self.now start now behind way;
-  due = λ start now before way between works due stage carries. (pledge_due c.args.self.now start now before way between works due stage carries).0;
+  due = λ start now before way between works due control owns_slots. (pledge_due c.args.self.now start now before way between works due control owns_slots).0;
   pledged = λ start now before new found way between fits step. pledge_on c.args.self.now start now before way between found new fits step;
 }

@@ -1,7 +1,7 @@
 use Rattle.std.proofs.Common.{◌+◌, ◌≤◌, length, map, refl, arith}
 use Rattle.std.proofs.lemmas.Grind.{common_steps}
 use Rattle.std.proofs.lemmas.List.{length-map}
-use Rattle.nv_table.specs.Begun.{begun_sizes}
+use Rattle.nv_table.specs.ends.Begun.{begun_sizes}
 use Rattle.nv_mount.proofs.OpenLaws.{opens_files, opens_log, opens_region}
 use Rattle.nv_mount.proofs.StoppedLaws.{counts_opened}
 use Rattle.nv_mount.proofs.mount.Mount.open.Goals as goal

@@ -1,6 +1,6 @@
 use Rattle.std.proofs.Common.{◌≡◌, false, length, take, refl, ap, ◌∙◌, arith}
 use Rattle.std.proofs.lemmas.List.{with_items_is, length-take, get_or-take}
-use Rattle.nv_store.specs.Disk.{store_of}
+use Rattle.nv_store.specs.Disk.{disk_store}
 use Rattle.nv_store.specs.Picked.{redrawn, image_with}
 use Rattle.nv_store.specs.Replaced.{replaced}
 use Rattle.nv_store.proofs.StoreLaws.{whole_same}
@@ -10,7 +10,7 @@ use Rattle.nv_store.proofs.disk.Disk.cut.Goals as goal
 pub invariant_of-self : goal.invariant_of-self
 invariant_of-self c =
     let disk = c.args.self.now in
-    let store = store_of disk in
+    let store = disk_store disk in
     let len = c.args.len in
     let other = redrawn store.unsynced c.args.picker.now in
     let now : c.redraw.new.bytes ≡ replaced store.unsynced other (take len store.seen) =
@@ -29,7 +29,7 @@ invariant_of-self c =
 pub returns-clause-seen : goal.returns-clause-seen
 returns-clause-seen c =
     let disk = c.args.self.now in
-    let store = store_of disk in
+    let store = disk_store disk in
     let len = c.args.len in
     let other = redrawn store.unsynced c.args.picker.now in
     let now : c.redraw.new.bytes ≡ replaced store.unsynced other (take len store.seen) =

@@ -1,7 +1,7 @@
 use Rattle.std.proofs.Common.{◌≡◌, Bool, List, length, refl, ap, ◌∙◌, arith}
 use Rattle.std.proofs.lemmas.List.{with_items_is}
 use Rattle.nv_store.specs.Store.{Store, marked}
-use Rattle.nv_store.specs.Disk.{store_of}
+use Rattle.nv_store.specs.Disk.{disk_store}
 use Rattle.nv_store.specs.Torn.{with_marks}
 use Rattle.nv_store.proofs.StoreLaws.{whole_same, whole_torn, marks_are_torn}
 use Rattle.nv_store.proofs.disk.Disk.mark.Goals as goal
@@ -9,7 +9,7 @@ use Rattle.nv_store.proofs.disk.Disk.mark.Goals as goal
 pub invariant_of-self : goal.invariant_of-self
 invariant_of-self c =
     let disk = c.args.self.now in
-    let store = store_of disk in
+    let store = disk_store disk in
     let marks = with_marks c.args.at c.args.count store in
     let now : c.mark.new.flags ≡ marks.unsynced =
     c.mark.ensures
@@ -24,7 +24,7 @@ invariant_of-self c =
 pub returns : goal.returns
 returns c =
     let disk = c.args.self.now in
-    let store = store_of disk in
+    let store = disk_store disk in
     let now : c.mark.new.flags ≡ (with_marks c.args.at c.args.count store).unsynced =
     c.mark.ensures
     ∙ ap (λ (flags : List Bool). marked c.args.at c.args.count (length flags) flags) c.deref_mut.ensures.value

@@ -1,6 +1,6 @@
 use Rattle.std.proofs.Common.{◌≡◌, refl, ◌∙◌, arith}
 use Rattle.std.proofs.lemmas.List.{with_items_is}
-use Rattle.nv_store.specs.Disk.{store_of}
+use Rattle.nv_store.specs.Disk.{disk_store}
 use Rattle.nv_store.specs.Replaced.{replaced}
 use Rattle.nv_store.proofs.StoreLaws.{whole_same}
 use Rattle.nv_store.proofs.ImageLaws.{whole_replaced, all_are_first, replaced_in, replaced_is_image_with}
@@ -9,7 +9,7 @@ use Rattle.nv_store.proofs.disk.Disk.tear.Goals as goal
 pub invariant_of-self : goal.invariant_of-self
 invariant_of-self c =
     let disk = c.args.self.now in
-    let store = store_of disk in
+    let store = disk_store disk in
     let now : c.tear.new.bytes ≡ replaced store.unsynced (λ i. 0xa5) store.seen =
     replaced_in (λ flags i. 0xa5) c.tear.ensures c.deref.ensures.value c.deref_mut.ensures.value in
     let back = with_items_is disk.seen c.tear.new.bytes (omega (arith, c.tear.auto.bytes, c.deref_mut.ensures.len)) in
@@ -24,7 +24,7 @@ invariant_of-self c =
 pub returns : goal.returns
 returns c =
     let disk = c.args.self.now in
-    let store = store_of disk in
+    let store = disk_store disk in
     let now : c.tear.new.bytes ≡ replaced store.unsynced (λ i. 0xa5) store.seen =
     replaced_in (λ flags i. 0xa5) c.tear.ensures c.deref.ensures.value c.deref_mut.ensures.value in
     let back = with_items_is disk.seen c.tear.new.bytes (omega (arith, c.tear.auto.bytes, c.deref_mut.ensures.len)) in

@@ -4,8 +4,8 @@ use Rattle.std.proofs.lemmas.List.{nil_from_length}
 use Rattle.nv_plain.specs.Files.{overwritten}
 use Rattle.nv_plain.proofs.FileLemmas.{length-overwritten}
 use Rattle.nv_store.specs.Store.{marked}
-use Rattle.nv_store.specs.Steps.{Write, after_step}
-use Rattle.nv_store.specs.Disk.{store_of}
+use Rattle.nv_store.specs.Steps.{Write, after_store_step}
+use Rattle.nv_store.specs.Disk.{disk_store}
 use Rattle.nv_store.proofs.StoreLaws.{whole_same, whole_after_step, write_nothing}
 use Rattle.nv_store.proofs.disk.Disk.write.Goals as goal
 
@@ -18,7 +18,7 @@ no_bytes bytes empty is test = grind (arith, nat_tests)
 pub invariant_of-self : goal.invariant_of-self
 invariant_of-self c =
     let disk = c.args.self.now in
-    let store = store_of disk in
+    let store = disk_store disk in
     let at = c.args.at in
     let bytes = c.args.bytes.now in
     let some : 0 < length bytes = some_bytes bytes c.is_empty.result c.if-not-is_empty.true c.is_empty.ensures in
@@ -27,12 +27,12 @@ invariant_of-self c =
     c.flag.ensures ∙ ap (λ n. marked at (length bytes) n store.unsynced) (omega (arith, len, disk.whole.flags)) in
     let room = c.requires some in
     record {
-      whole = whole_same (after_step (Write at bytes) store) _ c.overwrite.ensures refl flags (whole_after_step (Write at bytes) store disk.whole);
+      whole = whole_same (after_store_step (Write at bytes) store) _ c.overwrite.ensures refl flags (whole_after_step (Write at bytes) store disk.whole);
       room = omega (arith, len, ap length c.overwrite.ensures, c.overwrite.new.bytes.ok.0, room.durable, disk.room, disk.seen.ok.0);
     }
 
 pub returns-else-not-is_empty : goal.returns-else-not-is_empty
 returns-else-not-is_empty c =
-    let store = store_of c.args.self.now in
+    let store = disk_store c.args.self.now in
     let none : c.args.bytes.now ≡ [] = nil_from_length c.args.bytes.now (no_bytes c.args.bytes.now c.is_empty.result c.if-not-is_empty.false c.is_empty.ensures) in
-    sym (ap (λ bytes. after_step (Write c.args.at bytes) store) none ∙ write_nothing c.args.at store c.args.self.now.whole)
+    sym (ap (λ bytes. after_store_step (Write c.args.at bytes) store) none ∙ write_nothing c.args.at store c.args.self.now.whole)

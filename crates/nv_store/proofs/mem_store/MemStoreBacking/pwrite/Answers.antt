@@ -1,6 +1,6 @@
 use Rattle.std.proofs.Common.{length, map, refl, inr}
 use Rattle.nv_pmem.proofs.StepLaws.{did_one}
-use Rattle.nv_store.specs.Disk.{store_of}
+use Rattle.nv_store.specs.Disk.{disk_store}
 use Rattle.nv_store.specs.Torn.{with_marks}
 use Rattle.nv_store.specs.MemStore.{store_now}
 use Rattle.nv_store.proofs.StoreLaws.{marks_are_torn}
@@ -12,7 +12,7 @@ returns-then-is_err-clause-failed c =
     let count = length c.args.bytes.now in
     inr (record {
       now = store;
-      past = map store_of c.args.self.now.told.past.states;
+      past = map disk_store c.args.self.now.told.past.states;
       told = refl;
       next = with_marks c.args.at count store;
       torn = marks_are_torn c.args.at count store;

@@ -1,12 +1,12 @@
 use Rattle.std.proofs.Common.{ℕ, ◌<◌, refl, ap, subst}
-use Rattle.nv_core.specs.Shapes.{HaveShapes, IsStore}
-use Rattle.nv_core.specs.Words.{STORE}
-use Rattle.nv_table.specs.Begun.{BeganFilled}
-use Rattle.nv_table.specs.Kept.{part_value, store_value, slot_value}
-use Rattle.nv_table.specs.Keys.{opened_of}
-use Rattle.nv_table.specs.Opened.{Opened, mount_of}
-use Rattle.nv_table.specs.States.{BoardState}
-use Rattle.nv_table.proofs.ShapeLaws.{have_shapes, keeps_stores}
+use Rattle.nv_core.specs.invariant.Shapes.{HaveShapes, IsStore}
+use Rattle.nv_core.specs.state.Words.{STORE}
+use Rattle.nv_table.specs.ends.Begun.{BeganFilled}
+use Rattle.nv_table.specs.state.SlotValues.{part_value, store_value, slot_value}
+use Rattle.nv_table.specs.state.Keys.{opened_of}
+use Rattle.nv_table.specs.state.Opened.{Opened, mount_of}
+use Rattle.nv_table.specs.state.States.{BoardState}
+use Rattle.nv_table.proofs.state.ShapeLaws.{have_shapes, keeps_stores}
 use Rattle.nv_table.proofs.board.Board.keeps_stores_and_buffers.Goals as goal
 
 pub returns-clause-stores : goal.returns-clause-stores

@@ -1,9 +1,9 @@
 -- A place behind the hints is of a page.
 use Rattle.std.proofs.Common.{arith, ◌≡◌, ◌+◌, ◌-◌, ◌/◌, ◌%◌, ◌==◌, ◌≤◌, sym, ap, ◌∙◌}
 use Rattle.std.specs.Bool.{then_some}
-use Rattle.nv_core.specs.Words.{first_page_word}
-use Rattle.nv_table.specs.Keys.{sizes_of}
-use Rattle.nv_table.proofs.TurnDeeds.{slot_at_page}
+use Rattle.nv_core.specs.state.Words.{first_page_word}
+use Rattle.nv_table.specs.state.Keys.{sizes_of}
+use Rattle.nv_table.proofs.steps.CallOps.{slot_at_page}
 use Rattle.nv_table.proofs.layout.Layout.slot.Goals as goal
 
 pub returns : goal.returns

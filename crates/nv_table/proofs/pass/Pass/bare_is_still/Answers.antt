@@ -1,5 +1,5 @@
-use Rattle.nv_table.specs.Kept.{part_value, store_value, slot_value}
-use Rattle.nv_table.proofs.BetweenLaws.{bare_held}
+use Rattle.nv_table.specs.state.SlotValues.{part_value, store_value, slot_value}
+use Rattle.nv_table.proofs.passes.BetweenLaws.{bare_held}
 use Rattle.nv_table.proofs.pass.Pass.bare_is_still.Goals as goal
 
 pub returns : goal.returns

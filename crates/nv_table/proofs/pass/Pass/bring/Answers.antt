@@ -1,12 +1,12 @@
 use Rattle.std.proofs.Common.{◌≡◌, ◌≢◌, ◌<◌, ◌++◌, ap, ◌∙◌, sym, subst, arith, drop, take, length, map, slice_index}
 use Rattle.std.specs.Prelude.{Some}
-use Rattle.nv_table.specs.Acts.{IsFirst}
-use Rattle.nv_table.specs.Kept.{part_value, store_value, slot_value}
-use Rattle.nv_table.specs.States.{PassState, shown_in}
+use Rattle.nv_table.specs.steps.SeatSteps.{IsFirst}
+use Rattle.nv_table.specs.state.SlotValues.{part_value, store_value, slot_value}
+use Rattle.nv_table.specs.state.States.{PassState, shown_in}
 use Rattle.std.proofs.lemmas.List.{length-map}
-use Rattle.nv_table.specs.Sights.{slot_times}
-use Rattle.nv_table.proofs.TurnLaws.{times_shown, map_turned, stands_before, first_from, first_shown}
-use Rattle.nv_table.proofs.PassLaws.{pass_turned}
+use Rattle.nv_table.specs.state.Views.{slot_times}
+use Rattle.nv_table.proofs.steps.TurnLaws.{times_shown, map_turned, stands_before, first_from, first_shown}
+use Rattle.nv_table.proofs.invariant.PassLaws.{pass_turned}
 use Rattle.nv_table.proofs.pass.Pass.bring.Goals as goal
 
 pub turn-requires : goal.turn-requires
@@ -30,7 +30,7 @@ returns-clause-same g c =
     let shown = slot_value (part_value g.L.Lines.device g.L.Lines.history g.L.Lines.fault_count g.L.Lines.room) (store_value g.B.Backing.device g.B.Backing.history g.B.Backing.fault_count) in
     record {
       table = c.turn.ensures.table ∙ ap (λ (p : PassState). p.table) c.self.view_is;
-      sight = ap (λ me. me.0) c.turn.ensures.slots ∙ ap (λ (p : PassState). p.sight) c.self.view_is;
+      view = ap (λ me. me.0) c.turn.ensures.slots ∙ ap (λ (p : PassState). p.view) c.self.view_is;
       turned = (
         place,
         ap (λ me. shown_in shown me.1) c.turn.ensures.slots

@@ -1,0 +1,3 @@
+-- Fsync: what its steps tell.
+pub mod SyncLaws
+pub mod MachineLaws

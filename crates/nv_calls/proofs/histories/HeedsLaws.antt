@@ -1,0 +1,279 @@
+-- STOP: what the steps of a pass that has seen it find, and which answers tell of it.
+use Rattle.std.proofs.Common.{◌≡◌, ℕ, ◌+◌, ◌*◌, ◌==◌, ◌^◌, ◌||◌, Bool, true, false, if◌then◌else◌, List, [], ◌∷◌, ◌++◌, length, map, refl, sym, ap, subst, ◌∙◌, arith, ne_eqb}
+use Rattle.std.specs.Prelude.{Option, Some, None, nat_lt, min, Result, Ok, Err}
+use Rattle.std.specs.List.{slice_get}
+use Rattle.nv_plain.specs.Layouts.{version_1}
+use Rattle.nv_plain.specs.Modes.{can_read}
+use Rattle.nv_plain.specs.Pieces.{pages_touched}
+use Rattle.nv_plain.specs.declared.call.FileCall.TheVariants.{Read, Sync}
+use Rattle.nv_plain.specs.declared.call.Reply.TheVariants.{Done as Replied}
+use Rattle.nv_mount.specs.declared.fds.Fd.{Fd}
+use Rattle.nv_plain.specs.declared.call.FileCall.{FileCall}
+use Rattle.nv_core.specs.state.Words.{Sizes, STOP, ORDER, PAGE, place}
+use Rattle.nv_core.specs.state.Passes.{Pass, first_page, end_page}
+use Rattle.nv_core.specs.steps.Ops.{Op, Load, Take, Place, Stop, ByCleaner}
+use Rattle.nv_core.specs.state.Cleaner as cleaner
+use Rattle.nv_core.specs.invariant.Ownership.{is_among}
+use Rattle.nv_core.specs.state.Core.{Core}
+use Rattle.nv_core.specs.steps.Events.{Event, CallsDevice, after_run, after_event}
+use Rattle.nv_core.specs.invariant.InvariantLaws.{RunsAreSound}
+use Rattle.nv_core.specs.steps.Opening.{IsMount, opening}
+use Rattle.nv_core.specs.steps.Order.{Work}
+use Rattle.nv_core.specs.steps.PassSteps.{stopped_after}
+use Rattle.nv_core.proofs.steps.RunLaws.{after_parts}
+use Rattle.nv_table.specs.steps.SeatSteps.{act_of, events, pass_worked, with_call, pass_before}
+use Rattle.nv_table.specs.state.Opened.{Opened, mount_of, state_of}
+use Rattle.nv_table.specs.steps.StepContracts.{Postcondition}
+use Rattle.nv_table.specs.state.Views.{PassView, pass_of}
+use Rattle.nv_table.specs.state.States.{PassState}
+use Rattle.nv_table.proofs.invariant.DrawnLaws.{calls_leave}
+use Rattle.nv_calls.specs.declared.answers.Done.{Done}
+use Rattle.nv_calls.specs.declared.answers.Refusal.{Refusal}
+use Rattle.nv_calls.specs.declared.answers.Refusal.TheVariants.{BadFd, TooFar, TooLong, Busy, Stopped, Spent, RegionFault, StoreFault}
+use Rattle.nv_calls.specs.reads.EarlyRefusals.{early_range_refusal, early_fd_refusal, early_refusal}
+use Rattle.nv_calls.specs.fsync.SyncRuns.{file_of_fd, IsSyncRun}
+use Rattle.nv_calls.specs.histories.Heeds.{HasSeenStop, HeedsStop, is_stop_load, loads_stop, tells_stop, ReadsHeedStop, SyncsHeedStop}
+use Rattle.nv_calls.specs.histories.OwnSteps.{is_own, gives_back, AreOwn}
+use Rattle.nv_calls.specs.reads.Reads.{refusal_of, IsOverBy}
+use Rattle.nv_calls.specs.histories.PassSteps.{PassStep, HasTaken, HasMade, IsBetweenSteps, either_of, refused_by, refusal_in, if_own, busy_at}
+
+-- ---- one step
+
+-- what its pass has seen of STOP
+with_call_stopped : (sizes : Sizes) (opens : Option FileCall) (pass : Pass) → (with_call sizes opens pass).stopped ≡ pass.stopped
+with_call_stopped sizes None pass = refl
+with_call_stopped sizes (Some call) pass = refl
+
+before_stopped : (view : PassView) (opens : Option FileCall) (works : List Work) → (pass_before view opens works).stopped ≡ (pass_of view).stopped
+before_stopped view opens works =
+    with_call_stopped view.opened.sizes opens (pass_worked view.opened.sizes works (pass_of view))
+    ∙ calls_leave (λ (p : Pass). p.stopped) (λ sizes work pass. refl) view.opened.sizes works (pass_of view)
+
+seen_after : (old new : PassState) (opens : Option FileCall) (op : Op) (found : ℕ) → (is : Postcondition old opens op found new)
+    → (pass_of new.view).stopped ≡ stopped_after (pass_before old.view opens is.works) op found
+seen_after old new opens op found is = ap (λ (p : Pass). p.stopped) is.pass
+
+-- it never forgets it
+kept_if : (b one : Bool) → one ≡ true → (if b then one else true) ≡ true
+kept_if true one seen = seen
+kept_if false one seen = refl
+
+stays_stopped : (pass : Pass) (op : Op) (found : ℕ) → pass.stopped ≡ true → stopped_after pass op found ≡ true
+stays_stopped pass (Load STOP) found seen = kept_if (found == 0) pass.stopped seen
+stays_stopped pass Stop found seen = refl
+stays_stopped pass (ByCleaner (cleaner.Load STOP)) found seen = kept_if (found == 0) pass.stopped seen
+stays_stopped pass (ByCleaner cleaner.Stop) found seen = refl
+stays_stopped pass op found seen = seen
+
+pub step_stays : (old new : PassState) (opens : Option FileCall) (op : Op) (found : ℕ) → Postcondition old opens op found new → HasSeenStop old → HasSeenStop new
+step_stays old new opens op found is seen =
+    seen_after old new opens op found is ∙ stays_stopped (pass_before old.view opens is.works) op found (before_stopped old.view opens is.works ∙ seen)
+
+-- and finds it set
+words_after : (sizes : Sizes) (core : Core) (by : ℕ) (opens : Option FileCall) (found : ℕ) → (after_event sizes record { by = by; act = act_of opens (Load STOP) found } core).words STOP ≡ found
+words_after sizes core by None found = refl
+words_after sizes core by (Some call) found = refl
+
+stop_found : (opened : Opened) (run : List Event) (by : ℕ) (works : List Work) (opens : Option FileCall) (found : ℕ) → (state_of opened (run ++ events by works (act_of opens (Load STOP) found))).words STOP ≡ found
+stop_found opened run by works opens found =
+    let calls : List Event = map (λ work. record { by = by; act = CallsDevice work }) works in
+    let last : List Event = record { by = by; act = act_of opens (Load STOP) found } ∷ [] in
+    ap (λ (core : Core). core.words STOP) (after_parts opened.sizes (opening (mount_of opened)) run (calls ++ last) ∙ after_parts opened.sizes (state_of opened run) calls last)
+    ∙ words_after opened.sizes (after_run opened.sizes (state_of opened run) calls) by opens found
+
+pub load_finds : RunsAreSound → (old new : PassState) (opens : Option FileCall) (found : ℕ) → IsMount (mount_of old.view.opened) → Postcondition old opens (Load STOP) found new → HasSeenStop old → found ≡ 1
+load_finds sound old new opens found mount is seen =
+    let run = is.steps.run ++ events old.view.number is.works (act_of opens (Load STOP) found) in
+    let at : ((state_of old.view.opened run).passes old.view.number).stopped ≡ true = subst (λ (view : PassView). (pass_of view).stopped ≡ true) is.steps.is (step_stays old new opens (Load STOP) found is seen) in
+    sym (stop_found old.view.opened is.steps.run old.view.number is.works opens found)
+    ∙ (sound (mount_of old.view.opened) run mount is.steps.is_run).stop.stays old.view.number at
+
+-- ---- steps
+
+seen_between : (old new : PassState) → IsBetweenSteps old new → HasSeenStop old → HasSeenStop new
+seen_between old new same seen = subst (λ (view : PassView). (pass_of view).stopped ≡ true) (sym same.view) seen
+
+taken_stays : (step : PassStep) (old new : PassState) → HasTaken step old new → HasSeenStop old → HasSeenStop new
+taken_stays step old new taken seen = step_stays taken.before new step.opens step.op step.found taken.stepped (seen_between old taken.before taken.between seen)
+
+pub made_stays : (steps : List PassStep) (start now : PassState) → HasMade steps start now → HasSeenStop start → HasSeenStop now
+made_stays [] start now same seen = subst (λ (p : PassState). HasSeenStop p) (sym same) seen
+made_stays (step ∷ earlier) start now made seen = taken_stays step made.0 now made.2 (made_stays earlier start made.0 made.1 seen)
+
+taken_opened : (step : PassStep) (old new : PassState) → HasTaken step old new → new.view.opened ≡ old.view.opened
+taken_opened step old new taken = ap (λ (view : PassView). view.opened) (taken.stepped.steps.is) ∙ ap (λ (view : PassView). view.opened) taken.between.view
+
+made_opened : (steps : List PassStep) (start now : PassState) → HasMade steps start now → now.view.opened ≡ start.view.opened
+made_opened [] start now same = ap (λ (p : PassState). p.view.opened) same
+made_opened (step ∷ earlier) start now made = taken_opened step made.0 now made.2 ∙ made_opened earlier start made.0 made.1
+
+load_of : (op : Op) → is_stop_load op ≡ true → op ≡ Load STOP
+load_of (Load STOP) is = refl
+load_of op is = absurd (cc)
+
+-- a step that loads STOP refuses its call
+load_refuses : (sizes : Sizes) (call : FileCall) (works : List Work) (op : Op) (found : ℕ) → op ≡ Load STOP → found ≡ 1 → refused_by sizes call works op found ≡ Some Stopped
+load_refuses sizes call works op found load set =
+    ap (λ d. refused_by sizes call works d found) load ∙ ap (refused_by sizes call works (Load STOP)) set
+
+module _ (sound : RunsAreSound) (sizes : Sizes) (call : FileCall) (start : PassState) (mount : IsMount (mount_of start.view.opened)) (seen : HasSeenStop start) where
+  last_refuses : (step : PassStep) (earlier : List PassStep) (now : PassState) → HasMade (step ∷ earlier) start now → is_stop_load step.op ≡ true → refused_by sizes call step.works step.op step.found ≡ Some Stopped
+  last_refuses step earlier now made load =
+      let taken = made.2 in
+      let is = load_of step.op load in
+      let at = subst (λ (o : Opened). IsMount (mount_of o)) (sym (ap (λ (view : PassView). view.opened) taken.between.view ∙ made_opened earlier start made.0 made.1)) mount in
+      let stepped = subst (λ d. Postcondition taken.before step.opens d step.found now) is taken.stepped in
+      load_refuses sizes call step.works step.op step.found is
+      (load_finds sound taken.before now step.opens step.found at stepped (seen_between made.0 taken.before taken.between (made_stays earlier start made.0 made.1 seen)))
+
+  own_open : (refusal : Option Refusal) (op : Op) → op ≡ Load STOP → is_own refusal op ≡ true → refusal ≡ None
+  own_open None op load own = refl
+  own_open (Some refusal) op load own = let never : gives_back (Load STOP) ≡ true = sym (ap gives_back load) ∙ own in absurd (cc)
+
+  -- a call that comes to its load of STOP is refused by it
+  pub comes_to_stop : (steps : List PassStep) (now : PassState) → HasMade steps start now → AreOwn sizes call steps → loads_stop steps ≡ true → refusal_in sizes call steps ≡ Some Stopped
+  comes_to_stop [] now made own loads = absurd own
+  comes_to_stop (step ∷ []) now made own loads = last_refuses step [] now made loads
+  comes_to_stop (step ∷ (other ∷ earlier)) now made own loads = by (loads_stop (other ∷ earlier)) refl (comes_to_stop (other ∷ earlier) made.0 made.1 own.2)
+    where
+      by : (b : Bool) → loads_stop (other ∷ earlier) ≡ b → (loads_stop (other ∷ earlier) ≡ true → refusal_in sizes call (other ∷ earlier) ≡ Some Stopped) → refusal_in sizes call (step ∷ (other ∷ earlier)) ≡ Some Stopped
+      by true before then_ = ap (λ r. either_of r (refused_by sizes call step.works step.op step.found)) (then_ before)
+      by false before then_ =
+          let load : is_stop_load step.op ≡ true = sym (ap (λ b. b || is_stop_load step.op) before) ∙ loads in
+          ap (λ r. either_of r (refused_by sizes call step.works step.op step.found)) (own_open (refusal_in sizes call (other ∷ earlier)) step.op (load_of step.op load) own.1)
+          ∙ last_refuses step (other ∷ earlier) now made load
+
+-- ---- answers
+
+abbrev pub refusal_tells : Option Refusal → Bool
+refusal_tells (Some Stopped) = true
+refusal_tells (Some RegionFault) = true
+refusal_tells (Some StoreFault) = true
+refusal_tells refusal = false
+
+answer_tells : (result : Result Done Refusal) → tells_stop result ≡ refusal_tells (refusal_of result)
+answer_tells (Err Stopped) = refl
+answer_tells (Err RegionFault) = refl
+answer_tells (Err StoreFault) = refl
+answer_tells result = refl
+
+tells_neither : (b : Bool) (one other : Option Refusal) → refusal_tells one ≡ false → refusal_tells other ≡ false → refusal_tells (if b then one else other) ≡ false
+tells_neither true one other first last = first
+tells_neither false one other first last = last
+
+tells_set : (b one : Bool) → refusal_tells (if b then None else Some Stopped) ≡ true → (if b then one else true) ≡ true
+tells_set true one tells = absurd (cc)
+tells_set false one tells = refl
+
+-- a step that refuses its call for STOP, or a device fault, has seen it or set it
+never : (b : Bool) → b ≡ false → b ≡ true → ⊥
+never b off is = cc
+
+refuses_seeing : (sizes : Sizes) (call : FileCall) (works : List Work) (pass : Pass) (op : Op) (found : ℕ) → refusal_tells (refused_by sizes call works op found) ≡ true → stopped_after pass op found ≡ true
+refuses_seeing sizes call works pass (Take (PAGE page)) found tells =
+    let busy = tells_neither (found == 0) None (Some (Busy (place sizes (PAGE page)))) refl refl in
+    absurd (never _ (tells_neither (found == 0) None (if_own sizes call page (busy_at sizes (PAGE page) found)) refl (tells_neither (is_among (first_page sizes call) (end_page sizes call) page) (busy_at sizes (PAGE page) found) None busy refl)) tells)
+refuses_seeing sizes call works pass (Take cell) found tells = absurd (never _ (tells_neither (found == 0) None (Some (Busy (place sizes cell))) refl refl) tells)
+refuses_seeing sizes call works pass (Load STOP) found tells = tells_set (found == 0) pass.stopped tells
+refuses_seeing sizes call works pass (Load ORDER) found tells = absurd (never _ (tells_neither (nat_lt found (2 ^ 60)) None (Some (Spent found)) refl refl) tells)
+refuses_seeing sizes call works pass Stop found tells = refl
+refuses_seeing sizes call works pass op found tells = absurd (cc)
+
+pub made_tells : (sizes : Sizes) (call : FileCall) (steps : List PassStep) (start now : PassState) → HasMade steps start now → refusal_tells (refusal_in sizes call steps) ≡ true → HasSeenStop now
+made_tells sizes call [] start now made tells = absurd (cc)
+made_tells sizes call (step ∷ earlier) start now made tells = by (refusal_in sizes call earlier) refl (made_tells sizes call earlier start made.0 made.1)
+  where
+    taken : HasTaken step made.0 now
+    taken = made.2
+
+    by : (before : Option Refusal) → refusal_in sizes call earlier ≡ before → (refusal_tells (refusal_in sizes call earlier) ≡ true → HasSeenStop made.0) → HasSeenStop now
+    by (Some refusal) is seen =
+        let told = sym (ap (λ r. refusal_tells (either_of r (refused_by sizes call step.works step.op step.found))) is) ∙ tells in
+        taken_stays step made.0 now taken (seen (ap refusal_tells is ∙ told))
+    by None is seen =
+        seen_after taken.before now step.opens step.op step.found taken.stepped
+        ∙ refuses_seeing sizes call step.works (pass_before taken.before.view step.opens taken.stepped.works) step.op step.found
+        (sym (ap (λ r. refusal_tells (either_of r (refused_by sizes call step.works step.op step.found))) is) ∙ tells)
+
+pub answer_seen : (sizes : Sizes) (call : FileCall) (steps : List PassStep) (start now : PassState) (result : Result Done Refusal) → HasMade steps start now → refusal_in sizes call steps ≡ refusal_of result
+    → tells_stop result ≡ true → HasSeenStop now
+answer_seen sizes call steps start now result made is tells =
+    made_tells sizes call steps start now made (ap refusal_tells is ∙ sym (answer_tells result) ∙ tells)
+
+-- ---- calls that are over
+
+range_tells : (sizes : Sizes) (at len : ℕ) → refusal_tells (early_range_refusal sizes at len) ≡ false
+range_tells sizes at len =
+    let long = nat_lt (min version_1.group_limit sizes.entries) (pages_touched at len sizes.page) in
+    tells_neither (nat_lt (sizes.page * sizes.pages) (at + len)) (Some TooFar) (if long then Some TooLong else None) refl (tells_neither long (Some TooLong) None refl refl)
+
+fd_tells : (sizes : Sizes) (fd : Option Fd) (at len : ℕ) → refusal_tells (early_fd_refusal sizes fd at len) ≡ false
+fd_tells sizes None at len = refl
+fd_tells sizes (Some one) at len = tells_neither (can_read one.mode) (early_range_refusal sizes at len) (Some BadFd) (range_tells sizes at len) refl
+
+stopped_is : (result : Result Done Refusal) → refusal_of result ≡ Some Stopped → result ≡ Err Stopped
+stopped_is (Ok done) is = absurd (cc)
+stopped_is (Err refusal) is = let same : refusal ≡ Stopped = cc in ap Err same
+
+over_by_heeds : RunsAreSound → (by : Option Refusal) (fds : List Fd) (fd at : ℕ) (list : List ℕ) (start now : PassState) (result : Result Done Refusal) → refusal_tells by ≡ false → IsMount (mount_of start.view.opened)
+    → IsOverBy by fds fd at list start now result → HeedsStop start now result
+over_by_heeds sound (Some refusal) fds fd at list start now result silent mount over = record {
+  steps = [];
+  made = over.1;
+  stays = λ seen. subst (λ (p : PassState). HasSeenStop p) (sym over.1) seen;
+  told = λ tells. absurd (never (tells_stop result) (ap tells_stop over.0 ∙ answer_tells (Err refusal) ∙ silent) tells);
+  heeds = λ seen loads. cc;
+}
+over_by_heeds sound None fds fd at list start now result silent mount over =
+    let sizes = start.view.opened.sizes in
+    let call = Read over.0 at (length list) in
+    let ended = over.2 in
+    record {
+      steps = ended.steps;
+      made = ended.made;
+      stays = made_stays ended.steps start now ended.made;
+      told = answer_seen sizes call ended.steps start now result ended.made ended.refused;
+      heeds = λ seen loads. stopped_is result (sym ended.refused ∙ comes_to_stop sound sizes call start mount seen ended.steps now ended.made ended.own loads);
+    }
+
+pub reads_heed_stop : RunsAreSound → ReadsHeedStop
+reads_heed_stop sound fds fd at list start now result mount over =
+    let by = early_refusal start.view.opened.sizes fds fd at (length list) in
+    over_by_heeds sound by fds fd at list start now result (fd_tells start.view.opened.sizes (slice_get fds fd) at (length list)) mount over
+
+-- ---- an fsync
+
+sync_run_stays : (file : Option ℕ) (start now : PassState) (result : Result Done Refusal) → IsSyncRun file start now result → HasSeenStop start → HasSeenStop now
+sync_run_stays None start now (Err BadFd) sync_run seen = subst (λ (p : PassState). HasSeenStop p) (sym sync_run) seen
+sync_run_stays (Some file) start now (Err Stopped) sync_run seen = step_stays start now (Some (Sync file)) (Load STOP) sync_run.found sync_run.stop seen
+sync_run_stays (Some file) start now (Err (Spent found)) sync_run seen =
+    step_stays sync_run.begun now None (Load ORDER) found sync_run.order (step_stays start sync_run.begun (Some (Sync file)) (Load STOP) 0 sync_run.stop seen)
+sync_run_stays (Some file) start now (Ok done) sync_run seen =
+    step_stays sync_run.loaded now None (Place Replied) done.place sync_run.places
+    (step_stays sync_run.begun sync_run.loaded None (Load ORDER) sync_run.found sync_run.order (step_stays start sync_run.begun (Some (Sync file)) (Load STOP) 0 sync_run.stop seen))
+sync_run_stays file start now result sync_run seen = absurd sync_run
+
+sync_run_told : (file : Option ℕ) (start now : PassState) (result : Result Done Refusal) → IsSyncRun file start now result → tells_stop result ≡ true → HasSeenStop now
+sync_run_told (Some file) start now (Err Stopped) sync_run tells =
+    seen_after start now (Some (Sync file)) (Load STOP) sync_run.found sync_run.stop
+    ∙ ap (λ b. if b then (pass_before start.view (Some (Sync file)) sync_run.stop.works).stopped else true) (ne_eqb sync_run.found 0 sync_run.set)
+sync_run_told (Some file) start now (Err (Spent found)) sync_run tells = absurd (cc)
+sync_run_told (Some file) start now (Ok done) sync_run tells = absurd (cc)
+sync_run_told None start now (Err BadFd) sync_run tells = absurd (cc)
+sync_run_told file start now result sync_run tells = absurd sync_run
+
+not_zero : {T : Type 0} → ◌≡◌ {A = ℕ} 0 1 → T
+not_zero is = absurd (omega arith)
+
+sync_run_heeds : RunsAreSound → (file : ℕ) (start now : PassState) (result : Result Done Refusal) → IsMount (mount_of start.view.opened) → IsSyncRun (Some file) start now result → HasSeenStop start → result ≡ Err Stopped
+sync_run_heeds sound file start now (Err Stopped) mount sync_run seen = refl
+sync_run_heeds sound file start now (Err (Spent found)) mount sync_run seen = not_zero (load_finds sound start sync_run.begun (Some (Sync file)) 0 mount sync_run.stop seen)
+sync_run_heeds sound file start now (Ok done) mount sync_run seen = not_zero (load_finds sound start sync_run.begun (Some (Sync file)) 0 mount sync_run.stop seen)
+sync_run_heeds sound file start now result mount sync_run seen = absurd sync_run
+
+pub syncs_heed_stop : RunsAreSound → SyncsHeedStop
+syncs_heed_stop sound fds fd start now result mount sync_run = record {
+  stays = sync_run_stays (file_of_fd fds fd) start now result sync_run;
+  told = sync_run_told (file_of_fd fds fd) start now result sync_run;
+  heeds = λ seen file is. sync_run_heeds sound file start now result mount (subst (λ one. IsSyncRun one start now result) is sync_run) seen;
+}

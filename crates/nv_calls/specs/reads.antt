@@ -1,0 +1,11 @@
+-- Reads: their control states, and what each step of them leads to.
+pub mod Advances
+pub mod EarlyRefusals
+pub mod Copied
+pub mod Ends
+pub mod PastSearch
+pub mod PageReads
+pub mod PieceReads
+pub mod Measures
+pub mod Reads
+pub mod ReadsAlone

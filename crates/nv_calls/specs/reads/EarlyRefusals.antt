@@ -1,0 +1,40 @@
+-- Early refusals: reads that are refused before their first step, by what they ask for alone.
+use Rattle.std.specs.Prelude.{◌≡◌, ℕ, ◌+◌, ◌*◌, nat_lt, min, if◌then◌else◌, List, Option, Some, None, Result, Ok, Err}
+use Rattle.std.specs.List.{slice_get}
+use Rattle.nv_plain.specs.Layouts.{version_1}
+use Rattle.nv_plain.specs.Modes.{can_read}
+use Rattle.nv_plain.specs.Pieces.{pages_touched}
+use Rattle.nv_plain.specs.declared.call.FileCall.TheVariants.{Read}
+use Rattle.nv_core.specs.state.Passes.{IsAllowed}
+use Rattle.nv_core.specs.state.Words.{Sizes}
+use Rattle.nv_mount.specs.declared.fds.Fd.{Fd}
+use Rattle.nv_calls.specs.declared.answers.Refusal.{Refusal}
+use Rattle.nv_calls.specs.declared.answers.Refusal.TheVariants.{BadFd, TooFar, TooLong}
+use Rattle.nv_calls.specs.fsync.SyncRuns.{file_of_fd}
+
+-- It ends past the last page of a file, or touches more pages than a group has entries.
+abbrev pub early_range_refusal : Sizes → (at len : ℕ) → Option Refusal
+early_range_refusal sizes at len =
+    if nat_lt (sizes.page * sizes.pages) (at + len) then Some TooFar
+    else (if nat_lt (min version_1.group_limit sizes.entries) (pages_touched at len sizes.page) then Some TooLong
+    else None)
+
+-- There is no such descriptor, or it may not be read; or else its range is refused.
+abbrev pub early_fd_refusal : Sizes → Option Fd → (at len : ℕ) → Option Refusal
+early_fd_refusal sizes None at len = Some BadFd
+early_fd_refusal sizes (Some one) at len = if can_read one.mode then early_range_refusal sizes at len else Some BadFd
+
+abbrev pub early_refusal : Sizes → List Fd → (fd at len : ℕ) → Option Refusal
+early_refusal sizes fds fd at len = early_fd_refusal sizes (slice_get fds fd) at len
+
+-- ---- the test
+
+-- A read that is not refused so is one of its descriptor's file, which the core allows.
+pub record IsAdmitted (sizes : Sizes) (fds : List Fd) (fd at len file : ℕ) : Type 0 where
+  pub unbarred : early_refusal sizes fds fd at len ≡ None
+  pub file_is : file_of_fd fds fd ≡ Some file
+  pub allowed : IsAllowed sizes (Read file at len)
+
+abbrev pub Admits : Sizes → List Fd → (fd at len : ℕ) → Result ℕ Refusal → Type 0
+Admits sizes fds fd at len (Ok file) = IsAdmitted sizes fds fd at len file
+Admits sizes fds fd at len (Err refusal) = early_refusal sizes fds fd at len ≡ Some refusal

@@ -1,0 +1,345 @@
+-- Buffers: what a step leaves of what its pass's pages have, and of what a read has gathered.
+use Rattle.std.proofs.Common.{◌≡◌, ◌≢◌, ℕ, ◌+◌, ◌^◌, ◌<◌, ◌≤◌, ◌==◌, nat_lt, nat_le, not, ◌&&◌, true, false, if◌then◌else◌, List, [], ◌∷◌, Option, inl, inr, refl, sym, ap, subst, ◌∙◌, arith}
+use Rattle.std.specs.Prelude.{Some, None}
+use Rattle.std.proofs.lemmas.Bool.{cases_lt, eq-eqb, ne_eqb}
+use Rattle.nv_plain.specs.declared.call.FileCall.{FileCall}
+use Rattle.nv_core.specs.state.Words.{Sizes, Word, STOP, ORDER, HEAD, TAIL, SIZE, LENGTH, STORE, ENTRY, PAGE, CLEANUP, DIRTY, ready, is_entry_of, same, HINT, CLEANER, HEADER, is_lock}
+use Rattle.nv_core.specs.state.Passes.{Control, Idle, LoadLength, TakeSize, LoadStop, LoadOrder, VisitPage, TakeCleanup, TakeStore, ReadStore, GiveStore, ReadLoadHead, ReadLoadTail, LoadEntry, HoldEntry, ReadPiece, ReturnEntry, GiveCleanup, WriteLoadHead, WriteLoadTail, DrawNumbers, SeizeEntry, CommitGroup, PledgePage, ReadyEntry, TakePlace, GrowLength, GiveSize, GivePage, GiveBack, SetStopAfterRead, SetStopAfterPiece, SetStopAfterCommit, BreakEntry, Pass, IsLastTaken, is_write, is_read, page_count, first_page, end_page, without, times, Searching, GiveVictim, Search}
+use Rattle.nv_core.specs.steps.Ops.{Op, Load, Take, Give, Place, Stop, Draw, Seize, Pledge, Ready, Grow, Break, Hold, Return, slot_of_entry, Stays, Comes, move_of, cleaner_move, moved, Turn, Hint, ByCleaner}
+use Rattle.nv_core.specs.state.Cleaner.{Batch, CleanerControl, TakeHeader, GiveStores, CleanerOp, TakeCleaner, Clean}
+use Rattle.nv_core.specs.state.Cleaner as cleaner
+use Rattle.nv_core.specs.steps.CleanerSteps.{next_cleaner_op, group_page, group_file}
+use Rattle.nv_core.specs.steps.ControlSteps.{control_after, after_load, after_give, after_stop, after_head, after_tail, after_look, after_hold, after_return, scanning, leaving, giving, ending, ordered, copying, exceeds}
+use Rattle.nv_core.specs.steps.Order.{Values, IsFailing}
+use Rattle.nv_core.specs.steps.StepKinds.{MayLoad, MayTake, MayGive, CleanerEnabled, EnabledByKind}
+use Rattle.nv_core.specs.invariant.ControlFacts.{IsPage, FactsAt, IsElsewhere}
+use Rattle.nv_core.specs.invariant.Ownership.{one_if, is_among, HoldsLocks}
+use Rattle.nv_core.specs.content.ValidBuffers.{patched_page, with_own_pieces}
+use Rattle.nv_core.proofs.state.Changes.{differ}
+use Rattle.nv_core.proofs.state.Choices.{if_both, when_true, when_false, leaving_both, IsGivingBack, gives_back, page_tried}
+use Rattle.nv_core.proofs.steps.CleanerControls.{tended, tended_to}
+use Rattle.nv_core.proofs.invariant.LockLaws.{times_here, times_else}
+use Rattle.nv_core.proofs.invariant.OwnershipLaws.{among_in, among_below, among_above}
+use Rattle.nv_core.proofs.content.FileLaws.{own_none}
+use Rattle.nv_core.proofs.steps.SearchLaws.{turned_at, looked_at, hinting_at, hinting_next, tried_at, hinted_at}
+
+-- ---- which pages a pass holds
+
+-- the control states at which a pass holds all pages of its call
+abbrev pub IsWhole : Control → Type 0
+IsWhole LoadOrder = Unit {0}
+IsWhole (VisitPage page) = Unit {0}
+IsWhole (TakeCleanup page) = Unit {0}
+IsWhole (TakeStore page dirty) = Unit {0}
+IsWhole (ReadStore page dirty) = Unit {0}
+IsWhole (GiveStore page dirty) = Unit {0}
+IsWhole (ReadLoadHead page) = Unit {0}
+IsWhole (ReadLoadTail page) = Unit {0}
+IsWhole (LoadEntry page number) = Unit {0}
+IsWhole (HoldEntry page number) = Unit {0}
+IsWhole (ReadPiece page number) = Unit {0}
+IsWhole (ReturnEntry page number failed) = Unit {0}
+IsWhole (GiveCleanup page) = Unit {0}
+IsWhole (SetStopAfterPiece page number) = Unit {0}
+IsWhole (CommitGroup calls) = Unit {0}
+IsWhole (PledgePage page) = Unit {0}
+IsWhole (ReadyEntry number) = Unit {0}
+IsWhole TakePlace = Unit {0}
+IsWhole control = ⊥
+
+-- the victim of a search is no page of the call
+pub not_own : (sizes : Sizes) (call : FileCall) (buffer victim page : ℕ) → IsElsewhere sizes call (GiveVictim buffer victim) → IsPage sizes call page → page ≢ victim
+not_own sizes call buffer victim page other is e =
+    let inside : one_if (is_among (first_page sizes call) (end_page sizes call) page) ≡ 1 = among_in (first_page sizes call) (end_page sizes call) page is.0 is.1 in
+    let outside : one_if (is_among (first_page sizes call) (end_page sizes call) victim) ≡ 0 = when_false (is_among (first_page sizes call) (end_page sizes call) victim) 1 0 other in
+    let same = ap (λ p. one_if (is_among (first_page sizes call) (end_page sizes call) p)) e in omega (arith, inside, outside, same)
+
+whole_pages : (sizes : Sizes) (pass : Pass) (control : Control) → IsWhole control → HoldsLocks sizes pass control → (page : ℕ) → times (PAGE page) pass.owned ≡ one_if (is_among (first_page sizes pass.call) (end_page sizes pass.call) page)
+whole_pages sizes pass LoadOrder whole held page = held (PAGE page) (λ slot. differ (PAGE page) (ENTRY slot) refl)
+whole_pages sizes pass (VisitPage next) whole held page = held (PAGE page) (λ slot. differ (PAGE page) (ENTRY slot) refl)
+whole_pages sizes pass (TakeCleanup next) whole held page = held (PAGE page) (λ slot. differ (PAGE page) (ENTRY slot) refl)
+whole_pages sizes pass (TakeStore next dirty) whole held page = held (PAGE page) (λ slot. differ (PAGE page) (ENTRY slot) refl)
+whole_pages sizes pass (ReadStore next dirty) whole held page = held (PAGE page) (λ slot. differ (PAGE page) (ENTRY slot) refl)
+whole_pages sizes pass (GiveStore next dirty) whole held page = held (PAGE page) (λ slot. differ (PAGE page) (ENTRY slot) refl)
+whole_pages sizes pass (ReadLoadHead next) whole held page = held (PAGE page) (λ slot. differ (PAGE page) (ENTRY slot) refl)
+whole_pages sizes pass (ReadLoadTail next) whole held page = held (PAGE page) (λ slot. differ (PAGE page) (ENTRY slot) refl)
+whole_pages sizes pass (LoadEntry next number) whole held page = held (PAGE page) (λ slot. differ (PAGE page) (ENTRY slot) refl)
+whole_pages sizes pass (HoldEntry next number) whole held page = held (PAGE page) (λ slot. differ (PAGE page) (ENTRY slot) refl)
+whole_pages sizes pass (ReadPiece next number) whole held page = held (PAGE page) (λ slot. differ (PAGE page) (ENTRY slot) refl)
+whole_pages sizes pass (ReturnEntry next number failed) whole held page = held (PAGE page) (λ slot. differ (PAGE page) (ENTRY slot) refl)
+whole_pages sizes pass (GiveCleanup next) whole held page = held (PAGE page) (λ slot. differ (PAGE page) (ENTRY slot) refl)
+whole_pages sizes pass (SetStopAfterPiece next number) whole held page = held (PAGE page) (λ slot. differ (PAGE page) (ENTRY slot) refl)
+whole_pages sizes pass (CommitGroup calls) whole held page = held (PAGE page) (λ slot. differ (PAGE page) (ENTRY slot) refl)
+whole_pages sizes pass (PledgePage next) whole held page = held (PAGE page) (λ slot. differ (PAGE page) (ENTRY slot) refl)
+whole_pages sizes pass (ReadyEntry number) whole held page = held (PAGE page) (λ slot. differ (PAGE page) (ENTRY slot) refl)
+whole_pages sizes pass TakePlace whole held page = held (PAGE page) (λ slot. differ (PAGE page) (ENTRY slot) refl)
+whole_pages sizes pass control whole held page = absurd whole
+
+-- one in a search holds them too
+pub searching_holds : (sizes : Sizes) (pass : Pass) (missed tries : ℕ) (search : Search) → FactsAt sizes pass (Searching missed tries search) → HoldsLocks sizes pass (Searching missed tries search) → (page : ℕ) → IsPage sizes pass.call page → times (PAGE page) pass.owned ≡ 1
+searching_holds sizes pass missed tries (GiveVictim buffer victim) stands held page is =
+    let a = held (PAGE page) (λ slot. differ (PAGE page) (ENTRY slot) refl) in let b = among_in (first_page sizes pass.call) (end_page sizes pass.call) page is.0 is.1 in
+    let c : one_if (page == victim) ≡ 0 = when_false (page == victim) 1 0 (ne_eqb page victim (not_own sizes pass.call buffer victim page stands.2 is)) in omega (arith, a, b, c)
+searching_holds sizes pass missed tries search stands held page is = held (PAGE page) (λ slot. differ (PAGE page) (ENTRY slot) refl) ∙ among_in (first_page sizes pass.call) (end_page sizes pass.call) page is.0 is.1
+
+pub whole_holds : (sizes : Sizes) (pass : Pass) (control : Control) → IsWhole control → HoldsLocks sizes pass control → (page : ℕ) → IsPage sizes pass.call page → times (PAGE page) pass.owned ≡ 1
+whole_holds sizes pass control whole held page is = whole_pages sizes pass control whole held page ∙ among_in (first_page sizes pass.call) (end_page sizes pass.call) page is.0 is.1
+
+pub whole_page : (sizes : Sizes) (pass : Pass) (control : Control) → IsWhole control → HoldsLocks sizes pass control → (page : ℕ) → times (PAGE page) pass.owned ≡ 1 → IsPage sizes pass.call page
+whole_page sizes pass control whole held page has =
+    let is = whole_pages sizes pass control whole held page in
+    elim (cases_lt page (first_page sizes pass.call)) [
+      | inl below ↦ absurd (let a = among_below (first_page sizes pass.call) (end_page sizes pass.call) page below in omega (arith, is, has, a))
+      | inr low ↦ elim (cases_lt page (end_page sizes pass.call)) [
+        | inl high ↦ (low, high)
+        | inr above ↦ absurd (let a = among_above (first_page sizes pass.call) (end_page sizes pass.call) page above in omega (arith, is, has, a))
+      ]
+    ]
+
+-- a pass that gives a page back holds it
+last_held : (cell : Word) (owned : List Word) → IsLastTaken cell owned → 1 ≤ times cell owned
+last_held cell [] last = absurd last
+last_held cell (first ∷ rest) last = subst (λ w. 1 ≤ times cell (w ∷ rest)) (sym last) (let t = times_here cell rest in omega (arith, t))
+
+pub page_given : (sizes : Sizes) (pass : Pass) (page : ℕ) (control : Control) → ((next : ℕ) → control ≡ GivePage next → next < end_page sizes pass.call) → HoldsLocks sizes pass control → MayGive pass (PAGE page) control → 1 ≤ times (PAGE page) pass.owned
+page_given sizes pass page (GivePage next) below held may =
+    let a = held (PAGE page) (λ slot. differ (PAGE page) (ENTRY slot) refl) in
+    let b = subst (λ p. one_if (is_among next (end_page sizes pass.call) p) ≡ 1) (sym may) (among_in next (end_page sizes pass.call) next (omega arith) (below next refl)) in omega (arith, a, b)
+page_given sizes pass page (Searching missed tries (GiveVictim buffer victim)) below held may =
+    let a = held (PAGE page) (λ slot. differ (PAGE page) (ENTRY slot) refl) in
+    let b : one_if (page == victim) ≡ 1 = when_true (page == victim) 1 0 (eq-eqb page victim may) in omega (arith, a, b)
+page_given sizes pass page GiveBack below held may = last_held (PAGE page) pass.owned may
+page_given sizes pass page control below held may = absurd may
+
+pub less_times : (cell other : Word) (owned : List Word) → times cell (without other owned) ≤ times cell owned
+less_times cell other [] = omega arith
+less_times cell other (first ∷ rest) = if_both (λ h. times cell h ≤ times cell (first ∷ rest)) (same other first) rest (first ∷ without other rest)
+    (λ _. omega arith) (λ _. let l = less_times cell other rest in omega (arith, l))
+
+-- the steps that take no lock, but a cleaner's
+abbrev pub IsUntaking : Op → Type 0
+IsUntaking (Take cell) = ⊥
+IsUntaking (ByCleaner cleaner_op) = ⊥
+IsUntaking op = Unit {0}
+
+pub no_more : (sizes : Sizes) (op : Op) (found page : ℕ) (owned : List Word) → IsUntaking op → times (PAGE page) (moved (move_of sizes op found) owned) ≤ times (PAGE page) owned
+no_more sizes (Take cell) found page owned un = absurd un
+no_more sizes (ByCleaner cleaner_op) found page owned un = absurd un
+no_more sizes (Give cell) found page owned un = less_times (PAGE page) cell owned
+no_more sizes (Seize number) found page owned un = let e = times_else (PAGE page) (ENTRY (slot_of_entry sizes number)) owned (differ (PAGE page) (ENTRY (slot_of_entry sizes number)) refl) in omega (arith, e)
+no_more sizes (Ready number) found page owned un = less_times (PAGE page) (ENTRY (slot_of_entry sizes number)) owned
+no_more sizes (Hold number) found page owned un = let e = times_else (PAGE page) (ENTRY (slot_of_entry sizes number)) owned (differ (PAGE page) (ENTRY (slot_of_entry sizes number)) refl) in omega (arith, e)
+no_more sizes (Return number) found page owned un = less_times (PAGE page) (ENTRY (slot_of_entry sizes number)) owned
+no_more sizes (Break number) found page owned un = less_times (PAGE page) (ENTRY (slot_of_entry sizes number)) owned
+no_more sizes op found page owned un = omega arith
+
+-- a cleaner takes no page
+
+abbrev IsPageless : CleanerOp → Type 0
+IsPageless (cleaner.Take cell) = (page : ℕ) → PAGE page ≢ cell
+IsPageless cleaner_op = Unit {0}
+
+abbrev MayBePageless : Option CleanerOp → Type 0
+MayBePageless (Some cleaner_op) = IsPageless cleaner_op
+MayBePageless None = Unit {0}
+
+next_pageless : (sizes : Sizes) (owned : List Word) (batch : Batch) (inner : CleanerControl) → MayBePageless (next_cleaner_op sizes owned batch inner)
+next_pageless sizes owned batch TakeHeader = λ page. differ (PAGE page) HEADER refl
+next_pageless sizes owned batch (cleaner.TakeCleanup i) = λ page. differ (PAGE page) (CLEANUP (group_page batch i)) refl
+next_pageless sizes owned batch cleaner.TakeStore = λ page. differ (PAGE page) (STORE (group_file sizes batch)) refl
+next_pageless sizes owned batch (GiveStores []) = tt
+next_pageless sizes owned batch (GiveStores (file ∷ rest)) = tt
+next_pageless sizes [] batch cleaner.GiveBack = tt
+next_pageless sizes (cell ∷ rest) batch cleaner.GiveBack = if_both MayBePageless (is_lock cell) (Some (cleaner.Give cell)) None (λ _. tt) (λ _. tt)
+next_pageless sizes owned batch inner = tt
+
+cleaner_op_no_more : (sizes : Sizes) (cleaner_op : CleanerOp) (found page : ℕ) (owned : List Word) → IsPageless cleaner_op → times (PAGE page) (moved (cleaner_move sizes cleaner_op found) owned) ≤ times (PAGE page) owned
+cleaner_op_no_more sizes (TakeCleaner most) found page owned un = if_both (λ m. times (PAGE page) (moved m owned) ≤ times (PAGE page) owned) (found == 0) (Comes CLEANER) Stays
+    (λ _. let e = times_else (PAGE page) CLEANER owned (differ (PAGE page) CLEANER refl) in omega (arith, e)) (λ _. omega arith)
+cleaner_op_no_more sizes (cleaner.Take cell) found page owned un = if_both (λ m. times (PAGE page) (moved m owned) ≤ times (PAGE page) owned) (found == 0) (Comes cell) Stays
+    (λ _. let e = times_else (PAGE page) cell owned (un page) in omega (arith, e)) (λ _. omega arith)
+cleaner_op_no_more sizes (cleaner.Give cell) found page owned un = less_times (PAGE page) cell owned
+cleaner_op_no_more sizes (cleaner.Hold number) found page owned un = let e = times_else (PAGE page) (ENTRY (slot_of_entry sizes number)) owned (differ (PAGE page) (ENTRY (slot_of_entry sizes number)) refl) in omega (arith, e)
+cleaner_op_no_more sizes (cleaner.Return number) found page owned un = less_times (PAGE page) (ENTRY (slot_of_entry sizes number)) owned
+cleaner_op_no_more sizes (Clean number) found page owned un = less_times (PAGE page) (ENTRY (slot_of_entry sizes number)) owned
+cleaner_op_no_more sizes cleaner_op found page owned un = omega arith
+
+pub by_cleaner_no_more : (sizes : Sizes) (pass : Pass) (cleaner_op : CleanerOp) (found page : ℕ) → CleanerEnabled sizes pass cleaner_op pass.control → times (PAGE page) (moved (cleaner_move sizes cleaner_op found) pass.owned) ≤ times (PAGE page) pass.owned
+by_cleaner_no_more sizes pass cleaner_op found page may =
+    cleaner_op_no_more sizes cleaner_op found page pass.owned (tended (λ c _. IsPageless c) sizes pass cleaner_op pass.control may (λ _. tt) (λ batch inner e. subst MayBePageless e (next_pageless sizes pass.owned batch inner)))
+
+-- ---- control states at which no page is patched
+
+abbrev pub IsUnpatched : Control → Type 0
+IsUnpatched (PledgePage page) = ⊥
+IsUnpatched (ReadyEntry number) = ⊥
+IsUnpatched TakePlace = ⊥
+IsUnpatched control = Unit {0}
+
+pub unpatched : (sizes : Sizes) (call : FileCall) (control : Control) (page : ℕ) (old : List ℕ) → IsUnpatched control → patched_page sizes call control page old ≡ old
+unpatched sizes call (PledgePage next) page old un = absurd un
+unpatched sizes call (ReadyEntry number) page old un = absurd un
+unpatched sizes call TakePlace page old un = absurd un
+unpatched sizes call control page old un = refl
+
+pub giving_back : (control : Control) → IsGivingBack control → IsUnpatched control
+giving_back GiveBack back = tt
+giving_back GiveSize back = tt
+giving_back (GivePage page) back = tt
+giving_back (GiveStore page dirty) back = tt
+giving_back (GiveCleanup page) back = tt
+giving_back (Searching page tries search) back = tt
+giving_back control back = absurd back
+
+-- the steps that neither place, pledge nor ready
+abbrev pub IsMild : Op → Type 0
+IsMild (Place reply) = ⊥
+IsMild (Pledge page) = ⊥
+IsMild (Ready number) = ⊥
+IsMild op = Unit {0}
+
+-- the steps that neither place nor pledge
+abbrev pub IsKeeping : Op → Type 0
+IsKeeping (Place reply) = ⊥
+IsKeeping (Pledge page) = ⊥
+IsKeeping op = Unit {0}
+
+-- a step other than one that gives back CLEANUP once all pieces of a page are read: that fills the page's buffer
+abbrev pub IsUnfilling : Op → Control → Type 0
+IsUnfilling (Give cell) control = (page : ℕ) → control ≡ GiveCleanup page → ⊥
+IsUnfilling op control = Unit {0}
+
+at : (control : Control) {other : Control} → other ≡ control → IsUnpatched control → IsUnpatched other
+at control e is = subst IsUnpatched (sym e) is
+
+load_before : (sizes : Sizes) (values : Values) (pass : Pass) (word : Word) → MayLoad sizes values pass word → IsUnpatched pass.control
+load_before sizes values pass (LENGTH file) may = at LoadLength may.0 tt
+load_before sizes values pass STOP may = at LoadStop may tt
+load_before sizes values pass ORDER may = at LoadOrder may tt
+load_before sizes values pass HEAD may = elim may [ inl is ↦ at WriteLoadHead is tt | inr is ↦ at (ReadLoadHead is.0) is.1 tt ]
+load_before sizes values pass TAIL may = elim may [ inl is ↦ at WriteLoadTail is tt | inr is ↦ at (ReadLoadTail is.0) is.1 tt ]
+load_before sizes values pass (ENTRY slot) may = at (LoadEntry may.0 may.1) may.2 tt
+load_before sizes values pass (DIRTY page) may = looked_at IsUnpatched sizes values pass page (λ _. tt) (λ _ _. tt) may
+load_before sizes values pass (HINT buffer) may = hinting_at IsUnpatched pass buffer (λ _ _. tt) may
+load_before sizes values pass word may = absurd may
+
+take_before : (pass : Pass) (cell : Word) → MayTake pass cell → IsUnpatched pass.control
+take_before pass (PAGE page) may = tried_at IsUnpatched pass page tt (λ _ _ _. tt) may
+take_before pass (SIZE file) may = at TakeSize may.0 tt
+take_before pass (STORE file) may = at (TakeStore may.0 may.1) may.2 tt
+take_before pass (CLEANUP page) may = at (TakeCleanup page) may tt
+take_before pass cell may = absurd may
+
+failing_before : (control : Control) → IsFailing control → IsUnpatched control
+failing_before (SetStopAfterRead page dirty) may = tt
+failing_before (SetStopAfterPiece page number) may = tt
+failing_before SetStopAfterCommit may = tt
+failing_before control may = absurd may
+
+plain_before : (sizes : Sizes) (values : Values) (pass : Pass) (op : Op) → IsMild op → EnabledByKind sizes values pass op → IsUnpatched pass.control
+plain_before sizes values pass (Load word) mild may = load_before sizes values pass word may
+plain_before sizes values pass (Take cell) mild may = take_before pass cell may
+plain_before sizes values pass (Give cell) mild may = giving_back pass.control (gives_back pass cell pass.control may)
+plain_before sizes values pass Stop mild may = failing_before pass.control may
+plain_before sizes values pass Draw mild may = at DrawNumbers may tt
+plain_before sizes values pass (Seize number) mild may = at (SeizeEntry number) may tt
+plain_before sizes values pass Grow mild may = at GrowLength may tt
+plain_before sizes values pass (Break number) mild may = at (BreakEntry number) may tt
+plain_before sizes values pass (Hold number) mild may = at (HoldEntry may.0 number) may.1 tt
+plain_before sizes values pass (Return number) mild may = at (ReturnEntry may.0 number may.1) may.2 tt
+plain_before sizes values pass (Place reply) mild may = absurd mild
+plain_before sizes values pass (Pledge page) mild may = absurd mild
+plain_before sizes values pass (Ready number) mild may = absurd mild
+plain_before sizes values pass (Turn page) mild may = turned_at IsUnpatched sizes values pass page (λ _. tt) (λ _ _. tt) may
+plain_before sizes values pass (Hint buffer page) mild may = hinted_at IsUnpatched values pass buffer page (λ _. tt) may
+plain_before sizes values pass (ByCleaner cleaner_op) mild may = tended (λ _ s. IsUnpatched s) sizes pass cleaner_op pass.control may (λ _. tt) (λ _ _ _. tt)
+plain_before sizes values pass op mild may = absurd may
+
+module _ (sizes : Sizes) (values : Values) (pass : Pass) (page : ℕ) (old : List ℕ) where
+  old_leaving : (owned : List Word) → patched_page sizes pass.call (leaving owned) page old ≡ old
+  old_leaving owned = leaving_both (λ s. patched_page sizes pass.call s page old ≡ old) owned (λ _. refl) (λ _. refl)
+
+  old_giving : patched_page sizes pass.call (giving sizes pass.call) page old ≡ old
+  old_giving = if_both (λ s. patched_page sizes pass.call s page old ≡ old) (page_count sizes pass.call == 0) Idle (GivePage (first_page sizes pass.call)) (λ _. refl) (λ _. refl)
+
+  pub old_ending : patched_page sizes pass.call (ending sizes pass) page old ≡ old
+  old_ending = if_both (λ s. patched_page sizes pass.call s page old ≡ old) pass.sized GiveSize (giving sizes pass.call) (λ _. refl) (λ _. old_giving)
+
+  old_scanning : (next number : ℕ) → patched_page sizes pass.call (scanning pass next number) page old ≡ old
+  old_scanning next number = if_both (λ s. patched_page sizes pass.call s page old ≡ old) (nat_lt number pass.head) (LoadEntry next number) (GiveCleanup next) (λ _. refl) (λ _. refl)
+
+  old_load : (word : Word) (found : ℕ) → MayLoad sizes values pass word → patched_page sizes pass.call (after_load sizes pass word found) page old ≡ old
+  old_load (LENGTH file) found may = if_both (λ s. patched_page sizes pass.call s page old ≡ old) (exceeds pass found && not pass.sized) TakeSize LoadStop (λ _. refl) (λ _. refl)
+  old_load STOP found may = if_both (λ s. patched_page sizes pass.call s page old ≡ old) (found == 0) LoadOrder (leaving pass.owned) (λ _. refl) (λ _. old_leaving pass.owned)
+  old_load ORDER found may = if_both (λ s. patched_page sizes pass.call s page old ≡ old) (nat_lt found (2 ^ 60)) (ordered sizes pass.call) (leaving pass.owned)
+      (λ _. if_both (λ s. patched_page sizes pass.call s page old ≡ old) (is_write pass.call) WriteLoadHead (if is_read pass.call then VisitPage (first_page sizes pass.call) else TakePlace) (λ _. refl)
+      (λ other. if_both (λ s. patched_page sizes pass.call s page old ≡ old) (is_read pass.call) (VisitPage (first_page sizes pass.call)) TakePlace (λ _. refl) (λ _. own_none sizes pass.call page old other)))
+      (λ _. old_leaving pass.owned)
+  old_load HEAD found may = elim may [
+    | inl is ↦ subst (λ s. patched_page sizes pass.call (after_head sizes pass found s) page old ≡ old) (sym is)
+        (if_both (λ s. patched_page sizes pass.call s page old ≡ old) (nat_le (found + page_count sizes pass.call) (2 ^ 60)) WriteLoadTail (leaving pass.owned) (λ _. refl) (λ _. old_leaving pass.owned))
+    | inr is ↦ subst (λ s. patched_page sizes pass.call (after_head sizes pass found s) page old ≡ old) (sym is.1) refl
+  ]
+  old_load TAIL found may = elim may [
+    | inl is ↦ subst (λ s. patched_page sizes pass.call (after_tail sizes pass found s) page old ≡ old) (sym is)
+        (if_both (λ s. patched_page sizes pass.call s page old ≡ old) (nat_le (pass.head + page_count sizes pass.call) (found + sizes.entries)) DrawNumbers (leaving pass.owned) (λ _. refl) (λ _. old_leaving pass.owned))
+    | inr is ↦ subst (λ s. patched_page sizes pass.call (after_tail sizes pass found s) page old ≡ old) (sym is.1) (old_scanning is.0 found)
+  ]
+  old_load (ENTRY slot) found may = subst (λ s. patched_page sizes pass.call (after_look pass found s) page old ≡ old) (sym may.2)
+      (if_both (λ s. patched_page sizes pass.call s page old ≡ old) (is_entry_of ready may.0 found) (HoldEntry may.0 may.1) (scanning pass may.0 (may.1 + 1)) (λ _. refl) (λ _. old_scanning may.0 (may.1 + 1)))
+  old_load (DIRTY next) found may = if_both (λ s. patched_page sizes pass.call s page old ≡ old) (found == 0) (TakeStore next false) (TakeCleanup next) (λ _. refl) (λ _. refl)
+  old_load (HINT buffer) found may = hinting_next (λ s. patched_page sizes pass.call s page old ≡ old) sizes pass buffer found may refl
+  old_load word found may = absurd may
+
+  old_take : (cell : Word) (found : ℕ) → MayTake pass cell → patched_page sizes pass.call (control_after sizes pass (Take cell) found) page old ≡ old
+  old_take (PAGE next) found may = page_tried (λ s. patched_page sizes pass.call s page old ≡ old) sizes pass next found refl refl (old_leaving pass.owned) (λ _ _ _. refl) may
+  old_take (SIZE file) found may = if_both (λ s. patched_page sizes pass.call s page old ≡ old) (found == 0) LoadLength (leaving pass.owned) (λ _. refl) (λ _. old_leaving pass.owned)
+  old_take (STORE file) found may = if_both (λ s. patched_page sizes pass.call s page old ≡ old) (found == 0) (copying pass.control) (leaving pass.owned)
+      (λ _. subst (λ s. patched_page sizes pass.call (copying s) page old ≡ old) (sym may.2) refl) (λ _. old_leaving pass.owned)
+  old_take (CLEANUP next) found may = if_both (λ s. patched_page sizes pass.call s page old ≡ old) (found == 0) (TakeStore next true) (leaving pass.owned) (λ _. refl) (λ _. old_leaving pass.owned)
+  old_take cell found may = absurd may
+
+  old_give : (cell : Word) (control : Control) → IsGivingBack control → patched_page sizes pass.call (after_give sizes pass cell control) page old ≡ old
+  old_give cell GiveBack back = old_leaving (without cell pass.owned)
+  old_give cell GiveSize back = old_giving
+  old_give cell (GivePage next) back = if_both (λ s. patched_page sizes pass.call s page old ≡ old) (next + 1 == end_page sizes pass.call) Idle (GivePage (next + 1)) (λ _. refl) (λ _. refl)
+  old_give cell (GiveStore next dirty) back = if_both (λ s. patched_page sizes pass.call s page old ≡ old) dirty (ReadLoadHead next) (VisitPage (next + 1)) (λ _. refl) (λ _. refl)
+  old_give cell (GiveCleanup next) back = refl
+  old_give cell (Searching next tries search) back = refl
+  old_give cell control back = absurd back
+
+  old_stop : (control : Control) → IsFailing control → patched_page sizes pass.call (after_stop pass control) page old ≡ old
+  old_stop (SetStopAfterRead next dirty) may = old_leaving pass.owned
+  old_stop (SetStopAfterPiece next number) may = refl
+  old_stop SetStopAfterCommit may = refl
+  old_stop control may = absurd may
+
+  pub plain_after : (op : Op) (found : ℕ) → IsMild op → EnabledByKind sizes values pass op → patched_page sizes pass.call (control_after sizes pass op found) page old ≡ old
+  plain_after (Load word) found mild may = old_load word found may
+  plain_after (Take cell) found mild may = old_take cell found may
+  plain_after (Give cell) found mild may = old_give cell pass.control (gives_back pass cell pass.control may)
+  plain_after Stop found mild may = old_stop pass.control may
+  plain_after Draw found mild may = if_both (λ s. patched_page sizes pass.call s page old ≡ old) (found == pass.head) (SeizeEntry found) (leaving pass.owned) (λ _. refl) (λ _. old_leaving pass.owned)
+  plain_after (Seize next) found mild may = if_both (λ s. patched_page sizes pass.call s page old ≡ old) (next + 1 == pass.first + pass.entries) (CommitGroup 0) (SeizeEntry (next + 1)) (λ _. refl) (λ _. refl)
+  plain_after Grow found mild may = old_ending
+  plain_after (Break next) found mild may = if_both (λ s. patched_page sizes pass.call s page old ≡ old) (next + 1 == pass.first + pass.entries) (leaving (without (ENTRY (slot_of_entry sizes next)) pass.owned)) (BreakEntry (next + 1))
+      (λ _. old_leaving (without (ENTRY (slot_of_entry sizes next)) pass.owned)) (λ _. refl)
+  plain_after (Hold number) found mild may = subst (λ s. patched_page sizes pass.call (after_hold s) page old ≡ old) (sym may.1) refl
+  plain_after (Return number) found mild may = subst (λ s. patched_page sizes pass.call (after_return sizes pass s) page old ≡ old) (sym may.2)
+      (if_both (λ s. patched_page sizes pass.call s page old ≡ old) may.1 (leaving (without (ENTRY (slot_of_entry sizes number)) pass.owned)) (scanning pass may.0 (number + 1)) (λ _. old_leaving (without (ENTRY (slot_of_entry sizes number)) pass.owned)) (λ _. old_scanning may.0 (number + 1)))
+  plain_after (Turn next) found mild may = refl
+  plain_after (Hint buffer next) found mild may = refl
+  plain_after (Place reply) found mild may = absurd mild
+  plain_after (Pledge next) found mild may = absurd mild
+  plain_after (Ready next) found mild may = absurd mild
+  plain_after (ByCleaner cleaner_op) found mild may = tended_to (λ s. patched_page sizes pass.call s page old ≡ old) refl (λ _ _. refl) sizes pass (moved (cleaner_move sizes cleaner_op found) pass.owned) cleaner_op found pass.control may
+  plain_after op found mild may = absurd may
+
+  -- a step that neither places nor pledges leaves what is patched
+  pub patch_stays : (op : Op) (found : ℕ) → EnabledByKind sizes values pass op → IsKeeping op → patched_page sizes pass.call (control_after sizes pass op found) page old ≡ patched_page sizes pass.call pass.control page old
+  patch_stays (Ready next) found may which =
+      if_both (λ s. patched_page sizes pass.call s page old ≡ with_own_pieces sizes pass.call page old) (next == pass.first) TakePlace (ReadyEntry (if next + 1 == pass.first + pass.entries then pass.first else next + 1)) (λ _. refl) (λ _. refl)
+      ∙ sym (ap (λ s. patched_page sizes pass.call s page old) may)
+  patch_stays (Place reply) found may which = absurd which
+  patch_stays (Pledge next) found may which = absurd which
+  patch_stays op found may which = plain_after op found tt may ∙ sym (unpatched sizes pass.call pass.control page old (plain_before sizes values pass op tt may))

@@ -1,0 +1,79 @@
+-- Dirty bounds: a page has no more entries than the log, but for one that is pledged and one that a cleaner has cleaned.
+use Rattle.std.proofs.Common.{◌≡◌, ℕ, zero, suc, ◌+◌, ◌<◌, ◌≤◌, Bool, true, false, if◌then◌else◌, List, [], ◌∷◌, take, drop, inl, inr, refl, sym, subst, arith}
+use Rattle.std.proofs.lemmas.Bool.{cases_Bool, eqb-false}
+use Rattle.nv_core.specs.state.Totals.{total}
+use Rattle.nv_core.specs.state.Words.{Sizes, ENTRY, PAGE, CLEANUP, DIRTY, is_shut}
+use Rattle.nv_core.specs.state.Cleaner.{CleanEntry, SubtractDirty}
+use Rattle.nv_core.specs.state.Passes.{Control, Cleaning, PledgePage, ReadyEntry, Pass, times}
+use Rattle.nv_core.specs.state.Core.{Core}
+use Rattle.nv_core.specs.steps.Order.{Values}
+use Rattle.nv_core.specs.invariant.Locks.{Keyed, holds}
+use Rattle.nv_core.specs.invariant.CleanerOwnership.{count_in}
+use Rattle.nv_core.specs.invariant.Ownership.{one_if, HoldsLocks}
+use Rattle.nv_core.specs.invariant.DirtyCounters.{entries_of_page, is_of_page, owed, owed_by_all, pledged}
+use Rattle.nv_core.specs.invariant.ForbiddenSteps.{NoDirtyAboveTheLog}
+use Rattle.nv_core.specs.invariant.Sound.{Sound}
+use Rattle.nv_core.proofs.invariant.LockLaws.{only_holder}
+use Rattle.nv_core.proofs.state.TotalLaws.{total_most, total_ones, total_keyed}
+
+one_most : (b : Bool) → one_if b ≤ 1
+one_most true = omega arith
+one_most false = omega arith
+
+-- ---- what cleaners owe of a page: at most one of them, at most once
+
+count_taken : (pages : List ℕ) (i page : ℕ) → count_in (take i pages) page ≤ count_in pages page
+count_taken [] zero page = omega arith
+count_taken [] (suc i) page = omega arith
+count_taken (first ∷ rest) zero page = omega arith
+count_taken (first ∷ rest) (suc i) page = let a = count_taken rest i page in omega (arith, a)
+
+count_dropped : (pages : List ℕ) (i page : ℕ) → count_in (drop i pages) page ≤ count_in pages page
+count_dropped [] zero page = omega arith
+count_dropped [] (suc i) page = omega arith
+count_dropped (first ∷ rest) zero page = omega arith
+count_dropped (first ∷ rest) (suc i) page = let a = count_dropped rest i page in omega (arith, a)
+
+-- a cleaner that owes it has its CLEANUP
+owed_most : (sizes : Sizes) (pass : Pass) (control : Control) (page : ℕ) → HoldsLocks sizes pass control → owed control page ≤ times (CLEANUP page) pass.owned
+owed_most sizes pass (Cleaning batch (CleanEntry i)) page locks =
+    let few = count_taken batch.pages i page in let same = locks (CLEANUP page) (λ slot is. cc) in omega (arith, few, same)
+owed_most sizes pass (Cleaning batch (SubtractDirty i)) page locks =
+    let few = count_dropped batch.pages i page in let same = locks (CLEANUP page) (λ slot is. cc) in omega (arith, few, same)
+owed_most sizes pass control page locks = omega arith
+
+owed_once : (sizes : Sizes) (first : Values) (core : Core) (page : ℕ) → Sound sizes first core → owed_by_all core page ≤ 1
+owed_once sizes first core page sound =
+    let less = total_most (core.made + 1) (λ n. owed (core.passes n).control page) (holds core (CLEANUP page)) (λ n below. owed_most sizes (core.passes n) (core.passes n).control page (sound.ownership n).locks) in
+    let once = total_keyed (core.made + 1) (is_shut (CLEANUP page) (core.words (CLEANUP page))) (holds core (CLEANUP page)) (sound.locks.keyed (CLEANUP page)) in
+    omega (arith, less, once)
+
+-- ---- its ready and held entries, and the one that is pledged
+
+entries_most : (sizes : Sizes) (core : Core) (page : ℕ) → entries_of_page sizes core.words page ≤ sizes.entries
+entries_most sizes core page =
+    let less = total_most sizes.entries (λ slot. one_if (is_of_page page (core.words (ENTRY slot)))) (λ slot. 1) (λ slot below. one_most (is_of_page page (core.words (ENTRY slot)))) in
+    let ones = total_ones sizes.entries in
+    omega (arith, less, ones)
+
+pledged_most : (sizes : Sizes) (pass : Pass) (control : Control) (page : ℕ) → pledged sizes pass control page ≤ 1
+pledged_most sizes pass (PledgePage next) page = one_most _
+pledged_most sizes pass (ReadyEntry next) page = one_most _
+pledged_most sizes pass control page = omega arith
+
+pub no_dirty_above_the_log : NoDirtyAboveTheLog
+no_dirty_above_the_log sizes first core page sound =
+    let ready = entries_most sizes core page in
+    let owes = owed_once sizes first core page sound in
+    elim (cases_Bool (is_shut (PAGE page) (core.words (PAGE page)))) [
+      | inl shut ↦
+          let holder = (sound.locks.keyed (PAGE page)).held shut in
+          let is = sound.dirty.held page holder.by holder.once in
+          let pledge = pledged_most sizes (core.passes holder.by) (core.passes holder.by).control page in
+          omega (arith, ready, owes, is, pledge)
+      | inr unshut ↦
+          let not_one = eqb-false (core.words (PAGE page)) 1 unshut in
+          let bit = sound.locks.bit (PAGE page) refl in
+          let is = sound.dirty.free page (omega (arith, not_one, bit)) in
+          omega (arith, ready, owes, is)
+    ]

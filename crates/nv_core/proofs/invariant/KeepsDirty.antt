@@ -1,0 +1,765 @@
+-- Each event keeps the dirty counters.
+use Rattle.std.proofs.Common.{◌≡◌, ◌≢◌, ◌⊎◌, ◌↔◌, ℕ, ◌+◌, ◌<◌, ◌≤◌, ◌==◌, nat_lt, nat_le, ◌&&◌, ◌||◌, Bool, true, false, if◌then◌else◌, List, [], ◌∷◌, length, take, inl, inr, refl, sym, ap, subst, ◌∙◌, arith, ◌-◌}
+use Rattle.std.proofs.lemmas.Bool.{eqb-true, eqb-false, eq-eqb, ne_eqb, le-leb, lt-ltb, leb-true, ltb-true, and_parts, and_from, and_left, or_cases, cases_eq, cases_lt, cases_Bool}
+use Rattle.nv_plain.specs.declared.call.FileCall.{FileCall}
+use Rattle.nv_core.specs.state.Words.{Sizes, Word, PAGE, ENTRY, DIRTY, index, kind_of, page_of, ready, held, filling, broken, entry_word, is_entry_of}
+use Rattle.nv_core.specs.state.Passes.{Control, TakePage, LoadStop, ReadStore, SeizeEntry, CommitGroup, PledgePage, ReadyEntry, TakePlace, SetStopAfterRead, SetStopAfterCommit, BreakEntry, Pass, without, IsUnseized, IsFilling, IsAmong, IsAllowed, page_count, first_page, end_page, times, ReadPiece, SetStopAfterPiece, Cleaning, Idle}
+use Rattle.nv_core.specs.steps.Ops.{Op, slot_of_entry, page_at, ready_word, Load, Take, Give, Place, Stop, Draw, Seize, Pledge, Ready, Grow, Break, Split, PutBack, Join, Turn, Hint, Hold, Return, ByCleaner, cleaner_move, moved}
+use Rattle.nv_core.specs.state.Values.{CallEnding, Made, Failed, Refused}
+use Rattle.nv_core.specs.steps.ControlSteps.{control_after, after_by_cleaner, leaving, after_stop}
+use Rattle.nv_core.specs.steps.PassSteps.{stepped, begun}
+use Rattle.nv_core.specs.steps.Order.{Values, Work, CallEnabled, CallDue, CleanerCallDue, IsFailing, commit_steps}
+use Rattle.nv_core.specs.steps.StepKinds.{EnabledByKind}
+use Rattle.nv_core.proofs.invariant.ClearLaws.{IsClear, IsPlain, clear_from, clear_to, clear_leaving}
+use Rattle.nv_core.proofs.invariant.OwnershipSteps.{few_entries}
+use Rattle.std.proofs.lemmas.Nat.{mod_below}
+use Rattle.nv_core.specs.state.Core.{Core, changes, changed_pass, with_value, with_number, after_step, after_begin, after_work, worked, control_worked}
+use Rattle.nv_core.specs.steps.Events.{CallMayBegin}
+use Rattle.nv_core.proofs.steps.ByKind.{FoundEnabledByKind}
+use Rattle.nv_core.specs.invariant.ControlFacts.{FactsAt, IsPage, HasDrawn, has_call}
+use Rattle.nv_core.specs.invariant.Ownership.{one_if, is_among, HoldsLocks}
+use Rattle.nv_core.specs.invariant.Locks.{Locks}
+use Rattle.nv_core.specs.invariant.LogWindow.{Fills, InWindow, entry_word_at}
+use Rattle.nv_core.specs.invariant.DirtyCounters.{is_of_page, entries_of_page, number_on, pledged, owed, owed_by_all, DirtyCounters}
+use Rattle.nv_core.specs.invariant.Sound.{Sound}
+use Rattle.nv_core.proofs.state.Changes.{by_number, differ, number_here, number_else, word_here, word_else}
+use Rattle.nv_core.proofs.state.Choices.{if_both, when_true, when_false, busy, not_both, step_idle}
+use Rattle.nv_core.proofs.invariant.LockLaws.{only_holder, times_without_else}
+use Rattle.nv_core.proofs.invariant.WindowLaws.{OneEntry, slot_within}
+use Rattle.nv_core.proofs.invariant.OwnershipLaws.{among_in, among_below, among_above, among_more}
+use Rattle.nv_core.proofs.steps.WordLaws.{untouched, touches}
+use Rattle.nv_core.proofs.state.TotalLaws.{total_same, total_at, total_more}
+use Rattle.nv_core.proofs.invariant.KeepsWindow.{readies_one, pledged_alike}
+use Rattle.nv_core.proofs.invariant.KeepsLocks.{kind_is, locks_step, readying_next, entry_is}
+use Rattle.nv_core.proofs.invariant.KeepsLoaded.{held_by_one, holds_page, pledged_page}
+use Rattle.nv_core.specs.invariant.Loaded.{LooksSound}
+use Rattle.nv_core.specs.state.Totals.{total}
+use Rattle.nv_core.specs.state.Cleaner.{Batch, CleanerControl, WriteBack, CleanEntry, SubtractDirty, SyncStores, MoveHeaderTail, FreeEntry, CleanerOp, Clean, Subtract, Free}
+use Rattle.nv_core.specs.state.Cleaner as cleaner
+use Rattle.nv_core.specs.steps.CleanerSteps.{after_cleaner_op, after_cleaner_work, group_page}
+use Rattle.nv_core.specs.log.Progress.{IsLooked}
+use Rattle.nv_core.specs.invariant.CleanerOwnership.{count_in}
+use Rattle.nv_header.specs.HeaderSteps.{tail_steps}
+use Rattle.nv_core.proofs.log.KeepsProgress.{IsCall, IsTending as IsCleaners, step_call}
+use Rattle.nv_core.proofs.steps.CleanerOps.{IsTending, tending, IsAtHand, cleaner_hold_hand, cleaner_return_hand, cleans_hand, frees_hand}
+use Rattle.nv_core.proofs.invariant.CleanerDirty.{IsUncounted, by_cleaner_owes, cleans_owes, subtracts_owes}
+use Rattle.nv_core.proofs.invariant.ControlFactLaws.{worked_control}
+use Rattle.nv_core.proofs.steps.CleanerControls.{of_cleaner_worked}
+
+-- the entries of a page, and those for which a cleaner still owes its DIRTY
+abbrev pub counted : Sizes → Core → (page : ℕ) → ℕ
+counted sizes core page = entries_of_page sizes core.words page + owed_by_all core page
+
+-- ---- what cleaners owe, where a call makes a step
+
+owed_call : (control : Control) (page : ℕ) → IsCall control → owed control page ≡ 0
+owed_call (Cleaning batch inner) page call = absurd call
+owed_call control page call = refl
+
+has_call_call : (control : Control) → has_call control ≡ true → IsCall control
+has_call_call (Cleaning batch inner) has = not_both has refl
+has_call_call control has = tt
+
+pub owed_same : (core now : Core) (page : ℕ) → now.made ≡ core.made → ((n : ℕ) → owed (now.passes n).control page ≡ owed (core.passes n).control page) → owed_by_all now page ≡ owed_by_all core page
+owed_same core now page made same = ap (λ m. total (m + 1) (λ n. owed (now.passes n).control page)) made ∙ total_same (core.made + 1) (λ n. owed (core.passes n).control page) (λ n. owed (now.passes n).control page) (λ n less. same n)
+
+owed_step : (sizes : Sizes) (first : Values) (by : ℕ) (core : Core) (op : Op) (found : ℕ) → Sound sizes first core → (IsCleaners op → ⊥) → FoundEnabledByKind sizes by core op found → (page : ℕ) → owed_by_all (after_step sizes by op found core) page ≡ owed_by_all core page
+owed_step sizes first by core (ByCleaner cleaner_op) found sound other may page = absurd (other tt)
+owed_step sizes first by core Split found sound other may page =
+    let e = total_more (core.made + 1) (λ n. owed ((after_step sizes by Split found core).passes n).control page) in
+    let f = total_same (core.made + 1) (λ n. owed (core.passes n).control page) (λ n. owed ((after_step sizes by Split found core).passes n).control page)
+    (λ n less. ap (λ (p : Pass). owed p.control page) (number_else core.passes (core.made + 1) (changed_pass sizes by core Split found) n (λ is. omega (arith, is, less)))) in
+    let g : owed ((after_step sizes by Split found core).passes (core.made + 1)).control page ≡ 0 = ap (λ (p : Pass). owed p.control page) (number_here core.passes (core.made + 1) (changed_pass sizes by core Split found)) in
+    omega (arith, e, f, g)
+owed_step sizes first by core (PutBack cell) found sound other may page = owed_same core (after_step sizes by (PutBack cell) found core) page refl
+    (by_number (λ n (p : Pass). owed p.control page ≡ owed (core.passes n).control page) core.passes by (changed_pass sizes by core (PutBack cell) found) refl (λ n ne. refl))
+owed_step sizes first by core (Join number) found sound other may page = owed_same core (after_step sizes by (Join number) found core) page refl
+    (by_number (λ n (p : Pass). owed p.control page ≡ owed (core.passes n).control page) core.passes by (changed_pass sizes by core (Join number) found) refl (λ n ne. refl))
+owed_step sizes first by core op found sound other may page = owed_same core (after_step sizes by op found core) page refl
+    (by_number (λ n (p : Pass). owed p.control page ≡ owed (core.passes n).control page) core.passes by (changed_pass sizes by core op found)
+    (owed_call (control_after sizes (core.passes by) op found) page (step_call sizes core.values (core.passes by) op found (λ f. f) may.may)
+    ∙ sym (owed_call (core.passes by).control page (has_call_call (core.passes by).control (step_idle sizes core.values (core.passes by) op may.may)))) (λ n ne. refl))
+
+both_same : (sizes : Sizes) (core now : Core) (page : ℕ) → entries_of_page sizes now.words page ≡ entries_of_page sizes core.words page → owed_by_all now page ≡ owed_by_all core page → counted sizes now page ≡ counted sizes core page
+both_same sizes core now page e f = omega (arith, e, f)
+
+-- a page's lock is 0 or held by one pass
+page_held : (core : Core) → Locks core → (page : ℕ) → (core.words (PAGE page) ≡ 0) ⊎ ((n : ℕ) × (times (PAGE page) (core.passes n).owned ≡ 1))
+page_held core locks page = go (core.words (PAGE page) == 1) refl
+  where
+    go : (b : Bool) → (core.words (PAGE page) == 1) ≡ b → (core.words (PAGE page) ≡ 0) ⊎ ((n : ℕ) × (times (PAGE page) (core.passes n).owned ≡ 1))
+    go true e = let h = (locks.keyed (PAGE page)).held e in inr (h.by, h.once)
+    go false e = inl (let ne = eqb-false (core.words (PAGE page)) 1 e in let bit = locks.bit (PAGE page) refl in omega (arith, ne, bit))
+
+-- a page that a pass holds is not free
+pub not_free : (core : Core) → Locks core → (page n : ℕ) → times (PAGE page) (core.passes n).owned ≡ 1 → core.words (PAGE page) ≡ 0 → ⊥
+not_free core locks page n held zero =
+    let none = (locks.keyed (PAGE page)).free (ne_eqb (core.words (PAGE page)) 1 (λ e. omega (arith, e, zero))) n in omega (arith, none, held)
+
+-- ---- steps that pledge nothing and ready nothing
+
+-- what is counted stays, and the pass that changes has pledged nothing before or after
+silent : (sizes : Sizes) (core now : Core) (who : ℕ) (pass : Pass) → Locks core → Locks now → DirtyCounters sizes core
+    → ((page : ℕ) → now.words (DIRTY page) ≡ core.words (DIRTY page)) → ((page : ℕ) → counted sizes now page ≡ counted sizes core page)
+    → ((n : ℕ) → now.passes n ≡ with_number core.passes who pass n)
+    → ((page : ℕ) → pledged sizes (core.passes who) (core.passes who).control page ≡ 0) → ((page : ℕ) → pledged sizes pass pass.control page ≡ 0)
+    → DirtyCounters sizes now
+silent sizes core now who pass locks after dirty same entries passes none_before none_after = record {
+  free = λ page zero. same page ∙ was_free page zero (page_held core locks page) ∙ sym (entries page);
+  held = λ page n here. elim (cases_eq n who) [
+    | inl e ↦ let p = subst (λ (q : Pass). times (PAGE page) q.owned ≡ 1) (passes n ∙ ap (with_number core.passes who pass) e ∙ number_here core.passes who pass) here in
+        same page ∙ clean page p (page_held core locks page) ∙ sym (entries page) ∙ none_more page n (subst (λ (q : Pass). pledged sizes q q.control page ≡ 0) (sym (passes n ∙ ap (with_number core.passes who pass) e ∙ number_here core.passes who pass)) (none_after page))
+    | inr ne ↦ let is : now.passes n ≡ core.passes n = passes n ∙ number_else core.passes who pass n ne in
+        same page ∙ dirty.held page n (subst (λ (q : Pass). times (PAGE page) q.owned ≡ 1) is here) ∙ ap (λ e. e + pledged sizes (core.passes n) (core.passes n).control page) (sym (entries page)) ∙ ap (λ (q : Pass). counted sizes now page + pledged sizes q q.control page) (sym is)
+  ];
+}
+  where
+    none_more : (page n : ℕ) → pledged sizes (now.passes n) (now.passes n).control page ≡ 0 → counted sizes now page ≡ counted sizes now page + pledged sizes (now.passes n) (now.passes n).control page
+    none_more page n z = omega (arith, z)
+
+    by_who : (page : ℕ) → times (PAGE page) (core.passes who).owned ≡ 1 → core.words (DIRTY page) ≡ counted sizes core page
+    by_who page here = let d = dirty.held page who here in let z = none_before page in omega (arith, d, z)
+
+    still_held : (page n : ℕ) → n ≢ who → times (PAGE page) (core.passes n).owned ≡ 1 → times (PAGE page) (now.passes n).owned ≡ 1
+    still_held page n ne here = subst (λ (q : Pass). times (PAGE page) q.owned ≡ 1) (sym (passes n ∙ number_else core.passes who pass n ne)) here
+
+    was_free : (page : ℕ) → now.words (PAGE page) ≡ 0 → (core.words (PAGE page) ≡ 0) ⊎ ((n : ℕ) × (times (PAGE page) (core.passes n).owned ≡ 1)) → core.words (DIRTY page) ≡ counted sizes core page
+    was_free page zero (inl unheld) = dirty.free page unheld
+    was_free page zero (inr holder) = elim (cases_eq holder.0 who) [
+      | inl e ↦ by_who page (subst (λ n. times (PAGE page) (core.passes n).owned ≡ 1) e holder.1)
+      | inr ne ↦ absurd (not_free now after page holder.0 (still_held page holder.0 ne holder.1) zero)
+    ]
+
+    clean : (page : ℕ) → times (PAGE page) pass.owned ≡ 1 → (core.words (PAGE page) ≡ 0) ⊎ ((n : ℕ) × (times (PAGE page) (core.passes n).owned ≡ 1)) → core.words (DIRTY page) ≡ counted sizes core page
+    clean page here (inl unheld) = dirty.free page unheld
+    clean page here (inr holder) = elim (cases_eq holder.0 who) [
+      | inl e ↦ by_who page (subst (λ n. times (PAGE page) (core.passes n).owned ≡ 1) e holder.1)
+      | inr ne ↦ absurd (
+          let mine : times (PAGE page) (now.passes who).owned ≡ 1 = subst (λ (q : Pass). times (PAGE page) q.owned ≡ 1) (sym (passes who ∙ number_here core.passes who pass)) here in
+          let none = (only_holder (after.keyed (PAGE page)) who (omega (arith, mine))).2 holder.0 ne in
+          let one = still_held page holder.0 ne holder.1 in omega (arith, none, one))
+    ]
+
+-- ---- what is pledged, by what is being filled
+
+number_of : (sizes : Sizes) (pass : Pass) (page : ℕ) → first_page sizes pass.call ≤ page → number_on sizes pass page + first_page sizes pass.call ≡ pass.first + page
+number_of sizes pass page low = omega arith
+
+-- 1 for the page of an entry that is being filled, and else 0
+pub record CountsFilling (sizes : Sizes) (pass : Pass) (control : Control) (page : ℕ) : Type 0 where
+  pub one : first_page sizes pass.call ≤ page → IsFilling control pass.first pass.entries (number_on sizes pass page) → pledged sizes pass control page ≡ 1
+  pub none : (first_page sizes pass.call ≤ page → IsFilling control pass.first pass.entries (number_on sizes pass page) → ⊥) → pledged sizes pass control page ≡ 0
+
+readying_counts : (sizes : Sizes) (pass : Pass) (next page : ℕ) → CountsFilling sizes pass (ReadyEntry next) page
+readying_counts sizes pass next page = record {
+  one = λ low is. when_true _ 1 0 (and_from (nat_le (first_page sizes pass.call) page) _ (le-leb (first_page sizes pass.call) page low) (filled is));
+  none = λ off. elim (cases_Bool test) [ inl so ↦ absurd (let both = and_parts (nat_le (first_page sizes pass.call) page) innermost so in off (leb-true (first_page sizes pass.call) page both.0) (fills both.1)) | inr not_so ↦ when_false test 1 0 not_so ];
+}
+  where
+    innermost : Bool
+    innermost = number_on sizes pass page == pass.first || (nat_lt pass.first next && is_among next (pass.first + pass.entries) (number_on sizes pass page))
+
+    test : Bool
+    test = nat_le (first_page sizes pass.call) page && (number_on sizes pass page == pass.first || (nat_lt pass.first next && is_among next (pass.first + pass.entries) (number_on sizes pass page)))
+
+    or_left : (b c : Bool) → b ≡ true → (b || c) ≡ true
+    or_left b c e = subst (λ x. (x || c) ≡ true) (sym e) refl
+
+    or_right : (b c : Bool) → c ≡ true → (b || c) ≡ true
+    or_right true c e = refl
+    or_right false c e = e
+
+    filled : IsFilling (ReadyEntry next) pass.first pass.entries (number_on sizes pass page) → (number_on sizes pass page == pass.first || (nat_lt pass.first next && is_among next (pass.first + pass.entries) (number_on sizes pass page))) ≡ true
+    filled is = elim is [
+      | inl leader ↦ or_left (number_on sizes pass page == pass.first) _ (eq-eqb (number_on sizes pass page) pass.first leader)
+      | inr follower ↦ or_right (number_on sizes pass page == pass.first) _ (and_from (nat_lt pass.first next) _ (lt-ltb pass.first next follower.0)
+          (and_from (nat_le next (number_on sizes pass page)) _ (le-leb next (number_on sizes pass page) follower.1) (lt-ltb (number_on sizes pass page) (pass.first + pass.entries) follower.2)))
+    ]
+
+    fills : (number_on sizes pass page == pass.first || (nat_lt pass.first next && is_among next (pass.first + pass.entries) (number_on sizes pass page))) ≡ true → IsFilling (ReadyEntry next) pass.first pass.entries (number_on sizes pass page)
+    fills so = elim (or_cases (number_on sizes pass page == pass.first) _ so) [
+      | inl leader ↦ inl (eqb-true (number_on sizes pass page) pass.first leader)
+      | inr follower ↦ inr (
+          let both = and_parts (nat_lt pass.first next) (is_among next (pass.first + pass.entries) (number_on sizes pass page)) follower in
+          let range = and_parts (nat_le next (number_on sizes pass page)) (nat_lt (number_on sizes pass page) (pass.first + pass.entries)) both.1 in
+          (ltb-true pass.first next both.0, leb-true next (number_on sizes pass page) range.0, ltb-true (number_on sizes pass page) (pass.first + pass.entries) range.1))
+    ]
+
+placing_counts : (sizes : Sizes) (pass : Pass) (page : ℕ) → CountsFilling sizes pass TakePlace page
+placing_counts sizes pass page = record { one = λ low is. absurd is; none = λ off. refl }
+
+-- ---- ENTRY words and the count of a page's entries
+
+-- an entry that is free, being filled or broken is of no page
+not_of_page : (page word : ℕ) → kind_of word ≢ ready → kind_of word ≢ held → is_of_page page word ≡ false
+not_of_page page word not_ready not_held = and_left (kind_of word == ready || kind_of word == held) (page_of word == page) (neither (kind_of word == ready) (kind_of word == held) (ne_eqb (kind_of word) ready not_ready) (ne_eqb (kind_of word) held not_held))
+  where
+    neither : (b c : Bool) → b ≡ false → c ≡ false → (b || c) ≡ false
+    neither b c e f = subst (λ x. (x || c) ≡ false) (sym e) f
+
+-- the count changes with the one word that changes
+entries_at : (sizes : Sizes) (words : Word → ℕ) (slot value page : ℕ) → slot < sizes.entries
+    → entries_of_page sizes (with_value words (ENTRY slot) value) page + one_if (is_of_page page (words (ENTRY slot))) ≡ entries_of_page sizes words page + one_if (is_of_page page value)
+entries_at sizes words slot value page less =
+    let e = total_at sizes.entries slot (λ i. one_if (is_of_page page (words (ENTRY i)))) (λ i. one_if (is_of_page page (with_value words (ENTRY slot) value (ENTRY i)))) less
+    (λ i ne. ap (λ w. one_if (is_of_page page w)) (word_else words (ENTRY slot) value (ENTRY i) (λ e. ne (ap index e)))) in
+    let f : one_if (is_of_page page (with_value words (ENTRY slot) value (ENTRY slot))) ≡ one_if (is_of_page page value) = ap (λ w. one_if (is_of_page page w)) (word_here words (ENTRY slot) value) in
+    omega (arith, e, f)
+
+-- a ready word is of its page
+ready_of_page : (count page other : ℕ) → count ≤ 16 → one_if (is_of_page other (entry_word ready count page)) ≡ one_if (page == other)
+ready_of_page count page other few =
+    ap one_if (ap (λ k. (k == ready || k == held) && page_of (entry_word ready count page) == other) (kind_is ready count page (omega arith)) ∙ ap (λ p. p == other) (page_is count page few))
+  where
+    page_is : (count page : ℕ) → count ≤ 16 → page_of (entry_word ready count page) ≡ page
+    page_is count page few = omega arith
+
+-- ---- steps that pledge nothing
+
+-- a control state at which nothing is pledged that isn't ready
+abbrev IsUnpledged : Control → Type 0
+IsUnpledged (PledgePage page) = ⊥
+IsUnpledged (ReadyEntry number) = ⊥
+IsUnpledged control = Unit {0}
+
+unpledged : (sizes : Sizes) (pass : Pass) (page : ℕ) (control : Control) → IsUnpledged control → pledged sizes pass control page ≡ 0
+unpledged sizes pass page (PledgePage next) is = absurd is
+unpledged sizes pass page (ReadyEntry next) is = absurd is
+unpledged sizes pass page control is = refl
+
+clear_unpledged : (control : Control) → IsClear control → IsUnpledged control
+clear_unpledged (PledgePage page) is = is
+clear_unpledged (ReadyEntry number) is = is
+clear_unpledged control is = tt
+
+unpledged_leaving : (owned : List Word) → IsUnpledged (leaving owned)
+unpledged_leaving owned = clear_unpledged (leaving owned) (clear_leaving owned)
+
+-- a step between two such control states that leaves the counted words
+silent_step : (sizes : Sizes) (first : Values) (by : ℕ) (core : Core) (op : Op) (found : ℕ) → Sound sizes first core → DirtyCounters sizes core → FoundEnabledByKind sizes by core op found
+    → (IsCleaners op → ⊥) → ((page : ℕ) → touches op (DIRTY page) ≡ false) → ((page : ℕ) → entries_of_page sizes (after_step sizes by op found core).words page ≡ entries_of_page sizes core.words page)
+    → IsUnpledged (core.passes (changes by core.made op)).control → IsUnpledged (changed_pass sizes by core op found).control → DirtyCounters sizes (after_step sizes by op found core)
+silent_step sizes first by core op found sound dirty may other untouched_dirty entries before after =
+    silent sizes core (after_step sizes by op found core) (changes by core.made op) (changed_pass sizes by core op found) sound.locks (locks_step sizes first by core op found sound may) dirty
+    (λ page. untouched sizes by core op found may (DIRTY page) (untouched_dirty page))
+    (λ page. both_same sizes core (after_step sizes by op found core) page (entries page) (owed_step sizes first by core op found sound other may page)) (λ n. refl)
+    (λ page. unpledged sizes (core.passes (changes by core.made op)) page (core.passes (changes by core.made op)).control before)
+    (λ page. unpledged sizes (changed_pass sizes by core op found) page (changed_pass sizes by core op found).control after)
+
+-- no ENTRY word changes
+same_entries : (sizes : Sizes) (by : ℕ) (core : Core) (op : Op) (found : ℕ) → FoundEnabledByKind sizes by core op found → ((slot : ℕ) → touches op (ENTRY slot) ≡ false) → (page : ℕ) → entries_of_page sizes (after_step sizes by op found core).words page ≡ entries_of_page sizes core.words page
+same_entries sizes by core op found may not_so page = total_same sizes.entries (λ slot. one_if (is_of_page page (core.words (ENTRY slot)))) (λ slot. one_if (is_of_page page ((after_step sizes by op found core).words (ENTRY slot))))
+    (λ slot less. ap (λ w. one_if (is_of_page page w)) (untouched sizes by core op found may (ENTRY slot) (not_so slot)))
+
+plain_step : (sizes : Sizes) (first : Values) (by : ℕ) (core : Core) (op : Op) (found : ℕ) → Sound sizes first core → DirtyCounters sizes core → (may : FoundEnabledByKind sizes by core op found) → (IsCleaners op → ⊥) → IsPlain op → EnabledByKind sizes core.values (core.passes by) op
+    → (changes by core.made op ≡ by) → (changed_pass sizes by core op found ≡ stepped sizes by core.history op found (core.passes by))
+    → ((page : ℕ) → touches op (DIRTY page) ≡ false) → ((slot : ℕ) → touches op (ENTRY slot) ≡ false) → DirtyCounters sizes (after_step sizes by op found core)
+plain_step sizes first by core op found sound dirty may other plain step who what untouched_dirty untouched_entry =
+    silent_step sizes first by core op found sound dirty may other untouched_dirty (same_entries sizes by core op found may untouched_entry)
+    (subst (λ n. IsUnpledged (core.passes n).control) (sym who) (clear_unpledged _ (clear_from sizes core.values (core.passes by) op plain step)))
+    (subst (λ (p : Pass). IsUnpledged p.control) (sym what) (clear_unpledged _ (clear_to sizes core.values (core.passes by) op found plain step)))
+
+-- nothing changes that is counted, and the passes hold and have pledged what they did
+dirty_still : (sizes : Sizes) (core now : Core) → DirtyCounters sizes core → ((word : Word) → now.words word ≡ core.words word) → ((n : ℕ) → (now.passes n).owned ≡ (core.passes n).owned)
+    → ((n page : ℕ) → pledged sizes (now.passes n) (now.passes n).control page ≡ pledged sizes (core.passes n) (core.passes n).control page)
+    → ((page : ℕ) → owed_by_all now page ≡ owed_by_all core page) → DirtyCounters sizes now
+dirty_still sizes core now dirty words owned same owes = record {
+  free = λ page zero. words (DIRTY page) ∙ dirty.free page (sym (words (PAGE page)) ∙ zero) ∙ sym (counts page);
+  held = λ page n here. words (DIRTY page) ∙ dirty.held page n (ap (times (PAGE page)) (sym (owned n)) ∙ here) ∙ ap (λ e. e + pledged sizes (core.passes n) (core.passes n).control page) (sym (counts page)) ∙ ap (λ p. counted sizes now page + p) (sym (same n page));
+}
+  where
+    entries : (page : ℕ) → entries_of_page sizes now.words page ≡ entries_of_page sizes core.words page
+    entries page = total_same sizes.entries (λ slot. one_if (is_of_page page (core.words (ENTRY slot)))) (λ slot. one_if (is_of_page page (now.words (ENTRY slot)))) (λ slot less. ap (λ w. one_if (is_of_page page w)) (words (ENTRY slot)))
+
+    counts : (page : ℕ) → counted sizes now page ≡ counted sizes core page
+    counts page = both_same sizes core now page (entries page) (owes page)
+
+left_pledged : (sizes : Sizes) (pass : Pass) (left : List Word) (page : ℕ) (control : Control) → pledged sizes record pass { left = left } control page ≡ pledged sizes pass control page
+left_pledged sizes pass left page control = refl
+
+-- ---- one entry changes that is of no page before or after
+
+entry_of_none : (sizes : Sizes) (words : Word → ℕ) (slot value page : ℕ) → slot < sizes.entries → is_of_page page (words (ENTRY slot)) ≡ false → is_of_page page value ≡ false → entries_of_page sizes (with_value words (ENTRY slot) value) page ≡ entries_of_page sizes words page
+entry_of_none sizes words slot value page less was is =
+    let e = entries_at sizes words slot value page less in
+    let a : one_if (is_of_page page (words (ENTRY slot))) ≡ 0 = when_false _ 1 0 was in let b : one_if (is_of_page page value) ≡ 0 = when_false _ 1 0 is in omega (arith, e, a, b)
+
+-- ---- one entry that is held or returned stays of its page
+
+entry_same : (sizes : Sizes) (words : Word → ℕ) (slot value page : ℕ) → slot < sizes.entries → is_of_page page (words (ENTRY slot)) ≡ is_of_page page value → entries_of_page sizes (with_value words (ENTRY slot) value) page ≡ entries_of_page sizes words page
+entry_same sizes words slot value page less same = let e = entries_at sizes words slot value page less in let a : one_if (is_of_page page (words (ENTRY slot))) ≡ one_if (is_of_page page value) = ap one_if same in omega (arith, e, a)
+
+of_ready : (page word : ℕ) → kind_of word ≡ ready → is_of_page page word ≡ (page_of word == page)
+of_ready page word is = ap (λ k. (k == ready || k == held) && page_of word == page) is
+
+of_held : (page word : ℕ) → kind_of word ≡ held → is_of_page page word ≡ (page_of word == page)
+of_held page word is = ap (λ k. (k == ready || k == held) && page_of word == page) is
+
+hold_same : (page word : ℕ) → kind_of word ≡ ready → is_of_page page word ≡ is_of_page page (word + 1)
+hold_same page word is =
+    let up : kind_of (word + 1) ≡ held = omega (arith, is) in let at : page_of word ≡ page_of (word + 1) = omega (arith, is) in
+    of_ready page word is ∙ ap (λ p. p == page) at ∙ sym (of_held page (word + 1) up)
+
+return_same : (page word : ℕ) → kind_of word ≡ held → is_of_page page word ≡ is_of_page page (word - 1)
+return_same page word is =
+    let down : kind_of (word - 1) ≡ ready = omega (arith, is) in let at : page_of word ≡ page_of (word - 1) = omega (arith, is) in
+    of_held page word is ∙ ap (λ p. p == page) at ∙ sym (of_ready page (word - 1) down)
+
+pub slot_less : (sizes : Sizes) (pass : Pass) (number : ℕ) → HasDrawn sizes pass.call pass.entries → IsAllowed sizes pass.call → slot_of_entry sizes number < sizes.entries
+slot_less sizes pass number drawn allowed = mod_below number sizes.entries (let a = few_entries sizes pass.call pass.entries drawn allowed in let b = drawn.some in omega (arith, a, b))
+
+-- ---- a pledge
+
+pledges_step : (sizes : Sizes) (first : Values) (by : ℕ) (core : Core) (found page : ℕ) → Sound sizes first core → DirtyCounters sizes core → FoundEnabledByKind sizes by core (Pledge page) found → DirtyCounters sizes (after_step sizes by (Pledge page) found core)
+pledges_step sizes first by core found page sound dirty may = record {
+  free = λ p zero. elim (cases_eq p page) [
+    | inl e ↦ absurd (not_free core sound.locks page by mine (subst (λ q. core.words (PAGE q) ≡ 0) e (sym (untouched sizes by core (Pledge page) found may (PAGE p) refl) ∙ zero)))
+    | inr ne ↦ word_else core.words (DIRTY page) _ (DIRTY p) (λ e. ne (ap index e)) ∙ dirty.free p (sym (untouched sizes by core (Pledge page) found may (PAGE p) refl) ∙ zero)
+        ∙ sym (both_same sizes core (after_step sizes by (Pledge page) found core) p (same_entries sizes by core (Pledge page) found may (λ slot. refl) p) (owes p))
+  ];
+  held = λ p. by_number (λ n (q : Pass). times (PAGE p) q.owned ≡ 1 → (after_step sizes by (Pledge page) found core).words (DIRTY p) ≡ counted sizes (after_step sizes by (Pledge page) found core) p + pledged sizes q q.control p) core.passes by (changed_pass sizes by core (Pledge page) found)
+      (λ here. let old = dirty.held p by here in let e = same_entries sizes by core (Pledge page) found may (λ slot. refl) p in let m = more p in let s = was p in let d = dirty_now p in let w = owes p in omega (arith, old, e, m, s, d, w))
+      (λ n ne here. let old = dirty.held p n here in let e = same_entries sizes by core (Pledge page) found may (λ slot. refl) p in
+      let d = word_else core.words (DIRTY page) (found + 1) (DIRTY p) (λ e. held_by_one sizes first core sound (PAGE page) by n mine (subst (λ q. times (PAGE q) (core.passes n).owned ≡ 1) (ap index e) here) ne) in let w = owes p in omega (arith, old, e, d, w));
+}
+  where
+    owes : (p : ℕ) → owed_by_all (after_step sizes by (Pledge page) found core) p ≡ owed_by_all core p
+    owes = owed_step sizes first by core (Pledge page) found sound (λ f. f) may
+
+    pass : Pass
+    pass = core.passes by
+
+    at : HasDrawn sizes (core.passes by).call (core.passes by).entries × IsPage sizes (core.passes by).call page
+    at = subst (FactsAt sizes (core.passes by)) may.may (sound.control_facts by).at
+
+    mine : times (PAGE page) (core.passes by).owned ≡ 1
+    mine = pledged_page sizes (core.passes by) page at (subst (HoldsLocks sizes (core.passes by)) may.may (sound.ownership by).locks)
+
+    was : (p : ℕ) → pledged sizes (core.passes by) (core.passes by).control p ≡ one_if (is_among (first_page sizes (core.passes by).call) page p)
+    was p = ap (λ s. pledged sizes (core.passes by) s p) may.may
+
+    dirty_now : (p : ℕ) → (after_step sizes by (Pledge page) found core).words (DIRTY p) ≡ one_if (p == page) + core.words (DIRTY p)
+    dirty_now p = elim (cases_eq p page) [
+      | inl e ↦ subst (λ q. (after_step sizes by (Pledge page) found core).words (DIRTY q) ≡ one_if (q == page) + core.words (DIRTY q)) (sym e)
+          (let w = word_here core.words (DIRTY page) (found + 1) in let f = may.is in let o : one_if (page == page) ≡ 1 = when_true (page == page) 1 0 (eq-eqb page page refl) in omega (arith, w, f, o))
+      | inr ne ↦ (let w = word_else core.words (DIRTY page) (found + 1) (DIRTY p) (λ e. ne (ap index e)) in let o : one_if (p == page) ≡ 0 = when_false (p == page) 1 0 (ne_eqb p page ne) in omega (arith, w, o))
+    ]
+
+    -- after the last page all entries are pledged, and none is ready
+    all : (p : ℕ) → (page + 1 == end_page sizes (core.passes by).call) ≡ true → (x : ℕ) → ((n : ℕ) → IsFilling (ReadyEntry x) (core.passes by).first (core.passes by).entries n ↔ IsAmong (core.passes by).first (core.passes by).entries n)
+        → pledged sizes (core.passes by) (ReadyEntry x) p ≡ one_if (is_among (first_page sizes (core.passes by).call) (page + 1) p)
+    all p last x fills = elim (cases_lt p (first_page sizes (core.passes by).call)) [
+      | inl below ↦ (counts p).none (λ low. absurd (omega arith)) ∙ sym (among_below (first_page sizes (core.passes by).call) (page + 1) p below)
+      | inr above ↦ elim (cases_lt p (page + 1)) [
+        | inl within ↦ (counts p).one above ((fills (number_on sizes (core.passes by) p)).1 (omega arith, let e = eqb-true (page + 1) (end_page sizes (core.passes by).call) last in let m = at.0.many in omega (arith, e, m, above, within)))
+            ∙ sym (among_in (first_page sizes (core.passes by).call) (page + 1) p above within)
+        | inr past ↦ (counts p).none (λ low is. let r = (fills (number_on sizes (core.passes by) p)).0 is in let y = r.1 in let e = eqb-true (page + 1) (end_page sizes (core.passes by).call) last in let m = at.0.many in omega (arith, y, e, m, above, past))
+            ∙ sym (among_above (first_page sizes (core.passes by).call) (page + 1) p past)
+      ]
+    ]
+      where
+        counts : (p : ℕ) → CountsFilling sizes (core.passes by) (ReadyEntry x) p
+        counts p = readying_counts sizes (core.passes by) x p
+
+    more : (p : ℕ) → pledged sizes (changed_pass sizes by core (Pledge page) found) (changed_pass sizes by core (Pledge page) found).control p ≡ one_if (p == page) + one_if (is_among (first_page sizes (core.passes by).call) page p)
+    more p = if_both (λ s. pledged sizes (core.passes by) s p ≡ one_if (p == page) + one_if (is_among (first_page sizes (core.passes by).call) page p)) (page + 1 == end_page sizes (core.passes by).call)
+        (ReadyEntry (if (core.passes by).entries == 1 then (core.passes by).first else (core.passes by).first + 1)) (PledgePage (page + 1))
+        (λ last. all p last (if (core.passes by).entries == 1 then (core.passes by).first else (core.passes by).first + 1) (λ n. subst (λ s. IsFilling s (core.passes by).first (core.passes by).entries n ↔ IsAmong (core.passes by).first (core.passes by).entries n)
+        (when_true (page + 1 == end_page sizes (core.passes by).call) (ReadyEntry (if (core.passes by).entries == 1 then (core.passes by).first else (core.passes by).first + 1)) (PledgePage (page + 1)) last) (pledged_alike sizes (core.passes by) page n at.0.some).1)
+        ∙ among_more (first_page sizes (core.passes by).call) page p at.1.0)
+        (λ _. among_more (first_page sizes (core.passes by).call) page p at.1.0)
+
+-- ---- an entry that is made ready
+
+fills_or_not : (first entries next number : ℕ) → IsFilling (ReadyEntry next) first entries number ⊎ (IsFilling (ReadyEntry next) first entries number → ⊥)
+fills_or_not first entries next number = elim (cases_eq number first) [
+  | inl leader ↦ inl (inl leader)
+  | inr not_leader ↦ elim (cases_lt first next) [
+    | inr below ↦ inr (λ is. elim is [ inl leader ↦ not_leader leader | inr follower ↦ (let x = follower.0 in omega (arith, x, below)) ])
+    | inl above ↦ elim (cases_lt number next) [
+      | inl done ↦ inr (λ is. elim is [ inl leader ↦ not_leader leader | inr follower ↦ (let x = follower.1 in omega (arith, x, done)) ])
+      | inr later ↦ elim (cases_lt number (first + entries)) [
+        | inl within ↦ inl (inr (above, later, within))
+        | inr past ↦ inr (λ is. elim is [ inl leader ↦ not_leader leader | inr follower ↦ (let x = follower.2 in omega (arith, x, past)) ])
+      ]
+    ]
+  ]
+]
+
+readies_step : (sizes : Sizes) (first : Values) (by : ℕ) (core : Core) (found next : ℕ) → Sound sizes first core → DirtyCounters sizes core → FoundEnabledByKind sizes by core (Ready next) found → DirtyCounters sizes (after_step sizes by (Ready next) found core)
+readies_step sizes first by core found next sound dirty may = record {
+  free = λ p zero. let z = sym (untouched sizes by core (Ready next) found may (PAGE p) refl) ∙ zero in
+      let old = dirty.free p z in let d = untouched sizes by core (Ready next) found may (DIRTY p) refl in
+      let e = entries_now p in
+      let o : one_if (here == p) ≡ 0 = when_false (here == p) 1 0 (ne_eqb here p (λ is. not_free core sound.locks here by mine (subst (λ q. core.words (PAGE q) ≡ 0) (sym is) z))) in let w = owes p in omega (arith, old, d, e, o, w);
+  held = λ p. by_number (λ n (q : Pass). times (PAGE p) q.owned ≡ 1 → (after_step sizes by (Ready next) found core).words (DIRTY p) ≡ counted sizes (after_step sizes by (Ready next) found core) p + pledged sizes q q.control p) core.passes by (changed_pass sizes by core (Ready next) found)
+      (λ held_now. let old = dirty.held p by (sym (times_without_else (PAGE p) (ENTRY (slot_of_entry sizes next)) (core.passes by).owned (differ (PAGE p) (ENTRY (slot_of_entry sizes next)) refl)) ∙ held_now) in
+      let d = untouched sizes by core (Ready next) found may (DIRTY p) refl in let e = entries_now p in let m = less p in let w = owes p in omega (arith, old, d, e, m, w))
+      (λ n ne held_now. let old = dirty.held p n held_now in let d = untouched sizes by core (Ready next) found may (DIRTY p) refl in let e = entries_now p in
+      let o : one_if (here == p) ≡ 0 = when_false (here == p) 1 0 (ne_eqb here p (λ is. held_by_one sizes first core sound (PAGE here) by n mine (subst (λ q. times (PAGE q) (core.passes n).owned ≡ 1) (sym is) held_now) ne)) in let w = owes p in omega (arith, old, d, e, o, w));
+}
+  where
+    owes : (p : ℕ) → owed_by_all (after_step sizes by (Ready next) found core) p ≡ owed_by_all core p
+    owes = owed_step sizes first by core (Ready next) found sound (λ f. f) may
+
+    here : ℕ
+    here = page_at sizes (core.passes by) next
+
+    at : HasDrawn sizes (core.passes by).call (core.passes by).entries × IsAmong (core.passes by).first (core.passes by).entries next
+    at = subst (FactsAt sizes (core.passes by)) may.may (sound.control_facts by).at
+
+    allowed : IsAllowed sizes (core.passes by).call
+    allowed = (sound.control_facts by).allowed (busy _ _ may.may refl)
+
+    is_page : IsPage sizes (core.passes by).call (page_at sizes (core.passes by) next)
+    is_page = (omega arith, let x = at.1.0 in let y = at.1.1 in let m = at.0.many in omega (arith, x, y, m))
+
+    mine : times (PAGE (page_at sizes (core.passes by) next)) (core.passes by).owned ≡ 1
+    mine = (let held = subst (HoldsLocks sizes (core.passes by)) may.may (sound.ownership by).locks in
+        holds_page sizes (core.passes by) (page_at sizes (core.passes by) next) is_page (held (PAGE (page_at sizes (core.passes by) next)) (λ slot. differ (PAGE (page_at sizes (core.passes by) next)) (ENTRY slot) refl)))
+
+    fills_next : Fills (core.passes by) next
+    fills_next = subst (λ g. IsFilling g (core.passes by).first (core.passes by).entries next) (sym may.may) (readying_next (core.passes by).first (core.passes by).entries next at.1)
+
+    count : ℕ
+    count = if next == (core.passes by).first then (core.passes by).entries else 0
+
+    few : (if next == (core.passes by).first then (core.passes by).entries else 0) ≤ 16
+    few = if_both (λ c. c ≤ 16) (next == (core.passes by).first) (core.passes by).entries 0 (λ _. let m = at.0.many in let a : page_count sizes (core.passes by).call ≤ 16 = (let b = allowed.short in omega (arith, b)) in omega (arith, m, a)) (λ _. omega arith)
+
+    entries_now : (p : ℕ) → entries_of_page sizes (after_step sizes by (Ready next) found core).words p ≡ entries_of_page sizes core.words p + one_if (page_at sizes (core.passes by) next == p)
+    entries_now p =
+        let e = entries_at sizes core.words (slot_of_entry sizes next) (ready_word sizes (core.passes by) next) p (slot_less sizes (core.passes by) next at.0 allowed) in
+        let a : one_if (is_of_page p (core.words (ENTRY (slot_of_entry sizes next)))) ≡ 0 = when_false _ 1 0 (ap (is_of_page p) (sound.window.filling_is by next fills_next) ∙ not_of_page p 1 (λ e. omega (arith, e)) (λ e. omega (arith, e))) in
+        let b = ready_of_page (if next == (core.passes by).first then (core.passes by).entries else 0) (page_at sizes (core.passes by) next) p few in
+        omega (arith, e, a, b)
+
+    one : OneEntry sizes core by next (ready_word sizes (core.passes by) next) (changed_pass sizes by core (Ready next) found)
+    one = readies_one sizes first by core found next sound may
+
+    ready_not_one : ready_word sizes (core.passes by) next ≡ 1 → ⊥
+    ready_not_one e = (let k = kind_is ready (if next == (core.passes by).first then (core.passes by).entries else 0) (page_at sizes (core.passes by) next) (omega arith) in let z : kind_of (ready_word sizes (core.passes by) next) ≡ 1 = ap kind_of e in omega (arith, k, z))
+
+    was : (p : ℕ) → CountsFilling sizes (core.passes by) (core.passes by).control p
+    was p = subst (λ g. CountsFilling sizes (core.passes by) g p) (sym may.may) (readying_counts sizes (core.passes by) next p)
+
+    is_now : (p : ℕ) → CountsFilling sizes (core.passes by) (changed_pass sizes by core (Ready next) found).control p
+    is_now p = if_both (λ g. CountsFilling sizes (core.passes by) g p) (next == (core.passes by).first) TakePlace (ReadyEntry (if next + 1 == (core.passes by).first + (core.passes by).entries then (core.passes by).first else next + 1))
+        (λ _. placing_counts sizes (core.passes by) p) (λ _. readying_counts sizes (core.passes by) (if next + 1 == (core.passes by).first + (core.passes by).entries then (core.passes by).first else next + 1) p)
+
+    -- the page of the entry counts one less, and another page what it did
+    less : (p : ℕ) → pledged sizes (core.passes by) (changed_pass sizes by core (Ready next) found).control p + one_if (page_at sizes (core.passes by) next == p) ≡ pledged sizes (core.passes by) (core.passes by).control p
+    less p = elim (cases_lt p (first_page sizes (core.passes by).call)) [
+      | inl below ↦ (let a = (is_now p).none (λ low. absurd (omega arith)) in let b = (was p).none (λ low. absurd (omega arith)) in
+          let o : one_if (page_at sizes (core.passes by) next == p) ≡ 0 = when_false (page_at sizes (core.passes by) next == p) 1 0 (ne_eqb (page_at sizes (core.passes by) next) p (λ is. omega (arith, is, below))) in omega (arith, a, b, o))
+      | inr above ↦ elim (cases_eq (number_on sizes (core.passes by) p) next) [
+        | inl same ↦ (let a = (is_now p).none (λ low fills. elim (one.fills (number_on sizes (core.passes by) p) fills) [ inl old ↦ old.1 same | inr new ↦ ready_not_one new.1 ]) in
+            let b = (was p).one above (subst (Fills (core.passes by)) (sym same) fills_next) in
+            let x = at.1.0 in
+            let o : one_if (page_at sizes (core.passes by) next == p) ≡ 1 = when_true (page_at sizes (core.passes by) next == p) 1 0 (eq-eqb (page_at sizes (core.passes by) next) p (omega (arith, same, above, x))) in omega (arith, a, b, o))
+        | inr other ↦ (
+            let x = at.1.0 in
+            let o : one_if (page_at sizes (core.passes by) next == p) ≡ 0 = when_false (page_at sizes (core.passes by) next == p) 1 0 (ne_eqb (page_at sizes (core.passes by) next) p (λ is. other (omega (arith, is, above, x)))) in
+            elim (fills_or_not (core.passes by).first (core.passes by).entries next (number_on sizes (core.passes by) p)) [
+              | inl fills ↦ (let f = subst (λ g. IsFilling g (core.passes by).first (core.passes by).entries (number_on sizes (core.passes by) p)) (sym may.may) fills in
+                  let a = (is_now p).one above (one.fills_still (number_on sizes (core.passes by) p) f other) in let b = (was p).one above f in omega (arith, a, b, o))
+              | inr none ↦ (let a = (is_now p).none (λ low fills. elim (one.fills (number_on sizes (core.passes by) p) fills) [
+                | inl old ↦ none (subst (λ g. IsFilling g (core.passes by).first (core.passes by).entries (number_on sizes (core.passes by) p)) may.may old.0)
+                | inr new ↦ other new.0
+              ]) in
+                  let b = (was p).none (λ low fills. none (subst (λ g. IsFilling g (core.passes by).first (core.passes by).entries (number_on sizes (core.passes by) p)) may.may fills)) in omega (arith, a, b, o))
+            ])
+      ]
+    ]
+
+-- ---- a cleaner's steps
+
+-- one that leaves DIRTY, and of each page as many that are counted or owed
+cleaner_step_silent : (sizes : Sizes) (first : Values) (by : ℕ) (core : Core) (cleaner_op : CleanerOp) (found : ℕ) → Sound sizes first core → DirtyCounters sizes core → FoundEnabledByKind sizes by core (ByCleaner cleaner_op) found → ((page : ℕ) → touches (ByCleaner cleaner_op) (DIRTY page) ≡ false)
+    → ((page : ℕ) → counted sizes (after_step sizes by (ByCleaner cleaner_op) found core) page ≡ counted sizes core page) → DirtyCounters sizes (after_step sizes by (ByCleaner cleaner_op) found core)
+cleaner_step_silent sizes first by core cleaner_op found sound dirty may untouched_dirty same =
+    silent sizes core (after_step sizes by (ByCleaner cleaner_op) found core) by (changed_pass sizes by core (ByCleaner cleaner_op) found) sound.locks (locks_step sizes first by core (ByCleaner cleaner_op) found sound may) dirty
+    (λ page. untouched sizes by core (ByCleaner cleaner_op) found may (DIRTY page) (untouched_dirty page)) same (λ n. refl)
+    (λ page. unpledged sizes (core.passes by) page (core.passes by).control (clear_unpledged _ (clear_from sizes core.values (core.passes by) (ByCleaner cleaner_op) tt may.may)))
+    (λ page. unpledged sizes (changed_pass sizes by core (ByCleaner cleaner_op) found) page (changed_pass sizes by core (ByCleaner cleaner_op) found).control (clear_unpledged _ (clear_to sizes core.values (core.passes by) (ByCleaner cleaner_op) found tt may.may)))
+
+-- one that neither cleans an entry nor takes from DIRTY owes what it did
+cleaner_step_owes : (sizes : Sizes) (by : ℕ) (core : Core) (cleaner_op : CleanerOp) (found : ℕ) → IsUncounted cleaner_op → FoundEnabledByKind sizes by core (ByCleaner cleaner_op) found → (page : ℕ) → owed_by_all (after_step sizes by (ByCleaner cleaner_op) found core) page ≡ owed_by_all core page
+cleaner_step_owes sizes by core cleaner_op found un may page = owed_same core (after_step sizes by (ByCleaner cleaner_op) found core) page refl
+    (by_number (λ n (p : Pass). owed p.control page ≡ owed (core.passes n).control page) core.passes by (changed_pass sizes by core (ByCleaner cleaner_op) found)
+    (by_cleaner_owes sizes (core.passes by) (moved (cleaner_move sizes cleaner_op found) (core.passes by).owned) cleaner_op found (core.passes by).control un may.may page) (λ n ne. refl))
+
+eq_turned : (a b : ℕ) → one_if (a == b) ≡ one_if (b == a)
+eq_turned a b = elim (cases_eq a b) [
+  | inl same ↦ when_true (a == b) 1 0 (eq-eqb a b same) ∙ sym (when_true (b == a) 1 0 (eq-eqb b a (sym same)))
+  | inr ne ↦ when_false (a == b) 1 0 (ne_eqb a b ne) ∙ sym (when_false (b == a) 1 0 (ne_eqb b a (λ e. ne (sym e))))
+]
+
+-- the pass of a cleaner is made
+cleaner_made : (sizes : Sizes) (first : Values) (by : ℕ) (core : Core) (batch : Batch) (inner : CleanerControl) → Sound sizes first core → (core.passes by).control ≡ Cleaning batch inner → by < core.made + 1
+cleaner_made sizes first by core batch inner sound at = elim (cases_lt by (core.made + 1)) [
+  | inl less ↦ less
+  | inr more ↦ absurd (not_idle batch inner (sym at ∙ (sound.numbers.unborn by (omega (arith, more))).idle))
+]
+  where
+    not_idle : (batch : Batch) (inner : CleanerControl) → Cleaning batch inner ≢ Idle
+    not_idle batch inner e = cc
+
+-- what all owe changes by as much as what this one does
+owed_at : (sizes : Sizes) (first : Values) (by : ℕ) (core : Core) (cleaner_op : CleanerOp) (found : ℕ) (batch : Batch) (inner : CleanerControl) (page : ℕ) → Sound sizes first core → (core.passes by).control ≡ Cleaning batch inner
+    → owed_by_all (after_step sizes by (ByCleaner cleaner_op) found core) page + owed (Cleaning batch inner) page
+    ≡ owed_by_all core page + owed (after_cleaner_op sizes (moved (cleaner_move sizes cleaner_op found) (core.passes by).owned) batch inner found) page
+owed_at sizes first by core cleaner_op found batch inner page sound at =
+    let e = total_at (core.made + 1) by (λ n. owed (core.passes n).control page) (λ n. owed ((after_step sizes by (ByCleaner cleaner_op) found core).passes n).control page) (cleaner_made sizes first by core batch inner sound at)
+    (λ n ne. ap (λ (p : Pass). owed p.control page) (number_else core.passes by (changed_pass sizes by core (ByCleaner cleaner_op) found) n ne)) in
+    let f : owed ((after_step sizes by (ByCleaner cleaner_op) found core).passes by).control page ≡ owed (after_cleaner_op sizes (moved (cleaner_move sizes cleaner_op found) (core.passes by).owned) batch inner found) page =
+    ap (λ (p : Pass). owed p.control page) (number_here core.passes by (changed_pass sizes by core (ByCleaner cleaner_op) found)) ∙ ap (λ s. owed (after_by_cleaner sizes (moved (cleaner_move sizes cleaner_op found) (core.passes by).owned) cleaner_op found s) page) at in
+    let g : owed (core.passes by).control page ≡ owed (Cleaning batch inner) page = ap (λ s. owed s page) at in
+    omega (arith, e, f, g)
+
+-- an entry is cleaned: its page has one less, and one more is owed
+cleans_dirty : (sizes : Sizes) (first : Values) (by : ℕ) (core : Core) (number found : ℕ) → Sound sizes first core → DirtyCounters sizes core → FoundEnabledByKind sizes by core (ByCleaner (Clean number)) found → DirtyCounters sizes (after_step sizes by (ByCleaner (Clean number)) found core)
+cleans_dirty sizes first by core number found sound dirty may = cleaner_step_silent sizes first by core (Clean number) found sound dirty may (λ page. refl) same
+  where
+    t : IsTending (core.passes by) (Clean number)
+    t = tending sizes (core.passes by) (Clean number) tt may.may
+
+    i : ℕ
+    i = t.made.0
+
+    at : (core.passes by).control ≡ Cleaning t.batch (CleanEntry t.made.0)
+    at = t.control ∙ ap (Cleaning t.batch) t.made.1
+
+    less : t.made.0 < length t.batch.pages
+    less = subst (FactsAt sizes (core.passes by)) at (sound.control_facts by).at
+
+    looked : IsLooked sizes core t.batch (CleanEntry t.made.0) t.made.0
+    looked = (sound.grouped.progress.each by t.batch (CleanEntry t.made.0) at tt).looked t.made.0 less
+
+    page_is : page_of (entry_word_at sizes core number) ≡ group_page t.batch t.made.0
+    page_is = ap (λ n. page_of (entry_word_at sizes core n)) t.made.2 ∙ looked.page
+
+    hand : IsAtHand sizes first core sound by number held
+    hand = cleans_hand sizes first core sound by found number may
+
+    same : (page : ℕ) → counted sizes (after_step sizes by (ByCleaner (Clean number)) found core) page ≡ counted sizes core page
+    same page =
+        let e = entries_at sizes core.words (slot_of_entry sizes number) (found + 1) page (slot_within sizes core number sound.window hand.within) in
+        let k = hand.kind_is in let is : entry_word_at sizes core number ≡ found = may.is in
+        let was : one_if (is_of_page page (entry_word_at sizes core number)) ≡ one_if (page == group_page t.batch t.made.0) =
+        ap one_if (of_held page (entry_word_at sizes core number) k) ∙ ap (λ p. one_if (p == page)) page_is ∙ eq_turned (group_page t.batch t.made.0) page in
+        let up : kind_of (found + 1) ≡ 4 = omega (arith, k, is) in
+        let now : one_if (is_of_page page (found + 1)) ≡ 0 = when_false _ 1 0 (not_of_page page (found + 1) (λ z. omega (arith, z, up)) (λ z. omega (arith, z, up))) in
+        let o = owed_at sizes first by core (Clean number) found t.batch (CleanEntry t.made.0) page sound at in
+        let c = cleans_owes sizes (moved (cleaner_move sizes (Clean number) found) (core.passes by).owned) t.batch t.made.0 found page less in
+        omega (arith, e, was, now, o, c)
+
+-- DIRTY of a page falls, and one less is owed
+subtracts_dirty : (sizes : Sizes) (first : Values) (by : ℕ) (core : Core) (page found : ℕ) → Sound sizes first core → DirtyCounters sizes core → FoundEnabledByKind sizes by core (ByCleaner (Subtract page)) found → DirtyCounters sizes (after_step sizes by (ByCleaner (Subtract page)) found core)
+subtracts_dirty sizes first by core page found sound dirty may = record {
+  free = λ p zero. let old = dirty.free p (sym (word_else core.words (DIRTY page) (found - 1) (PAGE p) (differ (PAGE p) (DIRTY page) refl)) ∙ zero) in let f = falls p in let c = less_counted p in omega (arith, old, f, c);
+  held = λ p. by_number (λ n (q : Pass). times (PAGE p) q.owned ≡ 1 → (after_step sizes by (ByCleaner (Subtract page)) found core).words (DIRTY p) ≡ counted sizes (after_step sizes by (ByCleaner (Subtract page)) found core) p + pledged sizes q q.control p)
+      core.passes by (changed_pass sizes by core (ByCleaner (Subtract page)) found)
+      (λ here. let old = dirty.held p by here in let f = falls p in let c = less_counted p in let a = before p in let b = after p in omega (arith, old, f, c, a, b))
+      (λ n ne here. let old = dirty.held p n here in let f = falls p in let c = less_counted p in omega (arith, old, f, c));
+}
+  where
+    t : IsTending (core.passes by) (Subtract page)
+    t = tending sizes (core.passes by) (Subtract page) tt may.may
+
+    at : (core.passes by).control ≡ Cleaning t.batch (SubtractDirty t.made.0)
+    at = t.control ∙ ap (Cleaning t.batch) t.made.1
+
+    less : t.made.0 < length t.batch.pages
+    less = subst (FactsAt sizes (core.passes by)) at (sound.control_facts by).at
+
+    before : (p : ℕ) → pledged sizes (core.passes by) (core.passes by).control p ≡ 0
+    before p = unpledged sizes (core.passes by) p (core.passes by).control (clear_unpledged _ (clear_from sizes core.values (core.passes by) (ByCleaner (Subtract page)) tt may.may))
+
+    after : (p : ℕ) → pledged sizes (changed_pass sizes by core (ByCleaner (Subtract page)) found) (changed_pass sizes by core (ByCleaner (Subtract page)) found).control p ≡ 0
+    after p = unpledged sizes (changed_pass sizes by core (ByCleaner (Subtract page)) found) p (changed_pass sizes by core (ByCleaner (Subtract page)) found).control (clear_unpledged _ (clear_to sizes core.values (core.passes by) (ByCleaner (Subtract page)) found tt may.may))
+
+    owes_less : (p : ℕ) → owed_by_all (after_step sizes by (ByCleaner (Subtract page)) found core) p + one_if (p == page) ≡ owed_by_all core p
+    owes_less p =
+        let o = owed_at sizes first by core (Subtract page) found t.batch (SubtractDirty t.made.0) p sound at in
+        let c = subtracts_owes sizes (moved (cleaner_move sizes (Subtract page) found) (core.passes by).owned) t.batch t.made.0 found p less in
+        let g : one_if (p == page) ≡ one_if (p == group_page t.batch t.made.0) = ap (λ q. one_if (p == q)) t.made.2 in
+        omega (arith, o, c, g)
+
+    less_counted : (p : ℕ) → counted sizes (after_step sizes by (ByCleaner (Subtract page)) found core) p + one_if (p == page) ≡ counted sizes core p
+    less_counted p = let e = same_entries sizes by core (ByCleaner (Subtract page)) found may (λ slot. refl) p in let o = owes_less p in omega (arith, e, o)
+
+    -- there is one to take
+    some : 1 ≤ core.words (DIRTY page)
+    some =
+        let o = owes_less page in let one : one_if (page == page) ≡ 1 = when_true (page == page) 1 0 (eq-eqb page page refl) in
+        elim (page_held core sound.locks page) [
+          | inl zero_ ↦ (let d = dirty.free page zero_ in omega (arith, d, o, one))
+          | inr holder ↦ (let d = dirty.held page holder.0 holder.1 in omega (arith, d, o, one))
+        ]
+
+    falls : (p : ℕ) → (after_step sizes by (ByCleaner (Subtract page)) found core).words (DIRTY p) + one_if (p == page) ≡ core.words (DIRTY p)
+    falls p = elim (cases_eq p page) [
+      | inl e ↦ subst (λ q. (after_step sizes by (ByCleaner (Subtract page)) found core).words (DIRTY q) + one_if (q == page) ≡ core.words (DIRTY q)) (sym e)
+          (let w : (after_step sizes by (ByCleaner (Subtract page)) found core).words (DIRTY page) ≡ found - 1 = word_here core.words (DIRTY page) (found - 1) in let f : core.words (DIRTY page) ≡ found = may.is in let s = some in
+          let o : one_if (page == page) ≡ 1 = when_true (page == page) 1 0 (eq-eqb page page refl) in omega (arith, w, f, o, s))
+      | inr ne ↦ (let w : (after_step sizes by (ByCleaner (Subtract page)) found core).words (DIRTY p) ≡ core.words (DIRTY p) = word_else core.words (DIRTY page) (found - 1) (DIRTY p) (λ e. ne (ap index e)) in
+          let o : one_if (p == page) ≡ 0 = when_false (p == page) 1 0 (ne_eqb p page ne) in omega (arith, w, o))
+    ]
+
+-- one entry changes, of its page before and after, or of none
+cleaner_step_entry : (sizes : Sizes) (first : Values) (by : ℕ) (core : Core) (cleaner_op : CleanerOp) (found : ℕ) → Sound sizes first core → DirtyCounters sizes core → FoundEnabledByKind sizes by core (ByCleaner cleaner_op) found → IsUncounted cleaner_op → ((page : ℕ) → touches (ByCleaner cleaner_op) (DIRTY page) ≡ false)
+    → ((page : ℕ) → entries_of_page sizes (after_step sizes by (ByCleaner cleaner_op) found core).words page ≡ entries_of_page sizes core.words page) → DirtyCounters sizes (after_step sizes by (ByCleaner cleaner_op) found core)
+cleaner_step_entry sizes first by core cleaner_op found sound dirty may un untouched_dirty entries = cleaner_step_silent sizes first by core cleaner_op found sound dirty may untouched_dirty
+    (λ page. both_same sizes core (after_step sizes by (ByCleaner cleaner_op) found core) page (entries page) (cleaner_step_owes sizes by core cleaner_op found un may page))
+
+dirty_by_cleaner : (sizes : Sizes) (first : Values) (by : ℕ) (core : Core) (cleaner_op : CleanerOp) (found : ℕ) → Sound sizes first core → DirtyCounters sizes core → FoundEnabledByKind sizes by core (ByCleaner cleaner_op) found → DirtyCounters sizes (after_step sizes by (ByCleaner cleaner_op) found core)
+dirty_by_cleaner sizes first by core (Clean number) found sound dirty may = cleans_dirty sizes first by core number found sound dirty may
+dirty_by_cleaner sizes first by core (Subtract page) found sound dirty may = subtracts_dirty sizes first by core page found sound dirty may
+dirty_by_cleaner sizes first by core (cleaner.Hold number) found sound dirty may =
+    let hand = cleaner_hold_hand sizes first core sound by found number may in
+    cleaner_step_entry sizes first by core (cleaner.Hold number) found sound dirty may tt (λ page. refl)
+    (λ page. entry_same sizes core.words (slot_of_entry sizes number) (found + 1) page (slot_within sizes core number sound.window hand.within) (ap (is_of_page page) may.is ∙ hold_same page found (ap kind_of (sym may.is) ∙ hand.kind_is)))
+dirty_by_cleaner sizes first by core (cleaner.Return number) found sound dirty may =
+    let hand = cleaner_return_hand sizes first core sound by found number may in
+    cleaner_step_entry sizes first by core (cleaner.Return number) found sound dirty may tt (λ page. refl)
+    (λ page. entry_same sizes core.words (slot_of_entry sizes number) (found - 1) page (slot_within sizes core number sound.window hand.within) (ap (is_of_page page) may.is ∙ return_same page found (ap kind_of (sym may.is) ∙ hand.kind_is)))
+dirty_by_cleaner sizes first by core (Free number) found sound dirty may =
+    let hand = frees_hand sizes first core sound by found number may in let k = hand.kind_is in
+    cleaner_step_entry sizes first by core (Free number) found sound dirty may tt (λ page. refl)
+    (λ page. entry_of_none sizes core.words (slot_of_entry sizes number) 0 page (slot_within sizes core number sound.window hand.within)
+    (not_of_page page (entry_word_at sizes core number) (λ e. omega (arith, e, k)) (λ e. omega (arith, e, k))) (not_of_page page 0 (λ e. omega (arith, e)) (λ e. omega (arith, e))))
+dirty_by_cleaner sizes first by core cleaner_op found sound dirty may = cleaner_step_entry sizes first by core cleaner_op found sound dirty may tt (λ page. refl) (same_entries sizes by core (ByCleaner cleaner_op) found may (λ slot. refl))
+
+-- ---- all steps
+
+stopped_unpledged : (pass : Pass) (control : Control) → IsFailing control → IsUnpledged control × IsUnpledged (after_stop pass control)
+stopped_unpledged pass (SetStopAfterRead page dirty) is = (tt, unpledged_leaving pass.owned)
+stopped_unpledged pass (SetStopAfterPiece page next) is = (tt, tt)
+stopped_unpledged pass SetStopAfterCommit is = (tt, tt)
+stopped_unpledged pass control is = absurd is
+
+pub dirty_step : (sizes : Sizes) (first : Values) (by : ℕ) (core : Core) (op : Op) (found : ℕ) → Sound sizes first core → DirtyCounters sizes core → FoundEnabledByKind sizes by core op found → DirtyCounters sizes (after_step sizes by op found core)
+dirty_step sizes first by core (Load word) found sound dirty may = plain_step sizes first by core (Load word) found sound dirty may (λ f. f) tt may.may refl refl (λ page. refl) (λ slot. refl)
+dirty_step sizes first by core (Take cell) found sound dirty may = plain_step sizes first by core (Take cell) found sound dirty may (λ f. f) tt may.may refl refl (λ page. refl) (λ slot. refl)
+dirty_step sizes first by core (Give cell) found sound dirty may = plain_step sizes first by core (Give cell) found sound dirty may (λ f. f) tt may.may refl refl (λ page. refl) (λ slot. refl)
+dirty_step sizes first by core (Place reply) found sound dirty may = plain_step sizes first by core (Place reply) found sound dirty may (λ f. f) tt may.may refl refl (λ page. refl) (λ slot. refl)
+dirty_step sizes first by core Grow found sound dirty may = plain_step sizes first by core Grow found sound dirty may (λ f. f) tt may.may refl refl (λ page. refl) (λ slot. refl)
+dirty_step sizes first by core (Turn page) found sound dirty may = plain_step sizes first by core (Turn page) found sound dirty may (λ f. f) tt may.may refl refl (λ page. refl) (λ slot. refl)
+dirty_step sizes first by core (Hint buffer page) found sound dirty may = plain_step sizes first by core (Hint buffer page) found sound dirty may (λ f. f) tt may.may refl refl (λ page. refl) (λ slot. refl)
+dirty_step sizes first by core Stop found sound dirty may = let un = stopped_unpledged (core.passes by) (core.passes by).control may.may in
+    silent_step sizes first by core Stop found sound dirty may (λ f. f) (λ page. refl) (same_entries sizes by core Stop found may (λ slot. refl)) un.0 un.1
+dirty_step sizes first by core Draw found sound dirty may = silent_step sizes first by core Draw found sound dirty may (λ f. f) (λ page. refl) (same_entries sizes by core Draw found may (λ slot. refl))
+    (subst IsUnpledged (sym may.may) tt) (if_both IsUnpledged (found == (core.passes by).head) (SeizeEntry found) (leaving (core.passes by).owned) (λ _. tt) (λ _. unpledged_leaving (core.passes by).owned))
+dirty_step sizes first by core (Seize next) found sound dirty may =
+    let at : HasDrawn sizes (core.passes by).call (core.passes by).entries × IsAmong (core.passes by).first (core.passes by).entries next = subst (FactsAt sizes (core.passes by)) may.may (sound.control_facts by).at in
+    let unseized = subst (λ g. IsUnseized g (core.passes by).first (core.passes by).entries next) (sym may.may) (omega arith, at.1.1) in
+    silent_step sizes first by core (Seize next) found sound dirty may (λ f. f) (λ page. refl)
+    (λ page. entry_of_none sizes core.words (slot_of_entry sizes next) filling page (slot_less sizes (core.passes by) next at.0 ((sound.control_facts by).allowed (busy _ _ may.may refl)))
+    (ap (is_of_page page) (sound.window.unseized_is by next unseized) ∙ not_of_page page 0 (λ e. omega (arith, e)) (λ e. omega (arith, e))) (not_of_page page 1 (λ e. omega (arith, e)) (λ e. omega (arith, e))))
+    (subst IsUnpledged (sym may.may) tt) (if_both IsUnpledged (next + 1 == (core.passes by).first + (core.passes by).entries) (CommitGroup 0) (SeizeEntry (next + 1)) (λ _. tt) (λ _. tt))
+dirty_step sizes first by core (Pledge page) found sound dirty may = pledges_step sizes first by core found page sound dirty may
+dirty_step sizes first by core (Ready next) found sound dirty may = readies_step sizes first by core found next sound dirty may
+dirty_step sizes first by core (Break next) found sound dirty may =
+    let at : HasDrawn sizes (core.passes by).call (core.passes by).entries × IsAmong (core.passes by).first (core.passes by).entries next = subst (FactsAt sizes (core.passes by)) may.may (sound.control_facts by).at in
+    let fills = subst (λ g. IsFilling g (core.passes by).first (core.passes by).entries next) (sym may.may) (omega arith, at.1.1) in
+    silent_step sizes first by core (Break next) found sound dirty may (λ f. f) (λ page. refl)
+    (λ page. entry_of_none sizes core.words (slot_of_entry sizes next) broken page (slot_less sizes (core.passes by) next at.0 ((sound.control_facts by).allowed (busy _ _ may.may refl)))
+    (ap (is_of_page page) (sound.window.filling_is by next fills) ∙ not_of_page page 1 (λ e. omega (arith, e)) (λ e. omega (arith, e))) (not_of_page page 5 (λ e. omega (arith, e)) (λ e. omega (arith, e))))
+    (subst IsUnpledged (sym may.may) tt) (if_both IsUnpledged (next + 1 == (core.passes by).first + (core.passes by).entries) (leaving (without (ENTRY (slot_of_entry sizes next)) (core.passes by).owned)) (BreakEntry (next + 1))
+    (λ _. unpledged_leaving (without (ENTRY (slot_of_entry sizes next)) (core.passes by).owned)) (λ _. tt))
+dirty_step sizes first by core (Hold next) found sound dirty may =
+    let looks : InWindow core next × (is_entry_of ready may.may.0 (entry_word_at sizes core next) ≡ true) = subst (LooksSound sizes core) may.may.1 (sound.loaded.looks by) in
+    let kind = (entry_is ready may.may.0 (entry_word_at sizes core next) looks.1).0 in
+    silent_step sizes first by core (Hold next) found sound dirty may (λ f. f) (λ page. refl)
+    (λ page. entry_same sizes core.words (slot_of_entry sizes next) (found + 1) page (slot_within sizes core next sound.window looks.0) (ap (is_of_page page) may.is ∙ hold_same page found (ap kind_of (sym may.is) ∙ kind)))
+    (clear_unpledged _ (clear_from sizes core.values (core.passes by) (Hold next) tt may.may)) (clear_unpledged _ (clear_to sizes core.values (core.passes by) (Hold next) found tt may.may))
+dirty_step sizes first by core (Return next) found sound dirty may =
+    let looks : InWindow core next × (is_entry_of held may.may.0 (entry_word_at sizes core next) ≡ true) = subst (LooksSound sizes core) may.may.2 (sound.loaded.looks by) in
+    let kind = (entry_is held may.may.0 (entry_word_at sizes core next) looks.1).0 in
+    silent_step sizes first by core (Return next) found sound dirty may (λ f. f) (λ page. refl)
+    (λ page. entry_same sizes core.words (slot_of_entry sizes next) (found - 1) page (slot_within sizes core next sound.window looks.0) (ap (is_of_page page) may.is ∙ return_same page found (ap kind_of (sym may.is) ∙ kind)))
+    (clear_unpledged _ (clear_from sizes core.values (core.passes by) (Return next) tt may.may)) (clear_unpledged _ (clear_to sizes core.values (core.passes by) (Return next) found tt may.may))
+dirty_step sizes first by core (ByCleaner cleaner_op) found sound dirty may = dirty_by_cleaner sizes first by core cleaner_op found sound dirty may
+dirty_step sizes first by core Split found sound dirty may = silent_step sizes first by core Split found sound dirty may (λ f. f) (λ page. refl) (same_entries sizes by core Split found may (λ slot. refl))
+    (subst IsUnpledged (sym (sound.numbers.unborn (core.made + 1) (omega arith)).idle) tt) tt
+dirty_step sizes first by core (PutBack cell) found sound dirty may = dirty_still sizes core (after_step sizes by (PutBack cell) found core) dirty (λ word. untouched sizes by core (PutBack cell) found may word refl)
+    (by_number (λ n (p : Pass). p.owned ≡ (core.passes n).owned) core.passes by (changed_pass sizes by core (PutBack cell) found) refl (λ n ne. refl))
+    (λ n page. by_number (λ n (p : Pass). pledged sizes p p.control page ≡ pledged sizes (core.passes n) (core.passes n).control page) core.passes by (changed_pass sizes by core (PutBack cell) found)
+    (left_pledged sizes (core.passes by) (cell ∷ (core.passes by).left) page (core.passes by).control) (λ n ne. refl) n) (owed_step sizes first by core (PutBack cell) found sound (λ f. f) may)
+dirty_step sizes first by core (Join number) found sound dirty may = dirty_still sizes core (after_step sizes by (Join number) found core) dirty (λ word. untouched sizes by core (Join number) found may word refl)
+    (by_number (λ n (p : Pass). p.owned ≡ (core.passes n).owned) core.passes by (changed_pass sizes by core (Join number) found) refl (λ n ne. refl))
+    (λ n page. by_number (λ n (p : Pass). pledged sizes p p.control page ≡ pledged sizes (core.passes n) (core.passes n).control page) core.passes by (changed_pass sizes by core (Join number) found) refl (λ n ne. refl) n) (owed_step sizes first by core (Join number) found sound (λ f. f) may)
+
+-- ---- a call that begins, and a device call
+
+pub dirty_begin : (sizes : Sizes) (first : Values) (by : ℕ) (core : Core) (call : FileCall) → DirtyCounters sizes core → CallMayBegin sizes call (core.passes by) → DirtyCounters sizes (after_begin sizes by call core)
+dirty_begin sizes first by core call dirty may = dirty_still sizes core (after_begin sizes by call core) dirty (λ word. refl)
+    (by_number (λ n (p : Pass). p.owned ≡ (core.passes n).owned) core.passes by (begun sizes call (core.passes by)) refl (λ n ne. refl))
+    (λ n page. by_number (λ n (p : Pass). pledged sizes p p.control page ≡ pledged sizes (core.passes n) (core.passes n).control page) core.passes by (begun sizes call (core.passes by))
+    (if_both (λ s. pledged sizes (begun sizes call (core.passes by)) s page ≡ pledged sizes (core.passes by) (core.passes by).control page) (page_count sizes call == 0) LoadStop (TakePage (first_page sizes call)) (λ _. idle page) (λ _. idle page)) (λ n ne. refl) n)
+    (λ page. owed_same core (after_begin sizes by call core) page refl (by_number (λ n (p : Pass). owed p.control page ≡ owed (core.passes n).control page) core.passes by (begun sizes call (core.passes by))
+    (if_both (λ s. owed s page ≡ owed (core.passes by).control page) (page_count sizes call == 0) LoadStop (TakePage (first_page sizes call)) (λ _. none_owed page) (λ _. none_owed page)) (λ n ne. refl)))
+  where
+    none_owed : (page : ℕ) → 0 ≡ owed (core.passes by).control page
+    none_owed page = sym (ap (λ s. owed s page) may.idle)
+
+    idle : (page : ℕ) → 0 ≡ pledged sizes (core.passes by) (core.passes by).control page
+    idle page = sym (ap (λ s. pledged sizes (core.passes by) s page) may.idle)
+
+-- a cleaner's device call changes nothing of what it owes
+of_cleaner_owes : (sizes : Sizes) (values : Values) (work : Work) (batch : Batch) (how : CallEnding) (inner : CleanerControl) (page : ℕ) → CleanerCallDue sizes values batch work inner → owed (after_cleaner_work batch how inner) page ≡ owed (Cleaning batch inner) page
+of_cleaner_owes sizes values work batch Made (cleaner.ReadPiece i) page due = refl
+of_cleaner_owes sizes values work batch Made (WriteBack i) page due = if_both (λ s. owed s page ≡ 0) (i + 1 == length batch.pages) (Cleaning batch (CleanEntry 0)) (Cleaning batch (cleaner.HoldEntry (i + 1))) (λ _. none_taken batch.pages) (λ _. refl)
+  where
+    none_taken : (pages : List ℕ) → count_in (take 0 pages) page ≡ 0
+    none_taken [] = refl
+    none_taken (one ∷ rest) = refl
+of_cleaner_owes sizes values work batch Made (SyncStores (file ∷ [])) page due = refl
+of_cleaner_owes sizes values work batch Made (SyncStores (file ∷ (next ∷ rest))) page due = refl
+of_cleaner_owes sizes values work batch Made (MoveHeaderTail calls) page due = if_both (λ s. owed s page ≡ 0) (calls + 1 == length (tail_steps batch.reached)) (Cleaning batch (FreeEntry batch.tail)) (Cleaning batch (MoveHeaderTail (calls + 1))) (λ _. refl) (λ _. refl)
+of_cleaner_owes sizes values work batch (Failed came faults) (cleaner.ReadPiece i) page due = refl
+of_cleaner_owes sizes values work batch (Failed came faults) (WriteBack i) page due = refl
+of_cleaner_owes sizes values work batch (Failed came faults) (SyncStores (file ∷ rest)) page due = refl
+of_cleaner_owes sizes values work batch (Failed came faults) (MoveHeaderTail calls) page due = refl
+of_cleaner_owes sizes values work batch Refused (cleaner.ReadPiece i) page due = refl
+of_cleaner_owes sizes values work batch Refused (WriteBack i) page due = refl
+of_cleaner_owes sizes values work batch Refused (SyncStores (file ∷ rest)) page due = refl
+of_cleaner_owes sizes values work batch Refused (MoveHeaderTail calls) page due = refl
+of_cleaner_owes sizes values work batch how inner page due = absurd due
+
+pub dirty_work : (sizes : Sizes) (first : Values) (by : ℕ) (core : Core) (work : Work) → DirtyCounters sizes core → CallEnabled sizes core.values (core.passes by) work → DirtyCounters sizes (after_work sizes by work core)
+dirty_work sizes first by core work dirty may = dirty_still sizes core (after_work sizes by work core) dirty (λ word. refl)
+    (by_number (λ n (p : Pass). p.owned ≡ (core.passes n).owned) core.passes by (worked sizes work (core.passes by)) refl (λ n ne. refl))
+    (λ n page. by_number (λ n (p : Pass). pledged sizes p p.control page ≡ pledged sizes (core.passes n) (core.passes n).control page) core.passes by (worked sizes work (core.passes by)) (works page (core.passes by).control work.ending may.due) (λ n ne. refl) n)
+    (λ page. owed_same core (after_work sizes by work core) page refl (by_number (λ n (p : Pass). owed p.control page ≡ owed (core.passes n).control page) core.passes by (worked sizes work (core.passes by)) (owes page (core.passes by).control work.ending may.due) (λ n ne. refl)))
+  where
+    owes : (page : ℕ) (control : Control) (how : CallEnding) → CallDue sizes core.values (core.passes by) work control → owed (control_worked sizes (core.passes by) how control) page ≡ owed control page
+    owes page (CommitGroup calls) Made due = if_both (λ s. owed s page ≡ 0) (calls + 1 == length (commit_steps sizes (core.passes by) (core.passes by).call)) (PledgePage (first_page sizes (core.passes by).call)) (CommitGroup (calls + 1)) (λ _. refl) (λ _. refl)
+    owes page (CommitGroup calls) (Failed came faults) due = refl
+    owes page (CommitGroup calls) Refused due = refl
+    owes page (ReadStore next dirty) Made due = refl
+    owes page (ReadStore next dirty) (Failed came faults) due = refl
+    owes page (ReadStore next dirty) Refused due = refl
+    owes page (ReadPiece next number) Made due = refl
+    owes page (ReadPiece next number) (Failed came faults) due = refl
+    owes page (ReadPiece next number) Refused due = refl
+    owes page (Cleaning batch inner) how due = ap (λ s. owed s page) (worked_control sizes (core.passes by) batch how inner) ∙ of_cleaner_owes sizes core.values work batch how inner page due
+    owes page control how due = absurd due
+
+    works : (page : ℕ) (control : Control) (how : CallEnding) → CallDue sizes core.values (core.passes by) work control → pledged sizes (worked sizes work (core.passes by)) (control_worked sizes (core.passes by) how control) page ≡ pledged sizes (core.passes by) control page
+    works page (CommitGroup calls) Made due = if_both (λ s. pledged sizes (worked sizes work (core.passes by)) s page ≡ 0) (calls + 1 == length (commit_steps sizes (core.passes by) (core.passes by).call)) (PledgePage (first_page sizes (core.passes by).call)) (CommitGroup (calls + 1))
+        (λ _. elim (cases_lt page (first_page sizes (core.passes by).call)) [
+          | inl below ↦ among_below (first_page sizes (core.passes by).call) (first_page sizes (core.passes by).call) page below
+          | inr above ↦ among_above (first_page sizes (core.passes by).call) (first_page sizes (core.passes by).call) page above
+        ]) (λ _. refl)
+    works page (CommitGroup calls) (Failed came faults) due = refl
+    works page (ReadStore next dirty) Made due = refl
+    works page (ReadStore next dirty) (Failed came faults) due = refl
+    works page (ReadPiece next number) Made due = refl
+    works page (ReadPiece next number) (Failed came faults) due = refl
+    works page (CommitGroup calls) Refused due = refl
+    works page (ReadStore next dirty) Refused due = refl
+    works page (ReadPiece next number) Refused due = refl
+    works page (Cleaning batch inner) how due = subst (λ s. pledged sizes (worked sizes work (core.passes by)) s page ≡ 0) (sym (worked_control sizes (core.passes by) batch how inner)) (of_cleaner_worked (λ s. pledged sizes (worked sizes work (core.passes by)) s page ≡ 0) refl (λ b s. refl) batch how inner)
+    works page control how due = absurd due

@@ -1,5 +1,0 @@
-use Rattle.nv_core.proofs.DirtyWalked.{dirty_read_is_walked}
-use Rattle.nv_core.proofs.laws.a_dirty_read_is_a_run.Goals as goal
-
-pub returns : goal.returns
-returns c = dirty_read_is_walked

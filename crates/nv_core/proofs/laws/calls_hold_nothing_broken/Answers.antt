@@ -1,5 +1,0 @@
-use Rattle.nv_core.proofs.GoingBackLaws.{calls_hold_nothing_broken}
-use Rattle.nv_core.proofs.laws.calls_hold_nothing_broken.Goals as goal
-
-pub returns : goal.returns
-returns c = calls_hold_nothing_broken c.runs_are_sound.ensures.opening c.runs_are_sound.ensures.events

@@ -1,5 +1,0 @@
-use Rattle.nv_core.proofs.SparesLaws.{spares_keep_steps, spares_tell}
-use Rattle.nv_core.proofs.laws.spares_tell_the_room.Goals as goal
-
-pub returns : goal.returns
-returns c = record { steps = spares_keep_steps; room = spares_tell }

@@ -1,5 +1,0 @@
-use Rattle.nv_core.proofs.Places.{places_differ}
-use Rattle.nv_core.proofs.laws.words_have_places_of_their_own.Goals as goal
-
-pub returns : goal.returns
-returns c = places_differ

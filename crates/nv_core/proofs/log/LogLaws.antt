@@ -1,0 +1,16 @@
+-- What the laws of parts, headers and groups say, as the proofs about the log take it.
+use Rattle.nv_pmem.specs.Laws.{LoadsAreAnImage, QuietPartHasOneImage, BlankIsQuiet, StepsKeepLines}
+use Rattle.nv_header.specs.Laws.{TailIsOldOrNew, TailIsMoved, TailEndsQuiet}
+use Rattle.nv_entry.specs.Commits.{GroupsStoreNothingElse, GroupsBecomeWhole, GroupsEndQuiet}
+
+pub record LogLaws : Type 0 where
+  pub now : LoadsAreAnImage
+  pub one_image : QuietPartHasOneImage
+  pub blank : BlankIsQuiet
+  pub lines : StepsKeepLines
+  pub tail_moments : TailIsOldOrNew
+  pub tail_moved : TailIsMoved
+  pub tail_quiet : TailEndsQuiet
+  pub group_only : GroupsStoreNothingElse
+  pub group_whole : GroupsBecomeWhole
+  pub group_quiet : GroupsEndQuiet

@@ -1,9 +1,0 @@
-use Rattle.nv_core.proofs.WalkOpened.{walk_opens_files, walk_opens_log, walk_opens_region}
-use Rattle.nv_core.proofs.log.a_mount_opens_a_file_and_a_log.Goals as goal
-
-pub returns : goal.returns
-returns c = record {
-  files = walk_opens_files;
-  log = walk_opens_log c.images_follow_calls.ensures.blank c.loads_follow_calls.ensures.blank c.images_follow_calls.ensures.quiet;
-  region = walk_opens_region;
-}

@@ -1,5 +1,0 @@
-use Rattle.nv_core.proofs.ShortWalked.{short_walks}
-use Rattle.nv_core.proofs.order.short_walks_are_runs.Goals as goal
-
-pub returns : goal.returns
-returns c = short_walks

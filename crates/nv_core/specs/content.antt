@@ -1,0 +1,9 @@
+-- Content: what the files, the buffers and the reads have.
+pub mod PagesAfter
+pub mod StorePages
+pub mod Legal
+pub mod Lengths
+pub mod ValidBuffers
+pub mod PatchedPages
+pub mod PatchedReads
+pub mod Content

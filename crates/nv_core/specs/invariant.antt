@@ -1,0 +1,25 @@
+-- The invariant: what is so in each state that a run leads to, a part a file, and what it forbids.
+pub mod ControlFacts
+pub mod Locks
+pub mod CleanerOwnership
+pub mod Ownership
+pub mod CleanerNumbers
+pub mod LogWindow
+pub mod StopWord
+pub mod DirtyCounters
+pub mod EntryWords
+pub mod BuffersKept
+pub mod Loaded
+pub mod Numbers
+pub mod OneHistory
+pub mod FaultedWrites
+pub mod FaultedLengths
+pub mod Devices
+pub mod Searches
+pub mod Rooms
+pub mod Sound
+pub mod InvariantLaws
+pub mod ForbiddenSteps
+pub mod Flights
+pub mod GoingBack
+pub mod Shapes

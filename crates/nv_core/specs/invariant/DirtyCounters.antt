@@ -1,0 +1,47 @@
+-- Dirty counters: DIRTY is the number of a page's entries.
+use Rattle.std.specs.Prelude.{◌≡◌, ℕ, ◌+◌, ◌-◌, ◌==◌, ◌||◌, ◌&&◌, nat_lt, nat_le, Bool, take, drop}
+use Rattle.nv_core.specs.state.Totals.{total}
+use Rattle.nv_core.specs.state.Words.{Sizes, Word, ENTRY, PAGE, DIRTY, kind_of, page_of, ready, held}
+use Rattle.nv_core.specs.state.Cleaner.{CleanEntry, SubtractDirty}
+use Rattle.nv_core.specs.invariant.CleanerOwnership.{count_in}
+use Rattle.nv_core.specs.state.Passes.{Control, Cleaning, PledgePage, ReadyEntry, Pass, first_page, times}
+use Rattle.nv_core.specs.invariant.Ownership.{one_if, is_among}
+use Rattle.nv_core.specs.state.Core.{Core}
+
+-- whether an ENTRY word is that of a ready or held entry of a page
+abbrev pub is_of_page : (page word : ℕ) → Bool
+is_of_page page word = (kind_of word == ready || kind_of word == held) && page_of word == page
+
+-- how many entries of a page are ready or held
+abbrev pub entries_of_page : Sizes → (Word → ℕ) → (page : ℕ) → ℕ
+entries_of_page sizes words page = total sizes.entries (λ slot. one_if (is_of_page page (words (ENTRY slot))))
+
+-- the number of a write's entry on a page
+abbrev pub number_on : Sizes → Pass → (page : ℕ) → ℕ
+number_on sizes pass page = pass.first + (page - first_page sizes pass.call)
+
+-- how many entries of a page a pass has pledged and not yet readied
+abbrev pub pledged : Sizes → Pass → Control → (page : ℕ) → ℕ
+pledged sizes pass (PledgePage next) page = one_if (is_among (first_page sizes pass.call) next page)
+pledged sizes pass (ReadyEntry next) page =
+    one_if (nat_le (first_page sizes pass.call) page
+    && (number_on sizes pass page == pass.first
+    || (nat_lt pass.first next && is_among next (pass.first + pass.entries) (number_on sizes pass page))))
+pledged sizes pass control page = 0
+
+-- how many entries of a page a cleaner has cleaned, whose DIRTY is still to fall
+abbrev pub owed : Control → (page : ℕ) → ℕ
+owed (Cleaning batch (CleanEntry i)) page = count_in (take i batch.pages) page
+owed (Cleaning batch (SubtractDirty i)) page = count_in (drop i batch.pages) page
+owed control page = 0
+
+-- and all passes
+abbrev pub owed_by_all : Core → (page : ℕ) → ℕ
+owed_by_all core page = total (core.made + 1) (λ number. owed (core.passes number).control page)
+
+-- DIRTY is the number of a page's entries that are ready or held, of those that PAGE's holder has pledged and not yet readied, and of those that a
+-- cleaner has cleaned, and for which it is still to fall.
+pub record DirtyCounters (sizes : Sizes) (core : Core) : Type 0 where
+  pub free : (page : ℕ) → core.words (PAGE page) ≡ 0 → core.words (DIRTY page) ≡ entries_of_page sizes core.words page + owed_by_all core page
+  pub held : (page number : ℕ) → times (PAGE page) (core.passes number).owned ≡ 1
+      → core.words (DIRTY page) ≡ entries_of_page sizes core.words page + owed_by_all core page + pledged sizes (core.passes number) (core.passes number).control page

@@ -1,0 +1,52 @@
+//! Laws of what the log has.
+ghost use Rattle.nv_core.specs.log.CleaningOrder.{NoCleanBeforeTheStore, NoFreeBeforeTheTail, NoMoveBeforeTheSync, NoSubtractBeforeTheClean};
+ghost use Rattle.nv_core.specs.log.LogContent.{EventsKeepTheLog, OpeningHasTheLog, RunsKeepTheLog, GroupsAreInImages, GroupsComeLate, NoOldWordCounts};
+ghost use Rattle.nv_core.specs.walks.WalkOpens.{WalkOpensFiles, WalkOpensLog, WalkOpensRegion};
+
+use nv_entry::groups_follow_steps;
+use nv_header::the_tail_follows_steps;
+use nv_plain::{history_goes_on, write_is_its_pieces, write_leaves_its_bytes};
+use nv_pmem::{images_follow_calls, loads_follow_calls};
+
+/// What the log has is right at opening, every event keeps it, and so it is right after every run: the parts of each group
+/// are as so many device calls of its commit left them, the words of ready entries say what their pieces are, and the files
+/// after the history are the stores, overwritten by the live pieces. So each image of the region that a power failure may
+/// leave has each group as a whole or not at all, and no commit word of an earlier turn counts. It follows from the laws of
+/// parts, of writes and of groups that the body calls.
+pub fn runs_keep_the_log()
+    ensures opening { OpeningHasTheLog }
+    ensures events { EventsKeepTheLog }
+    ensures runs { RunsKeepTheLog }
+    ensures images { GroupsAreInImages }
+    ensures old { NoOldWordCounts }
+    ensures late { GroupsComeLate }
+{
+    loads_follow_calls();
+    images_follow_calls();
+    write_leaves_its_bytes();
+    write_is_its_pieces();
+    history_goes_on();
+    groups_follow_steps();
+    the_tail_follows_steps();
+}
+
+/// What a step of a cleaner has before it, where the content of the log is right: an entry is returned as cleaned when its store
+/// has its piece, a page's DIRTY is lowered when an entry of it is cleaned, the header's tail is moved when each store that has a
+/// piece of the batch is durable, and an entry is freed when each image of the header has a tail above it.
+pub fn cleaning_keeps_its_order()
+    ensures store { NoCleanBeforeTheStore }
+    ensures dirty { NoSubtractBeforeTheClean }
+    ensures sync { NoMoveBeforeTheSync }
+    ensures tail { NoFreeBeforeTheTail }
+{}
+
+/// What these laws ask of a mount can be met: that of the walks opens a file, an empty log, and a region whose header can be
+/// read.
+pub fn a_mount_opens_a_file_and_a_log()
+    ensures files { WalkOpensFiles }
+    ensures log { WalkOpensLog }
+    ensures region { WalkOpensRegion }
+{
+    loads_follow_calls();
+    images_follow_calls();
+}

@@ -1,0 +1,5 @@
+-- Passes: what their making and taking in keeps.
+pub mod LeftLaws
+pub mod SeatLaws
+pub mod BetweenLaws
+pub mod AloneLaws

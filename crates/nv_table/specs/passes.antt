@@ -1,0 +1,5 @@
+-- Passes: how they are made, told, and taken in.
+pub mod Seats
+pub mod PassesMade
+pub mod Alone
+pub mod BetweenCalls

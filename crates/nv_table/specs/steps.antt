@@ -1,0 +1,7 @@
+-- Steps: when a step of a pass may come, and what it tells.
+pub mod SeatSteps
+pub mod Moving
+pub mod StepContracts
+pub mod CallSteps
+pub mod Found
+pub mod Exchanges
