@@ -1,12 +1,12 @@
 //! The front of a call that has pages: these, LENGTH, SIZE, STOP and ORDER, and the way back where it is refused there.
-ghost use Rattle.std.specs.Prelude.{◌≡◌, ℕ, ◌<◌};
+ghost use Rattle.std.specs.Prelude.{◌+◌, true, ◌≡◌, ℕ, ◌<◌};
 ghost use Rattle.nv_op.specs.Ops.{core_op_of, opened_by};
 ghost use Rattle.nv_table.specs.invariant.Idle.{IsIdle};
 ghost use Rattle.nv_table.specs.steps.StepContracts.{Postcondition};
 ghost use Rattle.nv_mirror.specs.declared.front.FrontControl.TheVariants as fronts;
 ghost use Rattle.nv_table.specs.state.Keys.{sizes_of};
 ghost use Rattle.nv_table.specs.state.States.{IsOf, PassState};
-ghost use Rattle.nv_mirror.specs.Fronts.{file_in, size_in, Fits, IsOpen, front_op, front_opens, front_after, refuse, front_measure, IsUnderWay};
+ghost use Rattle.nv_mirror.specs.Fronts.{front_after_at, locked, file_in, size_in, Fits, IsOpen, front_op, front_opens, front_after, refuse, front_measure, IsUnderWay};
 
 use nv_calls::Refusal;
 use nv_op::{Asked, Op, Word, perform};
@@ -132,6 +132,48 @@ impl<'a> FrontMachine<'a> {
         }
     }
 
+    // It goes on there.
+    fn at(self, control: FrontControl) -> FrontMachine<'a>
+        ensures { result ≡ record self.entry { control = control } }
+    {
+        FrontMachine { control, ..self }
+    }
+
+    // It has one page more.
+    fn with_page(self, layout: Layout) -> FrontMachine<'a>
+        requires { self.first + self.held < self.last }
+        ensures { result ≡ locked (sizes_of layout) self.entry true }
+    {
+        // Only the clause speaks of it.
+        let _ = layout;
+        let control = if self.first + self.held + 1 == self.last {
+            FrontControl::LoadLength
+        } else {
+            FrontControl::TakePage
+        };
+        FrontMachine {
+            held: self.held + 1,
+            ..self.at(control)
+        }
+    }
+
+    // It has loaded LENGTH.
+    fn measured(self, layout: Layout, found: u64) -> FrontMachine<'a>
+        ensures { result ≡ front_after_at (sizes_of layout) self.entry fronts.LoadLength found }
+    {
+        // Only the clause speaks of it.
+        let _ = layout;
+        let control = if self.size() > 0 && found < self.end && !self.sized {
+            FrontControl::TakeSize
+        } else {
+            FrontControl::LoadStop
+        };
+        FrontMachine {
+            length: found,
+            ..self.at(control)
+        }
+    }
+
     // What it is after it.
     fn after(self, layout: Layout, found: u64) -> FrontMachine<'a>
         requires { Fits (sizes_of layout) self }
@@ -139,60 +181,24 @@ impl<'a> FrontMachine<'a> {
     {
         match self.control {
             FrontControl::Begin | FrontControl::TakePage => {
-                let page = self.first + self.held;
                 if found != 0 {
-                    return self.refuse(
-                        false,
-                        self.held,
-                        Refusal::Busy {
-                            cell: layout.page_lock(page),
-                        },
-                    );
+                    let cell = layout.page_lock(self.first + self.held);
+                    return self.refuse(false, self.held, Refusal::Busy { cell });
                 }
-                let control = if page + 1 == self.last {
-                    FrontControl::LoadLength
-                } else {
-                    FrontControl::TakePage
-                };
-                FrontMachine {
-                    held: self.held + 1,
-                    control,
-                    ..self
-                }
+                self.with_page(layout)
             }
-            FrontControl::LoadLength => {
-                let control = if self.size() > 0 && found < self.end && !self.sized {
-                    FrontControl::TakeSize
-                } else {
-                    FrontControl::LoadStop
-                };
-                FrontMachine {
-                    length: found,
-                    control,
-                    ..self
-                }
-            }
+            FrontControl::LoadLength => self.measured(layout, found),
             FrontControl::TakeSize if found == 0 => FrontMachine {
                 sized: true,
-                control: FrontControl::LoadLength,
-                ..self
+                ..self.at(FrontControl::LoadLength)
             },
-            FrontControl::TakeSize => self.refuse(
-                false,
-                self.held,
-                Refusal::Busy {
-                    cell: layout.size(self.file()),
-                },
-            ),
-            FrontControl::LoadStop if found == 0 => FrontMachine {
-                control: FrontControl::LoadOrder,
-                ..self
-            },
+            FrontControl::TakeSize => {
+                let cell = layout.size(self.file());
+                self.refuse(false, self.held, Refusal::Busy { cell })
+            }
+            FrontControl::LoadStop if found == 0 => self.at(FrontControl::LoadOrder),
             FrontControl::LoadStop => self.refuse(self.sized, self.held, Refusal::Stopped),
-            FrontControl::LoadOrder if found < 1 << 60 => FrontMachine {
-                control: FrontControl::Passed,
-                ..self
-            },
+            FrontControl::LoadOrder if found < 1 << 60 => self.at(FrontControl::Passed),
             FrontControl::LoadOrder => self.refuse(self.sized, self.held, Refusal::Spent { found }),
             FrontControl::GiveBack {
                 size: true,
