@@ -3,8 +3,8 @@ use Rattle.std.proofs.Common.{◌≡◌, ℕ, suc, ◌+◌, ◌-◌, ◌*◌, �
 use Rattle.std.specs.Prelude.{Option, Some, None, Ok, Err}
 use Rattle.std.proofs.lemmas.Bool.{lt-ltb}
 use Rattle.std.proofs.lemmas.Bool.Decides.{leb_tells}
-use Rattle.nv_core.specs.steps.Ops.{Op, Place, slot_of_entry, ready_word}
-use Rattle.nv_core.specs.state.Words.{Sizes, Word, SIZE, PAGE, ENTRY, family, index}
+use Rattle.nv_core.specs.steps.Ops.{Op, Place, ready_word}
+use Rattle.nv_core.specs.state.Words.{Sizes, Word, SIZE, PAGE, ENTRY, family, index, slot_of_entry}
 use Rattle.nv_core.specs.steps.Order.{plain_reply}
 use Rattle.nv_core.specs.state.Passes.{Pass, Control, Idle, WriteLoadTail, DrawNumbers, SeizeEntry, CommitGroup, ReadyEntry, TakePlace, GrowLength, GiveSize, GivePage, GiveBack, without, page_count, first_page, end_page, is_write, file_of, at_of, len_of}
 use Rattle.nv_core.specs.steps.ControlSteps.{leaving}

@@ -2,10 +2,10 @@
 use Rattle.std.specs.Prelude.{◌≡◌, ℕ, ◌+◌, ◌-◌, ◌*◌, ◌<◌, ◌^◌, ◌==◌, nat_lt, Bool, true, false, if◌then◌else◌, List, [], ◌∷◌, length, Option, Some, None, Ok, Err}
 use Rattle.nv_plain.specs.declared.call.FileCall.{FileCall}
 use Rattle.nv_plain.specs.declared.call.FileCall.TheVariants.{Write}
-use Rattle.nv_core.specs.steps.Ops.{slot_of_entry, Pledge as PledgeOp}
+use Rattle.nv_core.specs.steps.Ops.{Pledge as PledgeOp}
 use Rattle.nv_core.specs.steps.Order.{Work}
 use Rattle.nv_core.specs.state.Passes.{Control, Idle, WriteLoadHead, WriteLoadTail, DrawNumbers, SeizeEntry, CommitGroup, PledgePage, ReadyEntry, TakePlace, GrowLength, GiveSize, GivePage, GiveBack, is_write, first_page, page_count}
-use Rattle.nv_core.specs.state.Words.{Sizes, Word, SIZE, PAGE, ENTRY}
+use Rattle.nv_core.specs.state.Words.{Sizes, Word, SIZE, PAGE, ENTRY, slot_of_entry}
 use Rattle.nv_table.specs.steps.SeatSteps.{AreDue, pass_worked, values_then}
 use Rattle.nv_table.specs.steps.StepContracts.{Postcondition}
 use Rattle.nv_table.specs.state.Views.{OwnsSlots, pass_of, values_of, still_owned}

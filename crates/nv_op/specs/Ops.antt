@@ -6,8 +6,8 @@ use Rattle.nv_plain.specs.declared.call.FileCall.{FileCall}
 use Rattle.nv_plain.specs.declared.call.FileCall.TheVariants.{Read, Write, Sync}
 use Rattle.nv_table.specs.declared.stepping.Marks.{Marks}
 use Rattle.nv_table.specs.declared.stepping.Marks.TheVariants.{Nothing, Draws as DrawsNumbers, Places as TakesPlace, Stops as EndsCall}
-use Rattle.nv_core.specs.state.Words.{Sizes, Word as CoreWord, STOP, ORDER, HEAD, TAIL, HAND, SIZE, LENGTH, STORE, ENTRY, HINT, PAGE, CLEANUP, DIRTY}
-use Rattle.nv_core.specs.steps.Ops.{Op as CoreOp, Load as LoadOp, Take as TakeOp, Give as GiveOp, Place as PlaceOp, Stop as StopOp, Draw as DrawOp, Seize as SeizeOp, Pledge as PledgeOp, Ready as ReadyOp, Grow as GrowOp, Break as BreakOp, Hold as HoldOp, Return as ReturnOp, Turn as TurnOp, Hint as HintOp, slot_of_entry, ready_word}
+use Rattle.nv_core.specs.state.Words.{Sizes, Word as CoreWord, STOP, ORDER, HEAD, TAIL, HAND, SIZE, LENGTH, STORE, ENTRY, HINT, PAGE, CLEANUP, DIRTY, slot_of_entry}
+use Rattle.nv_core.specs.steps.Ops.{Op as CoreOp, Load as LoadOp, Take as TakeOp, Give as GiveOp, Place as PlaceOp, Stop as StopOp, Draw as DrawOp, Seize as SeizeOp, Pledge as PledgeOp, Ready as ReadyOp, Grow as GrowOp, Break as BreakOp, Hold as HoldOp, Return as ReturnOp, Turn as TurnOp, Hint as HintOp, ready_word}
 use Rattle.nv_core.specs.state.Passes.{Pass, file_of, at_of, len_of, page_count}
 use Rattle.nv_plain.specs.declared.call.Reply.{Reply}
 use Rattle.nv_table.specs.state.Views.{PassView, pass_of, values_of}

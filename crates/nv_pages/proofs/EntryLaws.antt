@@ -9,9 +9,9 @@ use Rattle.nv_pmem.specs.Room.{Room}
 use Rattle.nv_core.specs.invariant.Rooms.{KeepsReady}
 use Rattle.nv_core.specs.state.Spares.{spares_of}
 use Rattle.nv_core.specs.state.Values.{APart, PageRead, Failed, called}
-use Rattle.nv_core.specs.state.Words.{Sizes, ENTRY, ready, held, kind_of, page_of, is_entry_of, place}
+use Rattle.nv_core.specs.state.Words.{Sizes, ENTRY, ready, held, kind_of, page_of, is_entry_of, place, slot_of_entry}
 use Rattle.nv_core.specs.state.Passes.{Pass, HoldEntry, ReturnEntry}
-use Rattle.nv_core.specs.steps.Ops.{Hold, Return, slot_of_entry}
+use Rattle.nv_core.specs.steps.Ops.{Hold, Return}
 use Rattle.nv_core.specs.steps.Order.{Values}
 use Rattle.nv_core.specs.state.Core.{Core}
 use Rattle.nv_core.specs.invariant.Loaded.{LooksSound}

@@ -3,11 +3,10 @@ use Rattle.std.proofs.Common.{◌≡◌, ◌≢◌, ◌⊎◌, ℕ, zero, suc, �
 use Rattle.std.proofs.lemmas.Bool.{cases_eq, cases_Bool, cases_lt, lt-ltb, le-ltb}
 use Rattle.std.proofs.lemmas.List.{map-append, length-map}
 use Rattle.std.proofs.lemmas.Nat.{mod_below}
-use Rattle.nv_core.specs.state.Words.{Sizes, Word, ENTRY, same}
+use Rattle.nv_core.specs.state.Words.{Sizes, Word, ENTRY, same, slot_of_entry}
 use Rattle.nv_core.specs.state.Values.{Value, Bare}
 use Rattle.nv_core.specs.state.Core.{with_value}
 use Rattle.nv_core.specs.state.Passes.{IsOneOf, times}
-use Rattle.nv_core.specs.steps.Ops.{slot_of_entry}
 use Rattle.nv_core.specs.steps.Order.{Values}
 use Rattle.nv_core.specs.invariant.Rooms.{KeepsReady}
 use Rattle.nv_core.proofs.state.Changes.{word_here, word_else, same_true, differ}

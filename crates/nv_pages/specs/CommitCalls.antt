@@ -3,11 +3,10 @@ use Rattle.std.specs.Prelude.{◌≡◌, ◌≢◌, ℕ, ◌+◌, ◌<◌, ◌�
 use Rattle.nv_pmem.specs.Calls.{Seen, RowCalls}
 use Rattle.nv_pmem.specs.Part.{Part}
 use Rattle.nv_pmem.specs.declared.lines.RegionFault.{RegionFault}
-use Rattle.nv_core.specs.state.Words.{Sizes, Word, ENTRY}
+use Rattle.nv_core.specs.state.Words.{Sizes, Word, ENTRY, slot_of_entry}
 use Rattle.nv_core.specs.state.Spares.{spares_of}
 use Rattle.nv_core.specs.state.Values.{Value, APart, Device}
 use Rattle.nv_core.specs.state.Passes.{Pass, CommitGroup, PledgePage, SetStopAfterCommit, first_page, times}
-use Rattle.nv_core.specs.steps.Ops.{slot_of_entry}
 use Rattle.nv_core.specs.steps.Order.{Values, Work, commit_steps}
 use Rattle.nv_table.specs.steps.SeatSteps.{AreDue, pass_worked, values_after}
 

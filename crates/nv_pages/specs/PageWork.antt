@@ -2,9 +2,8 @@
 use Rattle.std.specs.Prelude.{◌≡◌, ℕ, ◌+◌, ◌++◌, true, false, List, [], length, drop, Option, Some, None}
 use Rattle.nv_plain.specs.Faults.{Rose}
 use Rattle.nv_plain.specs.Files.{bytes_at}
-use Rattle.nv_core.specs.state.Words.{Sizes, Word, PAGE}
+use Rattle.nv_core.specs.state.Words.{Sizes, Word, PAGE, slot_of_entry}
 use Rattle.nv_core.specs.state.Values.{Value, PageRead, Failed, called, faults_of, is_valid, bytes_in, emptied, received, filled, patched}
-use Rattle.nv_core.specs.steps.Ops.{slot_of_entry}
 use Rattle.nv_core.specs.log.FittingPieces.{PieceFits}
 use Rattle.nv_core.specs.steps.Order.{Values}
 use Rattle.nv_core.specs.invariant.Rooms.{KeepsReady}

@@ -1,8 +1,7 @@
 //! The part of an entry that a pass owns, and how its piece is laid over a page.
 ghost use Rattle.std.specs.Prelude.{◌≡◌, ℕ, ◌+◌, ◌%◌, ◌≤◌, length, take, IfOk, OnOk, OnErr};
 ghost use Rattle.nv_plain.specs.Files.{overwritten};
-ghost use Rattle.nv_core.specs.state.Words.{ENTRY};
-ghost use Rattle.nv_core.specs.steps.Ops.{slot_of_entry as slot_of_entryOp};
+ghost use Rattle.nv_core.specs.state.Words.{ENTRY, slot_of_entry as slot_of_number};
 ghost use Rattle.nv_core.specs.steps.Order.{SaysPieceOf};
 ghost use Rattle.nv_core.specs.state.Passes.{IsOneOf};
 ghost use Rattle.nv_core.specs.state.Values.{Value};
@@ -37,9 +36,9 @@ pub fn read_entry<L: Lines, B: Backing>(
     requires part { (value : Value) → IsOneOf pass.old.now (entry_slot board.now.opened.sizes number, value) → IsReadable board.now.opened.sizes value }
     requires page { length into.old ≡ board.now.opened.sizes.page }
     ensures same { OnOk result (IsAltered (λ kept. kept) pass.old pass.new) }
-    ensures says { IfOk result (λ piece. OfKept pass.old (λ kept. SaysPieceOf board.now.opened.sizes piece.at (take piece.size into.new) (kept (ENTRY (slot_of_entryOp board.now.opened.sizes number))))) }
+    ensures says { IfOk result (λ piece. OfKept pass.old (λ kept. SaysPieceOf board.now.opened.sizes piece.at (take piece.size into.new) (kept (ENTRY (slot_of_number board.now.opened.sizes number))))) }
     ensures fits { IfOk result (λ piece. piece.at % board.now.opened.sizes.page + piece.size ≤ board.now.opened.sizes.page) }
-    ensures failed { OnErr result (HasFailedCall (ENTRY (slot_of_entryOp board.now.opened.sizes number)) pass.old pass.new) }
+    ensures failed { OnErr result (HasFailedCall (ENTRY (slot_of_number board.now.opened.sizes number)) pass.old pass.new) }
 {
     let layout = board.layout();
     let slot = slot_of_entry(board, number);

@@ -1,7 +1,7 @@
 //! The steps of a search for a buffer, and those by which an entry is held and returned.
 ghost use Rattle.std.specs.Prelude.{◌≡◌, ℕ, ◌<◌, None};
-ghost use Rattle.nv_core.specs.steps.Ops.{Turn, Hint, Hold, Return, slot_of_entry as slot_of_entryOp};
-ghost use Rattle.nv_core.specs.state.Words.{ENTRY, place};
+ghost use Rattle.nv_core.specs.steps.Ops.{Turn, Hint, Hold, Return};
+ghost use Rattle.nv_core.specs.state.Words.{ENTRY, place, slot_of_entry as slot_of_number};
 ghost use Rattle.nv_table.specs.steps.StepContracts.{Postcondition};
 ghost use Rattle.nv_table.specs.state.States.{IsOf};
 ghost use Rattle.nv_table.specs.steps.CallSteps.{Precondition};
@@ -14,7 +14,7 @@ use std::marker::Brand;
 
 // The place of the word of a number's entry.
 fn entry_word<L: Lines, B: Backing>(board: &Board<L, B>, number: u64) -> u64
-    ensures { result ≡ place board.now.opened.sizes (ENTRY (slot_of_entryOp board.now.opened.sizes number)) }
+    ensures { result ≡ place board.now.opened.sizes (ENTRY (slot_of_number board.now.opened.sizes number)) }
 {
     let layout = board.layout();
     layout.entry(number % layout.entries)

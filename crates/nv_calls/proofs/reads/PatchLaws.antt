@@ -3,9 +3,9 @@ use Rattle.std.proofs.Common.{◌≡◌, ◌≢◌, ℕ, ◌+◌, ◌<◌, ◌�
 use Rattle.std.specs.Prelude.{None}
 use Rattle.std.proofs.lemmas.Nat.{mod_below}
 use Rattle.nv_plain.specs.declared.call.FileCall.{FileCall}
-use Rattle.nv_core.specs.state.Words.{Sizes, Word, HEAD, TAIL, ENTRY, PAGE, CLEANUP, ready, is_entry_of, place}
+use Rattle.nv_core.specs.state.Words.{Sizes, Word, HEAD, TAIL, ENTRY, PAGE, CLEANUP, ready, is_entry_of, place, slot_of_entry}
 use Rattle.nv_core.specs.state.Passes.{Control, Pass, ReadLoadHead, ReadLoadTail, LoadEntry, HoldEntry, ReadPiece, GiveCleanup, first_page, end_read, fetched_bytes, times}
-use Rattle.nv_core.specs.steps.Ops.{Op, Load, Hold, slot_of_entry}
+use Rattle.nv_core.specs.steps.Ops.{Op, Load, Hold}
 use Rattle.nv_core.specs.state.Core.{Core, values_stepped}
 use Rattle.nv_core.specs.invariant.Sound.{Sound}
 use Rattle.nv_core.specs.steps.Order.{Values}

@@ -3,10 +3,10 @@ use Rattle.std.proofs.Common.{◌≡◌, ℕ, ◌+◌, ◌<◌, ◌≤◌, ◌%�
 use Rattle.std.specs.Prelude.{Some, None}
 use Rattle.std.proofs.lemmas.List.{take_at}
 use Rattle.nv_plain.specs.Files.{overwritten}
-use Rattle.nv_core.specs.state.Words.{Sizes, Word, ENTRY, PAGE, CLEANUP}
+use Rattle.nv_core.specs.state.Words.{Sizes, Word, ENTRY, PAGE, CLEANUP, slot_of_entry}
 use Rattle.nv_core.specs.state.Values.{PieceRead, Made, Failed}
 use Rattle.nv_core.specs.state.Passes.{Control, Pass, ReadPiece, ReturnEntry, LoadEntry, GiveCleanup, first_page, times, fetched_bytes}
-use Rattle.nv_core.specs.steps.Ops.{Return, Stop, slot_of_entry}
+use Rattle.nv_core.specs.steps.Ops.{Return, Stop}
 use Rattle.nv_core.specs.state.Core.{worked}
 use Rattle.nv_core.specs.steps.PassSteps.{stepped}
 use Rattle.nv_core.specs.steps.Order.{Work}

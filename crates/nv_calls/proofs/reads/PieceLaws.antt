@@ -8,10 +8,10 @@ use Rattle.nv_plain.specs.Faults.{Rose}
 use Rattle.nv_plain.specs.Images.{entry_of, data_of}
 use Rattle.nv_plain.specs.declared.call.FileCall.{FileCall}
 use Rattle.nv_pmem.specs.Part.{Part, part_word}
-use Rattle.nv_core.specs.state.Words.{Sizes, Word, ENTRY, SIZE, PAGE, CLEANUP, held, kind_of, page_of, was_readied, is_entry_of}
+use Rattle.nv_core.specs.state.Words.{Sizes, Word, ENTRY, SIZE, PAGE, CLEANUP, held, kind_of, page_of, was_readied, is_entry_of, slot_of_entry}
 use Rattle.nv_core.specs.state.Values.{Value, Bare, APart, AStore, ABuffer, PieceRead, PageRead, CallEnding, Made, Failed, called, faults_of}
 use Rattle.nv_core.specs.state.Passes.{ReadPiece, IsOneOf, times}
-use Rattle.nv_core.specs.steps.Ops.{Return, Stop, slot_of_entry}
+use Rattle.nv_core.specs.steps.Ops.{Return, Stop}
 use Rattle.nv_core.specs.log.FittingPieces.{HeldPiecesFit}
 use Rattle.nv_core.specs.invariant.InvariantLaws.{RunsAreSound}
 use Rattle.nv_core.specs.invariant.Loaded.{LooksSound}

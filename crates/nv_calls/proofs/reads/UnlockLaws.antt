@@ -8,10 +8,10 @@ use Rattle.nv_plain.specs.Files.{bytes_at}
 use Rattle.nv_plain.specs.Pieces.{pages_touched, piece_of}
 use Rattle.nv_plain.specs.declared.call.FileCall.{FileCall}
 use Rattle.nv_pmem.proofs.Ranges.{flat_map-more}
-use Rattle.nv_core.specs.state.Words.{Sizes, ENTRY, PAGE, CLEANUP, place, page_total}
+use Rattle.nv_core.specs.state.Words.{Sizes, ENTRY, PAGE, CLEANUP, place, page_total, slot_of_entry}
 use Rattle.nv_core.specs.state.Values.{Buffer, Value, Bare, APart, AStore, ABuffer, filled}
 use Rattle.nv_core.specs.state.Passes.{Pass, VisitPage, ReturnEntry, GiveCleanup, IsOneOf, fetched_bytes, first_page, end_read, page_count, at_of, covered, times, without}
-use Rattle.nv_core.specs.steps.Ops.{Op, Give, Return, slot_of_entry}
+use Rattle.nv_core.specs.steps.Ops.{Op, Give, Return}
 use Rattle.nv_core.specs.steps.Opening.{IsMount}
 use Rattle.nv_core.specs.steps.Order.{Values, page_bytes}
 use Rattle.nv_core.specs.steps.StepKinds.{MayGive}

@@ -1,8 +1,7 @@
 -- Piece reads: the device call that lies before an entry is returned, and before STOP is set where it has failed.
 use Rattle.std.specs.Prelude.{◌≡◌, ℕ, false, List, [], ◌∷◌}
-use Rattle.nv_core.specs.state.Words.{Sizes, ENTRY}
+use Rattle.nv_core.specs.state.Words.{Sizes, ENTRY, slot_of_entry}
 use Rattle.nv_core.specs.state.Values.{PieceRead, CallEnding, Failed}
-use Rattle.nv_core.specs.steps.Ops.{slot_of_entry}
 use Rattle.nv_core.specs.steps.Order.{Work}
 
 -- the read of the piece of a number's entry

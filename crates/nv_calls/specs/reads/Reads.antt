@@ -6,10 +6,9 @@ use Rattle.nv_plain.specs.Pieces.{Piece, piece_of}
 use Rattle.nv_plain.specs.declared.call.FileCall.{FileCall}
 use Rattle.nv_plain.specs.declared.call.FileCall.TheVariants.{Read}
 use Rattle.nv_plain.specs.declared.call.Reply.TheVariants.{Bytes}
-use Rattle.nv_core.specs.state.Words.{Sizes, Word, SIZE, STORE, ENTRY, PAGE, CLEANUP, page_total}
+use Rattle.nv_core.specs.state.Words.{Sizes, Word, SIZE, STORE, ENTRY, PAGE, CLEANUP, page_total, slot_of_entry}
 use Rattle.nv_core.specs.state.Values.{lacks_buffer}
 use Rattle.nv_core.specs.state.Passes.{Control, TakePage, LoadLength, TakeSize, LoadStop, LoadOrder, VisitPage, LoadHint, TakeVictim, GiveVictim, VictimGiven, Searching, TakeCleanup, TakeStore, ReadStore, ReadLoadHead, ReadLoadTail, LoadEntry, HoldEntry, ReadPiece, ReturnEntry, GiveCleanup, GiveSize, GivePage, GiveBack, Pass, fetched_bytes, IsAllowed, file_of as file_of_call, at_of, len_of, covered, end_read, first_page, end_page, page_count}
-use Rattle.nv_core.specs.steps.Ops.{slot_of_entry}
 use Rattle.nv_core.specs.steps.ControlSteps.{tries_of}
 use Rattle.nv_core.specs.invariant.Ownership.{is_among}
 use Rattle.nv_core.specs.steps.Order.{Values, page_bytes}

@@ -6,10 +6,10 @@ use Rattle.nv_plain.specs.declared.call.FileCall.{FileCall}
 use Rattle.nv_plain.specs.declared.call.FileCall.TheVariants.{Read, Write, Sync}
 use Rattle.nv_plain.specs.declared.call.Reply.{Reply}
 use Rattle.nv_store.specs.Store.{Store}
-use Rattle.nv_core.specs.state.Words.{Sizes, Word, PAGE, CLEANUP, DIRTY, ENTRY, STORE, same, index, HEADER}
+use Rattle.nv_core.specs.state.Words.{Sizes, Word, PAGE, CLEANUP, DIRTY, ENTRY, STORE, same, index, HEADER, slot_of_entry}
 use Rattle.nv_core.specs.state.Values.{Value, AStore, ABuffer, Job, PartStep, PageRead, PieceRead, CallEnding, Made, Failed, called, filled, is_valid, bytes_in, Refused}
 use Rattle.nv_core.specs.state.Passes.{Control, Idle, TakePage, LoadStop, LoadOrder, VisitPage, ReadStore, GiveStore, ReadPiece, GiveCleanup, CommitGroup, PledgePage, ReadyEntry, TakePlace, GrowLength, GivePage, Pass, fetched_bytes, IsAllowed, is_write, is_read, file_of, times, page_count, first_page, end_page, Searching, GiveVictim, Cleaning}
-use Rattle.nv_core.specs.steps.Ops.{Op, Take, Give, Place, Pledge, Split, PutBack, Join, moved, Comes, Stays, patched_by, slot_of_entry, ByCleaner}
+use Rattle.nv_core.specs.steps.Ops.{Op, Take, Give, Place, Pledge, Split, PutBack, Join, moved, Comes, Stays, patched_by, ByCleaner}
 use Rattle.nv_core.specs.steps.ControlSteps.{after_give, exceeds, ending}
 use Rattle.nv_core.specs.steps.PassSteps.{begun}
 use Rattle.nv_core.specs.steps.Order.{Values, Work, CallEnabled, CallDue, IsPageRead, SaysOf, SaysPage, page_start, page_bytes, commit_steps, CallMayLeave}

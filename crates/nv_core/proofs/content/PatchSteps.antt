@@ -11,10 +11,10 @@ use Rattle.nv_pmem.specs.Part.{Part, part_word}
 use Rattle.nv_pmem.specs.Images.{IsPartImage}
 use Rattle.nv_pmem.specs.Laws.{LoadsAreAnImage}
 use Rattle.nv_entry.specs.Group.{HoldsEntry}
-use Rattle.nv_core.specs.state.Words.{Sizes, HEAD, TAIL, HEADER, ENTRY, PAGE, CLEANUP, ready, held, cleaned, kind_of, was_readied, page_of, free, filling, broken, entry_word, index}
+use Rattle.nv_core.specs.state.Words.{Sizes, HEAD, TAIL, HEADER, ENTRY, PAGE, CLEANUP, ready, held, cleaned, kind_of, was_readied, page_of, free, filling, broken, entry_word, index, slot_of_entry}
 use Rattle.nv_core.specs.state.Values.{Value, Bare, APart, AStore, ABuffer}
 use Rattle.nv_core.specs.state.Passes.{DrawNumbers, HoldEntry, ReturnEntry, Pass, IsUnseized, IsFilling, IsAmong, is_write, first_page, page_count, end_page, times}
-use Rattle.nv_core.specs.steps.Ops.{Op, slot_of_entry, ready_word, Take, Give, Draw, Seize, Ready, Break, Hold, Return, ByCleaner}
+use Rattle.nv_core.specs.steps.Ops.{Op, ready_word, Take, Give, Draw, Seize, Ready, Break, Hold, Return, ByCleaner}
 use Rattle.nv_core.specs.state.Cleaner.{CleanerOp, Clean, Free, MoveTail}
 use Rattle.nv_core.specs.state.Cleaner as cleaner
 use Rattle.nv_core.specs.invariant.CleanerNumbers.{IsFreed}

@@ -3,9 +3,8 @@ use Rattle.std.proofs.Common.{◌≡◌, ◌⊎◌, ℕ, ◌-◌, ◌<◌, ◌==
 use Rattle.std.proofs.lemmas.Bool.{cases_Bool, and_parts, eqb-true, eq-eqb}
 use Rattle.std.proofs.lemmas.Nat.{mod_below}
 use Rattle.nv_plain.specs.Files.{Files}
-use Rattle.nv_core.specs.state.Words.{Sizes, HEAD, TAIL, ENTRY, page_of, ready, held}
+use Rattle.nv_core.specs.state.Words.{Sizes, HEAD, TAIL, ENTRY, page_of, ready, held, slot_of_entry}
 use Rattle.nv_core.specs.state.Passes.{Control, PledgePage, ReadyEntry, Pass, is_read}
-use Rattle.nv_core.specs.steps.Ops.{slot_of_entry}
 use Rattle.nv_core.specs.steps.Order.{Values}
 use Rattle.nv_core.specs.invariant.ControlFacts.{FactsAt}
 use Rattle.nv_core.specs.invariant.Ownership.{one_if}

@@ -8,9 +8,8 @@ use Rattle.nv_plain.specs.declared.call.FileCall.{FileCall}
 use Rattle.nv_plain.specs.declared.call.FileCall.TheVariants.{Read, Write, Sync}
 use Rattle.nv_pmem.specs.Laws.{LoadsAreAnImage}
 use Rattle.nv_entry.specs.Commits.{GroupsAreAtomic, GroupsBecomeWhole, GroupsEndQuiet, GroupsStoreNothingElse}
-use Rattle.nv_core.specs.state.Words.{Sizes, HEAD, TAIL}
+use Rattle.nv_core.specs.state.Words.{Sizes, HEAD, TAIL, slot_of_entry}
 use Rattle.nv_core.specs.state.Passes.{Control, TakePlace, Pass, is_write}
-use Rattle.nv_core.specs.steps.Ops.{slot_of_entry}
 use Rattle.nv_core.specs.invariant.ControlFacts.{HasDrawn}
 use Rattle.nv_core.specs.steps.Order.{Values}
 use Rattle.nv_core.specs.state.Core.{Core}

@@ -17,9 +17,8 @@ use Rattle.nv_plain.specs.declared.call.FileCall.TheVariants.{Read, Write, Sync}
 use Rattle.nv_header.specs.Heads.{first_names}
 use Rattle.nv_header.specs.Regions.{ReadsAs}
 use Rattle.nv_entry.specs.Group.{HoldsEntry, count_at}
-use Rattle.nv_core.specs.state.Words.{Sizes, HEAD, TAIL, was_readied}
+use Rattle.nv_core.specs.state.Words.{Sizes, HEAD, TAIL, was_readied, slot_of_entry}
 use Rattle.nv_core.specs.state.Passes.{IsAllowed, is_write, file_of, page_count}
-use Rattle.nv_core.specs.steps.Ops.{slot_of_entry}
 use Rattle.nv_core.specs.steps.Order.{Values}
 use Rattle.nv_core.specs.state.Core.{Core}
 use Rattle.nv_core.specs.invariant.LogWindow.{InWindow, entry_word_at}

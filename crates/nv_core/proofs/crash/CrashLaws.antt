@@ -10,11 +10,10 @@ use Rattle.nv_plain.specs.Recovered.{committed, group_numbers, with_entry, recov
 use Rattle.nv_plain.specs.declared.call.FileCall.{FileCall}
 use Rattle.nv_pmem.specs.Laws as lines
 use Rattle.nv_entry.specs.Commits.{GroupsAreAtomic, GroupsBecomeWhole, GroupsEndQuiet, GroupsStoreNothingElse}
-use Rattle.nv_core.specs.state.Words.{Sizes, HEAD, TAIL, ready, cleaned}
+use Rattle.nv_core.specs.state.Words.{Sizes, HEAD, TAIL, ready, cleaned, slot_of_entry}
 use Rattle.nv_core.specs.state.Cleaner.{FreeEntry, AdvanceTail}
 use Rattle.nv_core.specs.invariant.CleanerNumbers.{IsFreed}
 use Rattle.nv_core.specs.state.Passes.{Control, Cleaning, IsOneOf}
-use Rattle.nv_core.specs.steps.Ops.{slot_of_entry}
 use Rattle.nv_core.specs.invariant.ControlFacts.{FactsAt}
 use Rattle.nv_core.specs.steps.Order.{Values}
 use Rattle.nv_core.specs.state.Core.{Core}

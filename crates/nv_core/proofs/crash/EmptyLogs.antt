@@ -10,7 +10,7 @@ use Rattle.nv_plain.specs.Recovered.{committed}
 use Rattle.nv_pmem.specs.Images.{IsQuietPart}
 use Rattle.nv_header.specs.Laws.{after_some_tail}
 use Rattle.nv_store.specs.Store.{Store, IsQuietStore, is_unsynced}
-use Rattle.nv_core.specs.state.Words.{Sizes, HEAD, TAIL, ENTRY, HEADER}
+use Rattle.nv_core.specs.state.Words.{Sizes, HEAD, TAIL, ENTRY, HEADER, slot_of_entry}
 use Rattle.nv_core.specs.state.Cleaner.{MoveHeaderTail, SetStop}
 use Rattle.nv_core.specs.state.Passes.{Control, Pass, Cleaning, times}
 use Rattle.nv_core.specs.invariant.Ownership.{Ownership, HoldsLocks}
@@ -21,7 +21,6 @@ use Rattle.nv_core.specs.invariant.Rooms.{IsMoving}
 use Rattle.nv_core.specs.crash.CommutingWrites.{after_calls}
 use Rattle.nv_core.specs.log.LivePieces.{rising, call_if, piece_call, is_live, live_pieces, store_files}
 use Rattle.nv_core.specs.crash.PersistentTail.{LiesInPieces}
-use Rattle.nv_core.specs.steps.Ops.{slot_of_entry}
 use Rattle.nv_core.specs.log.Written.{IsBlankEntry}
 use Rattle.nv_core.specs.log.EntryImages.{InEachImageOf}
 use Rattle.nv_core.specs.crash.EmptyLog.{IsLogEmpty, EmptyLogsAreStored, EmptyLogsRest}

@@ -8,14 +8,14 @@ use Rattle.nv_pmem.specs.Laws.{LoadsAreAnImage}
 use Rattle.nv_header.specs.HeaderSteps.{tail_steps}
 use Rattle.nv_store.specs.Store.{Store, IsQuietStore}
 use Rattle.nv_entry.specs.Commits.{GroupsBecomeWhole}
-use Rattle.nv_core.specs.state.Words.{Sizes, Word, HEAD, TAIL, STORE, ENTRY, kind_of, cleaned, was_readied, index}
+use Rattle.nv_core.specs.state.Words.{Sizes, Word, HEAD, TAIL, STORE, ENTRY, kind_of, cleaned, was_readied, index, slot_of_entry}
 use Rattle.nv_core.specs.state.Values.{Job, PieceWrite, StoreSync, CallEnding, Made, Failed, called}
 use Rattle.nv_core.specs.state.Cleaner.{Batch, CleanerControl, WriteBack, SyncStores, MoveHeaderTail, FreeEntry, AdvanceTail}
 use Rattle.nv_core.specs.state.Cleaner as cleaner
 use Rattle.nv_core.specs.steps.CleanerSteps.{group_file, holds_store}
 use Rattle.nv_core.specs.invariant.CleanerNumbers.{IsFreed}
 use Rattle.nv_core.specs.state.Passes.{Control, CommitGroup, ReadStore, ReadPiece, Cleaning, Pass, page_count, file_of}
-use Rattle.nv_core.specs.steps.Ops.{Op, Draw, slot_of_entry, value_after}
+use Rattle.nv_core.specs.steps.Ops.{Op, Draw, value_after}
 use Rattle.nv_core.specs.steps.PassSteps.{begun}
 use Rattle.nv_core.specs.invariant.ControlFacts.{FactsAt}
 use Rattle.nv_core.specs.steps.Order.{Values, Work, CallEnabled, CallMayLeave, CallDue, IsPieceWrite}

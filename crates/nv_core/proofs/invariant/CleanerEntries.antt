@@ -3,13 +3,13 @@ use Rattle.std.proofs.Common.{◌≡◌, ◌≢◌, ℕ, ◌+◌, ◌-◌, ◌<�
 use Rattle.std.specs.Prelude.{Some, None}
 use Rattle.std.proofs.lemmas.Bool.{eqb-true, cases_eq}
 use Rattle.nv_header.specs.HeaderSteps.{tail_steps}
-use Rattle.nv_core.specs.state.Words.{Sizes, Word, CLEANER, ENTRY, is_lock}
+use Rattle.nv_core.specs.state.Words.{Sizes, Word, CLEANER, ENTRY, is_lock, slot_of_entry}
 use Rattle.nv_core.specs.state.Values.{CallEnding, Made, Failed, Refused}
 use Rattle.nv_core.specs.state.Cleaner.{Batch, CleanerControl, TakeHeader, LoadTail, LoadHead, WriteBack, CleanEntry, SubtractDirty, RefusedReturnEntry, FailedReturnEntry, RefusedGiveCleanup, SyncStores, MoveHeaderTail, FreeEntry, AdvanceTail, GiveStores, GiveHeader, GiveCleaner, SetStop, CleanerOp, TakeCleaner, Clean}
 use Rattle.nv_core.specs.state.Cleaner as cleaner
 use Rattle.nv_core.specs.steps.CleanerSteps.{next_cleaner_op, after_cleaner_op, after_cleaner_work, withdrawing, syncing, discharging, finishing, surveying, surveyed, retreating, each_next, claimed, closed, next_group, batch_with_page, may_pass, rising_files, group_file, holds_store}
 use Rattle.nv_core.specs.state.Passes.{Control, Cleaning, Pass, IsOfGroupAtHand, IsHeldByCleaner, times, without}
-use Rattle.nv_core.specs.steps.Ops.{Stays, Comes, moved, cleaner_move, slot_of_entry}
+use Rattle.nv_core.specs.steps.Ops.{Stays, Comes, moved, cleaner_move}
 use Rattle.nv_core.specs.steps.Order.{Values, Work, CleanerCallDue}
 use Rattle.nv_core.specs.invariant.Ownership.{HoldsLocks}
 use Rattle.nv_core.specs.invariant.CleanerOwnership.{count_in}

@@ -3,10 +3,10 @@ use Rattle.std.proofs.Common.{◌≡◌, ◌≢◌, ℕ, zero, suc, ◌+◌, ◌
 use Rattle.std.specs.Prelude.{Some, None, filter, slice_index}
 use Rattle.std.specs.List.{range_with_len}
 use Rattle.std.proofs.lemmas.Bool.{eqb-true, eqb-false, eq-eqb, ne_eqb, true≢false, cases_eq}
-use Rattle.nv_core.specs.state.Words.{Sizes, Word, STOP, HEAD, TAIL, CLEANER, HEADER, SIZE, STORE, ENTRY, CLEANUP, same, is_lock}
+use Rattle.nv_core.specs.state.Words.{Sizes, Word, STOP, HEAD, TAIL, CLEANER, HEADER, SIZE, STORE, ENTRY, CLEANUP, same, is_lock, slot_of_entry}
 use Rattle.nv_core.specs.state.Cleaner.{Batch, CleanerControl, TakeHeader, LoadTail, LoadHead, WriteBack, CleanEntry, SubtractDirty, RefusedReturnEntry, FailedReturnEntry, RefusedGiveCleanup, SyncStores, MoveHeaderTail, FreeEntry, AdvanceTail, GiveStores, GiveHeader, GiveCleaner, SetStop, CleanerOp, Clean, Subtract, Free, MoveTail}
 use Rattle.nv_core.specs.state.Cleaner as cleaner
-use Rattle.nv_core.specs.steps.CleanerSteps.{next_cleaner_op, last_taken, after_cleaner_op, withdrawing, syncing, discharging, finishing, surveying, surveyed, retreating, each_next, claimed, closed, next_group, batch_with_page, may_pass, rising_files, group_file, group_page, holds_store, slot_in}
+use Rattle.nv_core.specs.steps.CleanerSteps.{next_cleaner_op, last_taken, after_cleaner_op, withdrawing, syncing, discharging, finishing, surveying, surveyed, retreating, each_next, claimed, closed, next_group, batch_with_page, may_pass, rising_files, group_file, group_page, holds_store}
 use Rattle.nv_core.specs.state.Passes.{Control, Idle, Cleaning, Pass, file_of, times, without}
 use Rattle.nv_core.specs.steps.Ops.{Comes, Stays, moved, cleaner_move}
 use Rattle.nv_core.specs.invariant.Ownership.{one_if, lock_held, HoldsLocks}
@@ -274,7 +274,7 @@ module _ (sizes : Sizes) (pass now : Pass) where
   cleaner_locks batch LoadHead cleaner_op found owned e stands free files was = surveyed_next sizes pass now (record batch { head = found })
       (goes_on sizes pass now batch (record batch { head = found }) LoadHead LoadHead (after_next sizes pass now found cleaner_op owned (cleaner.Load HEAD) e) refl (λ file. refl) (λ page. refl) was)
   cleaner_locks batch (cleaner.LoadEntry i) cleaner_op found owned e stands free files was =
-      let same_owned = after_next sizes pass now found cleaner_op owned (cleaner.Load (ENTRY (slot_in sizes (batch.reached + i)))) e in
+      let same_owned = after_next sizes pass now found cleaner_op owned (cleaner.Load (ENTRY (slot_of_entry sizes (batch.reached + i)))) e in
       if_both (HoldsLocks sizes now) (i == 0 && not (may_pass batch found)) (finishing sizes now.owned batch) (surveyed (batch_with_page batch i found) i)
       (λ _. finished sizes pass now batch (goes_on sizes pass now batch batch (cleaner.LoadEntry i) LoadHead same_owned refl (λ file. refl) (λ page. refl) was))
       (λ _. if_both (HoldsLocks sizes now) (nat_lt (i + 1) (batch_with_page batch i found).count) (Cleaning (batch_with_page batch i found) (cleaner.LoadEntry (i + 1))) (Cleaning (batch_with_page batch i found) (cleaner.TakeCleanup 0))
@@ -294,13 +294,13 @@ module _ (sizes : Sizes) (pass now : Pass) where
       (let z = free open_ (STORE (group_file sizes batch)) (cleaner_op_is (cleaner.Take (STORE (group_file sizes batch))) cleaner_op e) in let h = was (STORE (group_file sizes batch)) (λ slot f. cc) in omega (arith, z, h))) (λ page. refl)) was)
       (λ shut. retreated sizes pass now batch (length batch.pages) (goes_on sizes pass now batch batch cleaner.TakeStore (cleaner.TakeCleanup (length batch.pages)) (missed sizes pass now found cleaner_op owned (STORE (group_file sizes batch)) e shut) refl (λ file. refl)
       (λ page. count_all batch.pages (length batch.pages) page (omega arith)) was))
-  cleaner_locks batch (cleaner.HoldEntry i) cleaner_op found owned e stands free files was = entry_more sizes pass now found cleaner_op owned batch batch (cleaner.HoldEntry i) (cleaner.ReadPiece i) (slot_in sizes (batch.reached + i)) (after_next sizes pass now found cleaner_op owned (cleaner.Hold (batch.reached + i)) e) refl (λ file. refl) (λ page. refl) was
+  cleaner_locks batch (cleaner.HoldEntry i) cleaner_op found owned e stands free files was = entry_more sizes pass now found cleaner_op owned batch batch (cleaner.HoldEntry i) (cleaner.ReadPiece i) (slot_of_entry sizes (batch.reached + i)) (after_next sizes pass now found cleaner_op owned (cleaner.Hold (batch.reached + i)) e) refl (λ file. refl) (λ page. refl) was
   cleaner_locks batch (cleaner.ReadPiece i) cleaner_op found owned e stands free files was = absurd (none_next e)
   cleaner_locks batch (WriteBack i) cleaner_op found owned e stands free files was = absurd (none_next e)
   cleaner_locks batch (CleanEntry i) cleaner_op found owned e stands free files was =
       let less = after_next sizes pass now found cleaner_op owned (Clean (batch.reached + i)) e in
-      next_held sizes pass now batch i (CleanEntry (i + 1)) (Cleaning batch (SubtractDirty 0)) (entry_less sizes pass now found cleaner_op owned batch batch (CleanEntry i) (CleanEntry (i + 1)) (slot_in sizes (batch.reached + i)) less refl (λ file. refl) (λ page. refl) was)
-      (λ _. entry_less sizes pass now found cleaner_op owned batch batch (CleanEntry i) (SubtractDirty 0) (slot_in sizes (batch.reached + i)) less refl (λ file. refl) (λ page. refl) was)
+      next_held sizes pass now batch i (CleanEntry (i + 1)) (Cleaning batch (SubtractDirty 0)) (entry_less sizes pass now found cleaner_op owned batch batch (CleanEntry i) (CleanEntry (i + 1)) (slot_of_entry sizes (batch.reached + i)) less refl (λ file. refl) (λ page. refl) was)
+      (λ _. entry_less sizes pass now found cleaner_op owned batch batch (CleanEntry i) (SubtractDirty 0) (slot_of_entry sizes (batch.reached + i)) less refl (λ file. refl) (λ page. refl) was)
   cleaner_locks batch (SubtractDirty i) cleaner_op found owned e stands free files was =
       let same_owned = after_next sizes pass now found cleaner_op owned (Subtract (group_page batch i)) e in
       next_held sizes pass now batch i (SubtractDirty (i + 1)) (Cleaning batch (cleaner.GiveCleanup 0)) (goes_on sizes pass now batch batch (SubtractDirty i) (SubtractDirty (i + 1)) same_owned refl (λ file. refl) (λ page. refl) was)
@@ -313,11 +313,11 @@ module _ (sizes : Sizes) (pass now : Pass) where
   cleaner_locks batch (RefusedReturnEntry i end) cleaner_op found owned e stands free files was =
       let less = after_next sizes pass now found cleaner_op owned (cleaner.Return (batch.reached + i)) e in
       if_both (HoldsLocks sizes now) (i + 1 == end) (retreating sizes now.owned batch (length batch.pages)) (Cleaning batch (RefusedReturnEntry (i + 1) end))
-      (λ _. retreated sizes pass now batch (length batch.pages) (entry_less sizes pass now found cleaner_op owned batch batch (RefusedReturnEntry i end) (cleaner.TakeCleanup (length batch.pages)) (slot_in sizes (batch.reached + i)) less refl (λ file. refl) (λ page. count_all batch.pages (length batch.pages) page (omega arith)) was))
-      (λ _. entry_less sizes pass now found cleaner_op owned batch batch (RefusedReturnEntry i end) (RefusedReturnEntry (i + 1) end) (slot_in sizes (batch.reached + i)) less refl (λ file. refl) (λ page. refl) was)
+      (λ _. retreated sizes pass now batch (length batch.pages) (entry_less sizes pass now found cleaner_op owned batch batch (RefusedReturnEntry i end) (cleaner.TakeCleanup (length batch.pages)) (slot_of_entry sizes (batch.reached + i)) less refl (λ file. refl) (λ page. count_all batch.pages (length batch.pages) page (omega arith)) was))
+      (λ _. entry_less sizes pass now found cleaner_op owned batch batch (RefusedReturnEntry i end) (RefusedReturnEntry (i + 1) end) (slot_of_entry sizes (batch.reached + i)) less refl (λ file. refl) (λ page. refl) was)
   cleaner_locks batch (FailedReturnEntry i end) cleaner_op found owned e stands free files was =
       if_both (HoldsLocks sizes now) (i + 1 == end) (withdrawing now.owned batch) (Cleaning batch (FailedReturnEntry (i + 1) end)) (λ _. withdrawn sizes pass now now.owned batch refl)
-      (λ _. entry_less sizes pass now found cleaner_op owned batch batch (FailedReturnEntry i end) (FailedReturnEntry (i + 1) end) (slot_in sizes (batch.reached + i)) (after_next sizes pass now found cleaner_op owned (cleaner.Return (batch.reached + i)) e) refl (λ file. refl) (λ page. refl) was)
+      (λ _. entry_less sizes pass now found cleaner_op owned batch batch (FailedReturnEntry i end) (FailedReturnEntry (i + 1) end) (slot_of_entry sizes (batch.reached + i)) (after_next sizes pass now found cleaner_op owned (cleaner.Return (batch.reached + i)) e) refl (λ file. refl) (λ page. refl) was)
   cleaner_locks batch (RefusedGiveCleanup i) cleaner_op found owned e stands free files was =
       let some : count_in (take (i + 1) batch.pages) (group_page batch i) ≢ 0 = λ z. (let c = count_take batch.pages i (group_page batch i) stands in let o : one_if (group_page batch i == group_page batch i) ≡ 1 = when_true (group_page batch i == group_page batch i) 1 0 (eq-eqb (group_page batch i) (group_page batch i) refl) in omega (arith, z, c, o)) in
       retreated sizes pass now batch i (gave_page batch (RefusedGiveCleanup i) (cleaner.TakeCleanup i) i (after_next sizes pass now found cleaner_op owned (cleaner.Give (CLEANUP (group_page batch i))) e) some refl (λ file. refl) (λ page. count_take batch.pages i page stands) was)

@@ -3,12 +3,12 @@ use Rattle.std.proofs.Common.{◌≡◌, ℕ, ◌+◌, ◌≤◌, ◌==◌, nat_
 use Rattle.std.proofs.lemmas.Bool.{true≢false, and_parts, not-true, eqb-false, leb-true, ltb-true}
 use Rattle.nv_plain.specs.Histories.{Answered}
 use Rattle.nv_plain.specs.declared.call.FileCall.{FileCall}
-use Rattle.nv_core.specs.state.Words.{Sizes, Word, STOP, ORDER, HEAD, TAIL, SIZE, LENGTH, STORE, ENTRY, HINT, PAGE, DIRTY, CLEANUP, ready, is_entry_of}
+use Rattle.nv_core.specs.state.Words.{Sizes, Word, STOP, ORDER, HEAD, TAIL, SIZE, LENGTH, STORE, ENTRY, HINT, PAGE, DIRTY, CLEANUP, ready, is_entry_of, slot_of_entry}
 use Rattle.nv_core.specs.state.Passes.{Control, Idle, TakePage, LoadLength, TakeSize, LoadStop, LoadOrder, VisitPage, TakeStore, ReadStore, GiveStore, TakeCleanup, Search, LoadHint, TakeVictim, GiveVictim, VictimGiven, NotFound, Searching, WriteLoadHead, WriteLoadTail, DrawNumbers, SeizeEntry, CommitGroup, PledgePage, ReadyEntry, TakePlace, GrowLength, GiveSize, GivePage, GiveBack, SetStopAfterRead, SetStopAfterCommit, BreakEntry, Pass, is_read, is_write, page_count, first_page, end_page, without, IsAmong, IsAllowed, ReadLoadHead, LoadEntry, HoldEntry, ReadPiece, GiveCleanup, SetStopAfterPiece, Cleaning}
 use Rattle.nv_core.specs.state.Cleaner.{Batch, CleanerControl, TakeHeader, CleanerOp, TakeCleaner}
 use Rattle.nv_core.specs.steps.CleanerSteps.{after_cleaner_op, after_cleaner_work, new_batch}
 use Rattle.nv_core.specs.log.Progress.{HasLoadedTail}
-use Rattle.nv_core.specs.steps.Ops.{Op, Stays, Comes, moved, slot_of_entry, Load, Take, Give, Place, Stop, Draw, Seize, Pledge, Ready, Grow, Break, Turn, Hint, Hold, Return, ByCleaner, cleaner_move}
+use Rattle.nv_core.specs.steps.Ops.{Op, Stays, Comes, moved, Load, Take, Give, Place, Stop, Draw, Seize, Pledge, Ready, Grow, Break, Turn, Hint, Hold, Return, ByCleaner, cleaner_move}
 use Rattle.nv_core.specs.steps.ControlSteps.{copying, pursued, control_after, after_load, after_give, after_stop, leaving, giving, ending, ordered, exceeds, scanning, after_head, after_tail, after_look, after_hold, after_return, after_by_cleaner}
 use Rattle.nv_core.specs.steps.PassSteps.{stepped, begun}
 use Rattle.nv_core.specs.state.Values.{CallEnding, Made, Failed, Refused}

@@ -3,10 +3,10 @@ use Rattle.std.proofs.Common.{◌≡◌, ◌≢◌, ◌⊎◌, ℕ, ◌+◌, ◌
 use Rattle.std.proofs.lemmas.Bool.{eqb-true, true≢false}
 use Rattle.nv_plain.specs.declared.call.FileCall.{FileCall}
 use Rattle.nv_plain.specs.declared.call.Reply.{Reply}
-use Rattle.nv_core.specs.state.Words.{Sizes, Word, STOP, ORDER, HEAD, TAIL, SIZE, LENGTH, STORE, ENTRY, PAGE, DIRTY, same, HINT, CLEANUP}
+use Rattle.nv_core.specs.state.Words.{Sizes, Word, STOP, ORDER, HEAD, TAIL, SIZE, LENGTH, STORE, ENTRY, PAGE, DIRTY, same, HINT, CLEANUP, slot_of_entry}
 use Rattle.nv_core.specs.state.Cleaner.{CleanerOp}
 use Rattle.nv_core.specs.state.Passes.{Control, TakePage, LoadLength, TakeSize, LoadStop, LoadOrder, VisitPage, TakeStore, ReadStore, GiveStore, WriteLoadHead, WriteLoadTail, DrawNumbers, SeizeEntry, CommitGroup, PledgePage, ReadyEntry, TakePlace, GrowLength, GiveSize, GivePage, GiveBack, SetStopAfterRead, SetStopAfterCommit, BreakEntry, Fault, Pass, IsOneOf, page_count, first_page, end_page, without, times, Searching, LoadHint, TakeVictim, GiveVictim, VictimGiven, NotFound, HintSet, Search, TakeCleanup, ReadLoadHead, ReadLoadTail, LoadEntry, HoldEntry, ReadPiece, ReturnEntry, GiveCleanup, SetStopAfterPiece, Cleaning}
-use Rattle.nv_core.specs.steps.Ops.{Op, moved, move_of, Comes, Stays, Load, Take, Give, Place, Stop, Draw, Seize, Pledge, Ready, Grow, Break, Split, PutBack, Join, slot_of_entry, Turn, Hint, Hold, Return, ByCleaner, cleaner_move}
+use Rattle.nv_core.specs.steps.Ops.{Op, moved, move_of, Comes, Stays, Load, Take, Give, Place, Stop, Draw, Seize, Pledge, Ready, Grow, Break, Split, PutBack, Join, Turn, Hint, Hold, Return, ByCleaner, cleaner_move}
 use Rattle.nv_core.specs.steps.ControlSteps.{IsInPhases, control_after, after_load, after_give, after_stop, leaving, exceeds, after_return}
 use Rattle.nv_core.specs.steps.PassSteps.{fault_of, begun}
 use Rattle.nv_core.specs.steps.Order.{Values, Work, CallEnabled, CallDue, IsFailing}

@@ -6,14 +6,14 @@ use Rattle.std.proofs.lemmas.List.{drop_all}
 use Rattle.nv_plain.specs.declared.call.FileCall.{FileCall}
 use Rattle.nv_pmem.specs.Rows.{steps_on}
 use Rattle.nv_pmem.specs.Steps.{LineStep}
-use Rattle.nv_core.specs.state.Words.{Sizes, Word, HEADER, STORE, ENTRY, filling, was_readied}
+use Rattle.nv_core.specs.state.Words.{Sizes, Word, HEADER, STORE, ENTRY, filling, was_readied, slot_of_entry}
 use Rattle.nv_core.specs.state.Cleaner.{Batch, CleanerControl, WriteBack, SyncStores, MoveHeaderTail}
 use Rattle.nv_core.specs.state.Cleaner as cleaner
 use Rattle.nv_core.specs.steps.CleanerSteps.{group_file}
 use Rattle.nv_core.specs.state.Spares.{Spares}
 use Rattle.nv_core.specs.state.Values.{Value, PartStep, CallEnding, Made, Failed, Refused, called, PieceRead}
 use Rattle.nv_core.specs.state.Passes.{Control, TakePage, LoadStop, ReadStore, SeizeEntry, CommitGroup, PledgePage, ReadyEntry, TakePlace, SetStopAfterRead, SetStopAfterPiece, SetStopAfterCommit, BreakEntry, Pass, IsFilling, IsAmong, file_of, page_count, first_page, end_page, without, times, ReadPiece, Cleaning}
-use Rattle.nv_core.specs.steps.Ops.{Op, slot_of_entry, Stop, Draw, Seize, Pledge, Ready, Break, Split, PutBack, Join}
+use Rattle.nv_core.specs.steps.Ops.{Op, Stop, Draw, Seize, Pledge, Ready, Break, Split, PutBack, Join}
 use Rattle.nv_core.specs.steps.ControlSteps.{after_stop, leaving}
 use Rattle.nv_core.specs.steps.PassSteps.{begun}
 use Rattle.nv_core.specs.steps.Order.{Values, Work, CallEnabled, CallMayLeave, CallDue, CleanerCallDue, IsNextCall, IsFailing, commit_steps, IsPieceRead}

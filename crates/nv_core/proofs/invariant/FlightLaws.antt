@@ -1,9 +1,8 @@
 -- Writes in flight share no page and no growing length, and no entry above one is on a page of it.
 use Rattle.std.proofs.Common.{◌≡◌, ◌≢◌, ◌⊎◌, ℕ, ◌+◌, ◌≤◌, ◌==◌, nat_le, not, Bool, true, false, inl, inr, refl, sym, ap, subst, ◌∙◌, arith}
 use Rattle.std.proofs.lemmas.Bool.{cases_eq, and_from, and_parts, eq-eqb, eqb-true, le-leb}
-use Rattle.nv_core.specs.state.Words.{Sizes, SIZE, PAGE, ENTRY, kind_of, free, filling, ready, cleaned}
+use Rattle.nv_core.specs.state.Words.{Sizes, SIZE, PAGE, ENTRY, kind_of, free, filling, ready, cleaned, slot_of_entry}
 use Rattle.nv_core.specs.state.Passes.{Control, SeizeEntry, CommitGroup, PledgePage, ReadyEntry, TakePlace, SetStopAfterCommit, BreakEntry, Fault, Pass, IsOneOf, IsAmong, IsUnseized, IsFilling, is_write, file_of, first_page, times}
-use Rattle.nv_core.specs.steps.Ops.{slot_of_entry}
 use Rattle.nv_core.specs.steps.PassSteps.{fault_of}
 use Rattle.nv_core.specs.steps.Order.{Values}
 use Rattle.nv_core.specs.state.Core.{Core}

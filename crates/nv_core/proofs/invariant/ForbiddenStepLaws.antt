@@ -1,11 +1,11 @@
 -- What no sound state allows.
 use Rattle.std.proofs.Common.{◌≡◌, ◌≢◌, ◌⊎◌, ℕ, ◌+◌, ◌≤◌, ◌==◌, ◌&&◌, ◌||◌, nat_lt, nat_le, not, Bool, true, false, List, [], ◌∷◌, inl, inr, refl, sym, ap, subst, arith, ◌∙◌}
 use Rattle.std.proofs.lemmas.Bool.{cases_eq, and_from, and_parts, eqb-true, eq-eqb, leb-true, le-leb}
-use Rattle.nv_core.specs.state.Words.{Word, PAGE, ENTRY, CLEANUP, kind_of, ready, is_entry_of}
+use Rattle.nv_core.specs.state.Words.{Word, PAGE, ENTRY, CLEANUP, kind_of, ready, is_entry_of, slot_of_entry}
 use Rattle.nv_core.specs.state.Passes.{Control, SeizeEntry, CommitGroup, PledgePage, ReadyEntry, TakePlace, SetStopAfterCommit, IsUnseized, IsFilling, IsAmong, times, GiveBack, Searching, TakeVictim, GiveVictim, Cleaning}
 use Rattle.nv_core.specs.state.Cleaner as cleaner
 use Rattle.nv_core.specs.steps.CleanerSteps.{after_cleaner_op, surveyed, batch_with_page, count_of, may_pass, finishing, withdrawing, syncing, closed, rising_files}
-use Rattle.nv_core.specs.steps.Ops.{Draw, slot_of_entry, Place, Give, Ready, Grow, Stop, Seize, Hold, Break}
+use Rattle.nv_core.specs.steps.Ops.{Draw, Place, Give, Ready, Grow, Stop, Seize, Hold, Break}
 use Rattle.nv_core.specs.steps.StepKinds.{MayPlace}
 use Rattle.nv_core.specs.invariant.ControlFacts.{FactsAt, HasDrawn, IsPage}
 use Rattle.nv_core.specs.invariant.Ownership.{HoldsLocks, lock_held, cleanup_held}

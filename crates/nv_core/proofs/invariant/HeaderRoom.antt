@@ -11,14 +11,14 @@ use Rattle.nv_pmem.specs.RoomSteps.{EndWith}
 use Rattle.nv_pmem.specs.Steps.{LineStep, durable_store}
 use Rattle.nv_header.specs.HeaderSteps.{tail_steps}
 use Rattle.nv_header.specs.Regions.{IsRoomy}
-use Rattle.nv_core.specs.state.Words.{Sizes, Word, STOP, HEADER, STORE, ENTRY}
+use Rattle.nv_core.specs.state.Words.{Sizes, Word, STOP, HEADER, STORE, ENTRY, slot_of_entry}
 use Rattle.nv_core.specs.state.Cleaner.{Batch, CleanerControl, TakeHeader, LoadTail, WriteBack, CleanEntry, FailedReturnEntry, SyncStores, MoveHeaderTail, FreeEntry, AdvanceTail, GiveStores, GiveHeader, GiveCleaner, SetStop, CleanerOp}
 use Rattle.nv_core.specs.state.Cleaner as cleaner
 use Rattle.nv_core.specs.steps.CleanerSteps.{next_cleaner_op, after_cleaner_op, after_cleaner_work, withdrawing, discharging, rising_files, cleaner_word, new_batch, group_file}
 use Rattle.nv_core.specs.state.Spares.{Spares, room_of_spares}
 use Rattle.nv_core.specs.state.Values.{Value, Bare, APart, AStore, ABuffer, PartStep, CallEnding, Made, Failed, Refused, called}
 use Rattle.nv_core.specs.state.Passes.{Control, Idle, TakePage, LoadStop, CommitGroup, ReadStore, ReadPiece, PledgePage, Cleaning, Pass, page_count, first_page, file_of}
-use Rattle.nv_core.specs.steps.Ops.{Op, Stop, ByCleaner, Split, PutBack, Join, slot_of_entry, cleaner_move, moved}
+use Rattle.nv_core.specs.steps.Ops.{Op, Stop, ByCleaner, Split, PutBack, Join, cleaner_move, moved}
 use Rattle.nv_core.specs.steps.ControlSteps.{control_after, after_by_cleaner}
 use Rattle.nv_core.specs.steps.PassSteps.{begun}
 use Rattle.nv_core.specs.steps.Order.{Values, Work, CallEnabled, CallMayLeave, CallDue, CleanerCallDue, IsTailCall, commit_steps}

@@ -3,12 +3,12 @@ use Rattle.std.proofs.Common.{◌≡◌, ◌≢◌, ◌⊎◌, ℕ, ◌+◌, ◌
 use Rattle.std.proofs.lemmas.Bool.{cases_lt}
 use Rattle.std.proofs.lemmas.Nat.{mod_below}
 use Rattle.nv_plain.specs.declared.call.FileCall.{FileCall}
-use Rattle.nv_core.specs.state.Words.{Sizes, Word, HEAD, TAIL, ENTRY, PAGE, kind_of, page_of, ready, held, free, filling, broken, was_readied, entry_word, is_entry_of}
+use Rattle.nv_core.specs.state.Words.{Sizes, Word, HEAD, TAIL, ENTRY, PAGE, kind_of, page_of, ready, held, free, filling, broken, was_readied, entry_word, is_entry_of, slot_of_entry}
 use Rattle.nv_core.specs.state.Values.{CallEnding, Made, Failed, Refused}
 use Rattle.nv_core.specs.state.Cleaner.{Clean, Free}
 use Rattle.nv_core.specs.state.Cleaner as cleaner
 use Rattle.nv_core.specs.state.Passes.{Control, TakePage, LoadStop, ReadLoadTail, LoadEntry, HoldEntry, ReadPiece, ReturnEntry, GiveCleanup, SetStopAfterPiece, SetStopAfterRead, SetStopAfterCommit, ReadStore, CommitGroup, Cleaning, WriteLoadHead, WriteLoadTail, DrawNumbers, Pass, IsAmong, page_count, first_page, without, times}
-use Rattle.nv_core.specs.steps.Ops.{Op, Load, Take, Stop, Draw, Seize, Ready, Break, Hold, Return, ByCleaner, Split, PutBack, Join, slot_of_entry, page_at, ready_word}
+use Rattle.nv_core.specs.steps.Ops.{Op, Load, Take, Stop, Draw, Seize, Ready, Break, Hold, Return, ByCleaner, Split, PutBack, Join, page_at, ready_word}
 use Rattle.nv_core.specs.steps.ControlSteps.{control_after, scanning, after_head, after_tail, after_look, after_load, after_stop, after_hold, after_return, leaving}
 use Rattle.nv_core.specs.steps.PassSteps.{begun}
 use Rattle.nv_core.specs.steps.Order.{Values, Work, CallEnabled, CallDue, IsFailing}

@@ -4,11 +4,11 @@ use Rattle.std.proofs.lemmas.Bool.{ltb-true, eqb-true, true≢false}
 use Rattle.std.proofs.lemmas.Nat.{div_below}
 use Rattle.nv_plain.specs.declared.call.FileCall.{FileCall}
 use Rattle.nv_plain.specs.declared.call.FileCall.TheVariants.{Read, Write, Sync}
-use Rattle.nv_core.specs.state.Words.{Sizes, ENTRY, same, page_total, free, filling, broken, ready, held, cleaned, kind_of, is_entry_of}
+use Rattle.nv_core.specs.state.Words.{Sizes, ENTRY, same, page_total, free, filling, broken, ready, held, cleaned, kind_of, is_entry_of, slot_of_entry}
 use Rattle.nv_core.specs.state.Cleaner.{Clean, Free}
 use Rattle.nv_core.specs.state.Cleaner as cleaner
 use Rattle.nv_core.specs.state.Passes.{IsAmong, IsAllowed, is_write, at_of, len_of, file_of, page_count, end_page}
-use Rattle.nv_core.specs.steps.Ops.{Op, slot_of_entry, page_at, ready_word, Seize, Ready, Break, Hold, Return, ByCleaner}
+use Rattle.nv_core.specs.steps.Ops.{Op, page_at, ready_word, Seize, Ready, Break, Hold, Return, ByCleaner}
 use Rattle.nv_core.specs.steps.Order.{Values}
 use Rattle.nv_core.specs.state.Core.{Core, with_value, after_step}
 use Rattle.nv_core.proofs.steps.ByKind.{FoundEnabledByKind}

@@ -2,9 +2,9 @@
 use Rattle.std.proofs.Common.{◌≡◌, ◌≢◌, ℕ, ◌+◌, ◌<◌, ◌≤◌, ◌==◌, ◌&&◌, nat_le, true, false, if◌then◌else◌, List, [], ◌∷◌, length, inl, inr, refl, sym, ap, subst, ◌∙◌, arith, ◌-◌}
 use Rattle.std.proofs.lemmas.Bool.{le-leb, and_from, eqb-true, eqb-false, eq-eqb, ne_eqb, cases_eq, and_parts}
 use Rattle.nv_plain.specs.declared.call.FileCall.{FileCall}
-use Rattle.nv_core.specs.state.Words.{Sizes, Word, CLEANER, PAGE, SIZE, STORE, ENTRY, is_shut, is_lock, kind_of, entry_word, ready, cleaned, was_readied, CLEANUP, held, page_of, is_entry_of}
+use Rattle.nv_core.specs.state.Words.{Sizes, Word, CLEANER, PAGE, SIZE, STORE, ENTRY, is_shut, is_lock, kind_of, entry_word, ready, cleaned, was_readied, CLEANUP, held, page_of, is_entry_of, slot_of_entry}
 use Rattle.nv_core.specs.state.Passes.{Control, GiveBack, GiveSize, GivePage, GiveStore, GiveVictim, Searching, ReadyEntry, Pass, IsUnseized, IsFilling, IsAmong, IsLastTaken, file_of, end_page, times, GiveCleanup, IsHeldEntry, Cleaning}
-use Rattle.nv_core.specs.steps.Ops.{Op, Stays, Comes, moved, move_of, slot_of_entry, page_at, ready_word, Load, Take, Give, Place, Stop, Draw, Seize, Pledge, Ready, Grow, Break, Turn, Hint, Split, PutBack, Join, word_of, value_after, Hold, Return, ByCleaner, cleaner_move}
+use Rattle.nv_core.specs.steps.Ops.{Op, Stays, Comes, moved, move_of, page_at, ready_word, Load, Take, Give, Place, Stop, Draw, Seize, Pledge, Ready, Grow, Break, Turn, Hint, Split, PutBack, Join, word_of, value_after, Hold, Return, ByCleaner, cleaner_move}
 use Rattle.nv_core.specs.state.Cleaner.{CleanEntry, RefusedReturnEntry, FailedReturnEntry, CleanerOp, TakeCleaner, Clean, Subtract, Free, MoveTail}
 use Rattle.nv_core.specs.state.Cleaner as cleaner
 use Rattle.nv_core.specs.steps.CleanerSteps.{cleaner_word, cleaner_value}

@@ -6,11 +6,11 @@ use Rattle.nv_plain.specs.declared.call.FileCall.TheVariants.{Read, Write, Sync}
 use Rattle.nv_pmem.specs.Rows.{steps_on}
 use Rattle.nv_pmem.specs.Steps.{LineStep}
 use Rattle.nv_entry.specs.Commits.{GroupsEndReady}
-use Rattle.nv_core.specs.state.Words.{Sizes, ENTRY, filling, was_readied}
+use Rattle.nv_core.specs.state.Words.{Sizes, ENTRY, filling, was_readied, slot_of_entry}
 use Rattle.nv_core.specs.state.Spares.{Spares, room_of_spares}
 use Rattle.nv_core.specs.state.Values.{Value, Bare, APart, AStore, ABuffer, PartStep, CallEnding, Made, called, PieceRead}
 use Rattle.nv_core.specs.state.Passes.{Control, SeizeEntry, CommitGroup, SetStopAfterCommit, BreakEntry, Pass, IsUnseized, IsFilling, IsAmong, page_count}
-use Rattle.nv_core.specs.steps.Ops.{Op, slot_of_entry, Seize}
+use Rattle.nv_core.specs.steps.Ops.{Op, Seize}
 use Rattle.nv_core.specs.steps.Order.{Values, Work, CallEnabled, CallMayLeave, commit_steps}
 use Rattle.nv_core.specs.state.Core.{Core, changed_pass, after_step, after_begin, after_work, values_worked}
 use Rattle.nv_core.specs.steps.Events.{CallMayBegin}

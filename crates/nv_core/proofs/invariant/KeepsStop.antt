@@ -3,14 +3,14 @@ use Rattle.std.proofs.Common.{◌≡◌, ◌≢◌, ◌⊎◌, ℕ, ◌+◌, ◌
 use Rattle.std.proofs.lemmas.Bool.{eqb-false, or_cases}
 use Rattle.nv_plain.specs.Faults.{Rose}
 use Rattle.nv_plain.specs.declared.call.FileCall.{FileCall}
-use Rattle.nv_core.specs.state.Words.{Sizes, Word, STOP, ENTRY, PAGE, page_total}
+use Rattle.nv_core.specs.state.Words.{Sizes, Word, STOP, ENTRY, PAGE, page_total, slot_of_entry}
 use Rattle.nv_core.specs.state.Values.{CallEnding, Made, Failed, Refused, called, faults_of, identity_of, buffers_in}
 use Rattle.nv_core.specs.state.Cleaner.{Batch, CleanerControl, WriteBack, CleanEntry, SyncStores, MoveHeaderTail, FreeEntry, SetStop, CleanerOp}
 use Rattle.nv_core.specs.state.Cleaner as cleaner
 use Rattle.nv_core.specs.steps.CleanerSteps.{after_cleaner_work}
 use Rattle.nv_header.specs.HeaderSteps.{tail_steps}
 use Rattle.nv_core.specs.state.Passes.{Control, TakePage, LoadStop, ReadStore, SeizeEntry, CommitGroup, PledgePage, ReadyEntry, TakePlace, SetStopAfterRead, SetStopAfterCommit, BreakEntry, Pass, page_count, first_page, end_page, without, SetStopAfterPiece, ReadPiece, Cleaning}
-use Rattle.nv_core.specs.steps.Ops.{Op, Load, Take, Give, Place, Stop, Draw, Seize, Pledge, Ready, Grow, Break, Split, PutBack, Join, slot_of_entry, Turn, Hint, Hold, Return, ByCleaner, cleaner_move, moved}
+use Rattle.nv_core.specs.steps.Ops.{Op, Load, Take, Give, Place, Stop, Draw, Seize, Pledge, Ready, Grow, Break, Split, PutBack, Join, Turn, Hint, Hold, Return, ByCleaner, cleaner_move, moved}
 use Rattle.nv_core.specs.steps.ControlSteps.{control_after, after_stop, after_by_cleaner, leaving}
 use Rattle.nv_core.specs.steps.PassSteps.{stopped_after}
 use Rattle.nv_core.specs.steps.Order.{Values, Work, CallEnabled, CallDue, CleanerCallDue, IsFailing, CallMayEnd, commit_steps}

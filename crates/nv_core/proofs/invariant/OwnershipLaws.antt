@@ -2,9 +2,9 @@
 use Rattle.std.proofs.Common.{◌≡◌, ◌≢◌, ℕ, ◌+◌, ◌<◌, ◌≤◌, ◌==◌, nat_lt, nat_le, ◌^◌, Bool, true, false, not, ◌&&◌, if◌then◌else◌, List, ◌∷◌, inl, inr, refl, sym, ap, subst, ◌∙◌, arith}
 use Rattle.std.proofs.lemmas.Bool.{and_from, and_left, and_right, eqb-true, le-leb, lt-leb, lt-ltb, le-ltb, eq-eqb, ne_eqb, cases_eq, cases_lt}
 use Rattle.nv_plain.specs.Histories.{Answered}
-use Rattle.nv_core.specs.state.Words.{Sizes, Word, STOP, ORDER, HEAD, TAIL, SIZE, LENGTH, STORE, ENTRY, HINT, PAGE, DIRTY, same, CLEANUP, CLEANER, HEADER, ready, is_entry_of}
+use Rattle.nv_core.specs.state.Words.{Sizes, Word, STOP, ORDER, HEAD, TAIL, SIZE, LENGTH, STORE, ENTRY, HINT, PAGE, DIRTY, same, CLEANUP, CLEANER, HEADER, ready, is_entry_of, slot_of_entry}
 use Rattle.nv_core.specs.state.Passes.{Control, Idle, TakePage, LoadLength, TakeSize, LoadStop, LoadOrder, VisitPage, TakeStore, ReadStore, GiveStore, TakeCleanup, Search, LoadHint, TakeVictim, GiveVictim, VictimGiven, NotFound, HintSet, Searching, WriteLoadHead, WriteLoadTail, DrawNumbers, SeizeEntry, CommitGroup, PledgePage, ReadyEntry, TakePlace, GrowLength, GiveSize, GivePage, GiveBack, SetStopAfterRead, SetStopAfterCommit, BreakEntry, Pass, file_of, is_read, is_write, page_count, first_page, end_page, without, times, ReadLoadHead, ReadLoadTail, LoadEntry, HoldEntry, ReturnEntry, GiveCleanup, SetStopAfterPiece}
-use Rattle.nv_core.specs.steps.Ops.{Op, Stays, Comes, moved, slot_of_entry, Load, Take, Give, Place, Stop, Draw, Seize, Pledge, Ready, Grow, Break, Turn, Hint, Hold, Return, ByCleaner}
+use Rattle.nv_core.specs.steps.Ops.{Op, Stays, Comes, moved, Load, Take, Give, Place, Stop, Draw, Seize, Pledge, Ready, Grow, Break, Turn, Hint, Hold, Return, ByCleaner}
 use Rattle.nv_core.specs.steps.ControlSteps.{copying, control_after, after_load, after_give, after_stop, leaving, giving, ending, ordered, exceeds, scanning, after_head, after_tail, after_look, after_hold, after_return}
 use Rattle.nv_core.specs.steps.PassSteps.{stepped}
 use Rattle.nv_core.specs.steps.Order.{Values, IsFailing}

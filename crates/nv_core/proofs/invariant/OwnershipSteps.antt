@@ -3,11 +3,11 @@ use Rattle.std.proofs.Common.{◌≡◌, ◌≢◌, ◌⊎◌, ℕ, ◌+◌, ◌
 use Rattle.std.proofs.lemmas.Bool.{eqb-true, eqb-false, cases_eq, cases_lt, cases_order}
 use Rattle.nv_plain.specs.Histories.{Answered}
 use Rattle.nv_plain.specs.declared.call.FileCall.{FileCall}
-use Rattle.nv_core.specs.state.Words.{Sizes, Word, SIZE, STORE, ENTRY, PAGE}
+use Rattle.nv_core.specs.state.Words.{Sizes, Word, SIZE, STORE, ENTRY, PAGE, slot_of_entry}
 use Rattle.nv_core.specs.state.Values.{CallEnding, Made, Failed, Refused}
 use Rattle.nv_core.specs.state.Passes.{Control, Idle, TakePage, LoadStop, ReadStore, DrawNumbers, SeizeEntry, CommitGroup, PledgePage, ReadyEntry, TakePlace, SetStopAfterRead, SetStopAfterCommit, BreakEntry, Pass, IsFilling, IsAllowed, IsAmong, file_of, page_count, first_page, end_page, without, times, HoldEntry, ReadPiece, ReturnEntry, SetStopAfterPiece, IsHeldEntry, Cleaning, IsHeldByCleaner}
 use Rattle.nv_core.specs.state.Cleaner.{Batch, CleanerControl}
-use Rattle.nv_core.specs.steps.Ops.{Op, moved, move_of, slot_of_entry, Load, Take, Give, Place, Stop, Draw, Seize, Pledge, Ready, Grow, Break, Turn, Hint, Hold, Return, ByCleaner}
+use Rattle.nv_core.specs.steps.Ops.{Op, moved, move_of, Load, Take, Give, Place, Stop, Draw, Seize, Pledge, Ready, Grow, Break, Turn, Hint, Hold, Return, ByCleaner}
 use Rattle.nv_core.specs.steps.ControlSteps.{control_after, after_stop, leaving, scanning, after_hold, after_return}
 use Rattle.nv_core.specs.steps.PassSteps.{stepped, begun, first_after, entries_after}
 use Rattle.nv_core.specs.steps.Order.{Values, Work, CallEnabled, CallDue, commit_steps, IsFailing}

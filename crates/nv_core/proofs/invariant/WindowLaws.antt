@@ -3,10 +3,9 @@ use Rattle.std.proofs.Common.{◌≡◌, ◌≢◌, ◌⊎◌, ◌↔◌, ℕ, �
 use Rattle.std.proofs.lemmas.Bool.{cases_eq, cases_lt, cases_order}
 use Rattle.std.proofs.lemmas.Nat.{mod_below}
 use Rattle.nv_plain.specs.Histories.{Answered}
-use Rattle.nv_core.specs.state.Words.{Sizes, STOP, HEAD, TAIL, ENTRY, index, kind_of, free, filling, cleaned}
+use Rattle.nv_core.specs.state.Words.{Sizes, STOP, HEAD, TAIL, ENTRY, index, kind_of, free, filling, cleaned, slot_of_entry}
 use Rattle.nv_core.specs.state.Passes.{Pass}
 use Rattle.nv_core.specs.invariant.CleanerNumbers.{IsCleaned, IsFreed}
-use Rattle.nv_core.specs.steps.Ops.{slot_of_entry}
 use Rattle.nv_core.specs.steps.Order.{Values}
 use Rattle.nv_core.specs.state.Core.{Core, with_value, with_number}
 use Rattle.nv_core.specs.invariant.LogWindow.{HasUnseized, Fills, InWindow, entry_word_at, IsNumbered, Drawn, Filling, Freed, Kept, LogWindow}

@@ -4,14 +4,13 @@ use Rattle.std.specs.Prelude.{Some, slice_index}
 use Rattle.std.proofs.Math.ListN.{get_or-append}
 use Rattle.std.proofs.Math.Seq.{get_or-append_seam}
 use Rattle.std.proofs.lemmas.Bool.{cases_eq, cases_lt, eqb-true, eq-eqb, ne_eqb, ltb-true, ltb-false, and_parts, leb-true}
-use Rattle.nv_core.specs.state.Words.{Sizes, Word, STOP, HEAD, TAIL, CLEANER, ENTRY, CLEANUP, kind_of, page_of, was_readied, ready, held, cleaned, is_entry_of, entry_word, is_shut}
+use Rattle.nv_core.specs.state.Words.{Sizes, Word, STOP, HEAD, TAIL, CLEANER, ENTRY, CLEANUP, kind_of, page_of, was_readied, ready, held, cleaned, is_entry_of, entry_word, is_shut, slot_of_entry}
 use Rattle.nv_core.specs.state.Cleaner.{Batch, CleanerControl, TakeHeader, LoadTail, LoadHead, CleanEntry, SubtractDirty, RefusedReturnEntry, FailedReturnEntry, RefusedGiveCleanup, FreeEntry, AdvanceTail, GiveStores, GiveHeader, GiveCleaner, SetStop, CleanerOp}
 use Rattle.nv_core.specs.state.Cleaner as cleaner
-use Rattle.nv_core.specs.steps.CleanerSteps.{next_cleaner_op, cleaner_word, slot_in, after_cleaner_op, withdrawing, finishing, surveying, surveyed, retreating, each_next, claimed, discharging, group_page, group_file, holds_store, next_group, batch_with_page, may_pass, count_of}
+use Rattle.nv_core.specs.steps.CleanerSteps.{next_cleaner_op, cleaner_word, after_cleaner_op, withdrawing, finishing, surveying, surveyed, retreating, each_next, claimed, discharging, group_page, group_file, holds_store, next_group, batch_with_page, may_pass, count_of}
 use Rattle.nv_core.specs.invariant.CleanerOwnership.{of_cleaner_cleanup}
 use Rattle.nv_core.specs.invariant.CleanerNumbers.{IsCleaned}
 use Rattle.nv_core.specs.state.Passes.{Control, Cleaning, Pass, IsHeldEntry, IsHeldByCleaner, ReadPiece, ReturnEntry, SetStopAfterPiece, times, file_of}
-use Rattle.nv_core.specs.steps.Ops.{slot_of_entry}
 use Rattle.nv_core.specs.steps.Order.{Values}
 use Rattle.nv_core.specs.state.Core.{Core}
 use Rattle.nv_core.specs.invariant.ControlFacts.{CleanerFactsAt}
@@ -485,7 +484,7 @@ module _ (sizes : Sizes) (first : Values) (core : Core) (sound : Sound sizes fir
         quiet_on cleaner.LoadStop e quiet stands is at = cleaner_load_stop_on e at (is (cleaner.Load STOP) refl)
         quiet_on LoadTail e quiet stands is at = load_tail_on at (is (cleaner.Load TAIL) refl)
         quiet_on LoadHead e quiet stands is at = load_head_on at (is (cleaner.Load HEAD) refl)
-        quiet_on (cleaner.LoadEntry i) e quiet stands is at = surveying_on owned (core.passes by).owned i found at stands (is (cleaner.Load (ENTRY (slot_in sizes (batch.reached + i)))) refl)
+        quiet_on (cleaner.LoadEntry i) e quiet stands is at = surveying_on owned (core.passes by).owned i found at stands (is (cleaner.Load (ENTRY (slot_of_entry sizes (batch.reached + i)))) refl)
         quiet_on (cleaner.TakeCleanup i) e quiet stands is at = claiming_on i e at stands (is (cleaner.Take (CLEANUP (group_page batch i))) refl)
         quiet_on cleaner.TakeStore e quiet stands is at = storing_on at stands
         quiet_on (SubtractDirty i) e quiet stands is at = goes_next sizes log core batch i (SubtractDirty (i + 1)) (Cleaning batch (cleaner.GiveCleanup 0))

@@ -2,7 +2,7 @@
 use Rattle.std.proofs.Common.{◌≡◌, ◌≢◌, ◌⊎◌, ℕ, zero, suc, ◌+◌, ◌-◌, ◌<◌, ◌≤◌, ◌==◌, nat_lt, true, List, [], ◌∷◌, length, take, inl, inr, refl, sym, ap, subst, ◌∙◌, arith}
 use Rattle.std.specs.Prelude.{slice_index}
 use Rattle.std.proofs.lemmas.Bool.{cases_eq, cases_lt, eqb-true, eqb-false}
-use Rattle.nv_core.specs.state.Words.{Sizes, Word, STOP, HEAD, TAIL, ENTRY, index, kind_of, page_of, was_readied, cleaned}
+use Rattle.nv_core.specs.state.Words.{Sizes, Word, STOP, HEAD, TAIL, ENTRY, index, kind_of, page_of, was_readied, cleaned, slot_of_entry}
 use Rattle.nv_core.specs.state.Cleaner.{Batch, CleanerControl, LoadTail, WriteBack, CleanEntry, SubtractDirty, RefusedReturnEntry, FailedReturnEntry, RefusedGiveCleanup, SyncStores, MoveHeaderTail, SetStop}
 use Rattle.nv_core.specs.state.Cleaner as cleaner
 use Rattle.nv_core.specs.steps.CleanerSteps.{withdrawing, syncing, finishing, surveying, retreating, each_next, closed, rising_files, group_page, group_file, holds_store, new_batch}
@@ -10,7 +10,6 @@ use Rattle.nv_core.specs.invariant.Ownership.{one_if}
 use Rattle.nv_core.specs.invariant.CleanerOwnership.{count_in, of_cleaner_cleanup}
 use Rattle.nv_core.specs.invariant.CleanerNumbers.{IsCleaned}
 use Rattle.nv_core.specs.state.Passes.{Control, Cleaning}
-use Rattle.nv_core.specs.steps.Ops.{slot_of_entry}
 use Rattle.nv_core.specs.state.Core.{Core, with_value}
 use Rattle.nv_core.specs.invariant.LogWindow.{InWindow, entry_word_at, LogWindow}
 use Rattle.nv_core.specs.content.PagesAfter.{file_of_page}

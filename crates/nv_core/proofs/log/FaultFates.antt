@@ -4,7 +4,7 @@ use Rattle.std.proofs.lemmas.Bool.{and_from, and_parts, eq-eqb, eqb-true, leb-tr
 use Rattle.nv_plain.specs.Images.{entry_of}
 use Rattle.nv_plain.specs.Recovered.{recovered}
 use Rattle.nv_core.specs.state.Passes.{IsOneOf}
-use Rattle.nv_core.specs.steps.Ops.{slot_of_entry}
+use Rattle.nv_core.specs.state.Words.{slot_of_entry}
 use Rattle.nv_core.specs.log.InFlight.{IsFlying}
 use Rattle.nv_core.specs.log.Unready.{group_of_fault}
 use Rattle.nv_core.specs.log.Faults.{IsRecorded}

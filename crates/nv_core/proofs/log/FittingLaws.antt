@@ -7,11 +7,11 @@ use Rattle.nv_plain.specs.declared.call.FileCall.TheVariants.{Read, Write, Sync}
 use Rattle.nv_pmem.specs.Rows.{steps_on}
 use Rattle.nv_pmem.specs.Runs.{run}
 use Rattle.nv_pmem.specs.Steps.{LineStep, after_line_step}
-use Rattle.nv_core.specs.state.Words.{Sizes, ENTRY, was_readied, held, is_entry_of}
+use Rattle.nv_core.specs.state.Words.{Sizes, ENTRY, was_readied, held, is_entry_of, slot_of_entry}
 use Rattle.nv_core.specs.state.Spares.{Spares}
 use Rattle.nv_core.specs.state.Values.{Value, APart, PartStep, CallEnding, Made, called, PieceRead}
 use Rattle.nv_core.specs.state.Passes.{Control, SeizeEntry, CommitGroup, PledgePage, ReadyEntry, Pass, IsFilling, page_count}
-use Rattle.nv_core.specs.steps.Ops.{Op, slot_of_entry, Seize}
+use Rattle.nv_core.specs.steps.Ops.{Op, Seize}
 use Rattle.nv_core.specs.steps.Order.{Values, Work, CallEnabled, commit_steps}
 use Rattle.nv_core.specs.state.Core.{Core, changed_pass, after_step, after_begin, after_work}
 use Rattle.nv_core.specs.steps.Events.{Act, BeginsCall, TakesStep, CallsDevice, Event, after_act, after_event, after_run, IsRun}

@@ -16,9 +16,8 @@ use Rattle.nv_pmem.specs.Runs.{run}
 use Rattle.nv_pmem.specs.Steps.{after_line_step}
 use Rattle.nv_entry.specs.Group.{group_steps, StoresOnly}
 use Rattle.nv_entry.specs.Commits.{after_some, after_group}
-use Rattle.nv_core.specs.state.Words.{Sizes, ENTRY}
+use Rattle.nv_core.specs.state.Words.{Sizes, ENTRY, slot_of_entry}
 use Rattle.nv_core.specs.state.Passes.{page_count}
-use Rattle.nv_core.specs.steps.Ops.{slot_of_entry}
 use Rattle.nv_core.specs.steps.Order.{Values}
 use Rattle.nv_core.specs.log.Written.{CommitsNone, IsWrittenTo, IsWritten, commit_length, IsBlankEntry}
 use Rattle.nv_core.proofs.state.Choices.{if_both, when_true}

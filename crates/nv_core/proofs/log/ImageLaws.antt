@@ -15,10 +15,9 @@ use Rattle.nv_pmem.specs.Rows.{row_after, IsRowImage}
 use Rattle.nv_pmem.specs.Runs.{run}
 use Rattle.nv_entry.specs.Group.{group_steps, IsUncommitted, IsWholeGroup, IsUncommittedOrWhole, HoldsEntry, StoresOnly}
 use Rattle.nv_entry.specs.Commits.{IsOpen, after_some, after_group, GroupsAreAtomic, GroupsStayOpen, GroupsBecomeWhole, GroupsEndQuiet, GroupsStoreNothingElse}
-use Rattle.nv_core.specs.state.Words.{Sizes, HEAD, TAIL, ENTRY, kind_of, free, filling, cleaned}
+use Rattle.nv_core.specs.state.Words.{Sizes, HEAD, TAIL, ENTRY, kind_of, free, filling, cleaned, slot_of_entry}
 use Rattle.nv_core.specs.state.Values.{Value, Bare, APart, AStore, ABuffer}
 use Rattle.nv_core.specs.state.Passes.{Control, SeizeEntry, CommitGroup, PledgePage, ReadyEntry, Pass, IsAmong, IsUnseized, IsFilling, page_count}
-use Rattle.nv_core.specs.steps.Ops.{slot_of_entry}
 use Rattle.nv_core.specs.steps.Order.{Values}
 use Rattle.nv_core.specs.invariant.CleanerNumbers.{IsFreed}
 use Rattle.nv_core.specs.state.Core.{Core}

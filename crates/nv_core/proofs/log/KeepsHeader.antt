@@ -12,14 +12,14 @@ use Rattle.nv_pmem.specs.Runs.{run}
 use Rattle.nv_pmem.specs.Steps.{LineStep, after_line_step}
 use Rattle.nv_header.specs.HeaderSteps.{tail_steps}
 use Rattle.nv_header.specs.Laws.{after_some_tail}
-use Rattle.nv_core.specs.state.Words.{Sizes, Word, HEADER, STORE, ENTRY, PAGE, index}
+use Rattle.nv_core.specs.state.Words.{Sizes, Word, HEADER, STORE, ENTRY, PAGE, index, slot_of_entry}
 use Rattle.nv_core.specs.state.Spares.{Spares}
 use Rattle.nv_core.specs.state.Values.{Value, Bare, APart, AStore, ABuffer, Job, PartStep, PageRead, CallEnding, Made, Failed, Refused, called, filled}
 use Rattle.nv_core.specs.state.Cleaner.{Batch, CleanerControl, WriteBack, SyncStores, MoveHeaderTail}
 use Rattle.nv_core.specs.state.Cleaner as cleaner
 use Rattle.nv_core.specs.steps.CleanerSteps.{group_file}
 use Rattle.nv_core.specs.state.Passes.{Control, CommitGroup, ReadStore, ReadPiece, Cleaning, Pass, file_of}
-use Rattle.nv_core.specs.steps.Ops.{Op, Pledge, slot_of_entry, patched_by, Give}
+use Rattle.nv_core.specs.steps.Ops.{Op, Pledge, patched_by, Give}
 use Rattle.nv_core.specs.steps.Order.{Values, Work, CallEnabled, CallDue, CleanerCallDue, IsNextCall, IsPieceRead, IsTailCall}
 use Rattle.nv_core.specs.state.Core.{with_value, values_read, values_worked, values_stepped}
 use Rattle.nv_core.specs.log.Written.{IsPart}

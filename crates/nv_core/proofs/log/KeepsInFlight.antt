@@ -4,12 +4,12 @@ use Rattle.std.proofs.lemmas.Bool.{eqb-true, eq-eqb, cases_eq, and_from, le-leb,
 use Rattle.nv_plain.specs.declared.call.FileCall.{FileCall}
 use Rattle.nv_plain.specs.declared.call.FileCall.TheVariants.{Read, Write, Sync}
 use Rattle.nv_plain.specs.declared.call.Reply.{Reply}
-use Rattle.nv_core.specs.state.Words.{Sizes, Word, STOP, ORDER, HEAD, TAIL, LENGTH, DIRTY, PAGE, SIZE, STORE, ENTRY, free, HINT, was_readied, CLEANUP, ready, is_entry_of}
+use Rattle.nv_core.specs.state.Words.{Sizes, Word, STOP, ORDER, HEAD, TAIL, LENGTH, DIRTY, PAGE, SIZE, STORE, ENTRY, free, HINT, was_readied, CLEANUP, ready, is_entry_of, slot_of_entry}
 use Rattle.nv_core.specs.state.Values.{CallEnding, Made, Failed, Refused}
 use Rattle.nv_core.specs.state.Cleaner.{CleanerOp, MoveTail}
 use Rattle.nv_core.specs.invariant.CleanerNumbers.{IsFreed}
 use Rattle.nv_core.specs.state.Passes.{Control, Cleaning, Idle, TakePage, LoadLength, TakeSize, LoadStop, LoadOrder, VisitPage, WriteLoadHead, WriteLoadTail, DrawNumbers, TakeStore, TakeCleanup, ReadStore, SeizeEntry, CommitGroup, PledgePage, ReadyEntry, TakePlace, GrowLength, GiveSize, GivePage, GiveBack, GiveStore, SetStopAfterRead, SetStopAfterCommit, BreakEntry, Pass, IsUnseized, IsFilling, IsAmong, is_write, is_read, page_count, first_page, end_page, without, times, Searching, ReadLoadHead, LoadEntry, HoldEntry, ReadPiece, ReturnEntry, GiveCleanup, SetStopAfterPiece}
-use Rattle.nv_core.specs.steps.Ops.{Op, slot_of_entry, page_at, ready_word, Load, Take, Give, Place, Stop, Draw, Seize, Pledge, Ready, Grow, Break, Split, PutBack, Join, Turn, Hint, Hold, Return, ByCleaner, moved, cleaner_move}
+use Rattle.nv_core.specs.steps.Ops.{Op, page_at, ready_word, Load, Take, Give, Place, Stop, Draw, Seize, Pledge, Ready, Grow, Break, Split, PutBack, Join, Turn, Hint, Hold, Return, ByCleaner, moved, cleaner_move}
 use Rattle.nv_core.specs.steps.ControlSteps.{control_after, after_load, after_give, after_stop, leaving, giving, ending, ordered, copying, exceeds, scanning, after_head, after_tail, after_look, after_hold, after_return}
 use Rattle.nv_core.specs.steps.PassSteps.{begun}
 use Rattle.nv_core.specs.steps.Order.{Values, Work, CallEnabled, CallDue, IsFailing, commit_steps}

@@ -2,14 +2,14 @@
 use Rattle.std.proofs.Common.{◌≡◌, ◌≢◌, ◌⊎◌, ℕ, ◌+◌, ◌-◌, ◌<◌, ◌≤◌, ◌==◌, Bool, true, false, if◌then◌else◌, inl, inr, refl, sym, ap, subst, ◌∙◌, arith, le_trans}
 use Rattle.std.proofs.lemmas.Bool.{cases_eq, cases_lt}
 use Rattle.nv_plain.specs.declared.call.FileCall.{FileCall}
-use Rattle.nv_core.specs.state.Words.{Sizes, Word, HEAD, TAIL, ENTRY, kind_of, was_readied, free, filling, ready, held, cleaned, broken, index}
+use Rattle.nv_core.specs.state.Words.{Sizes, Word, HEAD, TAIL, ENTRY, kind_of, was_readied, free, filling, ready, held, cleaned, broken, index, slot_of_entry}
 use Rattle.nv_core.specs.state.Cleaner.{FreeEntry, Clean, Free}
 use Rattle.nv_core.specs.state.Cleaner as cleaner
 use Rattle.nv_core.specs.invariant.CleanerNumbers.{IsCleaned}
 use Rattle.nv_core.specs.log.Progress.{Progress}
 use Rattle.nv_core.specs.invariant.Loaded.{LooksSound}
 use Rattle.nv_core.specs.state.Passes.{HoldEntry, ReturnEntry, SeizeEntry, IsUnseized, IsFilling, IsAmong, is_write, page_count}
-use Rattle.nv_core.specs.steps.Ops.{Op, slot_of_entry, page_at, ready_word, Take, Give, Draw, Seize, Ready, Break, Hold, Return, ByCleaner}
+use Rattle.nv_core.specs.steps.Ops.{Op, page_at, ready_word, Take, Give, Draw, Seize, Ready, Break, Hold, Return, ByCleaner}
 use Rattle.nv_core.specs.steps.ControlSteps.{leaving}
 use Rattle.nv_core.specs.steps.Order.{Values, Work}
 use Rattle.nv_core.specs.state.Core.{Core, changed_pass, with_value, after_step, after_begin, after_work}

@@ -10,10 +10,10 @@ use Rattle.nv_plain.specs.Histories.{Answered}
 use Rattle.nv_plain.specs.declared.call.FileCall.{FileCall}
 use Rattle.nv_plain.specs.declared.call.FileCall.TheVariants.{Read, Write, Sync}
 use Rattle.nv_plain.specs.declared.call.Reply.{Reply}
-use Rattle.nv_core.specs.state.Words.{Sizes, Word, HEAD, TAIL, STORE, ENTRY, kind_of, free, filling, ready, cleaned, broken, index, was_readied}
+use Rattle.nv_core.specs.state.Words.{Sizes, Word, HEAD, TAIL, STORE, ENTRY, kind_of, free, filling, ready, cleaned, broken, index, was_readied, slot_of_entry}
 use Rattle.nv_core.specs.state.Values.{Value, Bare, APart, AStore, ABuffer, Job, CallEnding, called}
 use Rattle.nv_core.specs.state.Passes.{Control, Idle, TakePage, LoadStop, VisitPage, SeizeEntry, CommitGroup, PledgePage, ReadyEntry, TakePlace, SetStopAfterRead, SetStopAfterPiece, SetStopAfterCommit, Pass, IsAmong, IsUnseized, IsFilling, file_of, is_write, page_count, first_page, end_page}
-use Rattle.nv_core.specs.steps.Ops.{Op, slot_of_entry, page_at, ready_word, Load, Take, Give, Place, Stop, Draw, Seize, Pledge, Ready, Grow, Break, Turn, Hint, Hold, Return, ByCleaner, Split, PutBack, Join, moved, cleaner_move}
+use Rattle.nv_core.specs.steps.Ops.{Op, page_at, ready_word, Load, Take, Give, Place, Stop, Draw, Seize, Pledge, Ready, Grow, Break, Turn, Hint, Hold, Return, ByCleaner, Split, PutBack, Join, moved, cleaner_move}
 use Rattle.nv_core.specs.steps.ControlSteps.{control_after, after_hold, after_return, leaving}
 use Rattle.nv_core.specs.steps.PassSteps.{added, begun}
 use Rattle.nv_core.specs.steps.Order.{Values, Work, IsFailing}

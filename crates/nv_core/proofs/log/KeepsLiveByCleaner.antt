@@ -8,14 +8,14 @@ use Rattle.nv_entry.specs.Commits.{GroupsBecomeWhole}
 use Rattle.nv_pmem.specs.Laws.{LoadsAreAnImage}
 use Rattle.nv_store.specs.Store.{Store}
 use Rattle.nv_store.specs.Steps.{Write, Sync, after_store_step}
-use Rattle.nv_core.specs.state.Words.{Sizes, HEAD, TAIL, STORE, ENTRY, kind_of, free, ready, held, cleaned, index, was_readied}
+use Rattle.nv_core.specs.state.Words.{Sizes, HEAD, TAIL, STORE, ENTRY, kind_of, free, ready, held, cleaned, index, was_readied, slot_of_entry}
 use Rattle.nv_core.specs.state.Values.{Value, Bare, APart, AStore, ABuffer, Job, PartStep, PageRead, PieceRead, PieceWrite, StoreSync, CallEnding, Made, Failed, Refused, called}
 use Rattle.nv_core.specs.state.Cleaner.{Batch, WriteBack, CleanEntry, SyncStores, MoveHeaderTail, FreeEntry, CleanerOp, Clean, Free, MoveTail}
 use Rattle.nv_core.specs.state.Cleaner as cleaner
 use Rattle.nv_core.specs.steps.CleanerSteps.{group_file}
 use Rattle.nv_core.specs.invariant.CleanerNumbers.{IsCleaned, IsFreed}
 use Rattle.nv_core.specs.state.Passes.{Control, ReadStore, CommitGroup, ReadPiece, Cleaning, Pass}
-use Rattle.nv_core.specs.steps.Ops.{Op, ByCleaner, slot_of_entry}
+use Rattle.nv_core.specs.steps.Ops.{Op, ByCleaner}
 use Rattle.nv_core.specs.steps.Order.{Values, Work, CallEnabled, CallMayLeave, CallDue, IsTornOf, IsPieceWrite}
 use Rattle.nv_core.specs.state.Core.{Core, after_step, after_work, worked, with_value, values_worked}
 use Rattle.nv_core.proofs.steps.ByKind.{FoundEnabledByKind}

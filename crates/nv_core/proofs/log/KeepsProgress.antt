@@ -5,7 +5,7 @@ use Rattle.std.proofs.lemmas.Bool.{cases_lt, eqb-true, ltb-true, lt-ltb, leb-tru
 use Rattle.std.proofs.lemmas.Nat.{mod_below}
 use Rattle.nv_plain.specs.declared.call.FileCall.{FileCall}
 use Rattle.nv_header.specs.HeaderSteps.{tail_steps}
-use Rattle.nv_core.specs.state.Words.{Sizes, Word, STOP, HEAD, TAIL, CLEANUP, ENTRY, kind_of, page_of, was_readied, free, filling, ready, held, cleaned, broken, is_entry_of, is_lock}
+use Rattle.nv_core.specs.state.Words.{Sizes, Word, STOP, HEAD, TAIL, CLEANUP, ENTRY, kind_of, page_of, was_readied, free, filling, ready, held, cleaned, broken, is_entry_of, is_lock, slot_of_entry}
 use Rattle.nv_core.specs.state.Values.{CallEnding, Made, Failed, Refused}
 use Rattle.nv_core.specs.state.Cleaner.{Batch, CleanerControl, TakeHeader, WriteBack, CleanEntry, SubtractDirty, RefusedReturnEntry, FailedReturnEntry, SyncStores, MoveHeaderTail, FreeEntry, AdvanceTail, GiveStores, SetStop, CleanerOp, TakeCleaner, Clean, Subtract, Free, MoveTail}
 use Rattle.nv_core.specs.state.Cleaner as cleaner
@@ -13,7 +13,7 @@ use Rattle.nv_core.specs.steps.CleanerSteps.{next_cleaner_op, cleaner_word, afte
 use Rattle.nv_core.specs.invariant.CleanerOwnership.{of_cleaner_cleanup}
 use Rattle.nv_core.specs.invariant.CleanerNumbers.{IsCleaned}
 use Rattle.nv_core.specs.state.Passes.{Control, Idle, TakePage, LoadStop, Cleaning, Pass, SeizeEntry, CommitGroup, PledgePage, ReadyEntry, TakePlace, BreakEntry, ReadStore, ReadPiece, SetStopAfterRead, SetStopAfterPiece, SetStopAfterCommit, IsUnseized, IsFilling, IsAmong, times, page_count, first_page, end_page, is_write, without}
-use Rattle.nv_core.specs.steps.Ops.{Op, slot_of_entry, Load, Take, Give, Place, Stop, Draw, Seize, Pledge, Ready, Grow, Break, Hold, Return, Turn, Hint, ByCleaner, Split, PutBack, Join, cleaner_move, moved, ready_word, page_at}
+use Rattle.nv_core.specs.steps.Ops.{Op, Load, Take, Give, Place, Stop, Draw, Seize, Pledge, Ready, Grow, Break, Hold, Return, Turn, Hint, ByCleaner, Split, PutBack, Join, cleaner_move, moved, ready_word, page_at}
 use Rattle.nv_core.specs.steps.ControlSteps.{control_after, after_stop, after_by_cleaner, after_hold, after_return, leaving, scanning}
 use Rattle.nv_core.specs.steps.PassSteps.{begun}
 use Rattle.nv_core.specs.steps.Order.{Values, Work, CallEnabled, CallDue, CleanerCallDue, IsFailing, commit_steps}

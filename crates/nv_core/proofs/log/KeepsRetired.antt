@@ -5,13 +5,13 @@ use Rattle.std.proofs.lemmas.Bool.{cases_eq, cases_lt, and_parts, and_from, leb-
 use Rattle.nv_plain.specs.declared.call.FileCall.{FileCall}
 use Rattle.nv_plain.specs.Calls.{files_after}
 use Rattle.nv_store.specs.Store.{Store, IsQuietStore}
-use Rattle.nv_core.specs.state.Words.{Sizes, Word, STOP, HEAD, TAIL, STORE, ENTRY, kind_of, free, filling, ready, held, cleaned, broken, index, is_entry_of}
+use Rattle.nv_core.specs.state.Words.{Sizes, Word, STOP, HEAD, TAIL, STORE, ENTRY, kind_of, free, filling, ready, held, cleaned, broken, index, is_entry_of, slot_of_entry}
 use Rattle.nv_core.specs.state.Cleaner.{Batch, CleanerControl, TakeHeader, WriteBack, CleanEntry, MoveHeaderTail, SetStop, CleanerOp, TakeCleaner, Clean, Free, MoveTail}
 use Rattle.nv_core.specs.state.Cleaner as cleaner
 use Rattle.nv_core.specs.steps.CleanerSteps.{cleaner_word, cleaner_value, next_cleaner_op, new_batch}
 use Rattle.nv_core.specs.invariant.CleanerNumbers.{IsFreed}
 use Rattle.nv_core.specs.state.Passes.{Control, Idle, TakePage, LoadStop, Cleaning, Pass, IsAmong, IsFilling, page_count, first_page}
-use Rattle.nv_core.specs.steps.Ops.{Op, slot_of_entry, ready_word, Stop, Draw, Seize, Ready, Break, Split, PutBack, Join, Hold, Return, ByCleaner, moved, cleaner_move}
+use Rattle.nv_core.specs.steps.Ops.{Op, ready_word, Stop, Draw, Seize, Ready, Break, Split, PutBack, Join, Hold, Return, ByCleaner, moved, cleaner_move}
 use Rattle.nv_core.specs.steps.ControlSteps.{control_after, after_by_cleaner}
 use Rattle.nv_core.specs.steps.PassSteps.{begun}
 use Rattle.nv_core.specs.steps.Order.{Values}

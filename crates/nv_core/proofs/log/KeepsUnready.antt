@@ -3,12 +3,12 @@ use Rattle.std.proofs.Common.{◌≡◌, ◌≢◌, ◌⊎◌, ℕ, ◌+◌, ◌
 use Rattle.std.proofs.lemmas.Bool.{cases_eq}
 use Rattle.nv_plain.specs.declared.call.FileCall.{FileCall}
 use Rattle.nv_plain.specs.declared.call.Reply.{Reply}
-use Rattle.nv_core.specs.state.Words.{Sizes, HEAD, TAIL, PAGE, ENTRY, kind_of, free, filling, broken, index, was_readied}
+use Rattle.nv_core.specs.state.Words.{Sizes, HEAD, TAIL, PAGE, ENTRY, kind_of, free, filling, broken, index, was_readied, slot_of_entry}
 use Rattle.nv_core.specs.state.Values.{CallEnding, Made, Failed, Refused}
 use Rattle.nv_core.specs.state.Cleaner.{Clean, Free, MoveTail}
 use Rattle.nv_core.specs.state.Cleaner as cleaner
 use Rattle.nv_core.specs.state.Passes.{Control, TakePage, LoadStop, ReadStore, DrawNumbers, SeizeEntry, CommitGroup, PledgePage, ReadyEntry, TakePlace, VisitPage, SetStopAfterCommit, BreakEntry, Fault, Pass, IsOneOf, IsUnseized, IsFilling, IsAmong, is_write, page_count, first_page, end_page, times, ReadPiece, Cleaning}
-use Rattle.nv_core.specs.steps.Ops.{Op, slot_of_entry, page_at, ready_word, Load, Take, Give, Place, Stop, Draw, Seize, Pledge, Ready, Grow, Break, Split, PutBack, Join, Turn, Hint, Hold, Return, ByCleaner}
+use Rattle.nv_core.specs.steps.Ops.{Op, page_at, ready_word, Load, Take, Give, Place, Stop, Draw, Seize, Pledge, Ready, Grow, Break, Split, PutBack, Join, Turn, Hint, Hold, Return, ByCleaner}
 use Rattle.nv_core.specs.steps.ControlSteps.{leaving}
 use Rattle.nv_core.specs.steps.PassSteps.{begun, fault_of}
 use Rattle.nv_core.specs.steps.Order.{Values, Work, CallEnabled, CallDue, commit_steps}

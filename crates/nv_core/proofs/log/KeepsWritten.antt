@@ -13,14 +13,14 @@ use Rattle.nv_pmem.specs.Images.{IsQuietPart, InEachPartImage}
 use Rattle.nv_pmem.specs.Runs.{run}
 use Rattle.nv_entry.specs.Commits.{after_some}
 use Rattle.nv_header.specs.HeaderSteps.{tail_steps}
-use Rattle.nv_core.specs.state.Words.{Sizes, Word, HEAD, TAIL, HEADER, STORE, ENTRY, free, filling, broken, index, was_readied}
+use Rattle.nv_core.specs.state.Words.{Sizes, Word, HEAD, TAIL, HEADER, STORE, ENTRY, free, filling, broken, index, was_readied, slot_of_entry}
 use Rattle.nv_core.specs.state.Values.{CallEnding, Made, Failed, Refused, PartStep, called}
 use Rattle.nv_core.specs.state.Cleaner.{Batch, CleanerControl, WriteBack, SyncStores, MoveHeaderTail, FreeEntry, Clean, Free, MoveTail}
 use Rattle.nv_core.specs.state.Cleaner as cleaner
 use Rattle.nv_core.specs.steps.CleanerSteps.{group_file}
 use Rattle.nv_core.specs.invariant.CleanerNumbers.{IsFreed}
 use Rattle.nv_core.specs.state.Passes.{Control, TakePage, LoadStop, ReadStore, SeizeEntry, CommitGroup, PledgePage, ReadyEntry, TakePlace, SetStopAfterRead, SetStopAfterCommit, BreakEntry, Pass, IsUnseized, IsFilling, IsAmong, AreBytes, IsAllowed, file_of, is_write, page_count, first_page, end_page, without, SetStopAfterPiece, ReadPiece, Cleaning}
-use Rattle.nv_core.specs.steps.Ops.{Op, slot_of_entry, page_at, ready_word, Load, Take, Give, Place, Stop, Draw, Seize, Pledge, Ready, Grow, Break, Split, PutBack, Join, Turn, Hint, Hold, Return, ByCleaner}
+use Rattle.nv_core.specs.steps.Ops.{Op, page_at, ready_word, Load, Take, Give, Place, Stop, Draw, Seize, Pledge, Ready, Grow, Break, Split, PutBack, Join, Turn, Hint, Hold, Return, ByCleaner}
 use Rattle.nv_core.specs.steps.ControlSteps.{control_after, after_stop, leaving}
 use Rattle.nv_core.specs.steps.PassSteps.{stepped, begun}
 use Rattle.nv_core.specs.steps.Order.{Values, Work, CallEnabled, CallDue, CleanerCallDue, IsNextCall, IsFailing, commit_steps}

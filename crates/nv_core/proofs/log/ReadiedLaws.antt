@@ -3,14 +3,14 @@ use Rattle.std.proofs.Common.{◌≡◌, ◌≢◌, ◌⊎◌, ℕ, ◌+◌, ◌
 use Rattle.std.specs.Prelude.{Some}
 use Rattle.std.proofs.lemmas.Bool.{cases_eq}
 use Rattle.nv_plain.specs.declared.call.FileCall.{FileCall}
-use Rattle.nv_core.specs.state.Words.{Sizes, Word, TAIL, ENTRY, free, filling, broken, index, was_readied}
+use Rattle.nv_core.specs.state.Words.{Sizes, Word, TAIL, ENTRY, free, filling, broken, index, was_readied, slot_of_entry}
 use Rattle.nv_core.specs.state.Values.{CallEnding, Made, Failed, Refused}
 use Rattle.nv_core.specs.state.Cleaner.{TakeHeader, FreeEntry, AdvanceTail, CleanerOp, TakeCleaner, Clean, Free, MoveTail}
 use Rattle.nv_core.specs.state.Cleaner as cleaner
 use Rattle.nv_core.specs.steps.CleanerSteps.{cleaner_word, cleaner_value, next_cleaner_op, new_batch}
 use Rattle.nv_core.specs.invariant.CleanerNumbers.{IsFreed}
 use Rattle.nv_core.specs.state.Passes.{Control, Idle, TakePage, LoadStop, ReadStore, CommitGroup, PledgePage, ReadPiece, Cleaning, Pass, IsAmong, IsUnseized, IsFilling, page_count, first_page}
-use Rattle.nv_core.specs.steps.Ops.{Op, Seize, Ready, Break, Hold, Return, ByCleaner, Split, PutBack, Join, slot_of_entry, ready_word, page_at, moved, cleaner_move}
+use Rattle.nv_core.specs.steps.Ops.{Op, Seize, Ready, Break, Hold, Return, ByCleaner, Split, PutBack, Join, ready_word, page_at, moved, cleaner_move}
 use Rattle.nv_core.specs.steps.ControlSteps.{control_after, after_by_cleaner}
 use Rattle.nv_core.specs.steps.PassSteps.{begun}
 use Rattle.nv_core.specs.steps.Order.{Values, Work, CallEnabled, CallDue, commit_steps}

@@ -1,7 +1,7 @@
 -- Rekinded entries: one that is held or returned was made ready before and after, and says the same count and page.
 use Rattle.std.proofs.Common.{◌≡◌, ℕ, ◌+◌, ◌-◌, true, refl, sym, ap, subst, ◌∙◌, arith}
-use Rattle.nv_core.specs.state.Words.{Sizes, Word, ENTRY, free, broken, kind_of, ready, held, was_readied, entry_word, is_entry_of}
-use Rattle.nv_core.specs.steps.Ops.{Hold, Return, slot_of_entry}
+use Rattle.nv_core.specs.state.Words.{Sizes, Word, ENTRY, free, broken, kind_of, ready, held, was_readied, entry_word, is_entry_of, slot_of_entry}
+use Rattle.nv_core.specs.steps.Ops.{Hold, Return}
 use Rattle.nv_core.specs.steps.Order.{Values}
 use Rattle.nv_core.specs.state.Core.{Core, with_value}
 use Rattle.nv_core.proofs.steps.ByKind.{FoundEnabledByKind}

@@ -9,12 +9,11 @@ use Rattle.nv_pmem.specs.Part.{Part, part_word}
 use Rattle.nv_pmem.specs.Laws.{LoadsAreAnImage}
 use Rattle.nv_entry.specs.Group.{HoldsEntry}
 use Rattle.nv_entry.specs.Commits.{after_some, GroupsBecomeWhole}
-use Rattle.nv_core.specs.state.Words.{Sizes, ENTRY, kind_of, was_readied, ready, held, cleaned}
+use Rattle.nv_core.specs.state.Words.{Sizes, ENTRY, kind_of, was_readied, ready, held, cleaned, slot_of_entry}
 use Rattle.nv_core.specs.state.Values.{Value, Bare, APart, AStore, ABuffer}
 use Rattle.nv_core.specs.state.Cleaner.{Batch, WriteBack}
 use Rattle.nv_core.specs.steps.CleanerSteps.{group_file}
 use Rattle.nv_core.specs.state.Passes.{Cleaning, page_count, file_of}
-use Rattle.nv_core.specs.steps.Ops.{slot_of_entry}
 use Rattle.nv_core.specs.steps.Order.{Values, SaysPiece, SaysPieceOf}
 use Rattle.nv_core.specs.invariant.ControlFacts.{FactsAt}
 use Rattle.nv_core.specs.state.Core.{Core}

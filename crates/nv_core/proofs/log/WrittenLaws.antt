@@ -14,11 +14,11 @@ use Rattle.nv_pmem.specs.Rows.{RowStep, row_after}
 use Rattle.nv_pmem.specs.Steps.{LineStep, after_line_step}
 use Rattle.nv_entry.specs.Group.{group_steps}
 use Rattle.nv_entry.specs.Commits.{after_some}
-use Rattle.nv_core.specs.state.Words.{Sizes, Word, ENTRY, PAGE, index}
+use Rattle.nv_core.specs.state.Words.{Sizes, Word, ENTRY, PAGE, index, slot_of_entry}
 use Rattle.nv_core.specs.state.Spares.{Spares}
 use Rattle.nv_core.specs.state.Values.{Value, Bare, APart, AStore, ABuffer, Job, PartStep, PageRead, CallEnding, Made, Failed, Refused, called, has_come, filled, PieceRead}
 use Rattle.nv_core.specs.state.Passes.{Control, ReadStore, Pass, page_count, GiveCleanup, fetched_bytes}
-use Rattle.nv_core.specs.steps.Ops.{Op, Pledge, slot_of_entry, patched_by, Give}
+use Rattle.nv_core.specs.steps.Ops.{Op, Pledge, patched_by, Give}
 use Rattle.nv_core.specs.steps.Order.{Values, Work, IsNextCall, IsPieceRead}
 use Rattle.nv_core.specs.state.Core.{with_value, values_read, values_worked, values_stepped, values_given}
 use Rattle.nv_core.specs.log.Groups.{calls_after}

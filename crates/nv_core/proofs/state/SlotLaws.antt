@@ -2,9 +2,8 @@
 use Rattle.std.proofs.Common.{◌≡◌, ◌≢◌, ◌⊎◌, ℕ, ◌+◌, ◌*◌, ◌/◌, ◌%◌, ◌<◌, ◌≤◌, List, ◌∷◌, inl, inr, sym, ap, subst, ◌∙◌, arith, mul-le-mul_right}
 use Rattle.std.proofs.lemmas.Bool.{cases_eq, cases_order}
 use Rattle.std.proofs.lemmas.Nat.{div-add-mod'}
-use Rattle.nv_core.specs.state.Words.{Sizes, Word, ENTRY, index}
+use Rattle.nv_core.specs.state.Words.{Sizes, Word, ENTRY, index, slot_of_entry}
 use Rattle.nv_core.specs.state.Passes.{times, without}
-use Rattle.nv_core.specs.steps.Ops.{slot_of_entry}
 use Rattle.nv_core.proofs.invariant.LockLaws.{times_here, times_else, times_without, times_without_else}
 
 -- a greater quotient is at least one count more

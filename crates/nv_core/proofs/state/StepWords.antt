@@ -4,12 +4,12 @@ use Rattle.std.proofs.lemmas.Bool.{eqb-false}
 use Rattle.std.proofs.lemmas.Nat.{mod_below, div_below}
 use Rattle.nv_plain.specs.Pieces.{pages_touched}
 use Rattle.nv_plain.specs.declared.call.FileCall.{FileCall}
-use Rattle.nv_core.specs.state.Words.{Sizes, Word, STOP, ORDER, HEAD, TAIL, SIZE, LENGTH, STORE, ENTRY, HINT, PAGE, CLEANUP, DIRTY, IsWord, same, page_total, is_lock, page_of, was_readied}
+use Rattle.nv_core.specs.state.Words.{Sizes, Word, STOP, ORDER, HEAD, TAIL, SIZE, LENGTH, STORE, ENTRY, HINT, PAGE, CLEANUP, DIRTY, IsWord, same, page_total, is_lock, page_of, was_readied, slot_of_entry}
 use Rattle.nv_core.specs.state.Cleaner.{Batch, CleanerControl, CleanEntry, SubtractDirty, RefusedReturnEntry, FailedReturnEntry, FreeEntry, GiveStores, CleanerOp, TakeCleaner}
 use Rattle.nv_core.specs.state.Cleaner as cleaner
 use Rattle.nv_core.specs.steps.CleanerSteps.{cleaner_word, next_cleaner_op, last_taken, group_page}
 use Rattle.nv_core.specs.state.Passes.{Control, TakePage, LoadStop, TakeCleanup, LoadEntry, HoldEntry, ReturnEntry, LoadHint, TakeVictim, VictimGiven, Searching, SeizeEntry, PledgePage, ReadyEntry, BreakEntry, Cleaning, Pass, IsAllowed, file_of, at_of, len_of, page_count, first_page, times}
-use Rattle.nv_core.specs.steps.Ops.{Op, Load, Take, Give, Place, Stop, Draw, Seize, Pledge, Ready, Grow, Break, Turn, Hint, Hold, Return, ByCleaner, Split, PutBack, Join, Move, Stays, Comes, Goes, moved, move_of, cleaner_move, slot_of_entry, word_of}
+use Rattle.nv_core.specs.steps.Ops.{Op, Load, Take, Give, Place, Stop, Draw, Seize, Pledge, Ready, Grow, Break, Turn, Hint, Hold, Return, ByCleaner, Split, PutBack, Join, Move, Stays, Comes, Goes, moved, move_of, cleaner_move, word_of}
 use Rattle.nv_core.specs.steps.ControlSteps.{first_control}
 use Rattle.nv_core.specs.steps.PassSteps.{begun}
 use Rattle.nv_core.specs.steps.Order.{Values}

@@ -2,12 +2,11 @@
 use Rattle.std.proofs.Common.{◌≡◌, ℕ, ◌+◌, ◌<◌, ◌≤◌, Bool, true, false, ◌∷◌, refl, sym, ap, subst, ◌∙◌, arith}
 use Rattle.std.proofs.lemmas.Nat.{mod_below}
 use Rattle.nv_plain.specs.declared.call.FileCall.{FileCall}
-use Rattle.nv_core.specs.state.Words.{Sizes, STORE, IsWord}
+use Rattle.nv_core.specs.state.Words.{Sizes, STORE, IsWord, slot_of_entry}
 use Rattle.nv_core.specs.state.Cleaner.{Batch, CleanerControl, WriteBack, SyncStores, MoveHeaderTail}
 use Rattle.nv_core.specs.state.Cleaner as cleaner
 use Rattle.nv_core.specs.steps.CleanerSteps.{holds_store, group_file}
 use Rattle.nv_core.specs.state.Passes.{Control, CommitGroup, ReadStore, ReadPiece, Cleaning, IsAllowed, page_count, times}
-use Rattle.nv_core.specs.steps.Ops.{slot_of_entry}
 use Rattle.nv_core.specs.steps.Order.{Values, Work, CallEnabled, CallDue, CleanerCallDue}
 use Rattle.nv_core.specs.state.Core.{Core}
 use Rattle.nv_core.specs.invariant.ControlFacts.{FactsAt, has_call}

@@ -5,12 +5,12 @@ use Rattle.nv_plain.specs.Pieces.{piece_of}
 use Rattle.nv_plain.specs.declared.call.Reply.{Reply}
 use Rattle.nv_plain.specs.declared.call.Reply.TheVariants.{Bytes}
 use Rattle.nv_pmem.proofs.Ranges.{flat_map-same}
-use Rattle.nv_core.specs.state.Words.{Sizes, Word, STORE, ENTRY, PAGE, DIRTY, same}
+use Rattle.nv_core.specs.state.Words.{Sizes, Word, STORE, ENTRY, PAGE, DIRTY, same, slot_of_entry}
 use Rattle.nv_core.specs.state.Values.{Value, Job, PageRead, CallEnding, Made, called, is_valid, lacks_buffer, received, emptied, filled}
 use Rattle.nv_core.specs.state.Cleaner.{Batch, CleanerControl, WriteBack}
 use Rattle.nv_core.specs.state.Cleaner as cleaner
 use Rattle.nv_core.specs.state.Passes.{Control, VisitPage, ReadStore, ReadPiece, GiveVictim, VictimGiven, Search, Searching, GiveCleanup, TakePlace, Cleaning, Pass, IsHeldEntry, at_of, covered, end_read, first_page, times, fetched_bytes}
-use Rattle.nv_core.specs.steps.Ops.{Op, Load, Give, Place, Pledge, Turn, Hint, slot_of_entry, patched_by}
+use Rattle.nv_core.specs.steps.Ops.{Op, Load, Give, Place, Pledge, Turn, Hint, patched_by}
 use Rattle.nv_core.specs.steps.Order.{Values, Work, CallEnabled, CallMayEnd, CallMayLeave, CallDue, CleanerCallDue, IsPieceRead, SaysOf, SaysPieceOf, gathered, page_bytes, page_start}
 use Rattle.nv_core.specs.steps.StepKinds.{MayLoad, MayPlace, MayTurn, MayLookUp, MayHint, IsMissed, IsMiss, JustNow, AfterTries, IsTryOver, EnabledByKind}
 use Rattle.nv_core.specs.state.Core.{with_value, values_read, values_worked, values_given, values_stepped}

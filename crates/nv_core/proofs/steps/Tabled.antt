@@ -7,12 +7,12 @@ use Rattle.nv_plain.specs.declared.call.FileCall.{FileCall}
 use Rattle.nv_pmem.specs.Rows.{RowStep}
 use Rattle.nv_pmem.specs.RoomSteps.{RoomAfter}
 use Rattle.nv_pmem.specs.Steps.{LineStep, Fence}
-use Rattle.nv_core.specs.state.Words.{Sizes, Word, ENTRY}
+use Rattle.nv_core.specs.state.Words.{Sizes, Word, ENTRY, slot_of_entry}
 use Rattle.nv_core.specs.state.Spares.{Spares, room_of_spares}
 use Rattle.nv_core.specs.state.Values.{Value, APart, Job, PartStep, CallEnding, Made}
 use Rattle.nv_core.specs.state.Passes.{Control, Idle, CommitGroup, Pass, IsOneOf, IsAllowed, times}
 use Rattle.nv_core.specs.state.Cleaner.{TakeCleaner}
-use Rattle.nv_core.specs.steps.Ops.{Op, ByCleaner, Split, PutBack, Join, slot_of_entry, word_of}
+use Rattle.nv_core.specs.steps.Ops.{Op, ByCleaner, Split, PutBack, Join, word_of}
 use Rattle.nv_core.specs.steps.Order.{next_step, IsBatchEntry, Work, commit_steps, Enabled, CallMayLeave, CallDue, IsNextCall}
 use Rattle.nv_core.specs.state.Core.{Core, after_begin}
 use Rattle.nv_core.specs.steps.Events.{Act, BeginsCall, TakesStep, CallsDevice, Event, StepEnabled, ActEnabled, EventEnabled, IsStaying, IsRun, after_event}

@@ -10,10 +10,9 @@ use Rattle.nv_header.specs.Heads.{header_image}
 use Rattle.nv_header.specs.Regions.{ReadsAs}
 use Rattle.nv_store.specs.Store.{Store, IsQuietStore}
 use Rattle.nv_store.specs.Images.{IsStoreImage}
-use Rattle.nv_core.specs.state.Words.{Sizes, HEAD, TAIL, HEADER, STORE}
+use Rattle.nv_core.specs.state.Words.{Sizes, HEAD, TAIL, HEADER, STORE, slot_of_entry}
 use Rattle.nv_core.specs.state.Passes.{IsOneOf, Fault, is_write}
 use Rattle.nv_core.specs.log.Unready.{group_of_fault}
-use Rattle.nv_core.specs.steps.Ops.{slot_of_entry}
 use Rattle.nv_core.specs.steps.Order.{Values}
 use Rattle.nv_core.specs.state.Core.{Core}
 use Rattle.nv_core.specs.steps.Events.{Event, EventEnabled, after_event, after_run, IsRun}

@@ -1,12 +1,12 @@
 -- Forbidden steps: those that no sound state allows, and what a step that is allowed has before it.
 use Rattle.std.specs.Prelude.{◌≡◌, ◌≢◌, ◌⊎◌, ◌↔◌, ℕ, ◌+◌, ◌≤◌, List, [], true}
 use Rattle.nv_plain.specs.declared.call.Reply.{Reply}
-use Rattle.nv_core.specs.state.Words.{Sizes, Word, STOP, HEAD, TAIL, ENTRY, CLEANUP, DIRTY, free, ready, kind_of, broken}
+use Rattle.nv_core.specs.state.Words.{Sizes, Word, STOP, HEAD, TAIL, ENTRY, CLEANUP, DIRTY, free, ready, kind_of, broken, slot_of_entry}
 use Rattle.nv_core.specs.state.Cleaner.{Batch, CleanerControl}
 use Rattle.nv_core.specs.state.Cleaner as cleaner
 use Rattle.nv_core.specs.steps.CleanerSteps.{after_cleaner_op, surveyed, batch_with_page, count_of}
 use Rattle.nv_core.specs.state.Passes.{Control, Cleaning, TakeVictim, GiveVictim, Searching, SeizeEntry, CommitGroup, PledgePage, ReadyEntry, TakePlace, SetStopAfterCommit, Pass, IsHeldEntry, times, is_write}
-use Rattle.nv_core.specs.steps.Ops.{Give, Place, Stop, Draw, Seize, Ready, Grow, Hold, slot_of_entry, Break}
+use Rattle.nv_core.specs.steps.Ops.{Give, Place, Stop, Draw, Seize, Ready, Grow, Hold, Break}
 use Rattle.nv_core.specs.steps.Order.{Values, Enabled}
 use Rattle.nv_core.specs.state.Core.{Core, after_step}
 use Rattle.nv_core.specs.crash.CommutingWrites.{Commute}

@@ -1,9 +1,8 @@
 -- The log's window: which numbers the log has, and what each of their slots is.
 use Rattle.std.specs.Prelude.{◌≡◌, ◌≢◌, ◌⊎◌, ℕ, ◌+◌, ◌^◌, ◌<◌, ◌≤◌, true}
-use Rattle.nv_core.specs.state.Words.{Sizes, STOP, HEAD, TAIL, ENTRY, kind_of, free, filling, cleaned, was_readied}
+use Rattle.nv_core.specs.state.Words.{Sizes, STOP, HEAD, TAIL, ENTRY, kind_of, free, filling, cleaned, was_readied, slot_of_entry}
 use Rattle.nv_core.specs.invariant.CleanerNumbers.{IsCleaned, IsFreed}
 use Rattle.nv_core.specs.state.Passes.{Pass, IsUnseized, IsFilling}
-use Rattle.nv_core.specs.steps.Ops.{slot_of_entry}
 use Rattle.nv_core.specs.state.Core.{Core}
 
 -- a pass has drawn a number and not seized it, or is filling its entry

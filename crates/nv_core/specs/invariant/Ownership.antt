@@ -1,10 +1,9 @@
 -- Ownership: which cells a pass owns, by where it stands.
 use Rattle.std.specs.Prelude.{◌≡◌, ◌≢◌, ℕ, ◌+◌, ◌==◌, ◌&&◌, nat_le, nat_lt, Bool, if◌then◌else◌}
-use Rattle.nv_core.specs.state.Words.{Sizes, Word, SIZE, STORE, ENTRY, PAGE, CLEANUP, CLEANER, HEADER}
+use Rattle.nv_core.specs.state.Words.{Sizes, Word, SIZE, STORE, ENTRY, PAGE, CLEANUP, CLEANER, HEADER, slot_of_entry}
 use Rattle.nv_core.specs.state.Passes.{Control, Idle, TakePage, TakeStore, ReadStore, GiveStore, Search, GiveVictim, Searching, ReadLoadHead, ReadLoadTail, LoadEntry, HoldEntry, ReadPiece, ReturnEntry, GiveCleanup, GivePage, GiveBack, SetStopAfterRead, SetStopAfterPiece, Pass, IsFilling, IsHeldEntry, file_of, first_page, end_page, times, Cleaning}
 use Rattle.nv_core.specs.state.Cleaner as cleaner
 use Rattle.nv_core.specs.invariant.CleanerOwnership.{of_cleaner_header, of_cleaner_store, of_cleaner_cleanup}
-use Rattle.nv_core.specs.steps.Ops.{slot_of_entry}
 
 -- 1 where a test holds, and else 0
 abbrev pub one_if : Bool → ℕ

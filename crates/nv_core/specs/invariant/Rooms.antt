@@ -9,11 +9,10 @@ use Rattle.nv_header.specs.HeaderSteps.{tail_steps}
 use Rattle.nv_header.specs.Regions.{IsRoomy}
 use Rattle.nv_core.specs.state.Cleaner.{CleanerControl, LoadTail, LoadHead, WriteBack, CleanEntry, SubtractDirty, RefusedReturnEntry, RefusedGiveCleanup, SyncStores, MoveHeaderTail, SetStop}
 use Rattle.nv_core.specs.state.Cleaner as cleaner
-use Rattle.nv_core.specs.state.Words.{Sizes, STOP, HEADER, ENTRY, was_readied, free}
+use Rattle.nv_core.specs.state.Words.{Sizes, STOP, HEADER, ENTRY, was_readied, free, slot_of_entry}
 use Rattle.nv_core.specs.state.Spares.{room_of_spares}
 use Rattle.nv_core.specs.state.Values.{Value, APart}
 use Rattle.nv_core.specs.state.Passes.{Control, CommitGroup, SetStopAfterCommit, BreakEntry, Cleaning, Pass}
-use Rattle.nv_core.specs.steps.Ops.{slot_of_entry}
 use Rattle.nv_core.specs.steps.Order.{commit_steps}
 use Rattle.nv_core.specs.state.Core.{Core}
 use Rattle.nv_core.specs.invariant.LogWindow.{Fills}

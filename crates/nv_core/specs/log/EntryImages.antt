@@ -6,10 +6,9 @@ use Rattle.nv_plain.specs.declared.call.FileCall.TheVariants.{Write}
 use Rattle.nv_pmem.specs.Part.{Part}
 use Rattle.nv_pmem.specs.Images.{IsPartImage, IsQuietPart}
 use Rattle.nv_entry.specs.Group.{IsUncommitted, IsUncommittedOrWhole, IsWholeGroup}
-use Rattle.nv_core.specs.state.Words.{Sizes, HEADER, ENTRY, was_readied, free}
+use Rattle.nv_core.specs.state.Words.{Sizes, HEADER, ENTRY, was_readied, free, slot_of_entry}
 use Rattle.nv_core.specs.state.Values.{Value}
 use Rattle.nv_core.specs.state.Passes.{Control, SeizeEntry, PledgePage, ReadyEntry, IsAmong, page_count}
-use Rattle.nv_core.specs.steps.Ops.{slot_of_entry}
 use Rattle.nv_core.specs.steps.Order.{Values}
 use Rattle.nv_core.specs.state.Core.{Core}
 use Rattle.nv_core.specs.invariant.LogWindow.{InWindow, entry_word_at}

@@ -2,10 +2,9 @@
 use Rattle.std.specs.Prelude.{◌≡◌, ℕ, ◌+◌, ◌%◌, ◌≤◌, true, List, Option, Some, None}
 use Rattle.nv_plain.specs.Images.{entry_of}
 use Rattle.nv_pmem.specs.Part.{Part, part_word}
-use Rattle.nv_core.specs.state.Words.{Sizes, ENTRY, was_readied}
+use Rattle.nv_core.specs.state.Words.{Sizes, ENTRY, was_readied, slot_of_entry}
 use Rattle.nv_core.specs.state.Values.{Value, APart}
 use Rattle.nv_core.specs.state.Passes.{ReadPiece}
-use Rattle.nv_core.specs.steps.Ops.{slot_of_entry}
 use Rattle.nv_core.specs.steps.Events.{Event, after_run, IsRun}
 use Rattle.nv_core.specs.steps.Opening.{Mount, IsMount, opening}
 

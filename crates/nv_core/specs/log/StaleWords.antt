@@ -1,7 +1,6 @@
 -- Stale commit words: none of an earlier turn comes back.
 use Rattle.std.specs.Prelude.{◌≡◌, ◌≢◌, ℕ, ◌+◌, ◌<◌, ◌≤◌}
-use Rattle.nv_core.specs.state.Words.{Sizes, free}
-use Rattle.nv_core.specs.steps.Ops.{slot_of_entry}
+use Rattle.nv_core.specs.state.Words.{Sizes, free, slot_of_entry}
 use Rattle.nv_core.specs.state.Core.{Core}
 use Rattle.nv_core.specs.invariant.LogWindow.{InWindow, entry_word_at}
 use Rattle.nv_core.specs.log.Groups.{Log}

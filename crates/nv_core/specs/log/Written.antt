@@ -9,10 +9,9 @@ use Rattle.nv_pmem.specs.Images.{IsQuietPart, InEachPartImage}
 use Rattle.nv_pmem.specs.Rows.{AreQuiet, InEachRowImage}
 use Rattle.nv_entry.specs.Group.{group_steps}
 use Rattle.nv_entry.specs.Commits.{AreGroupParts, after_some}
-use Rattle.nv_core.specs.state.Words.{Sizes, HEAD, ENTRY, free}
+use Rattle.nv_core.specs.state.Words.{Sizes, HEAD, ENTRY, free, slot_of_entry}
 use Rattle.nv_core.specs.state.Values.{Value, APart}
 use Rattle.nv_core.specs.state.Passes.{Control, SeizeEntry, CommitGroup, PledgePage, ReadyEntry, Pass}
-use Rattle.nv_core.specs.steps.Ops.{slot_of_entry}
 use Rattle.nv_core.specs.steps.Order.{Values}
 use Rattle.nv_core.specs.state.Core.{Core}
 use Rattle.nv_core.specs.invariant.LogWindow.{InWindow, WasReadied}

@@ -103,6 +103,10 @@ IsWord sizes _ = Unit {0}
 abbrev pub PlacesDiffer : Type 0
 PlacesDiffer = (sizes : Sizes) (one other : Word) → IsWord sizes one → IsWord sizes other → place sizes one ≡ place sizes other → one ≡ other
 
+-- the slot of an entry, by its number
+abbrev pub slot_of_entry : Sizes → (number : ℕ) → ℕ
+slot_of_entry sizes number = number % sizes.entries
+
 -- ---- what an ENTRY word says: its kind, the group's count in a leader, and the page of its piece
 
 abbrev pub free : ℕ

@@ -2,7 +2,7 @@
 use Rattle.std.specs.Prelude.{ℕ, ◌+◌, ◌-◌, ◌/◌, ◌%◌, ◌==◌, nat_lt, nat_le, ◌||◌, ◌&&◌, not, Bool, if◌then◌else◌, List, [], ◌∷◌, ◌++◌, length, slice_index, Option, Some, None, filter}
 use Rattle.std.specs.List.{list_any, range_with_len}
 use Rattle.nv_header.specs.HeaderSteps.{tail_steps}
-use Rattle.nv_core.specs.state.Words.{Sizes, Word, STOP, HEAD, TAIL, CLEANER, HEADER, STORE, ENTRY, CLEANUP, DIRTY, kind_of, page_of, free, ready, is_lock}
+use Rattle.nv_core.specs.state.Words.{Sizes, Word, STOP, HEAD, TAIL, CLEANER, HEADER, STORE, ENTRY, CLEANUP, DIRTY, kind_of, page_of, free, ready, is_lock, slot_of_entry}
 use Rattle.nv_core.specs.state.Cleaner.{Batch, CleanerControl, TakeHeader, LoadTail, LoadHead, WriteBack, CleanEntry, SubtractDirty, RefusedReturnEntry, FailedReturnEntry, RefusedGiveCleanup, SyncStores, MoveHeaderTail, FreeEntry, AdvanceTail, GiveStores, GiveHeader, GiveCleaner, SetStop, CleanerOp, TakeCleaner, Clean, Subtract, Free, MoveTail}
 use Rattle.nv_core.specs.state.Cleaner as cleaner
 use Rattle.nv_core.specs.state.Values.{CallEnding, Made, Failed, Refused}
@@ -11,10 +11,6 @@ use Rattle.nv_core.specs.state.Passes.{Control, Idle, Cleaning}
 -- how many entries a leader's ENTRY word says that its group has
 abbrev pub count_of : (word : ℕ) → ℕ
 count_of word = word / 8 % 128
-
--- the slot of an entry
-abbrev pub slot_in : Sizes → (number : ℕ) → ℕ
-slot_in sizes number = number % sizes.entries
 
 -- the page of an entry of the group at hand
 abbrev pub group_page : Batch → (i : ℕ) → ℕ
@@ -39,11 +35,11 @@ cleaner_word sizes (TakeCleaner most) = CLEANER
 cleaner_word sizes (cleaner.Load word) = word
 cleaner_word sizes (cleaner.Take cell) = cell
 cleaner_word sizes (cleaner.Give cell) = cell
-cleaner_word sizes (cleaner.Hold number) = ENTRY (slot_in sizes number)
-cleaner_word sizes (cleaner.Return number) = ENTRY (slot_in sizes number)
-cleaner_word sizes (Clean number) = ENTRY (slot_in sizes number)
+cleaner_word sizes (cleaner.Hold number) = ENTRY (slot_of_entry sizes number)
+cleaner_word sizes (cleaner.Return number) = ENTRY (slot_of_entry sizes number)
+cleaner_word sizes (Clean number) = ENTRY (slot_of_entry sizes number)
 cleaner_word sizes (Subtract page) = DIRTY page
-cleaner_word sizes (Free number) = ENTRY (slot_in sizes number)
+cleaner_word sizes (Free number) = ENTRY (slot_of_entry sizes number)
 cleaner_word sizes (MoveTail tail) = TAIL
 cleaner_word sizes cleaner.Stop = STOP
 
@@ -78,7 +74,7 @@ next_cleaner_op sizes owned batch TakeHeader = Some (cleaner.Take HEADER)
 next_cleaner_op sizes owned batch cleaner.LoadStop = Some (cleaner.Load STOP)
 next_cleaner_op sizes owned batch LoadTail = Some (cleaner.Load TAIL)
 next_cleaner_op sizes owned batch LoadHead = Some (cleaner.Load HEAD)
-next_cleaner_op sizes owned batch (cleaner.LoadEntry i) = Some (cleaner.Load (ENTRY (slot_in sizes (batch.reached + i))))
+next_cleaner_op sizes owned batch (cleaner.LoadEntry i) = Some (cleaner.Load (ENTRY (slot_of_entry sizes (batch.reached + i))))
 next_cleaner_op sizes owned batch (cleaner.TakeCleanup i) = Some (cleaner.Take (CLEANUP (group_page batch i)))
 next_cleaner_op sizes owned batch cleaner.TakeStore = Some (cleaner.Take (STORE (group_file sizes batch)))
 next_cleaner_op sizes owned batch (cleaner.HoldEntry i) = Some (cleaner.Hold (batch.reached + i))

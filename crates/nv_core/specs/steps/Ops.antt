@@ -5,11 +5,11 @@ use Rattle.nv_plain.specs.Pieces.{piece_of, piece_bytes}
 use Rattle.nv_plain.specs.declared.call.FileCall.{FileCall}
 use Rattle.nv_plain.specs.declared.call.FileCall.TheVariants.{Write}
 use Rattle.nv_plain.specs.declared.call.Reply.{Reply}
-use Rattle.nv_core.specs.state.Words.{Sizes, Word, STOP, ORDER, HEAD, HAND, LENGTH, ENTRY, HINT, DIRTY, filling, ready, broken, entry_word, CLEANER}
+use Rattle.nv_core.specs.state.Words.{Sizes, Word, STOP, ORDER, HEAD, HAND, LENGTH, ENTRY, HINT, DIRTY, filling, ready, broken, entry_word, CLEANER, slot_of_entry}
 use Rattle.nv_core.specs.state.Values.{Value, patched}
 use Rattle.nv_core.specs.state.Cleaner.{CleanerOp, TakeCleaner, Clean}
 use Rattle.nv_core.specs.state.Cleaner as cleaner
-use Rattle.nv_core.specs.steps.CleanerSteps.{cleaner_word, cleaner_value, slot_in}
+use Rattle.nv_core.specs.steps.CleanerSteps.{cleaner_word, cleaner_value}
 use Rattle.nv_core.specs.state.Passes.{Pass, file_of, at_of, len_of, page_count, first_page, without}
 
 -- A kind of step with what it is made on. An entry is named by its number, a page by its number of all pages.
@@ -52,10 +52,6 @@ pub data Op : Type 0 where
   PutBack : Word → Op
   -- pass 0 takes in another pass
   Join : (number : ℕ) → Op
-
--- the slot of an entry
-abbrev pub slot_of_entry : Sizes → (number : ℕ) → ℕ
-slot_of_entry sizes number = number % sizes.entries
 
 -- the page of an entry that a pass drew
 abbrev pub page_at : Sizes → Pass → (number : ℕ) → ℕ
@@ -114,9 +110,9 @@ abbrev pub cleaner_move : Sizes → CleanerOp → (found : ℕ) → Move
 cleaner_move sizes (TakeCleaner most) found = if found == 0 then Comes CLEANER else Stays
 cleaner_move sizes (cleaner.Take cell) found = if found == 0 then Comes cell else Stays
 cleaner_move sizes (cleaner.Give cell) found = Goes cell
-cleaner_move sizes (cleaner.Hold number) found = Comes (ENTRY (slot_in sizes number))
-cleaner_move sizes (cleaner.Return number) found = Goes (ENTRY (slot_in sizes number))
-cleaner_move sizes (Clean number) found = Goes (ENTRY (slot_in sizes number))
+cleaner_move sizes (cleaner.Hold number) found = Comes (ENTRY (slot_of_entry sizes number))
+cleaner_move sizes (cleaner.Return number) found = Goes (ENTRY (slot_of_entry sizes number))
+cleaner_move sizes (Clean number) found = Goes (ENTRY (slot_of_entry sizes number))
 cleaner_move sizes cleaner_op found = Stays
 
 abbrev pub move_of : Sizes → Op → (found : ℕ) → Move

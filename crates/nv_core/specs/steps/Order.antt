@@ -17,11 +17,11 @@ use Rattle.nv_store.specs.Store.{Store}
 use Rattle.nv_store.specs.Steps.{Write as StoreWrite, after_store_step}
 use Rattle.nv_store.specs.Torn.{IsTorn}
 use Rattle.nv_entry.specs.Group.{group_steps}
-use Rattle.nv_core.specs.state.Words.{Sizes, Word, STOP, ORDER, HEAD, TAIL, LENGTH, SIZE, STORE, ENTRY, HINT, PAGE, CLEANUP, DIRTY, HEADER}
+use Rattle.nv_core.specs.state.Words.{Sizes, Word, STOP, ORDER, HEAD, TAIL, LENGTH, SIZE, STORE, ENTRY, HINT, PAGE, CLEANUP, DIRTY, HEADER, slot_of_entry}
 use Rattle.nv_core.specs.state.Spares.{Spares, room_of_spares}
 use Rattle.nv_core.specs.state.Values.{Value, APart, AStore, Job, PartStep, PageRead, PieceRead, CallEnding, Made, Failed, lacks_buffer, is_valid, bytes_in, PieceWrite, StoreSync, Refused}
 use Rattle.nv_core.specs.state.Passes.{Control, TakePage, LoadLength, TakeSize, LoadStop, LoadOrder, VisitPage, TakeCleanup, TakeStore, ReadStore, GiveStore, Search, LoadHint, TakeVictim, GiveVictim, VictimGiven, Searching, ReadLoadHead, ReadLoadTail, LoadEntry, HoldEntry, ReadPiece, ReturnEntry, GiveCleanup, WriteLoadHead, WriteLoadTail, DrawNumbers, SeizeEntry, CommitGroup, PledgePage, ReadyEntry, TakePlace, GrowLength, GiveSize, GivePage, GiveBack, SetStopAfterRead, SetStopAfterPiece, SetStopAfterCommit, BreakEntry, Pass, file_of, at_of, covered, end_read, first_page, times, Idle, Cleaning}
-use Rattle.nv_core.specs.steps.Ops.{Op, Load, Take, Give, Place, Stop, Draw, Seize, Pledge, Ready, Grow, Break, Turn, Hint, Hold, Return, slot_of_entry, ByCleaner}
+use Rattle.nv_core.specs.steps.Ops.{Op, Load, Take, Give, Place, Stop, Draw, Seize, Pledge, Ready, Grow, Break, Turn, Hint, Hold, Return, ByCleaner}
 use Rattle.nv_header.specs.HeaderSteps.{tail_steps}
 use Rattle.nv_core.specs.state.Cleaner.{Batch, CleanerControl, WriteBack, SyncStores, MoveHeaderTail, TakeCleaner}
 use Rattle.nv_core.specs.state.Cleaner as cleaner

@@ -1,10 +1,10 @@
 -- Held: what a step gives back is among the owned cells of its pass.
 use Rattle.std.proofs.Common.{◌≡◌, ℕ, ◌+◌, ◌≤◌, ◌==◌, Bool, true, false, if◌then◌else◌, List, refl, sym, ap, subst, ◌∙◌, arith}
-use Rattle.nv_core.specs.state.Words.{Sizes, Word, ENTRY}
+use Rattle.nv_core.specs.state.Words.{Sizes, Word, ENTRY, slot_of_entry}
 use Rattle.nv_core.specs.state.Cleaner.{CleanEntry, RefusedReturnEntry, FailedReturnEntry, CleanerOp, TakeCleaner, Clean}
 use Rattle.nv_core.specs.state.Cleaner as cleaner
 use Rattle.nv_core.specs.state.Passes.{Control, ReadyEntry, BreakEntry, Cleaning, Pass, IsFilling, IsHeldEntry, times}
-use Rattle.nv_core.specs.steps.Ops.{Op, Take, Give, Ready, Break, Return, ByCleaner, Move, Stays, Comes, Goes, slot_of_entry, move_of, cleaner_move}
+use Rattle.nv_core.specs.steps.Ops.{Op, Take, Give, Ready, Break, Return, ByCleaner, Move, Stays, Comes, Goes, move_of, cleaner_move}
 use Rattle.nv_core.specs.steps.Order.{Values, Enabled}
 use Rattle.nv_core.specs.steps.StepKinds.{CleanerEnabled, EnabledByKind}
 use Rattle.nv_core.specs.invariant.ControlFacts.{ControlFacts, FactsAt}

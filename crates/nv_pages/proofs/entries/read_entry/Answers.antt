@@ -1,8 +1,7 @@
 -- The part comes back with the same states and room, and its count rose exactly where it failed.
 use Rattle.std.proofs.Common.{◌≡◌, ◌<◌, ◌%◌, subst, [], false, arith, length}
 use Rattle.nv_plain.specs.Faults.{Rose}
-use Rattle.nv_core.specs.state.Words.{Sizes, ENTRY}
-use Rattle.nv_core.specs.steps.Ops.{slot_of_entry}
+use Rattle.nv_core.specs.state.Words.{Sizes, ENTRY, slot_of_entry}
 use Rattle.nv_core.specs.state.Passes.{IsOneOf}
 use Rattle.nv_core.specs.state.Values.{Bare, PageRead, Failed, called, faults_of}
 use Rattle.nv_table.specs.steps.Exchanges.{Exchanges}

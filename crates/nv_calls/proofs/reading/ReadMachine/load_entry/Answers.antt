@@ -1,7 +1,6 @@
 -- A number's entry is loaded: it is held next, or the next number follows.
 use Rattle.std.proofs.Common.{◌≡◌, ℕ, List, true, false, refl, arith}
-use Rattle.nv_core.specs.state.Words.{Sizes, ENTRY, place}
-use Rattle.nv_core.specs.steps.Ops.{slot_of_entry}
+use Rattle.nv_core.specs.state.Words.{Sizes, ENTRY, place, slot_of_entry}
 use Rattle.nv_core.specs.state.Passes.{LoadEntry}
 use Rattle.nv_table.specs.state.Limits.{MountIsWithinLimits}
 use Rattle.nv_table.specs.state.Opened.{mount_of, state_of}

@@ -1,10 +1,10 @@
 -- The piece is read, and the entry is due to be returned, or STOP to be set.
 use Rattle.std.proofs.Common.{◌≡◌, ℕ, List, refl, sym, ap, subst, ◌∙◌, ◌+◌, arith, take, nat_lt, if◌then◌else◌, [], false}
 use Rattle.std.specs.Prelude.{None}
-use Rattle.nv_core.specs.state.Words.{Sizes, ENTRY}
+use Rattle.nv_core.specs.state.Words.{Sizes, ENTRY, slot_of_entry}
 use Rattle.nv_core.specs.state.Core.{with_value}
 use Rattle.nv_core.specs.steps.Order.{SaysPieceOf}
-use Rattle.nv_core.specs.steps.Ops.{Return, Stop, slot_of_entry}
+use Rattle.nv_core.specs.steps.Ops.{Return, Stop}
 use Rattle.nv_core.specs.log.FittingPieces.{HeldPiecesFit}
 use Rattle.nv_core.specs.invariant.InvariantLaws.{RunsAreSound}
 use Rattle.nv_core.specs.steps.Opening.{IsMount}
