@@ -7,7 +7,8 @@ use Rattle.nv_mirror.specs.declared.front.FrontControl.{FrontControl}
 use Rattle.nv_mirror.specs.declared.front.FrontControl.TheVariants.{Passed, Over}
 use Rattle.nv_mirror.specs.declared.front.FrontControl.TheVariants as fronts
 use Rattle.nv_mirror.specs.declared.front.FrontMachine.{FrontMachine}
-use Rattle.nv_mirror.specs.Fronts.{size_in, one_if, front_measure_at, IsOpen, FitsAt, rest, refuse, locked, front_after_at}
+use Rattle.nv_mirror.specs.Fronts.{size_in, front_measure_at, IsOpen, FitsAt, rest, refuse, locked, front_after_at}
+use Rattle.nv_core.specs.invariant.Ownership.{one_if}
 
 left_measure : (m : FrontMachine) (size : Bool) (held : ℕ) (refusal : Refusal) (most : ℕ) → 1 + one_if size + held < most → front_measure_at (refuse m size held refusal) (rest size held refusal) < most
 left_measure m true held refusal most low = low

@@ -2,6 +2,7 @@
 use Rattle.std.specs.Prelude.{◌≡◌, ℕ, zero, ◌+◌, ◌-◌, ◌*◌, ◌<◌, ◌≤◌, ◌^◌, ◌==◌, nat_lt, Bool, true, false, not, ◌&&◌, if◌then◌else◌, List, [], Option, Some, None}
 use Rattle.nv_plain.specs.declared.call.FileCall.{FileCall}
 use Rattle.nv_core.specs.state.Passes.{Control, Idle, TakePage, LoadLength, TakeSize, LoadStop, LoadOrder, VisitPage, WriteLoadHead, TakePlace, GiveBack, IsAllowed, first_page, end_page, file_of, at_of, len_of, is_write, is_read}
+use Rattle.nv_core.specs.invariant.Ownership.{one_if}
 use Rattle.nv_core.specs.state.Words.{Sizes, Word, SIZE, PAGE, place}
 use Rattle.nv_table.specs.state.States.{PassState}
 use Rattle.nv_calls.specs.reads.Reads.{pages_from, with_if}
@@ -132,9 +133,6 @@ abbrev pub IsUnderWay : FrontMachine → (start now : PassState) → Type 0
 IsUnderWay m start now = Fits now.view.opened.sizes m × IsInCall m m.control start now
 
 -- ---- how many steps may still come
-
-abbrev pub one_if : Bool → ℕ
-one_if b = if b then 1 else 0
 
 abbrev pub front_measure_at : FrontMachine → FrontControl → ℕ
 front_measure_at m fronts.Begin = 10 + (m.last - m.first) + (m.last - (m.first + m.held))
