@@ -1,5 +1,4 @@
 -- Content: each event keeps what files, buffers and reads have.
-pub mod PlainLaws
 pub mod PlainPages
 pub mod FileLaws
 pub mod KeepsLengths

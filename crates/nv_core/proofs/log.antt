@@ -6,7 +6,6 @@ pub mod KeepsLiveByCleaner
 pub mod KeepsGroups
 pub mod RowParts
 pub mod ReadiedLaws
-pub mod LogLaws
 pub mod WrittenLaws
 pub mod FreedParts
 pub mod KeepsWritten

@@ -1,4 +1,5 @@
 -- Content: what the files, the buffers and the reads have.
+pub mod PlainLaws
 pub mod PagesAfter
 pub mod StorePages
 pub mod Legal

@@ -1,4 +1,5 @@
 -- The log: what the parts and the stores hold, and the cleaner's order.
+pub mod LogLaws
 pub mod Groups
 pub mod Written
 pub mod EntryImages

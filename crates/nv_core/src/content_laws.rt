@@ -2,10 +2,7 @@
 ghost use Rattle.nv_core.specs.content.Content.{EventsKeepContent, OpeningHasContent, RunsKeepContent};
 ghost use Rattle.nv_core.specs.content.PatchedPages.{PagesArePatched};
 
-use nv_entry::groups_follow_steps;
-use nv_header::the_tail_follows_steps;
-use nv_plain::{history_goes_on, write_is_its_pieces, write_leaves_its_bytes};
-use nv_pmem::{images_follow_calls, loads_follow_calls};
+use crate::laws_below::{files_follow_calls, parts_follow_calls};
 
 /// The content of files is right at opening, every event keeps it, and so it is right after every run: the history is legal, and
 /// lengths and buffers are what it leaves, and so is a page that a read patches with the pieces of its entries. It follows from the
@@ -15,13 +12,8 @@ pub fn runs_keep_content()
     ensures events { EventsKeepContent }
     ensures runs { RunsKeepContent }
 {
-    loads_follow_calls();
-    images_follow_calls();
-    write_leaves_its_bytes();
-    write_is_its_pieces();
-    history_goes_on();
-    groups_follow_steps();
-    the_tail_follows_steps();
+    files_follow_calls();
+    parts_follow_calls();
 }
 
 /// A page on which no write is in flight is, after the history, its store's page as it is, overwritten by the pieces of its entries that
@@ -30,7 +22,5 @@ pub fn runs_keep_content()
 pub fn pages_are_patched()
     ensures { PagesArePatched }
 {
-    write_leaves_its_bytes();
-    write_is_its_pieces();
-    history_goes_on();
+    files_follow_calls();
 }

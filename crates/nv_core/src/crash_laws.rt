@@ -4,9 +4,7 @@ ghost use Rattle.nv_core.specs.crash.CrashImages.{AddedInAnyOrder, EventsKeepReg
 ghost use Rattle.nv_core.specs.walks.CrashByHand.{ImagesByHand};
 ghost use Rattle.nv_core.specs.crash.EmptyLog.{EmptyLogsAreStored, EmptyLogsRest};
 
-use nv_entry::groups_follow_steps;
-use nv_header::the_tail_follows_steps;
-use nv_plain::{history_goes_on, write_is_its_pieces, write_leaves_its_bytes};
+use crate::laws_below::{files_follow_calls, parts_follow_calls};
 use nv_pmem::{images_follow_calls, loads_follow_calls};
 
 /// A power failure at any moment leaves whole writes: each image of the region and of the stores fits, and recovers to the files
@@ -25,13 +23,8 @@ pub fn crashes_leave_whole_writes()
     ensures lost { FaultsAreLost }
     ensures order { AddedInAnyOrder }
 {
-    loads_follow_calls();
-    images_follow_calls();
-    write_leaves_its_bytes();
-    write_is_its_pieces();
-    history_goes_on();
-    groups_follow_steps();
-    the_tail_follows_steps();
+    files_follow_calls();
+    parts_follow_calls();
 }
 
 /// Where the log is empty the stores read as the files after the history and the writes that are placed next, whatever passes do

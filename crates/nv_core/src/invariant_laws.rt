@@ -10,8 +10,8 @@ ghost use Rattle.nv_core.specs.state.Spares.{SparesKeepSteps, SparesTell};
 ghost use Rattle.nv_core.specs.walks.Walks.{WalkBegins, FirstPageIsWord30, OpeningWordsByHand, ReadIsWalked, WriteIsWalked, FaultIsWalked, SearchIsWalked, TriesAreWalked};
 ghost use Rattle.nv_core.specs.state.Words.{PlacesDiffer};
 
+use crate::laws_below::files_follow_calls;
 use nv_entry::groups_follow_steps;
-use nv_plain::{history_goes_on, write_is_its_pieces, write_leaves_its_bytes};
 
 /// The invariant holds at opening, every event keeps it, and so it holds in every state that a run leads to. What it says of
 /// the room of parts follows from the law of groups that the body calls.
@@ -109,9 +109,7 @@ pub fn a_dirty_read_is_a_run()
 pub fn lengths_follow_the_history()
     ensures { LengthsFollowTheHistory }
 {
-    write_leaves_its_bytes();
-    write_is_its_pieces();
-    history_goes_on();
+    files_follow_calls();
     groups_follow_steps();
 }
 

@@ -8,6 +8,7 @@ mod crash_laws;
 mod fitting_laws;
 mod frame_laws;
 mod invariant_laws;
+mod laws_below;
 mod log_laws;
 mod order_laws;
 mod shape_laws;

@@ -3,9 +3,7 @@ ghost use Rattle.nv_core.specs.log.CleaningOrder.{NoCleanBeforeTheStore, NoFreeB
 ghost use Rattle.nv_core.specs.log.LogContent.{EventsKeepTheLog, OpeningHasTheLog, RunsKeepTheLog, GroupsAreInImages, GroupsComeLate, NoOldWordCounts};
 ghost use Rattle.nv_core.specs.walks.WalkOpens.{WalkOpensFiles, WalkOpensLog, WalkOpensRegion};
 
-use nv_entry::groups_follow_steps;
-use nv_header::the_tail_follows_steps;
-use nv_plain::{history_goes_on, write_is_its_pieces, write_leaves_its_bytes};
+use crate::laws_below::{files_follow_calls, parts_follow_calls};
 use nv_pmem::{images_follow_calls, loads_follow_calls};
 
 /// What the log has is right at opening, every event keeps it, and so it is right after every run: the parts of each group
@@ -21,13 +19,8 @@ pub fn runs_keep_the_log()
     ensures old { NoOldWordCounts }
     ensures late { GroupsComeLate }
 {
-    loads_follow_calls();
-    images_follow_calls();
-    write_leaves_its_bytes();
-    write_is_its_pieces();
-    history_goes_on();
-    groups_follow_steps();
-    the_tail_follows_steps();
+    files_follow_calls();
+    parts_follow_calls();
 }
 
 /// What a step of a cleaner has before it, where the content of the log is right: an entry is returned as cleaned when its store

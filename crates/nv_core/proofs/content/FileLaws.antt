@@ -14,8 +14,8 @@ use Rattle.nv_core.specs.state.Passes.{IsAllowed, file_of, at_of, len_of, is_wri
 use Rattle.nv_core.specs.invariant.ControlFacts.{IsPage}
 use Rattle.nv_core.specs.content.PagesAfter.{page_from, page_in}
 use Rattle.nv_core.specs.content.ValidBuffers.{with_own_pieces}
-use Rattle.nv_core.proofs.content.PlainLaws.{PlainLaws, never_shorter}
-use Rattle.nv_core.proofs.content.PlainPages.{page_start_below, page_start_behind, pages_touched_none, patch_piece, untouched_page, untouched_above}
+use Rattle.nv_core.specs.content.PlainLaws.{PlainLaws}
+use Rattle.nv_core.proofs.content.PlainPages.{never_shorter, page_start_below, page_start_behind, pages_touched_none, patch_piece, untouched_page, untouched_above}
 
 -- what a file has after another one was changed, and after it was
 pub contents_else : (files : Files) (file other : ℕ) (bytes : List ℕ) → other ≢ file → contents_of (with_contents files file bytes) other ≡ contents_of files other

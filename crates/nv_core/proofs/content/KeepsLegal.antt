@@ -25,7 +25,7 @@ use Rattle.nv_core.specs.content.Legal.{Legal}
 use Rattle.nv_core.specs.content.Lengths.{length_now, IsGrowing, Lengths}
 use Rattle.nv_core.specs.content.ValidBuffers.{GatheredAt, Gathered, ValidBuffers}
 use Rattle.nv_core.specs.invariant.Sound.{Sound}
-use Rattle.nv_core.proofs.content.PlainLaws.{PlainLaws}
+use Rattle.nv_core.specs.content.PlainLaws.{PlainLaws}
 use Rattle.nv_core.proofs.state.Choices.{step_idle}
 use Rattle.nv_core.proofs.state.PageLaws.{read_within}
 use Rattle.nv_core.proofs.content.PlainPages.{pages_touched_none, read_pages}

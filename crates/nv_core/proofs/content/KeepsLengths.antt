@@ -23,7 +23,7 @@ use Rattle.nv_core.specs.invariant.Loaded.{HasMeasured}
 use Rattle.nv_core.specs.content.PagesAfter.{files_now}
 use Rattle.nv_core.specs.content.Lengths.{length_now, IsGrowing, Extends, Lengths}
 use Rattle.nv_core.specs.invariant.Sound.{Sound}
-use Rattle.nv_core.proofs.content.PlainLaws.{PlainLaws}
+use Rattle.nv_core.specs.content.PlainLaws.{PlainLaws}
 use Rattle.nv_core.proofs.state.Changes.{by_number, number_here, number_else, word_here, word_else}
 use Rattle.nv_core.proofs.state.Choices.{if_both, when_true, when_false, leaving_both, IsGivingBack, gives_back, step_idle, page_tried}
 use Rattle.nv_core.proofs.steps.WordLaws.{untouched, touches}

@@ -42,7 +42,7 @@ use Rattle.nv_core.specs.content.PatchedPages.{is_on, patched_from, IsStill}
 use Rattle.nv_core.specs.content.PatchedReads.{in_window_from, HasStores, LacksFrom, HasAll, PatchedAt, PatchedReads}
 use Rattle.nv_core.specs.log.LogContent.{LogContent}
 use Rattle.nv_core.specs.invariant.Sound.{Sound}
-use Rattle.nv_core.proofs.content.PlainLaws.{PlainLaws}
+use Rattle.nv_core.specs.content.PlainLaws.{PlainLaws}
 use Rattle.nv_core.proofs.state.Changes.{by_number, differ}
 use Rattle.nv_core.proofs.state.Choices.{if_both, when_true, not_both, leaving_both, busy, IsGivingBack, gives_back, step_idle, page_tried}
 use Rattle.nv_core.proofs.invariant.KeepsLoaded.{tail_up}

@@ -30,7 +30,7 @@ use Rattle.nv_core.specs.steps.CleanerSteps.{group_file}
 use Rattle.nv_core.proofs.steps.CleanerControls.{of_cleaner_worked}
 use Rattle.nv_core.proofs.invariant.KeepsLocks.{cleaner_give_one}
 use Rattle.nv_core.proofs.log.KeepsStores.{keeps_stores, no_refusal}
-use Rattle.nv_core.proofs.content.PlainLaws.{PlainLaws}
+use Rattle.nv_core.specs.content.PlainLaws.{PlainLaws}
 use Rattle.nv_core.proofs.state.Changes.{by_number, by_word, word_here, word_else, same_true, differ}
 use Rattle.nv_core.proofs.state.Choices.{if_both, when_true, when_false, gives_back, step_idle, busy}
 use Rattle.nv_core.proofs.invariant.LockLaws.{only_holder, times_else}

@@ -32,7 +32,7 @@ use Rattle.nv_core.specs.log.LogContent.{LogContent}
 use Rattle.nv_core.specs.content.PatchedPages.{patched_by_number, patched_where, IsStill, IsPatched, PagesArePatched}
 use Rattle.nv_core.specs.log.Tails.{Tails}
 use Rattle.nv_core.specs.invariant.Sound.{Sound}
-use Rattle.nv_core.proofs.content.PlainLaws.{PlainLaws}
+use Rattle.nv_core.specs.content.PlainLaws.{PlainLaws}
 use Rattle.nv_core.proofs.state.Changes.{differ}
 use Rattle.nv_core.proofs.state.Choices.{if_both, not_both}
 use Rattle.nv_core.proofs.invariant.LockLaws.{only_holder}

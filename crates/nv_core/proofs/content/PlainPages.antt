@@ -1,5 +1,5 @@
 -- Pages of plain bytes: what a read gathers page by page is what it reads, and what a write leaves of each page.
-use Rattle.std.proofs.Common.{◌≡◌, ℕ, zero, suc, ◌+◌, ◌-◌, ◌*◌, ◌/◌, ◌%◌, ◌<◌, ◌≤◌, ◌==◌, min, max, List, ◌++◌, length, get_or, take, drop, replicate, refl, sym, ap, ap₂, ◌∙◌, arith, inl, inr}
+use Rattle.std.proofs.Common.{◌≡◌, ℕ, zero, suc, ◌+◌, ◌-◌, ◌*◌, ◌/◌, ◌%◌, ◌<◌, ◌≤◌, ◌==◌, min, max, List, [], ◌∷◌, ◌++◌, length, get_or, take, drop, replicate, refl, sym, ap, ap₂, ◌∙◌, arith, inl, inr}
 use Rattle.std.specs.List.{flat_map, range_with_len}
 use Rattle.std.proofs.lemmas.Bool.{cases_lt, eqb-true, eqb-false}
 use Rattle.std.proofs.lemmas.List.{length-append, length-take, length-drop, length-replicate, get_or_append_left, get_or-append_right, get_or-take, get_or-drop, get_or-replicate, get_or_past, append-nil, append_assoc, ext_get_or, drop-drop}
@@ -9,8 +9,14 @@ use Rattle.std.proofs.Math.Nat.{mul-le-mul_right, div-mul-le_self, le-div_iff_mu
 use Rattle.nv_plain.specs.Files.{bytes_at, padded, overwritten}
 use Rattle.nv_plain.specs.Pieces.{pages_touched, piece_start, piece_of, piece_bytes}
 use Rattle.nv_core.specs.content.PagesAfter.{page_from}
-use Rattle.nv_core.proofs.content.PlainLaws.{PlainLaws}
+use Rattle.nv_core.specs.content.PlainLaws.{PlainLaws}
 use Rattle.nv_core.proofs.state.Choices.{if_both}
+
+-- ---- no write makes a file shorter
+
+pub never_shorter : (plain : PlainLaws) (bytes source : List ℕ) (at : ℕ) → length bytes ≤ length (overwritten bytes at source)
+never_shorter plain bytes [] at = omega arith
+never_shorter plain bytes (first ∷ rest) at = omega (arith, plain.reach bytes (first ∷ rest) at (omega arith))
 
 -- ---- zeros behind some bytes
 

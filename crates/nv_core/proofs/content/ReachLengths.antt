@@ -11,7 +11,7 @@ use Rattle.nv_core.proofs.steps.ByKind.{ActEnabledByKind, act_kind}
 use Rattle.nv_core.specs.steps.Opening.{opening}
 use Rattle.nv_core.specs.content.Lengths.{Lengths, LengthsFollowTheHistory}
 use Rattle.nv_core.specs.invariant.Sound.{Sound}
-use Rattle.nv_core.proofs.content.PlainLaws.{PlainLaws}
+use Rattle.nv_core.specs.content.PlainLaws.{PlainLaws}
 use Rattle.nv_core.proofs.content.KeepsLengths.{lengths_step, lengths_begin, lengths_work}
 use Rattle.nv_core.proofs.invariant.Reach.{sound_begin, events_keep_sound, opening_is_sound}
 

@@ -20,7 +20,7 @@ use Rattle.nv_core.specs.content.PatchedPages.{is_on}
 use Rattle.nv_core.specs.log.Tails.{Tails}
 use Rattle.nv_core.specs.log.LogContent.{LogContent}
 use Rattle.nv_core.specs.invariant.Sound.{Sound}
-use Rattle.nv_core.proofs.content.PlainLaws.{PlainLaws}
+use Rattle.nv_core.specs.content.PlainLaws.{PlainLaws}
 use Rattle.nv_core.proofs.state.Choices.{not_both}
 use Rattle.nv_core.proofs.state.TotalLaws.{total_none}
 use Rattle.nv_core.proofs.content.KeepsValidBuffers.{read_only}

@@ -26,7 +26,7 @@ use Rattle.nv_core.specs.log.LivePieces.{rising, call_if, is_ready, is_waiting, 
 use Rattle.nv_core.specs.log.LogContent.{LogContent}
 use Rattle.nv_core.specs.crash.CrashImages.{is_in_flight, is_committed, is_added, added_unready, added_writes, HasRegion, AddedInAnyOrder}
 use Rattle.nv_core.specs.invariant.Sound.{Sound}
-use Rattle.nv_core.proofs.content.PlainLaws.{PlainLaws}
+use Rattle.nv_core.specs.content.PlainLaws.{PlainLaws}
 use Rattle.nv_core.proofs.state.Choices.{not_both}
 use Rattle.nv_core.proofs.crash.CommutingLaws.{IsApartFrom, comes_first, after_both}
 use Rattle.nv_core.proofs.log.LiveLaws.{AllApart, apart_both}

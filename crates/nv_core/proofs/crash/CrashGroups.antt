@@ -31,7 +31,7 @@ use Rattle.nv_core.specs.crash.CommutingWrites.{after_calls}
 use Rattle.nv_core.specs.log.LogContent.{LogContent}
 use Rattle.nv_core.specs.crash.CrashImages.{HasRegion, is_committed}
 use Rattle.nv_core.specs.invariant.Sound.{Sound}
-use Rattle.nv_core.proofs.content.PlainLaws.{PlainLaws}
+use Rattle.nv_core.specs.content.PlainLaws.{PlainLaws}
 use Rattle.nv_core.proofs.state.PageLaws.{write_pages}
 use Rattle.nv_core.proofs.log.LiveLaws.{pieces_after}
 use Rattle.nv_core.proofs.log.KeepsLive.{files_length}

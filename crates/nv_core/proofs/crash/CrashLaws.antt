@@ -30,7 +30,7 @@ use Rattle.nv_core.specs.crash.CommutingWrites.{after_calls}
 use Rattle.nv_core.specs.log.LogContent.{LogContent}
 use Rattle.nv_core.specs.crash.CrashImages.{AreImagesOfStores, is_in_flight, is_committed, is_added, added_unready, added_writes, IsFated, KeptInImage, Stored, Survives, HasRegion, StatesSurviveCrashes}
 use Rattle.nv_core.specs.invariant.Sound.{Sound}
-use Rattle.nv_core.proofs.content.PlainLaws.{PlainLaws}
+use Rattle.nv_core.specs.content.PlainLaws.{PlainLaws}
 use Rattle.nv_core.proofs.crash.CommutingLaws.{after_both}
 use Rattle.nv_core.proofs.log.LiveLaws.{rising_same, rising_none, rising_split, AllApart}
 use Rattle.nv_core.proofs.log.KeepsLive.{if_apart}

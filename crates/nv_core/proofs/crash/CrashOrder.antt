@@ -15,7 +15,7 @@ use Rattle.nv_core.specs.log.Pieces.{page_of_number, Pieces}
 use Rattle.nv_core.specs.log.Unready.{IsUnready, Unready}
 use Rattle.nv_core.specs.crash.CommutingWrites.{Commute, after_calls}
 use Rattle.nv_core.specs.log.LivePieces.{rising, call_if, piece_write, piece_call, is_ready, is_cleaned, is_live}
-use Rattle.nv_core.proofs.content.PlainLaws.{PlainLaws}
+use Rattle.nv_core.specs.content.PlainLaws.{PlainLaws}
 use Rattle.nv_core.proofs.crash.CommutingLaws.{IsApartFrom, after_both}
 use Rattle.nv_core.proofs.state.Choices.{not_both, unless_true}
 use Rattle.nv_core.proofs.log.LiveLaws.{rising_same, rising_none, rising_split, rising_apart, come_last, AllApart, pieces_after, writes_apart}

@@ -33,7 +33,7 @@ use Rattle.nv_core.specs.crash.CrashImages.{HasRegion, EventsKeepRegion}
 use Rattle.nv_core.specs.invariant.Sound.{Sound}
 use Rattle.nv_core.proofs.state.Changes.{by_word, number_here, word_here}
 use Rattle.nv_core.proofs.state.Choices.{if_both}
-use Rattle.nv_core.proofs.log.LogLaws.{LogLaws}
+use Rattle.nv_core.specs.log.LogLaws.{LogLaws}
 use Rattle.nv_core.proofs.log.KeepsHeader.{off_tail, header_stepped, header_step, header_read, header_work}
 use Rattle.nv_core.proofs.log.ImageLaws.{part_one}
 use Rattle.nv_core.proofs.steps.CleanerOps.{tending}

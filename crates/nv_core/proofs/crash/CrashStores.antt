@@ -20,7 +20,7 @@ use Rattle.nv_core.specs.crash.PersistentTail.{IsInAPiece, LiesInPieces}
 use Rattle.nv_core.specs.log.LogContent.{LogContent}
 use Rattle.nv_core.specs.crash.CrashImages.{AreImagesOfStores, HasRegion}
 use Rattle.nv_core.specs.invariant.Sound.{Sound}
-use Rattle.nv_core.proofs.content.PlainLaws.{PlainLaws}
+use Rattle.nv_core.specs.content.PlainLaws.{PlainLaws}
 use Rattle.nv_core.proofs.state.Choices.{not_both}
 use Rattle.nv_core.proofs.crash.CoverLaws.{IsTouched, EndAlike, Agree, alike_after}
 use Rattle.nv_core.proofs.crash.DropLaws.{dropped, touched_rising, from_rising}

@@ -35,7 +35,7 @@ use Rattle.nv_core.specs.log.Retiring.{TailsAt, IsSynced}
 use Rattle.nv_core.specs.log.LogContent.{LogContent}
 use Rattle.nv_core.specs.crash.CrashImages.{HasRegion}
 use Rattle.nv_core.specs.invariant.Sound.{Sound}
-use Rattle.nv_core.proofs.content.PlainLaws.{PlainLaws}
+use Rattle.nv_core.specs.content.PlainLaws.{PlainLaws}
 use Rattle.nv_core.proofs.state.Changes.{number_here, word_here, word_else}
 use Rattle.nv_core.proofs.state.Choices.{if_both, when_false, not_both}
 use Rattle.nv_core.proofs.steps.WordLaws.{untouched, touches}

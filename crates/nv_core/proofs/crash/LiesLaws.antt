@@ -11,7 +11,8 @@ use Rattle.nv_store.specs.Torn.{IsTorn}
 use Rattle.nv_core.specs.state.Values.{Value, Bare, APart, AStore, ABuffer, PieceWrite, StoreSync, CallEnding, Made, Failed, Refused, called}
 use Rattle.nv_core.specs.steps.Order.{CallMayLeave, IsTornOf}
 use Rattle.nv_core.specs.content.StorePages.{store_of_value}
-use Rattle.nv_core.proofs.content.PlainLaws.{PlainLaws, never_shorter}
+use Rattle.nv_core.specs.content.PlainLaws.{PlainLaws}
+use Rattle.nv_core.proofs.content.PlainPages.{never_shorter}
 use Rattle.nv_core.proofs.crash.CommutingLaws.{in_or_out}
 use Rattle.nv_core.proofs.state.Choices.{not_both}
 use Rattle.nv_core.proofs.log.KeepsLive.{and_false}

@@ -1,19 +1,17 @@
 -- Dirty bounds: a page has no more entries than the log, but for one that is pledged and one that a cleaner has cleaned.
-use Rattle.std.proofs.Common.{◌≡◌, ℕ, zero, suc, ◌+◌, ◌<◌, ◌≤◌, Bool, true, false, if◌then◌else◌, List, [], ◌∷◌, take, drop, inl, inr, refl, sym, subst, arith}
+use Rattle.std.proofs.Common.{ℕ, zero, suc, ◌+◌, ◌≤◌, Bool, true, false, List, [], ◌∷◌, take, drop, inl, inr, refl, arith}
 use Rattle.std.proofs.lemmas.Bool.{cases_Bool, eqb-false}
-use Rattle.nv_core.specs.state.Totals.{total}
-use Rattle.nv_core.specs.state.Words.{Sizes, ENTRY, PAGE, CLEANUP, DIRTY, is_shut}
+use Rattle.nv_core.specs.state.Words.{Sizes, ENTRY, PAGE, CLEANUP, is_shut}
 use Rattle.nv_core.specs.state.Cleaner.{CleanEntry, SubtractDirty}
 use Rattle.nv_core.specs.state.Passes.{Control, Cleaning, PledgePage, ReadyEntry, Pass, times}
 use Rattle.nv_core.specs.state.Core.{Core}
 use Rattle.nv_core.specs.steps.Order.{Values}
-use Rattle.nv_core.specs.invariant.Locks.{Keyed, holds}
+use Rattle.nv_core.specs.invariant.Locks.{holds}
 use Rattle.nv_core.specs.invariant.CleanerOwnership.{count_in}
 use Rattle.nv_core.specs.invariant.Ownership.{one_if, HoldsLocks}
 use Rattle.nv_core.specs.invariant.DirtyCounters.{entries_of_page, is_of_page, owed, owed_by_all, pledged}
 use Rattle.nv_core.specs.invariant.ForbiddenSteps.{NoDirtyAboveTheLog}
 use Rattle.nv_core.specs.invariant.Sound.{Sound}
-use Rattle.nv_core.proofs.invariant.LockLaws.{only_holder}
 use Rattle.nv_core.proofs.state.TotalLaws.{total_most, total_ones, total_keyed}
 
 one_most : (b : Bool) → one_if b ≤ 1

@@ -11,7 +11,7 @@ use Rattle.nv_core.specs.invariant.LogWindow.{InWindow}
 use Rattle.nv_core.specs.log.Groups.{Log}
 use Rattle.nv_core.specs.crash.CommutingWrites.{after_calls}
 use Rattle.nv_core.specs.log.LivePieces.{rising, call_if, piece_call, is_ready, is_cleaned, is_live, live_pieces, uncleaned_pieces, to_place, calls_of, store_bytes, store_files, LivePieces}
-use Rattle.nv_core.proofs.content.PlainLaws.{PlainLaws}
+use Rattle.nv_core.specs.content.PlainLaws.{PlainLaws}
 use Rattle.nv_core.proofs.crash.CoverLaws.{IsTouched, alike_after}
 use Rattle.nv_core.proofs.crash.DropLaws.{dropped, touched_rising, from_rising}
 use Rattle.nv_core.proofs.log.LiveLaws.{rising_same, rising_none, rising_split}

@@ -21,7 +21,7 @@ use Rattle.nv_core.specs.state.Passes.{page_count}
 use Rattle.nv_core.specs.steps.Order.{Values}
 use Rattle.nv_core.specs.log.Written.{CommitsNone, IsWrittenTo, IsWritten, commit_length, IsBlankEntry}
 use Rattle.nv_core.proofs.state.Choices.{if_both, when_true}
-use Rattle.nv_core.proofs.log.LogLaws.{LogLaws}
+use Rattle.nv_core.specs.log.LogLaws.{LogLaws}
 use Rattle.nv_core.proofs.log.WrittenLaws.{one_lines, some_length}
 
 -- a part of a row after a step on one of them has as many lines as before

@@ -28,7 +28,7 @@ use Rattle.nv_core.specs.log.Retiring.{TailsAt}
 use Rattle.nv_core.specs.log.HeaderStays.{IsMovedPart, HeaderStays}
 use Rattle.nv_core.proofs.state.Changes.{word_here, word_else, differ}
 use Rattle.nv_core.proofs.state.Choices.{if_both}
-use Rattle.nv_core.proofs.log.LogLaws.{LogLaws}
+use Rattle.nv_core.specs.log.LogLaws.{LogLaws}
 use Rattle.nv_core.proofs.log.WrittenLaws.{part_stepped, part_worked, given_else, told_still, run_more, one_lines}
 
 -- a part has as many lines as one that the cell told before

@@ -31,7 +31,7 @@ use Rattle.nv_core.specs.crash.CommutingWrites.{Commute, after_calls}
 use Rattle.nv_core.specs.content.StorePages.{store_of_value}
 use Rattle.nv_core.specs.log.LivePieces.{rising, call_if, piece_write, piece_call, is_ready, is_cleaned, is_live, is_waiting, to_place, calls_of, told_bytes, store_bytes, store_files, LivePieces}
 use Rattle.nv_core.specs.invariant.Sound.{Sound}
-use Rattle.nv_core.proofs.content.PlainLaws.{PlainLaws}
+use Rattle.nv_core.specs.content.PlainLaws.{PlainLaws}
 use Rattle.nv_core.proofs.state.Changes.{by_number, by_word, number_here, number_else, word_here, word_else, differ}
 use Rattle.nv_core.proofs.state.Choices.{if_both, when_true, when_false, busy, not_both, unless_true, gives_back}
 use Rattle.nv_core.proofs.steps.WordLaws.{untouched}

@@ -30,7 +30,7 @@ use Rattle.nv_core.specs.log.Written.{Written}
 use Rattle.nv_core.specs.crash.CommutingWrites.{after_calls}
 use Rattle.nv_core.specs.log.LivePieces.{call_if, piece_call, is_ready, is_cleaned, is_live, live_pieces, uncleaned_pieces, to_place, calls_of, told_bytes, store_bytes, store_files, LivePieces}
 use Rattle.nv_core.specs.invariant.Sound.{Sound}
-use Rattle.nv_core.proofs.content.PlainLaws.{PlainLaws}
+use Rattle.nv_core.specs.content.PlainLaws.{PlainLaws}
 use Rattle.nv_core.proofs.state.Changes.{by_number, by_word, word_here, word_else}
 use Rattle.nv_core.proofs.state.Choices.{not_both}
 use Rattle.nv_core.proofs.steps.WordLaws.{cleaner_op_touches, untouched}

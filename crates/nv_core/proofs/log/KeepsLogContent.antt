@@ -19,8 +19,8 @@ use Rattle.nv_core.specs.log.Tails.{Tails, still, tails_worked, tails_acted, tai
 use Rattle.nv_core.specs.log.LivePieces.{LivePieces}
 use Rattle.nv_core.specs.log.LogContent.{LogContent, EventsKeepTheLog, tails_after_run, log_after_run, placed_after_run, RunsKeepTheLog, GroupsAreInImages, GroupsComeLate, NoOldWordCounts}
 use Rattle.nv_core.specs.invariant.Sound.{Sound}
-use Rattle.nv_core.proofs.content.PlainLaws.{PlainLaws}
-use Rattle.nv_core.proofs.log.LogLaws.{LogLaws}
+use Rattle.nv_core.specs.content.PlainLaws.{PlainLaws}
+use Rattle.nv_core.specs.log.LogLaws.{LogLaws}
 use Rattle.nv_core.proofs.state.Changes.{number_here}
 use Rattle.nv_core.proofs.invariant.Reach.{sound_begin, events_keep_sound, opening_is_sound}
 use Rattle.nv_core.proofs.log.OpeningLogContent.{opening_has_the_log}

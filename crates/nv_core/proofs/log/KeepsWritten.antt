@@ -47,7 +47,7 @@ use Rattle.nv_core.proofs.steps.CleanerControls.{of_cleaner_worked}
 use Rattle.nv_core.proofs.steps.CleanerOps.{IsAtFree, frees_hand, retires_hand, sole_cleaner}
 use Rattle.nv_core.proofs.log.CleanerReadied.{cleaned_was, cleaner_hold_rekind, cleaner_return_rekind, cleans_rekind}
 use Rattle.nv_core.proofs.log.ReadiedLaws.{freed_after, readied_before, begun_before, worked_before}
-use Rattle.nv_core.proofs.log.LogLaws.{LogLaws}
+use Rattle.nv_core.specs.log.LogLaws.{LogLaws}
 use Rattle.nv_core.proofs.log.FreedParts.{group_blank}
 use Rattle.nv_core.proofs.invariant.KeepsLocks.{ready_is}
 use Rattle.nv_core.proofs.invariant.WindowLaws.{apart_within}

@@ -16,7 +16,7 @@ use Rattle.nv_core.specs.state.Passes.{is_write, file_of, at_of, page_count, fir
 use Rattle.nv_core.specs.invariant.ControlFacts.{IsPage}
 use Rattle.nv_core.specs.crash.CommutingWrites.{Commute, after_calls}
 use Rattle.nv_core.specs.log.LivePieces.{rising, piece_write}
-use Rattle.nv_core.proofs.content.PlainLaws.{PlainLaws}
+use Rattle.nv_core.specs.content.PlainLaws.{PlainLaws}
 use Rattle.nv_core.proofs.crash.CommutingLaws.{IsApartFrom, comes_first}
 
 -- ---- calls in rising number

@@ -40,8 +40,8 @@ use Rattle.nv_core.specs.log.Retiring.{IsWrittenBack, IsSynced, TailsAt, IsDone,
 use Rattle.nv_core.specs.invariant.Sound.{Sound}
 use Rattle.nv_core.proofs.state.Changes.{by_number, number_here, word_here, word_else}
 use Rattle.nv_core.proofs.state.Choices.{if_both, when_true, when_false}
-use Rattle.nv_core.proofs.content.PlainLaws.{PlainLaws}
-use Rattle.nv_core.proofs.log.LogLaws.{LogLaws}
+use Rattle.nv_core.specs.content.PlainLaws.{PlainLaws}
+use Rattle.nv_core.specs.log.LogLaws.{LogLaws}
 use Rattle.nv_core.proofs.steps.AtCall.{IsAtCall}
 use Rattle.nv_core.proofs.crash.CommutingLaws.{calls_apart}
 use Rattle.nv_core.proofs.log.LiveLaws.{lie_apart, piece_lies}

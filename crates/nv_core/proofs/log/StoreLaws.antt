@@ -10,7 +10,7 @@ use Rattle.nv_store.specs.Torn.{IsTorn}
 use Rattle.nv_core.specs.state.Words.{Sizes, STORE}
 use Rattle.nv_core.specs.steps.Order.{Values}
 use Rattle.nv_core.specs.log.LivePieces.{store_bytes, store_files}
-use Rattle.nv_core.proofs.content.PlainLaws.{PlainLaws}
+use Rattle.nv_core.specs.content.PlainLaws.{PlainLaws}
 use Rattle.nv_core.proofs.crash.CommutingLaws.{in_or_out}
 use Rattle.nv_core.proofs.crash.CoverLaws.{IsTouched, EndAlike, Agree}
 

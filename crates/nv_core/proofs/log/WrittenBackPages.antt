@@ -29,7 +29,7 @@ use Rattle.nv_core.specs.content.ValidBuffers.{with_own_pieces}
 use Rattle.nv_core.specs.log.Tails.{Tails}
 use Rattle.nv_core.specs.log.LogContent.{LogContent}
 use Rattle.nv_core.specs.invariant.Sound.{Sound}
-use Rattle.nv_core.proofs.content.PlainLaws.{PlainLaws}
+use Rattle.nv_core.specs.content.PlainLaws.{PlainLaws}
 use Rattle.nv_core.proofs.state.Changes.{word_here, word_else, differ}
 use Rattle.nv_core.proofs.state.Choices.{when_false}
 use Rattle.nv_core.proofs.invariant.LockLaws.{only_holder}

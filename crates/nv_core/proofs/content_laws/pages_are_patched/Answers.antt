@@ -1,16 +1,5 @@
-use Rattle.nv_core.proofs.content.PlainLaws.{PlainLaws}
 use Rattle.nv_core.proofs.content.PatchLaws.{pages_are_patched as pages_are_patched_all}
 use Rattle.nv_core.proofs.content_laws.pages_are_patched.Goals as goal
 
 pub returns : goal.returns
-returns c =
-    let plain : PlainLaws = record {
-      inside = c.write_leaves_its_bytes.ensures.inside;
-      outside = c.write_leaves_its_bytes.ensures.outside;
-      reach = c.write_leaves_its_bytes.ensures.reach;
-      pieces = c.write_is_its_pieces.ensures;
-      goes_on = c.history_goes_on.ensures.files;
-      legally = c.history_goes_on.ensures.legal;
-      count = c.history_goes_on.ensures.count;
-    } in
-    pages_are_patched_all plain
+returns c = pages_are_patched_all c.files_follow_calls.ensures
