@@ -3,6 +3,7 @@ pub mod CleanerReadied
 pub mod Rekinded
 pub mod KeepsStores
 pub mod KeepsLiveByCleaner
+pub mod DrawLaws
 pub mod KeepsGroups
 pub mod RowParts
 pub mod ReadiedLaws

@@ -1,7 +1,7 @@
 -- Patched pages, number by number: what the part of an entry reads as, and what a step leaves of the entries of a page.
 use Rattle.std.proofs.Common.{◌≡◌, ◌⊎◌, ℕ, zero, suc, ◌+◌, ◌-◌, ◌%◌, ◌<◌, ◌≤◌, ◌==◌, nat_le, ◌&&◌, not, Bool, true, false, if◌then◌else◌, List, length, inl, inr, refl, sym, ap, ap₂, subst, ◌∙◌, arith}
 use Rattle.std.specs.Prelude.{Option, Some, None}
-use Rattle.std.proofs.lemmas.Bool.{cases_eq, cases_lt, cases_Bool, ne_eqb, eqb-false, leb-true, and_parts, true≢false}
+use Rattle.std.proofs.lemmas.Bool.{cases_eq, cases_lt, ne_eqb, eqb-false, leb-true, and_parts, true≢false}
 use Rattle.nv_plain.specs.Files.{overwritten}
 use Rattle.nv_plain.specs.Images.{PartImage, Image, entry_of, data_of}
 use Rattle.nv_plain.specs.Pieces.{piece_of, piece_bytes}
@@ -11,21 +11,20 @@ use Rattle.nv_pmem.specs.Part.{Part, part_word}
 use Rattle.nv_pmem.specs.Images.{IsPartImage}
 use Rattle.nv_pmem.specs.Laws.{LoadsAreAnImage}
 use Rattle.nv_entry.specs.Group.{HoldsEntry}
-use Rattle.nv_core.specs.state.Words.{Sizes, HEAD, TAIL, HEADER, ENTRY, PAGE, CLEANUP, ready, held, cleaned, kind_of, was_readied, page_of, free, filling, broken, entry_word, index, slot_of_entry}
+use Rattle.nv_core.specs.state.Words.{Sizes, TAIL, HEADER, ENTRY, CLEANUP, ready, held, cleaned, kind_of, was_readied, page_of, free, filling, broken, entry_word, index, slot_of_entry}
 use Rattle.nv_core.specs.state.Values.{Value, Bare, APart, AStore, ABuffer}
-use Rattle.nv_core.specs.state.Passes.{DrawNumbers, HoldEntry, ReturnEntry, Pass, IsUnseized, IsFilling, IsAmong, is_write, first_page, page_count, end_page, times}
+use Rattle.nv_core.specs.state.Passes.{HoldEntry, ReturnEntry, IsUnseized, IsFilling, IsAmong, first_page, page_count, times}
 use Rattle.nv_core.specs.steps.Ops.{Op, ready_word, Take, Give, Draw, Seize, Ready, Break, Hold, Return, ByCleaner}
 use Rattle.nv_core.specs.state.Cleaner.{CleanerOp, Clean, Free, MoveTail}
 use Rattle.nv_core.specs.state.Cleaner as cleaner
 use Rattle.nv_core.specs.invariant.CleanerNumbers.{IsFreed}
 use Rattle.nv_core.specs.invariant.Loaded.{LooksSound}
 use Rattle.nv_core.specs.steps.Order.{Values}
-use Rattle.nv_core.specs.invariant.ControlFacts.{FactsAt, HasDrawn, IsSmall, LogHasRoom, IsPage}
-use Rattle.nv_core.specs.invariant.Ownership.{HoldsLocks}
+use Rattle.nv_core.specs.invariant.ControlFacts.{FactsAt, HasDrawn, IsPage}
 use Rattle.nv_core.specs.state.Core.{Core, with_value, after_step}
 use Rattle.nv_core.proofs.steps.ByKind.{FoundEnabledByKind}
 use Rattle.nv_core.specs.invariant.LogWindow.{InWindow, entry_word_at}
-use Rattle.nv_core.specs.log.Groups.{Group, Log, with_group, log_stepped, HasGroup, Groups}
+use Rattle.nv_core.specs.log.Groups.{Log, log_stepped, HasGroup, Groups}
 use Rattle.nv_core.specs.log.Pieces.{page_of_number, Pieces}
 use Rattle.nv_core.specs.log.InFlight.{IsFlying}
 use Rattle.nv_core.specs.log.Written.{IsPart}
@@ -36,15 +35,13 @@ use Rattle.nv_core.specs.content.PatchedPages.{patched_by_number, is_on, patched
 use Rattle.nv_core.specs.log.Tails.{Tails}
 use Rattle.nv_core.specs.log.Retiring.{Retired}
 use Rattle.nv_core.specs.invariant.Sound.{Sound}
-use Rattle.nv_core.proofs.state.Changes.{by_word, word_here, word_else, differ}
+use Rattle.nv_core.proofs.state.Changes.{by_word, word_here, word_else}
 use Rattle.nv_core.proofs.state.Choices.{when_true, when_false, not_both}
 use Rattle.nv_core.proofs.invariant.KeepsLocks.{entry_is, held_was}
 use Rattle.nv_core.proofs.steps.CleanerOps.{cleaner_hold_hand, cleaner_return_hand, cleans_hand, frees_hand, retires_hand}
-use Rattle.nv_core.proofs.invariant.OwnershipLaws.{among_in}
-use Rattle.nv_core.proofs.state.PageLaws.{write_pages}
 use Rattle.nv_core.proofs.steps.WordLaws.{untouched, touches}
 use Rattle.nv_core.proofs.invariant.WindowLaws.{apart_within}
-use Rattle.nv_core.proofs.log.KeepsGroups.{group_old, group_new, which}
+use Rattle.nv_core.proofs.log.DrawLaws.{draw_below}
 use Rattle.nv_core.proofs.log.KeepsLive.{and_false}
 use Rattle.nv_core.proofs.content.PatchLaws.{on_call, leader_in, leader_group}
 
@@ -249,51 +246,6 @@ module _ (loads : LoadsAreAnImage) (sizes : Sizes) (log : Log) (core : Core) (gr
 
 -- ---- what a step leaves of a still page's entries
 
--- a pass that is to draw holds its pages
-drawing_holds : (sizes : Sizes) (pass : Pass) → HoldsLocks sizes pass DrawNumbers → (page : ℕ) → IsPage sizes pass.call page → times (PAGE page) pass.owned ≡ 1
-drawing_holds sizes pass held page is = held (PAGE page) (λ slot. differ (PAGE page) (ENTRY slot) refl) ∙ among_in (first_page sizes pass.call) (end_page sizes pass.call) page is.0 is.1
-
--- what a draw leaves of the groups before, and adds to the window
-module _ (sizes : Sizes) (first : Values) (log : Log) (by : ℕ) (core : Core) (found : ℕ) (sound : Sound sizes first core) (groups : Groups sizes core log) (may : FoundEnabledByKind sizes by core Draw found) where
-  abbrev drawn_group : Group
-  drawn_group = record { call = (core.passes by).call; first = found; entries = page_count sizes (core.passes by).call }
-
-  abbrev drawn_log : Log
-  drawn_log = log_stepped sizes (core.passes by) Draw found log
-
-  at_drawing : (is_write (core.passes by).call ≡ true) × IsSmall sizes (core.passes by) × LogHasRoom sizes (core.passes by)
-  at_drawing = subst (FactsAt sizes (core.passes by)) may.may (sound.control_facts by).at
-
-  draws : HasDrawn sizes (core.passes by).call (page_count sizes (core.passes by).call)
-  draws = record { write = at_drawing.0; many = refl; some = write_pages sizes (core.passes by).call at_drawing.0 }
-
-  head_more : (found == (core.passes by).head) ≡ true → (after_step sizes by Draw found core).words HEAD ≡ core.words HEAD + page_count sizes (core.passes by).call
-  head_more e = word_here core.words HEAD _ ∙ when_true (found == (core.passes by).head) (found + page_count sizes (core.passes by).call) found e ∙ ap (λ f. f + page_count sizes (core.passes by).call) (sym may.is)
-
-  pub draw_old : (n : ℕ) → InWindow core n → drawn_log.group n ≡ log.group n
-  draw_old n within = elim (cases_Bool (found == (core.passes by).head)) [
-    | inr e ↦ ap (λ l. l.group n) (when_false (found == (core.passes by).head) (with_group drawn_group log) log e)
-    | inl e ↦ ap (λ l. l.group n) (when_true (found == (core.passes by).head) (with_group drawn_group log) log e)
-        ∙ group_old sizes core (after_step sizes by Draw found core) log drawn_group groups refl (sym may.is) (head_more e) sound.window.order draws n within.1
-  ]
-
-  -- no number of a page that the pass doesn't hold
-  pub draw_new : (n page : ℕ) → times (PAGE page) (core.passes by).owned ≡ 0 → InWindow (after_step sizes by Draw found core) n → page_of_number sizes (drawn_log.group n) n ≡ page → InWindow core n
-  draw_new n page none within on = elim (cases_Bool (found == (core.passes by).head)) [
-    | inr e ↦ let h : (after_step sizes by Draw found core).words HEAD ≡ core.words HEAD = word_here core.words HEAD _ ∙ when_false (found == (core.passes by).head) (found + page_count sizes (core.passes by).call) found e ∙ sym may.is in
-        (within.0, subst (λ m. n < m) h within.1)
-    | inl e ↦ elim (which sizes core (after_step sizes by Draw found core) log drawn_group groups refl (sym may.is) (head_more e) sound.window.order draws n within) [
-      | inl old ↦ old
-      | inr new ↦ absurd (
-          let g : drawn_log.group n ≡ drawn_group = ap (λ l. l.group n) (when_true (found == (core.passes by).head) (with_group drawn_group log) log e)
-          ∙ group_new sizes core (after_step sizes by Draw found core) log drawn_group groups refl (sym may.is) (head_more e) sound.window.order draws n new in
-          let o : page_of_number sizes drawn_group n ≡ page = sym (ap (λ x. page_of_number sizes x n) g) ∙ on in
-          let a = new.0 in let b = new.1 in
-          let holds = drawing_holds sizes (core.passes by) (subst (HoldsLocks sizes (core.passes by)) may.may (sound.ownership by).locks) page (omega (arith, o), omega (arith, o, a, b)) in
-          omega (arith, holds, none))
-    ]
-  ]
-
 -- a cleaner that makes a step doesn't hold CLEANUP of a page
 abbrev pub IsClear : Core → (by page : ℕ) → Op → Type 0
 IsClear core by page (ByCleaner cleaner_op) = times (CLEANUP page) (core.passes by).owned ≡ 0
@@ -387,7 +339,7 @@ module _ (sizes : Sizes) (first : Values) (log : Log) (by : ℕ) (core : Core) (
   cleaner_step_on cleaner_op may apart n within = (plain_on (ByCleaner cleaner_op) may (λ slot. refl) n, refl)
 
   pub step_on : (op : Op) → IsClear core by page op → FoundEnabledByKind sizes by core op found → KeepsOn op
-  step_on Draw clear may n within = let old = draw_old sizes first log by core found sound groups may n within in (ap (λ g. is_fresh (entry_word_at sizes core n) && page_of_number sizes g n == page) old, old)
+  step_on Draw clear may n within = let old = draw_below sizes log by core found may n within.1 in (ap (λ g. is_fresh (entry_word_at sizes core n) && page_of_number sizes g n == page) old, old)
   step_on (Seize next) clear may n within = seize_on next may n within
   step_on (Ready next) clear may n within = ready_on next may n within
   step_on (Break next) clear may n within = break_on next may n within

@@ -1,8 +1,7 @@
 -- Each event keeps what the log has of faults.
-use Rattle.std.proofs.Common.{◌≡◌, ◌≢◌, ◌⊎◌, ℕ, ◌+◌, ◌<◌, ◌≤◌, ◌==◌, if◌then◌else◌, Bool, true, false, inl, inr, refl, sym, ap, subst, ◌∙◌, arith}
+use Rattle.std.proofs.Common.{◌≡◌, ◌≢◌, ◌⊎◌, ℕ, ◌<◌, ◌≤◌, ◌==◌, Bool, true, false, inl, inr, refl, sym, ap, subst, ◌∙◌, arith}
 use Rattle.std.proofs.lemmas.Bool.{cases_lt}
 use Rattle.nv_plain.specs.declared.call.Reply.{Reply}
-use Rattle.nv_core.specs.invariant.Ownership.{is_among}
 use Rattle.nv_core.specs.state.Words.{Sizes, HEAD, TAIL, was_readied}
 use Rattle.nv_core.specs.steps.Order.{Values, IsFailing, Work, CallEnabled}
 use Rattle.nv_core.specs.state.Passes.{Control, Fault, IsOneOf, is_write, page_count, Pass, first_page, SetStopAfterRead, SetStopAfterPiece, SetStopAfterCommit, SeizeEntry, CommitGroup, PledgePage, ReadyEntry, TakePlace, IsAmong, IsFilling, LoadStop, TakePage}
@@ -29,7 +28,8 @@ use Rattle.nv_core.specs.invariant.CleanerNumbers.{IsFreed}
 use Rattle.nv_core.proofs.log.KeepsUnready.{not_readied, none_readied}
 use Rattle.nv_core.proofs.log.ReadiedLaws.{readied_before, begun_before, worked_before}
 use Rattle.nv_core.proofs.steps.CleanerOps.{retires_hand}
-use Rattle.nv_core.proofs.log.KeepsGroups.{among_below, log_group}
+use Rattle.nv_core.proofs.log.DrawLaws.{drawn_group, lost_head, won_draw}
+use Rattle.nv_core.proofs.log.KeepsGroups.{log_group}
 use Rattle.nv_core.proofs.log.KeepsInFlight.{flew, flew_all, flying_as, not_leaving, not_placed, no_reading, placing, worked_flew, not_made, made_number}
 use Rattle.nv_core.proofs.invariant.ForbiddenStepLaws.{no_two_writes_of_a_page}
 
@@ -206,13 +206,10 @@ drawn_faults : (sizes : Sizes) (first : Values) (log : Log) (placed : ℕ → Bo
 drawn_faults sizes first log placed by core found sound faults may = go (found == (core.passes by).head) refl
   where
     group : Group
-    group = record { call = (core.passes by).call; first = found; entries = page_count sizes (core.passes by).call }
+    group = drawn_group sizes (core.passes by) found
 
     now : Core
     now = after_step sizes by Draw found core
-
-    old : (n : ℕ) → n < core.words HEAD → (with_group group log).group n ≡ log.group n
-    old n less = when_false (is_among found (found + page_count sizes (core.passes by).call) n) group (log.group n) (among_below found (found + page_count sizes (core.passes by).call) n (let f = may.is in omega (arith, less, f)))
 
     all : (next_log : Log) (next : ℕ → Bool) → ((fault : Fault) → IsRecorded sizes log placed core fault → IsRecorded sizes next_log next now fault) → Faults sizes next_log next now
     all next_log next each = record {
@@ -224,8 +221,8 @@ drawn_faults sizes first log placed by core found sound faults may = go (found =
     go false e = subst (λ l. Faults sizes l (placed_stepped (core.passes by) Draw found placed) now) (sym (when_false (found == (core.passes by).head) (with_group group log) log e))
         (subst (λ p. Faults sizes log p now) (sym (when_false (found == (core.passes by).head) (with_number placed found false) placed e))
         (all log placed (record_kept sizes log log placed placed core now
-        (let h = word_here core.words HEAD (if found == (core.passes by).head then found + page_count sizes (core.passes by).call else found) ∙ when_false (found == (core.passes by).head) (found + page_count sizes (core.passes by).call) found e in let f = may.is in omega (arith, h, f))
-        (λ fault is. unready_on sizes first log placed by core Draw found sound faults may fault.first is.unready is.unready.within.0 (let h = word_here core.words HEAD (if found == (core.passes by).head then found + page_count sizes (core.passes by).call else found) ∙ when_false (found == (core.passes by).head) (found + page_count sizes (core.passes by).call) found e in let f = may.is in let b = is.below in omega (arith, h, f, b)) (not_made Draw refl fault.first))
+        (let h = lost_head sizes by core found may e in omega (arith, h))
+        (λ fault is. unready_on sizes first log placed by core Draw found sound faults may fault.first is.unready is.unready.within.0 (let h = lost_head sizes by core found may e in let b = is.below in omega (arith, h, b)) (not_made Draw refl fault.first))
         (λ n less. refl) (λ fault is. is.unplaced)
         (by_number (λ n (p : Pass). IsFlying p p.control → (fault : Fault) → IsRecorded sizes log placed core fault → p.first ≢ fault.first) core.passes by (changed_pass sizes by core Draw found)
         (λ flies. absurd (subst (λ s. IsFlying (changed_pass sizes by core Draw found) s → ⊥) (sym (when_false (found == (core.passes by).head) (SeizeEntry found) (leaving (core.passes by).owned) e)) (not_leaving (changed_pass sizes by core Draw found) (core.passes by).owned) flies))
@@ -233,14 +230,16 @@ drawn_faults sizes first log placed by core found sound faults may = go (found =
     go true e = subst (λ l. Faults sizes l (placed_stepped (core.passes by) Draw found placed) now) (sym (when_true (found == (core.passes by).head) (with_group group log) log e))
         (subst (λ p. Faults sizes (with_group group log) p now) (sym (when_true (found == (core.passes by).head) (with_number placed found false) placed e))
         (all (with_group group log) (with_number placed found false) (record_kept sizes log (with_group group log) placed (with_number placed found false) core now
-        (let h = word_here core.words HEAD (if found == (core.passes by).head then found + page_count sizes (core.passes by).call else found) ∙ when_true (found == (core.passes by).head) (found + page_count sizes (core.passes by).call) found e in let f = may.is in omega (arith, h, f))
-        (λ fault is. let on = unready_on sizes first log placed by core Draw found sound faults may fault.first is.unready is.unready.within.0 (let h = word_here core.words HEAD (if found == (core.passes by).head then found + page_count sizes (core.passes by).call else found) ∙ when_true (found == (core.passes by).head) (found + page_count sizes (core.passes by).call) found e in let f = may.is in let b = is.below in omega (arith, h, f, b)) (not_made Draw refl fault.first) in
+        (omega (arith, head))
+        (λ fault is. let on = unready_on sizes first log placed by core Draw found sound faults may fault.first is.unready is.unready.within.0 (let b = is.below in omega (arith, head, b)) (not_made Draw refl fault.first) in
         record { within = on.within; leads = ap (λ g. g.first) (old fault.first is.below) ∙ on.leads; unready = on.unready; unfreed = on.unfreed })
-        (λ n less. when_false (is_among found (found + page_count sizes (core.passes by).call) n) group (log.group n) (among_below found (found + page_count sizes (core.passes by).call) n (let f = may.is in omega (arith, less, f))))
+        old
         (λ fault is. number_else placed found false fault.first (λ same. let l = is.below in let f = may.is in omega (arith, same, l, f)) ∙ is.unplaced)
         (by_number (λ n (p : Pass). IsFlying p p.control → (fault : Fault) → IsRecorded sizes log placed core fault → p.first ≢ fault.first) core.passes by (changed_pass sizes by core Draw found)
-        (λ flies fault is same. let from : (changed_pass sizes by core Draw found).first ≡ found = when_true (found == (core.passes by).head) found (core.passes by).first e in let l = is.below in let f = may.is in omega (arith, from, same, l, f))
+        (λ flies fault is same. let l = is.below in let f = may.is in omega (arith, from, same, l, f))
         (λ n ne flies fault is. is.other n flies)))))
+      where
+        open won_draw sizes first log by core found sound may e use {head, old, from}
 
 -- ---- all steps
 

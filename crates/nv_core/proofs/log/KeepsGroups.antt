@@ -1,10 +1,10 @@
 -- Each event keeps the groups whole.
-use Rattle.std.proofs.Common.{◌≡◌, ◌⊎◌, ℕ, ◌+◌, ◌<◌, ◌≤◌, ◌==◌, nat_le, nat_lt, Bool, true, false, if◌then◌else◌, inl, inr, refl, sym, ap, subst, ◌∙◌, arith}
-use Rattle.std.proofs.lemmas.Bool.{cases_lt, leb-true, and_from, and_parts, le-leb, lt-ltb}
+use Rattle.std.proofs.Common.{◌≡◌, ◌⊎◌, ℕ, ◌+◌, ◌<◌, ◌≤◌, ◌==◌, Bool, true, false, inl, inr, refl, sym, ap, subst, ◌∙◌, arith}
+use Rattle.std.proofs.lemmas.Bool.{cases_lt}
 use Rattle.nv_plain.specs.declared.call.FileCall.{FileCall}
 use Rattle.nv_core.specs.state.Words.{Sizes, HEAD, TAIL}
 use Rattle.nv_core.specs.state.Values.{CallEnding, Made, Failed, Refused}
-use Rattle.nv_core.specs.state.Passes.{Control, TakePage, LoadStop, ReadStore, SeizeEntry, CommitGroup, PledgePage, ReadyEntry, SetStopAfterRead, SetStopAfterCommit, BreakEntry, Pass, IsAllowed, IsAmong, is_write, page_count, first_page, SetStopAfterPiece, ReadPiece, Cleaning, IsUnseized, IsFilling}
+use Rattle.nv_core.specs.state.Passes.{Control, TakePage, LoadStop, ReadStore, SeizeEntry, CommitGroup, PledgePage, ReadyEntry, SetStopAfterRead, SetStopAfterCommit, BreakEntry, Pass, IsAllowed, IsAmong, page_count, first_page, SetStopAfterPiece, ReadPiece, Cleaning, IsUnseized, IsFilling}
 use Rattle.nv_core.specs.steps.Ops.{Op, Load, Take, Give, Place, Stop, Draw, Seize, Pledge, Ready, Grow, Break, Split, PutBack, Join, Turn, Hint, Hold, Return, ByCleaner}
 use Rattle.nv_core.specs.steps.ControlSteps.{control_after, after_stop, leaving}
 use Rattle.nv_core.specs.steps.PassSteps.{begun}
@@ -12,8 +12,7 @@ use Rattle.nv_core.specs.steps.Order.{Values, Work, CallEnabled, CallDue, IsFail
 use Rattle.nv_core.specs.steps.StepKinds.{EnabledByKind}
 use Rattle.nv_core.specs.state.Core.{Core, changes, changed_pass, after_step, after_begin, after_work, worked, control_worked}
 use Rattle.nv_core.proofs.steps.ByKind.{FoundEnabledByKind}
-use Rattle.nv_core.specs.invariant.ControlFacts.{FactsAt, HasDrawn, IsSmall, LogHasRoom}
-use Rattle.nv_core.specs.invariant.Ownership.{is_among}
+use Rattle.nv_core.specs.invariant.ControlFacts.{FactsAt, HasDrawn}
 use Rattle.nv_core.specs.state.Cleaner.{AdvanceTail, MoveTail}
 use Rattle.nv_core.specs.invariant.CleanerNumbers.{IsFreed}
 use Rattle.nv_core.specs.log.Progress.{IsBatchUnderWay, Progress}
@@ -23,10 +22,10 @@ use Rattle.nv_core.specs.invariant.Sound.{Sound}
 use Rattle.nv_core.proofs.state.Changes.{by_number, word_here}
 use Rattle.nv_core.proofs.state.Choices.{if_both, not_both, when_true, when_false, busy}
 use Rattle.nv_core.proofs.invariant.ClearLaws.{IsClear, clear_to, clear_leaving}
-use Rattle.nv_core.proofs.state.PageLaws.{write_pages}
 use Rattle.nv_core.proofs.steps.WordLaws.{untouched, touches}
 use Rattle.nv_core.proofs.invariant.ControlFactLaws.{worked_control}
 use Rattle.nv_core.proofs.steps.CleanerControls.{of_cleaner_worked}
+use Rattle.nv_core.proofs.log.DrawLaws.{drawn_group, lost_head, won_draw}
 use Rattle.nv_core.proofs.steps.CleanerOps.{IsAtTail, retires_hand}
 
 pub clear_group : (control : Control) → IsClear control → HasGroup control → ⊥
@@ -98,81 +97,57 @@ module _ (sizes : Sizes) (core now : Core) (log : Log) (head : now.words HEAD �
 
 -- ---- a group is drawn
 
-among_true : (from end n : ℕ) → from ≤ n → n < end → is_among from end n ≡ true
-among_true from end n low high = and_from (nat_le from n) (nat_lt n end) (le-leb from n low) (lt-ltb n end high)
+module _ (sizes : Sizes) (first : Values) (by : ℕ) (core : Core) (log : Log) (found : ℕ) (sound : Sound sizes first core) (groups : Groups sizes core log)
+    (may : FoundEnabledByKind sizes by core Draw found) (won : (found == (core.passes by).head) ≡ true) where
+  open won_draw sizes first log by core found sound may won use {head, drawn, split, old, new, this}
 
-pub among_below : (from end n : ℕ) → n < from → is_among from end n ≡ false
-among_below from end n less = go (is_among from end n) refl
-  where
-    go : (b : Bool) → is_among from end n ≡ b → is_among from end n ≡ false
-    go true e = absurd (let x = leb-true from n (and_parts (nat_le from n) (nat_lt n end) e).0 in omega (arith, x))
-    go false e = e
+  abbrev now : Core
+  now = after_step sizes by Draw found core
 
-module _ (sizes : Sizes) (core now : Core) (log : Log) (group : Group) (groups : Groups sizes core log)
-    (tail : now.words TAIL ≡ core.words TAIL) (found : group.first ≡ core.words HEAD) (head : now.words HEAD ≡ core.words HEAD + group.entries)
-    (order : core.words TAIL ≤ core.words HEAD) (drawn : HasDrawn sizes group.call group.entries) where
-  pub group_new : (n : ℕ) → IsAmong group.first group.entries n → (with_group group log).group n ≡ group
-  group_new n is = when_true (is_among group.first (group.first + group.entries) n) group (log.group n) (among_true group.first (group.first + group.entries) n is.0 is.1)
-
-  pub group_old : (n : ℕ) → n < core.words HEAD → (with_group group log).group n ≡ log.group n
-  group_old n less = when_false (is_among group.first (group.first + group.entries) n) group (log.group n) (among_below group.first (group.first + group.entries) n (subst (λ h. n < h) (sym found) less))
-
-  pub which : (n : ℕ) → InWindow now n → InWindow core n ⊎ IsAmong group.first group.entries n
-  which n is = elim (cases_lt n (core.words HEAD)) [
-    | inl less ↦ inl (subst (λ t. t ≤ n) tail is.0, less)
-    | inr more ↦ inr (let h = is.1 in (omega (arith, more, found), omega (arith, h, head, found)))
-  ]
+  abbrev group : Group
+  group = drawn_group sizes (core.passes by) found
 
   grows : (n : ℕ) → n < core.words HEAD → n < now.words HEAD
   grows n less = omega (arith, less, head)
 
   within_new : (n : ℕ) → IsAmong group.first group.entries n → InWindow now n
-  within_new n is = (let x = is.0 in subst (λ t. t ≤ n) (sym tail) (omega (arith, x, found, order)), let y = is.1 in omega (arith, y, found, head))
+  within_new n is = let f = may.is in (let x = is.0 in let o = sound.window.order in omega (arith, x, f, o), let y = is.1 in omega (arith, y, f, head))
 
   old_grouped : (n : ℕ) → InWindow core n → IsGrouped sizes now (with_group group log) n
   old_grouped n is =
-      let old = groups.each n is in
-      let e = group_old n is.1 in
-      let high : (log.group n).first + (log.group n).entries ≤ core.words HEAD = old.high in
+      let was = groups.each n is in
+      let e = old n is.1 in
+      let high : (log.group n).first + (log.group n).entries ≤ core.words HEAD = was.high in
       record {
-        among = subst (λ g. IsAmong g.first g.entries n) (sym e) old.among;
-        low = subst (λ g. now.words TAIL ≤ g.first) (sym e) (subst (λ t. t ≤ (log.group n).first) (sym tail) old.low);
+        among = subst (λ g. IsAmong g.first g.entries n) (sym e) was.among;
+        low = subst (λ g. now.words TAIL ≤ g.first) (sym e) was.low;
         high = subst (λ g. g.first + g.entries ≤ now.words HEAD) (sym e) (omega (arith, high, head));
         same = λ other among. let a : IsAmong (log.group n).first (log.group n).entries other = subst (λ g. IsAmong g.first g.entries other) e among in
-            group_old other (let x = a.1 in omega (arith, x, high)) ∙ old.same other a ∙ sym e;
-        drawn = subst (λ g. HasDrawn sizes g.call g.entries) (sym e) old.drawn;
-        allowed = subst (λ g. IsAllowed sizes g.call) (sym e) old.allowed;
+            old other (let x = a.1 in omega (arith, x, high)) ∙ was.same other a ∙ sym e;
+        drawn = subst (λ g. HasDrawn sizes g.call g.entries) (sym e) was.drawn;
+        allowed = subst (λ g. IsAllowed sizes g.call) (sym e) was.allowed;
       }
 
-  new_grouped : IsAllowed sizes group.call → (n : ℕ) → IsAmong group.first group.entries n → IsGrouped sizes now (with_group group log) n
-  new_grouped allowed n is =
-      let e = group_new n is in
+  new_grouped : (n : ℕ) → IsAmong group.first group.entries n → IsGrouped sizes now (with_group group log) n
+  new_grouped n is =
+      let e = new n is in
+      let f = may.is in
       record {
         among = subst (λ g. IsAmong g.first g.entries n) (sym e) is;
-        low = subst (λ g. now.words TAIL ≤ g.first) (sym e) (subst (λ t. t ≤ group.first) (sym tail) (omega (arith, found, order)));
-        high = subst (λ g. g.first + g.entries ≤ now.words HEAD) (sym e) (omega (arith, found, head));
-        same = λ other among. group_new other (subst (λ g. IsAmong g.first g.entries other) e among) ∙ sym e;
+        low = subst (λ g. now.words TAIL ≤ g.first) (sym e) (let o = sound.window.order in omega (arith, f, o));
+        high = subst (λ g. g.first + g.entries ≤ now.words HEAD) (sym e) (omega (arith, f, head));
+        same = λ other among. new other (subst (λ g. IsAmong g.first g.entries other) e among) ∙ sym e;
         drawn = subst (λ g. HasDrawn sizes g.call g.entries) (sym e) drawn;
-        allowed = subst (λ g. IsAllowed sizes g.call) (sym e) allowed;
+        allowed = subst (λ g. IsAllowed sizes g.call) (sym e) ((sound.control_facts by).allowed (busy _ _ may.may refl));
       }
 
-  groups_drawn : IsAllowed sizes group.call
-      → ((by : ℕ) → HasGroup (now.passes by).control → (HasGroup (core.passes by).control × (group_of (now.passes by) ≡ group_of (core.passes by))) ⊎ (group_of (now.passes by) ≡ group))
-      → Groups sizes now (with_group group log)
-  groups_drawn allowed were = record {
-    each = λ n is. elim (which n is) [ inl old ↦ old_grouped n old | inr new ↦ new_grouped allowed n new ];
-    own = λ by is n among. own by n among (were by is);
+  groups_drawn : Groups sizes now (with_group group log)
+  groups_drawn = record {
+    each = λ n is. elim (split n is) [ inl was ↦ old_grouped n was | inr fresh ↦ new_grouped n fresh ];
+    own = by_number (λ m (p : Pass). HasGroup p.control → (n : ℕ) → IsAmong p.first p.entries n → IsOwn now (with_group group log) p n) core.passes by (changed_pass sizes by core Draw found)
+        (λ _ n among. let a : IsAmong group.first group.entries n = subst (λ g. IsAmong g.first g.entries n) this among in record { within = within_new n a; group = new n a ∙ sym this })
+        (λ m ne is n among. let was = groups.own m is n among in record { within = (was.within.0, grows n was.within.1); group = old n was.within.1 ∙ was.group });
   }
-    where
-      own : (by n : ℕ) → IsAmong (now.passes by).first (now.passes by).entries n
-          → (HasGroup (core.passes by).control × (group_of (now.passes by) ≡ group_of (core.passes by))) ⊎ (group_of (now.passes by) ≡ group) → IsOwn now (with_group group log) (now.passes by) n
-      own by n among (inl old) =
-          let e : group_of (now.passes by) ≡ group_of (core.passes by) = old.1 in
-          let was = groups.own by old.0 n (subst (λ g. IsAmong g.first g.entries n) e among) in
-          record { within = (subst (λ t. t ≤ n) (sym tail) was.within.0, grows n was.within.1); group = group_old n was.within.1 ∙ was.group ∙ sym e }
-      own by n among (inr new) =
-          let a : IsAmong group.first group.entries n = subst (λ g. IsAmong g.first g.entries n) new among in
-          record { within = within_new n a; group = group_new n a ∙ sym new }
 
 -- ---- the steps
 
@@ -192,28 +167,17 @@ draw_step : (sizes : Sizes) (first : Values) (by : ℕ) (core : Core) (log : Log
     → Groups sizes (after_step sizes by Draw found core) (log_stepped sizes (core.passes by) Draw found log)
 draw_step sizes first by core log found sound groups may = go (found == (core.passes by).head) refl
   where
-    at : (is_write (core.passes by).call ≡ true) × IsSmall sizes (core.passes by) × LogHasRoom sizes (core.passes by)
-    at = subst (FactsAt sizes (core.passes by)) may.may (sound.control_facts by).at
-
     group : Group
-    group = record { call = (core.passes by).call; first = found; entries = page_count sizes (core.passes by).call }
+    group = drawn_group sizes (core.passes by) found
 
     go : (b : Bool) → (found == (core.passes by).head) ≡ b → Groups sizes (after_step sizes by Draw found core) (log_stepped sizes (core.passes by) Draw found log)
     go false e = subst (Groups sizes (after_step sizes by Draw found core)) (sym (when_false (found == (core.passes by).head) (with_group group log) log e))
         (groups_same sizes core (after_step sizes by Draw found core) log
-        (word_here core.words HEAD _ ∙ when_false (found == (core.passes by).head) (found + page_count sizes (core.passes by).call) found e ∙ sym may.is) refl groups log refl
+        (lost_head sizes by core found may e) refl groups log refl
         (kept sizes by core Draw found (λ is. absurd (clear_group (leaving (core.passes by).owned) (clear_leaving (core.passes by).owned)
         (subst HasGroup (when_false (found == (core.passes by).head) (SeizeEntry found) (leaving (core.passes by).owned) e) is)))))
     go true e = subst (Groups sizes (after_step sizes by Draw found core)) (sym (when_true (found == (core.passes by).head) (with_group group log) log e))
-        (groups_drawn sizes core (after_step sizes by Draw found core) log group groups refl (sym may.is)
-        (word_here core.words HEAD _ ∙ when_true (found == (core.passes by).head) (found + page_count sizes (core.passes by).call) found e ∙ ap (λ f. f + page_count sizes (core.passes by).call) (sym may.is))
-        sound.window.order record { write = at.0; many = refl; some = write_pages sizes (core.passes by).call at.0 }
-        ((sound.control_facts by).allowed (busy _ _ may.may refl))
-        (by_number (λ n (p : Pass). HasGroup p.control → (HasGroup (core.passes n).control × (group_of p ≡ group_of (core.passes n))) ⊎ (group_of p ≡ group)) core.passes by (changed_pass sizes by core Draw found)
-        (λ is. inr (drew e)) (λ n ne is. inl (is, refl))))
-      where
-        drew : (found == (core.passes by).head) ≡ true → group_of (changed_pass sizes by core Draw found) ≡ group
-        drew e = ap (λ b. record { call = (core.passes by).call; first = if b then found else (core.passes by).first; entries = if b then page_count sizes (core.passes by).call else (core.passes by).entries }) e
+        (groups_drawn sizes first by core log found sound groups may e)
 
 -- a pass that has drawn a group fills one of its entries, or has one still to seize
 record IsOpen (core : Core) (by : ℕ) : Type 0 where

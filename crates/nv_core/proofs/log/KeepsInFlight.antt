@@ -1,14 +1,14 @@
 -- Each event keeps the writes in flight.
-use Rattle.std.proofs.Common.{◌≡◌, ◌≢◌, ◌⊎◌, ℕ, ◌+◌, ◌-◌, ◌^◌, ◌<◌, ◌≤◌, ◌==◌, nat_lt, nat_le, ◌&&◌, not, Bool, true, false, if◌then◌else◌, List, length, inl, inr, refl, sym, ap, subst, ◌∙◌, arith}
+use Rattle.std.proofs.Common.{◌≡◌, ◌≢◌, ℕ, ◌+◌, ◌-◌, ◌^◌, ◌<◌, ◌≤◌, ◌==◌, nat_lt, nat_le, ◌&&◌, not, Bool, true, false, if◌then◌else◌, List, length, inl, inr, refl, sym, ap, subst, ◌∙◌, arith}
 use Rattle.std.proofs.lemmas.Bool.{eqb-true, eq-eqb, cases_eq, and_from, le-leb, lt-ltb}
 use Rattle.nv_plain.specs.declared.call.FileCall.{FileCall}
 use Rattle.nv_plain.specs.declared.call.FileCall.TheVariants.{Read, Write, Sync}
 use Rattle.nv_plain.specs.declared.call.Reply.{Reply}
-use Rattle.nv_core.specs.state.Words.{Sizes, Word, STOP, ORDER, HEAD, TAIL, LENGTH, DIRTY, PAGE, SIZE, STORE, ENTRY, free, HINT, was_readied, CLEANUP, ready, is_entry_of, slot_of_entry}
+use Rattle.nv_core.specs.state.Words.{Sizes, Word, STOP, ORDER, HEAD, TAIL, LENGTH, DIRTY, PAGE, SIZE, STORE, ENTRY, HINT, was_readied, CLEANUP, ready, is_entry_of, slot_of_entry}
 use Rattle.nv_core.specs.state.Values.{CallEnding, Made, Failed, Refused}
 use Rattle.nv_core.specs.state.Cleaner.{CleanerOp, MoveTail}
 use Rattle.nv_core.specs.invariant.CleanerNumbers.{IsFreed}
-use Rattle.nv_core.specs.state.Passes.{Control, Cleaning, Idle, TakePage, LoadLength, TakeSize, LoadStop, LoadOrder, VisitPage, WriteLoadHead, WriteLoadTail, DrawNumbers, TakeStore, TakeCleanup, ReadStore, SeizeEntry, CommitGroup, PledgePage, ReadyEntry, TakePlace, GrowLength, GiveSize, GivePage, GiveBack, GiveStore, SetStopAfterRead, SetStopAfterCommit, BreakEntry, Pass, IsUnseized, IsFilling, IsAmong, is_write, is_read, page_count, first_page, end_page, without, times, Searching, ReadLoadHead, LoadEntry, HoldEntry, ReadPiece, ReturnEntry, GiveCleanup, SetStopAfterPiece}
+use Rattle.nv_core.specs.state.Passes.{Control, Cleaning, Idle, TakePage, LoadLength, TakeSize, LoadStop, LoadOrder, VisitPage, WriteLoadHead, WriteLoadTail, DrawNumbers, TakeStore, TakeCleanup, ReadStore, SeizeEntry, CommitGroup, PledgePage, ReadyEntry, TakePlace, GrowLength, GiveSize, GivePage, GiveBack, GiveStore, SetStopAfterRead, SetStopAfterCommit, BreakEntry, Pass, IsFilling, IsAmong, is_write, is_read, page_count, first_page, end_page, without, times, Searching, ReadLoadHead, LoadEntry, HoldEntry, ReadPiece, ReturnEntry, GiveCleanup, SetStopAfterPiece}
 use Rattle.nv_core.specs.steps.Ops.{Op, page_at, ready_word, Load, Take, Give, Place, Stop, Draw, Seize, Pledge, Ready, Grow, Break, Split, PutBack, Join, Turn, Hint, Hold, Return, ByCleaner, moved, cleaner_move}
 use Rattle.nv_core.specs.steps.ControlSteps.{control_after, after_load, after_give, after_stop, leaving, giving, ending, ordered, copying, exceeds, scanning, after_head, after_tail, after_look, after_hold, after_return}
 use Rattle.nv_core.specs.steps.PassSteps.{begun}
@@ -17,9 +17,9 @@ use Rattle.nv_core.specs.steps.StepKinds.{MayLoad, MayTake, MayPlace, EnabledByK
 use Rattle.nv_core.specs.state.Core.{Core, changes, changed_pass, with_number, after_step, after_begin, after_work, worked, control_worked}
 use Rattle.nv_core.specs.steps.Events.{CallMayBegin}
 use Rattle.nv_core.proofs.steps.ByKind.{FoundEnabledByKind}
-use Rattle.nv_core.specs.invariant.ControlFacts.{FactsAt, HasDrawn, IsPage, IsSmall, LogHasRoom}
+use Rattle.nv_core.specs.invariant.ControlFacts.{FactsAt, HasDrawn, IsPage}
 use Rattle.nv_core.specs.invariant.Ownership.{one_if, is_among, HoldsLocks}
-use Rattle.nv_core.specs.invariant.LogWindow.{HasUnseized, InWindow, entry_word_at, WasReadied}
+use Rattle.nv_core.specs.invariant.LogWindow.{InWindow, entry_word_at, WasReadied}
 use Rattle.nv_core.specs.log.Groups.{Group, Log, group_of, with_group, log_stepped, log_worked, Groups}
 use Rattle.nv_core.specs.log.Pieces.{page_of_number}
 use Rattle.nv_core.specs.log.InFlight.{placed_stepped, IsFlying, IsWaiting, IsDrawn, InFlight}
@@ -27,11 +27,10 @@ use Rattle.nv_core.specs.invariant.Sound.{Sound}
 use Rattle.nv_core.proofs.state.Changes.{by_number, number_here, number_else, word_here, word_else, differ}
 use Rattle.nv_core.proofs.state.Choices.{if_both, not_both, when_true, when_false, leaving_both, IsGivingBack, gives_back, page_tried}
 use Rattle.nv_core.proofs.invariant.LockLaws.{only_holder}
-use Rattle.nv_core.proofs.state.PageLaws.{write_pages}
 use Rattle.nv_core.proofs.steps.WordLaws.{untouched, touches}
 use Rattle.nv_core.proofs.invariant.KeepsLocks.{ready_is}
-use Rattle.nv_core.proofs.invariant.KeepsWindow.{window_step}
-use Rattle.nv_core.proofs.log.KeepsGroups.{is_draw, group_new, group_old, which, log_group}
+use Rattle.nv_core.proofs.log.DrawLaws.{drawn_group, lost_head, won_draw}
+use Rattle.nv_core.proofs.log.KeepsGroups.{is_draw, log_group}
 use Rattle.nv_core.proofs.log.ReadiedLaws.{readied_before, readied_still, begun_before, begun_still, worked_before, worked_still}
 use Rattle.nv_core.proofs.steps.CleanerControls.{tended, tended_to, of_cleaner_worked}
 use Rattle.nv_core.proofs.steps.CleanerOps.{retires_hand}
@@ -425,12 +424,12 @@ place_flight sizes first log placed by core found reply sound flight may = go (i
         flying = placing sizes core.values (core.passes by) reply (core.passes by).control (sound.control_facts by).at may.may e
 
 -- numbers are drawn
-draw_flight : (sizes : Sizes) (first : Values) (log : Log) (placed : ℕ → Bool) (by : ℕ) (core : Core) (found : ℕ) → Sound sizes first core → Groups sizes core log → InFlight sizes log placed core → FoundEnabledByKind sizes by core Draw found
+draw_flight : (sizes : Sizes) (first : Values) (log : Log) (placed : ℕ → Bool) (by : ℕ) (core : Core) (found : ℕ) → Sound sizes first core → InFlight sizes log placed core → FoundEnabledByKind sizes by core Draw found
     → InFlight sizes (log_stepped sizes (core.passes by) Draw found log) (placed_stepped (core.passes by) Draw found placed) (after_step sizes by Draw found core)
-draw_flight sizes first log placed by core found sound groups flight may = go (found == (core.passes by).head) refl
+draw_flight sizes first log placed by core found sound flight may = go (found == (core.passes by).head) refl
   where
     group : Group
-    group = record { call = (core.passes by).call; first = found; entries = page_count sizes (core.passes by).call }
+    group = drawn_group sizes (core.passes by) found
 
     apart_here : (n : ℕ) → IsWaiting (core.passes by) n → ⊥
     apart_here n waiting = elsewhere (core.passes by).control DrawNumbers may.may refl waiting.control
@@ -448,7 +447,7 @@ draw_flight sizes first log placed by core found sound groups flight may = go (f
     go false e = subst (λ l. InFlight sizes l (placed_stepped (core.passes by) Draw found placed) (after_step sizes by Draw found core)) (sym (when_false (found == (core.passes by).head) (with_group group log) log e))
         (subst (λ p. InFlight sizes log p (after_step sizes by Draw found core)) (sym (when_false (found == (core.passes by).head) (with_number placed found false) placed e))
         (same_flight sizes first log placed by core Draw found sound flight may draw_other
-        (word_here core.words HEAD _ ∙ when_false (found == (core.passes by).head) (found + page_count sizes (core.passes by).call) found e ∙ sym may.is) (omega arith)
+        (lost_head sizes by core found may e) (omega arith)
         (λ is. absurd (lost is)) (λ is. absurd (lost is)) (λ n waiting. absurd (apart_here n waiting))))
       where
         lost : IsFlying (changed_pass sizes by core Draw found) (changed_pass sizes by core Draw found).control → ⊥
@@ -459,35 +458,7 @@ draw_flight sizes first log placed by core found sound groups flight may = go (f
         now : Core
         now = after_step sizes by Draw found core
 
-        head : (after_step sizes by Draw found core).words HEAD ≡ core.words HEAD + page_count sizes (core.passes by).call
-        head = word_here core.words HEAD _ ∙ when_true (found == (core.passes by).head) (found + page_count sizes (core.passes by).call) found e ∙ ap (λ f. f + page_count sizes (core.passes by).call) (sym may.is)
-
-        at : (is_write (core.passes by).call ≡ true) × IsSmall sizes (core.passes by) × LogHasRoom sizes (core.passes by)
-        at = subst (FactsAt sizes (core.passes by)) may.may (sound.control_facts by).at
-
-        drawn : HasDrawn sizes (core.passes by).call (page_count sizes (core.passes by).call)
-        drawn = record { write = at.0; many = refl; some = write_pages sizes (core.passes by).call at.0 }
-
-        split : (n : ℕ) → InWindow (after_step sizes by Draw found core) n → InWindow core n ⊎ IsAmong found (page_count sizes (core.passes by).call) n
-        split = which sizes core (after_step sizes by Draw found core) log group groups refl (sym may.is) head sound.window.order drawn
-
-        old : (n : ℕ) → n < core.words HEAD → (with_group group log).group n ≡ log.group n
-        old = group_old sizes core (after_step sizes by Draw found core) log group groups refl (sym may.is) head sound.window.order drawn
-
-        new : (n : ℕ) → IsAmong found (page_count sizes (core.passes by).call) n → (with_group group log).group n ≡ group
-        new = group_new sizes core (after_step sizes by Draw found core) log group groups refl (sym may.is) head sound.window.order drawn
-
-        control : (changed_pass sizes by core Draw found).control ≡ SeizeEntry found
-        control = when_true (found == (core.passes by).head) (SeizeEntry found) (leaving (core.passes by).owned) e
-
-        from : (changed_pass sizes by core Draw found).first ≡ found
-        from = when_true (found == (core.passes by).head) found (core.passes by).first e
-
-        many : (changed_pass sizes by core Draw found).entries ≡ page_count sizes (core.passes by).call
-        many = when_true (found == (core.passes by).head) (page_count sizes (core.passes by).call) (core.passes by).entries e
-
-        this : group_of (changed_pass sizes by core Draw found) ≡ group
-        this = ap (λ b. record { call = (core.passes by).call; first = if b then found else (core.passes by).first; entries = if b then page_count sizes (core.passes by).call else (core.passes by).entries }) e
+        open won_draw sizes first log by core found sound may e use {head, drawn, split, old, new, control, from, many, this, were_free}
 
         among : (n : ℕ) → IsAmong (changed_pass sizes by core Draw found).first (changed_pass sizes by core Draw found).entries n → IsAmong found (page_count sizes (core.passes by).call) n
         among n is = subst (λ g. IsAmong g.first g.entries n) this is
@@ -502,12 +473,7 @@ draw_flight sizes first log placed by core found sound groups flight may = go (f
         not_ready n is (inr freed) =
             let none = by_number (λ m (p : Pass). IsFreed p.control n → ⊥) core.passes by (changed_pass sizes by core Draw found) (subst (λ s. IsFreed s n → ⊥) (sym control) (λ z. z))
             (λ m ne of. let h = (sound.window.freed_in m n of).1 in let l = is.0 in let f = may.is in omega (arith, h, l, f)) in none freed.0 freed.1
-        not_ready n is (inl kind) =
-            let none : entry_word_at sizes core n ≡ free = (window_step sizes first by core Draw found sound may).unseized_is by n
-            (subst (λ p. HasUnseized p n) (sym (number_here core.passes by (changed_pass sizes by core Draw found)))
-            (subst (λ s. IsUnseized s (changed_pass sizes by core Draw found).first (changed_pass sizes by core Draw found).entries n) (sym control)
-            (is.0, subst (λ f. n < f + (changed_pass sizes by core Draw found).entries) (sym from) (subst (λ c. n < found + c) (sym many) is.1)))) in
-            not_both (ap was_readied (sym none) ∙ kind) refl
+        not_ready n is (inl kind) = not_both (ap was_readied (sym (were_free n is)) ∙ kind) refl
 
         on_page : (n : ℕ) → IsAmong found (page_count sizes (core.passes by).call) n → IsPage sizes (core.passes by).call (first_page sizes (core.passes by).call + (n - found))
         on_page n is = let x = is.0 in let y = is.1 in (omega arith, omega (arith, x, y))
@@ -584,7 +550,7 @@ flight_step sizes first log placed by core Stop found sound groups flight may = 
     stopped (SetStopAfterRead page dirty) failing = leaving_both (λ s. s ≡ TakePlace → ⊥) (core.passes by).owned (λ _. elsewhere _ _ refl refl) (λ _. elsewhere _ _ refl refl)
     stopped SetStopAfterCommit failing = elsewhere _ _ refl refl
     stopped control failing = absurd failing
-flight_step sizes first log placed by core Draw found sound groups flight may = draw_flight sizes first log placed by core found sound groups flight may
+flight_step sizes first log placed by core Draw found sound groups flight may = draw_flight sizes first log placed by core found sound flight may
 flight_step sizes first log placed by core (Seize next) found sound groups flight may =
     plain_flight sizes first log placed by core (Seize next) found sound flight may (not_made (Seize next) refl) refl refl refl refl may.may
     (λ is. (subst (IsFlying (core.passes by)) (sym may.may) tt, refl))

@@ -8,21 +8,19 @@ use Rattle.nv_core.specs.state.Cleaner as cleaner
 use Rattle.nv_core.specs.invariant.CleanerNumbers.{IsCleaned}
 use Rattle.nv_core.specs.log.Progress.{Progress}
 use Rattle.nv_core.specs.invariant.Loaded.{LooksSound}
-use Rattle.nv_core.specs.state.Passes.{HoldEntry, ReturnEntry, SeizeEntry, IsUnseized, IsFilling, IsAmong, is_write, page_count}
+use Rattle.nv_core.specs.state.Passes.{HoldEntry, ReturnEntry, IsUnseized, IsFilling, IsAmong}
 use Rattle.nv_core.specs.steps.Ops.{Op, page_at, ready_word, Take, Give, Draw, Seize, Ready, Break, Hold, Return, ByCleaner}
-use Rattle.nv_core.specs.steps.ControlSteps.{leaving}
 use Rattle.nv_core.specs.steps.Order.{Values, Work}
-use Rattle.nv_core.specs.state.Core.{Core, changed_pass, with_value, after_step, after_begin, after_work}
+use Rattle.nv_core.specs.state.Core.{Core, with_value, after_step, after_begin, after_work}
 use Rattle.nv_core.proofs.steps.ByKind.{FoundEnabledByKind}
-use Rattle.nv_core.specs.invariant.ControlFacts.{FactsAt, HasDrawn, IsSmall, LogHasRoom}
-use Rattle.nv_core.specs.invariant.LogWindow.{HasUnseized, InWindow, entry_word_at}
+use Rattle.nv_core.specs.invariant.ControlFacts.{FactsAt, HasDrawn}
+use Rattle.nv_core.specs.invariant.LogWindow.{InWindow, entry_word_at}
 use Rattle.nv_core.specs.log.Groups.{Group, Log, group_of, with_group, log_stepped, log_worked, HasGroup, IsOwn, Groups}
 use Rattle.nv_core.specs.log.LivePieces.{is_ready, is_cleaned}
 use Rattle.nv_core.specs.log.Leaders.{Leaders}
 use Rattle.nv_core.specs.invariant.Sound.{Sound}
-use Rattle.nv_core.proofs.state.Changes.{by_word, number_here, word_here, word_else, differ}
+use Rattle.nv_core.proofs.state.Changes.{by_word, word_here, word_else, differ}
 use Rattle.nv_core.proofs.state.Choices.{not_both, when_true, when_false}
-use Rattle.nv_core.proofs.state.PageLaws.{write_pages}
 use Rattle.nv_core.proofs.steps.WordLaws.{untouched, touches}
 use Rattle.nv_core.proofs.invariant.KeepsLocks.{ready_is, entry_is}
 use Rattle.nv_core.proofs.steps.CleanerOps.{IsAtFree, cleaner_hold_hand, cleaner_return_hand, cleans_hand, frees_hand}
@@ -30,8 +28,8 @@ use Rattle.nv_core.proofs.log.CleanerReadied.{cleaner_hold_rekind, cleaner_retur
 use Rattle.nv_core.proofs.invariant.KeepsLoaded.{tail_up}
 use Rattle.nv_core.proofs.log.Rekinded.{holds_rekind, returns_rekind}
 use Rattle.nv_core.proofs.invariant.WindowLaws.{apart_within}
-use Rattle.nv_core.proofs.invariant.KeepsWindow.{window_step}
-use Rattle.nv_core.proofs.log.KeepsGroups.{group_old, which, log_group}
+use Rattle.nv_core.proofs.log.DrawLaws.{drawn_group, lost_head, won_draw}
+use Rattle.nv_core.proofs.log.KeepsGroups.{log_group}
 
 -- whether a word is that of a cleaned entry
 abbrev is_clean : (word : ℕ) → Bool
@@ -224,41 +222,19 @@ draw_leaders : (sizes : Sizes) (first : Values) (log : Log) (by : ℕ) (core : C
 draw_leaders sizes first log by core found sound groups leaders may = go (found == (core.passes by).head) refl
   where
     group : Group
-    group = record { call = (core.passes by).call; first = found; entries = page_count sizes (core.passes by).call }
+    group = drawn_group sizes (core.passes by) found
 
     go : (b : Bool) → (found == (core.passes by).head) ≡ b → Leaders sizes (log_stepped sizes (core.passes by) Draw found log) (after_step sizes by Draw found core)
     go false e = subst (λ l. Leaders sizes l (after_step sizes by Draw found core)) (sym (when_false (found == (core.passes by).head) (with_group group log) log e))
-        (same_leaders sizes log core (after_step sizes by Draw found core) (word_here core.words HEAD _ ∙ when_false (found == (core.passes by).head) (found + page_count sizes (core.passes by).call) found e ∙ sym may.is) (omega arith) groups leaders (λ slot. refl))
+        (same_leaders sizes log core (after_step sizes by Draw found core) (lost_head sizes by core found may e) (omega arith) groups leaders (λ slot. refl))
     go true e = subst (λ l. Leaders sizes l (after_step sizes by Draw found core)) (sym (when_true (found == (core.passes by).head) (with_group group log) log e)) record {
       each = λ n within ready_ fresh. elim (split n within) [
         | inl was ↦ subst (λ g. (is_ready sizes core g.first ≡ true) ⊎ (entry_word_at sizes core g.first ≡ filling)) (sym (old n was.1)) (leaders.each n was ready_ fresh)
-        | inr new ↦ absurd (not_both ready_ (ap was_readied (none n new)))
+        | inr new ↦ absurd (not_both ready_ (ap was_readied (were_free n new)))
       ];
     }
       where
-        head : (after_step sizes by Draw found core).words HEAD ≡ core.words HEAD + page_count sizes (core.passes by).call
-        head = word_here core.words HEAD _ ∙ when_true (found == (core.passes by).head) (found + page_count sizes (core.passes by).call) found e ∙ ap (λ f. f + page_count sizes (core.passes by).call) (sym may.is)
-
-        at : (is_write (core.passes by).call ≡ true) × IsSmall sizes (core.passes by) × LogHasRoom sizes (core.passes by)
-        at = subst (FactsAt sizes (core.passes by)) may.may (sound.control_facts by).at
-
-        drawn : HasDrawn sizes (core.passes by).call (page_count sizes (core.passes by).call)
-        drawn = record { write = at.0; many = refl; some = write_pages sizes (core.passes by).call at.0 }
-
-        split : (n : ℕ) → InWindow (after_step sizes by Draw found core) n → InWindow core n ⊎ IsAmong found (page_count sizes (core.passes by).call) n
-        split = which sizes core (after_step sizes by Draw found core) log group groups refl (sym may.is) head sound.window.order drawn
-
-        old : (n : ℕ) → n < core.words HEAD → (with_group group log).group n ≡ log.group n
-        old = group_old sizes core (after_step sizes by Draw found core) log group groups refl (sym may.is) head sound.window.order drawn
-
-        none : (n : ℕ) → IsAmong found (page_count sizes (core.passes by).call) n → entry_word_at sizes core n ≡ free
-        none n is = (window_step sizes first by core Draw found sound may).unseized_is by n
-            (subst (λ p. HasUnseized p n) (sym (number_here core.passes by (changed_pass sizes by core Draw found)))
-            (subst (λ s. IsUnseized s (changed_pass sizes by core Draw found).first (changed_pass sizes by core Draw found).entries n) (sym (when_true (found == (core.passes by).head) (SeizeEntry found) (leaving (core.passes by).owned) e)) (
-              is.0,
-              subst (λ f. n < f + (changed_pass sizes by core Draw found).entries) (sym (when_true (found == (core.passes by).head) found (core.passes by).first e))
-                  (subst (λ c. n < found + c) (sym (when_true (found == (core.passes by).head) (page_count sizes (core.passes by).call) (core.passes by).entries e)) is.1),
-            )))
+        open won_draw sizes first log by core found sound may e use {split, old, were_free}
 
 pub leaders_step : (sizes : Sizes) (first : Values) (log : Log) (by : ℕ) (core : Core) (op : Op) (found : ℕ) → Sound sizes first core → Groups sizes core log → Progress sizes log core → Leaders sizes log core → FoundEnabledByKind sizes by core op found
     → Leaders sizes (log_stepped sizes (core.passes by) op found log) (after_step sizes by op found core)

@@ -12,7 +12,7 @@ use Rattle.nv_plain.specs.declared.call.FileCall.TheVariants.{Read, Write, Sync}
 use Rattle.nv_plain.specs.declared.call.Reply.{Reply}
 use Rattle.nv_core.specs.state.Words.{Sizes, Word, HEAD, TAIL, STORE, ENTRY, kind_of, free, filling, ready, cleaned, broken, index, was_readied, slot_of_entry}
 use Rattle.nv_core.specs.state.Values.{Value, Bare, APart, AStore, ABuffer, Job, CallEnding, called}
-use Rattle.nv_core.specs.state.Passes.{Control, Idle, TakePage, LoadStop, VisitPage, SeizeEntry, CommitGroup, PledgePage, ReadyEntry, TakePlace, SetStopAfterRead, SetStopAfterPiece, SetStopAfterCommit, Pass, IsAmong, IsUnseized, IsFilling, file_of, is_write, page_count, first_page, end_page}
+use Rattle.nv_core.specs.state.Passes.{Control, Idle, TakePage, LoadStop, VisitPage, SeizeEntry, CommitGroup, PledgePage, ReadyEntry, TakePlace, SetStopAfterRead, SetStopAfterPiece, SetStopAfterCommit, Pass, IsAmong, IsFilling, file_of, is_write, page_count, first_page, end_page}
 use Rattle.nv_core.specs.steps.Ops.{Op, page_at, ready_word, Load, Take, Give, Place, Stop, Draw, Seize, Pledge, Ready, Grow, Break, Turn, Hint, Hold, Return, ByCleaner, Split, PutBack, Join, moved, cleaner_move}
 use Rattle.nv_core.specs.steps.ControlSteps.{control_after, after_hold, after_return, leaving}
 use Rattle.nv_core.specs.steps.PassSteps.{added, begun}
@@ -22,8 +22,8 @@ use Rattle.nv_core.specs.state.Core.{Core, changes, changed_pass, with_value, af
 use Rattle.nv_core.specs.steps.Events.{CallMayBegin}
 use Rattle.nv_core.proofs.steps.ByKind.{FoundEnabledByKind}
 use Rattle.nv_core.specs.invariant.Numbers.{Numbers}
-use Rattle.nv_core.specs.invariant.ControlFacts.{FactsAt, HasDrawn, IsPage, IsSmall, LogHasRoom, has_call}
-use Rattle.nv_core.specs.invariant.LogWindow.{HasUnseized, InWindow, WasReadied, entry_word_at}
+use Rattle.nv_core.specs.invariant.ControlFacts.{FactsAt, HasDrawn, IsPage, has_call}
+use Rattle.nv_core.specs.invariant.LogWindow.{InWindow, WasReadied, entry_word_at}
 use Rattle.nv_core.specs.log.Groups.{Group, Log, group_of, with_group, log_stepped, Groups}
 use Rattle.nv_core.specs.log.Pieces.{page_of_number, IsReadied, Pieces}
 use Rattle.nv_core.specs.log.InFlight.{IsFlying, InFlight}
@@ -42,7 +42,7 @@ use Rattle.nv_core.proofs.invariant.KeepsWindow.{window_step}
 use Rattle.nv_core.proofs.steps.CleanerControls.{tended_to}
 use Rattle.nv_core.proofs.log.ReadiedLaws.{seized, broke, ready_fills, said_before, says_still}
 use Rattle.nv_core.proofs.log.KeepsInFlight.{not_leaving, not_ending, not_returned, not_loaded, not_taken, not_given, not_placed, not_placing, flew, elsewhere, is_place, is_made, not_made, made_number, place_other, filled_in, flying_pages, one_pass, no_reading}
-use Rattle.nv_core.proofs.log.KeepsGroups.{group_old}
+use Rattle.nv_core.proofs.log.DrawLaws.{drawn_group, lost_head, won_draw}
 use Rattle.nv_core.proofs.log.KeepsStores.{step_store, work_store, keeps_stores, called_store}
 use Rattle.nv_core.proofs.crash.CommutingLaws.{IsApartFrom, comes_first, after_both}
 use Rattle.nv_core.proofs.log.LiveLaws.{rising_same, rising_none, rising_split, rising_apart, all_apart, come_last, AllApart, pieces_after, pieces_apart, writes_apart}
@@ -631,41 +631,20 @@ place_step plain sizes first log keep placed opened by core found reply page_is 
 draw_places : (sizes : Sizes) (by : ℕ) (core : Core) (found : ℕ) → Numbers core → FoundEnabledByKind sizes by core Draw found → to_place (after_step sizes by Draw found core) ≡ to_place core
 draw_places sizes by core found numbers may = places_same core (after_step sizes by Draw found core) numbers (omega arith) (waits_step sizes by core Draw found numbers may (λ next e. absurd (not_made Draw refl next e)) refl)
 
-module _ (sizes : Sizes) (first : Values) (log : Log) (keep : ℕ → Bool) (opened : Files) (by : ℕ) (core : Core) (found : ℕ) (sound : Sound sizes first core) (groups : Groups sizes core log)
+module _ (sizes : Sizes) (first : Values) (log : Log) (keep : ℕ → Bool) (opened : Files) (by : ℕ) (core : Core) (found : ℕ) (sound : Sound sizes first core)
     (live : LiveBy sizes log keep opened core) (may : FoundEnabledByKind sizes by core Draw found) (drew : (found == (core.passes by).head) ≡ true) where
-  abbrev drawn_group : Group
-  drawn_group = record { call = (core.passes by).call; first = found; entries = page_count sizes (core.passes by).call }
+  open won_draw sizes first log by core found sound may drew use {head as drawn_head, old as old_number, were_free}
 
   abbrev drawn_core : Core
   drawn_core = after_step sizes by Draw found core
 
   abbrev drawn_log : Log
-  drawn_log = with_group drawn_group log
-
-  drawn_head : drawn_core.words HEAD ≡ core.words HEAD + page_count sizes (core.passes by).call
-  drawn_head = word_here core.words HEAD _ ∙ when_true (found == (core.passes by).head) (found + page_count sizes (core.passes by).call) found drew ∙ ap (λ f. f + page_count sizes (core.passes by).call) (sym may.is)
-
-  draw_at : (is_write (core.passes by).call ≡ true) × IsSmall sizes (core.passes by) × LogHasRoom sizes (core.passes by)
-  draw_at = subst (FactsAt sizes (core.passes by)) may.may (sound.control_facts by).at
-
-  draw_drawn : HasDrawn sizes (core.passes by).call (page_count sizes (core.passes by).call)
-  draw_drawn = record { write = draw_at.0; many = refl; some = write_pages sizes (core.passes by).call draw_at.0 }
-
-  old_number : (n : ℕ) → n < core.words HEAD → drawn_log.group n ≡ log.group n
-  old_number = group_old sizes core drawn_core log drawn_group groups refl (sym may.is) drawn_head sound.window.order draw_drawn
+  drawn_log = with_group (drawn_group sizes (core.passes by) found) log
 
   -- what was drawn isn't ready
   not_ready : (n : ℕ) → core.words HEAD ≤ n → n < core.words HEAD + page_count sizes (core.passes by).call → is_ready sizes core n ≡ false
   not_ready n low high = unless_true (is_ready sizes core n) (λ kind.
-      let none : entry_word_at sizes core n ≡ free = (window_step sizes first by core Draw found sound may).unseized_is by n
-      (subst (λ p. HasUnseized p n) (sym (number_here core.passes by (changed_pass sizes by core Draw found)))
-      (subst (λ s. IsUnseized s (changed_pass sizes by core Draw found).first (changed_pass sizes by core Draw found).entries n) (sym (when_true (found == (core.passes by).head) (SeizeEntry found) (leaving (core.passes by).owned) drew)) (
-        let f = may.is in omega (arith, low, f),
-        let f = may.is in
-            let from : (changed_pass sizes by core Draw found).first ≡ found = when_true (found == (core.passes by).head) found (core.passes by).first drew in
-            let many : (changed_pass sizes by core Draw found).entries ≡ page_count sizes (core.passes by).call = when_true (found == (core.passes by).head) (page_count sizes (core.passes by).call) (core.passes by).entries drew in
-            omega (arith, high, f, from, many),
-      ))) in
+      let none = were_free n (let f = may.is in (omega (arith, low, f), omega (arith, high, f))) in
       not_both (ap was_readied (sym none) ∙ kind) refl)
 
   -- calls of the window, where those of what was drawn are none
@@ -693,19 +672,19 @@ module _ (sizes : Sizes) (first : Values) (log : Log) (keep : ℕ → Bool) (ope
         (λ n low high. ap (λ b. call_if (b && keep n) (piece_call sizes (drawn_log.group n) n)) (ap (λ r. r && (is_ready sizes core (drawn_log.group n).first || is_cleaned sizes core n)) (not_ready n low high)))));
   }
 
-draw_step : (sizes : Sizes) (first : Values) (log : Log) (keep : ℕ → Bool) (opened : Files) (by : ℕ) (core : Core) (found : ℕ) → Sound sizes first core → Groups sizes core log → LiveBy sizes log keep opened core → FoundEnabledByKind sizes by core Draw found
+draw_step : (sizes : Sizes) (first : Values) (log : Log) (keep : ℕ → Bool) (opened : Files) (by : ℕ) (core : Core) (found : ℕ) → Sound sizes first core → LiveBy sizes log keep opened core → FoundEnabledByKind sizes by core Draw found
     → LiveBy sizes (log_stepped sizes (core.passes by) Draw found log) keep opened (after_step sizes by Draw found core)
-draw_step sizes first log keep opened by core found sound groups live may = go (found == (core.passes by).head) refl
+draw_step sizes first log keep opened by core found sound live may = go (found == (core.passes by).head) refl
   where
     group : Group
-    group = record { call = (core.passes by).call; first = found; entries = page_count sizes (core.passes by).call }
+    group = drawn_group sizes (core.passes by) found
 
     go : (b : Bool) → (found == (core.passes by).head) ≡ b → LiveBy sizes (log_stepped sizes (core.passes by) Draw found log) keep opened (after_step sizes by Draw found core)
     go true e = subst (λ l. LiveBy sizes l keep opened (after_step sizes by Draw found core)) (sym (when_true (found == (core.passes by).head) (with_group group log) log e))
-        (draw_won sizes first log keep opened by core found sound groups live may e)
+        (draw_won sizes first log keep opened by core found sound live may e)
     go false e = subst (λ l. LiveBy sizes l keep opened (after_step sizes by Draw found core)) (sym (when_false (found == (core.passes by).head) (with_group group log) log e))
         (live_kept sizes log keep opened core (after_step sizes by Draw found core)
-        (word_here core.words HEAD _ ∙ when_false (found == (core.passes by).head) (found + page_count sizes (core.passes by).call) found e ∙ sym may.is) refl
+        (lost_head sizes by core found may e) refl
         (ap calls_of (append-nil core.history)) (λ n is. refl) (draw_places sizes by core found sound.numbers may) (λ file. refl) sound.window.order live)
 
 -- ---- all steps
@@ -715,7 +694,7 @@ live_step : (sizes : Sizes) (first : Values) (log : Log) (keep : ℕ → Bool) (
     → InFlight sizes log placed core → ((n : ℕ) → InWindow core n → is_cleaned sizes core n ≡ false → keep n ≡ true) → LiveBy sizes log keep opened core → is_cleaner_step op ≡ false → FoundEnabledByKind sizes by core op found
     → LiveBy sizes (log_stepped sizes (core.passes by) op found log) keep opened (after_step sizes by op found core)
 live_step sizes first log keep placed opened by core (Place reply) found plain page_is sound groups pieces flight kept live cleaner_step may = place_step plain sizes first log keep placed opened by core found reply page_is sound groups flight live may
-live_step sizes first log keep placed opened by core Draw found plain page_is sound groups pieces flight kept live cleaner_step may = draw_step sizes first log keep opened by core found sound groups live may
+live_step sizes first log keep placed opened by core Draw found plain page_is sound groups pieces flight kept live cleaner_step may = draw_step sizes first log keep opened by core found sound live may
 live_step sizes first log keep placed opened by core (Ready next) found plain page_is sound groups pieces flight kept live cleaner_step may = elim (cases_eq next (core.passes by).first) [
   | inl leader ↦ leader_live plain sizes first log keep placed opened by core found next page_is sound groups pieces flight live may kept leader
   | inr ne ↦ follower_live plain sizes first log keep placed opened by core found next page_is sound groups pieces flight live may kept ne

@@ -1,11 +1,10 @@
 -- Each event keeps what the ENTRY words say.
 use Rattle.std.proofs.Common.{◌≡◌, ◌≢◌, ◌⊎◌, ℕ, ◌+◌, ◌<◌, ◌≤◌, ◌==◌, Bool, true, false, if◌then◌else◌, length, inl, inr, refl, sym, ap, subst, ◌∙◌, arith, ap₂, ◌-◌}
 use Rattle.std.proofs.lemmas.Bool.{eqb-true, eqb-false, cases_eq, cases_lt}
-use Rattle.std.proofs.lemmas.Nat.{mod_below}
 use Rattle.nv_plain.specs.declared.call.FileCall.{FileCall}
 use Rattle.nv_core.specs.state.Words.{Sizes, Word, HEAD, TAIL, ENTRY, kind_of, free, filling, ready, held, cleaned, broken, index, was_readied, is_entry_of, slot_of_entry}
 use Rattle.nv_core.specs.state.Values.{CallEnding, Made, Failed, Refused}
-use Rattle.nv_core.specs.state.Passes.{Control, TakePage, LoadStop, ReadStore, SeizeEntry, CommitGroup, PledgePage, ReadyEntry, TakePlace, SetStopAfterRead, SetStopAfterCommit, BreakEntry, Pass, IsUnseized, IsFilling, IsAmong, is_write, page_count, first_page, end_page, without, SetStopAfterPiece, ReadPiece, Cleaning}
+use Rattle.nv_core.specs.state.Passes.{Control, TakePage, LoadStop, ReadStore, SeizeEntry, CommitGroup, PledgePage, ReadyEntry, TakePlace, SetStopAfterRead, SetStopAfterCommit, BreakEntry, Pass, IsUnseized, IsFilling, IsAmong, page_count, first_page, end_page, without, SetStopAfterPiece, ReadPiece, Cleaning}
 use Rattle.nv_core.specs.steps.Ops.{Op, page_at, ready_word, Load, Take, Give, Place, Stop, Draw, Seize, Pledge, Ready, Grow, Break, Split, PutBack, Join, Turn, Hint, Hold, Return, ByCleaner}
 use Rattle.nv_core.specs.steps.ControlSteps.{control_after, after_stop, leaving}
 use Rattle.nv_core.specs.steps.PassSteps.{begun}
@@ -14,26 +13,24 @@ use Rattle.nv_core.specs.steps.StepKinds.{EnabledByKind}
 use Rattle.nv_core.specs.state.Core.{Core, changes, changed_pass, with_value, after_step, after_begin, after_work, worked, control_worked}
 use Rattle.nv_core.specs.steps.Events.{CallMayBegin}
 use Rattle.nv_core.proofs.steps.ByKind.{FoundEnabledByKind}
-use Rattle.nv_core.specs.invariant.ControlFacts.{FactsAt, HasDrawn, IsSmall, LogHasRoom}
+use Rattle.nv_core.specs.invariant.ControlFacts.{FactsAt, HasDrawn}
 use Rattle.nv_core.specs.state.Cleaner.{CleanEntry, FreeEntry, Clean, Free, MoveTail}
 use Rattle.nv_core.specs.state.Cleaner as cleaner
 use Rattle.nv_core.specs.invariant.CleanerNumbers.{IsFreed}
-use Rattle.nv_core.specs.invariant.Ownership.{is_among}
 use Rattle.nv_core.specs.invariant.Loaded.{LooksSound}
 use Rattle.nv_core.specs.log.Progress.{Progress}
-use Rattle.nv_core.specs.invariant.LogWindow.{HasUnseized, InWindow, entry_word_at, WasReadied}
+use Rattle.nv_core.specs.invariant.LogWindow.{InWindow, entry_word_at, WasReadied}
 use Rattle.nv_core.specs.log.Groups.{Group, Log, group_of, with_group, log_stepped, log_worked, HasGroup, IsOwn, Groups}
 use Rattle.nv_core.specs.log.Pieces.{word_of_number, IsReadied, Pieces, page_of_number}
 use Rattle.nv_core.specs.invariant.Sound.{Sound}
-use Rattle.nv_core.proofs.state.Changes.{by_number, by_word, number_here, word_here, word_else, differ}
+use Rattle.nv_core.proofs.state.Changes.{by_number, by_word, word_here, word_else, differ}
 use Rattle.nv_core.proofs.state.Choices.{if_both, when_true, when_false, not_both}
 use Rattle.nv_core.proofs.invariant.ClearLaws.{IsClear, IsPlain, clear_to, clear_leaving}
-use Rattle.nv_core.proofs.state.PageLaws.{write_pages}
 use Rattle.nv_core.proofs.steps.WordLaws.{untouched, touches}
 use Rattle.nv_core.proofs.invariant.KeepsLocks.{kind_is, ready_is, entry_is}
 use Rattle.nv_core.proofs.invariant.WindowLaws.{apart_within}
-use Rattle.nv_core.proofs.invariant.KeepsWindow.{window_step}
-use Rattle.nv_core.proofs.log.KeepsGroups.{group_old, which, log_group, among_below, groups_step}
+use Rattle.nv_core.proofs.log.DrawLaws.{draw_below, drawn_free, drawn_group, lost_head, won_draw}
+use Rattle.nv_core.proofs.log.KeepsGroups.{log_group, groups_step}
 use Rattle.nv_core.proofs.state.SlotLaws.{apart}
 use Rattle.nv_core.proofs.invariant.ControlFactLaws.{worked_control}
 use Rattle.nv_core.proofs.steps.CleanerControls.{of_cleaner_worked}
@@ -258,12 +255,12 @@ module _ (sizes : Sizes) (first : Values) (log : Log) (by : ℕ) (core : Core) (
 
 -- ---- numbers are drawn
 
-draw_step : (sizes : Sizes) (first : Values) (log : Log) (by : ℕ) (core : Core) (found : ℕ) → Sound sizes first core → Groups sizes core log → Pieces sizes log core → FoundEnabledByKind sizes by core Draw found
+draw_step : (sizes : Sizes) (first : Values) (log : Log) (by : ℕ) (core : Core) (found : ℕ) → Sound sizes first core → Pieces sizes log core → FoundEnabledByKind sizes by core Draw found
     → Said sizes (log_stepped sizes (core.passes by) Draw found log) (after_step sizes by Draw found core)
-draw_step sizes first log by core found sound groups pieces may = go (found == (core.passes by).head) refl
+draw_step sizes first log by core found sound pieces may = go (found == (core.passes by).head) refl
   where
     group : Group
-    group = record { call = (core.passes by).call; first = found; entries = page_count sizes (core.passes by).call }
+    group = drawn_group sizes (core.passes by) found
 
     none : (n : ℕ) → IsReadied (changed_pass sizes by core Draw found).control (changed_pass sizes by core Draw found).first (changed_pass sizes by core Draw found).entries n → was_readied (entry_word_at sizes core n) ≡ true
     none n is = absurd (if_both (λ s. IsReadied s (changed_pass sizes by core Draw found).first (changed_pass sizes by core Draw found).entries n → ⊥) (found == (core.passes by).head) (SeizeEntry found) (leaving (core.passes by).owned) (λ _ z. z)
@@ -271,42 +268,15 @@ draw_step sizes first log by core found sound groups pieces may = go (found == (
 
     go : (b : Bool) → (found == (core.passes by).head) ≡ b → Said sizes (log_stepped sizes (core.passes by) Draw found log) (after_step sizes by Draw found core)
     go false e = subst (λ l. Said sizes l (after_step sizes by Draw found core)) (sym (when_false (found == (core.passes by).head) (with_group group log) log e))
-        (pieces_kept sizes log core (after_step sizes by Draw found core) (back core (after_step sizes by Draw found core) (word_here core.words HEAD _ ∙ when_false (found == (core.passes by).head) (found + page_count sizes (core.passes by).call) found e ∙ sym may.is) refl)
+        (pieces_kept sizes log core (after_step sizes by Draw found core) (back core (after_step sizes by Draw found core) (lost_head sizes by core found may e) refl)
         (λ slot _. refl) (λ slot _. refl) (readied_now sizes log by core Draw found pieces none) pieces)
     go true e = subst (λ l. Said sizes l (after_step sizes by Draw found core)) (sym (when_true (found == (core.passes by).head) (with_group group log) log e)) won
       where
-        head : (after_step sizes by Draw found core).words HEAD ≡ core.words HEAD + page_count sizes (core.passes by).call
-        head = word_here core.words HEAD _ ∙ when_true (found == (core.passes by).head) (found + page_count sizes (core.passes by).call) found e ∙ ap (λ f. f + page_count sizes (core.passes by).call) (sym may.is)
-
-        at : (is_write (core.passes by).call ≡ true) × IsSmall sizes (core.passes by) × LogHasRoom sizes (core.passes by)
-        at = subst (FactsAt sizes (core.passes by)) may.may (sound.control_facts by).at
-
-        drawn : HasDrawn sizes (core.passes by).call (page_count sizes (core.passes by).call)
-        drawn = record { write = at.0; many = refl; some = write_pages sizes (core.passes by).call at.0 }
-
-        split : (n : ℕ) → InWindow (after_step sizes by Draw found core) n → InWindow core n ⊎ IsAmong found (page_count sizes (core.passes by).call) n
-        split = which sizes core (after_step sizes by Draw found core) log group groups refl (sym may.is) head sound.window.order drawn
-
-        old : (n : ℕ) → n < core.words HEAD → (with_group group log).group n ≡ log.group n
-        old = group_old sizes core (after_step sizes by Draw found core) log group groups refl (sym may.is) head sound.window.order drawn
-
-        control : (changed_pass sizes by core Draw found).control ≡ SeizeEntry found
-        control = when_true (found == (core.passes by).head) (SeizeEntry found) (leaving (core.passes by).owned) e
-
-        from : (changed_pass sizes by core Draw found).first ≡ found
-        from = when_true (found == (core.passes by).head) found (core.passes by).first e
-
-        many : (changed_pass sizes by core Draw found).entries ≡ page_count sizes (core.passes by).call
-        many = when_true (found == (core.passes by).head) (page_count sizes (core.passes by).call) (core.passes by).entries e
+        open won_draw sizes first log by core found sound may e use {split, old, were_free}
 
         -- what was drawn is free
         not_ready : (n : ℕ) → IsAmong found (page_count sizes (core.passes by).call) n → was_readied (entry_word_at sizes core n) ≡ true → ⊥
-        not_ready n is kind =
-            let none : entry_word_at sizes core n ≡ free = (window_step sizes first by core Draw found sound may).unseized_is by n
-            (subst (λ p. HasUnseized p n) (sym (number_here core.passes by (changed_pass sizes by core Draw found)))
-            (subst (λ s. IsUnseized s (changed_pass sizes by core Draw found).first (changed_pass sizes by core Draw found).entries n) (sym control)
-            (is.0, subst (λ f. n < f + (changed_pass sizes by core Draw found).entries) (sym from) (subst (λ c. n < found + c) (sym many) is.1)))) in
-            not_both (ap was_readied (sym none) ∙ kind) refl
+        not_ready n is kind = not_both (ap was_readied (sym (were_free n is)) ∙ kind) refl
 
         won : Said sizes (with_group group log) (after_step sizes by Draw found core)
         won = record {
@@ -410,7 +380,7 @@ said_step sizes first log by core Grow found sound groups pieces may = plain_ste
 said_step sizes first log by core (Turn page) found sound groups pieces may = plain_step sizes log by core (Turn page) found pieces may refl refl (λ slot. refl) (none_readied sizes core by found by (Turn page) tt may.may)
 said_step sizes first log by core (Hint buffer page) found sound groups pieces may = plain_step sizes log by core (Hint buffer page) found pieces may refl refl (λ slot. refl) (none_readied sizes core by found by (Hint buffer page) tt may.may)
 said_step sizes first log by core Stop found sound groups pieces may = plain_step sizes log by core Stop found pieces may refl refl (λ slot. refl) (λ n is. absurd (stop_readied (core.passes by) (core.passes by).control n may.may is))
-said_step sizes first log by core Draw found sound groups pieces may = draw_step sizes first log by core found sound groups pieces may
+said_step sizes first log by core Draw found sound groups pieces may = draw_step sizes first log by core found sound pieces may
 said_step sizes first log by core (Seize next) found sound groups pieces may =
     let at : HasDrawn sizes (core.passes by).call (core.passes by).entries × IsAmong (core.passes by).first (core.passes by).entries next = subst (FactsAt sizes (core.passes by)) may.may (sound.control_facts by).at in
     let old : entry_word_at sizes core next ≡ free = sound.window.unseized_is by next (subst (λ s. IsUnseized s (core.passes by).first (core.passes by).entries next) (sym may.may) (omega arith, at.1.1)) in
@@ -512,32 +482,6 @@ leaders_on sizes first log by core op found sound groups pieces progress may n w
 
 -- ---- all of it
 
--- what is drawn is free
-drawn_free : (sizes : Sizes) (first : Values) (by : ℕ) (core : Core) (found : ℕ) → Sound sizes first core → FoundEnabledByKind sizes by core Draw found → (n : ℕ) → core.words HEAD ≤ n → n < (after_step sizes by Draw found core).words HEAD → entry_word_at sizes core n ≡ free
-drawn_free sizes first by core found sound may n low high = go (found == (core.passes by).head) refl
-  where
-    at : (is_write (core.passes by).call ≡ true) × IsSmall sizes (core.passes by) × LogHasRoom sizes (core.passes by)
-    at = subst (FactsAt sizes (core.passes by)) may.may (sound.control_facts by).at
-
-    go : (b : Bool) → (found == (core.passes by).head) ≡ b → entry_word_at sizes core n ≡ free
-    go false e = absurd (let h : (after_step sizes by Draw found core).words HEAD ≡ core.words HEAD = word_here core.words HEAD _ ∙ when_false (found == (core.passes by).head) (found + page_count sizes (core.passes by).call) found e ∙ sym may.is in omega (arith, h, low, high))
-    go true e =
-        let h : (after_step sizes by Draw found core).words HEAD ≡ core.words HEAD + page_count sizes (core.passes by).call =
-        word_here core.words HEAD _ ∙ when_true (found == (core.passes by).head) (found + page_count sizes (core.passes by).call) found e ∙ ap (λ f. f + page_count sizes (core.passes by).call) (sym may.is) in
-        let is : core.words HEAD ≡ (core.passes by).head = may.is ∙ eqb-true found (core.passes by).head e in
-        let room : core.words HEAD + page_count sizes (core.passes by).call ≤ core.words TAIL + sizes.entries = let t = sound.loaded.tail by in let r = at.2 in omega (arith, is, t, r) in
-        sound.window.others (slot_of_entry sizes n) (mod_below n sizes.entries (let o = sound.window.order in omega (arith, o, room, low, high, h)))
-        (λ m within. let a = within.0 in let b = within.1 in apart sizes.entries m n (omega (arith, b, low)) (omega (arith, a, room, high, h)))
-
--- below HEAD the log stays
-log_below : (sizes : Sizes) (first : Values) (by : ℕ) (core : Core) (found : ℕ) (log : Log) → Sound sizes first core → Groups sizes core log → FoundEnabledByKind sizes by core Draw found → (n : ℕ) → n < core.words HEAD
-    → (log_stepped sizes (core.passes by) Draw found log).group n ≡ log.group n
-log_below sizes first by core found log sound groups may n less = if_both (λ (l : Log). l.group n ≡ log.group n) (found == (core.passes by).head) (with_group group log) log
-    (λ e. let i = may.is in when_false (is_among found (found + page_count sizes (core.passes by).call) n) group (log.group n) (among_below found (found + page_count sizes (core.passes by).call) n (omega (arith, i, less)))) (λ _. refl)
-  where
-    group : Group
-    group = record { call = (core.passes by).call; first = found; entries = page_count sizes (core.passes by).call }
-
 pub pieces_step : (sizes : Sizes) (first : Values) (log : Log) (by : ℕ) (core : Core) (op : Op) (found : ℕ) → Sound sizes first core → Groups sizes core log → Pieces sizes log core → Progress sizes log core → FoundEnabledByKind sizes by core op found
     → Pieces sizes (log_stepped sizes (core.passes by) op found log) (after_step sizes by op found core)
 pieces_step sizes first log by core op found sound groups pieces progress may =
@@ -561,11 +505,11 @@ pieces_step sizes first log by core op found sound groups pieces progress may =
     ]
       where
         new_free : (n : ℕ) → core.words HEAD ≤ n → n < (after_step sizes by Draw found core).words HEAD → entry_word_at sizes core n ≡ free
-        new_free n low high = drawn_free sizes first by core found sound may n low high
+        new_free n low high = drawn_free sizes first log by core found sound may n low high
 
     leaders : (op : Op) → FoundEnabledByKind sizes by core op found → Groups sizes (after_step sizes by op found core) (log_stepped sizes (core.passes by) op found log)
         → (n : ℕ) → InWindow (after_step sizes by op found core) n → kind_of (entry_word_at sizes (after_step sizes by op found core) n) ≡ cleaned → WasReadied sizes (after_step sizes by op found core) ((log_stepped sizes (core.passes by) op found log).group n).first
-    leaders Draw may now = drawn (log_stepped sizes (core.passes by) Draw found log) now may (log_below sizes first by core found log sound groups may)
+    leaders Draw may now = drawn (log_stepped sizes (core.passes by) Draw found log) now may (draw_below sizes log by core found may)
     leaders (ByCleaner (MoveTail tail)) may now = still (ByCleaner (MoveTail tail)) may
         (λ n is. let low = is.0 in let high = is.1 in let l = (retires_hand sizes first core sound by found tail may).low in let t : (after_step sizes by (ByCleaner (MoveTail tail)) found core).words TAIL ≡ tail = word_here core.words TAIL tail in (omega (arith, low, l, t), high)) now
     leaders (ByCleaner cleaner_op) may now = still (ByCleaner cleaner_op) may (untouched_back (ByCleaner cleaner_op) may refl refl) now

@@ -2,7 +2,6 @@
 use Rattle.std.proofs.Common.{◌≡◌, ◌≢◌, ℕ, ◌+◌, ◌-◌, ◌<◌, ◌≤◌, ◌==◌, nat_lt, nat_le, ◌&&◌, Bool, true, false, if◌then◌else◌, List, [], ◌∷◌, length, Option, inl, inr, refl, sym, ap, ap₂, subst, ◌∙◌, arith}
 use Rattle.std.specs.Prelude.{Some, None}
 use Rattle.std.proofs.lemmas.Bool.{cases_lt, eqb-true, ltb-true, lt-ltb, leb-true, le-leb}
-use Rattle.std.proofs.lemmas.Nat.{mod_below}
 use Rattle.nv_plain.specs.declared.call.FileCall.{FileCall}
 use Rattle.nv_header.specs.HeaderSteps.{tail_steps}
 use Rattle.nv_core.specs.state.Words.{Sizes, Word, STOP, HEAD, TAIL, CLEANUP, ENTRY, kind_of, page_of, was_readied, free, filling, ready, held, cleaned, broken, is_entry_of, is_lock, slot_of_entry}
@@ -12,7 +11,7 @@ use Rattle.nv_core.specs.state.Cleaner as cleaner
 use Rattle.nv_core.specs.steps.CleanerSteps.{next_cleaner_op, cleaner_word, after_cleaner_op, after_cleaner_work, withdrawing, discharging, retreating, each_next, rising_files, group_page, group_file, holds_store, new_batch}
 use Rattle.nv_core.specs.invariant.CleanerOwnership.{of_cleaner_cleanup}
 use Rattle.nv_core.specs.invariant.CleanerNumbers.{IsCleaned}
-use Rattle.nv_core.specs.state.Passes.{Control, Idle, TakePage, LoadStop, Cleaning, Pass, SeizeEntry, CommitGroup, PledgePage, ReadyEntry, TakePlace, BreakEntry, ReadStore, ReadPiece, SetStopAfterRead, SetStopAfterPiece, SetStopAfterCommit, IsUnseized, IsFilling, IsAmong, times, page_count, first_page, end_page, is_write, without}
+use Rattle.nv_core.specs.state.Passes.{Control, Idle, TakePage, LoadStop, Cleaning, Pass, SeizeEntry, CommitGroup, PledgePage, ReadyEntry, TakePlace, BreakEntry, ReadStore, ReadPiece, SetStopAfterRead, SetStopAfterPiece, SetStopAfterCommit, IsUnseized, IsFilling, IsAmong, times, page_count, first_page, end_page, without}
 use Rattle.nv_core.specs.steps.Ops.{Op, Load, Take, Give, Place, Stop, Draw, Seize, Pledge, Ready, Grow, Break, Hold, Return, Turn, Hint, ByCleaner, Split, PutBack, Join, cleaner_move, moved, ready_word, page_at}
 use Rattle.nv_core.specs.steps.ControlSteps.{control_after, after_stop, after_by_cleaner, after_hold, after_return, leaving, scanning}
 use Rattle.nv_core.specs.steps.PassSteps.{begun}
@@ -20,7 +19,7 @@ use Rattle.nv_core.specs.steps.Order.{Values, Work, CallEnabled, CallDue, Cleane
 use Rattle.nv_core.specs.steps.StepKinds.{CleanerEnabled, EnabledByKind}
 use Rattle.nv_core.specs.state.Core.{Core, with_value, changes, changed_pass, after_step, after_begin, after_work, worked, control_worked}
 use Rattle.nv_core.proofs.steps.ByKind.{FoundEnabledByKind}
-use Rattle.nv_core.specs.invariant.ControlFacts.{FactsAt, CleanerFactsAt, HasDrawn, IsSmall, LogHasRoom}
+use Rattle.nv_core.specs.invariant.ControlFacts.{FactsAt, CleanerFactsAt, HasDrawn}
 use Rattle.nv_core.specs.invariant.Ownership.{HoldsLocks}
 use Rattle.nv_core.specs.invariant.Loaded.{LooksSound}
 use Rattle.nv_core.specs.invariant.LogWindow.{InWindow, entry_word_at}
@@ -32,11 +31,10 @@ use Rattle.nv_core.proofs.state.Changes.{by_number, word_here, word_else, differ
 use Rattle.nv_core.proofs.state.Choices.{if_both, when_true, when_false, not_both, leaving_both}
 use Rattle.nv_core.proofs.invariant.ClearLaws.{IsBare, bare_to, bare_scanning}
 use Rattle.nv_core.proofs.invariant.LockLaws.{only_holder}
-use Rattle.nv_core.proofs.state.PageLaws.{write_pages}
-use Rattle.nv_core.proofs.state.SlotLaws.{apart}
 use Rattle.nv_core.proofs.steps.WordLaws.{touches, untouched}
 use Rattle.nv_core.proofs.invariant.KeepsLocks.{readying_next, entry_is, ready_was, held_was, kind_is}
-use Rattle.nv_core.proofs.log.KeepsGroups.{group_old, group_new, log_group}
+use Rattle.nv_core.proofs.log.DrawLaws.{drawn_free, drawn_group, lost_head, won_draw}
+use Rattle.nv_core.proofs.log.KeepsGroups.{log_group}
 use Rattle.nv_core.proofs.steps.CleanerControls.{tended}
 use Rattle.nv_core.proofs.log.CleanerProgress.{AtBatch, At, all_at, from_all, stop_loaded, same_at, looked_on, batch_on, entry_head, entry_cleaned, entry_looked, entry_way, entry_at_other, kind_kept, turned, leaves, retreats, goes_next}
 use Rattle.nv_core.proofs.log.CleanerGoes.{IsSweeping, tail_loaded_sweeping, one_cleaner, holds_cleanup, IsQuietly, quiet_on}
@@ -424,10 +422,7 @@ module _ (sizes : Sizes) (first : Values) (by : ℕ) (core : Core) (found : ℕ)
       count = page_count sizes (core.passes by).call
 
       group : Group
-      group = record { call = (core.passes by).call; first = found; entries = page_count sizes (core.passes by).call }
-
-      at : (is_write (core.passes by).call ≡ true) × IsSmall sizes (core.passes by) × LogHasRoom sizes (core.passes by)
-      at = subst (FactsAt sizes (core.passes by)) may.may (sound.control_facts by).at
+      group = drawn_group sizes (core.passes by) found
 
       here : (next : Log) → At sizes next (now_of Draw) (changed_pass sizes by core Draw found).control
       here next = call_at sizes next (now_of Draw) (changed_pass sizes by core Draw found).control (step_call sizes core.values (core.passes by) Draw found (λ f. f) may.may)
@@ -435,37 +430,21 @@ module _ (sizes : Sizes) (first : Values) (by : ℕ) (core : Core) (found : ℕ)
       go : (b : Bool) → (found == (core.passes by).head) ≡ b → Progress sizes (log_stepped sizes (core.passes by) Draw found log) (now_of Draw)
       go false e = subst (λ l. Progress sizes l (now_of Draw)) (sym (when_false (found == (core.passes by).head) (with_group group log) log e))
           (keeps Draw log (here log) (λ n ne old. same_at sizes log log core (now_of Draw) refl
-          (word_here core.words HEAD _ ∙ when_false (found == (core.passes by).head) (found + page_count sizes (core.passes by).call) found e ∙ sym may.is) (λ one. one) (λ slot. refl) refl (core.passes n).control old))
+          (lost_head sizes by core found may e) (λ one. one) (λ slot. refl) refl (core.passes n).control old))
       go true e = subst (λ l. Progress sizes l (now_of Draw)) (sym (when_true (found == (core.passes by).head) (with_group group log) log e))
           (keeps Draw (with_group group log) (here (with_group group log)) (λ n ne old. others n (core.passes n).control old))
         where
-          head : (now_of Draw).words HEAD ≡ core.words HEAD + page_count sizes (core.passes by).call
-          head = word_here core.words HEAD _ ∙ when_true (found == (core.passes by).head) (found + page_count sizes (core.passes by).call) found e ∙ ap (λ f. f + page_count sizes (core.passes by).call) (sym may.is)
-
-          drawn : HasDrawn sizes (core.passes by).call (page_count sizes (core.passes by).call)
-          drawn = record { write = at.0; many = refl; some = write_pages sizes (core.passes by).call at.0 }
-
-          old_group : (n : ℕ) → n < core.words HEAD → (with_group group log).group n ≡ log.group n
-          old_group = group_old sizes core (now_of Draw) log group groups refl (sym may.is) head sound.window.order drawn
+          open won_draw sizes first log by core found sound may e use {head, old as older, new}
 
           lead : core.words HEAD < (now_of Draw).words HEAD → ((with_group group log).group (core.words HEAD)).first ≡ core.words HEAD
-          lead less = ap (λ g. g.first) (group_new sizes core (now_of Draw) log group groups refl (sym may.is) head sound.window.order drawn (core.words HEAD)
-              (let i = may.is in omega (arith, i), let i = may.is in omega (arith, i, less, head))) ∙ sym may.is
-
-          -- what is drawn is free
-          new_free : (n : ℕ) → core.words HEAD ≤ n → n < (now_of Draw).words HEAD → entry_word_at sizes core n ≡ free
-          new_free n low high =
-              let is : core.words HEAD ≡ (core.passes by).head = may.is ∙ eqb-true found (core.passes by).head e in
-              let room : core.words HEAD + page_count sizes (core.passes by).call ≤ core.words TAIL + sizes.entries = let t = sound.loaded.tail by in let r = at.2 in omega (arith, is, t, r) in
-              sound.window.others (slot_of_entry sizes n) (mod_below n sizes.entries (let o = sound.window.order in omega (arith, o, room, low, high, head)))
-              (λ m within. let a = within.0 in let b = within.1 in apart sizes.entries m n (omega (arith, b, low)) (omega (arith, a, room, high, head)))
+          lead less = ap (λ g. g.first) (new (core.words HEAD) (let i = may.is in (omega (arith, i), omega (arith, i, less, head)))) ∙ sym may.is
 
           others : (n : ℕ) (control : Control) → At sizes log core control → At sizes (with_group group log) (now_of Draw) control
-          others n (Cleaning batch inner) old = batch_on sizes log (with_group group log) core (now_of Draw) refl (omega (arith, head)) (λ one. one) old_group lead batch inner
-              (λ tail_loaded i less looked. looked_on sizes log (with_group group log) core (now_of Draw) refl (omega (arith, head)) (λ one. one) old_group lead batch inner inner i looked.readied refl looked.kind looked)
+          others n (Cleaning batch inner) old = batch_on sizes log (with_group group log) core (now_of Draw) refl (omega (arith, head)) (λ one. one) older lead batch inner
+              (λ tail_loaded i less looked. looked_on sizes log (with_group group log) core (now_of Draw) refl (omega (arith, head)) (λ one. one) older lead batch inner inner i looked.readied refl looked.kind looked)
               (λ m within kind. elim (cases_lt m (core.words HEAD)) [
                 | inl before ↦ ((within.0, before), kind)
-                | inr after ↦ absurd (let z = new_free m after within.1 in let k = ap kind_of z in let c : kind_of (entry_word_at sizes core m) ≡ cleaned = kind in omega (arith, k, c))
+                | inr after ↦ absurd (let z = drawn_free sizes first log by core found sound may m after within.1 in let k = ap kind_of z in let c : kind_of (entry_word_at sizes core m) ≡ cleaned = kind in omega (arith, k, c))
               ]) old
           others n control old = tt
 

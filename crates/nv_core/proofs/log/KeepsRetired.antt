@@ -1,7 +1,7 @@
 -- Each event keeps what is written back, synced and retired.
-use Rattle.std.proofs.Common.{◌≡◌, ◌≢◌, ◌⊎◌, ℕ, suc, ◌+◌, ◌-◌, ◌<◌, ◌≤◌, ◌==◌, nat_lt, nat_le, Bool, true, false, if◌then◌else◌, length, inl, inr, refl, sym, ap, subst, ◌∙◌, arith}
+use Rattle.std.proofs.Common.{◌≡◌, ◌≢◌, ◌⊎◌, ℕ, suc, ◌+◌, ◌-◌, ◌<◌, ◌≤◌, ◌==◌, Bool, true, false, length, inl, inr, refl, sym, ap, subst, ◌∙◌, arith}
 use Rattle.std.specs.Prelude.{Some, None}
-use Rattle.std.proofs.lemmas.Bool.{cases_eq, cases_lt, and_parts, and_from, leb-true, le-leb, lt-ltb}
+use Rattle.std.proofs.lemmas.Bool.{cases_eq, cases_lt}
 use Rattle.nv_plain.specs.declared.call.FileCall.{FileCall}
 use Rattle.nv_plain.specs.Calls.{files_after}
 use Rattle.nv_store.specs.Store.{Store, IsQuietStore}
@@ -20,7 +20,6 @@ use Rattle.nv_core.specs.state.Core.{Core, changes, changed_pass, with_value, af
 use Rattle.nv_core.specs.steps.Events.{CallMayBegin}
 use Rattle.nv_core.proofs.steps.ByKind.{FoundEnabledByKind}
 use Rattle.nv_core.specs.invariant.ControlFacts.{FactsAt, HasDrawn}
-use Rattle.nv_core.specs.invariant.Ownership.{is_among}
 use Rattle.nv_core.specs.invariant.LogWindow.{InWindow, entry_word_at}
 use Rattle.nv_core.specs.content.StorePages.{store_of_value}
 use Rattle.nv_core.specs.log.Groups.{Group, Log, with_group, log_stepped, Groups}
@@ -32,7 +31,7 @@ use Rattle.nv_core.specs.invariant.Rooms.{IsMoving}
 use Rattle.nv_core.specs.log.Retiring.{IsWrittenBack, IsSynced, TailsAt, IsDone, Retired}
 use Rattle.nv_core.specs.invariant.Sound.{Sound}
 use Rattle.nv_core.proofs.state.Changes.{by_number, by_word, number_here, number_else, word_here, word_else}
-use Rattle.nv_core.proofs.state.Choices.{if_both, when_true, when_false, unless_true}
+use Rattle.nv_core.proofs.state.Choices.{if_both, when_true}
 use Rattle.nv_core.proofs.steps.WordLaws.{untouched}
 use Rattle.nv_core.proofs.steps.AtCall.{IsAtCall, at_call, to_call}
 use Rattle.nv_core.proofs.steps.CleanerOps.{cleaner_hold_hand, cleaner_return_hand, cleans_hand, frees_hand, retires_hand}
@@ -44,6 +43,7 @@ use Rattle.nv_core.proofs.invariant.KeepsLocks.{entry_is}
 use Rattle.nv_core.proofs.log.KeepsStores.{step_store}
 use Rattle.nv_core.proofs.log.KeepsLive.{stores_same}
 use Rattle.nv_core.proofs.invariant.WindowLaws.{apart_within}
+use Rattle.nv_core.proofs.log.DrawLaws.{draw_below, drawn_group, lost_head, won_draw}
 
 -- a number that is written back is one of the group at hand
 module _ (sizes : Sizes) (first : Values) (core : Core) (sound : Sound sizes first core) where
@@ -147,30 +147,22 @@ module _ (sizes : Sizes) (first : Values) (tails : Tails) (log : Log) (by : ℕ)
   head_rises : (op : Op) → FoundEnabledByKind sizes by core op found → Rises op
   head_rises Draw may = go (found == (core.passes by).head) refl
     where
-      group : Group
-      group = record { call = (core.passes by).call; first = found; entries = page_count sizes (core.passes by).call }
-
       go : (b : Bool) → (found == (core.passes by).head) ≡ b → Rises Draw
-      go false e = head_same Draw (word_here core.words HEAD (if found == (core.passes by).head then found + page_count sizes (core.passes by).call else found) ∙ when_false (found == (core.passes by).head) (found + page_count sizes (core.passes by).call) found e ∙ sym may.is)
-      go true e =
-          let head : (after_step sizes by Draw found core).words HEAD ≡ found + page_count sizes (core.passes by).call =
-          word_here core.words HEAD (if found == (core.passes by).head then found + page_count sizes (core.passes by).call else found) ∙ when_true (found == (core.passes by).head) (found + page_count sizes (core.passes by).call) found e in
-          let is = may.is in (
-            omega (arith, head, is),
-            λ less. ap (λ l. (l.group (core.words HEAD)).first) (when_true (found == (core.passes by).head) (with_group group log) log e)
-                ∙ ap (λ (g : Group). g.first) (when_true (is_among found (found + page_count sizes (core.passes by).call) (core.words HEAD)) group (log.group (core.words HEAD))
-                (and_from (nat_le found (core.words HEAD)) (nat_lt (core.words HEAD) (found + page_count sizes (core.passes by).call)) (le-leb found (core.words HEAD) (omega (arith, is))) (lt-ltb (core.words HEAD) (found + page_count sizes (core.passes by).call) (omega (arith, is, less, head)))))
-                ∙ sym is,
-          )
+      go false e = head_same Draw (lost_head sizes by core found may e)
+      go true e = (
+        omega (arith, head),
+        λ less. let is = may.is in
+            ap (λ l. (l.group (core.words HEAD)).first) (when_true (found == (core.passes by).head) (with_group (drawn_group sizes (core.passes by) found) log) log e)
+            ∙ ap (λ (g : Group). g.first) (new (core.words HEAD) (omega (arith, is), omega (arith, is, less, head)))
+            ∙ sym is,
+      )
+        where
+          open won_draw sizes first log by core found sound may e use {head, new}
   head_rises (ByCleaner cleaner_op) may = head_same (ByCleaner cleaner_op) (untouched sizes by core (ByCleaner cleaner_op) found may HEAD refl)
   head_rises op may = head_same op (untouched sizes by core op found may HEAD refl)
 
   group_stays : (op : Op) → FoundEnabledByKind sizes by core op found → (n : ℕ) → n < core.words HEAD → (log_stepped sizes (core.passes by) op found log).group n ≡ log.group n
-  group_stays Draw may n less = if_both (λ (l : Log). l.group n ≡ log.group n) (found == (core.passes by).head) (with_group record { call = (core.passes by).call; first = found; entries = page_count sizes (core.passes by).call } log) log
-      (λ _. when_false (is_among found (found + page_count sizes (core.passes by).call) n) (record { call = (core.passes by).call; first = found; entries = page_count sizes (core.passes by).call }) (log.group n)
-      (unless_true (is_among found (found + page_count sizes (core.passes by).call) n)
-      (λ so. let low = leb-true found n (and_parts (nat_le found n) (nat_lt n (found + page_count sizes (core.passes by).call)) so).0 in let is = may.is in omega (arith, low, is, less))))
-      (λ _. refl)
+  group_stays Draw may n less = draw_below sizes log by core found may n less
   group_stays op may n less = refl
 
   -- ---- what is done

@@ -16,7 +16,7 @@ use Rattle.nv_core.specs.steps.StepKinds.{MayPlace}
 use Rattle.nv_core.specs.state.Core.{Core, changes, changed_pass, with_value, with_number, after_step, after_begin, after_work, worked, control_worked}
 use Rattle.nv_core.specs.steps.Events.{CallMayBegin}
 use Rattle.nv_core.proofs.steps.ByKind.{StepEnabledByKind, FoundEnabledByKind}
-use Rattle.nv_core.specs.invariant.ControlFacts.{FactsAt, HasDrawn, IsPage, IsSmall, LogHasRoom}
+use Rattle.nv_core.specs.invariant.ControlFacts.{FactsAt, HasDrawn, IsPage}
 use Rattle.nv_core.specs.invariant.Ownership.{HoldsLocks}
 use Rattle.nv_core.specs.invariant.EntryWords.{IsEntryWord, SaysFree, SaysFilling, SaysBroken, SaysReadied}
 use Rattle.nv_core.specs.invariant.FaultedWrites.{HasChecked, victim_held}
@@ -29,7 +29,6 @@ use Rattle.nv_core.specs.invariant.Sound.{Sound}
 use Rattle.nv_core.proofs.state.Changes.{by_number, number_here, number_else, word_here, word_else, differ}
 use Rattle.nv_core.proofs.state.Choices.{if_both, not_both, when_true, when_false}
 use Rattle.nv_core.proofs.invariant.ClearLaws.{IsClear, clear_to, clear_leaving}
-use Rattle.nv_core.proofs.state.PageLaws.{write_pages}
 use Rattle.nv_core.proofs.steps.WordLaws.{untouched, touches}
 use Rattle.nv_core.proofs.steps.CleanerControls.{of_cleaner_worked}
 use Rattle.nv_core.proofs.steps.CleanerOps.{frees_hand, retires_hand}
@@ -37,9 +36,9 @@ use Rattle.nv_core.proofs.log.CleanerReadied.{cleaner_hold_rekind, cleaner_retur
 use Rattle.nv_core.proofs.log.ReadiedLaws.{readied_still, begun_still, worked_still}
 use Rattle.nv_core.proofs.invariant.KeepsLocks.{readied_is, ready_is}
 use Rattle.nv_core.proofs.invariant.KeepsLoaded.{holds_page, held_by_one}
-use Rattle.nv_core.proofs.invariant.KeepsWindow.{window_step}
 use Rattle.nv_core.proofs.log.KeepsInFlight.{no_reading}
-use Rattle.nv_core.proofs.log.KeepsGroups.{group_new, group_old, which, log_group}
+use Rattle.nv_core.proofs.log.DrawLaws.{drawn_group, lost_head, won_draw}
+use Rattle.nv_core.proofs.log.KeepsGroups.{log_group}
 use Rattle.nv_core.proofs.invariant.WindowLaws.{apart_within}
 use Rattle.nv_core.proofs.log.Rekinded.{IsRekinded, holds_rekind, returns_rekind, rekind_broken}
 
@@ -268,51 +267,21 @@ draw_unready : (sizes : Sizes) (first : Values) (log : Log) (placed : ℕ → Bo
 draw_unready sizes first log placed by core found sound groups unready may = go (found == (core.passes by).head) refl
   where
     group : Group
-    group = record { call = (core.passes by).call; first = found; entries = page_count sizes (core.passes by).call }
+    group = drawn_group sizes (core.passes by) found
 
     go : (b : Bool) → (found == (core.passes by).head) ≡ b → Unready sizes (log_stepped sizes (core.passes by) Draw found log) (placed_stepped (core.passes by) Draw found placed) (after_step sizes by Draw found core)
     go false e = subst (λ l. Unready sizes l (placed_stepped (core.passes by) Draw found placed) (after_step sizes by Draw found core)) (sym (when_false (found == (core.passes by).head) (with_group group log) log e))
         (subst (λ p. Unready sizes log p (after_step sizes by Draw found core)) (sym (when_false (found == (core.passes by).head) (with_number placed found false) placed e))
         (plain_unready sizes first log placed by core Draw found sound unready may placed
-        (word_here core.words HEAD _ ∙ when_false (found == (core.passes by).head) (found + page_count sizes (core.passes by).call) found e ∙ sym may.is)
+        (lost_head sizes by core found may e)
         (omega arith) (λ slot. untouched sizes by core Draw found may (ENTRY slot) refl) (λ n is none. none)))
     go true e = subst (λ l. Unready sizes l (placed_stepped (core.passes by) Draw found placed) (after_step sizes by Draw found core)) (sym (when_true (found == (core.passes by).head) (with_group group log) log e))
         (subst (λ p. Unready sizes (with_group group log) p (after_step sizes by Draw found core)) (sym (when_true (found == (core.passes by).head) (with_number placed found false) placed e)) won)
       where
-        head : (after_step sizes by Draw found core).words HEAD ≡ core.words HEAD + page_count sizes (core.passes by).call
-        head = word_here core.words HEAD _ ∙ when_true (found == (core.passes by).head) (found + page_count sizes (core.passes by).call) found e ∙ ap (λ f. f + page_count sizes (core.passes by).call) (sym may.is)
-
-        at : (is_write (core.passes by).call ≡ true) × IsSmall sizes (core.passes by) × LogHasRoom sizes (core.passes by)
-        at = subst (FactsAt sizes (core.passes by)) may.may (sound.control_facts by).at
-
-        drawn : HasDrawn sizes (core.passes by).call (page_count sizes (core.passes by).call)
-        drawn = record { write = at.0; many = refl; some = write_pages sizes (core.passes by).call at.0 }
-
-        split : (n : ℕ) → InWindow (after_step sizes by Draw found core) n → InWindow core n ⊎ IsAmong found (page_count sizes (core.passes by).call) n
-        split = which sizes core (after_step sizes by Draw found core) log group groups refl (sym may.is) head sound.window.order drawn
-
-        old : (n : ℕ) → n < core.words HEAD → (with_group group log).group n ≡ log.group n
-        old = group_old sizes core (after_step sizes by Draw found core) log group groups refl (sym may.is) head sound.window.order drawn
-
-        new : (n : ℕ) → IsAmong found (page_count sizes (core.passes by).call) n → (with_group group log).group n ≡ group
-        new = group_new sizes core (after_step sizes by Draw found core) log group groups refl (sym may.is) head sound.window.order drawn
-
-        control : (changed_pass sizes by core Draw found).control ≡ SeizeEntry found
-        control = when_true (found == (core.passes by).head) (SeizeEntry found) (leaving (core.passes by).owned) e
-
-        from : (changed_pass sizes by core Draw found).first ≡ found
-        from = when_true (found == (core.passes by).head) found (core.passes by).first e
-
-        many : (changed_pass sizes by core Draw found).entries ≡ page_count sizes (core.passes by).call
-        many = when_true (found == (core.passes by).head) (page_count sizes (core.passes by).call) (core.passes by).entries e
+        open won_draw sizes first log by core found sound may e use {head, split, old, new, were_free}
 
         not_broken : (n : ℕ) → IsAmong found (page_count sizes (core.passes by).call) n → entry_word_at sizes core n ≡ broken → ⊥
-        not_broken n is word =
-            let none : entry_word_at sizes core n ≡ free = (window_step sizes first by core Draw found sound may).unseized_is by n
-            (subst (λ p. HasUnseized p n) (sym (number_here core.passes by (changed_pass sizes by core Draw found)))
-            (subst (λ s. IsUnseized s (changed_pass sizes by core Draw found).first (changed_pass sizes by core Draw found).entries n) (sym control)
-            (is.0, subst (λ f. n < f + (changed_pass sizes by core Draw found).entries) (sym from) (subst (λ c. n < found + c) (sym many) is.1)))) in
-            omega (arith, none, word)
+        not_broken n is word = let none = were_free n is in omega (arith, none, word)
 
         was : (n : ℕ) → InWindow core n → IsUnready sizes (with_group group log) (after_step sizes by Draw found core) n → IsUnready sizes log core n
         was n before is = none_readied sizes log core n before (sym (ap (λ g. g.first) (old n before.1)) ∙ is.leads)

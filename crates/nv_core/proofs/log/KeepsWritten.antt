@@ -28,7 +28,7 @@ use Rattle.nv_core.specs.steps.StepKinds.{EnabledByKind}
 use Rattle.nv_core.specs.state.Core.{Core, changes, changed_pass, with_value, with_number, after_step, after_begin, after_work, worked, control_worked, values_worked}
 use Rattle.nv_core.specs.steps.Events.{CallMayBegin}
 use Rattle.nv_core.proofs.steps.ByKind.{FoundEnabledByKind}
-use Rattle.nv_core.specs.invariant.ControlFacts.{FactsAt, HasDrawn, IsSmall, LogHasRoom}
+use Rattle.nv_core.specs.invariant.ControlFacts.{FactsAt, HasDrawn}
 use Rattle.nv_core.specs.invariant.LogWindow.{HasUnseized, Fills, InWindow, WasReadied, entry_word_at}
 use Rattle.nv_core.specs.log.Groups.{Group, Log, group_of, with_group, log_stepped, log_worked, calls_after, HasGroup, IsGrouped, IsOwn, Groups}
 use Rattle.nv_core.specs.log.Written.{IsPart, AreParts, CommitsNone, IsWritten, commit_length, HasCalls, IsBlankEntry, Written}
@@ -40,7 +40,6 @@ use Rattle.nv_core.proofs.state.Changes.{by_number, by_word, number_here, number
 use Rattle.nv_core.proofs.state.Choices.{if_both, not_both, when_true, when_false, busy}
 use Rattle.nv_core.proofs.invariant.ClearLaws.{IsClear, IsPlain, clear_to, clear_leaving}
 use Rattle.nv_core.proofs.invariant.LockLaws.{only_holder}
-use Rattle.nv_core.proofs.state.PageLaws.{write_pages}
 use Rattle.nv_core.proofs.steps.WordLaws.{untouched, touches}
 use Rattle.nv_core.proofs.invariant.OwnershipSteps.{few_entries, apart_in}
 use Rattle.nv_core.proofs.steps.CleanerControls.{of_cleaner_worked}
@@ -51,8 +50,8 @@ use Rattle.nv_core.specs.log.LogLaws.{LogLaws}
 use Rattle.nv_core.proofs.log.FreedParts.{group_blank}
 use Rattle.nv_core.proofs.invariant.KeepsLocks.{ready_is}
 use Rattle.nv_core.proofs.invariant.WindowLaws.{apart_within}
-use Rattle.nv_core.proofs.invariant.KeepsWindow.{window_step}
-use Rattle.nv_core.proofs.log.KeepsGroups.{is_draw, group_new, group_old, which}
+use Rattle.nv_core.proofs.log.DrawLaws.{drawn_group, lost_head, won_draw}
+use Rattle.nv_core.proofs.log.KeepsGroups.{is_draw}
 use Rattle.nv_core.proofs.log.RowParts.{row_within}
 use Rattle.nv_core.proofs.log.WrittenLaws.{part_now, part_stepped, part_worked, part_called, value_called, value_not_called, steps_of, written_same, written_more, written_later, blank_later, told_on}
 use Rattle.nv_core.proofs.log.Rekinded.{IsRekinded, holds_rekind, returns_rekind}
@@ -587,52 +586,22 @@ none_written sizes values tail (Write file at bytes) first blank_quiet page_is b
 module _ (sizes : Sizes) (first : Values) (tail : ℕ) (log : Log) (by : ℕ) (core : Core) (found : ℕ) (blank_quiet : BlankIsQuiet) (page_is : IsPageSize sizes.page)
     (sound : Sound sizes first core) (groups : Groups sizes core log) (written : Written sizes tail log core)
     (may : FoundEnabledByKind sizes by core Draw found) (drew : (found == (core.passes by).head) ≡ true) where
+  open won_draw sizes first log by core found sound may drew use {head as new_head, at as at_draw, drawn as is_drawn, split, old as old_group, new as this_group, control as new_control, from as new_first, were_free as new_free}
+
   abbrev new_group : Group
-  new_group = record { call = (core.passes by).call; first = found; entries = page_count sizes (core.passes by).call }
+  new_group = drawn_group sizes (core.passes by) found
 
   abbrev new_core : Core
   new_core = after_step sizes by Draw found core
 
-  new_head : new_core.words HEAD ≡ core.words HEAD + page_count sizes (core.passes by).call
-  new_head = word_here core.words HEAD _ ∙ when_true (found == (core.passes by).head) (found + page_count sizes (core.passes by).call) found drew ∙ ap (λ f. f + page_count sizes (core.passes by).call) (sym may.is)
-
-  -- where the pass that drew stands
-  new_control : (changed_pass sizes by core Draw found).control ≡ SeizeEntry found
-  new_control = when_true (found == (core.passes by).head) (SeizeEntry found) (leaving (core.passes by).owned) drew
-
-  new_first : (changed_pass sizes by core Draw found).first ≡ found
-  new_first = when_true (found == (core.passes by).head) found (core.passes by).first drew
-
-  new_entries : (changed_pass sizes by core Draw found).entries ≡ page_count sizes (core.passes by).call
-  new_entries = when_true (found == (core.passes by).head) (page_count sizes (core.passes by).call) (core.passes by).entries drew
-
-  -- the slots of what was drawn are free
-  new_free : (n : ℕ) → IsAmong found (page_count sizes (core.passes by).call) n → entry_word_at sizes core n ≡ free
-  new_free n is = (window_step sizes first by core Draw found sound may).unseized_is by n
-      (subst (λ p. HasUnseized p n) (sym (number_here core.passes by (changed_pass sizes by core Draw found)))
-      (subst (λ s. IsUnseized s (changed_pass sizes by core Draw found).first (changed_pass sizes by core Draw found).entries n) (sym new_control)
-      (is.0, subst (λ f. n < f + (changed_pass sizes by core Draw found).entries) (sym new_first) (subst (λ c. n < found + c) (sym new_entries) is.1))))
-
   abbrev drawn_log : Log
   drawn_log = with_group new_group log
-
-  at_draw : (is_write (core.passes by).call ≡ true) × IsSmall sizes (core.passes by) × LogHasRoom sizes (core.passes by)
-  at_draw = subst (FactsAt sizes (core.passes by)) may.may (sound.control_facts by).at
 
   allowed : IsAllowed sizes (core.passes by).call
   allowed = (sound.control_facts by).allowed (busy _ _ may.may refl)
 
   some_drawn : 1 ≤ page_count sizes (core.passes by).call
-  some_drawn = write_pages sizes (core.passes by).call at_draw.0
-
-  is_drawn : HasDrawn sizes (core.passes by).call (page_count sizes (core.passes by).call)
-  is_drawn = record { write = at_draw.0; many = refl; some = some_drawn }
-
-  old_group : (n : ℕ) → n < core.words HEAD → drawn_log.group n ≡ log.group n
-  old_group = group_old sizes core new_core log new_group groups refl (sym may.is) new_head sound.window.order is_drawn
-
-  this_group : (n : ℕ) → IsAmong found (page_count sizes (core.passes by).call) n → drawn_log.group n ≡ new_group
-  this_group = group_new sizes core new_core log new_group groups refl (sym may.is) new_head sound.window.order is_drawn
+  some_drawn = is_drawn.some
 
   old_calls : (n : ℕ) → n < core.words HEAD → drawn_log.calls n ≡ log.calls n
   old_calls n less = number_else log.calls found 0 n (λ e. let f = may.is in omega (arith, e, f, less))
@@ -641,9 +610,6 @@ module _ (sizes : Sizes) (first : Values) (tail : ℕ) (log : Log) (by : ℕ) (c
   drawn_written = none_written sizes core.values tail (core.passes by).call found blank_quiet page_is allowed.bytes at_draw.0 some_drawn
       (λ i less. written.free (slot_of_entry sizes (found + i)) (mod_below (found + i) sizes.entries (let b = allowed.short in let s = some_drawn in omega (arith, b, s)))
       (new_free (found + i) (omega arith, omega (arith, less))))
-
-  split : (n : ℕ) → InWindow new_core n → InWindow core n ⊎ IsAmong found (page_count sizes (core.passes by).call) n
-  split = which sizes core new_core log new_group groups refl (sym may.is) new_head sound.window.order is_drawn
 
   draw_groups : (n : ℕ) → InWindow new_core n → (drawn_log.group n).first ≡ n → IsWritten sizes core.values tail (drawn_log.group n).call n (drawn_log.calls n)
   draw_groups n is leads = elim (split n is) [
@@ -696,12 +662,12 @@ draw_step laws sizes first tails log by core found page_is sound groups retired 
   where
     go : (b : Bool) → (found == (core.passes by).head) ≡ b → Written sizes tails.least (log_stepped sizes (core.passes by) Draw found log) (after_step sizes by Draw found core)
     go true e = subst (λ l. Written sizes tails.least l (after_step sizes by Draw found core))
-        (sym (when_true (found == (core.passes by).head) (with_group record { call = (core.passes by).call; first = found; entries = page_count sizes (core.passes by).call } log) log e))
+        (sym (when_true (found == (core.passes by).head) (with_group (drawn_group sizes (core.passes by) found) log) log e))
         (draw_won sizes first tails.least log by core found laws.blank page_is sound groups written may e)
     go false e = subst (λ l. Written sizes tails.least l (after_step sizes by Draw found core))
-        (sym (when_false (found == (core.passes by).head) (with_group record { call = (core.passes by).call; first = found; entries = page_count sizes (core.passes by).call } log) log e))
+        (sym (when_false (found == (core.passes by).head) (with_group (drawn_group sizes (core.passes by) found) log) log e))
         (any_step laws sizes first tails log by core found sound groups retired written Draw may
-        (word_here core.words HEAD _ ∙ when_false (found == (core.passes by).head) (found + page_count sizes (core.passes by).call) found e ∙ sym may.is) (omega arith) (λ slot less is. inl is)
+        (lost_head sizes by core found may e) (omega arith) (λ slot less is. inl is)
         (subst (HasCalls sizes log (changed_pass sizes by core Draw found)) (sym (when_false (found == (core.passes by).head) (SeizeEntry found) (leaving (core.passes by).owned) e))
         (clear_calls sizes log (changed_pass sizes by core Draw found) (leaving (core.passes by).owned) (clear_leaving (core.passes by).owned))))
 
