@@ -77,67 +77,6 @@ impl Marks {
     }
 }
 
-// A step whose slot goes home: it comes to the front first.
-fn go<E: StepSpec, L: Lines, B: Backing>(
-    board: &Board<L, B>,
-    pass: &mut Pass<L, B>,
-    place: usize,
-    change: Change,
-    slot: usize,
-    marks: Marks,
-) -> u64
-    requires board { IsOf board.now pass.old }
-    requires next { (next : PreconditionAt pass.old E.opens E.op place (changed change)) × E.said next.works }
-    requires marks { marks_of E.opens E.op ≡ marks }
-    requires head { IsFromHead marks change (pass_of pass.old.view).head }
-    requires moves { (found : ℕ) → shift_of pass.old.view.opened.sizes (move_of pass.old.view.opened.sizes E.op found) ≡ Out slot }
-    ensures board { IsOf board.now pass.new }
-    ensures stepped { (stepped : Postcondition pass.old E.opens E.op result pass.new) × E.said stepped.works }
-{
-    laws_of_the_core();
-    // A field is used, so that what keeps the pass is known before its slots turn.
-    let _ = &pass.number;
-    pass.bring(slot);
-    let found = act::<E, Slot<L, B>>(&board.table.shared, &mut pass.seat, place, change);
-    let (drawn, lost) = (pass.drawn, pass.lost);
-    pass.drawn = marks.drawn(change, found, drawn, lost);
-    pass.lost = marks.lost(drawn, lost);
-    pass.held.rotate_left(1);
-    pass.held.pop();
-    found
-}
-
-// Another step: where a slot comes, it is the first then.
-fn come<E: StepSpec, L: Lines, B: Backing>(
-    board: &Board<L, B>,
-    pass: &mut Pass<L, B>,
-    place: usize,
-    change: Change,
-    moves: Moves,
-    marks: Marks,
-) -> u64
-    requires board { IsOf board.now pass.old }
-    requires next { (next : PreconditionAt pass.old E.opens E.op place (changed change)) × E.said next.works }
-    requires marks { marks_of E.opens E.op ≡ marks }
-    requires head { IsFromHead marks change (pass_of pass.old.view).head }
-    requires moves { (found : ℕ) → shift_of pass.old.view.opened.sizes (move_of pass.old.view.opened.sizes E.op found) ≡ shift_said moves found }
-    requires stays { (slot : ℕ) → moves ≢ Goes slot }
-    ensures board { IsOf board.now pass.new }
-    ensures stepped { (stepped : Postcondition pass.old E.opens E.op result pass.new) × E.said stepped.works }
-{
-    laws_of_the_core();
-    let found = act::<E, Slot<L, B>>(&board.table.shared, &mut pass.seat, place, change);
-    let (drawn, lost) = (pass.drawn, pass.lost);
-    pass.drawn = marks.drawn(change, found, drawn, lost);
-    pass.lost = marks.lost(drawn, lost);
-    if let Some(slot) = moves.coming(found) {
-        let len = pass.held.len();
-        pass.held.push_reserved(slot);
-        pass.held.rotate_left(len);
-    }
-    found
-}
-
 /// One step of a kind, on the word at a place, which moves a slot or none, and marks what its pass has drawn.
 pub fn step<E: StepSpec, L: Lines, B: Backing>(
     board: &Board<L, B>,
@@ -155,8 +94,31 @@ pub fn step<E: StepSpec, L: Lines, B: Backing>(
     ensures board { IsOf board.now pass.new }
     ensures stepped { (stepped : Postcondition pass.old E.opens E.op result pass.new) × E.said stepped.works }
 {
+    laws_of_the_core();
     match moves {
-        Moves::Goes(slot) => go::<E, L, B>(board, pass, place, change, slot, marks),
-        _ => come::<E, L, B>(board, pass, place, change, moves, marks),
+        Moves::Goes(slot) => {
+            // A field is used, so that what keeps the pass is known before its slots turn.
+            let _ = &pass.number;
+            pass.bring(slot);
+            let found = act::<E, Slot<L, B>>(&board.table.shared, &mut pass.seat, place, change);
+            let (drawn, lost) = (pass.drawn, pass.lost);
+            pass.drawn = marks.drawn(change, found, drawn, lost);
+            pass.lost = marks.lost(drawn, lost);
+            pass.held.rotate_left(1);
+            pass.held.pop();
+            found
+        }
+        _ => {
+            let found = act::<E, Slot<L, B>>(&board.table.shared, &mut pass.seat, place, change);
+            let (drawn, lost) = (pass.drawn, pass.lost);
+            pass.drawn = marks.drawn(change, found, drawn, lost);
+            pass.lost = marks.lost(drawn, lost);
+            if let Some(slot) = moves.coming(found) {
+                let len = pass.held.len();
+                pass.held.push_reserved(slot);
+                pass.held.rotate_left(len);
+            }
+            found
+        }
     }
 }
