@@ -9,10 +9,13 @@ use Rattle.nv_store.specs.Steps.{StoreHistory}
 use Rattle.nv_entry.specs.Checks.{SaysBounds}
 use Rattle.nv_recover.specs.Emptying.{CommitsNoneFrom}
 use Rattle.nv_recover.specs.Groups.{IsLeastBad}
+use Rattle.nv_recover.specs.Recovering.{AreKept}
 use Rattle.nv_recover.specs.declared.error.RecoverError.TheVariants.{BadEntry}
 use Rattle.nv_recover.proofs.Present.{if_err_any}
 use Rattle.nv_recover.proofs.RoomLaws.{slots_some, parts_slots, parts_still, lines_same}
 use Rattle.nv_recover.proofs.StandLaws.{both_rows, alike_still, stand_on, stand_last, unfit_read, unfit_found}
+use Rattle.nv_recover.proofs.recovering.recover_parts.Given.{Over}
+use Rattle.nv_recover.proofs.recovering.recover_parts.Goals.{After-empty_log}
 use Rattle.nv_recover.proofs.recovering.recover_parts.Goals as goal
 
 pub read_log-requires-clause-lines : goal.read_log-requires-clause-lines
@@ -101,8 +104,10 @@ empty_log-requires-clause-none g c =
     let None : List lines.PartHistory → Type 0 = λ row. RowTells row (λ told. CommitsNoneFrom c.in_ok-groups.found.next (row_words told)) in
     subst None (sym (c.replay.ensures.read.histories ∙ c.read_log.ensures.read.histories)) c.in_ok-groups.ensures.none
 
-pub returns-in_err-empty_log-clause-kept : goal.returns-in_err-empty_log-clause-kept
-returns-in_err-empty_log-clause-kept g c =
+-- what emptying it leaves, however that ends
+kept : (g : Over) (c : After-empty_log g)
+    → AreKept g.L.Lines.history g.L.Lines.room g.L.Lines.device g.B.Backing.history g.B.Backing.device (1 + c.args.bounds.now.entries) c.args.parts.now c.args.stores.now c.empty_log.new.parts c.replay.new.stores
+kept g c =
     let bounds = c.args.bounds.now in
     let first : List lines.PartHistory = map g.L.Lines.history c.args.parts.now in
     let last : List lines.PartHistory = map g.L.Lines.history c.empty_log.new.parts in
@@ -121,22 +126,8 @@ returns-in_err-empty_log-clause-kept g c =
       stores = c.replay.ensures.devices;
     }
 
+pub returns-in_err-empty_log-clause-kept : goal.returns-in_err-empty_log-clause-kept
+returns-in_err-empty_log-clause-kept g c = kept g (goal.at.returns-in_err-empty_log-clause-kept g c).After-empty_log
+
 pub returns-clause-kept : goal.returns-clause-kept
-returns-clause-kept g c =
-    let bounds = c.args.bounds.now in
-    let first : List lines.PartHistory = map g.L.Lines.history c.args.parts.now in
-    let last : List lines.PartHistory = map g.L.Lines.history c.empty_log.new.parts in
-    let old : List StoreHistory = map g.B.Backing.history c.args.stores.now in
-    let new : List StoreHistory = map g.B.Backing.history c.replay.new.stores in
-    let read = only_read_more c.read_log.ensures.read c.replay.ensures.read in
-    record {
-      moments =
-          stand_last bounds.page bounds.entries c.args.names.now bounds.tail first (map g.L.Lines.history c.read_log.new.parts)
-          (map g.L.Lines.history c.replay.new.parts) last old new c.in_ok-groups.found c.read_log.ensures.read.histories c.replay.ensures.read.histories
-          c.requires.names c.requires.quiet c.replay.ensures.moments c.in_ok-replay.ensures.done c.in_ok-groups.ensures.found c.empty_log.ensures.moments;
-      unfit = unfit_found first old c.in_ok-groups.groups.items (both_rows last new) c.in_ok-groups.ensures.groups;
-      further = c.empty_log.ensures.further ∙ ap (drop (1 + bounds.entries)) read.histories;
-      lines = c.empty_log.ensures.lines ∙ lines_same g.L.Lines.room bounds.page bounds.entries c.args.parts.now c.replay.new.parts read.rooms;
-      devices = c.empty_log.ensures.devices ∙ read.devices;
-      stores = c.replay.ensures.devices;
-    }
+returns-clause-kept g c = kept g (goal.at.returns-clause-kept g c).After-empty_log
