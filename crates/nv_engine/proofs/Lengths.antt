@@ -9,7 +9,7 @@ use Rattle.nv_store.specs.Steps.{StoreHistory}
 use Rattle.nv_store.specs.Store.{Store}
 use Rattle.nv_recover.specs.Standing.{files_of}
 use Rattle.nv_engine.specs.Laid.{LaidPiece, with_laid_piece, laid}
-use Rattle.nv_engine.proofs.States.{length_now}
+use Rattle.nv_store.proofs.RowReads.{length_now}
 
 pub laid_more : (files : Files) (pieces : List LaidPiece) (piece : LaidPiece) → laid files (pieces ++ piece ∷ []) ≡ with_laid_piece (laid files pieces) piece
 laid_more files pieces piece = fold_push with_laid_piece files pieces piece

@@ -7,19 +7,7 @@ use Rattle.nv_pmem.specs.Rows.{RowStep, row_after, row_grown}
 use Rattle.nv_pmem.specs.RowStates.{IsNow, AreNow}
 use Rattle.nv_pmem.specs.Runs.{run, grown}
 use Rattle.nv_pmem.specs.Steps.{LineStep, PartHistory, after_line_step}
-
--- each device of a row has one
-pub now_at : {S : Type 0} (row : List (List S)) (states : List S) (i : ℕ) (none : S) → AreNow row states → i < length row → IsNow (slice_index_or row i []) (slice_index_or states i none)
-now_at [] states i none are inside = absurd (omega arith)
-now_at (history ∷ row) [] i none are inside = absurd are
-now_at (history ∷ row) (now ∷ states) zero none are inside = are.0
-now_at (history ∷ row) (now ∷ states) (suc i) none are inside = now_at row states i none are.1 (omega arith)
-
-pub length_now : {S : Type 0} (row : List (List S)) (states : List S) → AreNow row states → length states ≡ length row
-length_now [] [] are = refl
-length_now [] (now ∷ states) are = absurd are
-length_now (history ∷ row) [] are = absurd are
-length_now (history ∷ row) (now ∷ states) are = ap suc (length_now row states are.1)
+use Rattle.nv_store.proofs.RowReads.{now_at, length_now}
 
 -- ---- after steps
 

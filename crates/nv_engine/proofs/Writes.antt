@@ -23,7 +23,8 @@ use Rattle.nv_engine.specs.Written.{write_steps, next_steps, IsNext}
 use Rattle.nv_engine.specs.declared.log.Log.{Log}
 use Rattle.nv_engine.proofs.Cuts.{all_entries-push}
 use Rattle.nv_engine.proofs.Slots.{parts_count, slot_roomy}
-use Rattle.nv_engine.proofs.States.{length_now, part_now}
+use Rattle.nv_engine.proofs.States.{part_now}
+use Rattle.nv_store.proofs.RowReads.{length_now}
 use Rattle.nv_engine.proofs.WrittenSlots.{adds_at_most_one, adds_one, end_quiet}
 
 -- what an answer that is no error says

@@ -1,16 +1,10 @@
--- Rows of devices: one of them was read, and the present states of all.
-use Rattle.std.proofs.Common.{◌≡◌, ℕ, ◌<◌, List, [], ◌∷◌, length, map, sum_by, get_or, slice_index_or, slice_set, zero, suc, refl, ap, ◌∙◌, arith}
-use Rattle.std.proofs.Math.Seq.{map-set_same}
-use Rattle.std.proofs.lemmas.List.Sums.{sum_by-set}
-use Rattle.nv_pmem.specs.RowStates.{IsNow, AreNow}
-
--- what is the same of one device is the same of the row
-pub same_in_row : {X Y : Type 0} (f : X → Y) (row : List X) (i : ℕ) (was new d : X) → was ≡ get_or row i d → f new ≡ f was → map f (slice_set row i new) ≡ map f row
-same_in_row f row i was new d is same = map-set_same f row i new d (same ∙ ap f is)
-
--- and so is the sum over it
-pub same_sum_in_row : {X : Type 0} (f : X → ℕ) (row : List X) (i : ℕ) (was new d : X) → i < length row → was ≡ get_or row i d → f new ≡ f was → sum_by f (slice_set row i new) ≡ sum_by f row
-same_sum_in_row f row i was new d inside is same = omega (arith, sum_by-set f row i new d inside, same, ap f is)
+-- Rows of devices: the present states of all, and what a store of a row shows.
+use Rattle.std.proofs.Common.{◌≡◌, ℕ, ◌<◌, List, [], ◌∷◌, length, map, get_or, slice_index_or, zero, suc, refl, sym, ap, ◌∙◌, subst, arith}
+use Rattle.std.proofs.lemmas.List.{length-map, get_or-map}
+use Rattle.nv_pmem.specs.Moments.{Tells}
+use Rattle.nv_pmem.specs.RowStates.{IsNow, AreNow, tells_at}
+use Rattle.nv_store.specs.Steps.{StoreHistory}
+use Rattle.nv_store.specs.Store.{Store, quiet_store}
 
 -- each device of a row that tells has a present state
 pub now_at : {S : Type 0} (row : List (List S)) (states : List S) (i : ℕ) (none : S) → AreNow row states → i < length row → IsNow (slice_index_or row i []) (slice_index_or states i none)
@@ -24,3 +18,22 @@ length_now [] [] are = refl
 length_now [] (now ∷ states) are = absurd are
 length_now (history ∷ row) [] are = absurd are
 length_now (history ∷ row) (now ∷ states) are = ap suc (length_now row states are.1)
+
+-- the bytes that the stores show
+abbrev pub all_seen : List Store → List (List ℕ)
+all_seen = map (λ (store : Store). store.seen)
+
+pub length_seen : {X : Type 0} (history : X → StoreHistory) (stores : List X) (now : List Store) → AreNow (map history stores) now → length (all_seen now) ≡ length stores
+length_seen history stores now are = length-map now (λ (store : Store). store.seen) ∙ length_now (map history stores) now are ∙ length-map stores history
+
+-- what a store tells of the bytes that it shows is so of its own of all, where no store's history has changed meanwhile
+pub shown_at : {X : Type 0} (history : X → StoreHistory) (first stores : List X) (i : ℕ) (d : X) (now : List Store) (P : List ℕ → Type 0) → map history stores ≡ map history first → AreNow (map history first) now → i < length stores
+    → Tells (history (get_or stores i d)) (λ store. P store.seen) → P (get_or (all_seen now) i [])
+shown_at history first stores i d now P same are inside tells =
+    let none = quiet_store [] in
+    let Are : List StoreHistory → Type 0 = λ row. AreNow row now in
+    let still : AreNow (map history stores) now = subst Are (sym same) are in
+    let there : i < length now = omega (arith, length_now (map history stores) now still, length-map stores history) in
+    let Is : StoreHistory → Type 0 = λ one. IsNow one (slice_index_or now i none) in
+    let one = subst Is (get_or-map history stores i d [] inside) (now_at (map history stores) now i none still (omega (arith, length-map stores history))) in
+    subst P (sym (get_or-map (λ (store : Store). store.seen) now i none [] there)) (tells_at (history (get_or stores i d)) (λ store. P store.seen) (slice_index_or now i none) one tells)

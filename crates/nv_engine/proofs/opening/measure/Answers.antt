@@ -1,77 +1,61 @@
 -- Each store has the length that it answers, and none is changed.
-use Rattle.std.proofs.Common.{◌≡◌, ◌<◌, List, [], ◌∷◌, ◌++◌, length, map, take, slice_index_or, get_or, sym, ap, ◌∙◌, subst, arith}
-use Rattle.std.proofs.lemmas.List.{length-map, get_or-map, take_more, take_all, map_push}
-use Rattle.nv_pmem.specs.RowStates.{IsNow, tells_at}
+use Rattle.std.proofs.Common.{◌≡◌, ℕ, List, [], ◌∷◌, ◌++◌, length, map, take, get_or, slice_set, sym, ap, ◌∙◌, arith}
+use Rattle.std.proofs.lemmas.List.{take_more, take_all, map_push}
 use Rattle.nv_pmem.proofs.OneOfRow.{same_in_row, same_sum_in_row}
-use Rattle.nv_store.specs.Steps.{StoreHistory}
-use Rattle.nv_store.specs.Store.{Store, quiet_store}
-use Rattle.nv_engine.proofs.States.{now_at, length_now}
+use Rattle.nv_store.proofs.RowReads.{all_seen, length_seen, shown_at}
+use Rattle.nv_engine.proofs.opening.measure.Given.{Over}
+use Rattle.nv_engine.proofs.opening.measure.Goals.{After-len}
 use Rattle.nv_engine.proofs.opening.measure.Goals as goal
 
-pub returns-in_err-len-clause-histories : goal.returns-in_err-len-clause-histories
-returns-in_err-len-clause-histories g c =
+-- what asking a store for its length leaves of all stores
+histories : (g : Over) (c : After-len g) → map g.B.Backing.history (slice_set c.loop-store.stores c.loop-store.store-index c.len.new.self) ≡ map g.B.Backing.history c.args.stores.now
+histories g c =
     same_in_row g.B.Backing.history c.loop-store.stores c.loop-store.store-index c.store-item.result c.len.new.self c.store-item.result c.store-item.is
     (c.len.ensures.history ∙ ap g.B.Backing.history (sym c.store-item.is))
     ∙ c.loop-store.invariant.histories
+
+disks : (g : Over) (c : After-len g) → map g.B.Backing.device (slice_set c.loop-store.stores c.loop-store.store-index c.len.new.self) ≡ map g.B.Backing.device c.args.stores.now
+disks g c =
+    same_in_row g.B.Backing.device c.loop-store.stores c.loop-store.store-index c.store-item.result c.len.new.self c.store-item.result c.store-item.is
+    (c.len.ensures.device ∙ ap g.B.Backing.device (sym c.store-item.is))
+    ∙ c.loop-store.invariant.disks
+
+pub returns-in_err-len-clause-histories : goal.returns-in_err-len-clause-histories
+returns-in_err-len-clause-histories g c = histories g (goal.at.returns-in_err-len-clause-histories g c).After-len
 
 pub returns-in_err-len-clause-disks : goal.returns-in_err-len-clause-disks
-returns-in_err-len-clause-disks g c =
-    same_in_row g.B.Backing.device c.loop-store.stores c.loop-store.store-index c.store-item.result c.len.new.self c.store-item.result c.store-item.is
-    (c.len.ensures.device ∙ ap g.B.Backing.device (sym c.store-item.is))
-    ∙ c.loop-store.invariant.disks
+returns-in_err-len-clause-disks g c = disks g (goal.at.returns-in_err-len-clause-disks g c).After-len
 
 pub returns-in_err-push-clause-histories : goal.returns-in_err-push-clause-histories
-returns-in_err-push-clause-histories g c =
-    same_in_row g.B.Backing.history c.loop-store.stores c.loop-store.store-index c.store-item.result c.len.new.self c.store-item.result c.store-item.is
-    (c.len.ensures.history ∙ ap g.B.Backing.history (sym c.store-item.is))
-    ∙ c.loop-store.invariant.histories
+returns-in_err-push-clause-histories g c = histories g (goal.at.returns-in_err-push-clause-histories g c).After-len
 
 pub returns-in_err-push-clause-disks : goal.returns-in_err-push-clause-disks
-returns-in_err-push-clause-disks g c =
-    same_in_row g.B.Backing.device c.loop-store.stores c.loop-store.store-index c.store-item.result c.len.new.self c.store-item.result c.store-item.is
-    (c.len.ensures.device ∙ ap g.B.Backing.device (sym c.store-item.is))
-    ∙ c.loop-store.invariant.disks
+returns-in_err-push-clause-disks g c = disks g (goal.at.returns-in_err-push-clause-disks g c).After-len
 
 pub loop-store-preserved : goal.loop-store-preserved
 loop-store-preserved g c =
-    let stores = c.loop-store.stores in
     let i = c.loop-store.store-index in
     let item = c.store-item.result in
-    let inside : i < length stores = omega arith in
-    let row : List StoreHistory = map g.B.Backing.history c.args.stores.now in
+    let after = (goal.at.loop-store-preserved g c).After-len in
     record {
-      histories =
-          same_in_row g.B.Backing.history stores i item c.len.new.self item c.store-item.is (c.len.ensures.history ∙ ap g.B.Backing.history (sym c.store-item.is))
-          ∙ c.loop-store.invariant.histories;
-      disks =
-          same_in_row g.B.Backing.device stores i item c.len.new.self item c.store-item.is (c.len.ensures.device ∙ ap g.B.Backing.device (sym c.store-item.is))
-          ∙ c.loop-store.invariant.disks;
+      histories = histories g after;
+      disks = disks g after;
       faults =
-          same_sum_in_row g.B.Backing.fault_count stores i item c.len.new.self item inside c.store-item.is (c.in_ok-len.ensures.cause ∙ ap g.B.Backing.fault_count (sym c.store-item.is))
+          same_sum_in_row g.B.Backing.fault_count c.loop-store.stores i item c.len.new.self item (omega arith) c.store-item.is (c.in_ok-len.ensures.cause ∙ ap g.B.Backing.fault_count (sym c.store-item.is))
           ∙ c.loop-store.invariant.faults;
       count = omega (arith, c.loop-store.invariant.count, c.in_ok-push.ensures.items, c.in_ok-push.ensures.len);
       lengths = λ now are.
-          let none = quiet_store [] in
-          let long : i < length row = omega (arith, length-map c.args.stores.now g.B.Backing.history) in
-          let there : i < length now = omega (arith, length_now row now are) in
-          let Is : StoreHistory → Type 0 = λ history. IsNow history (slice_index_or now i none) in
-          let here : slice_index_or row i [] ≡ g.B.Backing.history (get_or stores i item) =
-          ap (λ (these : List StoreHistory). slice_index_or these i []) (sym c.loop-store.invariant.histories) ∙ get_or-map g.B.Backing.history stores i item [] inside in
-          let len = tells_at (g.B.Backing.history (get_or stores i item)) (λ store. c.in_ok-len.field-0 ≡ length store.seen) (slice_index_or now i none)
-          (subst Is here (now_at row now i none are long)) c.in_ok-len.ensures.len in
-          let seen = map (λ (store : Store). store.seen) now in
-          let size = λ (bytes : List _). length bytes in
+          let seen = all_seen now in
+          let size = λ (bytes : List ℕ). length bytes in
+          let len = shown_at g.B.Backing.history c.args.stores.now c.loop-store.stores i item now (λ bytes. c.in_ok-len.field-0 ≡ length bytes) c.loop-store.invariant.histories are (omega arith) c.in_ok-len.ensures.len in
           c.in_ok-push.ensures.items
           ∙ ap (λ these. these ++ c.in_ok-len.field-0 ∷ []) (c.loop-store.invariant.lengths now are)
-          ∙ ap (λ n. map size (take i seen) ++ n ∷ []) (len ∙ ap size (sym (get_or-map (λ (store : Store). store.seen) now i none [] there)))
+          ∙ ap (λ n. map size (take i seen) ++ n ∷ []) len
           ∙ sym (map_push size (take i seen) (get_or seen i []))
-          ∙ ap (map size) (sym (take_more seen i [] (omega (arith, length-map now (λ (store : Store). store.seen)))));
+          ∙ ap (map size) (sym (take_more seen i [] (omega (arith, length_seen g.B.Backing.history c.args.stores.now now are))));
     }
 
 pub returns-clause-lengths : goal.returns-clause-lengths
 returns-clause-lengths g c = λ now are.
-    let seen = map (λ (store : Store). store.seen) now in
-    let row : List StoreHistory = map g.B.Backing.history c.args.stores.now in
     c.loop-store.invariant.lengths now are
-    ∙ ap (map (λ bytes. length bytes)) (take_all c.loop-store.store-index seen
-    (omega (arith, length-map now (λ (store : Store). store.seen), length_now row now are, length-map c.args.stores.now g.B.Backing.history)))
+    ∙ ap (map (λ bytes. length bytes)) (take_all c.loop-store.store-index (all_seen now) (omega (arith, length_seen g.B.Backing.history c.args.stores.now now are)))

@@ -10,7 +10,7 @@ use Rattle.nv_store.specs.Steps.{StoreHistory}
 use Rattle.nv_store.specs.Store.{Store, quiet_store}
 use Rattle.nv_engine.specs.Overlaid.{overlaid}
 use Rattle.nv_engine.specs.Windows.{window_of}
-use Rattle.nv_engine.proofs.States.{now_at, length_now}
+use Rattle.nv_store.proofs.RowReads.{now_at, length_now}
 use Rattle.nv_engine.proofs.WindowLemmas.{window_of_pread}
 use Rattle.nv_engine.proofs.reading.fill.Goals as goal
 

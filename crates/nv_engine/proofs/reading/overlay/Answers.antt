@@ -12,7 +12,7 @@ use Rattle.nv_engine.specs.Windows.{window_of, HoldsPieceOf}
 use Rattle.nv_engine.proofs.OneLog.{no_piece}
 use Rattle.nv_engine.proofs.Overlays.{overlaid_more}
 use Rattle.nv_engine.proofs.Slots.{page_lines, parts_count, slot_roomy}
-use Rattle.nv_engine.proofs.States.{now_at}
+use Rattle.nv_store.proofs.RowReads.{now_at}
 use Rattle.nv_engine.proofs.reading.overlay.Goals as goal
 
 pub loop-number-init : goal.loop-number-init

@@ -11,23 +11,34 @@ use Rattle.nv_header.specs.Regions.{IsRegion, IsAtRest}
 use Rattle.nv_recover.specs.Standing.{AreQuietStores}
 use Rattle.nv_engine.specs.Holding.{HasSomePieces}
 use Rattle.nv_engine.proofs.Opened.{no_pieces}
+use Rattle.nv_engine.proofs.log.Log.new.Given.{Over}
+use Rattle.nv_engine.proofs.log.Log.new.Goals.{After-into_parts_and_names-parts}
 use Rattle.nv_engine.proofs.log.Log.new.Goals as goal
+
+-- the region's parts are those of its geometry, its names and its next number
+region : (g : Over) (c : After-into_parts_and_names-parts g)
+    → IsRegion version_1 c.geometry-geometry.result.page c.geometry-geometry.result.entries c.into_parts_and_names-parts.result.1 c.next-next.result
+    (map g.L.Lines.room c.into_parts_and_names-parts.result.0.items) (map g.L.Lines.history c.into_parts_and_names-parts.result.0.items)
+region g c =
+    let names = c.into_parts_and_names-parts.result.1 in
+    let geometry = c.geometry-geometry.result in
+    let rooms = map g.L.Lines.room c.into_parts_and_names-parts.result.0.items in
+    let row = map g.L.Lines.history c.into_parts_and_names-parts.result.0.items in
+    let ByGeometry : Geometry → Type 0 = λ these. IsRegion version_1 these.page these.entries c.args.region.names c.args.region.next rooms row in
+    let ByNames : List (List ℕ) → Type 0 = λ these. IsRegion version_1 geometry.page geometry.entries these c.args.region.next rooms row in
+    let ByNext : ℕ → Type 0 = λ n. IsRegion version_1 geometry.page geometry.entries names n rooms row in
+    subst ByNext (sym c.next-next.ensures)
+    (subst ByNames (sym c.into_parts_and_names-parts.ensures.names)
+    (subst ByGeometry (sym c.geometry-geometry.ensures) c.into_parts_and_names-parts.ensures.region))
 
 pub returns-in-Ok-clause-log : goal.returns-in-Ok-clause-log
 returns-in-Ok-clause-log g c =
-    let region = c.args.region in
     let parts = c.into_parts_and_names-parts.result.0 in
     let names = c.into_parts_and_names-parts.result.1 in
     let geometry = c.geometry-geometry.result in
     let next = c.next-next.result in
-    let rooms = map g.L.Lines.room parts.items in
     let row = map g.L.Lines.history parts.items in
-    let ByGeometry : Geometry → Type 0 = λ these. IsRegion version_1 these.page these.entries region.names region.next rooms row in
-    let ByNames : List (List ℕ) → Type 0 = λ these. IsRegion version_1 geometry.page geometry.entries these region.next rooms row in
-    let ByNext : ℕ → Type 0 = λ n. IsRegion version_1 geometry.page geometry.entries names n rooms row in
-    let is = subst ByNext (sym c.next-next.ensures)
-    (subst ByNames (sym c.into_parts_and_names-parts.ensures.names)
-    (subst ByGeometry (sym c.geometry-geometry.ensures) c.into_parts_and_names-parts.ensures.region)) in
+    let is = region g (goal.at.returns-in-Ok-clause-log g c).After-into_parts_and_names-parts in
     let items = with_items_is c.args.stores c.make_room.new.stores (c.make_room.auto.stores ∙ c.deref_mut.ensures.len) in
     let held : map g.B.Backing.history c.make_room.new.stores ≡ map g.B.Backing.history c.args.stores.items =
     c.in-Ok.ensures.histories ∙ ap (map g.B.Backing.history) c.deref_mut.ensures.value in
@@ -51,19 +62,11 @@ returns-in-Ok-clause-log g c =
 
 pub returns-in-Ok-clause-holds : goal.returns-in-Ok-clause-holds
 returns-in-Ok-clause-holds g c = λ parts_now now parts_are stores_are.
-    let region = c.args.region in
     let parts = c.into_parts_and_names-parts.result.0 in
     let names = c.into_parts_and_names-parts.result.1 in
     let geometry = c.geometry-geometry.result in
     let next = c.next-next.result in
-    let rooms = map g.L.Lines.room parts.items in
-    let row = map g.L.Lines.history parts.items in
-    let ByGeometry : Geometry → Type 0 = λ these. IsRegion version_1 these.page these.entries region.names region.next rooms row in
-    let ByNames : List (List ℕ) → Type 0 = λ these. IsRegion version_1 geometry.page geometry.entries these region.next rooms row in
-    let ByNext : ℕ → Type 0 = λ n. IsRegion version_1 geometry.page geometry.entries names n rooms row in
-    let is = subst ByNext (sym c.next-next.ensures)
-    (subst ByNames (sym c.into_parts_and_names-parts.ensures.names)
-    (subst ByGeometry (sym c.geometry-geometry.ensures) c.into_parts_and_names-parts.ensures.region)) in
+    let is = region g (goal.at.returns-in-Ok-clause-holds g c).After-into_parts_and_names-parts in
     let items = with_items_is c.args.stores c.make_room.new.stores (c.make_room.auto.stores ∙ c.deref_mut.ensures.len) in
     let held : map g.B.Backing.history c.make_room.new.stores ≡ map g.B.Backing.history c.args.stores.items =
     c.in-Ok.ensures.histories ∙ ap (map g.B.Backing.history) c.deref_mut.ensures.value in
@@ -74,7 +77,7 @@ returns-in-Ok-clause-holds g c = λ parts_now now parts_are stores_are.
     record {
       parts = parts_now;
       parts_are = are;
-      has = no_pieces g.L.Lines.history g.L.Lines.room _ is refl parts_now (row_tells_at row (IsAtRest version_1 geometry.page geometry.entries names next) parts_now are is.tells);
+      has = no_pieces g.L.Lines.history g.L.Lines.room _ is refl parts_now (row_tells_at (map g.L.Lines.history parts.items) (IsAtRest version_1 geometry.page geometry.entries names next) parts_now are is.tells);
       stores = now;
       stores_are = subst Stores (sym (ap (map g.B.Backing.history) items ∙ held)) stores_are;
       synced = row_tells_at (map g.B.Backing.history c.args.stores.items) AreQuietStores now stores_are c.requires.quiet;

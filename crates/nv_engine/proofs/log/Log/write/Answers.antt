@@ -17,7 +17,28 @@ use Rattle.nv_engine.specs.Written.{write_steps}
 use Rattle.nv_engine.proofs.Lengths.{lengths_more, files_count}
 use Rattle.nv_engine.proofs.States.{now_after}
 use Rattle.nv_engine.proofs.Writes.{IsMade, on_ok_here, or_more, fitting, has_more}
+use Rattle.nv_engine.proofs.log.Log.write.Given.{Over}
+use Rattle.nv_engine.proofs.log.Log.write.Goals.{After-commit}
 use Rattle.nv_engine.proofs.log.Log.write.Goals as goal
+
+-- the log isn't stopped
+running : (g : Over) (c : After-commit g) → c.args.self.now.stopped ≡ false
+running g c = grind (arith, common_steps)
+
+-- the write is one that is made
+made_at : (g : Over) (c : After-commit g) → IsMade g.L.Lines.history g.L.Lines.room c.args.self.now (written c.args.file c.args.at c.args.bytes.now)
+made_at g c = record {
+  few_pages = c.requires.log.few_pages;
+  known = c.requires.file;
+  some = c.requires.some;
+  bytes_are = λ k. omega (arith, c.type_inv.bytes k);
+  near = grind (arith, common_steps);
+  few = grind (arith, common_steps);
+  left = grind (arith, common_steps);
+  free = grind (arith, common_steps);
+  parts = c.requires.log.ready (running g c);
+  told = g.met.L.Lines.told_lines;
+}
 
 pub returns-clause-holds : goal.returns-clause-holds
 returns-clause-holds g c = λ pieces files holds.
@@ -28,19 +49,7 @@ returns-clause-holds g c = λ pieces files holds.
     let steps = write_steps log.geometry.page log.geometry.entries log.head c.args.file c.args.at bytes in
     let items = with_items_is log.parts new (c.commit.auto.parts ∙ c.deref_mut.ensures.len) in
     let none : is_err c.commit.result ≡ false = sym c.is_err.ensures.value ∙ c.if-is_err.false in
-    let running : log.stopped ≡ false = grind (arith, common_steps) in
-    let made : IsMade g.L.Lines.history g.L.Lines.room log piece = record {
-      few_pages = c.requires.log.few_pages;
-      known = c.requires.file;
-      some = c.requires.some;
-      bytes_are = λ k. omega (arith, c.type_inv.bytes k);
-      near = grind (arith, common_steps);
-      few = grind (arith, common_steps);
-      left = grind (arith, common_steps);
-      free = grind (arith, common_steps);
-      parts = c.requires.log.ready running;
-      told = g.met.L.Lines.told_lines;
-    } in
+    let made = made_at g (goal.at.returns-clause-holds g c).After-commit in
     let Did : List g.row.L.Denot → Type 0 = λ these. DidRow steps (map g.L.Lines.history these) (map g.L.Lines.history new) in
     let did = subst Did c.deref_mut.ensures.value (on_ok_here c.commit.result none c.commit.ensures.done) in
     let now = run row_after steps holds.parts in
@@ -72,26 +81,14 @@ returns-clause-log g c =
     let steps = write_steps log.geometry.page log.geometry.entries log.head c.args.file c.args.at bytes in
     let items = with_items_is log.parts new (c.commit.auto.parts ∙ c.deref_mut.ensures.len) in
     let none : is_err c.commit.result ≡ false = sym c.is_err.ensures.value ∙ c.if-is_err.false in
-    let running : log.stopped ≡ false = grind (arith, common_steps) in
-    let made : IsMade g.L.Lines.history g.L.Lines.room log piece = record {
-      few_pages = c.requires.log.few_pages;
-      known = c.requires.file;
-      some = c.requires.some;
-      bytes_are = λ k. omega (arith, c.type_inv.bytes k);
-      near = grind (arith, common_steps);
-      few = grind (arith, common_steps);
-      left = grind (arith, common_steps);
-      free = grind (arith, common_steps);
-      parts = c.requires.log.ready running;
-      told = g.met.L.Lines.told_lines;
-    } in
+    let made = made_at g (goal.at.returns-clause-log g c).After-commit in
     let Did : List g.row.L.Denot → Type 0 = λ these. DidRow steps (map g.L.Lines.history these) (map g.L.Lines.history new) in
     let did = subst Did c.deref_mut.ensures.value (on_ok_here c.commit.result none c.commit.ensures.done) in
     let Has : List g.row.L.Denot → Type 0 = λ these. HasParts version_1 log.geometry.page log.geometry.entries (map g.L.Lines.room these) in
     let row = map g.L.Lines.history log.parts.items in
     let after = record log { head = log.head + entries_of_piece log.geometry.page piece } in
     let told = row_tells_did (λ was. HasSomePieces log was × AreNow row was) (HasSomePieces after)
-    (row_tells_from row (λ was. HasSomePieces log was × AreNow row was) (λ was are. (row_tells_at row (HasSomePieces log) was are (c.requires.log.told running), are)))
+    (row_tells_from row (λ was. HasSomePieces log was × AreNow row was) (λ was are. (row_tells_at row (HasSomePieces log) was are (c.requires.log.told (running g (goal.at.returns-clause-log g c).After-commit)), are)))
     (λ was some. (some.0.0 ++ piece ∷ [], has_more g.L.Lines.history g.L.Lines.room log piece made some.0.0 was some.0.1 some.1))
     did in
     record {
@@ -121,19 +118,7 @@ returns-then-is_err-clause-faulted g c = λ _ pieces files holds.
     let new = c.commit.new.parts in
     let steps = write_steps log.geometry.page log.geometry.entries log.head c.args.file c.args.at bytes in
     let items = with_items_is log.parts new (c.commit.auto.parts ∙ c.deref_mut.ensures.len) in
-    let running : log.stopped ≡ false = grind (arith, common_steps) in
-    let made : IsMade g.L.Lines.history g.L.Lines.room log piece = record {
-      few_pages = c.requires.log.few_pages;
-      known = c.requires.file;
-      some = c.requires.some;
-      bytes_are = λ k. omega (arith, c.type_inv.bytes k);
-      near = grind (arith, common_steps);
-      few = grind (arith, common_steps);
-      left = grind (arith, common_steps);
-      free = grind (arith, common_steps);
-      parts = c.requires.log.ready running;
-      told = g.met.L.Lines.told_lines;
-    } in
+    let made = made_at g (goal.at.returns-then-is_err-clause-faulted g c).After-commit in
     let Did : List g.row.L.Denot → Type 0 = λ these. DidSomeRow steps (map g.L.Lines.history these) (map g.L.Lines.history new) in
     let did = subst Did c.deref_mut.ensures.value c.commit.ensures.begun in
     let now = run row_after (take did.count steps) holds.parts in
