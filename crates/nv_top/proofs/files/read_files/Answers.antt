@@ -1,59 +1,43 @@
 -- Each store shows its bytes, and none is changed.
-use Rattle.std.proofs.Common.{◌≡◌, ◌<◌, List, [], ◌∷◌, ◌++◌, length, map, take, slice_index_or, get_or, sym, ap, ◌∙◌, subst, arith}
-use Rattle.std.proofs.lemmas.List.{length-map, get_or-map, take_more, take_all}
-use Rattle.nv_pmem.specs.RowStates.{IsNow, tells_at}
-use Rattle.nv_store.specs.Steps.{StoreHistory}
-use Rattle.nv_store.specs.Store.{Store, quiet_store}
-use Rattle.nv_store.proofs.RowReads.{same_in_row, same_sum_in_row, now_at, length_now}
+use Rattle.std.proofs.Common.{◌≡◌, [], ◌∷◌, ◌++◌, map, take, slice_set, sym, ap, ◌∙◌, arith}
+use Rattle.std.proofs.lemmas.List.{take_more, take_all}
+use Rattle.nv_pmem.proofs.OneOfRow.{same_in_row, same_sum_in_row}
+use Rattle.nv_store.proofs.RowReads.{all_seen, length_seen, shown_at}
+use Rattle.nv_top.proofs.files.read_files.Given.{Over}
+use Rattle.nv_top.proofs.files.read_files.Goals.{After-read_file}
 use Rattle.nv_top.proofs.files.read_files.Goals as goal
+
+-- what a read leaves of all stores
+histories : (g : Over) (c : After-read_file g) → map g.B.Backing.history (slice_set c.loop-store.stores c.loop-store.store-index c.read_file.new.store) ≡ map g.B.Backing.history c.args.stores.now
+histories g c =
+    same_in_row g.B.Backing.history c.loop-store.stores c.loop-store.store-index c.store-item.result c.read_file.new.store c.store-item.result c.store-item.is
+    (c.read_file.ensures.history ∙ ap g.B.Backing.history (sym c.store-item.is))
+    ∙ c.loop-store.invariant.histories
 
 pub loop-store-preserved : goal.loop-store-preserved
 loop-store-preserved g c =
-    let stores = c.loop-store.stores in
     let i = c.loop-store.store-index in
     let item = c.store-item.result in
-    let inside : i < length stores = omega arith in
-    let row : List StoreHistory = map g.B.Backing.history c.args.stores.now in
     record {
-      histories =
-          same_in_row g.B.Backing.history stores i item c.read_file.new.store item c.store-item.is (c.read_file.ensures.history ∙ ap g.B.Backing.history (sym c.store-item.is))
-          ∙ c.loop-store.invariant.histories;
+      histories = histories g (goal.at.loop-store-preserved g c).After-read_file;
       faults =
-          same_sum_in_row g.B.Backing.fault_count stores i item c.read_file.new.store item inside c.store-item.is (c.in_ok-read_file.ensures.cause ∙ ap g.B.Backing.fault_count (sym c.store-item.is))
+          same_sum_in_row g.B.Backing.fault_count c.loop-store.stores i item c.read_file.new.store item (omega arith) c.store-item.is (c.in_ok-read_file.ensures.cause ∙ ap g.B.Backing.fault_count (sym c.store-item.is))
           ∙ c.loop-store.invariant.faults;
       count = omega (arith, c.loop-store.invariant.count, c.in_ok-push.ensures.items, c.in_ok-push.ensures.len);
       bytes = λ now are.
-          let none = quiet_store [] in
-          let long : i < length row = omega (arith, length-map c.args.stores.now g.B.Backing.history) in
-          let there : i < length now = omega (arith, length_now row now are) in
-          let Is : StoreHistory → Type 0 = λ history. IsNow history (slice_index_or now i none) in
-          let here : slice_index_or row i [] ≡ g.B.Backing.history (get_or stores i item) =
-          ap (λ (these : List StoreHistory). slice_index_or these i []) (sym c.loop-store.invariant.histories) ∙ get_or-map g.B.Backing.history stores i item [] inside in
-          let shown = tells_at (g.B.Backing.history (get_or stores i item)) (λ store. c.in_ok-read_file.field-0 ≡ store.seen) (slice_index_or now i none)
-          (subst Is here (now_at row now i none are long)) c.in_ok-read_file.ensures.bytes in
-          let seen = map (λ (store : Store). store.seen) now in
+          let shown = shown_at g.B.Backing.history c.args.stores.now c.loop-store.stores i item now (λ seen. c.in_ok-read_file.field-0 ≡ seen) c.loop-store.invariant.histories are (omega arith) c.in_ok-read_file.ensures.bytes in
           c.in_ok-push.ensures.items
           ∙ ap (λ these. these ++ c.in_ok-read_file.field-0 ∷ []) (c.loop-store.invariant.bytes now are)
-          ∙ ap (λ bytes. take i seen ++ bytes ∷ []) (shown ∙ sym (get_or-map (λ (store : Store). store.seen) now i none [] there))
-          ∙ sym (take_more seen i [] (omega (arith, length-map now (λ (store : Store). store.seen))));
+          ∙ ap (λ bytes. take i (all_seen now) ++ bytes ∷ []) shown
+          ∙ sym (take_more (all_seen now) i [] (omega (arith, length_seen g.B.Backing.history c.args.stores.now now are)));
     }
 
 pub returns-in_err-read_file-clause-histories : goal.returns-in_err-read_file-clause-histories
-returns-in_err-read_file-clause-histories g c =
-    same_in_row g.B.Backing.history c.loop-store.stores c.loop-store.store-index c.store-item.result c.read_file.new.store c.store-item.result c.store-item.is
-    (c.read_file.ensures.history ∙ ap g.B.Backing.history (sym c.store-item.is))
-    ∙ c.loop-store.invariant.histories
+returns-in_err-read_file-clause-histories g c = histories g (goal.at.returns-in_err-read_file-clause-histories g c).After-read_file
 
 pub returns-in_err-push-clause-histories : goal.returns-in_err-push-clause-histories
-returns-in_err-push-clause-histories g c =
-    same_in_row g.B.Backing.history c.loop-store.stores c.loop-store.store-index c.store-item.result c.read_file.new.store c.store-item.result c.store-item.is
-    (c.read_file.ensures.history ∙ ap g.B.Backing.history (sym c.store-item.is))
-    ∙ c.loop-store.invariant.histories
+returns-in_err-push-clause-histories g c = histories g (goal.at.returns-in_err-push-clause-histories g c).After-read_file
 
 pub returns-clause-bytes : goal.returns-clause-bytes
 returns-clause-bytes g c = λ now are.
-    let seen = map (λ (store : Store). store.seen) now in
-    let row : List StoreHistory = map g.B.Backing.history c.args.stores.now in
-    c.loop-store.invariant.bytes now are
-    ∙ take_all c.loop-store.store-index seen
-    (omega (arith, length-map now (λ (store : Store). store.seen), length_now row now are, length-map c.args.stores.now g.B.Backing.history))
+    c.loop-store.invariant.bytes now are ∙ take_all c.loop-store.store-index (all_seen now) (omega (arith, length_seen g.B.Backing.history c.args.stores.now now are))
