@@ -1,13 +1,12 @@
 //! Tests of the log of one thread.
 ghost use Rattle.std.specs.Prelude.{◌≡◌, [], length, map, false, IfOk};
-ghost use Rattle.nv_plain.specs.Layouts.{version_1};
 ghost use Rattle.nv_pmem.specs.MemPart.{part_history, part_room};
 ghost use Rattle.nv_pmem.specs.Rows.{RowTells};
 ghost use Rattle.nv_store.specs.MemStore.{store_history};
-ghost use Rattle.nv_header.specs.Regions.{HasParts, IsBlankRow};
 ghost use Rattle.nv_recover.specs.Standing.{AreQuietStores};
 ghost use Rattle.nv_engine.specs.Keeping.{IsLog};
 
+use crate::given::blank_parts;
 use nv_engine::{Log, ReadError, WriteError};
 use nv_header::{Region, add_file, format};
 use nv_plain::NoMemory;
@@ -16,25 +15,14 @@ use nv_store::{Backing, MemStore};
 use std::alloc::Global;
 use std::test::Fail;
 
-// The parts of a blank region. Their calls fail as the fuse says.
-fn blank_parts(alloc: Global, geometry: Geometry, fuse: &Fuse) -> Result<Vec<MemPart>, NoMemory>
-    ensures parts { IfOk result (λ parts. HasParts version_1 geometry.page geometry.entries (map part_room parts.items)) }
-    ensures blank { IfOk result (λ parts. RowTells (map part_history parts.items) IsBlankRow) }
-{
-    let mut parts = Vec::new(alloc);
-    parts.push(MemPart::fused(alloc, 18, fuse.copy()?)?)?;
-    for _entry in 0..geometry.entries {
-        parts.push(MemPart::fused(alloc, 1 + geometry.page / 64, fuse.copy()?)?)?;
-    }
-    Ok(parts)
-}
-
 // A region of so many entries of a page of 64 bytes, with the files `a` and `b`.
 fn region(alloc: Global, entries: u64, fuse: &Fuse) -> Result<Region<MemPart>, Fail>
     ensures { IfOk result (λ region. length region.names ≡ 2) }
 {
     let geometry = Geometry::new(64, entries)?;
-    let region = format(blank_parts(alloc, geometry, fuse)?, geometry).map_err(|failed| failed.1)?;
+    let region = format(blank_parts(alloc, geometry, fuse, &[])?, geometry).map_err(
+        |failed| failed.1,
+    )?;
     let (region, _a) = add_file(alloc, region, b"a").map_err(|failed| failed.1)?;
     let (region, _b) = add_file(alloc, region, b"b").map_err(|failed| failed.1)?;
     Ok(region)

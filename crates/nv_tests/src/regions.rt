@@ -1,36 +1,10 @@
 //! Tests of regions.
-ghost use Rattle.std.specs.Prelude.{map, IfOk};
-ghost use Rattle.nv_plain.specs.Layouts.{version_1};
-ghost use Rattle.nv_pmem.specs.MemPart.{part_history, part_room};
-ghost use Rattle.nv_pmem.specs.Rows.{RowTells};
-ghost use Rattle.nv_header.specs.Regions.{HasParts, IsBlankRow};
 
+use crate::given::blank_parts;
 use nv_header::{AddError, Region, add_file, format, move_tail, read_head};
-use nv_plain::NoMemory;
 use nv_pmem::{Fuse, Geometry, Lines, MemPart, RegionFault};
 use std::alloc::Global;
 use std::test::Fail;
-
-// The parts of a blank region, and behind them parts of so many lines. Their calls fail as the fuse says.
-fn blank_parts(
-    alloc: Global,
-    geometry: Geometry,
-    fuse: &Fuse,
-    more: &[u64],
-) -> Result<Vec<MemPart>, NoMemory>
-    ensures parts { IfOk result (λ parts. HasParts version_1 geometry.page geometry.entries (map part_room parts.items)) }
-    ensures blank { IfOk result (λ parts. RowTells (map part_history parts.items) IsBlankRow) }
-{
-    let mut parts = Vec::new(alloc);
-    parts.push(MemPart::fused(alloc, 18, fuse.copy()?)?)?;
-    for _entry in 0..geometry.entries {
-        parts.push(MemPart::fused(alloc, 1 + geometry.page / 64, fuse.copy()?)?)?;
-    }
-    for lines in more {
-        parts.push(MemPart::fused(alloc, *lines, fuse.copy()?)?)?;
-    }
-    Ok(parts)
-}
 
 // A region of 2 entries of a page of 64 bytes, formatted, with these parts behind; its calls fail as the fuse says.
 fn formatted(alloc: Global, fuse: &Fuse, more: &[u64]) -> Result<Region<MemPart>, Fail> {

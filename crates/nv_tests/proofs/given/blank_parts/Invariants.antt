@@ -1,6 +1,6 @@
 use Rattle.std.proofs.Common.{◌≡◌, ◌+◌, ◌≤◌, length}
 use Rattle.nv_header.proofs.BlankParts.{AreBlank}
-use Rattle.nv_tests.proofs.regions.blank_parts.Given as goal
+use Rattle.nv_tests.proofs.given.blank_parts.Given as goal
 
 abbrev pub invariant-loop-entry : goal.invariant-loop-entry
 invariant-loop-entry l = record {

@@ -1,6 +1,6 @@
 use Rattle.std.proofs.Common.{◌+◌, ◌/◌, length, arith}
 use Rattle.nv_header.proofs.BlankParts.{blank_has_parts, blank_tells, entry_part, part_more}
-use Rattle.nv_tests.proofs.regions.blank_parts.Goals as goal
+use Rattle.nv_tests.proofs.given.blank_parts.Goals as goal
 
 pub returns-clause-parts : goal.returns-clause-parts
 returns-clause-parts c = blank_has_parts c.args.geometry.page c.args.geometry.entries c.loop-lines.parts.items c.loop-lines.invariant.count c.loop-lines.invariant.each

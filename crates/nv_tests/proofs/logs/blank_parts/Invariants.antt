@@ -1,9 +1,0 @@
-use Rattle.std.proofs.Common.{◌≡◌, ◌+◌, length}
-use Rattle.nv_header.proofs.BlankParts.{AreBlank}
-use Rattle.nv_tests.proofs.logs.blank_parts.Given as goal
-
-abbrev pub invariant-loop-entry : goal.invariant-loop-entry
-invariant-loop-entry l = record {
-  count : length l.parts.items ≡ 1 + l._entry;
-  each : AreBlank l.geometry.page l.geometry.entries l.parts.items;
-}
