@@ -3,18 +3,15 @@
 #![tactic(auto)]
 
 use nv_bench::FolderBench;
-use nv_plain::NoMemory;
-use nv_top::{NO_MEMORY, OpenGate, USAGE, WRITE_FAULT, nv_main};
-use nv_trace::{Failed, ReaderSource, Sink, WriterSink, write_all};
-use std::io::ErrorKind;
+use nv_top::{NO_MEMORY, OpenGate, USAGE, nv_main, program_words, say};
+use nv_trace::{ReaderSource, WriterSink};
+use std::io;
 use std::process::ExitCode;
-use std::rt::Env;
-use std::{env, io};
 
 fn main(rt: HostRuntime) -> ExitCode {
     let mut sink = WriterSink::new(io::writer(&rt));
     let alloc = rt.alloc();
-    let Ok(words) = words(&rt) else {
+    let Ok(words) = program_words(&rt) else {
         return ExitCode::from(say(&mut sink, NO_MEMORY, b"error no memory\n"));
     };
     let Some((folder, command)) = words.split_first() else {
@@ -34,26 +31,4 @@ fn main(rt: HostRuntime) -> ExitCode {
         &OpenGate,
     );
     ExitCode::from(status)
-}
-
-fn say<O: Sink>(sink: &mut O, status: u8, line: &[u8]) -> u8 {
-    match write_all(sink, line) {
-        Ok(()) => status,
-        Err(Failed) => WRITE_FAULT,
-    }
-}
-
-// The words behind the program's name. Where one of them isn't UTF-8 they are no command, as where there is none.
-fn words<R: AllocGlobal + Env>(rt: &R) -> Result<Vec<String>, NoMemory> {
-    let mut words = Vec::new(rt.alloc());
-    match env::args(rt) {
-        Ok(all) => {
-            for word in all.skip(1) {
-                words.push(word)?;
-            }
-        }
-        Err(error) if error.kind() == ErrorKind::InvalidData => {}
-        Err(_) => return Err(NoMemory),
-    }
-    Ok(words)
 }

@@ -143,8 +143,8 @@ impl<T: Drop> From<AllocFailed<T>> for Stop {
     }
 }
 
-// Writes a text. Its status comes after a fault of the sink.
-pub(crate) fn say<O: Sink>(out: &mut O, status: u8, text: &[u8]) -> u8
+/// Writes a line in place of a report, and answers the status that goes with it, or that of a fault of the sink.
+pub fn say<O: Sink>(out: &mut O, status: u8, text: &[u8]) -> u8
     requires { status ≢ WRITE_FAULT }
     ensures front { result ≡ WRITE_FAULT → AppendsFront (O.written out.old) (O.written out.new) text.now }
     ensures said { result ≢ WRITE_FAULT → (result ≡ status) × Appends (O.written out.old) (O.written out.new) text.now }

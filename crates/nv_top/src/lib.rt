@@ -13,6 +13,7 @@ mod laws;
 mod looking;
 mod names;
 mod outcome;
+mod program;
 mod recovery;
 mod region_text;
 mod run;
@@ -22,7 +23,8 @@ mod words;
 
 pub use command::nv_main;
 pub use ending::{
-    BAD_INPUT, BAD_REGION, DEVICE_FAULT, DONE, NO_MEMORY, READ_FAULT, USAGE, WRITE_FAULT,
+    BAD_INPUT, BAD_REGION, DEVICE_FAULT, DONE, NO_MEMORY, READ_FAULT, USAGE, WRITE_FAULT, say,
 };
 pub use gate::{Gate, OpenGate, Point};
 pub use laws::report_has_one_reading;
+pub use program::program_words;
