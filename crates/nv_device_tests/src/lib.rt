@@ -1,15 +1,19 @@
-//! Tests of devices, files and traces by their public calls. It has no code of its own: a crate with tests is proved twice, and this
-//! one has nothing to prove but them.
+//! Tests of devices, log entries, files and traces by their public calls. It has no code of its own: a crate with tests is proved
+//! twice, and this one has nothing to prove but them.
 #![tactic(auto)]
 
 #[cfg(test)]
 mod benches;
+#[cfg(test)]
+mod commits;
 #[cfg(test)]
 mod file_parts;
 #[cfg(test)]
 mod file_stores;
 #[cfg(test)]
 mod folders;
+#[cfg(test)]
+mod group_checks;
 #[cfg(test)]
 mod parts;
 #[cfg(test)]

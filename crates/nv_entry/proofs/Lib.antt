@@ -9,6 +9,5 @@ pub mod PieceSteps
 pub mod Rooms
 pub mod RoomSteps
 pub mod Slots
-pub mod TestParts
 pub mod CommitLaws
 pub mod OneAnswerLaws

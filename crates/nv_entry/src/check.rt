@@ -165,6 +165,3 @@ impl Bounds {
             && at <= self.page * PAGE_LIMIT - size
     }
 }
-
-#[cfg(test)]
-mod tests;

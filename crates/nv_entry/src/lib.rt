@@ -39,6 +39,3 @@ pub use laws::{a_group_has_one_answer, groups_follow_steps};
 pub use nv_pmem::RegionFault;
 pub use piece::{PieceHead, read_piece};
 pub use span::{Span, cut, piece_count};
-
-#[cfg(test)]
-mod tests;

@@ -1,5 +1,5 @@
 use Rattle.nv_pmem.proofs.StepLaws.{did_untold, did_some_untold}
-use Rattle.nv_entry.proofs.check.tests.UntoldLines.fence.Goals as goal
+use Rattle.nv_device_tests.proofs.group_checks.UntoldLines.store_line.Goals as goal
 
 pub returns-clause-begun : goal.returns-clause-begun
 returns-clause-begun c = did_some_untold _ _

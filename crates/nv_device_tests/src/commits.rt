@@ -8,7 +8,7 @@ ghost use Rattle.nv_pmem.specs.Rows.{RowTells, InEachRowImage};
 ghost use Rattle.nv_pmem.specs.Part.{part_word};
 ghost use Rattle.nv_entry.specs.Group.{IsReady, IsUncommitted};
 
-use crate::{PieceHead, RegionFault, Span, commit_group, committed, cut, piece_count, read_piece};
+use nv_entry::{PieceHead, Span, commit_group, committed, cut, piece_count, read_piece};
 use nv_plain::NoMemory;
 use nv_pmem::{Fuse, LineFault, Lines, MemPart};
 use std::alloc::Global;
@@ -73,6 +73,10 @@ fn bytes_of(words: [u64; 6]) -> [[u8; 8]; 6] {
 fn a_group_of_one_is_written_and_read(rt: HostRuntime) -> Result<(), NoMemory> {
     let mut part = committed_part(rt.alloc(), 1, 130, b"abc", 0)?.expect(&rt, "committed");
     let mut into = [b'.'; 64];
+    let read = read_piece(&mut part, &mut into);
+    let own = committed(&mut part, 5);
+    let others = committed(&mut part, 21);
+    let words = first_words(&mut part);
     let head = PieceHead {
         file: 1,
         at: 130,
@@ -80,21 +84,24 @@ fn a_group_of_one_is_written_and_read(rt: HostRuntime) -> Result<(), NoMemory> {
         count: 1,
         leader: 5,
     };
-    assert_eq!(rt; read_piece(&mut part, &mut into), Ok(head));
-    assert_eq!(rt; &into[..8], b"abc.....".as_slice());
-    assert_eq!(rt; committed(&mut part, 5), Ok(true));
-    assert_eq!(rt; committed(&mut part, 21), Ok(false));
-    assert_eq!(rt; first_words(&mut part), Ok([6, 1, 130, 3, 1, 5]));
+    let bytes = [
+        *b"\x06\0\0\0\0\0\0\0",
+        *b"\x01\0\0\0\0\0\0\0",
+        *b"\x82\0\0\0\0\0\0\0",
+        *b"\x03\0\0\0\0\0\0\0",
+        *b"\x01\0\0\0\0\0\0\0",
+        *b"\x05\0\0\0\0\0\0\0",
+    ];
     assert_eq!(rt;
-        bytes_of([6, 1, 130, 3, 1, 5]),
-        [
-            *b"\x06\0\0\0\0\0\0\0",
-            *b"\x01\0\0\0\0\0\0\0",
-            *b"\x82\0\0\0\0\0\0\0",
-            *b"\x03\0\0\0\0\0\0\0",
-            *b"\x01\0\0\0\0\0\0\0",
-            *b"\x05\0\0\0\0\0\0\0",
-        ]
+        (read, &into[..8], own, others, words, words.map(bytes_of)),
+        (
+            Ok(head),
+            b"abc.....".as_slice(),
+            Ok(true),
+            Ok(false),
+            Ok([6, 1, 130, 3, 1, 5]),
+            Ok(bytes)
+        )
     );
     Ok(())
 }
@@ -111,23 +118,36 @@ fn commits(alloc: Global, entries: u64, bytes: &[u8], fails: u64) -> Result<bool
 }
 
 #[test]
-fn a_group_of_n_short_pieces_takes_nine_n_and_three_calls(rt: HostRuntime) -> Result<(), NoMemory> {
-    assert_eq!(rt; commits(rt.alloc(), 1, &[7; 64], 12), Ok(false));
-    assert_eq!(rt; commits(rt.alloc(), 1, &[7; 64], 13), Ok(true));
-    assert_eq!(rt; commits(rt.alloc(), 2, &[7; 128], 21), Ok(false));
-    assert_eq!(rt; commits(rt.alloc(), 2, &[7; 128], 22), Ok(true));
-    assert_eq!(rt; commits(rt.alloc(), 3, &[7; 130], 30), Ok(false));
-    assert_eq!(rt; commits(rt.alloc(), 3, &[7; 130], 31), Ok(true));
-    Ok(())
+fn a_group_of_n_short_pieces_takes_nine_n_and_three_calls(rt: HostRuntime) {
+    let alloc = rt.alloc();
+    let of_one = (commits(alloc, 1, &[7; 64], 12), commits(alloc, 1, &[7; 64], 13));
+    let of_two = (commits(alloc, 2, &[7; 128], 21), commits(alloc, 2, &[7; 128], 22));
+    let of_three = (commits(alloc, 3, &[7; 130], 30), commits(alloc, 3, &[7; 130], 31));
+    assert_eq!(rt;
+        [of_one, of_two, of_three],
+        [
+            (Ok(false), Ok(true)),
+            (Ok(false), Ok(true)),
+            (Ok(false), Ok(true))
+        ]
+    );
 }
 
-#[test]
-fn a_group_of_two_is_written_and_read(rt: HostRuntime) -> Result<(), NoMemory> {
+// 70 bytes.
+fn bytes_of_two_pages() -> [u8; 70] {
     let mut bytes = [b'a'; 70];
     bytes[62] = b'b';
     bytes[69] = b'z';
+    bytes
+}
+
+#[test]
+fn the_leader_of_a_group_of_two_is_written_and_read(rt: HostRuntime) -> Result<(), NoMemory> {
+    let bytes = bytes_of_two_pages();
     let mut leader = committed_part(rt.alloc(), 2, 130, &bytes, 0)?.expect(&rt, "committed");
     let mut into = [b'.'; 64];
+    let read = read_piece(&mut leader, &mut into);
+    let words = first_words(&mut leader);
     let head = PieceHead {
         file: 1,
         at: 130,
@@ -135,13 +155,26 @@ fn a_group_of_two_is_written_and_read(rt: HostRuntime) -> Result<(), NoMemory> {
         count: 2,
         leader: 5,
     };
-    assert_eq!(rt; read_piece(&mut leader, &mut into), Ok(head));
-    assert_eq!(rt; &into[..62], [b'a'; 62].as_slice());
-    assert_eq!(rt; &into[62..], b"..".as_slice());
-    assert_eq!(rt; first_words(&mut leader), Ok([6, 1, 130, 62, 2, 5]));
+    assert_eq!(rt;
+        (read, &into[..62], &into[62..], words),
+        (
+            Ok(head),
+            [b'a'; 62].as_slice(),
+            b"..".as_slice(),
+            Ok([6, 1, 130, 62, 2, 5])
+        )
+    );
+    Ok(())
+}
 
+#[test]
+fn the_follower_of_a_group_of_two_is_written_and_read(rt: HostRuntime) -> Result<(), NoMemory> {
+    let bytes = bytes_of_two_pages();
     let mut follower = committed_part(rt.alloc(), 2, 130, &bytes, 1)?.expect(&rt, "committed");
     let mut into = [b'.'; 64];
+    let read = read_piece(&mut follower, &mut into);
+    let own = committed(&mut follower, 6);
+    let words = first_words(&mut follower);
     let head = PieceHead {
         file: 1,
         at: 192,
@@ -149,29 +182,32 @@ fn a_group_of_two_is_written_and_read(rt: HostRuntime) -> Result<(), NoMemory> {
         count: 0,
         leader: 5,
     };
-    assert_eq!(rt; read_piece(&mut follower, &mut into), Ok(head));
-    assert_eq!(rt; &into[..9], b"baaaaaaz.".as_slice());
-    assert_eq!(rt; committed(&mut follower, 6), Ok(false));
-    assert_eq!(rt; first_words(&mut follower), Ok([0, 1, 192, 8, 0, 5]));
+    assert_eq!(rt;
+        (read, &into[..9], own, words),
+        (
+            Ok(head),
+            b"baaaaaaz.".as_slice(),
+            Ok(false),
+            Ok([0, 1, 192, 8, 0, 5])
+        )
+    );
     Ok(())
 }
 
 #[test]
 fn a_write_is_cut_at_page_boundaries(rt: HostRuntime) {
-    assert_eq!(rt; piece_count(130, 70, 64), 2);
+    let pieces = (piece_count(130, 70, 64), cut(130, 70, 64, 0), cut(130, 70, 64, 1));
     let first = Span {
         at: 130,
         from: 0,
         size: 62,
     };
-    assert_eq!(rt; cut(130, 70, 64, 0), first);
     let second = Span {
         at: 192,
         from: 62,
         size: 8,
     };
-    assert_eq!(rt; cut(130, 70, 64, 1), second);
-
-    assert_eq!(rt; piece_count(4096, 4096, 4096), 1);
-    assert_eq!(rt; piece_count(4096, 0, 4096), 0);
+    let whole_page = piece_count(4096, 4096, 4096);
+    let nothing = piece_count(4096, 0, 4096);
+    assert_eq!(rt; (pieces, whole_page, nothing), ((2, first, second), 1, 0));
 }

@@ -1,7 +1,7 @@
 //! Tests of the check of a group.
 ghost use Rattle.std.specs.Prelude.{◌≡◌, ◌+◌, ◌<◌, ◌≤◌, [], length, vec_len, IfOk};
 
-use crate::{Bounds, EntryWords, GroupCheck, PieceHead, check_group, entry_words};
+use nv_entry::{Bounds, EntryWords, GroupCheck, PieceHead, check_group, entry_words};
 use nv_pmem::{LineFault, Lines, RegionFault};
 use std::alloc::{AllocError, Global};
 

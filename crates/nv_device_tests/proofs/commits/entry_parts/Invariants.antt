@@ -1,6 +1,6 @@
 use Rattle.std.proofs.Common.{◌≡◌, All, length}
 use Rattle.nv_pmem.specs.MemPart.{IsBlankMemPart}
-use Rattle.nv_entry.proofs.tests.entry_parts.Given as goal
+use Rattle.nv_device_tests.proofs.commits.entry_parts.Given as goal
 
 -- so many parts of zeros
 abbrev pub invariant-loop : goal.invariant-loop

@@ -1,8 +1,8 @@
 use Rattle.std.proofs.Common.{◌<◌, length, sym, ◌∙◌, arith}
 use Rattle.std.proofs.lemmas.Grind.{common_steps}
 use Rattle.nv_plain.specs.Pieces.{pages_touched}
-use Rattle.nv_entry.proofs.TestParts.{size_told, where_ok}
-use Rattle.nv_entry.proofs.tests.committed_part.Goals as goal
+use Rattle.nv_device_tests.proofs.TestParts.{size_told, where_ok}
+use Rattle.nv_device_tests.proofs.commits.committed_part.Goals as goal
 
 pub returns-clause-size : goal.returns-clause-size
 returns-clause-size c =

@@ -1,5 +1,5 @@
 use Rattle.nv_pmem.proofs.StepLaws.{did_untold, did_some_untold}
-use Rattle.nv_entry.proofs.check.tests.UntoldLines.store.Goals as goal
+use Rattle.nv_device_tests.proofs.group_checks.UntoldLines.store.Goals as goal
 
 pub returns-then-line-eq0-clause-begun : goal.returns-then-line-eq0-clause-begun
 returns-then-line-eq0-clause-begun c = did_some_untold _ _

@@ -2,7 +2,7 @@ use Rattle.std.proofs.Common.{◌<◌, List, [], ◌∷◌, length, map, arith}
 use Rattle.nv_pmem.specs.Part.{Part}
 use Rattle.nv_pmem.specs.Rows.{RowTells}
 use Rattle.nv_pmem.specs.Steps.{PartHistory}
-use Rattle.nv_entry.proofs.check.tests.checked.Goals as goal
+use Rattle.nv_device_tests.proofs.group_checks.checked.Goals as goal
 
 -- a row that tells nothing
 untold_row : {X : Type 0} (parts : List X) (P : List Part → Type 0) → 0 < length parts → RowTells (map {A = X} {B = PartHistory} (λ _. []) parts) P
