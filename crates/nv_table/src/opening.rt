@@ -1,5 +1,6 @@
 //! What a mount begins with: its words, and what its slots hold.
-ghost use Rattle.std.specs.Prelude.{◌≡◌, ◌+◌, ◌≤◌, [], ◌∷◌, ◌++◌, length, drop, vec_capacity, IfOk, IfErr};
+ghost use Rattle.std.specs.Prelude.{◌≡◌, ◌+◌, ◌≤◌, [], ◌∷◌, ◌++◌, length, map, take, drop, vec_capacity, IfOk, IfErr};
+ghost use Rattle.nv_table.specs.declared.slot.Slot.TheVariants.{Part, Store, Page};
 ghost use Rattle.nv_table.specs.state.Keys.{sizes_of};
 ghost use Rattle.nv_table.specs.state.Limits.{MountIsWithinLimits};
 ghost use Rattle.nv_table.specs.ends.OpeningSlots.{AreBuffers, AreOpeningSlots, parts_in, stores_in};
@@ -72,30 +73,63 @@ pub(crate) fn slots_of<L: Lines, B: Backing>(
     ensures store_places { IfOk result (λ filled. vec_capacity filled.stores ≡ vec_capacity stores) }
     ensures none { IfErr result (λ unfilled. (unfilled.parts ≡ parts) × (unfilled.stores ≡ stores)) }
 {
-    let Ok(mut buffers) = buffers_of(alloc, layout) else {
+    let Ok(buffers) = buffers_of(alloc, layout) else {
         return Err(Unfilled { parts, stores });
     };
     let Ok(mut slots) = Vec::with_capacity(alloc, layout.slots() as usize) else {
         return Err(Unfilled { parts, stores });
     };
-    parts.reverse();
-    for _part in 0..1 + layout.entries {
-        slots.push_reserved(Slot::Part(parts.take_last()));
-    }
-    parts.reverse();
-    stores.reverse();
-    for _store in 0..layout.files {
-        slots.push_reserved(Slot::Store(stores.take_last()));
-    }
-    buffers.reverse();
-    for _page in 0..layout.files * layout.pages {
-        slots.push_reserved(Slot::Page(buffers.take_last()));
-    }
+    put_parts(&mut slots, &mut parts, 1 + layout.entries);
+    put_stores(&mut slots, &mut stores, layout.files);
+    put_buffers(&mut slots, buffers);
     Ok(Filled {
         slots,
         parts,
         stores,
     })
+}
+
+// The first so many parts go into the next slots.
+fn put_parts<L, B>(slots: &mut Vec<Slot<L, B>>, parts: &mut Vec<L>, many: u64)
+    requires some { many ≤ length parts.old.items }
+    requires places { length slots.old.items + many ≤ vec_capacity slots.old }
+    ensures slots { slots.new.items ≡ slots.old.items ++ map Part (take many parts.old.items) }
+    ensures parts { parts.new.items ≡ drop many parts.old.items }
+    ensures places { vec_capacity slots.new ≡ vec_capacity slots.old }
+    ensures part_places { vec_capacity parts.new ≡ vec_capacity parts.old }
+{
+    parts.reverse();
+    for _part in 0..many {
+        slots.push_reserved(Slot::Part(parts.take_last()));
+    }
+    parts.reverse();
+}
+
+// The first so many stores do.
+fn put_stores<L, B>(slots: &mut Vec<Slot<L, B>>, stores: &mut Vec<B>, many: u64)
+    requires some { many ≤ length stores.old.items }
+    requires places { length slots.old.items + many ≤ vec_capacity slots.old }
+    ensures slots { slots.new.items ≡ slots.old.items ++ map Store (take many stores.old.items) }
+    ensures stores { stores.new.items ≡ drop many stores.old.items }
+    ensures places { vec_capacity slots.new ≡ vec_capacity slots.old }
+    ensures store_places { vec_capacity stores.new ≡ vec_capacity stores.old }
+{
+    stores.reverse();
+    for _store in 0..many {
+        slots.push_reserved(Slot::Store(stores.take_last()));
+    }
+    stores.reverse();
+}
+
+// All buffers do.
+fn put_buffers<L, B>(slots: &mut Vec<Slot<L, B>>, mut buffers: Vec<Option<PageBuffer>>)
+    requires { length slots.old.items + length buffers.items ≤ vec_capacity slots.old }
+    ensures { slots.new.items ≡ slots.old.items ++ map Page buffers.items }
+{
+    buffers.reverse();
+    for _page in 0..buffers.len() {
+        slots.push_reserved(Slot::Page(buffers.take_last()));
+    }
 }
 
 // A buffer for each of the first pages, and none for the others.

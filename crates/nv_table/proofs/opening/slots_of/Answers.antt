@@ -1,48 +1,22 @@
-use Rattle.std.proofs.Common.{[], ◌+◌, ◌++◌, length, map, take, drop, reverse, ap, ◌∙◌, arith}
-use Rattle.std.proofs.lemmas.List.{reverse-reverse, length-reverse}
-use Rattle.nv_table.specs.declared.slot.Slot.TheVariants.{Part, Store, Page}
-use Rattle.nv_table.proofs.state.MoveLaws.{none_yet, one_more}
+use Rattle.std.proofs.Common.{◌≡◌, List, [], ◌++◌, map, ap, ap₂, ◌∙◌, arith}
+use Rattle.std.proofs.lemmas.List.{drop_all, take_all}
+use Rattle.nv_table.specs.declared.slot.Slot.TheVariants.{Store, Page}
 use Rattle.nv_table.proofs.opening.slots_of.Goals as goal
 
-pub loop-part-preserved : goal.loop-part-preserved
-loop-part-preserved g c = record {
-  moved = one_more Part c.args.parts.items c.loop-part._part [] c.loop-part.slots.items c.push_reserved.new.self.items c.loop-part.parts.items c.take_last.new.self.items c.take_last.result
-      c.loop-part.invariant.moved (omega arith) c.take_last.ensures.items c.push_reserved.ensures.items;
-  places = omega arith;
-  len = omega arith;
-  capacity = omega arith;
+-- three lists that came one behind the other
+three_joined : {X : Type 0} (none one two three first second more third : List X) → none ≡ [] → one ≡ none ++ first → two ≡ one ++ more → more ≡ second → three ≡ two ++ third
+    → three ≡ first ++ second ++ third
+three_joined none one two three first second more third empty came then all last =
+    last ∙ ap (λ slots. slots ++ third) (then ∙ ap₂ (λ slots most. slots ++ most) (came ∙ ap (λ slots. slots ++ first) empty) all)
+
+pub returns-clause-slots : goal.returns-clause-slots
+returns-clause-slots g c = record {
+  buffers = c.in-Ok.buffers.items;
+  are_buffers = c.in-Ok.ensures;
+  are = three_joined c.in-Ok-with_capacity.slots.items c.put_parts.new.slots.items c.put_stores.new.slots.items c.put_buffers.new.slots.items _ (map Store c.args.stores.items) _
+      (map Page c.in-Ok.buffers.items) c.in-Ok-with_capacity.ensures.items c.put_parts.ensures.slots c.put_stores.ensures.slots
+      (ap (map Store) (take_all c.args.layout.files c.args.stores.items (omega (arith, c.requires.stores)))) c.put_buffers.ensures;
 }
 
-pub loop-store-init : goal.loop-store-init
-loop-store-init g c = record {
-  moved = none_yet Store c.args.stores.items (map Part (take (1 + c.args.layout.entries) c.args.parts.items)) c.loop-part.slots.items c.reverse-3.new.self.items
-      (c.loop-part.invariant.moved.moved_are ∙ ap (λ many. map Part (take many c.args.parts.items)) (omega arith)) c.reverse-3.ensures.items;
-  places = omega arith;
-  len = omega arith;
-  capacity = omega arith;
-}
-
-pub loop-store-preserved : goal.loop-store-preserved
-loop-store-preserved g c = record {
-  moved = one_more Store c.args.stores.items c.loop-store._store (map Part (take (1 + c.args.layout.entries) c.args.parts.items)) c.loop-store.slots.items c.push_reserved-in-loop-store.new.self.items
-      c.loop-store.stores.items c.take_last-in-loop-store.new.self.items c.take_last-in-loop-store.result
-      c.loop-store.invariant.moved (omega arith) c.take_last-in-loop-store.ensures.items c.push_reserved-in-loop-store.ensures.items;
-  places = omega arith;
-  len = omega arith;
-  capacity = omega arith;
-}
-
-pub loop-page-preserved : goal.loop-page-preserved
-loop-page-preserved g c = record {
-  moved = one_more Page (reverse c.reverse-4.new.self.items) c.loop-page._page (map Part (take (1 + c.args.layout.entries) c.args.parts.items) ++ map Store c.args.stores.items)
-      c.loop-page.slots.items c.push_reserved-in-loop-page.new.self.items c.loop-page.buffers.items c.take_last-in-loop-page.new.self.items c.take_last-in-loop-page.result
-      c.loop-page.invariant.moved (omega (arith, length-reverse c.reverse-4.new.self.items, length-reverse c.in-Ok.buffers.items, ap length c.reverse-4.ensures.items, c.in-Ok.ensures.count))
-      c.take_last-in-loop-page.ensures.items c.push_reserved-in-loop-page.ensures.items;
-  places = omega arith;
-  len = omega arith;
-}
-
-pub returns-clause-parts : goal.returns-clause-parts
-returns-clause-parts g c =
-    c.reverse-2.ensures.items ∙ ap reverse c.loop-part.invariant.moved.left_are ∙ reverse-reverse (drop c.loop-part._part c.args.parts.items)
-    ∙ ap (λ many. drop many c.args.parts.items) (omega arith)
+pub returns-clause-stores : goal.returns-clause-stores
+returns-clause-stores g c = c.put_stores.ensures.stores ∙ drop_all c.args.layout.files c.args.stores.items (omega (arith, c.requires.stores))
