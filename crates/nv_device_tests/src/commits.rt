@@ -120,9 +120,18 @@ fn commits(alloc: Global, entries: u64, bytes: &[u8], fails: u64) -> Result<bool
 #[test]
 fn a_group_of_n_short_pieces_takes_nine_n_and_three_calls(rt: HostRuntime) {
     let alloc = rt.alloc();
-    let of_one = (commits(alloc, 1, &[7; 64], 12), commits(alloc, 1, &[7; 64], 13));
-    let of_two = (commits(alloc, 2, &[7; 128], 21), commits(alloc, 2, &[7; 128], 22));
-    let of_three = (commits(alloc, 3, &[7; 130], 30), commits(alloc, 3, &[7; 130], 31));
+    let of_one = (
+        commits(alloc, 1, &[7; 64], 12),
+        commits(alloc, 1, &[7; 64], 13),
+    );
+    let of_two = (
+        commits(alloc, 2, &[7; 128], 21),
+        commits(alloc, 2, &[7; 128], 22),
+    );
+    let of_three = (
+        commits(alloc, 3, &[7; 130], 30),
+        commits(alloc, 3, &[7; 130], 31),
+    );
     assert_eq!(rt;
         [of_one, of_two, of_three],
         [
@@ -196,7 +205,11 @@ fn the_follower_of_a_group_of_two_is_written_and_read(rt: HostRuntime) -> Result
 
 #[test]
 fn a_write_is_cut_at_page_boundaries(rt: HostRuntime) {
-    let pieces = (piece_count(130, 70, 64), cut(130, 70, 64, 0), cut(130, 70, 64, 1));
+    let pieces = (
+        piece_count(130, 70, 64),
+        cut(130, 70, 64, 0),
+        cut(130, 70, 64, 1),
+    );
     let first = Span {
         at: 130,
         from: 0,
