@@ -1,5 +1,5 @@
 //! Tests of the log of one thread.
-ghost use Rattle.std.specs.Prelude.{◌≡◌, [], length, map, false, IfOk};
+ghost use Rattle.std.specs.Prelude.{◌≡◌, ◌+◌, ◌^◌, ◌<◌, ◌≤◌, [], length, map, false, IfOk};
 ghost use Rattle.nv_pmem.specs.MemPart.{part_history, part_room};
 ghost use Rattle.nv_pmem.specs.Rows.{RowTells};
 ghost use Rattle.nv_store.specs.MemStore.{store_history};
@@ -68,24 +68,94 @@ fn opened(
     log_over(alloc, region(alloc, entries, parts)?, disks)
 }
 
+// A write of one of its two files.
+fn write(
+    log: &mut Log<MemPart, MemStore>,
+    file: u64,
+    at: u64,
+    bytes: &[u8],
+) -> Result<u64, WriteError>
+    requires log { IsLog part_history part_room store_history log.old }
+    requires names { length log.old.names ≡ 2 }
+    requires file { file < 2 }
+    requires some { 1 ≤ length bytes.now }
+    requires range { at + length bytes.now ≤ 2 ^ 63 }
+    ensures log { IsLog part_history part_room store_history log.new }
+    ensures names { length log.new.names ≡ 2 }
+    ensures running { IfOk result (λ _. log.new.stopped ≡ log.old.stopped) }
+{
+    log.write(file, at, bytes)
+}
+
+// A read of one of them.
+fn read(
+    alloc: Global,
+    log: &mut Log<MemPart, MemStore>,
+    file: u64,
+    at: u64,
+    len: u64,
+) -> Result<Vec<u8>, ReadError>
+    requires log { IsLog part_history part_room store_history log.old }
+    requires names { length log.old.names ≡ 2 }
+    requires file { file < 2 }
+    requires range { at + len ≤ 2 ^ 63 }
+    ensures log { IsLog part_history part_room store_history log.new }
+    ensures names { length log.new.names ≡ 2 }
+{
+    log.read(alloc, file, at, len)
+}
+
+// What a finish leaves of it.
+fn finished(
+    alloc: Global,
+    log: Log<MemPart, MemStore>,
+) -> Result<(Region<MemPart>, Vec<MemStore>), Fail>
+    requires log { IsLog part_history part_room store_history log }
+    requires names { length log.names ≡ 2 }
+    requires running { log.stopped ≡ false }
+    ensures { IfOk result (λ done. length done.0.names ≡ 2) }
+{
+    let done = log.finish(alloc).map_err(|failed| failed.2)?;
+    Ok(done)
+}
+
+// Reads of both files, and one of two bytes.
+fn reads(
+    alloc: Global,
+    log: &mut Log<MemPart, MemStore>,
+) -> Result<(Vec<u8>, Vec<u8>, Vec<u8>), ReadError>
+    requires log { IsLog part_history part_room store_history log.old }
+    requires names { length log.old.names ≡ 2 }
+{
+    let first = read(alloc, log, 0, 0, 16)?;
+    let second = read(alloc, log, 1, 0, 16)?;
+    let middle = read(alloc, log, 1, 1, 2)?;
+    Ok((first, second, middle))
+}
+
 #[test]
 fn writes_are_read_over_the_stores(rt: HostRuntime) -> Result<(), Fail> {
     let alloc = rt.alloc();
     let none = Fuse::new(alloc, &[])?;
     let mut log = opened(alloc, 2, &none, &none)?;
-    assert_eq!(rt; log.geometry().page, 64);
-    assert_eq!(rt; log.names().len(), 2);
-    assert_eq!(rt; log.write(0, 0, b"hello"), Ok(5));
-    assert_eq!(rt; log.write(1, 4, b"z"), Ok(1));
-    assert_eq!(rt; log.head(), 2);
-    assert_eq!(rt; log.tail(), 0);
-    assert_eq!(rt; log.len(1), 5);
-    assert_eq!(rt; log.read(alloc, 0, 0, 16)?.as_slice(), b"hello".as_slice());
+    let told = (log.geometry().page, log.names().len());
+    let written = (write(&mut log, 0, 0, b"hello"), write(&mut log, 1, 4, b"z"));
+    let ring = (log.head(), log.tail(), log.len(1));
+    let (first, second, middle) = reads(alloc, &mut log)?;
     assert_eq!(rt;
-        log.read(alloc, 1, 0, 16)?.as_slice(),
-        b"xy\0\0z".as_slice()
+        (
+            (told, written, ring),
+            [first.as_slice(), second.as_slice(), middle.as_slice()]
+        ),
+        (
+            ((64, 2), (Ok(5), Ok(1)), (2, 0, 5)),
+            [
+                b"hello".as_slice(),
+                b"xy\0\0z".as_slice(),
+                b"y\0".as_slice()
+            ]
+        )
     );
-    assert_eq!(rt; log.read(alloc, 1, 1, 2)?.as_slice(), b"y\0".as_slice());
     Ok(())
 }
 
@@ -96,8 +166,8 @@ fn begun_later(alloc: Global) -> Result<Log<MemPart, MemStore>, Fail>
 {
     let none = Fuse::new(alloc, &[])?;
     let mut log = opened(alloc, 4, &none, &none)?;
-    log.write(0, 63, b"xy")?;
-    let (region, _stores) = log.finish(alloc).map_err(|failed| failed.2)?;
+    write(&mut log, 0, 63, b"xy")?;
+    let (region, _stores) = finished(alloc, log)?;
     log_over(alloc, region, &none)
 }
 
@@ -111,10 +181,10 @@ fn a_group_wraps_around_the_ring(rt: HostRuntime) -> Result<(), Fail> {
     bytes[4] = b'b';
     bytes[67] = b'c';
     bytes[68] = b'd';
-    let written = log.write(0, 60, &bytes);
+    let written = write(&mut log, 0, 60, &bytes);
     assert_eq!(rt; (written, log.tail(), log.head()), (Ok(70), 2, 5));
-    let whole = log.read(alloc, 0, 60, 80)?;
-    let end = log.read(alloc, 0, 126, 9)?;
+    let whole = read(alloc, &mut log, 0, 60, 80)?;
+    let end = read(alloc, &mut log, 0, 126, 9)?;
     assert_eq!(rt;
         (whole.as_slice(), end.as_slice()),
         (bytes.as_slice(), b"-cd-".as_slice())
@@ -122,27 +192,47 @@ fn a_group_wraps_around_the_ring(rt: HostRuntime) -> Result<(), Fail> {
     Ok(())
 }
 
+// Six writes of a log of 2 entries, of which the third and the fifth fit.
+fn six_writes(log: &mut Log<MemPart, MemStore>) -> [Result<u64, WriteError>; 6]
+    requires log { IsLog part_history part_room store_history log.old }
+    requires names { length log.old.names ≡ 2 }
+    ensures log { IsLog part_history part_room store_history log.new }
+    ensures names { length log.new.names ≡ 2 }
+{
+    [
+        write(log, 0, 256, b"x"),
+        write(log, 0, 63, &[b'x'; 66]),
+        write(log, 0, 255, b"x"),
+        write(log, 0, 63, b"xy"),
+        write(log, 0, 0, b"x"),
+        write(log, 0, 1, b"x"),
+    ]
+}
+
 #[test]
 fn refusals_come_in_their_order(rt: HostRuntime) -> Result<(), Fail> {
     let alloc = rt.alloc();
     let none = Fuse::new(alloc, &[])?;
     let mut log = opened(alloc, 2, &none, &none)?;
-    assert_eq!(rt; log.write(0, 256, b"x"), Err(WriteError::TooFar));
-    assert_eq!(rt; log.write(0, 63, &[b'x'; 66]), Err(WriteError::TooLong));
-    assert_eq!(rt; log.write(0, 255, b"x"), Ok(1));
+    let writes = six_writes(&mut log);
+    let reads = [
+        read(alloc, &mut log, 0, 250, 7).err(),
+        read(alloc, &mut log, 0, 0, 129).err(),
+    ];
     assert_eq!(rt;
-        log.write(0, 63, b"xy"),
-        Err(WriteError::Again { head: 1, tail: 0 })
+        (writes, reads),
+        (
+            [
+                Err(WriteError::TooFar),
+                Err(WriteError::TooLong),
+                Ok(1),
+                Err(WriteError::Again { head: 1, tail: 0 }),
+                Ok(1),
+                Err(WriteError::Again { head: 2, tail: 0 }),
+            ],
+            [Some(ReadError::TooFar), Some(ReadError::TooLong)]
+        )
     );
-    assert_eq!(rt; log.write(0, 0, b"x"), Ok(1));
-    assert_eq!(rt;
-        log.write(0, 1, b"x"),
-        Err(WriteError::Again { head: 2, tail: 0 })
-    );
-    let too_far = log.read(alloc, 0, 250, 7).err();
-    assert_eq!(rt; too_far, Some(ReadError::TooFar));
-    let too_long = log.read(alloc, 0, 0, 129).err();
-    assert_eq!(rt; too_long, Some(ReadError::TooLong));
     Ok(())
 }
 
@@ -151,15 +241,17 @@ fn a_finish_leaves_the_bytes_in_the_stores(rt: HostRuntime) -> Result<(), Fail> 
     let alloc = rt.alloc();
     let none = Fuse::new(alloc, &[])?;
     let mut log = opened(alloc, 2, &none, &none)?;
-    assert_eq!(rt; log.write(0, 2, b"hello"), Ok(5));
-    let (region, mut stores) = log.finish(alloc).map_err(|failed| failed.2)?;
-    assert_eq!(rt; region.next(), 1);
-    assert_eq!(rt; region.names().len(), 2);
+    let written = write(&mut log, 0, 2, b"hello")?;
+    let (region, mut stores) = finished(alloc, log)?;
     let mut bytes = [b'#'; 8];
+    let mut read = None;
     for store in stores.iter_mut().take(1) {
-        assert_eq!(rt; store.pread(0, &mut bytes), Ok(7));
+        read = Some(store.pread(0, &mut bytes));
     }
-    assert_eq!(rt; &bytes, b"\0\0hello#");
+    assert_eq!(rt;
+        (written, region.next(), region.names().len(), read, &bytes),
+        (5, 1, 2, Some(Ok(7)), b"\0\0hello#")
+    );
     Ok(())
 }
 
@@ -170,10 +262,10 @@ fn a_fault_stops_the_log(rt: HostRuntime) -> Result<(), Fail> {
     let fuse = Fuse::new(alloc, &[])?;
     let mut log = opened(alloc, 2, &fuse, &none)?;
     fuse.arm(1);
-    let failed = (log.write(0, 0, b"x"), log.is_stopped());
+    let failed = (write(&mut log, 0, 0, b"x"), log.is_stopped());
     fuse.disarm();
-    let written = log.write(0, 0, b"x");
-    let read = log.read(alloc, 0, 0, 1).err();
+    let written = write(&mut log, 0, 0, b"x");
+    let read = read(alloc, &mut log, 0, 0, 1).err();
     let (parts, stores) = log.into_devices();
     assert_eq!(rt;
         (failed, written, read, (parts.len(), stores.len())),
@@ -194,10 +286,10 @@ fn a_read_makes_one_call_of_a_store(rt: HostRuntime) -> Result<(), Fail> {
     let none = Fuse::new(alloc, &[])?;
     let fuse = Fuse::new(alloc, &[4])?;
     let mut log = opened(alloc, 2, &none, &fuse)?;
-    let read = log.read(alloc, 1, 0, 2)?;
-    let failed = log.read(alloc, 1, 0, 2).err();
+    let bytes = read(alloc, &mut log, 1, 0, 2)?;
+    let failed = read(alloc, &mut log, 1, 0, 2).err();
     assert_eq!(rt;
-        (read.as_slice(), failed),
+        (bytes.as_slice(), failed),
         (b"xy".as_slice(), Some(ReadError::StoreFault))
     );
     Ok(())

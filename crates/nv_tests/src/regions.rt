@@ -32,32 +32,43 @@ fn faults(parts: &[MemPart]) -> u64 {
     sum
 }
 
+// Words 0 to 4 of a header, and the tail.
+fn header_words(header: &mut MemPart) -> [Option<u64>; 6] {
+    [
+        word(header, 0, 0),
+        word(header, 0, 1),
+        word(header, 0, 2),
+        word(header, 0, 3),
+        word(header, 0, 4),
+        word(header, 1, 0),
+    ]
+}
+
 #[test]
 fn a_formatted_region_reads_as_one(rt: HostRuntime) -> Result<(), Fail> {
     let fuse = Fuse::new(rt.alloc(), &[])?;
     let region = formatted(rt.alloc(), &fuse, &[5])?;
-    assert_eq!(rt; region.next(), 0);
-    assert_eq!(rt; region.names().len(), 0);
-    assert_eq!(rt; region.geometry().page, 64);
-    assert_eq!(rt; region.geometry().entries, 2);
+    let geometry = region.geometry();
+    let told = (region.next(), region.names().len());
     let mut parts = region.into_parts();
     assert_eq!(rt; parts.len(), 4);
-    assert_eq!(rt; parts[3].lines(), 5);
-    for (line, at, value) in [
-        (0, 0, 0x3145_4843_4143_564e),
-        (0, 1, 1),
-        (0, 2, 64),
-        (0, 3, 2),
-        (0, 4, 0),
-        (1, 0, 0),
-    ] {
-        assert_eq!(rt; word(&mut parts[0], line, at), Some(value));
-    }
-    assert_eq!(rt; word(&mut parts[1], 0, 0), Some(0));
-    assert_eq!(rt; word(&mut parts[2], 0, 0), Some(0));
+    let header = header_words(&mut parts[0]);
+    let entries = [word(&mut parts[1], 0, 0), word(&mut parts[2], 0, 0)];
+    let behind = parts[3].lines();
     let head = read_head(rt.alloc(), &mut parts)?;
-    assert_eq!(rt; head.tail, 0);
-    assert_eq!(rt; head.names.len(), 0);
+    let magic = 0x3145_4843_4143_564e;
+    assert_eq!(rt;
+        (
+            (told, geometry.page, geometry.entries),
+            (header, entries, behind),
+            (head.tail, head.names.len())
+        ),
+        (
+            ((0, 0), 64, 2),
+            ([magic, 1, 64, 2, 0, 0].map(Some), [Some(0); 2], 5),
+            (0, 0)
+        )
+    );
     Ok(())
 }
 
