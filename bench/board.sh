@@ -12,7 +12,7 @@ else
 fi
 cd "$(dirname "$0")/.."
 rm -rf "$room"/crates/*/{src,specs,proofs}
-for crate in nv_plain nv_pmem nv_store nv_entry nv_header nv_core nv_table nv_pages nv_mount nv_calls; do
+for crate in nv_plain nv_pmem nv_store nv_entry nv_header nv_core nv_table nv_pages nv_mount nv_op nv_mirror nv_calls; do
     mkdir -p "$room/crates/$crate"
     cp -r "crates/$crate/src" "crates/$crate/specs" "crates/$crate/proofs" "$room/crates/$crate"
 done
@@ -21,7 +21,7 @@ done
 done
 cp HANDLES "$room"
 {
-    grep -E "^nv_(plain|pmem|store|entry|header|core|table|pages|mount|calls):" crates.txt
+    grep -E "^nv_(plain|pmem|store|entry|header|core|table|pages|mount|op|mirror|calls):" crates.txt
     echo "board: nv_plain nv_pmem nv_store nv_header nv_mount nv_calls nv_table thiserror"
 } > "$room/crates.txt"
 cd "$room/crates/board"

@@ -1,11 +1,10 @@
-//! The calls of a mount that threads share, so far reads and fsync: whole, and one step at a time.
+//! The calls of a mount that threads share: reads, writes and fsync as a whole, reads and fsync also one step at a time.
 #![tactic(auto)]
 
 mod alone;
-mod answers;
-mod kinds;
 mod laws;
 mod machine;
+mod range;
 mod read;
 mod read_begin;
 mod read_ends;
@@ -16,12 +15,14 @@ mod read_search;
 mod read_steps;
 mod reading;
 mod sync;
+mod write;
 
 pub use alone::a_read_alone_is_not_busy;
-pub use answers::{Done, Refusal};
-pub use kinds::Kind;
 pub use laws::ended_calls_heed_stop;
 pub use machine::{Progress, SyncControl, SyncMachine};
+pub use nv_mirror::{Done, Refusal};
+pub use nv_op::Kind;
 pub use read::{pread, try_pread};
 pub use reading::{Held, MOST_PAGE, ReadControl, ReadMachine};
 pub use sync::try_fsync;
+pub use write::{pwrite, try_pwrite};

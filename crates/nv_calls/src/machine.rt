@@ -11,8 +11,9 @@ ghost use Rattle.nv_calls.specs.histories.Kinds.{sync_kind};
 ghost use Rattle.nv_calls.specs.fsync.SyncMachines.{SyncGoes, SyncFollows, IsSyncUnderWay, placed_then};
 ghost use Rattle.nv_calls.specs.declared.machine.SyncControl.TheVariants as syncs;
 
-use crate::{Done, Kind, Refusal};
+use nv_mirror::{Done, Refusal};
 use nv_mount::Mount;
+use nv_op::Kind;
 use nv_pmem::Lines;
 use nv_store::Backing;
 use nv_table::{Board, Calls, ORDER, Pass, begin_with_load, load_word, place};

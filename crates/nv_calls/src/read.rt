@@ -3,16 +3,17 @@ ghost use Rattle.std.specs.Prelude.{◌≡◌, ◌≢◌, ℕ, Some, IfOk, OnErr
 ghost use Rattle.nv_table.specs.invariant.Idle.{IsIdle, IsLater};
 ghost use Rattle.nv_table.specs.state.States.{IsOf, PassState};
 ghost use Rattle.nv_calls.specs.reads.Advances.{IsAdvance, IsOneOrNone, IsSameRead};
-ghost use Rattle.nv_calls.specs.histories.Answers.{IsReadPlaced, IsUnplaced};
+ghost use Rattle.nv_mirror.specs.Answers.{IsReadPlaced, IsUnplaced};
 ghost use Rattle.nv_calls.specs.fsync.SyncRuns.{file_of_fd};
 ghost use Rattle.nv_calls.specs.histories.Heeds.{HeedsStop};
 ghost use Rattle.nv_calls.specs.reads.PastSearch.{IsPastSearch};
 ghost use Rattle.nv_calls.specs.reads.Measures.{IsLess};
 ghost use Rattle.nv_calls.specs.reads.Reads.{IsOnWay, IsReadOver, IsReadUnderWay, ReadGoes};
 ghost use Rattle.nv_calls.specs.histories.Tries.{IsTried};
-ghost use Rattle.nv_calls.specs.declared.answers.Refusal.TheVariants.{Busy};
+ghost use Rattle.nv_mirror.specs.declared.answers.Refusal.TheVariants.{Busy};
 
-use crate::{Done, Progress, ReadControl, ReadMachine, Refusal, ended_calls_heed_stop};
+use crate::{Progress, ReadControl, ReadMachine, ended_calls_heed_stop};
+use nv_mirror::{Done, Refusal};
 use nv_mount::Mount;
 use nv_pmem::Lines;
 use nv_store::Backing;

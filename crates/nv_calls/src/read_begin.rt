@@ -15,17 +15,15 @@ ghost use Rattle.nv_calls.specs.reads.Measures.{IsLess};
 ghost use Rattle.nv_calls.specs.reads.Reads.{IsUnbegun};
 ghost use Rattle.nv_calls.specs.declared.reading.ReadControl.TheVariants as reads;
 
+use crate::range::check_range;
 use crate::read_steps::layout_of;
-use crate::{Progress, ReadControl, ReadMachine, Refusal};
-use nv_entry::piece_count;
+use crate::{Progress, ReadControl, ReadMachine};
+use nv_mirror::Refusal;
 use nv_mount::Mount;
 use nv_pmem::Lines;
 use nv_store::Backing;
 use nv_table::{Board, Busy, Calls, Layout, Pass, begin_with_load, begin_with_take};
 use std::marker::Brand;
-
-// How many pages a write may touch, at most, and so a read.
-const MOST_PAGES: u64 = 16;
 
 // Begins a read of no bytes.
 fn begin_with_stop<C: Calls, L: Lines, B: Backing>(
@@ -86,13 +84,7 @@ impl ReadMachine {
         if !open.mode.can_read() {
             return Err(Refusal::BadFd);
         }
-        let limit = layout.page * layout.pages;
-        if self.at > limit || self.len > limit - self.at {
-            return Err(Refusal::TooFar);
-        }
-        if piece_count(self.at, self.len, layout.page) > MOST_PAGES.min(layout.entries) {
-            return Err(Refusal::TooLong);
-        }
+        check_range(layout, self.at, self.len)?;
         Ok(open.file)
     }
 

@@ -10,8 +10,9 @@ ghost use Rattle.nv_table.specs.state.Keys.{sizes_of};
 ghost use Rattle.nv_calls.specs.declared.reading.ReadControl.TheVariants as reads;
 
 use crate::read_steps::layout_of;
-use crate::{Done, Held, Progress, ReadControl, ReadMachine, Refusal};
+use crate::{Held, Progress, ReadControl, ReadMachine};
 use nv_core::{passes_are_left_alone, runs_keep_content};
+use nv_mirror::{Done, Refusal};
 use nv_mount::Mount;
 use nv_plain::history_goes_on;
 use nv_pmem::Lines;

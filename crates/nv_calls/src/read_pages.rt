@@ -25,9 +25,10 @@ ghost use Rattle.nv_table.specs.state.Views.{pass_of, slot_times, values_of};
 
 use crate::read_faults::stop_after;
 use crate::read_steps::layout_of;
-use crate::{Held, Progress, ReadControl, ReadMachine, Refusal};
+use crate::{Held, Progress, ReadControl, ReadMachine};
 use nv_core::cells_keep_their_shapes;
 use nv_entry::{cut, piece_count};
+use nv_mirror::Refusal;
 use nv_mount::Mount;
 use nv_pages::{copy_page, fill_page, lacks_buffer, read_store};
 use nv_pmem::Lines;

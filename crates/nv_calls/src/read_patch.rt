@@ -13,8 +13,9 @@ ghost use Rattle.nv_calls.specs.declared.reading.ReadControl.TheVariants as read
 
 use crate::read_faults::stop_after;
 use crate::read_steps::layout_of;
-use crate::{Held, MOST_PAGE, Progress, ReadControl, ReadMachine, Refusal};
+use crate::{Held, MOST_PAGE, Progress, ReadControl, ReadMachine};
 use nv_core::{cells_keep_their_shapes, held_pieces_fit, runs_are_sound};
+use nv_mirror::Refusal;
 use nv_mount::Mount;
 use nv_pages::{hold_entry, patch, read_entry, return_entry};
 use nv_pmem::Lines;

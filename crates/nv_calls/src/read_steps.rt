@@ -8,8 +8,9 @@ ghost use Rattle.nv_core.specs.state.Passes.{IsAllowed, first_page, end_page, pa
 ghost use Rattle.nv_table.specs.state.Keys.{sizes_of};
 ghost use Rattle.nv_calls.specs.declared.reading.ReadControl.TheVariants as reads;
 
-use crate::{Held, Progress, ReadControl, ReadMachine, Refusal};
+use crate::{Held, Progress, ReadControl, ReadMachine};
 use nv_entry::piece_count;
+use nv_mirror::Refusal;
 use nv_mount::Mount;
 use nv_pmem::Lines;
 use nv_store::Backing;

@@ -3,7 +3,8 @@ ghost use Rattle.std.specs.Prelude.{◌≡◌, false, None, option_map};
 ghost use Rattle.nv_calls.specs.histories.Kinds.{read_kind};
 ghost use Rattle.nv_calls.specs.declared.reading.ReadControl.TheVariants as reads;
 
-use crate::{Done, Kind, Refusal};
+use nv_mirror::{Done, Refusal};
+use nv_op::Kind;
 
 /// How many bytes a page has at most.
 pub const MOST_PAGE: usize = 4096;

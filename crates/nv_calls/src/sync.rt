@@ -3,11 +3,12 @@ ghost use Rattle.std.specs.Prelude.{◌≡◌, ◌<◌, Some, IfOk, OnErr};
 ghost use Rattle.nv_plain.specs.declared.call.FileCall.TheVariants.{Sync};
 ghost use Rattle.nv_table.specs.invariant.Idle.{IsIdle, IsLater};
 ghost use Rattle.nv_table.specs.state.States.{IsOf};
-ghost use Rattle.nv_calls.specs.histories.Answers.{IsSyncPlaced, IsUnplaced};
+ghost use Rattle.nv_mirror.specs.Answers.{IsSyncPlaced, IsUnplaced};
 ghost use Rattle.nv_calls.specs.fsync.SyncRuns.{IsSyncRun, file_of_fd};
 ghost use Rattle.nv_calls.specs.histories.Heeds.{SyncHeedsStop};
 
-use crate::{Done, Refusal, ended_calls_heed_stop};
+use crate::ended_calls_heed_stop;
+use nv_mirror::{Done, Refusal};
 use nv_mount::Mount;
 use nv_pmem::Lines;
 use nv_store::Backing;

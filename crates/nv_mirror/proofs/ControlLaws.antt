@@ -3,9 +3,11 @@ use Rattle.std.proofs.Common.{◌≡◌, ℕ, List, [], ◌∷◌, inl, refl, sy
 use Rattle.std.specs.Prelude.{Option, Some, None}
 use Rattle.nv_plain.specs.Histories.{Answered}
 use Rattle.nv_plain.specs.declared.call.FileCall.{FileCall}
+use Rattle.nv_plain.specs.declared.call.FileCall.TheVariants.{Read, Write, Sync}
+use Rattle.nv_plain.specs.declared.call.Reply.{Reply}
 use Rattle.nv_core.specs.state.Core.{values_stepped}
 use Rattle.nv_core.specs.steps.Ops.{Op, Place}
-use Rattle.nv_core.specs.steps.Order.{Values, next_step, plain_reply}
+use Rattle.nv_core.specs.steps.Order.{Values, Work, next_step, plain_reply}
 use Rattle.nv_core.specs.state.Passes.{Pass, TakePlace}
 use Rattle.nv_core.specs.steps.PassSteps.{stepped, left_after, mine_after}
 use Rattle.nv_core.specs.content.Content.{RunsKeepContent}
@@ -15,8 +17,8 @@ use Rattle.nv_plain.specs.Histories.{GoesOnLegally}
 use Rattle.nv_table.specs.invariant.Idle.{IsLater}
 use Rattle.nv_table.specs.steps.CallSteps.{place_op}
 use Rattle.nv_table.proofs.steps.CallOps.{placed}
-use Rattle.nv_calls.specs.histories.Answers.{IsUnplaced}
-use Rattle.nv_calls.proofs.histories.DoneLaws.{done_plainly}
+use Rattle.nv_mirror.specs.Answers.{IsUnplaced}
+use Rattle.nv_mirror.proofs.DoneLaws.{done_plainly}
 use Rattle.nv_core.specs.state.Words.{Sizes}
 use Rattle.nv_table.specs.steps.SeatSteps.{MayOpen, with_call}
 use Rattle.nv_table.specs.state.Opened.{Opened, mount_of, state_of}
@@ -25,10 +27,10 @@ use Rattle.nv_table.specs.state.Views.{pass_of, values_of, still_owned, OwnsSlot
 use Rattle.nv_table.specs.state.States.{PassState}
 use Rattle.nv_table.specs.steps.CallSteps.{Precondition, reply_at}
 use Rattle.nv_table.proofs.steps.CallLaws.{IsCallFree, stepped_there, later_by, later_on}
-use Rattle.nv_calls.specs.histories.PassSteps.{refusal_in, refused_by, place_by, either_of}
-use Rattle.nv_calls.specs.declared.answers.Refusal.{Refusal}
-use Rattle.nv_calls.proofs.reads.WayLaws.{between_self, taken_by, opened_same}
-use Rattle.nv_mirror.specs.Controls.{Mirror, Told, InCall}
+use Rattle.nv_mirror.specs.PassSteps.{PassStep, head_in, refusal_in, refused_by, place_by, either_of}
+use Rattle.nv_mirror.specs.declared.answers.Refusal.{Refusal}
+use Rattle.nv_mirror.proofs.StepLaws.{between_self, taken_by, opened_same}
+use Rattle.nv_mirror.specs.Controls.{Mirror, IsReplyTo, Told, InCall}
 
 with_left : (sizes : Sizes) (opens : Option FileCall) (pass : Pass) → (with_call sizes opens pass).left ≡ pass.left
 with_left sizes None pass = refl
@@ -56,29 +58,38 @@ module _ {State : Type 0} (mirror : Mirror State) (call : FileCall) (opens : Opt
         called.still;
   }
 
-  -- and the machine goes on with the core
+  -- the step that it makes, behind such device calls
+  abbrev step_made : List Work → (found : ℕ) → PassStep
+  step_made works found = record { opens = opens; works = works; op = core_op; found = found }
+
+  -- and the machine goes on with the core, and that step is the last of its steps
   pub mirror_on : (opens_then : Option FileCall) (then_is : State) (refusal_then : Option Refusal) (place_then : Option ℕ) (found : ℕ) (new : PassState) (step : Postcondition now opens core_op found new) → IsCallFree (pass_of now.view).control
       → ((pass : Pass) (number : ℕ) (history : List Answered) → mirror.of (stepped now.view.opened.sizes number history core_op found (mirror.with is pass)) ≡ then_is) → ((pass : Pass) → left_after pass core_op ≡ pass.left)
-      → either_of refusal (refused_by now.view.opened.sizes call step.works core_op found) ≡ refusal_then → either_of place (place_by core_op found) ≡ place_then
-      → None ≡ opens_then → Told call place_then start new → InCall mirror call opens_then then_is refusal_then place_then start new
-  mirror_on opens_then then_is refusal_then place_then found new step free goes leaves refuses places opened_then told_then = subst (λ opens_then. InCall mirror call opens_then then_is refusal_then place_then start new) opened_then record {
-    idle = called.idle;
-    steps = record { opens = opens; works = step.works; op = core_op; found = found } ∷ called.steps;
-    made = (now, called.made, taken_by now now new opens core_op found (between_self now) step);
-    refused = subst (λ (o : Opened). refusal_in o.sizes call (record { opens = opens; works = step.works; op = core_op; found = found } ∷ called.steps) ≡ refusal_then) (sym opened)
-        (ap (λ r. either_of r (refused_by now.view.opened.sizes call step.works core_op found)) called.refused ∙ refuses);
-    placed = ap (λ p. either_of p (place_by core_op found)) called.placed ∙ places;
-    later = later_on start now new called.later (later_by now new opens core_op found step);
-    spare = step.spare ∙ called.spare;
-    mount = opened ∙ called.mount;
-    still = step.owns_slots;
-    left = ap (λ (p : Pass). p.left) there ∙ leaves before ∙ with_left now.view.opened.sizes opens (pass_of now.view) ∙ called.left;
-    fresh = tt;
-    told = told_then;
-    mirrors = ap mirror.of there
-        ∙ subst (λ p. mirror.of (stepped now.view.opened.sizes now.view.number (state_of now.view.opened step.steps.run).history core_op found p) ≡ then_is) as_is
-        (goes before now.view.number (state_of now.view.opened step.steps.run).history);
-  }
+      → either_of refusal (refused_by now.view.opened.sizes call (head_in called.steps) step.works core_op found) ≡ refusal_then → either_of place (place_by core_op found) ≡ place_then
+      → None ≡ opens_then → Told call place_then start new
+      → (then_called : InCall mirror call opens_then then_is refusal_then place_then start new) × (then_called.steps ≡ step_made step.works found ∷ called.steps)
+  mirror_on opens_then then_is refusal_then place_then found new step free goes leaves refuses places opened_then told_then =
+      subst (λ opens_then. (then_called : InCall mirror call opens_then then_is refusal_then place_then start new) × (then_called.steps ≡ step_made step.works found ∷ called.steps)) opened_then (
+        record {
+          idle = called.idle;
+          steps = step_made step.works found ∷ called.steps;
+          made = (now, called.made, taken_by now now new opens core_op found (between_self now) step);
+          refused = subst (λ (o : Opened). refusal_in o.sizes call (step_made step.works found ∷ called.steps) ≡ refusal_then) (sym opened)
+              (ap (λ r. either_of r (refused_by now.view.opened.sizes call (head_in called.steps) step.works core_op found)) called.refused ∙ refuses);
+          placed = ap (λ p. either_of p (place_by core_op found)) called.placed ∙ places;
+          later = later_on start now new called.later (later_by now new opens core_op found step);
+          spare = step.spare ∙ called.spare;
+          mount = opened ∙ called.mount;
+          still = step.owns_slots;
+          left = ap (λ (p : Pass). p.left) there ∙ leaves before ∙ with_left now.view.opened.sizes opens (pass_of now.view) ∙ called.left;
+          fresh = tt;
+          told = told_then;
+          mirrors = ap mirror.of there
+              ∙ subst (λ p. mirror.of (stepped now.view.opened.sizes now.view.number (state_of now.view.opened step.steps.run).history core_op found p) ≡ then_is) as_is
+              (goes before now.view.number (state_of now.view.opened step.steps.run).history);
+        },
+        refl,
+      )
     where
       opened : new.view.opened ≡ now.view.opened
       opened = opened_same now new opens core_op found step
@@ -95,7 +106,7 @@ place_plainly now at = ap (λ s. Place (reply_at now.view.opened.sizes (values_o
 pub told_same : (call : FileCall) (place : Option ℕ) (start now new : PassState) → (pass_of new.view).seen ≡ (pass_of now.view).seen → (pass_of new.view).mine ≡ (pass_of now.view).mine
     → Told call place start now → Told call place start new
 told_same call None start now new seen mine told = record { seen = seen ∙ told.seen; mine = mine ∙ told.mine }
-told_same call (Some place) start now new seen mine told = (told.0, record { before = told.1.before; begins = told.1.begins; at = told.1.at; seen = seen ∙ told.1.seen; mine = mine ∙ told.1.mine; plain = told.1.plain })
+told_same call (Some place) start now new seen mine told = (told.0, told.1, record { before = told.2.before; begins = told.2.begins; at = told.2.at; seen = seen ∙ told.2.seen; mine = mine ∙ told.2.mine; plain = told.2.plain })
 
 with_seen : (sizes : Sizes) (opens : Option FileCall) (pass : Pass) → (with_call sizes opens pass).seen ≡ pass.seen
 with_seen sizes None pass = refl
@@ -124,8 +135,16 @@ pub record PlaceLaws (opened : Opened) : Type 0 where
   pub legally : GoesOnLegally
   pub mount : IsMount (mount_of opened)
 
+reply_to : (call : FileCall) (reply : Reply) → reply ≡ plain_reply call → IsReplyTo call reply
+reply_to (Read file at len) reply is = tt
+reply_to (Write file at bytes) reply is = is
+reply_to (Sync file) reply is = is
+
 -- and one that takes it
 pub told_placed : (call : FileCall) (start now new : PassState) (found : ℕ) → PlaceLaws now.view.opened → IsUnplaced start.view now.view → IsLater start now → now.view.opened ≡ start.view.opened
-    → (pass_of now.view).call ≡ call → IsCallFree (pass_of now.view).control → Postcondition now None (place_op now.view) found new → Told call (Some found) start new
-told_placed call start now new found laws told later same makes free step =
-    (_, done_plainly start now new call _ found later told makes free step (placed laws.sound now new found laws.mount step) laws.content laws.legally laws.mount same)
+    → (pass_of now.view).call ≡ call → (pass_of now.view).control ≡ TakePlace → Postcondition now None (place_op now.view) found new → Told call (Some found) start new
+told_placed call start now new found laws told later same makes control step = (
+  _,
+  reply_to call _ (ap (reply_at now.view.opened.sizes (values_of now.view) (pass_of now.view)) control ∙ ap plain_reply makes),
+  done_plainly start now new call _ found later told makes (subst IsCallFree (sym control) (λ sizes values pass work due. due)) step (placed laws.sound now new found laws.mount step) laws.content laws.legally laws.mount same,
+)

@@ -9,7 +9,7 @@ use Rattle.nv_table.specs.state.Views.{pass_of, values_of, OwnsSlots}
 use Rattle.nv_table.specs.state.States.{PassState}
 use Rattle.nv_table.proofs.steps.CallLaws.{idle_is_still, none_still_owned, later_self, taken_same}
 use Rattle.nv_table.proofs.steps.OwnedSlotLaws.{still_owned_all}
-use Rattle.nv_calls.specs.declared.answers.Refusal.{Refusal}
+use Rattle.nv_mirror.specs.declared.answers.Refusal.{Refusal}
 use Rattle.nv_mirror.specs.Controls.{Mirror, InCall}
 
 pub call_begins : {State : Type 0} (mirror : Mirror State) (call : FileCall) (start : PassState) → IsIdle start

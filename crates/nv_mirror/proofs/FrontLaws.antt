@@ -5,7 +5,7 @@ use Rattle.std.proofs.lemmas.Bool.{cases_eq}
 use Rattle.nv_plain.specs.declared.call.FileCall.{FileCall}
 use Rattle.nv_core.specs.state.Passes.{Pass, Control, Idle, TakePage, LoadLength, TakeSize, LoadStop, page_count, LoadOrder, VisitPage, WriteLoadHead, TakePlace, first_page, end_page, without, is_write, is_read}
 use Rattle.nv_core.specs.steps.ControlSteps.{leaving, ordered, first_control}
-use Rattle.nv_core.specs.state.Words.{Sizes, Word, SIZE, PAGE, family, index, place, page_total}
+use Rattle.nv_core.specs.state.Words.{Sizes, Word, SIZE, PAGE, place, page_total}
 use Rattle.nv_core.proofs.state.StepWords.{page_within}
 use Rattle.nv_table.specs.state.Opened.{Opened}
 use Rattle.nv_table.specs.invariant.Idle.{IsIdle}
@@ -14,15 +14,15 @@ use Rattle.nv_table.specs.state.Views.{pass_of}
 use Rattle.nv_table.specs.state.States.{PassState}
 use Rattle.nv_table.specs.steps.CallSteps.{Precondition}
 use Rattle.nv_table.proofs.steps.CallLaws.{IsCallFree}
-use Rattle.nv_calls.specs.reads.Reads.{pages_from, with_if}
+use Rattle.nv_mirror.specs.OwnedCells.{pages_from, with_if}
 use Rattle.nv_core.specs.steps.Ops.{Op, Give, Comes, Stays, moved}
 use Rattle.nv_core.specs.steps.PassSteps.{begun, stepped, left_after, mine_after}
 use Rattle.nv_plain.specs.Histories.{Answered}
-use Rattle.nv_calls.specs.histories.PassSteps.{if_own, either_of, refused_by, place_by}
-use Rattle.nv_calls.specs.declared.answers.Refusal.{Refusal}
-use Rattle.nv_calls.specs.declared.answers.Refusal.TheVariants.{Busy, Stopped, Spent}
-use Rattle.nv_calls.proofs.reads.LockLaws.{page_among}
-use Rattle.nv_calls.proofs.reads.WayLaws.{opened_same}
+use Rattle.nv_mirror.specs.PassSteps.{if_own, either_of, head_in, refused_by, place_by}
+use Rattle.nv_mirror.specs.declared.answers.Refusal.{Refusal}
+use Rattle.nv_mirror.specs.declared.answers.Refusal.TheVariants.{Busy, Stopped, Spent}
+use Rattle.nv_mirror.proofs.PageLaws.{page_among, without_first}
+use Rattle.nv_mirror.proofs.StepLaws.{opened_same}
 use Rattle.nv_core.specs.steps.Order.{give_last}
 use Rattle.nv_op.specs.Ops.{Fits as OpFits, core_op_of, opened_by}
 use Rattle.nv_mirror.specs.declared.front.FrontControl.{FrontControl}
@@ -30,7 +30,7 @@ use Rattle.nv_mirror.specs.declared.front.FrontControl.TheVariants.{Passed, Over
 use Rattle.nv_mirror.specs.declared.front.FrontControl.TheVariants as fronts
 use Rattle.nv_mirror.specs.declared.front.FrontMachine.{FrontMachine}
 use Rattle.nv_mirror.specs.Controls.{MirroredControl, control_mirror, mirrored_control, with_mirrored_control, InCall}
-use Rattle.nv_mirror.specs.Fronts.{front_call_of, file_in, size_in, IsOpen, FitsAt, Fits, front_op_at, front_opens_at, refuse, locked, front_after_at, front_mirror_at, front_refusal_at, IsInCall, IsUnderWay}
+use Rattle.nv_mirror.specs.Fronts.{HasPages, front_call_of, file_in, size_in, IsOpen, FitsAt, Fits, front_op_at, front_opens_at, refuse, locked, front_after_at, front_mirror_at, front_refusal_at, IsInCall, IsUnderWay}
 use Rattle.nv_mirror.proofs.EndsLaws.{call_begins}
 use Rattle.nv_mirror.proofs.ControlLaws.{mirror_due, mirror_on, told_kept}
 
@@ -156,7 +156,7 @@ module _ (sizes : Sizes) (m : FrontMachine) (fits : Fits sizes m) where
         subst (λ b. Leads sizes m (ctl m (if m.first + m.held + 1 == end_page sizes (front_call_of m) then LoadLength else TakePage (m.first + m.held + 1)) (PAGE (m.first + m.held) ∷ owned_of m m.sized m.held)) None
         (record m { held = m.held + 1; control = if b then fronts.LoadLength else fronts.TakePage })) (sym (eq-eqb (m.first + m.held + 1) m.last is))
         record {
-          fits = fits_on sizes m (m.held + 1) m.length m.sized fronts.LoadLength fits (omega (arith, low)) tt;
+          fits = fits_on sizes m (m.held + 1) m.length m.sized fronts.LoadLength fits (omega (arith, low)) (omega (arith, is));
           call = refl;
           mirrors = ap₂ (ctl m) (ap (λ b. if b then LoadLength else TakePage (m.first + m.held + 1)) (eq-eqb (m.first + m.held + 1) (end_page sizes (front_call_of m)) (is ∙ fits.last))) (page_more m.sized (file_in m) m.first m.held unsized);
           refused = refl;
@@ -189,51 +189,46 @@ module _ (sizes : Sizes) (m : FrontMachine) (fits : Fits sizes m) where
       (refuse_leads sizes m false m.held (Busy (place sizes (PAGE (m.first + m.held)))) fits within))
 
   -- LENGTH
-  length_leads : (found : ℕ) (b : Bool) → (b ≡ true → m.sized ≡ false)
+  length_leads : HasPages m → (found : ℕ) (b : Bool) → (b ≡ true → m.sized ≡ false)
       → Leads sizes m (record (ctl m (if b then TakeSize else LoadStop) (owned_of m m.sized m.held)) { length = found }) None (record m { length = found; control = if b then fronts.TakeSize else fronts.LoadStop })
-  length_leads found true unsized = record { fits = fits_on sizes m m.held found m.sized fronts.TakeSize fits within (unsized refl); call = refl; mirrors = refl; refused = refl; opened = refl }
-  length_leads found false unsized = record { fits = fits_on sizes m m.held found m.sized fronts.LoadStop fits within tt; call = refl; mirrors = refl; refused = refl; opened = refl }
+  length_leads pages found true unsized = record { fits = fits_on sizes m m.held found m.sized fronts.TakeSize fits within (unsized refl, pages); call = refl; mirrors = refl; refused = refl; opened = refl }
+  length_leads pages found false unsized = record { fits = fits_on sizes m m.held found m.sized fronts.LoadStop fits within pages; call = refl; mirrors = refl; refused = refl; opened = refl }
 
   -- SIZE
-  size_leads : m.sized ≡ false → (b : Bool)
+  size_leads : HasPages m → m.sized ≡ false → (b : Bool)
       → Leads sizes m (record (ctl m (if b then LoadLength else leaving (owned_of m m.sized m.held)) (moved (if b then Comes (SIZE (file_in m)) else Stays) (owned_of m m.sized m.held))) { sized = if b then true else m.sized })
       (if b then None else Some (Busy (place sizes (SIZE (file_in m))))) (if b then record m { sized = true; control = fronts.LoadLength } else refuse m false m.held (Busy (place sizes (SIZE (file_in m)))))
-  size_leads unsized true =
-      record { fits = fits_on sizes m m.held m.length true fronts.LoadLength fits within tt; call = refl; mirrors = ap (λ size. record (ctl m LoadLength (SIZE (file_in m) ∷ owned_of m size m.held)) { sized = true }) unsized; refused = refl; opened = refl }
-  size_leads unsized false =
+  size_leads pages unsized true =
+      record { fits = fits_on sizes m m.held m.length true fronts.LoadLength fits within pages; call = refl; mirrors = ap (λ size. record (ctl m LoadLength (SIZE (file_in m) ∷ owned_of m size m.held)) { sized = true }) unsized; refused = refl; opened = refl }
+  size_leads pages unsized false =
       subst (λ size. Leads sizes m (ctl m (leaving (owned_of m size m.held)) (owned_of m size m.held)) (Some (Busy (place sizes (SIZE (file_in m))))) (refuse m false m.held (Busy (place sizes (SIZE (file_in m)))))) (sym unsized)
       (refuse_leads sizes m false m.held (Busy (place sizes (SIZE (file_in m)))) fits within)
 
   -- STOP
-  stop_leads : (b : Bool)
+  stop_leads : HasPages m → (b : Bool)
       → Leads sizes m (ctl m (if b then LoadOrder else leaving (owned_of m m.sized m.held)) (owned_of m m.sized m.held)) (if b then None else Some Stopped) (if b then record m { control = fronts.LoadOrder } else refuse m m.sized m.held Stopped)
-  stop_leads true = record { fits = fits_on sizes m m.held m.length m.sized fronts.LoadOrder fits within tt; call = refl; mirrors = refl; refused = refl; opened = refl }
-  stop_leads false = refuse_leads sizes m m.sized m.held Stopped fits within
+  stop_leads pages true = record { fits = fits_on sizes m m.held m.length m.sized fronts.LoadOrder fits within pages; call = refl; mirrors = refl; refused = refl; opened = refl }
+  stop_leads pages false = refuse_leads sizes m m.sized m.held Stopped fits within
 
   -- ORDER
-  order_leads : (found : ℕ) (b : Bool)
+  order_leads : HasPages m → (found : ℕ) (b : Bool)
       → Leads sizes m (ctl m (if b then ordered sizes (front_call_of m) else leaving (owned_of m m.sized m.held)) (owned_of m m.sized m.held)) (if b then None else Some (Spent found))
       (if b then record m { control = Passed } else refuse m m.sized m.held (Spent found))
-  order_leads found true = record {
-    fits = fits_on sizes m m.held m.length m.sized Passed fits within tt;
+  order_leads pages found true = record {
+    fits = fits_on sizes m m.held m.length m.sized Passed fits within pages;
     call = refl;
     mirrors = ap (λ p. ctl m (if is_write (front_call_of m) then WriteLoadHead else (if is_read (front_call_of m) then VisitPage p else TakePlace)) (owned_of m m.sized m.held)) (sym fits.first);
     refused = refl;
     opened = refl;
   }
-  order_leads found false = refuse_leads sizes m m.sized m.held (Spent found) fits within
+  order_leads pages found false = refuse_leads sizes m m.sized m.held (Spent found) fits within
 
 -- what was taken last is given back
-dropped : (cell : Word) (owned : List Word) → without cell (cell ∷ owned) ≡ owned
-dropped cell owned =
-    ap (λ b. if b then owned else cell ∷ without cell owned)
-    (ap₂ (λ a b. a && b) (eq-eqb (family cell) (family cell) refl) (eq-eqb (index cell) (index cell) refl))
-
 page_dropped : (first held : ℕ) → 0 < held → without (PAGE (first + held - 1)) (pages_from first held) ≡ pages_from first (held - 1)
 page_dropped first zero some = absurd (omega (arith, some))
 page_dropped first (suc held) some =
     ap (λ p. without (PAGE p) (PAGE (first + held) ∷ pages_from first held)) (let e : first + suc held - 1 ≡ first + held = omega arith in e)
-    ∙ dropped (PAGE (first + held)) (pages_from first held) ∙ ap (pages_from first) (let e : held ≡ suc held - 1 = omega arith in e)
+    ∙ without_first (PAGE (first + held)) (pages_from first held) ∙ ap (pages_from first) (let e : held ≡ suc held - 1 = omega arith in e)
 
 unsized_by : (a b : Bool) → (a && not b) ≡ true → b ≡ false
 unsized_by true true e = absurd cc
@@ -248,16 +243,16 @@ module _ (m : FrontMachine) (start now new : PassState) (found : ℕ) (fits : Fi
   Goes next = Fits new.view.opened.sizes next × IsInCall next next.control start new
 
   -- where the core's control state leads, the machine goes
-  led : (opens : Option FileCall) (is refused_then : MirroredControl) (before refusal : Option Refusal) (core_op : Op) (next : FrontMachine) → InCall control_mirror (front_call_of m) opens is before None start now → (step : Postcondition now opens core_op found new)
+  led : (opens : Option FileCall) (is refused_then : MirroredControl) (before refusal : Option Refusal) (core_op : Op) (next : FrontMachine) → (way : InCall control_mirror (front_call_of m) opens is before None start now) → (step : Postcondition now opens core_op found new)
       → IsCallFree (pass_of now.view).control → ((pass : Pass) (number : ℕ) (history : List Answered) → mirrored_control (stepped here number history core_op found (with_mirrored_control is pass)) ≡ refused_then)
-      → ((pass : Pass) → left_after pass core_op ≡ pass.left) → either_of before (refused_by here (front_call_of m) step.works core_op found) ≡ refusal → place_by core_op found ≡ None
+      → ((pass : Pass) → left_after pass core_op ≡ pass.left) → either_of before (refused_by here (front_call_of m) (head_in way.steps) step.works core_op found) ≡ refusal → place_by core_op found ≡ None
       → ((pass : Pass) (number : ℕ) (history : List Answered) → (stepped here number history core_op found pass).seen ≡ pass.seen) → ((pass : Pass) (number : ℕ) → mine_after number pass core_op ≡ pass.mine)
       → Leads here m refused_then refusal next → Goes next
   led opens is then_is before refusal core_op next way step free goes leaves refuses places seen mine leads = (
     subst (λ (o : Opened). Fits o.sizes next) (sym (opened_same now new opens core_op found step)) leads.fits,
     subst (λ call. InCall control_mirror call (opened_by (front_opens_at next next.control)) (front_mirror_at next next.control) (front_refusal_at next.control) None start new) leads.call
         (mirror_on control_mirror (front_call_of m) opens is before None start now way core_op (opened_by (front_opens_at next next.control)) (front_mirror_at next next.control) (front_refusal_at next.control) None found new step free
-        (λ pass number history. goes pass number history ∙ leads.mirrors) leaves (refuses ∙ leads.refused) places leads.opened (told_kept (front_call_of m) None start now new way.told opens core_op found step free seen mine)),
+        (λ pass number history. goes pass number history ∙ leads.mirrors) leaves (refuses ∙ leads.refused) places leads.opened (told_kept (front_call_of m) None start now new way.told opens core_op found step free seen mine)).0,
   )
 
   pub front_on : (control : FrontControl) → FitsAt m control → IsOpen control → IsInCall m control start now → Postcondition now (opened_by (front_opens_at m control)) (core_op_of now.view (front_op_at m control)) found new
@@ -269,16 +264,16 @@ module _ (m : FrontMachine) (start now new : PassState) (found : ℕ) (fits : Fi
   front_on fronts.LoadLength at runs way is =
       led _ _ _ _ _ _ _ way is (free m fronts.LoadLength start now runs way)
       (λ pass number history. ap (λ e. record (ctl m (if (nat_lt 0 (size_in m) && nat_lt found e) && not m.sized then TakeSize else LoadStop) (owned_of m m.sized m.held)) { length = found }) (sym fits.end))
-      (λ pass. refl) refl refl (λ pass number history. refl) (λ pass number. refl) (length_leads here m fits found ((nat_lt 0 (size_in m) && nat_lt found m.end) && not m.sized) (unsized_by (nat_lt 0 (size_in m) && nat_lt found m.end) m.sized))
+      (λ pass. refl) refl refl (λ pass number history. refl) (λ pass number. refl) (length_leads here m fits at found ((nat_lt 0 (size_in m) && nat_lt found m.end) && not m.sized) (unsized_by (nat_lt 0 (size_in m) && nat_lt found m.end) m.sized))
   front_on fronts.TakeSize at runs way is =
-      led _ _ _ _ _ _ _ way is (free m fronts.TakeSize start now runs way) (λ pass number history. refl) (λ pass. refl) refl refl (λ pass number history. refl) (λ pass number. refl) (size_leads here m fits at (found == 0))
+      led _ _ _ _ _ _ _ way is (free m fronts.TakeSize start now runs way) (λ pass number history. refl) (λ pass. refl) refl refl (λ pass number history. refl) (λ pass number. refl) (size_leads here m fits at.1 at.0 (found == 0))
   front_on fronts.LoadStop at runs way is =
-      led _ _ _ _ _ _ _ way is (free m fronts.LoadStop start now runs way) (λ pass number history. refl) (λ pass. refl) refl refl (λ pass number history. refl) (λ pass number. refl) (stop_leads here m fits (found == 0))
+      led _ _ _ _ _ _ _ way is (free m fronts.LoadStop start now runs way) (λ pass number history. refl) (λ pass. refl) refl refl (λ pass number history. refl) (λ pass number. refl) (stop_leads here m fits at (found == 0))
   front_on fronts.LoadOrder at runs way is =
-      led _ _ _ _ _ _ _ way is (free m fronts.LoadOrder start now runs way) (λ pass number history. refl) (λ pass. refl) refl refl (λ pass number history. refl) (λ pass number. refl) (order_leads here m fits found (nat_lt found (2 ^ 60)))
+      led _ _ _ _ _ _ _ way is (free m fronts.LoadOrder start now runs way) (λ pass number history. refl) (λ pass. refl) refl refl (λ pass number history. refl) (λ pass number. refl) (order_leads here m fits at found (nat_lt found (2 ^ 60)))
   front_on (fronts.GiveBack true refusal) at runs way is =
       led _ _ _ _ _ _ _ way is (free m (fronts.GiveBack true refusal) start now runs way)
-      (λ pass number history. ap (λ owned. ctl m (leaving owned) owned) (dropped (SIZE (file_in m)) (pages_from m.first m.held)))
+      (λ pass number history. ap (λ owned. ctl m (leaving owned) owned) (without_first (SIZE (file_in m)) (pages_from m.first m.held)))
       (λ pass. refl) refl refl (λ pass number history. refl) (λ pass number. refl) (refuse_leads here m false m.held refusal fits fits.within)
   front_on (fronts.GiveBack false refusal) at runs way is =
       led _ _ _ _ _ _ _ way is (free m (fronts.GiveBack false refusal) start now runs way)

@@ -2,7 +2,7 @@
 use Rattle.std.proofs.Common.{◌≡◌, ℕ, zero, suc, ◌+◌, ◌-◌, ◌*◌, ◌<◌, ◌≤◌, ◌==◌, ◌^◌, ◌&&◌, nat_lt, Bool, true, false, if◌then◌else◌, arith}
 use Rattle.std.specs.Prelude.{not}
 use Rattle.nv_core.specs.state.Words.{Sizes}
-use Rattle.nv_calls.specs.declared.answers.Refusal.{Refusal}
+use Rattle.nv_mirror.specs.declared.answers.Refusal.{Refusal}
 use Rattle.nv_mirror.specs.declared.front.FrontControl.{FrontControl}
 use Rattle.nv_mirror.specs.declared.front.FrontControl.TheVariants.{Passed, Over}
 use Rattle.nv_mirror.specs.declared.front.FrontControl.TheVariants as fronts

@@ -1,7 +1,9 @@
 -- Controls: what of a pass a machine mirrors, and what every machine keeps.
 use Rattle.std.specs.Prelude.{◌≡◌, refl, ℕ, Bool, List, [], Option, Some, None}
 use Rattle.nv_plain.specs.declared.call.FileCall.{FileCall}
+use Rattle.nv_plain.specs.declared.call.FileCall.TheVariants.{Read}
 use Rattle.nv_plain.specs.declared.call.Reply.{Reply}
+use Rattle.nv_core.specs.steps.Order.{plain_reply}
 use Rattle.nv_core.specs.state.Words.{Word}
 use Rattle.nv_core.specs.state.Passes.{Control, Pass}
 use Rattle.nv_table.specs.steps.SeatSteps.{with_call}
@@ -9,9 +11,9 @@ use Rattle.nv_table.specs.passes.PassesMade.{IsShownStill}
 use Rattle.nv_table.specs.invariant.Idle.{IsIdle, IsLater}
 use Rattle.nv_table.specs.state.Views.{pass_of}
 use Rattle.nv_table.specs.state.States.{PassState}
-use Rattle.nv_calls.specs.histories.PassSteps.{PassStep, HasMade, refusal_in, place_in}
-use Rattle.nv_calls.specs.histories.Answers.{IsUnplaced, IsPlacedAs}
-use Rattle.nv_calls.specs.declared.answers.Refusal.{Refusal}
+use Rattle.nv_mirror.specs.PassSteps.{PassStep, HasMade, refusal_in, place_in}
+use Rattle.nv_mirror.specs.Answers.{IsUnplaced, IsPlacedAs}
+use Rattle.nv_mirror.specs.declared.answers.Refusal.{Refusal}
 
 -- What of a pass a machine has at hand: how it is read off a pass, and the pass that has it so.
 pub record Mirror (State : Type 0) : Type 0 where
@@ -63,10 +65,15 @@ abbrev pub IsUnbegunCall : Option FileCall → (start now : PassState) → Type 
 IsUnbegunCall (Some call) start now = now ≡ start
 IsUnbegunCall None start now = Unit {0}
 
+-- the reply of a call that reads nothing follows from what it asks for
+abbrev pub IsReplyTo : FileCall → Reply → Type 0
+IsReplyTo (Read file at len) reply = Unit {0}
+IsReplyTo call reply = reply ≡ plain_reply call
+
 -- the call has its place in the history, or the history is as the pass saw it
 abbrev pub Told : FileCall → Option ℕ → (start now : PassState) → Type 0
 Told call None start now = IsUnplaced start.view now.view
-Told call (Some place) start now = (reply : Reply) × IsPlacedAs start.view now.view call reply place
+Told call (Some place) start now = (reply : Reply) × IsReplyTo call reply × IsPlacedAs start.view now.view call reply place
 
 -- A call that has made some steps since a start, and what came of it: the pass is what its machine has at hand, with the call that the next step begins,
 -- if that does.
@@ -84,3 +91,15 @@ pub record InCall {State : Type 0} (mirror : Mirror State) (call : FileCall) (op
   pub fresh : IsUnbegunCall opens start now
   pub told : Told call place start now
   pub mirrors : mirror.of (with_call now.view.opened.sizes opens (pass_of now.view)) ≡ is
+
+-- The call is over, by these steps, and its pass is idle again: why it is refused, if it is, or its place.
+pub record IsOver (call : FileCall) (refusal : Option Refusal) (place : Option ℕ) (start now : PassState) : Type 0 where
+  pub steps : List PassStep
+  pub made : HasMade steps start now
+  pub refused : refusal_in start.view.opened.sizes call steps ≡ refusal
+  pub placed : place_in steps ≡ place
+  pub told : Told call place start now
+  pub idle : IsIdle now
+  pub later : IsLater start now
+  pub spare : now.spare ≡ start.spare
+  pub mount : now.view.opened ≡ start.view.opened

@@ -5,9 +5,9 @@ use Rattle.nv_core.specs.state.Passes.{Control, Idle, TakePage, LoadLength, Take
 use Rattle.nv_core.specs.invariant.Ownership.{one_if}
 use Rattle.nv_core.specs.state.Words.{Sizes, Word, SIZE, PAGE, place}
 use Rattle.nv_table.specs.state.States.{PassState}
-use Rattle.nv_calls.specs.reads.Reads.{pages_from, with_if}
-use Rattle.nv_calls.specs.declared.answers.Refusal.{Refusal}
-use Rattle.nv_calls.specs.declared.answers.Refusal.TheVariants.{Busy, Stopped, Spent}
+use Rattle.nv_mirror.specs.OwnedCells.{pages_from, with_if}
+use Rattle.nv_mirror.specs.declared.answers.Refusal.{Refusal}
+use Rattle.nv_mirror.specs.declared.answers.Refusal.TheVariants.{Busy, Stopped, Spent}
 use Rattle.nv_op.specs.declared.op.Word.TheVariants.{Stop as StopWord, Order, Page, Size, Length}
 use Rattle.nv_op.specs.declared.op.Op.{Op}
 use Rattle.nv_op.specs.declared.op.Op.TheVariants.{Load, Take, Give}
@@ -34,11 +34,19 @@ IsOpen Passed = ⊥
 IsOpen (Over refusal) = ⊥
 IsOpen control = Unit {0}
 
+-- it holds all its pages
+abbrev pub HasPages : FrontMachine → Type 0
+HasPages m = m.first + m.held ≡ m.last
+
 -- what is so of its numbers by where it stands
 abbrev pub FitsAt : FrontMachine → FrontControl → Type 0
 FitsAt m fronts.Begin = (m.held ≡ 0) × (m.sized ≡ false) × (m.length ≡ 0) × (m.first + m.held < m.last)
 FitsAt m fronts.TakePage = (m.sized ≡ false) × (m.first + m.held < m.last)
-FitsAt m fronts.TakeSize = m.sized ≡ false
+FitsAt m fronts.LoadLength = HasPages m
+FitsAt m fronts.TakeSize = (m.sized ≡ false) × HasPages m
+FitsAt m fronts.LoadStop = HasPages m
+FitsAt m fronts.LoadOrder = HasPages m
+FitsAt m Passed = HasPages m
 FitsAt m (fronts.GiveBack false refusal) = 0 < m.held
 FitsAt m control = Unit {0}
 

@@ -1,4 +1,11 @@
+pub mod Answers
+pub mod Appends
 pub mod Controls
 pub mod Fronts
-pub mod Fsyncs
-pub mod Writes
+pub mod OwnedCells
+pub mod Pageless
+pub mod PassSteps
+pub mod Pledges
+pub mod Releases
+pub mod RunningWrites
+pub mod Ways

@@ -1,14 +1,16 @@
 //! The front of a call that has pages: these, LENGTH, SIZE, STOP and ORDER, and the way back where it is refused there.
 ghost use Rattle.std.specs.Prelude.{◌+◌, true, ◌≡◌, ℕ, ◌<◌};
-ghost use Rattle.nv_op.specs.Ops.{core_op_of, opened_by};
+ghost use Rattle.nv_core.specs.state.Passes.{IsAllowed, len_of};
+ghost use Rattle.nv_op.specs.Ops.{call_asked, core_op_of, opened_by};
 ghost use Rattle.nv_table.specs.invariant.Idle.{IsIdle};
 ghost use Rattle.nv_table.specs.steps.StepContracts.{Postcondition};
 ghost use Rattle.nv_mirror.specs.declared.front.FrontControl.TheVariants as fronts;
 ghost use Rattle.nv_table.specs.state.Keys.{sizes_of};
 ghost use Rattle.nv_table.specs.state.States.{IsOf, PassState};
-ghost use Rattle.nv_mirror.specs.Fronts.{front_after_at, locked, file_in, size_in, Fits, IsOpen, front_op, front_opens, front_after, refuse, front_measure, IsUnderWay};
+ghost use Rattle.nv_mirror.specs.Fronts.{front_after_at, locked, Fits, IsOpen, front_op, front_opens, front_after, refuse, front_measure, IsUnderWay};
 
-use nv_calls::Refusal;
+use crate::Refusal;
+use nv_entry::piece_count;
 use nv_op::{Asked, Op, Word, perform};
 use nv_pmem::Lines;
 use nv_store::Backing;
@@ -47,31 +49,33 @@ pub struct FrontMachine<'a> {
 }
 
 impl<'a> FrontMachine<'a> {
+    /// The front of a call that is allowed and asks for some bytes. It has made no step yet.
+    pub fn new(layout: Layout, asked: Asked<'a>) -> Self
+        requires allowed { IsAllowed (sizes_of layout) (call_asked asked) }
+        requires some { 0 < len_of (call_asked asked) }
+        ensures fits { Fits (sizes_of layout) result }
+        ensures asked { result.asked ≡ asked.entry }
+        ensures begins { result.control ≡ fronts.Begin }
+    {
+        let (at, size) = (asked.at(), asked.size());
+        let first = asked.file() * layout.pages + at / layout.page;
+        FrontMachine {
+            asked,
+            end: at + size,
+            first,
+            last: first + piece_count(at, size, layout.page),
+            held: 0,
+            sized: false,
+            length: 0,
+            control: FrontControl::Begin,
+        }
+    }
+
     /// A law: one that has made no step may begin on a pass that is between two calls.
     pub fn begins(&self)
         ensures { (start : PassState) → Fits start.view.opened.sizes self.now → self.now.control ≡ fronts.Begin → IsIdle start → IsUnderWay self.now start start }
     {
         let _ = self.held;
-    }
-
-    // Its file.
-    fn file(self) -> u64
-        ensures { result ≡ file_in self.entry }
-    {
-        match self.asked {
-            Asked::Read { file, .. } | Asked::Write { file, .. } | Asked::Sync { file } => file,
-        }
-    }
-
-    // How many bytes it asks for.
-    fn size(self) -> u64
-        ensures { result ≡ size_in self.entry }
-    {
-        match self.asked {
-            Asked::Read { len, .. } => len,
-            Asked::Write { bytes, .. } => bytes.len() as u64,
-            Asked::Sync { .. } => 0,
-        }
     }
 
     // The next step.
@@ -88,14 +92,20 @@ impl<'a> FrontMachine<'a> {
                 },
             },
             FrontControl::LoadLength => Op::Load {
-                word: Word::Length { file: self.file() },
+                word: Word::Length {
+                    file: self.asked.file(),
+                },
             },
             FrontControl::TakeSize => Op::Take {
-                cell: Word::Size { file: self.file() },
+                cell: Word::Size {
+                    file: self.asked.file(),
+                },
             },
             FrontControl::LoadStop => Op::Load { word: Word::Stop },
             FrontControl::GiveBack { size: true, .. } => Op::Give {
-                cell: Word::Size { file: self.file() },
+                cell: Word::Size {
+                    file: self.asked.file(),
+                },
             },
             FrontControl::GiveBack { .. } => Op::Give {
                 cell: Word::Page {
@@ -163,7 +173,7 @@ impl<'a> FrontMachine<'a> {
     {
         // Only the clause speaks of it.
         let _ = layout;
-        let control = if self.size() > 0 && found < self.end && !self.sized {
+        let control = if self.asked.size() > 0 && found < self.end && !self.sized {
             FrontControl::TakeSize
         } else {
             FrontControl::LoadStop
@@ -193,7 +203,7 @@ impl<'a> FrontMachine<'a> {
                 ..self.at(FrontControl::LoadLength)
             },
             FrontControl::TakeSize => {
-                let cell = layout.size(self.file());
+                let cell = layout.size(self.asked.file());
                 self.refuse(false, self.held, Refusal::Busy { cell })
             }
             FrontControl::LoadStop if found == 0 => self.at(FrontControl::LoadOrder),

@@ -2,10 +2,18 @@
 //! core's order of steps, and one call of `perform` makes the step.
 #![tactic(auto)]
 
+mod answers;
+mod append;
+mod commit;
 mod front;
-mod fsync;
+mod pageless;
+mod release;
+mod ways;
 mod write;
 
+pub use answers::{Done, Refusal};
+pub use append::{AppendControl, AppendMachine};
 pub use front::{FrontControl, FrontMachine};
-pub use fsync::{FsyncControl, FsyncMachine};
-pub use write::{PageWrite, Unwritten, WriteControl};
+pub use pageless::{PagelessControl, PagelessMachine};
+pub use release::{ReleaseControl, ReleaseMachine};
+pub use write::RunningWrite;

@@ -3,8 +3,10 @@
 //! where it stands after it, and no place of a word, no slot and no arithmetic of a word comes into what it proves.
 #![tactic(auto)]
 
+mod kinds;
 mod op;
 mod performing;
 
+pub use kinds::Kind;
 pub use op::{Asked, Op, Word};
 pub use performing::{perform, perform_after};

@@ -3,7 +3,8 @@ ghost use Rattle.std.specs.Prelude.{◌≡◌};
 ghost use Rattle.nv_core.specs.state.Words.{IsWord, place};
 ghost use Rattle.nv_table.specs.state.Keys.{sizes_of};
 ghost use Rattle.nv_table.specs.state.Layout.{slot_of_cell};
-ghost use Rattle.nv_op.specs.Ops.{SumIsSmall, core_word, word_of_op, change_of, marks_for, moves_for};
+ghost use Rattle.nv_op.specs.Ops.{SumIsSmall, call_asked, core_word, word_of_op, change_of, marks_for, moves_for};
+ghost use Rattle.nv_core.specs.state.Passes.{at_of, file_of, len_of};
 
 use nv_table::{Change, HAND, HEAD, Layout, Marks, Moves, ORDER, STOP, TAIL};
 
@@ -66,6 +67,38 @@ pub enum Op {
     Turn { page: u64 },
     /// HINT of a buffer is the page that was given it.
     Hint { buffer: u64, page: u64 },
+}
+
+impl Asked<'_> {
+    /// Its file.
+    pub fn file(self) -> u64
+        ensures { result ≡ file_of (call_asked self.entry) }
+    {
+        match self {
+            Asked::Read { file, .. } | Asked::Write { file, .. } | Asked::Sync { file } => file,
+        }
+    }
+
+    /// Its offset in bytes; 0 for a sync.
+    pub fn at(self) -> u64
+        ensures { result ≡ at_of (call_asked self.entry) }
+    {
+        match self {
+            Asked::Read { at, .. } | Asked::Write { at, .. } => at,
+            Asked::Sync { .. } => 0,
+        }
+    }
+
+    /// How many bytes it asks for; 0 for a sync.
+    pub fn size(self) -> u64
+        ensures { result ≡ len_of (call_asked self.entry) }
+    {
+        match self {
+            Asked::Read { len, .. } => len,
+            Asked::Write { bytes, .. } => bytes.len() as u64,
+            Asked::Sync { .. } => 0,
+        }
+    }
 }
 
 impl Word {

@@ -271,8 +271,9 @@ module _ {X : Type 0} (device : X → ℕ) (history : X → List Part) (faults :
       committed.others cell (λ i less. none i (let many = many_old in omega (arith, less, many)))
       ∙ sym (laid_else cells (in_row (map (part_value device history faults room) news)) (values_of pass.view) count cell none)
 
-  pub made_at : HasLaid (pass_of pass.view).first count (in_row (map (part_value device history faults room) news)) pass new → HasMadeCommit pass new result
-  made_at laid_so = record {
+  pub made_at : count ≡ page_count pass.view.opened.sizes (pass_of pass.view).call → HasLaid (pass_of pass.view).first count (in_row (map (part_value device history faults room) news)) pass new
+      → HasMadeCommit pass new result
+  made_at many laid_so = record {
     works = committed.works;
     due = committed.due;
     table = laid_so.table;
@@ -282,6 +283,7 @@ module _ {X : Type 0} (device : X → ℕ) (history : X → List Part) (faults :
         (values_after pass.view.opened.sizes committed.works (pass_of pass.view) (values_of pass.view)) (still_owned (pass_of pass.view)) new.now
         (λ cell some. of_cells cells count (λ cell. values_after pass.view.opened.sizes committed.works (pass_of pass.view) (values_of pass.view) cell ≡ laid_parts cells count (in_row (map (part_value device history faults room) news)) (values_of pass.view) cell) left_here left_else cell)
         laid_so.owns_slots;
+    others = λ cell none. committed.others cell (λ i less. none i (let long = many_old in omega (arith, less, long, many)));
     pledging = committed.pledging;
     failing = committed.failing;
   }
@@ -310,11 +312,13 @@ module _ {X : Type 0} (device : X → ℕ) (history : X → List Part) (faults :
       → RowCalls (group_steps pass.view.opened.sizes.page number file at bytes) (map (seen_of history room faults) olds) (map (seen_of history room faults) news) result
       → HasLaid number count (in_row (map (part_value device history faults room) news)) pass new → HasMadeCommit pass new result
 
-  pub made : ((i : ℕ) → i < count → in_row (map (part_value device history faults room) olds) i ≡ values_of pass.view (entry_cell pass.view.opened.sizes first i))
+  pub made : count ≡ pages_touched at (length bytes) sizes.page
+      → ((i : ℕ) → i < count → in_row (map (part_value device history faults room) olds) i ≡ values_of pass.view (entry_cell pass.view.opened.sizes first i))
       → RowCalls (group_steps sizes.page first file at bytes) (map (seen_of history room faults) olds) (map (seen_of history room faults) news) result
       → HasLaid first (length news) (in_row (map (part_value device history faults room) news)) mid new → HasMadeCommit pass new result
-  made are calls back =
-      subst FromNumber is.number (λ is has are calls back. made_at device history faults room pass new file at bytes olds news result count is has long are calls devices law back) is has are
+  made many are calls back =
+      subst FromNumber is.number (λ is has are calls back. made_at device history faults room pass new file at bytes olds news result count is has long are calls devices law
+      (many ∙ ap (λ (s : Sizes). pages_touched at (length bytes) s.page) same ∙ ap (page_count pass.view.opened.sizes) (sym is.call)) back) is has are
       (subst (λ (s : Sizes). RowCalls (group_steps s.page first file at bytes) (map (seen_of history room faults) olds) (map (seen_of history room faults) news) result) same calls)
       (subst (λ n. HasLaid first n (in_row (map (part_value device history faults room) news)) pass new) long_new
       (seen_from first (length news) (in_row (map (part_value device history faults room) news)) mid pass new (sym out.table) (sym out.view) (sym out.spare) back))

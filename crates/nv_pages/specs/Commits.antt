@@ -1,10 +1,10 @@
 -- Commits: a pass that makes the device calls of a write's commit on the parts of its entries.
-use Rattle.std.specs.Prelude.{◌≡◌, ℕ, zero, suc, ◌≤◌, ◌<◌, List, [], Result, OnOk, OnErr, slice_index_or}
+use Rattle.std.specs.Prelude.{◌≡◌, ◌≢◌, ℕ, zero, suc, ◌≤◌, ◌<◌, List, [], Result, OnOk, OnErr, slice_index_or}
 use Rattle.nv_plain.specs.declared.call.FileCall.TheVariants.{Write}
 use Rattle.nv_pmem.specs.declared.lines.RegionFault.{RegionFault}
 use Rattle.nv_core.specs.state.Words.{Word}
 use Rattle.nv_core.specs.state.Values.{Value, Bare}
-use Rattle.nv_core.specs.state.Passes.{CommitGroup, PledgePage, SetStopAfterCommit, first_page, times}
+use Rattle.nv_core.specs.state.Passes.{CommitGroup, PledgePage, SetStopAfterCommit, first_page, page_count, times}
 use Rattle.nv_core.specs.steps.Order.{Values, Work}
 use Rattle.nv_core.specs.state.Core.{with_value}
 use Rattle.nv_core.specs.invariant.Rooms.{KeepsReady}
@@ -48,7 +48,8 @@ pub record IsAtCommit (pass : PassState) (first file at : ℕ) (bytes : List ℕ
   pub call : (pass_of pass.view).call ≡ Write file at bytes
   pub number : (pass_of pass.view).first ≡ first
 
--- It has made device calls that are due, one after another, and what it owns shows what they leave. Behind them its first page is pledged next, or STOP set.
+-- It has made device calls that are due, one after another, and what it owns shows what they leave: cells other than those of its entries keep what they
+-- kept. Behind them its first page is pledged next, or STOP set.
 pub record HasMadeCommit (old new : PassState) (result : Result (Unit {0}) RegionFault) : Type 0 where
   pub works : List Work
   pub due : AreDue old.view.opened.sizes (values_of old.view) (pass_of old.view) works
@@ -56,5 +57,8 @@ pub record HasMadeCommit (old new : PassState) (result : Result (Unit {0}) Regio
   pub view : new.view ≡ old.view
   pub spare : new.spare ≡ old.spare
   pub owns_slots : OwnsSlots old.view.opened.sizes (λ value. value) (values_before old.view works) (still_owned (pass_of old.view)) new.now
+  pub others : (cell : Word)
+      → ((i : ℕ) → i < page_count old.view.opened.sizes (pass_of old.view).call → cell ≢ entry_cell old.view.opened.sizes (pass_of old.view).first i)
+      → values_before old.view works cell ≡ values_of old.view cell
   pub pledging : OnOk result ((pass_worked old.view.opened.sizes works (pass_of old.view)).control ≡ PledgePage (first_page old.view.opened.sizes (pass_of old.view).call))
   pub failing : OnErr result ((pass_worked old.view.opened.sizes works (pass_of old.view)).control ≡ SetStopAfterCommit)

@@ -11,7 +11,7 @@ use Rattle.nv_table.specs.state.Views.{pass_of}
 use Rattle.nv_table.specs.state.States.{PassState}
 use Rattle.nv_table.specs.steps.CallSteps.{Precondition, IsPlaced, load_op, place_op}
 use Rattle.nv_table.proofs.steps.CallLaws.{IsAt, sync_begun, order_due, order_loaded, place_due, sync_placed, later_self, later_by, later_on}
-use Rattle.nv_calls.specs.declared.answers.Refusal.TheVariants.{BadFd, Stopped, Spent}
+use Rattle.nv_mirror.specs.declared.answers.Refusal.TheVariants.{BadFd, Stopped, Spent}
 use Rattle.nv_calls.specs.declared.machine.SyncControl.TheVariants as syncs
 use Rattle.nv_calls.specs.fsync.SyncMachines.{HasLoaded, IsSyncUnderWay, IsSyncEnded}
 use Rattle.nv_calls.proofs.fsync.SyncLaws.{stop_unplaced, order_is, order_unplaced, unplaced_on, place_is, done_by}

@@ -14,8 +14,8 @@ use Rattle.nv_table.specs.state.Views.{PassView, pass_of, values_of}
 use Rattle.nv_table.specs.state.States.{PassState}
 use Rattle.nv_table.specs.steps.CallSteps.{IsPlaced, load_op, place_op, reply_at}
 use Rattle.nv_table.proofs.steps.CallLaws.{IsCallFree, IsAt, stepped_there}
-use Rattle.nv_calls.specs.histories.Answers.{IsSyncPlaced, IsUnplaced}
-use Rattle.nv_calls.proofs.histories.DoneLaws.{done_so}
+use Rattle.nv_mirror.specs.Answers.{IsSyncPlaced, IsUnplaced}
+use Rattle.nv_mirror.proofs.DoneLaws.{done_so}
 
 -- ---- loads leave the history
 

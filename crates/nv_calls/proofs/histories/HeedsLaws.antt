@@ -9,9 +9,9 @@ use Rattle.nv_plain.specs.declared.call.FileCall.TheVariants.{Read, Sync}
 use Rattle.nv_plain.specs.declared.call.Reply.TheVariants.{Done as Replied}
 use Rattle.nv_mount.specs.declared.fds.Fd.{Fd}
 use Rattle.nv_plain.specs.declared.call.FileCall.{FileCall}
-use Rattle.nv_core.specs.state.Words.{Sizes, STOP, ORDER, PAGE, place}
+use Rattle.nv_core.specs.state.Words.{Sizes, STOP, ORDER, HEAD, TAIL, PAGE, place}
 use Rattle.nv_core.specs.state.Passes.{Pass, first_page, end_page}
-use Rattle.nv_core.specs.steps.Ops.{Op, Load, Take, Place, Stop, ByCleaner}
+use Rattle.nv_core.specs.steps.Ops.{Op, Load, Take, Place, Stop, Draw, ByCleaner}
 use Rattle.nv_core.specs.state.Cleaner as cleaner
 use Rattle.nv_core.specs.invariant.Ownership.{is_among}
 use Rattle.nv_core.specs.state.Core.{Core}
@@ -27,15 +27,15 @@ use Rattle.nv_table.specs.steps.StepContracts.{Postcondition}
 use Rattle.nv_table.specs.state.Views.{PassView, pass_of}
 use Rattle.nv_table.specs.state.States.{PassState}
 use Rattle.nv_table.proofs.invariant.DrawnLaws.{calls_leave}
-use Rattle.nv_calls.specs.declared.answers.Done.{Done}
-use Rattle.nv_calls.specs.declared.answers.Refusal.{Refusal}
-use Rattle.nv_calls.specs.declared.answers.Refusal.TheVariants.{BadFd, TooFar, TooLong, Busy, Stopped, Spent, RegionFault, StoreFault}
+use Rattle.nv_mirror.specs.declared.answers.Done.{Done}
+use Rattle.nv_mirror.specs.declared.answers.Refusal.{Refusal}
+use Rattle.nv_mirror.specs.declared.answers.Refusal.TheVariants.{BadFd, TooFar, TooLong, Busy, Stopped, Spent, Again, Raced, RegionFault, StoreFault}
 use Rattle.nv_calls.specs.reads.EarlyRefusals.{early_range_refusal, early_fd_refusal, early_refusal}
 use Rattle.nv_calls.specs.fsync.SyncRuns.{file_of_fd, IsSyncRun}
 use Rattle.nv_calls.specs.histories.Heeds.{HasSeenStop, HeedsStop, is_stop_load, loads_stop, tells_stop, ReadsHeedStop, SyncsHeedStop}
 use Rattle.nv_calls.specs.histories.OwnSteps.{is_own, gives_back, AreOwn}
 use Rattle.nv_calls.specs.reads.Reads.{refusal_of, IsOverBy}
-use Rattle.nv_calls.specs.histories.PassSteps.{PassStep, HasTaken, HasMade, IsBetweenSteps, either_of, refused_by, refusal_in, if_own, busy_at}
+use Rattle.nv_mirror.specs.PassSteps.{PassStep, HasTaken, HasMade, IsBetweenSteps, either_of, refused_by, refusal_in, if_own, busy_at, head_in}
 
 -- ---- one step
 
@@ -112,18 +112,18 @@ load_of (Load STOP) is = refl
 load_of op is = absurd (cc)
 
 -- a step that loads STOP refuses its call
-load_refuses : (sizes : Sizes) (call : FileCall) (works : List Work) (op : Op) (found : ℕ) → op ≡ Load STOP → found ≡ 1 → refused_by sizes call works op found ≡ Some Stopped
-load_refuses sizes call works op found load set =
-    ap (λ d. refused_by sizes call works d found) load ∙ ap (refused_by sizes call works (Load STOP)) set
+load_refuses : (sizes : Sizes) (call : FileCall) (head : ℕ) (works : List Work) (op : Op) (found : ℕ) → op ≡ Load STOP → found ≡ 1 → refused_by sizes call head works op found ≡ Some Stopped
+load_refuses sizes call head works op found load set =
+    ap (λ d. refused_by sizes call head works d found) load ∙ ap (refused_by sizes call head works (Load STOP)) set
 
 module _ (sound : RunsAreSound) (sizes : Sizes) (call : FileCall) (start : PassState) (mount : IsMount (mount_of start.view.opened)) (seen : HasSeenStop start) where
-  last_refuses : (step : PassStep) (earlier : List PassStep) (now : PassState) → HasMade (step ∷ earlier) start now → is_stop_load step.op ≡ true → refused_by sizes call step.works step.op step.found ≡ Some Stopped
+  last_refuses : (step : PassStep) (earlier : List PassStep) (now : PassState) → HasMade (step ∷ earlier) start now → is_stop_load step.op ≡ true → refused_by sizes call (head_in earlier) step.works step.op step.found ≡ Some Stopped
   last_refuses step earlier now made load =
       let taken = made.2 in
       let is = load_of step.op load in
       let at = subst (λ (o : Opened). IsMount (mount_of o)) (sym (ap (λ (view : PassView). view.opened) taken.between.view ∙ made_opened earlier start made.0 made.1)) mount in
       let stepped = subst (λ d. Postcondition taken.before step.opens d step.found now) is taken.stepped in
-      load_refuses sizes call step.works step.op step.found is
+      load_refuses sizes call (head_in earlier) step.works step.op step.found is
       (load_finds sound taken.before now step.opens step.found at stepped (seen_between made.0 taken.before taken.between (made_stays earlier start made.0 made.1 seen)))
 
   own_open : (refusal : Option Refusal) (op : Op) → op ≡ Load STOP → is_own refusal op ≡ true → refusal ≡ None
@@ -137,10 +137,10 @@ module _ (sound : RunsAreSound) (sizes : Sizes) (call : FileCall) (start : PassS
   comes_to_stop (step ∷ (other ∷ earlier)) now made own loads = by (loads_stop (other ∷ earlier)) refl (comes_to_stop (other ∷ earlier) made.0 made.1 own.2)
     where
       by : (b : Bool) → loads_stop (other ∷ earlier) ≡ b → (loads_stop (other ∷ earlier) ≡ true → refusal_in sizes call (other ∷ earlier) ≡ Some Stopped) → refusal_in sizes call (step ∷ (other ∷ earlier)) ≡ Some Stopped
-      by true before then_ = ap (λ r. either_of r (refused_by sizes call step.works step.op step.found)) (then_ before)
+      by true before then_ = ap (λ r. either_of r (refused_by sizes call (head_in (other ∷ earlier)) step.works step.op step.found)) (then_ before)
       by false before then_ =
           let load : is_stop_load step.op ≡ true = sym (ap (λ b. b || is_stop_load step.op) before) ∙ loads in
-          ap (λ r. either_of r (refused_by sizes call step.works step.op step.found)) (own_open (refusal_in sizes call (other ∷ earlier)) step.op (load_of step.op load) own.1)
+          ap (λ r. either_of r (refused_by sizes call (head_in (other ∷ earlier)) step.works step.op step.found)) (own_open (refusal_in sizes call (other ∷ earlier)) step.op (load_of step.op load) own.1)
           ∙ last_refuses step (other ∷ earlier) now made load
 
 -- ---- answers
@@ -169,15 +169,18 @@ tells_set false one tells = refl
 never : (b : Bool) → b ≡ false → b ≡ true → ⊥
 never b off is = cc
 
-refuses_seeing : (sizes : Sizes) (call : FileCall) (works : List Work) (pass : Pass) (op : Op) (found : ℕ) → refusal_tells (refused_by sizes call works op found) ≡ true → stopped_after pass op found ≡ true
-refuses_seeing sizes call works pass (Take (PAGE page)) found tells =
+refuses_seeing : (sizes : Sizes) (call : FileCall) (head : ℕ) (works : List Work) (pass : Pass) (op : Op) (found : ℕ) → refusal_tells (refused_by sizes call head works op found) ≡ true → stopped_after pass op found ≡ true
+refuses_seeing sizes call head works pass (Take (PAGE page)) found tells =
     let busy = tells_neither (found == 0) None (Some (Busy (place sizes (PAGE page)))) refl refl in
     absurd (never _ (tells_neither (found == 0) None (if_own sizes call page (busy_at sizes (PAGE page) found)) refl (tells_neither (is_among (first_page sizes call) (end_page sizes call) page) (busy_at sizes (PAGE page) found) None busy refl)) tells)
-refuses_seeing sizes call works pass (Take cell) found tells = absurd (never _ (tells_neither (found == 0) None (Some (Busy (place sizes cell))) refl refl) tells)
-refuses_seeing sizes call works pass (Load STOP) found tells = tells_set (found == 0) pass.stopped tells
-refuses_seeing sizes call works pass (Load ORDER) found tells = absurd (never _ (tells_neither (nat_lt found (2 ^ 60)) None (Some (Spent found)) refl refl) tells)
-refuses_seeing sizes call works pass Stop found tells = refl
-refuses_seeing sizes call works pass op found tells = absurd (cc)
+refuses_seeing sizes call head works pass (Take cell) found tells = absurd (never _ (tells_neither (found == 0) None (Some (Busy (place sizes cell))) refl refl) tells)
+refuses_seeing sizes call head works pass (Load STOP) found tells = tells_set (found == 0) pass.stopped tells
+refuses_seeing sizes call head works pass (Load ORDER) found tells = absurd (never _ (tells_neither (nat_lt found (2 ^ 60)) None (Some (Spent found)) refl refl) tells)
+refuses_seeing sizes call head works pass (Load HEAD) found tells = absurd (never _ (tells_neither _ (Some (Spent found)) None refl refl) tells)
+refuses_seeing sizes call head works pass (Load TAIL) found tells = absurd (never _ (tells_neither _ (Some (Again head found)) None refl refl) tells)
+refuses_seeing sizes call head works pass Draw found tells = absurd (never _ (tells_neither (found == head) None (Some (Raced head found)) refl refl) tells)
+refuses_seeing sizes call head works pass Stop found tells = refl
+refuses_seeing sizes call head works pass op found tells = absurd (cc)
 
 pub made_tells : (sizes : Sizes) (call : FileCall) (steps : List PassStep) (start now : PassState) → HasMade steps start now → refusal_tells (refusal_in sizes call steps) ≡ true → HasSeenStop now
 made_tells sizes call [] start now made tells = absurd (cc)
@@ -188,12 +191,12 @@ made_tells sizes call (step ∷ earlier) start now made tells = by (refusal_in s
 
     by : (before : Option Refusal) → refusal_in sizes call earlier ≡ before → (refusal_tells (refusal_in sizes call earlier) ≡ true → HasSeenStop made.0) → HasSeenStop now
     by (Some refusal) is seen =
-        let told = sym (ap (λ r. refusal_tells (either_of r (refused_by sizes call step.works step.op step.found))) is) ∙ tells in
+        let told = sym (ap (λ r. refusal_tells (either_of r (refused_by sizes call (head_in earlier) step.works step.op step.found))) is) ∙ tells in
         taken_stays step made.0 now taken (seen (ap refusal_tells is ∙ told))
     by None is seen =
         seen_after taken.before now step.opens step.op step.found taken.stepped
-        ∙ refuses_seeing sizes call step.works (pass_before taken.before.view step.opens taken.stepped.works) step.op step.found
-        (sym (ap (λ r. refusal_tells (either_of r (refused_by sizes call step.works step.op step.found))) is) ∙ tells)
+        ∙ refuses_seeing sizes call (head_in earlier) step.works (pass_before taken.before.view step.opens taken.stepped.works) step.op step.found
+        (sym (ap (λ r. refusal_tells (either_of r (refused_by sizes call (head_in earlier) step.works step.op step.found))) is) ∙ tells)
 
 pub answer_seen : (sizes : Sizes) (call : FileCall) (steps : List PassStep) (start now : PassState) (result : Result Done Refusal) → HasMade steps start now → refusal_in sizes call steps ≡ refusal_of result
     → tells_stop result ≡ true → HasSeenStop now

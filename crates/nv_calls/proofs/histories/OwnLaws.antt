@@ -4,9 +4,9 @@ use Rattle.std.specs.Prelude.{Option, Some, None}
 use Rattle.nv_plain.specs.declared.call.FileCall.{FileCall}
 use Rattle.nv_core.specs.state.Words.{Sizes}
 use Rattle.nv_core.specs.steps.Ops.{Op, Give, Return, Place, Stop}
-use Rattle.nv_calls.specs.declared.answers.Refusal.{Refusal}
+use Rattle.nv_mirror.specs.declared.answers.Refusal.{Refusal}
 use Rattle.nv_calls.specs.histories.OwnSteps.{is_own, is_passing, gives_back, AreOwn, ArePassing}
-use Rattle.nv_calls.specs.histories.PassSteps.{PassStep, refusal_in, place_in, place_by, stops_in, is_stop, either_of}
+use Rattle.nv_mirror.specs.PassSteps.{PassStep, refusal_in, place_in, place_by, stops_in, is_stop, either_of}
 
 -- a step that sets no STOP
 abbrev pub is_quiet : Option Refusal → Op → Bool

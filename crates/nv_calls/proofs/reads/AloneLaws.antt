@@ -7,9 +7,9 @@ use Rattle.nv_plain.specs.Modes.{can_read}
 use Rattle.nv_plain.specs.Pieces.{pages_touched}
 use Rattle.nv_plain.specs.declared.call.FileCall.{FileCall}
 use Rattle.nv_plain.specs.declared.call.FileCall.TheVariants.{Read}
-use Rattle.nv_core.specs.state.Words.{Sizes, Word, STOP, ORDER, STORE, ENTRY, PAGE, place}
+use Rattle.nv_core.specs.state.Words.{Sizes, Word, STOP, ORDER, HEAD, TAIL, STORE, ENTRY, PAGE, place}
 use Rattle.nv_core.specs.state.Values.{CallEnding, Failed}
-use Rattle.nv_core.specs.steps.Ops.{Op, Load, Take, Stop}
+use Rattle.nv_core.specs.steps.Ops.{Op, Load, Take, Stop, Draw}
 use Rattle.nv_core.specs.steps.Opening.{IsMount}
 use Rattle.nv_core.specs.steps.Order.{Work}
 use Rattle.nv_table.specs.passes.Alone.{IsAlone, StaysAlone, NoLockIsHeld}
@@ -19,13 +19,13 @@ use Rattle.nv_table.specs.steps.StepContracts.{Postcondition}
 use Rattle.nv_table.specs.state.Views.{PassView}
 use Rattle.nv_table.specs.state.States.{PassState}
 use Rattle.nv_mount.specs.declared.fds.Fd.{Fd}
-use Rattle.nv_calls.specs.declared.answers.Done.{Done}
-use Rattle.nv_calls.specs.declared.answers.Refusal.{Refusal}
-use Rattle.nv_calls.specs.declared.answers.Refusal.TheVariants.{BadFd, TooFar, TooLong, Busy, Stopped, Spent}
+use Rattle.nv_mirror.specs.declared.answers.Done.{Done}
+use Rattle.nv_mirror.specs.declared.answers.Refusal.{Refusal}
+use Rattle.nv_mirror.specs.declared.answers.Refusal.TheVariants.{BadFd, TooFar, TooLong, Busy, Stopped, Spent, Again, Raced}
 use Rattle.nv_calls.specs.reads.EarlyRefusals.{early_refusal, early_fd_refusal, early_range_refusal}
 use Rattle.nv_calls.specs.reads.Reads.{IsOverBy, refusal_of}
 use Rattle.nv_calls.specs.reads.ReadsAlone.{NoReadIsBusy}
-use Rattle.nv_calls.specs.histories.PassSteps.{PassStep, HasMade, either_of, busy_at, if_own, fault_at, fault_by, fault_in, refused_by, refusal_in}
+use Rattle.nv_mirror.specs.PassSteps.{PassStep, HasMade, either_of, busy_at, if_own, fault_at, fault_by, fault_in, refused_by, refusal_in, head_in}
 
 -- ---- refusals that name no lock
 
@@ -72,14 +72,17 @@ early_other sizes fds fd at len = by (slice_get fds fd)
 
 -- ---- a lock that was found held is one that a step took
 
-found_other : (sizes : Sizes) (call : FileCall) (works : List Work) (op : Op) (found : ℕ) → ((cell : Word) → op ≡ Take cell → found ≡ 0) → IsOther (refused_by sizes call works op found)
-found_other sizes call works (Take (PAGE page)) found open_ =
+found_other : (sizes : Sizes) (call : FileCall) (head : ℕ) (works : List Work) (op : Op) (found : ℕ) → ((cell : Word) → op ≡ Take cell → found ≡ 0) → IsOther (refused_by sizes call head works op found)
+found_other sizes call head works (Take (PAGE page)) found open_ =
     subst (λ b. IsOther (if b then None else if_own sizes call page (busy_at sizes (PAGE page) found))) (sym (eq-eqb found 0 (open_ (PAGE page) refl))) tt
-found_other sizes call works (Take cell) found open_ = subst (λ b. IsOther (if b then None else Some (Busy (place sizes cell)))) (sym (eq-eqb found 0 (open_ cell refl))) tt
-found_other sizes call works (Load STOP) found open_ = choice (found == 0) None (Some Stopped) tt tt
-found_other sizes call works (Load ORDER) found open_ = choice (nat_lt found (2 ^ 60)) None (Some (Spent found)) tt tt
-found_other sizes call works Stop found open_ = faults_other works
-found_other sizes call works op found open_ = tt
+found_other sizes call head works (Take cell) found open_ = subst (λ b. IsOther (if b then None else Some (Busy (place sizes cell)))) (sym (eq-eqb found 0 (open_ cell refl))) tt
+found_other sizes call head works (Load STOP) found open_ = choice (found == 0) None (Some Stopped) tt tt
+found_other sizes call head works (Load ORDER) found open_ = choice (nat_lt found (2 ^ 60)) None (Some (Spent found)) tt tt
+found_other sizes call head works (Load HEAD) found open_ = choice _ (Some (Spent found)) None tt tt
+found_other sizes call head works (Load TAIL) found open_ = choice _ (Some (Again head found)) None tt tt
+found_other sizes call head works Draw found open_ = choice (found == head) None (Some (Raced head found)) tt tt
+found_other sizes call head works Stop found open_ = faults_other works
+found_other sizes call head works op found open_ = tt
 
 module _ (alone : StaysAlone) (locks : NoLockIsHeld) where
   -- what is so of the pass after some steps, and of the first refusal among them
@@ -104,8 +107,8 @@ module _ (alone : StaysAlone) (locks : NoLockIsHeld) where
         mount = subst (λ (v : PassView). IsMount (mount_of v.opened)) (sym taken.stepped.steps.is) mount_then;
         knows = next.0;
         alone_still = next.1;
-        other = either (refusal_in sizes call earlier) (refused_by sizes call step.works step.op step.found) so_far.other
-            (found_other sizes call step.works step.op step.found
+        other = either (refusal_in sizes call earlier) (refused_by sizes call (head_in earlier) step.works step.op step.found) so_far.other
+            (found_other sizes call (head_in earlier) step.works step.op step.found
             (λ cell at. locks taken.before now step.opens cell step.found mount_then knows_then alone_then (subst (λ op. Postcondition taken.before step.opens op step.found now) at taken.stepped)));
       }
 

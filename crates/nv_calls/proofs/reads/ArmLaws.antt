@@ -15,10 +15,12 @@ use Rattle.nv_calls.specs.declared.machine.Progress.{Progress}
 use Rattle.nv_calls.specs.declared.reading.ReadMachine.{ReadMachine}
 use Rattle.nv_calls.specs.declared.reading.ReadControl.{ReadControl}
 use Rattle.nv_calls.specs.reads.Advances.{IsSameRead, IsAdvance}
-use Rattle.nv_calls.specs.histories.Kinds.{kind_of_op, read_kind}
+use Rattle.nv_op.specs.Kinds.{kind_of_op}
+use Rattle.nv_calls.specs.histories.Kinds.{read_kind}
 use Rattle.nv_calls.specs.reads.Reads.{IsOnWay, IsOnWayAt, ReadGoes}
-use Rattle.nv_calls.specs.histories.PassSteps.{IsBetweenSteps}
-use Rattle.nv_calls.proofs.reads.WayLaws.{IsCalls, load_due, take_due, give_due, loaded, taken, given, taken_by, between_self}
+use Rattle.nv_mirror.specs.PassSteps.{IsBetweenSteps}
+use Rattle.nv_mirror.proofs.StepLaws.{taken_by, between_self}
+use Rattle.nv_calls.proofs.reads.WayLaws.{IsCalls, load_due, take_due, give_due, loaded, taken, given}
 
 -- ---- the mount, by a layout and by a board
 

@@ -22,23 +22,26 @@ use Rattle.nv_table.specs.state.States.{PassState}
 use Rattle.nv_table.specs.steps.CallSteps.{Precondition}
 use Rattle.nv_table.proofs.steps.CallLaws.{IsBare, IsCallFree, idle_bare, idle_of, bare_owns_slots, bare_there, page_due, page_refused, stepped_there, later_by}
 use Rattle.nv_mount.specs.declared.fds.Fd.{Fd}
-use Rattle.nv_calls.specs.declared.answers.Refusal.{Refusal}
-use Rattle.nv_calls.specs.declared.answers.Refusal.TheVariants.{Busy, Stopped, BadFd, TooFar, TooLong}
-use Rattle.nv_calls.specs.declared.kinds.Kind.TheVariants.{Load, Take}
+use Rattle.nv_mirror.specs.declared.answers.Refusal.{Refusal}
+use Rattle.nv_mirror.specs.declared.answers.Refusal.TheVariants.{Busy, Stopped, BadFd, TooFar, TooLong}
+use Rattle.nv_op.specs.declared.kinds.Kind.TheVariants.{Load, Take}
 use Rattle.nv_calls.specs.declared.machine.Progress.{Progress}
 use Rattle.nv_calls.specs.declared.machine.Progress.TheVariants.{Ended}
 use Rattle.nv_calls.specs.declared.reading.ReadMachine.{ReadMachine}
 use Rattle.nv_calls.specs.declared.reading.ReadControl.TheVariants as reads
 use Rattle.nv_calls.specs.reads.Advances.{IsSameRead, IsFirstAdvance}
-use Rattle.nv_calls.specs.histories.Answers.{IsUnplaced}
+use Rattle.nv_mirror.specs.Answers.{IsUnplaced}
 use Rattle.nv_calls.specs.reads.EarlyRefusals.{early_refusal, IsAdmitted, early_range_refusal, early_fd_refusal}
-use Rattle.nv_calls.specs.histories.Kinds.{kind_of_op, read_kind}
-use Rattle.nv_calls.specs.reads.Reads.{ReadGoes, pages_from, with_if, read_owned, reading, IsAt, IsMeasured, InCall, IsOnWayAt, IsUnbegun, IsReadOver, IsOverBy, is_fault}
-use Rattle.nv_calls.specs.histories.PassSteps.{PassStep, refused_by, place_by}
+use Rattle.nv_op.specs.Kinds.{kind_of_op}
+use Rattle.nv_calls.specs.histories.Kinds.{read_kind}
+use Rattle.nv_mirror.specs.OwnedCells.{pages_from, with_if}
+use Rattle.nv_calls.specs.reads.Reads.{ReadGoes, read_owned, reading, IsAt, IsMeasured, InCall, IsOnWayAt, IsUnbegun, IsReadOver, IsOverBy, is_fault}
+use Rattle.nv_mirror.specs.PassSteps.{PassStep, refused_by, place_by}
 use Rattle.nv_calls.proofs.histories.OwnLaws.{is_quiet, quiet_own, quiet_goes_on}
-use Rattle.nv_calls.proofs.reads.LockLaws.{page_among}
+use Rattle.nv_mirror.proofs.PageLaws.{page_among}
 use Rattle.nv_calls.proofs.reads.ReadLaws.{over_from, none_placed}
-use Rattle.nv_calls.proofs.reads.WayLaws.{opened_same, by_sizes, taken_by, between_self, none_tells, word_is, if_no_fault, no_fault}
+use Rattle.nv_mirror.proofs.StepLaws.{opened_same, taken_by, between_self}
+use Rattle.nv_calls.proofs.reads.WayLaws.{by_sizes, none_tells, word_is, if_no_fault, no_fault}
 
 -- ---- pages
 
@@ -115,7 +118,7 @@ module _ (fds : List Fd) (m : ReadMachine) (list : List ℕ) (file : ℕ) (old :
   free : IsCallFree (pass_of old.view).control
   free = subst IsCallFree (sym way.idle.control) (λ sizes values pass work due. due)
 
-  begun_call : (new : PassState) (op : Op) (found : ℕ) (refusal : Option Refusal) → (is : Postcondition old (Some call) op found new) → refused_by old.view.opened.sizes call is.works op found ≡ refusal
+  begun_call : (new : PassState) (op : Op) (found : ℕ) (refusal : Option Refusal) → (is : Postcondition old (Some call) op found new) → refused_by old.view.opened.sizes call 0 is.works op found ≡ refusal
       → place_by op found ≡ None → is_quiet None op ≡ true → InCall fds m.fd call refusal m.place m.faulted old new
   begun_call new op found refusal is refuses places quiet = record {
     idle = way.idle;
@@ -125,10 +128,10 @@ module _ (fds : List Fd) (m : ReadMachine) (list : List ℕ) (file : ℕ) (old :
     steps = step ∷ [];
     made = (old, refl, taken_by old old new (Some call) op found (between_self old) is);
     own = (refl, quiet_own None op quiet);
-    refused = ap (λ (o : Opened). refused_by o.sizes call is.works op found) opened ∙ refuses;
+    refused = ap (λ (o : Opened). refused_by o.sizes call 0 is.works op found) opened ∙ refuses;
     placed = places ∙ sym way.unplaced;
     stopped = quiet_goes_on None op quiet ∙ sym way.unfaulted;
-    faults = way.unfaulted ∙ sym (ap is_fault (sym refuses) ∙ no_fault old.view.opened.sizes call is.works op found (quiet_goes_on None op quiet));
+    faults = way.unfaulted ∙ sym (ap is_fault (sym refuses) ∙ no_fault old.view.opened.sizes call 0 is.works op found (quiet_goes_on None op quiet));
     mount = opened;
     later = later_by old new (Some call) op found is;
     spare = is.spare;
@@ -217,7 +220,7 @@ module _ (fds : List Fd) (m : ReadMachine) (list : List ℕ) (file : ℕ) (old :
         over_from fds (record m { file = file }) list (Some (Busy cell)) m.place m.faulted old new (Err (Busy cell)) (begun_call new (TakeOp (PAGE page)) 1 (Some (Busy cell)) is refuses refl refl) way.room refl way.unplaced
         (begun_unplaced 1 is) (page_refused old new call page 1 locks way.idle is (λ e. omega (arith, e)))
       where
-        refuses : refused_by old.view.opened.sizes call is.works (TakeOp (PAGE page)) 1 ≡ Some (Busy cell)
+        refuses : refused_by old.view.opened.sizes call 0 is.works (TakeOp (PAGE page)) 1 ≡ Some (Busy cell)
         refuses =
             ap (λ b. if b then Some (Busy (place old.view.opened.sizes (PAGE page))) else None) (page_among (first_page old.view.opened.sizes call) (end_page old.view.opened.sizes call) page (omega (arith, first)) within)
             ∙ ap (λ n. Some (Busy n)) (sym cell_is)

@@ -8,7 +8,7 @@ use Rattle.nv_core.specs.state.Passes.{Control, Idle, TakePage, LoadLength, Take
 use Rattle.nv_core.specs.steps.Ops.{Op, Load, Take, Give, Place, Stop, Draw, Seize, Pledge, Ready, Grow, Break, Turn, Hint, Hold, Return, ByCleaner, Split, PutBack, Join, cleaner_move, moved}
 use Rattle.nv_core.specs.steps.ControlSteps.{control_after, after_load, after_give, after_stop, after_head, after_tail, after_look, after_hold, after_return, scanning, leaving, giving, ending, ordered, copying, exceeds}
 use Rattle.nv_core.specs.steps.PassSteps.{begun}
-use Rattle.nv_core.specs.steps.Order.{Values, Work, Enabled, CallEnabled, CallDue, IsFailing, page_bytes, commit_steps}
+use Rattle.nv_core.specs.steps.Order.{Values, Work, CallEnabled, CallDue, IsFailing, page_bytes, commit_steps}
 use Rattle.nv_core.specs.steps.StepKinds.{MayLoad, MayTake, MayGive, IsMiss, JustNow, AfterTries, EnabledByKind}
 use Rattle.nv_core.specs.state.Core.{Core, changes, changed_pass, after_step, after_begin, after_work, worked, control_worked, fetched_worked}
 use Rattle.nv_core.specs.steps.Events.{Act, BeginsCall, TakesStep, CallsDevice, Event, StepEnabled, ActEnabled, after_act, after_event, after_run, IsRun}

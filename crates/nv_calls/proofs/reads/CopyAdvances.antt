@@ -20,7 +20,7 @@ use Rattle.nv_mount.specs.declared.fds.Fd.{Fd}
 use Rattle.nv_pages.specs.Altered.{IsAltered}
 use Rattle.nv_pages.specs.PageWork.{HasFailedCall, with_page}
 use Rattle.nv_pages.proofs.AlterLaws.{altered_then}
-use Rattle.nv_calls.specs.declared.answers.Refusal.TheVariants.{StoreFault}
+use Rattle.nv_mirror.specs.declared.answers.Refusal.TheVariants.{StoreFault}
 use Rattle.nv_calls.specs.declared.machine.Progress.{Progress}
 use Rattle.nv_calls.specs.declared.machine.Progress.TheVariants.{More}
 use Rattle.nv_calls.specs.declared.reading.Held.{Held}
@@ -29,14 +29,15 @@ use Rattle.nv_calls.specs.declared.reading.ReadControl.TheVariants as reads
 use Rattle.nv_calls.specs.reads.Advances.{IsSameRead, IsAdvance}
 use Rattle.nv_calls.specs.reads.PageReads.{page_read, HasFailedTakeStore}
 use Rattle.nv_calls.specs.reads.Reads.{IsLook, IsLooking, IsOnWayAt, ReadFactsAt, Refuses, ReadGoes, page_piece}
-use Rattle.nv_calls.specs.histories.PassSteps.{IsBetweenSteps}
+use Rattle.nv_mirror.specs.PassSteps.{IsBetweenSteps}
 use Rattle.nv_calls.proofs.reads.ArmLaws.{at_control, arm_after}
 use Rattle.nv_calls.proofs.reads.CopyLaws.{copying_on, read_values, read_due, fail_due, given_dirty, given_clean}
 use Rattle.nv_calls.proofs.reads.CopyWays.{look_open, look_placed, look_goes, given_way, fail_goes, refused_faulted}
 use Rattle.nv_calls.proofs.reads.FetchLaws.{fetching_held}
 use Rattle.nv_calls.proofs.reads.OnwardLaws.{stepped_altered}
 use Rattle.nv_calls.proofs.reads.ReadLaws.{refused_same}
-use Rattle.nv_calls.proofs.reads.WayLaws.{opened_same, taken_by, set_clash}
+use Rattle.nv_mirror.proofs.StepLaws.{opened_same, taken_by}
+use Rattle.nv_calls.proofs.reads.WayLaws.{set_clash}
 
 module _ (m : ReadMachine) (now : PassState) (store : IsStore (values_of now.view (STORE m.file))) (mid : PassState) (same : mid.view ≡ now.view) where
   store_on : IsStore (values_of mid.view (STORE m.file))

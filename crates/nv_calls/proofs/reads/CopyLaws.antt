@@ -32,7 +32,8 @@ use Rattle.nv_pages.proofs.AlterLaws.{at_store}
 use Rattle.nv_calls.specs.declared.reading.ReadMachine.{ReadMachine}
 use Rattle.nv_calls.specs.declared.reading.ReadControl.TheVariants as reads
 use Rattle.nv_calls.specs.reads.PageReads.{page_read, HasFailedTakeStore}
-use Rattle.nv_calls.specs.reads.Reads.{call_of, with_if, read_owned, reading, HasCopied, IsAtPage, IsLooking, IsOnWayAt, ReadFactsAt, page_piece}
+use Rattle.nv_mirror.specs.OwnedCells.{with_if}
+use Rattle.nv_calls.specs.reads.Reads.{call_of, read_owned, reading, HasCopied, IsAtPage, IsLooking, IsOnWayAt, ReadFactsAt, page_piece}
 use Rattle.nv_calls.proofs.reads.FetchLaws.{page_of_read}
 use Rattle.nv_calls.proofs.reads.FrontLaws.{copied_same, bytes_same, bytes_else}
 use Rattle.nv_calls.proofs.reads.HeldLaws.{page_held, other_not_held, slot_still_owned}

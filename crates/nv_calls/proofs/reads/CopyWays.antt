@@ -17,18 +17,19 @@ use Rattle.nv_table.specs.state.Views.{PassView, pass_of, values_of}
 use Rattle.nv_table.specs.state.States.{PassState}
 use Rattle.nv_mount.specs.declared.fds.Fd.{Fd}
 use Rattle.nv_pages.specs.Altered.{IsAltered}
-use Rattle.nv_calls.specs.declared.answers.Refusal.{Refusal}
-use Rattle.nv_calls.specs.declared.answers.Refusal.TheVariants.{StoreFault}
+use Rattle.nv_mirror.specs.declared.answers.Refusal.{Refusal}
+use Rattle.nv_mirror.specs.declared.answers.Refusal.TheVariants.{StoreFault}
 use Rattle.nv_calls.specs.declared.machine.Progress.{Progress}
 use Rattle.nv_calls.specs.declared.machine.Progress.TheVariants.{More, Ended}
 use Rattle.nv_calls.specs.declared.reading.Held.{Held}
 use Rattle.nv_calls.specs.declared.reading.ReadMachine.{ReadMachine}
 use Rattle.nv_calls.specs.declared.reading.ReadControl.{ReadControl}
 use Rattle.nv_calls.specs.declared.reading.ReadControl.TheVariants as reads
-use Rattle.nv_calls.specs.histories.Answers.{IsUnplaced}
+use Rattle.nv_mirror.specs.Answers.{IsUnplaced}
 use Rattle.nv_calls.specs.reads.PageReads.{page_read, HasFailedTakeStore}
-use Rattle.nv_calls.specs.reads.Reads.{call_of, with_if, read_owned, held_cells, reading, IsLook, InCall, IsOnWayAt, IsUnderWayAt, ReadFactsAt, PlacedAt, refusal_at, Refuses, ReadGoes}
-use Rattle.nv_calls.specs.histories.PassSteps.{IsBetweenSteps, fault_in, either_of}
+use Rattle.nv_mirror.specs.OwnedCells.{with_if}
+use Rattle.nv_calls.specs.reads.Reads.{call_of, read_owned, held_cells, reading, IsLook, InCall, IsOnWayAt, IsUnderWayAt, ReadFactsAt, PlacedAt, refusal_at, Refuses, ReadGoes}
+use Rattle.nv_mirror.specs.PassSteps.{IsBetweenSteps, fault_in, either_of}
 use Rattle.nv_calls.proofs.reads.CopyLaws.{IsCopying, copying_on, given_is}
 use Rattle.nv_calls.proofs.reads.FetchLaws.{fetching_held, fetching_cells, step_on}
 use Rattle.nv_calls.proofs.reads.ReadLaws.{refused_goes}

@@ -1,5 +1,5 @@
 -- Ends: a read that has its place gives back SIZE, and then its pages, the first of them first.
-use Rattle.std.proofs.Common.{◌≡◌, ◌≢◌, ℕ, zero, suc, ◌+◌, ◌-◌, ◌<◌, ◌≤◌, ◌==◌, if◌then◌else◌, List, [], ◌∷◌, length, inl, inr, refl, sym, ap, subst, ◌∙◌, arith, eq-eqb, ne_eqb}
+use Rattle.std.proofs.Common.{◌≡◌, ℕ, ◌+◌, ◌-◌, ◌≤◌, ◌==◌, if◌then◌else◌, List, length, inl, inr, refl, sym, ap, subst, ◌∙◌, arith, eq-eqb, ne_eqb}
 use Rattle.std.specs.Prelude.{Some, None, option_map, Ok}
 use Rattle.std.proofs.lemmas.Bool.{cases_eq}
 use Rattle.nv_core.specs.state.Words.{Sizes, Word, PAGE, SIZE}
@@ -7,44 +7,23 @@ use Rattle.nv_core.specs.state.Passes.{Control, Pass, Idle, GiveSize, GivePage, 
 use Rattle.nv_core.specs.steps.Ops.{Give}
 use Rattle.nv_core.specs.steps.ControlSteps.{giving}
 use Rattle.nv_core.specs.invariant.ControlFacts.{IsPage}
-use Rattle.nv_core.proofs.state.Changes.{same_self, same_false}
 use Rattle.nv_table.specs.steps.StepContracts.{Postcondition}
 use Rattle.nv_table.specs.state.Views.{PassView, pass_of}
 use Rattle.nv_table.specs.state.States.{PassState}
 use Rattle.nv_mount.specs.declared.fds.Fd.{Fd}
-use Rattle.nv_calls.specs.declared.answers.Done.{Done}
+use Rattle.nv_mirror.specs.declared.answers.Done.{Done}
 use Rattle.nv_calls.specs.declared.machine.Progress.{Progress}
 use Rattle.nv_calls.specs.declared.machine.Progress.TheVariants.{More, Ended}
 use Rattle.nv_calls.specs.declared.reading.ReadMachine.{ReadMachine}
 use Rattle.nv_calls.specs.declared.reading.ReadControl.TheVariants as reads
 use Rattle.nv_calls.specs.reads.Advances.{IsSameRead}
-use Rattle.nv_calls.specs.histories.Answers.{IsReadPlaced}
+use Rattle.nv_mirror.specs.Answers.{IsReadPlaced}
 use Rattle.nv_calls.specs.reads.Ends.{GivesFrom}
-use Rattle.nv_calls.specs.reads.Reads.{call_of, pages_from, with_if, read_owned, reading, IsAt, InCall, IsOnWay, IsOnWayAt, IsReadOver, ReadTells, ReadGoes, done_of, is_fault, refusal_of}
-use Rattle.nv_calls.proofs.reads.HeldLaws.{index_is}
+use Rattle.nv_mirror.specs.OwnedCells.{pages_from, with_if}
+use Rattle.nv_calls.specs.reads.Reads.{call_of, read_owned, reading, IsAt, InCall, IsOnWay, IsOnWayAt, IsReadOver, ReadTells, ReadGoes, done_of, is_fault, refusal_of}
+use Rattle.nv_mirror.proofs.PageLaws.{without_first, pages_after}
 use Rattle.nv_calls.proofs.reads.ReadLaws.{over_from, idle_from}
 use Rattle.nv_calls.proofs.reads.WayLaws.{IsCalls, reading_on, quiet_on, by_sizes}
-
--- ---- hands without a cell
-
--- without the first one
-pub without_first : (cell : Word) (owned : List Word) → without cell (cell ∷ owned) ≡ owned
-without_first cell owned = ap (λ b. if b then owned else cell ∷ without cell owned) (same_self cell)
-
-without_other : (cell other : Word) (owned : List Word) → cell ≢ other → without cell (other ∷ owned) ≡ other ∷ without cell owned
-without_other cell other owned ne = ap (λ b. if b then owned else other ∷ without cell owned) (same_false cell other ne)
-
--- pages without the first of them, which was taken first
-pages_less : (page count : ℕ) → without (PAGE page) (pages_from page (suc count)) ≡ pages_from (page + 1) count
-pages_less page zero = ap (λ p. without (PAGE page) (PAGE p ∷ [])) (let e : page + zero ≡ page = omega arith in e) ∙ without_first (PAGE page) []
-pages_less page (suc count) =
-    without_other (PAGE page) (PAGE (page + suc count)) (pages_from page (suc count)) (λ e. let i = index_is e in omega (arith, i))
-    ∙ ap (λ owned. PAGE (page + suc count) ∷ owned) (pages_less page count)
-    ∙ ap (λ p. PAGE p ∷ pages_from (page + 1) count) (let e : page + suc count ≡ page + 1 + count = omega arith in e)
-
-pub pages_after : (page end : ℕ) → page < end → without (PAGE page) (pages_from page (end - page)) ≡ pages_from (page + 1) (end - (page + 1))
-pages_after page end low =
-    ap (λ n. without (PAGE page) (pages_from page n)) (let e : end - page ≡ suc (end - (page + 1)) = omega (arith, low) in e) ∙ pages_less page (end - (page + 1))
 
 -- ---- the pages, one after another
 

@@ -20,13 +20,14 @@ use Rattle.nv_table.specs.state.States.{PassState}
 use Rattle.nv_table.specs.steps.CallSteps.{Precondition}
 use Rattle.nv_table.proofs.steps.CallLaws.{IsCallFree}
 use Rattle.nv_mount.specs.declared.fds.Fd.{Fd}
-use Rattle.nv_calls.specs.declared.answers.Refusal.TheVariants.{Busy}
+use Rattle.nv_mirror.specs.declared.answers.Refusal.TheVariants.{Busy}
 use Rattle.nv_calls.specs.declared.machine.Progress.{Progress}
 use Rattle.nv_calls.specs.declared.reading.Held.{Held}
 use Rattle.nv_calls.specs.declared.reading.ReadMachine.{ReadMachine}
 use Rattle.nv_calls.specs.declared.reading.ReadControl.{ReadControl}
 use Rattle.nv_calls.specs.declared.reading.ReadControl.TheVariants as reads
-use Rattle.nv_calls.specs.reads.Reads.{call_of, with_if, read_owned, held_cells, reading, HasCopied, IsAtPage, InCall, ReadTells, IsOnWayAt, ReadFactsAt, PlacedAt, refusal_at, Refuses, ReadGoes}
+use Rattle.nv_mirror.specs.OwnedCells.{with_if}
+use Rattle.nv_calls.specs.reads.Reads.{call_of, read_owned, held_cells, reading, HasCopied, IsAtPage, InCall, ReadTells, IsOnWayAt, ReadFactsAt, PlacedAt, refusal_at, Refuses, ReadGoes}
 use Rattle.nv_calls.proofs.reads.FrontLaws.{copied_same, bytes_same}
 use Rattle.nv_calls.proofs.reads.HeldLaws.{page_held}
 use Rattle.nv_calls.proofs.reads.ReadLaws.{refused_goes}

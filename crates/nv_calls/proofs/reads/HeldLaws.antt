@@ -11,7 +11,8 @@ use Rattle.nv_table.specs.state.Layout.{slot_total, cell_of}
 use Rattle.nv_table.specs.state.Views.{pass_of, still_owned, slot_times}
 use Rattle.nv_table.specs.state.States.{PassState}
 use Rattle.nv_table.proofs.steps.OwnedSlotLaws.{still_owned_all}
-use Rattle.nv_calls.specs.reads.Reads.{pages_from, with_if, read_owned}
+use Rattle.nv_mirror.specs.OwnedCells.{pages_from, with_if}
+use Rattle.nv_calls.specs.reads.Reads.{read_owned}
 
 pub index_is : {one other : ℕ} → PAGE one ≡ PAGE other → one ≡ other
 index_is e = cc

@@ -17,14 +17,15 @@ use Rattle.nv_table.specs.state.Views.{pass_of, values_of}
 use Rattle.nv_table.specs.state.States.{PassState}
 use Rattle.nv_table.specs.steps.CallSteps.{Precondition}
 use Rattle.nv_mount.specs.declared.fds.Fd.{Fd}
-use Rattle.nv_calls.specs.declared.answers.Refusal.{Refusal}
+use Rattle.nv_mirror.specs.declared.answers.Refusal.{Refusal}
 use Rattle.nv_calls.specs.declared.machine.Progress.{Progress}
 use Rattle.nv_calls.specs.declared.reading.Held.{Held}
 use Rattle.nv_calls.specs.declared.reading.ReadMachine.{ReadMachine}
 use Rattle.nv_calls.specs.declared.reading.ReadControl.TheVariants as reads
 use Rattle.nv_calls.specs.reads.Ends.{BeginsWithin}
-use Rattle.nv_calls.specs.reads.Reads.{call_of, pages_from, with_if, with_cleanup, held_cells, reading, IsAt, InCall, IsOnWayAt, Refuses, ReadGoes}
-use Rattle.nv_calls.proofs.reads.EndLaws.{without_first}
+use Rattle.nv_mirror.specs.OwnedCells.{pages_from, with_if}
+use Rattle.nv_calls.specs.reads.Reads.{call_of, with_cleanup, held_cells, reading, IsAt, InCall, IsOnWayAt, Refuses, ReadGoes}
+use Rattle.nv_mirror.proofs.PageLaws.{without_first}
 use Rattle.nv_calls.proofs.reads.ReadLaws.{refused_goes}
 use Rattle.nv_calls.proofs.reads.WayLaws.{IsCalls, still_due, reading_on, unplaced_by, quiet_on, tells_none, by_sizes}
 use Rattle.nv_core.proofs.steps.NextSteps.{steps_are_next}

@@ -10,11 +10,12 @@ use Rattle.nv_table.specs.steps.StepContracts.{Postcondition}
 use Rattle.nv_table.specs.state.Views.{pass_of}
 use Rattle.nv_table.specs.state.States.{PassState}
 use Rattle.nv_mount.specs.declared.fds.Fd.{Fd}
-use Rattle.nv_calls.specs.declared.answers.Refusal.TheVariants.{Busy, Stopped}
+use Rattle.nv_mirror.specs.declared.answers.Refusal.TheVariants.{Busy, Stopped}
 use Rattle.nv_calls.specs.declared.machine.Progress.{Progress}
 use Rattle.nv_calls.specs.declared.reading.ReadMachine.{ReadMachine}
 use Rattle.nv_calls.specs.declared.reading.ReadControl.TheVariants as reads
-use Rattle.nv_calls.specs.reads.Reads.{call_of, pages_from, read_owned, with_if, reading, IsAt, IsMeasured, IsOnWayAt, Refuses, ReadGoes}
+use Rattle.nv_mirror.specs.OwnedCells.{pages_from, with_if}
+use Rattle.nv_calls.specs.reads.Reads.{call_of, read_owned, reading, IsAt, IsMeasured, IsOnWayAt, Refuses, ReadGoes}
 use Rattle.nv_calls.proofs.reads.WayLaws.{IsCalls, reading_on}
 use Rattle.nv_calls.proofs.reads.OnwardLaws.{IsOpen, open_of, all_of, way_on, way_refused}
 

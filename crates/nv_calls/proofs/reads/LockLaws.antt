@@ -1,12 +1,10 @@
 -- Locks: the pages of a read, taken one after another.
-use Rattle.std.proofs.Common.{◌≡◌, ◌≢◌, ℕ, zero, suc, ◌+◌, ◌-◌, ◌<◌, ◌≤◌, ◌==◌, ◌&&◌, nat_lt, true, false, if◌then◌else◌, List, [], ◌∷◌, inl, refl, sym, ap, subst, ◌∙◌, arith, eq-eqb, ne_eqb}
+use Rattle.std.proofs.Common.{◌≡◌, ◌≢◌, ℕ, zero, suc, ◌+◌, ◌-◌, ◌<◌, ◌≤◌, ◌==◌, false, if◌then◌else◌, List, [], ◌∷◌, inl, refl, sym, ap, subst, ◌∙◌, arith, eq-eqb, ne_eqb}
 use Rattle.std.specs.Prelude.{Some, None}
-use Rattle.std.proofs.lemmas.Bool.{lt-ltb, le-leb}
 use Rattle.nv_plain.specs.Pieces.{pages_touched}
 use Rattle.nv_core.specs.state.Words.{PAGE, SIZE, place}
 use Rattle.nv_core.specs.state.Passes.{Control, Pass, TakePage, LoadLength, first_page, end_page, page_count}
 use Rattle.nv_core.specs.steps.Ops.{Take}
-use Rattle.nv_core.specs.invariant.Ownership.{is_among}
 use Rattle.nv_core.specs.steps.ControlSteps.{leaving}
 use Rattle.nv_core.specs.invariant.ControlFacts.{IsPage}
 use Rattle.nv_table.specs.steps.StepContracts.{Postcondition}
@@ -14,14 +12,16 @@ use Rattle.nv_table.specs.state.Views.{pass_of}
 use Rattle.nv_table.specs.state.States.{PassState}
 use Rattle.nv_table.specs.steps.CallSteps.{Precondition}
 use Rattle.nv_mount.specs.declared.fds.Fd.{Fd}
-use Rattle.nv_calls.specs.declared.answers.Refusal.TheVariants.{Busy}
+use Rattle.nv_mirror.specs.declared.answers.Refusal.TheVariants.{Busy}
 use Rattle.nv_calls.specs.declared.machine.Progress.{Progress}
 use Rattle.nv_calls.specs.declared.reading.ReadMachine.{ReadMachine}
 use Rattle.nv_calls.specs.declared.reading.ReadControl.TheVariants as reads
-use Rattle.nv_calls.specs.reads.Reads.{call_of, pages_from, read_owned, with_if, reading, IsAt, InCall, ReadTells, IsOnWayAt, Refuses, ReadGoes}
-use Rattle.nv_calls.specs.histories.PassSteps.{refused_by}
+use Rattle.nv_mirror.specs.OwnedCells.{pages_from, with_if}
+use Rattle.nv_calls.specs.reads.Reads.{call_of, read_owned, reading, IsAt, InCall, ReadTells, IsOnWayAt, Refuses, ReadGoes}
+use Rattle.nv_mirror.specs.PassSteps.{refused_by, head_in}
 use Rattle.nv_calls.proofs.reads.WayLaws.{IsCalls, still_due, reading_on, unplaced_by, quiet_on, refusing_on, tells_none, none_tells, by_sizes}
 use Rattle.nv_calls.proofs.reads.ReadLaws.{refused_goes}
+use Rattle.nv_mirror.proofs.PageLaws.{page_among}
 
 -- ---- pages in a row
 
@@ -31,9 +31,6 @@ pages_more first page low =
     let one : page ≡ first + (page - first) = omega (arith, low) in
     let more : suc (page - first) ≡ page + 1 - first = omega (arith, low) in
     ap (λ p. PAGE p ∷ pages_from first (page - first)) one ∙ ap (pages_from first) more
-
-pub page_among : (first end page : ℕ) → first ≤ page → page < end → is_among first end page ≡ true
-page_among first end page low high = ap (λ b. b && nat_lt page end) (le-leb first page low) ∙ lt-ltb page end high
 
 pub calls_locking : (page : ℕ) → IsCalls (TakePage page)
 calls_locking page = record { loads = λ word. refl; takes = λ word. refl; gives = λ word. refl }
@@ -136,7 +133,7 @@ module _ (fds : List Fd) (m : ReadMachine) (list : List ℕ) (start now : PassSt
             (pages_from (first_page now.view.opened.sizes (call_of m)) (page - first_page now.view.opened.sizes (call_of m))) m.sized here.len []
         held = reading_on now new (Take (PAGE page)) 1 way.base (call_of m) (TakePage page) _ m.sized here.len [] here.is (λ sizes values pass work due. due) is
 
-        refuses_it : refused_by now.view.opened.sizes (call_of m) is.works (Take (PAGE page)) 1 ≡ Some (Busy cell)
+        refuses_it : refused_by now.view.opened.sizes (call_of m) (head_in way.called.steps) is.works (Take (PAGE page)) 1 ≡ Some (Busy cell)
         refuses_it =
             ap (λ b. if b then Some (Busy (place now.view.opened.sizes (PAGE page))) else None) (page_among (first_page now.view.opened.sizes (call_of m)) (end_page now.view.opened.sizes (call_of m)) page lock_page.0 lock_page.1)
             ∙ ap (λ n. Some (Busy n)) (sym cell_is)

@@ -8,7 +8,7 @@ use Rattle.nv_plain.specs.declared.call.FileCall.{FileCall}
 use Rattle.nv_core.specs.state.Words.{Sizes, Word, SIZE, STORE}
 use Rattle.nv_core.specs.state.Passes.{first_page, end_page, page_count, file_of}
 use Rattle.nv_core.proofs.state.PageLaws.{div_more}
-use Rattle.nv_calls.specs.declared.answers.Refusal.{Refusal}
+use Rattle.nv_mirror.specs.declared.answers.Refusal.{Refusal}
 use Rattle.nv_calls.specs.declared.machine.Progress.{Progress}
 use Rattle.nv_calls.specs.declared.machine.Progress.TheVariants.{More, Ended}
 use Rattle.nv_calls.specs.declared.reading.Held.{Held}
@@ -16,7 +16,8 @@ use Rattle.nv_calls.specs.declared.reading.ReadMachine.{ReadMachine}
 use Rattle.nv_calls.specs.declared.reading.ReadControl.{ReadControl}
 use Rattle.nv_calls.specs.declared.reading.ReadControl.TheVariants as reads
 use Rattle.nv_calls.specs.reads.Measures.{most_scans, most_looks, pages_left, at_page, visit_measure, one_if_some, held_measure, measure_at, measure, IsLess}
-use Rattle.nv_calls.specs.reads.Reads.{call_of, pages_from, with_if, with_cleanup, held_cells, Refuses}
+use Rattle.nv_mirror.specs.OwnedCells.{pages_from, with_if}
+use Rattle.nv_calls.specs.reads.Reads.{call_of, with_cleanup, held_cells, Refuses}
 
 -- ---- what is held
 

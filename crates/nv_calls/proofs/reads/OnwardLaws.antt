@@ -14,19 +14,20 @@ use Rattle.nv_table.specs.state.Views.{PassView, pass_of, values_of, made_of, en
 use Rattle.nv_table.specs.state.States.{PassState}
 use Rattle.nv_pages.specs.Altered.{IsAltered}
 use Rattle.nv_mount.specs.declared.fds.Fd.{Fd}
-use Rattle.nv_calls.specs.declared.answers.Refusal.{Refusal}
+use Rattle.nv_mirror.specs.declared.answers.Refusal.{Refusal}
 use Rattle.nv_calls.specs.declared.machine.Progress.{Progress}
 use Rattle.nv_calls.specs.declared.reading.Held.{Held}
 use Rattle.nv_calls.specs.declared.reading.ReadMachine.{ReadMachine}
 use Rattle.nv_calls.specs.declared.reading.ReadControl.{ReadControl}
 use Rattle.nv_calls.specs.declared.reading.ReadControl.TheVariants as reads
 use Rattle.nv_calls.specs.reads.Advances.{IsSameRead}
-use Rattle.nv_calls.specs.histories.Answers.{IsUnplaced}
+use Rattle.nv_mirror.specs.Answers.{IsUnplaced}
 use Rattle.nv_calls.specs.reads.Reads.{call_of, reading, held_cells, InCall, IsOnWay, IsOnWayAt, IsUnderWayAt, IsLook, ReadFactsAt, PlacedAt, ReadTells, refusal_at, Refuses, ReadGoes}
-use Rattle.nv_calls.specs.histories.PassSteps.{refused_by, place_by}
+use Rattle.nv_mirror.specs.PassSteps.{refused_by, place_by, head_in}
 use Rattle.nv_calls.proofs.histories.OwnLaws.{is_quiet}
 use Rattle.nv_calls.proofs.reads.ReadLaws.{refused_goes}
-use Rattle.nv_calls.proofs.reads.WayLaws.{opened_same, by_sizes, quiet_on, refusing_on, tells_none, none_tells}
+use Rattle.nv_mirror.proofs.StepLaws.{opened_same}
+use Rattle.nv_calls.proofs.reads.WayLaws.{by_sizes, quiet_on, refusing_on, tells_none, none_tells}
 
 -- a read that is not refused, and has no place yet
 pub record IsOpen (fds : List Fd) (m : ReadMachine) (list : List ℕ) (start now : PassState) : Type 0 where
@@ -97,7 +98,7 @@ module _ (fds : List Fd) (m : ReadMachine) (list : List ℕ) (start now new : Pa
   }
 
   -- it goes on with its next step
-  pub way_on : (control : ReadControl) (sized : Bool) (covered copied : ℕ) (list_then : List ℕ) → length list_then ≡ m.len → refused_by now.view.opened.sizes (call_of m) is.works op found ≡ None → None ≡ refusal_at control → PlacedAt control m.place
+  pub way_on : (control : ReadControl) (sized : Bool) (covered copied : ℕ) (list_then : List ℕ) → length list_then ≡ m.len → refused_by now.view.opened.sizes (call_of m) (head_in open_.called.steps) is.works op found ≡ None → None ≡ refusal_at control → PlacedAt control m.place
       → ReadFactsAt now.view.opened.sizes (record m { control = control; sized = sized; covered = covered; copied = copied }) list_then base_then (values_of new.view) (pass_of new.view) control
       → IsOnWayAt fds (record m { control = control; sized = sized; covered = covered; copied = copied }) list_then start new control
   way_on control sized covered copied list_then room refuses open_still placed stands = record {
@@ -110,7 +111,7 @@ module _ (fds : List Fd) (m : ReadMachine) (list : List ℕ) (start now new : Pa
   }
 
   -- or it is refused, and gives back what it holds
-  pub way_refused : (next : ReadMachine) (held : Held) (refusal : Refusal) (progress : Progress) → refused_by now.view.opened.sizes (call_of m) is.works op found ≡ Some refusal → Refuses m held refusal next progress
+  pub way_refused : (next : ReadMachine) (held : Held) (refusal : Refusal) (progress : Progress) → refused_by now.view.opened.sizes (call_of m) (head_in open_.called.steps) is.works op found ≡ Some refusal → Refuses m held refusal next progress
       → pass_of new.view ≡ reading base_then (call_of m) (leaving (held_cells now.view.opened.sizes (call_of m) held)) (held_cells now.view.opened.sizes (call_of m) held) m.sized len_then fetched_then
       → ReadGoes fds start next list new progress
   way_refused next held refusal progress refuses says left =

@@ -13,13 +13,14 @@ use Rattle.nv_table.specs.state.Views.{PassView, pass_of, values_of}
 use Rattle.nv_table.specs.state.States.{PassState}
 use Rattle.nv_pages.specs.Altered.{IsAltered}
 use Rattle.nv_mount.specs.declared.fds.Fd.{Fd}
-use Rattle.nv_calls.specs.declared.answers.Refusal.TheVariants.{Spent}
+use Rattle.nv_mirror.specs.declared.answers.Refusal.TheVariants.{Spent}
 use Rattle.nv_calls.specs.declared.machine.Progress.{Progress}
 use Rattle.nv_calls.specs.declared.machine.Progress.TheVariants.{More}
 use Rattle.nv_calls.specs.declared.reading.ReadMachine.{ReadMachine}
 use Rattle.nv_calls.specs.declared.reading.ReadControl.TheVariants as reads
 use Rattle.nv_calls.specs.reads.Reads.{call_of, read_owned, reading, front, IsMeasured, IsLooking, IsLook, IsOnWayAt, ReadFactsAt, Refuses, ReadGoes}
-use Rattle.nv_calls.proofs.reads.WayLaws.{IsCalls, reading_on, opened_same, by_sizes}
+use Rattle.nv_mirror.proofs.StepLaws.{opened_same}
+use Rattle.nv_calls.proofs.reads.WayLaws.{IsCalls, reading_on, by_sizes}
 use Rattle.nv_calls.proofs.reads.OnwardLaws.{IsOpen, open_of, all_of, stepped_altered, way_on, way_refused, looks_open, looks_unplaced, looks_go}
 
 pub calls_ordering : IsCalls LoadOrder

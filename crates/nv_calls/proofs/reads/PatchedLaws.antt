@@ -17,7 +17,7 @@ use Rattle.nv_table.specs.steps.StepContracts.{Postcondition}
 use Rattle.nv_table.specs.state.Views.{pass_of, values_of}
 use Rattle.nv_table.specs.state.States.{PassState}
 use Rattle.nv_mount.specs.declared.fds.Fd.{Fd}
-use Rattle.nv_calls.specs.declared.answers.Refusal.TheVariants.{RegionFault}
+use Rattle.nv_mirror.specs.declared.answers.Refusal.TheVariants.{RegionFault}
 use Rattle.nv_calls.specs.declared.machine.Progress.TheVariants.{More}
 use Rattle.nv_calls.specs.declared.reading.ReadMachine.{ReadMachine}
 use Rattle.nv_calls.specs.declared.reading.ReadControl.{ReadControl}
@@ -25,12 +25,13 @@ use Rattle.nv_calls.specs.declared.reading.ReadControl.TheVariants as reads
 use Rattle.nv_calls.specs.reads.Advances.{IsSameRead}
 use Rattle.nv_calls.specs.reads.PieceReads.{piece_read, HasFailedRead}
 use Rattle.nv_calls.specs.reads.Reads.{call_of, read_owned, reading, IsAtPage, IsPatchingAt, ReadFactsAt, IsOnWayAt, ReadGoes}
-use Rattle.nv_calls.specs.histories.PassSteps.{IsBetweenSteps, fault_in}
+use Rattle.nv_mirror.specs.PassSteps.{IsBetweenSteps, fault_in}
 use Rattle.nv_calls.proofs.reads.FrontLaws.{copied_same, bytes_same, bytes_else}
 use Rattle.nv_calls.proofs.reads.PatchLaws.{page_beside, page_before, way_on, copied_as, load_entry_either, unplaced_on}
 use Rattle.nv_calls.proofs.reads.PieceLaws.{entry_held}
-use Rattle.nv_calls.proofs.reads.EndLaws.{without_first}
-use Rattle.nv_calls.proofs.reads.WayLaws.{in_call_on, opened_same, tells_none, none_tells, either_none}
+use Rattle.nv_mirror.proofs.PageLaws.{without_first}
+use Rattle.nv_mirror.proofs.StepLaws.{opened_same}
+use Rattle.nv_calls.proofs.reads.WayLaws.{in_call_on, tells_none, none_tells, either_none}
 
 -- the front of the room for a page, whose size is the mount's
 pub room_by : (sizes : Sizes) (page at : ℕ) (scratch old bytes : List ℕ) → page ≡ sizes.page → take page scratch ≡ overwritten (take page old) (at % page) bytes

@@ -33,7 +33,7 @@ use Rattle.nv_table.proofs.state.LayoutLaws.{cell_there}
 use Rattle.nv_pages.specs.Altered.{IsAltered}
 use Rattle.nv_pages.specs.PageWork.{OfKept, HasFailedCall, IsReadable, entry_slot}
 use Rattle.nv_calls.specs.reads.PieceReads.{piece_read, HasFailedRead}
-use Rattle.nv_calls.specs.histories.PassSteps.{IsBetweenSteps}
+use Rattle.nv_mirror.specs.PassSteps.{IsBetweenSteps}
 use Rattle.nv_calls.proofs.reads.HeldLaws.{slot_still_owned, other_not_held}
 use Rattle.nv_calls.specs.reads.Reads.{read_owned}
 use Rattle.nv_core.proofs.steps.NextSteps.{steps_are_next}

@@ -22,13 +22,15 @@ use Rattle.nv_mount.specs.declared.fds.Fd.{Fd}
 use Rattle.nv_calls.specs.declared.machine.Progress.{Progress}
 use Rattle.nv_calls.specs.declared.reading.ReadMachine.{ReadMachine}
 use Rattle.nv_calls.specs.declared.reading.ReadControl.TheVariants as reads
-use Rattle.nv_calls.specs.histories.Answers.{IsPlacedAs, IsReadPlaced}
+use Rattle.nv_mirror.specs.Answers.{IsPlacedAs, IsReadPlaced}
 use Rattle.nv_calls.specs.reads.Ends.{GivesFrom}
-use Rattle.nv_calls.specs.reads.Reads.{call_of, pages_from, with_if, read_owned, reading, IsAt, ReadMayEnd, InCall, IsOnWayAt, ReadGoes}
-use Rattle.nv_calls.specs.histories.PassSteps.{either_of}
-use Rattle.nv_calls.proofs.histories.DoneLaws.{done_plainly}
+use Rattle.nv_mirror.specs.OwnedCells.{pages_from, with_if}
+use Rattle.nv_calls.specs.reads.Reads.{call_of, read_owned, reading, IsAt, ReadMayEnd, InCall, IsOnWayAt, ReadGoes}
+use Rattle.nv_mirror.specs.PassSteps.{either_of}
+use Rattle.nv_mirror.proofs.DoneLaws.{done_plainly}
 use Rattle.nv_calls.proofs.reads.EndLaws.{giving_at, giving_first, pages_all, gives_on}
-use Rattle.nv_calls.proofs.reads.WayLaws.{still_due, reading_on, in_call_on, or_none, between_self, tells_none, by_sizes}
+use Rattle.nv_mirror.proofs.StepLaws.{between_self}
+use Rattle.nv_calls.proofs.reads.WayLaws.{still_due, reading_on, in_call_on, or_none, tells_none, by_sizes}
 
 -- ---- the reply
 

@@ -13,19 +13,20 @@ use Rattle.nv_table.specs.state.States.{PassState}
 use Rattle.nv_table.proofs.steps.CallLaws.{none_still_owned, taken_same}
 use Rattle.nv_table.proofs.steps.OwnedSlotLaws.{still_owned_all}
 use Rattle.nv_mount.specs.declared.fds.Fd.{Fd}
-use Rattle.nv_calls.specs.declared.answers.Done.{Done}
-use Rattle.nv_calls.specs.declared.answers.Refusal.{Refusal}
+use Rattle.nv_mirror.specs.declared.answers.Done.{Done}
+use Rattle.nv_mirror.specs.declared.answers.Refusal.{Refusal}
 use Rattle.nv_calls.specs.declared.machine.Progress.{Progress}
 use Rattle.nv_calls.specs.declared.machine.Progress.TheVariants.{More, Ended}
 use Rattle.nv_calls.specs.declared.reading.Held.{Held}
 use Rattle.nv_calls.specs.declared.reading.ReadMachine.{ReadMachine}
 use Rattle.nv_calls.specs.declared.reading.ReadControl.TheVariants as reads
 use Rattle.nv_calls.specs.reads.Advances.{IsSameRead}
-use Rattle.nv_calls.specs.histories.Answers.{IsUnplaced}
+use Rattle.nv_mirror.specs.Answers.{IsUnplaced}
 use Rattle.nv_calls.specs.reads.EarlyRefusals.{early_refusal}
 use Rattle.nv_calls.specs.histories.OwnSteps.{AreOwn}
-use Rattle.nv_calls.specs.reads.Reads.{call_of, pages_from, with_if, with_cleanup, held_cells, reading, InCall, ReadTells, IsOnWay, IsReadOver, IsOverBy, IsReadDone, HasTold, refusal_of, done_of, placed_by, IsNothing, Refuses, ReadGoes, is_fault, place_of_result}
-use Rattle.nv_calls.specs.histories.PassSteps.{refusal_in}
+use Rattle.nv_mirror.specs.OwnedCells.{pages_from, with_if}
+use Rattle.nv_calls.specs.reads.Reads.{call_of, with_cleanup, held_cells, reading, InCall, ReadTells, IsOnWay, IsReadOver, IsOverBy, IsReadDone, HasTold, refusal_of, done_of, placed_by, IsNothing, Refuses, ReadGoes, is_fault, place_of_result}
+use Rattle.nv_mirror.specs.PassSteps.{refusal_in}
 use Rattle.nv_calls.proofs.histories.OwnLaws.{own_are_passing}
 
 -- ---- the end of a call

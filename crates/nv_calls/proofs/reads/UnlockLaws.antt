@@ -34,17 +34,17 @@ use Rattle.nv_table.proofs.state.LayoutLaws.{cell_there}
 use Rattle.nv_pages.specs.Altered.{IsAltered}
 use Rattle.nv_pages.specs.PageWork.{page_slot, with_page}
 use Rattle.nv_mount.specs.declared.fds.Fd.{Fd}
-use Rattle.nv_calls.specs.declared.answers.Refusal.TheVariants.{RegionFault}
+use Rattle.nv_mirror.specs.declared.answers.Refusal.TheVariants.{RegionFault}
 use Rattle.nv_calls.specs.declared.machine.Progress.{Progress}
 use Rattle.nv_calls.specs.declared.machine.Progress.TheVariants.{More}
 use Rattle.nv_calls.specs.declared.reading.Held.{Held}
 use Rattle.nv_calls.specs.declared.reading.ReadMachine.{ReadMachine}
 use Rattle.nv_calls.specs.declared.reading.ReadControl.{ReadControl}
 use Rattle.nv_calls.specs.declared.reading.ReadControl.TheVariants as reads
-use Rattle.nv_calls.specs.histories.Answers.{IsUnplaced}
+use Rattle.nv_mirror.specs.Answers.{IsUnplaced}
 use Rattle.nv_calls.specs.reads.Measures.{IsLess, most_looks, pages_left, measure_at, measure, visit_measure}
 use Rattle.nv_calls.specs.reads.Reads.{call_of, read_owned, held_cells, reading, front, page_piece, HasCopied, IsAt, IsAtPage, IsLooking, IsLook, ReadFactsAt, refusal_at, InCall, IsOnWay, IsOnWayAt, IsUnderWayAt, Refuses, ReadGoes}
-use Rattle.nv_calls.specs.histories.PassSteps.{IsBetweenSteps, refused_by, place_by}
+use Rattle.nv_mirror.specs.PassSteps.{IsBetweenSteps, refused_by, place_by, head_in}
 use Rattle.nv_calls.proofs.histories.OwnLaws.{is_quiet}
 use Rattle.nv_calls.proofs.reads.FrontLaws.{copied_same, bytes_same}
 use Rattle.nv_calls.proofs.reads.HeldLaws.{page_held, slot_still_owned}
@@ -54,7 +54,8 @@ use Rattle.nv_calls.proofs.reads.OnwardLaws.{stepped_altered}
 use Rattle.nv_calls.proofs.reads.MeasureLaws.{IsBefore, refused_less}
 use Rattle.nv_calls.proofs.reads.ReadLaws.{refused_goes}
 use Rattle.nv_calls.proofs.reads.SearchLaws.{kept_by, page_is}
-use Rattle.nv_calls.proofs.reads.WayLaws.{IsCalls, word_is, still_due, reading_on, unplaced_by, quiet_after, quiet_on, tells_none, none_tells, by_sizes, opened_same}
+use Rattle.nv_mirror.proofs.StepLaws.{opened_same}
+use Rattle.nv_calls.proofs.reads.WayLaws.{IsCalls, word_is, still_due, reading_on, unplaced_by, quiet_after, quiet_on, tells_none, none_tells, by_sizes}
 use Rattle.nv_core.proofs.steps.NextSteps.{steps_are_next}
 use Rattle.nv_table.specs.steps.SeatSteps.{values_before, pass_before}
 
@@ -125,8 +126,8 @@ look_under fds m list start now control look way = way
 
 -- after a step that refuses nothing and takes no place the read goes on with what it has come to
 pub look_goes : (fds : List Fd) (m next : ReadMachine) (list : List ℕ) (start now before new last : PassState) (op : Op) (found : ℕ) (base : Pass)
-    → InCall fds m.fd (call_of m) None m.place m.faulted start now → IsBetweenSteps now before → (is : Postcondition before None op found new) → IsAltered (λ kept. kept) new last
-    → next ≡ record m { control = next.control; copied = next.copied } → m.place ≡ None → refused_by now.view.opened.sizes (call_of m) is.works op found ≡ None → place_by op found ≡ None → is_quiet None op ≡ true
+    → (called : InCall fds m.fd (call_of m) None m.place m.faulted start now) → IsBetweenSteps now before → (is : Postcondition before None op found new) → IsAltered (λ kept. kept) new last
+    → next ≡ record m { control = next.control; copied = next.copied } → m.place ≡ None → refused_by now.view.opened.sizes (call_of m) (head_in called.steps) is.works op found ≡ None → place_by op found ≡ None → is_quiet None op ≡ true
     → IsUnplaced start.view new.view → length list ≡ m.len → IsLook next.control → ReadFactsAt new.view.opened.sizes next list base (values_of new.view) (pass_of new.view) next.control
     → ReadGoes fds start next list last More
 look_goes fds m next list start now before new last op found base called between is same machine unplaced refuses places stops told room look stands =

@@ -2,9 +2,9 @@
 use Rattle.std.proofs.Common.{◌≡◌, ℕ, ◌==◌, ◌^◌, ◌||◌, if◌then◌else◌, Bool, true, false, List, [], ◌∷◌, refl, sym, ap, subst, ◌∙◌}
 use Rattle.std.specs.Prelude.{Option, Some, None, nat_lt}
 use Rattle.nv_plain.specs.declared.call.FileCall.{FileCall}
-use Rattle.nv_core.specs.state.Words.{Sizes, Word, place, IsWord, STOP, ORDER, PAGE}
+use Rattle.nv_core.specs.state.Words.{Sizes, Word, place, IsWord, STOP, ORDER, HEAD, TAIL, PAGE}
 use Rattle.nv_core.specs.state.Passes.{Control, Pass, IsAllowed, first_page, end_page}
-use Rattle.nv_core.specs.steps.Ops.{Op, Load, Take, Give, Stop}
+use Rattle.nv_core.specs.steps.Ops.{Op, Load, Take, Give, Stop, Draw}
 use Rattle.nv_core.specs.invariant.Ownership.{is_among}
 use Rattle.nv_core.specs.steps.PassSteps.{stepped}
 use Rattle.nv_core.specs.steps.Order.{Values, Work}
@@ -20,15 +20,16 @@ use Rattle.nv_table.specs.steps.CallSteps.{Precondition, load_op, take_op, give_
 use Rattle.nv_table.proofs.steps.CallLaws.{IsCallFree, stepped_there, later_by, later_on}
 use Rattle.nv_table.proofs.state.LayoutLaws.{place_there}
 use Rattle.nv_mount.specs.declared.fds.Fd.{Fd}
-use Rattle.nv_calls.specs.declared.answers.Refusal.{Refusal}
-use Rattle.nv_calls.specs.declared.answers.Refusal.TheVariants.{Busy, Stopped, Spent}
-use Rattle.nv_calls.specs.histories.Answers.{IsUnplaced}
+use Rattle.nv_mirror.specs.declared.answers.Refusal.{Refusal}
+use Rattle.nv_mirror.specs.declared.answers.Refusal.TheVariants.{Busy, Stopped, Spent, Again, Raced}
+use Rattle.nv_mirror.specs.Answers.{IsUnplaced}
 use Rattle.nv_calls.specs.histories.OwnSteps.{is_own, AreOwn}
 use Rattle.nv_calls.specs.reads.Reads.{reading, InCall, ReadTells, is_fault}
-use Rattle.nv_calls.specs.histories.PassSteps.{HasTaken, IsBetweenSteps, either_of, refused_by, refusal_in, place_by, is_stop, if_own, busy_at}
+use Rattle.nv_mirror.specs.PassSteps.{IsBetweenSteps, either_of, refused_by, refusal_in, place_by, is_stop, if_own, busy_at, head_in}
 use Rattle.nv_core.proofs.steps.NextSteps.{steps_are_next}
 use Rattle.nv_core.specs.steps.StepKinds.{EnabledByKind}
 use Rattle.nv_calls.proofs.histories.OwnLaws.{is_quiet, quiet_own, quiet_goes_on, own_on}
+use Rattle.nv_mirror.proofs.StepLaws.{between_self, opened_same, taken_by}
 
 -- ---- words by their places
 
@@ -90,10 +91,6 @@ still_due now op still left same may = record {
 
 -- ---- what it leaves
 
--- the mount is the same
-pub opened_same : (now new : PassState) (opens : Option FileCall) (op : Op) (found : ℕ) → Postcondition now opens op found new → new.view.opened ≡ now.view.opened
-opened_same now new opens op found is = ap (λ (v : PassView). v.opened) is.steps.is
-
 -- what is so by the sizes of the pass before is so by those of the pass then
 pub by_sizes : (now new : PassState) (opens : Option FileCall) (op : Op) (found : ℕ) → Postcondition now opens op found new → (P : Sizes → Type 0) → P now.view.opened.sizes → P new.view.opened.sizes
 by_sizes now new opens op found is P here = subst (λ (o : Opened). P o.sizes) (sym (opened_same now new opens op found is)) here
@@ -117,19 +114,10 @@ unplaced_by start now new base call call_then control control_then owned owned_t
 
 -- ---- steps and the call
 
--- a pass that has made no device call since its last step
-pub between_self : (now : PassState) → IsBetweenSteps now now
-between_self now = record { table = refl; view = refl; spare = refl }
-
--- a step, with the device calls that lie before it
-pub taken_by : (old before new : PassState) (opens : Option FileCall) (op : Op) (found : ℕ) → IsBetweenSteps old before → (is : Postcondition before opens op found new)
-    → HasTaken record { opens = opens; works = is.works; op = op; found = found } old new
-taken_by old before new opens op found between is = record { before = before; between = between; stepped = is; works_are = refl }
-
 -- a step goes on with a call
 pub in_call_on : (fds : List Fd) (fd : ℕ) (call : FileCall) (refusal refusal_then : Option Refusal) (at at_then : Option ℕ) (faulted faulted_then : Bool) (start now before new : PassState) (op : Op) (found : ℕ)
-    → InCall fds fd call refusal at faulted start now → IsBetweenSteps now before → (is : Postcondition before None op found new)
-    → either_of refusal (refused_by now.view.opened.sizes call is.works op found) ≡ refusal_then → either_of at (place_by op found) ≡ at_then → faulted || is_stop op ≡ faulted_then → faulted_then ≡ is_fault refusal_then
+    → (called : InCall fds fd call refusal at faulted start now) → IsBetweenSteps now before → (is : Postcondition before None op found new)
+    → either_of refusal (refused_by now.view.opened.sizes call (head_in called.steps) is.works op found) ≡ refusal_then → either_of at (place_by op found) ≡ at_then → faulted || is_stop op ≡ faulted_then → faulted_then ≡ is_fault refusal_then
     → is_own refusal op ≡ true → InCall fds fd call refusal_then at_then faulted_then start new
 in_call_on fds fd call refusal refusal_then at at_then faulted faulted_then start now before new op found called between is refuses places stops faults own_step = record {
   idle = called.idle;
@@ -141,7 +129,7 @@ in_call_on fds fd call refusal refusal_then at at_then faulted faulted_then star
   own = subst (λ (o : Opened). AreOwn o.sizes call (record { opens = None; works = is.works; op = op; found = found } ∷ called.steps)) (sym opened)
       (own_on now.view.opened.sizes call (record { opens = None; works = is.works; op = op; found = found }) called.steps refusal called.own called.refused refl own_step);
   refused = subst (λ (o : Opened). refusal_in o.sizes call (record { opens = None; works = is.works; op = op; found = found } ∷ called.steps) ≡ refusal_then) (sym opened)
-      (ap (λ r. either_of r (refused_by now.view.opened.sizes call is.works op found)) called.refused ∙ refuses);
+      (ap (λ r. either_of r (refused_by now.view.opened.sizes call (head_in called.steps) is.works op found)) called.refused ∙ refuses);
   placed = ap (λ p. either_of p (place_by op found)) called.placed ∙ places;
   stopped = ap (λ b. b || is_stop op) called.stopped ∙ stops;
   faults = faults;
@@ -179,19 +167,22 @@ pub set_clash : true ≡ false → ⊥
 set_clash e = cc
 
 -- only a step that sets STOP refuses for a device fault
-pub no_fault : (sizes : Sizes) (call : FileCall) (works : List Work) (op : Op) (found : ℕ) → is_stop op ≡ false → is_fault (refused_by sizes call works op found) ≡ false
-no_fault sizes call works (Take (PAGE page)) found goes_on =
+pub no_fault : (sizes : Sizes) (call : FileCall) (head : ℕ) (works : List Work) (op : Op) (found : ℕ) → is_stop op ≡ false → is_fault (refused_by sizes call head works op found) ≡ false
+no_fault sizes call head works (Take (PAGE page)) found goes_on =
     let busy = if_no_fault (found == 0) None (Some (Busy (place sizes (PAGE page)))) refl refl in
     if_no_fault (found == 0) None (if_own sizes call page (busy_at sizes (PAGE page) found)) refl (if_no_fault (is_among (first_page sizes call) (end_page sizes call) page) (busy_at sizes (PAGE page) found) None busy refl)
-no_fault sizes call works (Take cell) found goes_on = if_no_fault (found == 0) None (Some (Busy (place sizes cell))) refl refl
-no_fault sizes call works (Load STOP) found goes_on = if_no_fault (found == 0) None (Some Stopped) refl refl
-no_fault sizes call works (Load ORDER) found goes_on = if_no_fault (nat_lt found (2 ^ 60)) None (Some (Spent found)) refl refl
-no_fault sizes call works Stop found goes_on = absurd (set_clash goes_on)
-no_fault sizes call works op found goes_on = refl
+no_fault sizes call head works (Take cell) found goes_on = if_no_fault (found == 0) None (Some (Busy (place sizes cell))) refl refl
+no_fault sizes call head works (Load STOP) found goes_on = if_no_fault (found == 0) None (Some Stopped) refl refl
+no_fault sizes call head works (Load ORDER) found goes_on = if_no_fault (nat_lt found (2 ^ 60)) None (Some (Spent found)) refl refl
+no_fault sizes call head works (Load HEAD) found goes_on = if_no_fault _ (Some (Spent found)) None refl refl
+no_fault sizes call head works (Load TAIL) found goes_on = if_no_fault _ (Some (Again head found)) None refl refl
+no_fault sizes call head works Draw found goes_on = if_no_fault (found == head) None (Some (Raced head found)) refl refl
+no_fault sizes call head works Stop found goes_on = absurd (set_clash goes_on)
+no_fault sizes call head works op found goes_on = refl
 
 -- after some device calls
 pub quiet_after : (fds : List Fd) (fd : ℕ) (call : FileCall) (refusal : Option Refusal) (at : Option ℕ) (faulted : Bool) (start now before new : PassState) (op : Op) (found : ℕ)
-    → InCall fds fd call refusal at faulted start now → IsBetweenSteps now before → (is : Postcondition before None op found new) → refused_by now.view.opened.sizes call is.works op found ≡ None
+    → (called : InCall fds fd call refusal at faulted start now) → IsBetweenSteps now before → (is : Postcondition before None op found new) → refused_by now.view.opened.sizes call (head_in called.steps) is.works op found ≡ None
     → place_by op found ≡ None → is_quiet refusal op ≡ true → InCall fds fd call refusal at faulted start new
 quiet_after fds fd call refusal at faulted start now before new op found called between is refuses places quiet =
     in_call_on fds fd call refusal refusal at at faulted faulted start now before new op found called between is
@@ -199,19 +190,19 @@ quiet_after fds fd call refusal at faulted start now before new op found called 
 
 -- after none
 pub quiet_on : (fds : List Fd) (fd : ℕ) (call : FileCall) (refusal : Option Refusal) (at : Option ℕ) (faulted : Bool) (start now new : PassState) (op : Op) (found : ℕ)
-    → InCall fds fd call refusal at faulted start now → (is : Postcondition now None op found new) → refused_by now.view.opened.sizes call is.works op found ≡ None → place_by op found ≡ None
+    → (called : InCall fds fd call refusal at faulted start now) → (is : Postcondition now None op found new) → refused_by now.view.opened.sizes call (head_in called.steps) is.works op found ≡ None → place_by op found ≡ None
     → is_quiet refusal op ≡ true → InCall fds fd call refusal at faulted start new
 quiet_on fds fd call refusal at faulted start now new op found called is refuses places quiet =
     quiet_after fds fd call refusal at faulted start now now new op found called (between_self now) is refuses places quiet
 
 pub refusing_on : (fds : List Fd) (fd : ℕ) (call : FileCall) (refusal : Refusal) (at : Option ℕ) (faulted : Bool) (start now new : PassState) (op : Op) (found : ℕ)
-    → InCall fds fd call None at faulted start now → (is : Postcondition now None op found new) → refused_by now.view.opened.sizes call is.works op found ≡ Some refusal → place_by op found ≡ None
+    → (called : InCall fds fd call None at faulted start now) → (is : Postcondition now None op found new) → refused_by now.view.opened.sizes call (head_in called.steps) is.works op found ≡ Some refusal → place_by op found ≡ None
     → is_quiet None op ≡ true → InCall fds fd call (Some refusal) at faulted start new
 refusing_on fds fd call refusal at faulted start now new op found called is refuses places quiet =
     let stops = quiet_goes_on None op quiet in
     in_call_on fds fd call None (Some refusal) at at faulted faulted start now now new op found called (between_self now) is
     refuses (ap (either_of at) places ∙ either_none at) (ap (λ b. faulted || b) stops ∙ or_none faulted)
-    (called.faults ∙ sym (ap is_fault (sym refuses) ∙ no_fault now.view.opened.sizes call is.works op found stops)) (quiet_own None op quiet)
+    (called.faults ∙ sym (ap is_fault (sym refuses) ∙ no_fault now.view.opened.sizes call (head_in called.steps) is.works op found stops)) (quiet_own None op quiet)
 
 -- ---- what a read tells before its place
 

@@ -7,14 +7,14 @@ use Rattle.nv_table.specs.invariant.Idle.{IsIdle, IsLater}
 use Rattle.nv_table.specs.steps.StepContracts.{Postcondition}
 use Rattle.nv_table.specs.state.Views.{PassView}
 use Rattle.nv_table.specs.state.States.{PassState}
-use Rattle.nv_calls.specs.declared.answers.Done.{Done}
-use Rattle.nv_calls.specs.declared.answers.Refusal.{Refusal}
-use Rattle.nv_calls.specs.declared.answers.Refusal.TheVariants.{BadFd, Stopped, Spent}
+use Rattle.nv_mirror.specs.declared.answers.Done.{Done}
+use Rattle.nv_mirror.specs.declared.answers.Refusal.{Refusal}
+use Rattle.nv_mirror.specs.declared.answers.Refusal.TheVariants.{BadFd, Stopped, Spent}
 use Rattle.nv_calls.specs.declared.machine.SyncControl.{SyncControl}
 use Rattle.nv_calls.specs.declared.machine.SyncControl.TheVariants as syncs
 use Rattle.nv_calls.specs.declared.machine.Progress.{Progress}
 use Rattle.nv_calls.specs.declared.machine.Progress.TheVariants.{More, Ended}
-use Rattle.nv_calls.specs.histories.Answers.{IsSyncPlaced, IsUnplaced}
+use Rattle.nv_mirror.specs.Answers.{IsSyncPlaced, IsUnplaced}
 use Rattle.nv_calls.specs.fsync.SyncRuns.{IsSyncRun}
 
 -- The load of STOP found 0, and the load of ORDER then a number that is not used up.

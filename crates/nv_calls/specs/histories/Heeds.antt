@@ -7,12 +7,12 @@ use Rattle.nv_table.specs.state.Opened.{mount_of}
 use Rattle.nv_table.specs.state.Views.{pass_of}
 use Rattle.nv_table.specs.state.States.{PassState}
 use Rattle.nv_mount.specs.declared.fds.Fd.{Fd}
-use Rattle.nv_calls.specs.declared.answers.Done.{Done}
-use Rattle.nv_calls.specs.declared.answers.Refusal.{Refusal}
-use Rattle.nv_calls.specs.declared.answers.Refusal.TheVariants.{Stopped, RegionFault, StoreFault}
+use Rattle.nv_mirror.specs.declared.answers.Done.{Done}
+use Rattle.nv_mirror.specs.declared.answers.Refusal.{Refusal}
+use Rattle.nv_mirror.specs.declared.answers.Refusal.TheVariants.{Stopped, RegionFault, StoreFault}
 use Rattle.nv_calls.specs.fsync.SyncRuns.{file_of_fd, IsSyncRun}
 use Rattle.nv_calls.specs.reads.Reads.{IsReadOver}
-use Rattle.nv_calls.specs.histories.PassSteps.{PassStep, HasMade}
+use Rattle.nv_mirror.specs.PassSteps.{PassStep, HasMade}
 
 -- it has seen STOP as 1, or set it
 abbrev pub HasSeenStop : PassState → Type 0

@@ -3,8 +3,8 @@ use Rattle.std.specs.Prelude.{◌≡◌, Bool, true, false, List, [], ◌∷◌,
 use Rattle.nv_plain.specs.declared.call.FileCall.{FileCall}
 use Rattle.nv_core.specs.state.Words.{Sizes}
 use Rattle.nv_core.specs.steps.Ops.{Op, Load, Take, Give, Place, Stop, Hold, Return, Turn, Hint}
-use Rattle.nv_calls.specs.declared.answers.Refusal.{Refusal}
-use Rattle.nv_calls.specs.histories.PassSteps.{PassStep, refusal_in}
+use Rattle.nv_mirror.specs.declared.answers.Refusal.{Refusal}
+use Rattle.nv_mirror.specs.PassSteps.{PassStep, refusal_in}
 
 -- A step changes nothing of the mount that stays so when the read holds nothing, but HAND, a hint, and which pages are buffered: it loads a word,
 -- takes a lock or gives one back, holds an entry or returns it, turns HAND, or sets a hint.

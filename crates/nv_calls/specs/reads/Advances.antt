@@ -2,14 +2,15 @@
 use Rattle.std.specs.Prelude.{◌≡◌, ◌⊎◌, ℕ, List, Some, Err}
 use Rattle.nv_table.specs.state.States.{PassState}
 use Rattle.nv_mount.specs.declared.fds.Fd.{Fd}
-use Rattle.nv_calls.specs.declared.answers.Refusal.{Refusal}
+use Rattle.nv_mirror.specs.declared.answers.Refusal.{Refusal}
 use Rattle.nv_calls.specs.declared.machine.Progress.{Progress}
 use Rattle.nv_calls.specs.declared.machine.Progress.TheVariants.{Ended}
 use Rattle.nv_calls.specs.reads.EarlyRefusals.{early_refusal}
 use Rattle.nv_calls.specs.declared.reading.ReadMachine.{ReadMachine}
-use Rattle.nv_calls.specs.histories.Kinds.{kind_of_op, read_kind}
+use Rattle.nv_op.specs.Kinds.{kind_of_op}
+use Rattle.nv_calls.specs.histories.Kinds.{read_kind}
 use Rattle.nv_calls.specs.reads.Reads.{IsOnWay, IsUnbegun, ReadGoes}
-use Rattle.nv_calls.specs.histories.PassSteps.{PassStep, HasTaken}
+use Rattle.nv_mirror.specs.PassSteps.{PassStep, HasTaken}
 
 -- The pass has made one step, after the device calls that lie before it: of the kind that was said, if none of these has failed.
 pub record IsOneStep (m next : ReadMachine) (old new : PassState) : Type 0 where

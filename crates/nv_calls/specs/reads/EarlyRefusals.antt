@@ -1,5 +1,5 @@
 -- Early refusals: reads that are refused before their first step, by what they ask for alone.
-use Rattle.std.specs.Prelude.{◌≡◌, ℕ, ◌+◌, ◌*◌, nat_lt, min, if◌then◌else◌, List, Option, Some, None, Result, Ok, Err}
+use Rattle.std.specs.Prelude.{◌≡◌, ℕ, ◌+◌, ◌*◌, ◌≤◌, nat_lt, min, if◌then◌else◌, List, Option, Some, None, Result, Ok, Err}
 use Rattle.std.specs.List.{slice_get}
 use Rattle.nv_plain.specs.Layouts.{version_1}
 use Rattle.nv_plain.specs.Modes.{can_read}
@@ -8,8 +8,8 @@ use Rattle.nv_plain.specs.declared.call.FileCall.TheVariants.{Read}
 use Rattle.nv_core.specs.state.Passes.{IsAllowed}
 use Rattle.nv_core.specs.state.Words.{Sizes}
 use Rattle.nv_mount.specs.declared.fds.Fd.{Fd}
-use Rattle.nv_calls.specs.declared.answers.Refusal.{Refusal}
-use Rattle.nv_calls.specs.declared.answers.Refusal.TheVariants.{BadFd, TooFar, TooLong}
+use Rattle.nv_mirror.specs.declared.answers.Refusal.{Refusal}
+use Rattle.nv_mirror.specs.declared.answers.Refusal.TheVariants.{BadFd, TooFar, TooLong}
 use Rattle.nv_calls.specs.fsync.SyncRuns.{file_of_fd}
 
 -- It ends past the last page of a file, or touches more pages than a group has entries.
@@ -18,6 +18,16 @@ early_range_refusal sizes at len =
     if nat_lt (sizes.page * sizes.pages) (at + len) then Some TooFar
     else (if nat_lt (min version_1.group_limit sizes.entries) (pages_touched at len sizes.page) then Some TooLong
     else None)
+
+-- A range that is not refused so lies in a file, and touches no more pages than a group has entries.
+pub record IsInRange (sizes : Sizes) (at len : ℕ) : Type 0 where
+  pub early : early_range_refusal sizes at len ≡ None
+  pub near : at + len ≤ sizes.page * sizes.pages
+  pub short : pages_touched at len sizes.page ≤ min version_1.group_limit sizes.entries
+
+abbrev pub RangeIsAdmitted : Sizes → (at len : ℕ) → Result (Unit {0}) Refusal → Type 0
+RangeIsAdmitted sizes at len (Ok done) = IsInRange sizes at len
+RangeIsAdmitted sizes at len (Err refusal) = early_range_refusal sizes at len ≡ Some refusal
 
 -- There is no such descriptor, or it may not be read; or else its range is refused.
 abbrev pub early_fd_refusal : Sizes → Option Fd → (at len : ℕ) → Option Refusal

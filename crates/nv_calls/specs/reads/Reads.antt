@@ -1,5 +1,5 @@
 -- Reads: where a read stands that is made one step at a time.
-use Rattle.std.specs.Prelude.{◌≡◌, ◌≢◌, ℕ, zero, suc, ◌+◌, ◌-◌, ◌%◌, ◌<◌, ◌≤◌, Bool, true, false, List, [], ◌∷◌, ◌++◌, length, take, Option, Some, None, option_map, Result, Ok, Err}
+use Rattle.std.specs.Prelude.{◌≡◌, ◌≢◌, ℕ, ◌+◌, ◌-◌, ◌%◌, ◌<◌, ◌≤◌, Bool, true, false, List, [], ◌∷◌, ◌++◌, length, take, Option, Some, None, option_map, Result, Ok, Err}
 use Rattle.std.specs.List.{flat_map, range_with_len}
 use Rattle.nv_plain.specs.Files.{bytes_at}
 use Rattle.nv_plain.specs.Pieces.{Piece, piece_of}
@@ -19,20 +19,21 @@ use Rattle.nv_table.specs.invariant.Idle.{IsIdle, IsLater}
 use Rattle.nv_table.specs.state.Views.{PassView, pass_of, values_of}
 use Rattle.nv_table.specs.state.States.{PassState}
 use Rattle.nv_mount.specs.declared.fds.Fd.{Fd}
-use Rattle.nv_calls.specs.declared.answers.Done.{Done}
-use Rattle.nv_calls.specs.declared.answers.Refusal.{Refusal}
-use Rattle.nv_calls.specs.declared.answers.Refusal.TheVariants.{RegionFault, StoreFault}
+use Rattle.nv_mirror.specs.declared.answers.Done.{Done}
+use Rattle.nv_mirror.specs.declared.answers.Refusal.{Refusal}
+use Rattle.nv_mirror.specs.declared.answers.Refusal.TheVariants.{RegionFault, StoreFault}
 use Rattle.nv_calls.specs.declared.machine.Progress.{Progress}
 use Rattle.nv_calls.specs.declared.machine.Progress.TheVariants.{More, Ended}
 use Rattle.nv_calls.specs.declared.reading.Held.{Held}
 use Rattle.nv_calls.specs.declared.reading.ReadMachine.{ReadMachine}
 use Rattle.nv_calls.specs.declared.reading.ReadControl.{ReadControl}
 use Rattle.nv_calls.specs.declared.reading.ReadControl.TheVariants as reads
-use Rattle.nv_calls.specs.histories.Answers.{IsUnplaced, IsReadPlaced}
+use Rattle.nv_mirror.specs.Answers.{IsUnplaced, IsReadPlaced}
 use Rattle.nv_calls.specs.reads.EarlyRefusals.{early_refusal}
 use Rattle.nv_calls.specs.fsync.SyncRuns.{file_of_fd}
 use Rattle.nv_calls.specs.histories.OwnSteps.{AreOwn, ArePassing}
-use Rattle.nv_calls.specs.histories.PassSteps.{PassStep, HasMade, refusal_in, place_in, stops_in}
+use Rattle.nv_mirror.specs.PassSteps.{PassStep, HasMade, refusal_in, place_in, stops_in}
+use Rattle.nv_mirror.specs.OwnedCells.{pages_from, with_if}
 
 -- its call
 abbrev pub call_of : ReadMachine → FileCall
@@ -44,17 +45,7 @@ placed_by m = option_map (λ place. record { place = place; len = m.copied }) m.
 
 -- ---- what its pass owns, the last taken first
 
--- so many pages from one on
-abbrev pub pages_from : (page count : ℕ) → List Word
-pages_from page zero = []
-pages_from page (suc count) = PAGE (page + count) ∷ pages_from page count
-
--- with another cell, if it was taken
-abbrev pub with_if : Bool → Word → List Word → List Word
-with_if true cell owned = cell ∷ owned
-with_if false cell owned = owned
-
--- and with CLEANUP of a page, if that was taken
+-- with CLEANUP of a page, if that was taken
 abbrev pub with_cleanup : Option ℕ → List Word → List Word
 with_cleanup (Some page) owned = CLEANUP page ∷ owned
 with_cleanup None owned = owned

@@ -2,8 +2,8 @@
 use Rattle.std.proofs.Common.{◌≡◌, ◌∷◌, length, refl, sym, ap, subst, ◌∙◌, arith}
 use Rattle.std.specs.Prelude.{Err, OnErr}
 use Rattle.nv_table.proofs.steps.CallLaws.{later_on}
-use Rattle.nv_calls.specs.declared.answers.Refusal.TheVariants.{Busy}
-use Rattle.nv_calls.specs.histories.Answers.{IsUnplaced}
+use Rattle.nv_mirror.specs.declared.answers.Refusal.TheVariants.{Busy}
+use Rattle.nv_mirror.specs.Answers.{IsUnplaced}
 use Rattle.nv_calls.specs.reads.Reads.{IsReadOver}
 use Rattle.nv_calls.specs.histories.Tries.{WereBusy}
 use Rattle.nv_calls.proofs.histories.OverLaws.{ok_since}

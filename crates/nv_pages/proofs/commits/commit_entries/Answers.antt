@@ -106,7 +106,7 @@ returns-clause-committed g c =
     let devices = same_devices g (goal.at.returns-clause-committed g c).After-write_group-written in
     made g.L.Lines.device g.L.Lines.history g.L.Lines.fault_count g.L.Lines.room c.args.pass.now c.take_parts.new.pass c.lay_parts.new.pass (sizes_of c.layout-layout.result) c.args.first c.args.file c.args.at c.args.bytes.now
     items.items _ c.write_group-written.result c.piece_count-count.result same c.requires.write may.entries c.commits_are_due.ensures c.take_parts.ensures.laid c.take_parts.ensures.count devices
-    c.take_parts.ensures.parts
+    c.piece_count-count.ensures c.take_parts.ensures.parts
     (back (λ old new. RowCalls (group_steps c.layout-layout.result.page c.args.first c.args.file c.args.at c.args.bytes.now) (map (seen_of g.L.Lines.history g.L.Lines.room g.L.Lines.fault_count) old)
     (map (seen_of g.L.Lines.history g.L.Lines.room g.L.Lines.fault_count) new) c.write_group-written.result) c.write_group-written.ensures.calls)
     c.lay_parts.ensures.laid

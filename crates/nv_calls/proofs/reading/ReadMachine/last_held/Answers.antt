@@ -8,7 +8,8 @@ use Rattle.nv_core.specs.state.Passes.{first_page}
 use Rattle.nv_table.specs.state.Keys.{sizes_of}
 use Rattle.nv_calls.specs.declared.reading.Held.{Held}
 use Rattle.nv_calls.specs.reads.Ends.{BeginsWithin}
-use Rattle.nv_calls.specs.reads.Reads.{call_of, pages_from, held_cells}
+use Rattle.nv_mirror.specs.OwnedCells.{pages_from}
+use Rattle.nv_calls.specs.reads.Reads.{call_of, held_cells}
 use Rattle.nv_calls.proofs.reads.LeaveLaws.{last_page, held_size, held_pages}
 use Rattle.nv_calls.proofs.reading.ReadMachine.last_held.Goals as goal
 

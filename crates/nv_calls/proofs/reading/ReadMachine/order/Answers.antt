@@ -7,7 +7,7 @@ use Rattle.nv_core.specs.state.Passes.{LoadOrder}
 use Rattle.nv_table.specs.state.Opened.{Opened}
 use Rattle.nv_table.specs.state.States.{PassState}
 use Rattle.nv_mount.specs.declared.fds.Fd.{Fd}
-use Rattle.nv_calls.specs.declared.answers.Refusal.TheVariants.{Spent}
+use Rattle.nv_mirror.specs.declared.answers.Refusal.TheVariants.{Spent}
 use Rattle.nv_calls.specs.declared.reading.ReadMachine.{ReadMachine}
 use Rattle.nv_calls.specs.declared.reading.ReadControl.TheVariants as reads
 use Rattle.nv_calls.specs.reads.Measures.{visit_measure, measure}
@@ -17,7 +17,7 @@ use Rattle.nv_calls.proofs.reads.OnwardLaws.{all_of, refuses_all, sizes_before, 
 use Rattle.nv_calls.proofs.reads.OrderLaws.{calls_ordering, order_stands, order_spent, order_none, order_looks, order_looked}
 use Rattle.nv_calls.proofs.reads.MeasureLaws.{looks_less}
 use Rattle.nv_calls.proofs.reads.ReadLaws.{refused_same}
-use Rattle.nv_calls.proofs.reads.WayLaws.{opened_same}
+use Rattle.nv_mirror.proofs.StepLaws.{opened_same}
 use Rattle.nv_calls.proofs.reading.ReadMachine.order.Goals as goal
 
 -- ORDER is at its place

@@ -25,7 +25,8 @@ use Rattle.nv_calls.proofs.reads.ArmLaws.{some_page, some_entry, opened_by, at_c
 use Rattle.nv_calls.proofs.reads.PatchLaws.{piece_small}
 use Rattle.nv_calls.proofs.reads.PatchedLaws.{patch_stands, patch_left, patch_once, patch_next, patch_failed, same_patched, room_by}
 use Rattle.nv_calls.proofs.reads.PieceLaws.{readable, slot_held, slot_keeps, return_due, stop_due, from_mid, between_mid}
-use Rattle.nv_calls.proofs.reads.WayLaws.{taken_by, set_clash}
+use Rattle.nv_mirror.proofs.StepLaws.{taken_by}
+use Rattle.nv_calls.proofs.reads.WayLaws.{set_clash}
 use Rattle.nv_calls.proofs.reading.ReadMachine.patch.Goals as goal
 
 -- the part of the entry is in its slot, and its piece may be read

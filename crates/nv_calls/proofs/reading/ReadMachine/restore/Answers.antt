@@ -1,7 +1,7 @@
 -- The entry is due to be returned, and the read is refused, as its fault said.
 use Rattle.std.proofs.Common.{refl}
 use Rattle.nv_table.specs.state.Keys.{sizes_of}
-use Rattle.nv_calls.specs.declared.answers.Refusal.TheVariants.{RegionFault}
+use Rattle.nv_mirror.specs.declared.answers.Refusal.TheVariants.{RegionFault}
 use Rattle.nv_calls.proofs.reads.ArmLaws.{at_control, arm}
 use Rattle.nv_calls.proofs.reads.ReadLaws.{refused_same}
 use Rattle.nv_calls.proofs.reads.UnlockLaws.{restore_held, restore_as, restore_due, restore_refused, restore_less}

@@ -5,7 +5,7 @@ use Rattle.nv_core.specs.state.Passes.{TakeCleanup, IsAllowed}
 use Rattle.nv_core.proofs.state.StepWords.{page_within}
 use Rattle.nv_table.specs.state.States.{PassState}
 use Rattle.nv_mount.specs.declared.fds.Fd.{Fd}
-use Rattle.nv_calls.specs.declared.answers.Refusal.TheVariants.{Busy}
+use Rattle.nv_mirror.specs.declared.answers.Refusal.TheVariants.{Busy}
 use Rattle.nv_calls.specs.declared.reading.ReadMachine.{ReadMachine}
 use Rattle.nv_calls.specs.declared.reading.ReadControl.TheVariants as reads
 use Rattle.nv_calls.specs.reads.Reads.{IsOnWayAt, call_of}

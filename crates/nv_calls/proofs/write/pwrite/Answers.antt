@@ -1,0 +1,43 @@
+-- The last write has its place since the start.
+use Rattle.std.proofs.Common.{◌≡◌, true, ◌∷◌, refl, sym, subst, ◌∙◌}
+use Rattle.std.specs.Prelude.{Result, Ok, Err, OnErr}
+use Rattle.nv_table.proofs.steps.CallLaws.{later_on}
+use Rattle.nv_mirror.specs.declared.answers.Done.{Done}
+use Rattle.nv_mirror.specs.declared.answers.Refusal.{Refusal}
+use Rattle.nv_mirror.specs.Answers.{IsUnplaced}
+use Rattle.nv_calls.specs.writes.Writes.{IsWriteOver, ends_to_be_made_again, is_made_again}
+use Rattle.nv_calls.proofs.histories.OverLaws.{write_ok_since}
+use Rattle.nv_calls.proofs.write.pwrite.Goals as goal
+
+-- it was refused, so that it is made again
+again_is : (result : Result Done Refusal) → ends_to_be_made_again result ≡ true → (refusal : Refusal) × (result ≡ Err refusal) × (is_made_again refusal ≡ true)
+again_is (Ok done) again = absurd cc
+again_is (Err refusal) again = (refusal, refl, again)
+
+pub loop-preserved : goal.loop-preserved
+loop-preserved g c =
+    let old = c.loop.pass in
+    let new = c.try_pwrite-result.new.pass in
+    let ensures = c.try_pwrite-result.ensures in
+    let again = again_is c.try_pwrite-result.result (sym c.is_made_again.ensures ∙ c.if-not-is_made_again.false) in
+    let kept : IsUnplaced old.view new.view = subst (λ r. OnErr r (IsUnplaced old.view new.view)) again.1 ensures.kept in
+    record {
+      board = ensures.board;
+      idle = ensures.idle;
+      later = later_on c.args.pass.now old new c.loop.invariant.later ensures.later;
+      spare = ensures.spare ∙ c.loop.invariant.spare;
+      unplaced = record { seen = kept.seen ∙ c.loop.invariant.unplaced.seen; mine = kept.mine ∙ c.loop.invariant.unplaced.mine };
+      again = (
+        again.0 ∷ c.loop.invariant.again.0,
+        (old, c.loop.invariant.again.1, again.2, subst (IsWriteOver c.args.mount.now.fds c.args.fd c.args.at c.args.bytes.now old new) again.1 ensures.over),
+      );
+      workspace = ensures.workspace;
+      bare = ensures.bare;
+      next = tt;
+      finite = tt;
+    }
+
+pub returns-then-not-is_made_again-clause-done : goal.returns-then-not-is_made_again-clause-done
+returns-then-not-is_made_again-clause-done g c =
+    write_ok_since c.args.mount.now.fds c.args.fd c.args.at c.args.bytes.now c.args.pass.now c.loop.pass c.try_pwrite-result.new.pass c.try_pwrite-result.result c.loop.invariant.later c.loop.invariant.unplaced
+    (c.loop.invariant.board.same_mount ∙ sym c.requires.board.same_mount) c.try_pwrite-result.ensures.done

@@ -1,0 +1,23 @@
+-- The writes so far were to be made again, and have placed nothing.
+use Rattle.std.proofs.Common.{◌≡◌, List, []}
+use Rattle.nv_table.specs.invariant.Idle.{IsIdle, IsLater}
+use Rattle.nv_table.specs.state.States.{IsOf}
+use Rattle.nv_table.specs.state.Workspaces.{IsWorkspace}
+use Rattle.nv_mirror.specs.declared.answers.Refusal.{Refusal}
+use Rattle.nv_mirror.specs.Answers.{IsUnplaced}
+use Rattle.nv_calls.specs.writes.Writes.{WereMadeAgain}
+use Rattle.nv_calls.proofs.write.pwrite.Given as goal
+
+abbrev pub invariant-loop : goal.invariant-loop
+invariant-loop g l = record {
+  board : IsOf l.mount.board l.pass;
+  idle : IsIdle l.pass;
+  later : IsLater l.initial.pass l.pass;
+  spare : l.pass.spare ≡ l.initial.pass.spare;
+  unplaced : IsUnplaced l.initial.pass.view l.pass.view;
+  again : (tries : List Refusal) × WereMadeAgain l.mount.fds l.fd l.at l.bytes tries l.initial.pass l.pass;
+  workspace : IsWorkspace l.mount.board.opened.sizes l.workspace;
+  bare : l.workspace.parts.items ≡ [];
+  next : (goal.iterator-loop g).can_next l.iterator';
+  finite : (goal.iterator-loop g).is_finite l.iterator';
+}

@@ -1,0 +1,2 @@
+-- Writes: what a write of a descriptor tells.
+pub mod Writes

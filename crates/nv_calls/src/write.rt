@@ -1,0 +1,126 @@
+//! Writes of files.
+ghost use Rattle.std.specs.Prelude.{◌≡◌, ℕ, false, [], Some, IfOk, OnErr};
+ghost use Rattle.nv_table.specs.invariant.Idle.{IsIdle, IsLater};
+ghost use Rattle.nv_table.specs.state.Keys.{sizes_of};
+ghost use Rattle.nv_table.specs.state.States.{IsOf};
+ghost use Rattle.nv_table.specs.state.Workspaces.{IsWorkspace};
+ghost use Rattle.nv_mirror.specs.Answers.{IsUnplaced};
+ghost use Rattle.nv_calls.specs.fsync.SyncRuns.{file_of_fd};
+ghost use Rattle.nv_calls.specs.writes.Writes.{Admits, IsWriteOver, IsWritePlaced, IsWriteTried, ends_to_be_made_again};
+
+use crate::range::check_range;
+use nv_mirror::{Done, Refusal, RunningWrite};
+use nv_mount::Mount;
+use nv_op::Asked;
+use nv_pmem::Lines;
+use nv_store::Backing;
+use nv_table::{Layout, Pass, Workspace};
+use std::sync::Wait;
+
+// The file of a write that is not refused before its first step.
+fn admit<L: Lines + Drop, B: Backing + Drop>(
+    mount: &Mount<L, B>,
+    layout: Layout,
+    fd: u64,
+    at: u64,
+    bytes: &[u8],
+) -> Result<u64, Refusal>
+    requires { sizes_of layout ≡ mount.now.board.opened.sizes }
+    ensures { Admits (sizes_of layout) mount.now.fds fd at bytes.now result }
+{
+    let Some(open) = mount.fds().get(fd) else {
+        return Err(Refusal::BadFd);
+    };
+    if !open.mode.can_write() {
+        return Err(Refusal::BadFd);
+    }
+    check_range(layout, at, bytes.len() as u64)?;
+    Ok(open.file)
+}
+
+/// Writes to the file of a descriptor (POSIX.1-2017, pwrite): all of `bytes` stand in the file from the offset `at` on, and the file ends at their end
+/// where it ended before. The answer tells how many they are, and the call's place in the history, which is how many calls stand before it. Refused by
+/// what it asks for before any step: a descriptor that isn't there or may not be written, an end past the last page of a file, more pages than 16 or than
+/// the log has entries; then where a lock was found held, where STOP was found set, where ORDER was found used up or HEAD leaves too few numbers, where the
+/// log has no room for its entries until some are cleaned, where another write drew its numbers, and after a device fault. A refused call has no place, and
+/// its pass holds nothing. Takes no memory, and waits for nobody: the parts of its entries lie on the pass's workspace while they are
+/// written, on which no part lies else.
+pub fn try_pwrite<L: Lines + Drop, B: Backing + Drop>(
+    mount: &Mount<L, B>,
+    pass: &mut Pass<L, B>,
+    workspace: &mut Workspace<L, B>,
+    fd: u64,
+    at: u64,
+    bytes: &[u8],
+) -> Result<Done, Refusal>
+    requires board { IsOf mount.now.board pass.old }
+    requires idle { IsIdle pass.old }
+    requires workspace { IsWorkspace mount.now.board.opened.sizes workspace.old }
+    requires bare { workspace.old.parts.items ≡ [] }
+    ensures board { IsOf mount.now.board pass.new }
+    ensures idle { IsIdle pass.new }
+    ensures later { IsLater pass.old pass.new }
+    ensures spare { pass.new.spare ≡ pass.old.spare }
+    ensures done { IfOk result (λ done. (file : ℕ) × (file_of_fd mount.now.fds fd ≡ Some file) × IsWritePlaced file at bytes.now pass.old.view pass.new.view done) }
+    ensures kept { OnErr result (IsUnplaced pass.old.view pass.new.view) }
+    ensures over { IsWriteOver mount.now.fds fd at bytes.now pass.old pass.new result }
+    ensures workspace { IsWorkspace mount.now.board.opened.sizes workspace.new }
+    ensures bare { workspace.new.parts.items ≡ [] }
+{
+    let board = mount.board();
+    let layout = board.layout();
+    let file = admit(mount, layout, fd, at, bytes)?;
+    let mut write = RunningWrite::new(layout, Asked::Write { file, at, bytes });
+    loop {
+        match write {
+            RunningWrite::Over(Ok(place)) => {
+                let len = bytes.len() as u64;
+                return Ok(Done { place, len });
+            }
+            RunningWrite::Over(Err(refusal)) => return Err(refusal),
+            _ => write.advance(board, pass, workspace.parts()),
+        }
+    }
+}
+
+// Whether a write that was answered so is made again: a lock was held, or another write drew its numbers.
+fn is_made_again(answer: Result<Done, Refusal>) -> bool
+    ensures { result ≡ ends_to_be_made_again answer }
+{
+    matches!(answer, Err(Refusal::Busy { .. } | Refusal::Raced { .. }))
+}
+
+/// The same, made again as long as a lock is found held or another write draws its numbers. It may wait for ever, so it returns only where the others give
+/// their locks back; then it is answered as one `try_pwrite`, and never `Busy` or `Raced`.
+pub fn pwrite<R: Wait, L: Lines + Drop, B: Backing + Drop>(
+    rt: &R,
+    mount: &Mount<L, B>,
+    pass: &mut Pass<L, B>,
+    workspace: &mut Workspace<L, B>,
+    fd: u64,
+    at: u64,
+    bytes: &[u8],
+) -> Result<Done, Refusal>
+    requires board { IsOf mount.now.board pass.old }
+    requires idle { IsIdle pass.old }
+    requires workspace { IsWorkspace mount.now.board.opened.sizes workspace.old }
+    requires bare { workspace.old.parts.items ≡ [] }
+    ensures board { IsOf mount.now.board pass.new }
+    ensures idle { IsIdle pass.new }
+    ensures later { IsLater pass.old pass.new }
+    ensures spare { pass.new.spare ≡ pass.old.spare }
+    ensures done { IfOk result (λ done. (file : ℕ) × (file_of_fd mount.now.fds fd ≡ Some file) × IsWritePlaced file at bytes.now pass.old.view pass.new.view done) }
+    ensures kept { OnErr result (IsUnplaced pass.old.view pass.new.view) }
+    ensures free { ends_to_be_made_again result ≡ false }
+    ensures tried { IsWriteTried mount.now.fds fd at bytes.now pass.old pass.new result }
+    ensures workspace { IsWorkspace mount.now.board.opened.sizes workspace.new }
+    ensures bare { workspace.new.parts.items ≡ [] }
+{
+    for _ in rt.forever() {
+        let result = try_pwrite(mount, pass, workspace, fd, at, bytes);
+        if !is_made_again(result) {
+            return result;
+        }
+    }
+    unreachable!()
+}

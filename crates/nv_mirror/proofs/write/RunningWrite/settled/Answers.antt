@@ -1,0 +1,47 @@
+-- Each part goes on where the one before it ends.
+use Rattle.std.proofs.Common.{◌≤◌, arith, sym, ap, subst, ◌∙◌}
+use Rattle.nv_op.specs.Ops.{call_asked}
+use Rattle.nv_core.specs.state.Passes.{is_write}
+use Rattle.nv_mirror.specs.declared.front.FrontMachine.{FrontMachine}
+use Rattle.nv_mirror.specs.declared.release.ReleaseMachine.{ReleaseMachine}
+use Rattle.nv_mirror.specs.declared.write.RunningWrite.{RunningWrite}
+use Rattle.nv_mirror.specs.declared.write.RunningWrite.TheVariants.{Append}
+use Rattle.nv_mirror.specs.Releases as release
+use Rattle.nv_mirror.specs.RunningWrites.{IsUnderWay, front_part, write_measure}
+use Rattle.nv_mirror.proofs.RunningLaws.{pageless_over, front_over, release_over, released_open, refused_low, writes_some}
+use Rattle.nv_mirror.proofs.write.RunningWrite.settled.Goals as goal
+
+pub returns-in-Over-control-clause-way : goal.returns-in-Over-control-clause-way
+returns-in-Over-control-clause-way c call start now way =
+    pageless_over c.in-Pageless.m c.in-Over-control.result call start now c.in-Over-control.is (subst (λ (w : RunningWrite). IsUnderWay call w start now) c.in-Pageless.is way)
+
+pub returns-in-Over-control-2-clause-way : goal.returns-in-Over-control-2-clause-way
+returns-in-Over-control-2-clause-way c call start now way =
+    front_over c.in-Front.m c.in-Over-control-2.refusal call start now c.in-Over-control-2.is (subst (λ (w : RunningWrite). IsUnderWay call w start now) c.in-Front.is way)
+
+pub returns-in-Appended-clause-settled : goal.returns-in-Appended-clause-settled
+returns-in-Appended-clause-settled c = subst (λ (m : ReleaseMachine). release.IsOpen m.control) (sym c.release.ensures.machine) (released_open c.in-Append.m c.in-Append.m.sized)
+
+pub returns-in-Appended-clause-way : goal.returns-in-Appended-clause-way
+returns-in-Appended-clause-way c call start now way =
+    let append = subst (λ (w : RunningWrite). IsUnderWay call w start now) c.in-Append.is way in
+    (ap (λ (m : ReleaseMachine). call_asked m.asked) c.release.ensures.machine ∙ append.0, c.release.ensures.way start now append.1)
+
+pub returns-in-Refused-clause-falls : goal.returns-in-Refused-clause-falls
+returns-in-Refused-clause-falls c =
+    let m = c.in-Append.m in
+    subst (λ (w : RunningWrite). front_part c.give_back.result c.give_back.result.control ≤ write_measure w) (sym c.in-Append.is)
+    (subst (λ (f : FrontMachine). front_part f f.control ≤ write_measure (Append m)) (sym c.give_back.ensures.machine.2) (let low = refused_low m m.sized c.give_back.ensures.machine.0 in omega (arith, low)))
+
+pub returns-in-Refused-clause-way : goal.returns-in-Refused-clause-way
+returns-in-Refused-clause-way c call start now way =
+    let m = c.in-Append.m in
+    let append = subst (λ (w : RunningWrite). IsUnderWay call w start now) c.in-Append.is way in (
+      ap (λ (f : FrontMachine). call_asked f.asked) c.give_back.ensures.machine.2 ∙ append.0,
+      ap (λ (f : FrontMachine). is_write (call_asked f.asked)) c.give_back.ensures.machine.2 ∙ writes_some m append.1.0.some,
+      c.give_back.ensures.way start now append.1,
+    )
+
+pub returns-in-Over-control-3-clause-way : goal.returns-in-Over-control-3-clause-way
+returns-in-Over-control-3-clause-way c call start now way =
+    release_over c.in-Release.m call start now c.in-Over-control-3.is (subst (λ (w : RunningWrite). IsUnderWay call w start now) c.in-Release.is way)

@@ -1,0 +1,38 @@
+-- Its part makes a step, and goes on with the same call.
+use Rattle.std.proofs.Common.{◌<◌, sym, subst}
+use Rattle.nv_mirror.specs.declared.write.RunningWrite.{RunningWrite}
+use Rattle.nv_mirror.specs.RunningWrites.{IsUnderWay, write_measure}
+use Rattle.nv_mirror.specs.declared.write.RunningWrite.TheVariants.{Append}
+use Rattle.nv_mirror.proofs.RunningLaws.{front_goes, append_goes, append_falls}
+use Rattle.nv_mirror.proofs.StepLaws.{between_self, taken_by}
+use Rattle.nv_mirror.proofs.write.RunningWrite.step.Goals as goal
+
+pub returns-in-Front-clause-way : goal.returns-in-Front-clause-way
+returns-in-Front-clause-way g c call start way =
+    let front = subst (λ (w : RunningWrite). IsUnderWay call w start c.args.pass.now) c.in-Front.is way in
+    front_goes c.args.pass.now.view.opened.sizes c.in-Front.m c.advance-in-Front.new.self c.advance-in-Front.ensures.one.0 call start c.advance-in-Front.new.pass c.advance-in-Front.ensures.one.2 front.0 front.1 (c.advance-in-Front.ensures.way start front.2)
+
+pub returns-in-Append-clause-way : goal.returns-in-Append-clause-way
+returns-in-Append-clause-way g c call start way =
+    let append = subst (λ (w : RunningWrite). IsUnderWay call w start c.args.pass.now) c.in-Append.is way in
+    append_goes c.in-Append.m c.advance-in-Append.new.self c.args.pass.now c.advance-in-Append.new.pass call start c.advance-in-Append.ensures.one append.0 (c.advance-in-Append.ensures.way start append.1)
+
+pub returns-in-Append-clause-falls : goal.returns-in-Append-clause-falls
+returns-in-Append-clause-falls g c =
+    subst (λ (w : RunningWrite). write_measure (Append c.advance-in-Append.new.self) < write_measure w) (sym c.in-Append.is)
+    (append_falls c.in-Append.m c.advance-in-Append.new.self c.args.pass.now c.advance-in-Append.new.pass c.advance-in-Append.ensures.one c.advance-in-Append.ensures.falls)
+
+pub returns-in-Pageless-clause-one : goal.returns-in-Pageless-clause-one
+returns-in-Pageless-clause-one g c =
+    let pass = c.args.pass.now in
+    (_, taken_by pass pass c.advance.new.pass _ _ _ (between_self pass) c.advance.ensures.one.1)
+
+pub returns-in-Front-clause-one : goal.returns-in-Front-clause-one
+returns-in-Front-clause-one g c =
+    let pass = c.args.pass.now in
+    (_, taken_by pass pass c.advance-in-Front.new.pass _ _ _ (between_self pass) c.advance-in-Front.ensures.one.1)
+
+pub returns-in-Release-clause-one : goal.returns-in-Release-clause-one
+returns-in-Release-clause-one g c =
+    let pass = c.args.pass.now in
+    (_, taken_by pass pass c.advance-in-Release.new.pass _ _ _ (between_self pass) c.advance-in-Release.ensures.one.1)

@@ -1,0 +1,47 @@
+-- Answers: what a call tells that has its place in the history, and one that was refused.
+use Rattle.std.specs.Prelude.{◌≡◌, ℕ, List, [], ◌∷◌, ◌++◌, length, Option, Some, None}
+use Rattle.nv_plain.specs.Files.{Files}
+use Rattle.nv_plain.specs.Calls.{reply_of}
+use Rattle.nv_plain.specs.Histories.{Answered, after}
+use Rattle.nv_plain.specs.declared.call.FileCall.{FileCall}
+use Rattle.nv_plain.specs.declared.call.FileCall.TheVariants.{Read, Sync}
+use Rattle.nv_plain.specs.declared.call.Reply.{Reply}
+use Rattle.nv_plain.specs.declared.call.Reply.TheVariants.{Bytes, Done}
+use Rattle.nv_core.specs.content.Content.{Opens}
+use Rattle.nv_core.specs.log.LogContent.{OpensLog}
+use Rattle.nv_core.specs.invariant.OneHistory.{IsPrefix}
+use Rattle.nv_table.specs.state.Opened.{mount_of}
+use Rattle.nv_table.specs.state.Views.{PassView, pass_of}
+use Rattle.nv_mirror.specs.declared.answers.Done.{Done as Answer}
+
+-- a pass's call with its reply, as it stands in the history
+abbrev pub answered_by : PassView → FileCall → Reply → Answered
+answered_by view call reply = record { caller = view.number; call = call; reply = reply }
+
+-- The call has its place: as many calls as it tells stand before it, and these begin with all that its pass had seen. It ends what the pass
+-- has seen then, and the pass's own calls. Its reply is the one that plain files answer after these, where they began with what the mount's stores have.
+pub record IsPlacedAs (old new : PassView) (call : FileCall) (reply : Reply) (place : ℕ) : Type 0 where
+  pub before : List Answered
+  pub begins : IsPrefix (pass_of old).seen before
+  pub at : place ≡ length before
+  pub seen : (pass_of new).seen ≡ before ++ answered_by old call reply ∷ []
+  pub mine : (pass_of new).mine ≡ (pass_of old).mine ++ answered_by old call reply ∷ []
+  pub plain : (files : Files) (tail : ℕ) → OpensLog (mount_of old.opened) tail → Opens (mount_of old.opened) files → reply ≡ reply_of call (after before files)
+
+-- A sync of the file, if there is one, has its place, and plain files answer it so whatever they are: over any devices.
+abbrev pub IsSyncPlaced : Option ℕ → (old new : PassView) → (place : ℕ) → Type 0
+IsSyncPlaced (Some file) old new place = IsPlacedAs old new (Sync file) Done place × ((files : Files) → Done ≡ reply_of (Sync file) files)
+IsSyncPlaced None old new place = ⊥
+
+-- The call has no place: the pass has seen what it had, and has the calls that it had.
+pub record IsUnplaced (old new : PassView) : Type 0 where
+  pub seen : (pass_of new).seen ≡ (pass_of old).seen
+  pub mine : (pass_of new).mine ≡ (pass_of old).mine
+
+-- A read of a file has its place, and the first bytes of the list are its reply.
+pub record IsReadPlaced (file at : ℕ) (list : List ℕ) (old new : PassView) (answer : Answer) : Type 0 where
+  pub bytes : List ℕ
+  pub rest : List ℕ
+  pub list_is : list ≡ bytes ++ rest
+  pub count : answer.len ≡ length bytes
+  pub placed : IsPlacedAs old new (Read file at (length list)) (Bytes bytes) answer.place
