@@ -1,5 +1,5 @@
 //! What the tests of a mount begin with: a region, and the store of its file.
-ghost use Rattle.std.specs.Prelude.{◌≡◌, length, map, All, IfOk};
+ghost use Rattle.std.specs.Prelude.{◌≡◌, length, map, All, IfOk, IfSome};
 ghost use Rattle.nv_plain.specs.Layouts.{version_1};
 ghost use Rattle.nv_pmem.specs.MemPart.{part_history, part_room};
 ghost use Rattle.nv_pmem.specs.Moments.{Tells};
@@ -15,15 +15,25 @@ use nv_store::MemStore;
 use std::alloc::Global;
 use std::test::Fail;
 
-// The parts of a blank region.
-fn blank_parts(alloc: Global, geometry: Geometry) -> Result<Vec<MemPart>, NoMemory>
+// The parts of a blank region. That of one entry fails at the call of a number; none does where there is no such entry.
+fn blank_parts(
+    alloc: Global,
+    geometry: Geometry,
+    failing: u64,
+    call: u64,
+) -> Result<Vec<MemPart>, NoMemory>
     ensures parts { IfOk result (λ parts. HasParts version_1 geometry.page geometry.entries (map part_room parts.items)) }
     ensures blank { IfOk result (λ parts. RowTells (map part_history parts.items) IsBlankRow) }
 {
     let mut parts = Vec::new(alloc);
     parts.push(MemPart::new(alloc, 18)?)?;
-    for _entry in 0..geometry.entries {
-        parts.push(MemPart::new(alloc, 1 + geometry.page / 64)?)?;
+    for entry in 0..geometry.entries {
+        let fuse = if entry == failing {
+            Fuse::new(alloc, &[call])?
+        } else {
+            Fuse::new(alloc, &[])?
+        };
+        parts.push(MemPart::fused(alloc, 1 + geometry.page / 64, fuse)?)?;
     }
     Ok(parts)
 }
@@ -34,10 +44,38 @@ pub(crate) fn region(alloc: Global) -> Result<Region<MemPart>, Fail>
     ensures entries { IfOk result (λ region. region.geometry.entries ≡ 16) }
     ensures names { IfOk result (λ region. length region.names ≡ 1) }
 {
-    let geometry = Geometry::new(64, 16)?;
-    let region = format(blank_parts(alloc, geometry)?, geometry).map_err(|failed| failed.1)?;
+    region_of(alloc, 16)
+}
+
+// The same of so many entries.
+pub(crate) fn region_of(alloc: Global, entries: u64) -> Result<Region<MemPart>, Fail>
+    ensures page { IfOk result (λ region. region.geometry.page ≡ 64) }
+    ensures entries { IfOk result (λ region. region.geometry.entries ≡ entries) }
+    ensures names { IfOk result (λ region. length region.names ≡ 1) }
+{
+    let geometry = Geometry::new(64, entries)?;
+    let parts = blank_parts(alloc, geometry, entries, 1)?;
+    let region = format(parts, geometry).map_err(|failed| failed.1)?;
     let (region, _a) = add_file(alloc, region, b"a").map_err(|failed| failed.1)?;
     Ok(region)
+}
+
+// The same of 16 entries, where the part of one of them fails at the call of a number; none where that is a call of the format.
+pub(crate) fn region_failing(
+    alloc: Global,
+    failing: u64,
+    call: u64,
+) -> Result<Option<Region<MemPart>>, Fail>
+    ensures page { IfOk result (λ made. IfSome made (λ region. region.geometry.page ≡ 64)) }
+    ensures names { IfOk result (λ made. IfSome made (λ region. length region.names ≡ 1)) }
+{
+    let geometry = Geometry::new(64, 16)?;
+    let parts = blank_parts(alloc, geometry, failing, call)?;
+    let Ok(region) = format(parts, geometry) else {
+        return Ok(None);
+    };
+    let (region, _a) = add_file(alloc, region, b"a").map_err(|failed| failed.1)?;
+    Ok(Some(region))
 }
 
 // The store of its file, which has these bytes, and whose calls fail as the fuse says.

@@ -14,3 +14,5 @@ mod mounts;
 mod reads;
 #[cfg(test)]
 mod syncs;
+#[cfg(test)]
+mod writes;

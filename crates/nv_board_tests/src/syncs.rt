@@ -14,6 +14,7 @@ ghost use Rattle.nv_table.specs.state.States.{IsOf};
 
 use crate::given::{region, stores};
 use nv_calls::{Done, Kind, Progress, Refusal, SyncMachine, try_fsync};
+use nv_header::Region;
 use nv_mount::{Fds, Mount, PassesOut};
 use nv_plain::Mode;
 use nv_pmem::{Fuse, MemPart};
@@ -47,7 +48,26 @@ pub(crate) fn opened(
     ensures ended { IfOk result (λ made. made.1.view.ended ≡ []) }
 {
     let stores = stores(alloc, bytes, Fuse::new(alloc, fails)?)?;
-    match Mount::open(alloc, region(alloc)?, stores, fds(alloc)?, 64, 4) {
+    opened_over(alloc, region(alloc)?, stores)
+}
+
+// The same over a region, and the store of its one file.
+pub(crate) fn opened_over(
+    alloc: Global,
+    region: Region<MemPart>,
+    stores: Vec<MemStore>,
+) -> Result<(Mount<MemPart, MemStore>, Pass<MemPart, MemStore>), Fail>
+    requires page { region.geometry.page ≡ 64 }
+    requires names { length region.names ≡ 1 }
+    requires one { length stores.items ≡ 1 }
+    requires quiet { All (λ store. Tells (store_history store) IsQuietStore) stores.items }
+    ensures board { IfOk result (λ made. IsOf made.0.board made.1) }
+    ensures idle { IfOk result (λ made. IsIdle made.1) }
+    ensures number { IfOk result (λ made. made.1.view.number ≡ 0) }
+    ensures made { IfOk result (λ made. made_of made.1.view ≡ 0) }
+    ensures ended { IfOk result (λ made. made.1.view.ended ≡ []) }
+{
+    match Mount::open(alloc, region, stores, fds(alloc)?, 64, 4) {
         Ok(made) => Ok(made),
         Err(unopened) => Err(unopened.error.into()),
     }

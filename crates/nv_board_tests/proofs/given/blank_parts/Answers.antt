@@ -13,6 +13,6 @@ pub loop-entry-preserved : goal.loop-entry-preserved
 loop-entry-preserved c =
     let page = c.args.geometry.page in
     let parts = c.loop-entry.parts.items in
-    let more = part_more page c.args.geometry.entries parts c.push-in-loop-entry.new.self.items c.in_ok-new-2.field-0 (1 + page / 64) c.in_ok-push-2.ensures.items
-    c.loop-entry.invariant.each (λ within. entry_part page (length parts) (omega arith)) c.in_ok-new-2.ensures in
+    let more = part_more page c.args.geometry.entries parts c.push-in-loop-entry.new.self.items c.in_ok-fused.field-0 (1 + page / 64) c.in_ok-push-2.ensures.items
+    c.loop-entry.invariant.each (λ within. entry_part page (length parts) (omega arith)) c.in_ok-fused.ensures in
     record { count = omega (arith, more.0); each = more.1 }

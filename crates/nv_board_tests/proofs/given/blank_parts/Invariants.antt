@@ -4,6 +4,6 @@ use Rattle.nv_board_tests.proofs.given.blank_parts.Given as goal
 
 abbrev pub invariant-loop-entry : goal.invariant-loop-entry
 invariant-loop-entry l = record {
-  count : length l.parts.items ≡ 1 + l._entry;
+  count : length l.parts.items ≡ 1 + l.entry;
   each : AreBlank l.geometry.page l.geometry.entries l.parts.items;
 }

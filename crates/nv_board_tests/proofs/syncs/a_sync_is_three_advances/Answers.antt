@@ -1,10 +1,10 @@
 -- The pass is idle at the end, as each advance goes on from where it stood at first.
 use Rattle.std.proofs.Common.{◌≡◌, ℕ, List, refl, sym, ap, subst, rules}
-use Rattle.std.specs.Prelude.{Option, Result, Ok}
+use Rattle.std.specs.Prelude.{Option, Ok}
 use Rattle.nv_table.specs.invariant.Idle.{IsIdle}
 use Rattle.nv_table.specs.state.States.{PassState}
 use Rattle.nv_mount.specs.declared.fds.Fd.{Fd}
-use Rattle.nv_calls.specs.declared.answers.Done.{Done}
+use Rattle.nv_mirror.specs.declared.answers.Done.{Done}
 use Rattle.nv_calls.specs.declared.machine.Progress.{Progress}
 use Rattle.nv_calls.specs.declared.machine.Progress.TheVariants.{More, Ended}
 use Rattle.nv_calls.specs.declared.machine.SyncMachine.{SyncMachine}
