@@ -1,5 +1,4 @@
 -- Histories: what a pass has done in a call, and what came of it.
 pub mod Heeds
 pub mod Kinds
-pub mod OwnSteps
 pub mod Tries

@@ -27,6 +27,7 @@ use Rattle.nv_mirror.specs.declared.append.AppendControl.TheVariants.{Appended, 
 use Rattle.nv_mirror.specs.declared.append.AppendControl.TheVariants as appends
 use Rattle.nv_mirror.specs.declared.append.AppendMachine.{AppendMachine}
 use Rattle.nv_mirror.specs.OwnedCells.{pages_from, entries_from, with_if}
+use Rattle.nv_mirror.specs.OwnSteps.{is_own}
 use Rattle.nv_mirror.specs.PassSteps.{PassStep, either_of, head_by, head_in, place_by, refused_by, unless_room}
 use Rattle.nv_mirror.specs.Controls.{Drawing, drawings, drawing_of, with_drawing, Told}
 use Rattle.nv_mirror.specs.Appends.{append_call_of, Fits, FitsAt, IsPlain, ready_number, ready_word_of, append_op_at, append_after_at, locks, entries_on, Before, append_mirror_at, append_refusal_at, append_place_at, HasHead, IsInCall}
@@ -305,16 +306,16 @@ module _ (m : AppendMachine) (start now new : PassState) (found : ℕ) (fits : F
   led : (control : AppendControl) (head number place : ℕ) (next_control : AppendControl) (then_is : Drawing) (refusal_then : Option Refusal) (placed_then : Option ℕ)
       → IsPlain control → (way : IsInCall m control start now) → (step : Postcondition now None (core_op control) found new)
       → ((pass : Pass) (number : ℕ) (history : List Answered) → drawing_of (stepped here number history (core_op control) found (with_drawing (append_mirror_at here m way.before control) pass)) ≡ then_is)
-      → ((pass : Pass) → left_after pass (core_op control) ≡ pass.left)
+      → ((pass : Pass) → left_after pass (core_op control) ≡ pass.left) → is_own (append_call_of m) (append_refusal_at control) (core_op control) ≡ true
       → either_of (append_refusal_at control) (refused_by here (append_call_of m) (head_in way.called.steps) step.works (core_op control) found) ≡ refusal_then
       → either_of (append_place_at m control) (place_by (core_op control) found) ≡ placed_then → Told (append_call_of m) placed_then start new
       → Leads here m then_is refusal_then placed_then (head_by (core_op control) found (head_in way.called.steps)) (record m { head = head; number = number; place = place; control = next_control })
       → Goes (record m { head = head; number = number; place = place; control = next_control })
-  led control head number place next_control then_is refusal_then placed_then plain way step goes leaves refuses places told leads =
+  led control head number place next_control then_is refusal_then placed_then plain way step goes leaves may refuses places told leads =
       let on = mirror_on drawings (append_call_of m) None (append_mirror_at here m way.before control) (append_refusal_at control) (append_place_at m control) start now way.called (core_op control)
       None (append_mirror_at new.view.opened.sizes next leads.before next_control) (append_refusal_at next_control) (append_place_at next next_control) found new step (append_free m control start now plain way)
       (λ pass number history. goes pass number history ∙ leads.mirrors ∙ ap (λ (o : Opened). append_mirror_at o.sizes next leads.before next_control) (sym opened))
-      leaves (refuses ∙ leads.refused) (places ∙ leads.placed) refl (subst (λ p. Told (append_call_of m) p start new) leads.placed told) in (
+      leaves (refuses ∙ leads.refused) (places ∙ leads.placed) may refl (subst (λ p. Told (append_call_of m) p start new) leads.placed told) in (
         subst (λ (o : Opened). Fits o.sizes next) (sym opened)
             record { allowed = fits.allowed; some = fits.some; end = fits.end; page = fits.page; pages = fits.pages; low = fits.low; stands = leads.fits },
         record { before = leads.before; called = on.0; loaded = leads.loaded on.0.steps (ap head_in on.1) },
@@ -341,12 +342,12 @@ module _ (m : AppendMachine) (start now new : PassState) (found : ℕ) (fits : F
   append_on appends.LoadHead laws stands plain way step =
       led appends.LoadHead _ _ _ _ _ _ _ plain way step
       (λ pass number history. ap (λ count. at m (if nat_le (found + count) (2 ^ 60) then WriteLoadTail else leaving (locks m)) (locks m) found way.before.first way.before.entries) (sym fits.pages))
-      (λ pass. refl) (refused_so (λ count. nat_le (found + count) (2 ^ 60)) (Spent found)) refl (kept appends.LoadHead plain way step (λ pass number history. refl) (λ pass number. refl))
+      (λ pass. refl) refl (refused_so (λ count. nat_le (found + count) (2 ^ 60)) (Spent found)) refl (kept appends.LoadHead plain way step (λ pass number history. refl) (λ pass number. refl))
       (heads_leads here m fits way.before found (nat_le (found + m.pages) (2 ^ 60)) (leb-true (found + m.pages) (2 ^ 60)))
   append_on appends.LoadTail laws stands plain way step =
       led appends.LoadTail _ _ _ _ _ _ _ plain way step
       (λ pass number history. ap (λ count. at m (if nat_le (m.head + count) (found + here.entries) then DrawNumbers else leaving (locks m)) (locks m) m.head way.before.first way.before.entries) (sym fits.pages))
-      (λ pass. refl)
+      (λ pass. refl) refl
       (ap (λ head. unless_room (append_call_of m) (nat_le (head + page_count here (append_call_of m)) (found + here.entries)) (Again head found)) way.loaded
       ∙ refused_so (λ count. nat_le (m.head + count) (found + here.entries)) (Again m.head found))
       refl (kept appends.LoadTail plain way step (λ pass number history. refl) (λ pass number. refl))
@@ -354,29 +355,29 @@ module _ (m : AppendMachine) (start now new : PassState) (found : ℕ) (fits : F
   append_on appends.DrawNumbers laws stands plain way step =
       led appends.DrawNumbers _ _ _ _ _ _ _ plain way step
       (λ pass number history. ap (λ count. at m (if found == m.head then SeizeEntry found else leaving (locks m)) (locks m) (if found == m.head then found + count else found) (if found == m.head then found else way.before.first) (if found == m.head then count else way.before.entries)) (sym fits.pages))
-      (λ pass. refl) (ap (λ head. if found == head then None else Some (Raced head found)) way.loaded) refl (kept appends.DrawNumbers plain way step (λ pass number history. refl) (λ pass number. refl))
+      (λ pass. refl) refl (ap (λ head. if found == head then None else Some (Raced head found)) way.loaded) refl (kept appends.DrawNumbers plain way step (λ pass number history. refl) (λ pass number. refl))
       (draws_leads here m fits way.before found _ (found == m.head) (λ is. let same = eqb-true found m.head is in omega (arith, stands, same)))
   append_on (appends.SeizeEntry seized) laws stands plain way step =
       led (appends.SeizeEntry seized) _ _ _ _ _ _ _ plain way step
       (λ pass number history. ap (λ b. at m (if b then CommitGroup 0 else SeizeEntry (m.number + seized + 1)) (entries_from here m.number (suc seized) ++ locks m) way.before.head m.number m.pages)
       (as_many m.number (m.number + seized + 1) (seized + 1) m.pages (omega arith)))
-      (λ pass. refl) refl refl (kept (appends.SeizeEntry seized) plain way step (λ pass number history. refl) (λ pass number. refl))
+      (λ pass. refl) refl refl refl (kept (appends.SeizeEntry seized) plain way step (λ pass number history. refl) (λ pass number. refl))
       (seizes_leads here m fits way.before seized _ (seized + 1 == m.pages) stands.0 stands.1 refl)
   append_on (appends.ReadyEntry ready) laws stands plain way step =
-      led (appends.ReadyEntry ready) _ _ _ _ _ _ _ plain way step (λ pass number history. refl) (λ pass. refl) refl refl
+      led (appends.ReadyEntry ready) _ _ _ _ _ _ _ plain way step (λ pass number history. refl) (λ pass. refl) refl refl refl
       (kept (appends.ReadyEntry ready) plain way step (λ pass number history. refl) (λ pass number. refl)) (readies_leads here m fits way.before ready _ (ready + 1 == m.pages) stands.0 stands.1 refl)
   append_on appends.TakePlace laws stands plain way step =
-      led appends.TakePlace _ _ _ _ _ _ _ plain way step (λ pass number history. ap (λ s. at m s (locks m) way.before.head way.before.first way.before.entries) (growing_so here m fits)) (λ pass. refl) refl refl
+      led appends.TakePlace _ _ _ _ _ _ _ plain way step (λ pass number history. ap (λ s. at m s (locks m) way.before.head way.before.first way.before.entries) (growing_so here m fits)) (λ pass. refl) refl refl refl
       (told_placed (append_call_of m) start now new found laws way.called.told way.called.later way.called.mount (ap (λ (d : Drawing). d.mirrored_control.call) way.called.mirrors) (ap (λ (d : Drawing). d.mirrored_control.control) way.called.mirrors) step)
       (places_leads here m fits way.before found _ (nat_lt m.length m.end))
   append_on appends.GrowLength laws stands plain way step =
-      led appends.GrowLength _ _ _ _ _ _ _ plain way step (λ pass number history. ap (λ s. at m s (locks m) way.before.head way.before.first way.before.entries) (ending_so here m fits)) (λ pass. refl) refl refl
+      led appends.GrowLength _ _ _ _ _ _ _ plain way step (λ pass number history. ap (λ s. at m s (locks m) way.before.head way.before.first way.before.entries) (ending_so here m fits)) (λ pass. refl) refl refl refl
       (kept appends.GrowLength plain way step (λ pass number history. refl) (λ pass number. refl)) (places_leads here m fits way.before m.place _ false)
   append_on (appends.BreakEntry broken) laws stands plain way step =
       led (appends.BreakEntry broken) _ _ _ _ _ _ _ plain way step
       (λ pass number history. ap₂ (λ b owned. at m (if b then leaving owned else BreakEntry (m.number + broken + 1)) owned way.before.head m.number m.pages)
       (as_many m.number (m.number + broken + 1) (broken + 1) m.pages (omega arith)) (entries_less here m fits broken stands.0 (locks m)))
-      (λ pass. refl) refl refl (kept (appends.BreakEntry broken) plain way step (λ pass number history. refl) (λ pass number. refl))
+      (λ pass. refl) refl refl refl (kept (appends.BreakEntry broken) plain way step (λ pass number history. refl) (λ pass number. refl))
       (breaks_leads here m fits way.before broken _ (broken + 1 == m.pages) stands.0 stands.1 refl)
   append_on appends.CommitGroup laws stands plain way step = absurd plain
   append_on (appends.PledgePage pledged) laws stands plain way step = absurd plain

@@ -5,6 +5,7 @@ use Rattle.nv_core.specs.state.Passes.{WriteLoadHead, VisitPage, TakePlace, is_r
 use Rattle.nv_core.specs.state.Words.{SIZE}
 use Rattle.nv_table.specs.state.Views.{pass_of}
 use Rattle.nv_table.specs.state.States.{PassState}
+use Rattle.nv_mirror.specs.OwnSteps.{AreOwn}
 use Rattle.nv_mirror.specs.PassSteps.{refusal_in}
 use Rattle.nv_mirror.specs.OwnedCells.{pages_from, with_if}
 use Rattle.nv_mirror.specs.declared.front.FrontMachine.{FrontMachine}
@@ -22,6 +23,7 @@ append_behind f m start now behind way = record {
     idle = way.idle;
     steps = way.steps;
     made = way.made;
+    own = subst (λ call. AreOwn now.view.opened.sizes call way.steps) (sym behind.call) way.own;
     refused = subst (λ call. refusal_in now.view.opened.sizes call way.steps ≡ None) (sym behind.call) way.refused;
     placed = way.placed;
     later = way.later;

@@ -1,5 +1,5 @@
 -- Controls: a step that the mirrored state allows is due, and the mirrored state after it is the core's.
-use Rattle.std.proofs.Common.{◌≡◌, ℕ, List, [], ◌∷◌, inl, refl, sym, ap, subst, ◌∙◌}
+use Rattle.std.proofs.Common.{◌≡◌, ℕ, true, List, [], ◌∷◌, inl, refl, sym, ap, subst, ◌∙◌}
 use Rattle.std.specs.Prelude.{Option, Some, None}
 use Rattle.nv_plain.specs.Histories.{Answered}
 use Rattle.nv_plain.specs.declared.call.FileCall.{FileCall}
@@ -27,8 +27,10 @@ use Rattle.nv_table.specs.state.Views.{pass_of, values_of, still_owned, OwnsSlot
 use Rattle.nv_table.specs.state.States.{PassState}
 use Rattle.nv_table.specs.steps.CallSteps.{Precondition, reply_at}
 use Rattle.nv_table.proofs.steps.CallLaws.{IsCallFree, stepped_there, later_by, later_on}
+use Rattle.nv_mirror.specs.OwnSteps.{is_own, AreOwn}
 use Rattle.nv_mirror.specs.PassSteps.{PassStep, head_in, refusal_in, refused_by, place_by, either_of}
 use Rattle.nv_mirror.specs.declared.answers.Refusal.{Refusal}
+use Rattle.nv_mirror.proofs.OwnLaws.{own_so_far_on}
 use Rattle.nv_mirror.proofs.StepLaws.{between_self, taken_by, opened_same}
 use Rattle.nv_mirror.specs.Controls.{Mirror, IsReplyTo, Told, InCall}
 
@@ -66,14 +68,16 @@ module _ {State : Type 0} (mirror : Mirror State) (call : FileCall) (opens : Opt
   pub mirror_on : (opens_then : Option FileCall) (then_is : State) (refusal_then : Option Refusal) (place_then : Option ℕ) (found : ℕ) (new : PassState) (step : Postcondition now opens core_op found new) → IsCallFree (pass_of now.view).control
       → ((pass : Pass) (number : ℕ) (history : List Answered) → mirror.of (stepped now.view.opened.sizes number history core_op found (mirror.with is pass)) ≡ then_is) → ((pass : Pass) → left_after pass core_op ≡ pass.left)
       → either_of refusal (refused_by now.view.opened.sizes call (head_in called.steps) step.works core_op found) ≡ refusal_then → either_of place (place_by core_op found) ≡ place_then
-      → None ≡ opens_then → Told call place_then start new
+      → is_own call refusal core_op ≡ true → None ≡ opens_then → Told call place_then start new
       → (then_called : InCall mirror call opens_then then_is refusal_then place_then start new) × (then_called.steps ≡ step_made step.works found ∷ called.steps)
-  mirror_on opens_then then_is refusal_then place_then found new step free goes leaves refuses places opened_then told_then =
+  mirror_on opens_then then_is refusal_then place_then found new step free goes leaves refuses places may opened_then told_then =
       subst (λ opens_then. (then_called : InCall mirror call opens_then then_is refusal_then place_then start new) × (then_called.steps ≡ step_made step.works found ∷ called.steps)) opened_then (
         record {
           idle = called.idle;
           steps = step_made step.works found ∷ called.steps;
           made = (now, called.made, taken_by now now new opens core_op found (between_self now) step);
+          own = subst (λ (o : Opened). AreOwn o.sizes call (step_made step.works found ∷ called.steps)) (sym opened)
+              (own_so_far_on opens now.view.opened.sizes call (step_made step.works found) called.steps refusal called.own called.refused refl may);
           refused = subst (λ (o : Opened). refusal_in o.sizes call (step_made step.works found ∷ called.steps) ≡ refusal_then) (sym opened)
               (ap (λ r. either_of r (refused_by now.view.opened.sizes call (head_in called.steps) step.works core_op found)) called.refused ∙ refuses);
           placed = ap (λ p. either_of p (place_by core_op found)) called.placed ∙ places;

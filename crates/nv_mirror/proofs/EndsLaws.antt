@@ -18,6 +18,7 @@ call_begins mirror call start idle = record {
   idle = idle;
   steps = [];
   made = refl;
+  own = (refl, refl);
   refused = refl;
   placed = refl;
   later = later_self start;

@@ -18,6 +18,7 @@ use Rattle.nv_mirror.specs.OwnedCells.{pages_from, with_if}
 use Rattle.nv_core.specs.steps.Ops.{Op, Give, Comes, Stays, moved}
 use Rattle.nv_core.specs.steps.PassSteps.{begun, stepped, left_after, mine_after}
 use Rattle.nv_plain.specs.Histories.{Answered}
+use Rattle.nv_mirror.specs.OwnSteps.{is_own}
 use Rattle.nv_mirror.specs.PassSteps.{if_own, either_of, head_in, refused_by, place_by}
 use Rattle.nv_mirror.specs.declared.answers.Refusal.{Refusal}
 use Rattle.nv_mirror.specs.declared.answers.Refusal.TheVariants.{Busy, Stopped, Spent}
@@ -245,39 +246,39 @@ module _ (m : FrontMachine) (start now new : PassState) (found : ℕ) (fits : Fi
   -- where the core's control state leads, the machine goes
   led : (opens : Option FileCall) (is refused_then : MirroredControl) (before refusal : Option Refusal) (core_op : Op) (next : FrontMachine) → (way : InCall control_mirror (front_call_of m) opens is before None start now) → (step : Postcondition now opens core_op found new)
       → IsCallFree (pass_of now.view).control → ((pass : Pass) (number : ℕ) (history : List Answered) → mirrored_control (stepped here number history core_op found (with_mirrored_control is pass)) ≡ refused_then)
-      → ((pass : Pass) → left_after pass core_op ≡ pass.left) → either_of before (refused_by here (front_call_of m) (head_in way.steps) step.works core_op found) ≡ refusal → place_by core_op found ≡ None
+      → ((pass : Pass) → left_after pass core_op ≡ pass.left) → is_own (front_call_of m) before core_op ≡ true → either_of before (refused_by here (front_call_of m) (head_in way.steps) step.works core_op found) ≡ refusal → place_by core_op found ≡ None
       → ((pass : Pass) (number : ℕ) (history : List Answered) → (stepped here number history core_op found pass).seen ≡ pass.seen) → ((pass : Pass) (number : ℕ) → mine_after number pass core_op ≡ pass.mine)
       → Leads here m refused_then refusal next → Goes next
-  led opens is then_is before refusal core_op next way step free goes leaves refuses places seen mine leads = (
+  led opens is then_is before refusal core_op next way step free goes leaves may refuses places seen mine leads = (
     subst (λ (o : Opened). Fits o.sizes next) (sym (opened_same now new opens core_op found step)) leads.fits,
     subst (λ call. InCall control_mirror call (opened_by (front_opens_at next next.control)) (front_mirror_at next next.control) (front_refusal_at next.control) None start new) leads.call
         (mirror_on control_mirror (front_call_of m) opens is before None start now way core_op (opened_by (front_opens_at next next.control)) (front_mirror_at next next.control) (front_refusal_at next.control) None found new step free
-        (λ pass number history. goes pass number history ∙ leads.mirrors) leaves (refuses ∙ leads.refused) places leads.opened (told_kept (front_call_of m) None start now new way.told opens core_op found step free seen mine)).0,
+        (λ pass number history. goes pass number history ∙ leads.mirrors) leaves (refuses ∙ leads.refused) places may leads.opened (told_kept (front_call_of m) None start now new way.told opens core_op found step free seen mine)).0,
   )
 
   pub front_on : (control : FrontControl) → FitsAt m control → IsOpen control → IsInCall m control start now → Postcondition now (opened_by (front_opens_at m control)) (core_op_of now.view (front_op_at m control)) found new
       → Goes (front_after_at here m control found)
   front_on fronts.Begin at runs way is =
-      led _ _ _ _ _ _ _ way is (free m fronts.Begin start now runs way) (λ pass number history. refl) (λ pass. refl) refl refl (λ pass number history. refl) (λ pass number. refl) (page_leads here m fits at.1 at.3 (found == 0))
+      led _ _ _ _ _ _ _ way is (free m fronts.Begin start now runs way) (λ pass number history. refl) (λ pass. refl) refl refl refl (λ pass number history. refl) (λ pass number. refl) (page_leads here m fits at.1 at.3 (found == 0))
   front_on fronts.TakePage at runs way is =
-      led _ _ _ _ _ _ _ way is (free m fronts.TakePage start now runs way) (λ pass number history. refl) (λ pass. refl) refl refl (λ pass number history. refl) (λ pass number. refl) (page_leads here m fits at.0 at.1 (found == 0))
+      led _ _ _ _ _ _ _ way is (free m fronts.TakePage start now runs way) (λ pass number history. refl) (λ pass. refl) refl refl refl (λ pass number history. refl) (λ pass number. refl) (page_leads here m fits at.0 at.1 (found == 0))
   front_on fronts.LoadLength at runs way is =
       led _ _ _ _ _ _ _ way is (free m fronts.LoadLength start now runs way)
       (λ pass number history. ap (λ e. record (ctl m (if (nat_lt 0 (size_in m) && nat_lt found e) && not m.sized then TakeSize else LoadStop) (owned_of m m.sized m.held)) { length = found }) (sym fits.end))
-      (λ pass. refl) refl refl (λ pass number history. refl) (λ pass number. refl) (length_leads here m fits at found ((nat_lt 0 (size_in m) && nat_lt found m.end) && not m.sized) (unsized_by (nat_lt 0 (size_in m) && nat_lt found m.end) m.sized))
+      (λ pass. refl) refl refl refl (λ pass number history. refl) (λ pass number. refl) (length_leads here m fits at found ((nat_lt 0 (size_in m) && nat_lt found m.end) && not m.sized) (unsized_by (nat_lt 0 (size_in m) && nat_lt found m.end) m.sized))
   front_on fronts.TakeSize at runs way is =
-      led _ _ _ _ _ _ _ way is (free m fronts.TakeSize start now runs way) (λ pass number history. refl) (λ pass. refl) refl refl (λ pass number history. refl) (λ pass number. refl) (size_leads here m fits at.1 at.0 (found == 0))
+      led _ _ _ _ _ _ _ way is (free m fronts.TakeSize start now runs way) (λ pass number history. refl) (λ pass. refl) refl refl refl (λ pass number history. refl) (λ pass number. refl) (size_leads here m fits at.1 at.0 (found == 0))
   front_on fronts.LoadStop at runs way is =
-      led _ _ _ _ _ _ _ way is (free m fronts.LoadStop start now runs way) (λ pass number history. refl) (λ pass. refl) refl refl (λ pass number history. refl) (λ pass number. refl) (stop_leads here m fits at (found == 0))
+      led _ _ _ _ _ _ _ way is (free m fronts.LoadStop start now runs way) (λ pass number history. refl) (λ pass. refl) refl refl refl (λ pass number history. refl) (λ pass number. refl) (stop_leads here m fits at (found == 0))
   front_on fronts.LoadOrder at runs way is =
-      led _ _ _ _ _ _ _ way is (free m fronts.LoadOrder start now runs way) (λ pass number history. refl) (λ pass. refl) refl refl (λ pass number history. refl) (λ pass number. refl) (order_leads here m fits at found (nat_lt found (2 ^ 60)))
+      led _ _ _ _ _ _ _ way is (free m fronts.LoadOrder start now runs way) (λ pass number history. refl) (λ pass. refl) refl refl refl (λ pass number history. refl) (λ pass number. refl) (order_leads here m fits at found (nat_lt found (2 ^ 60)))
   front_on (fronts.GiveBack true refusal) at runs way is =
       led _ _ _ _ _ _ _ way is (free m (fronts.GiveBack true refusal) start now runs way)
       (λ pass number history. ap (λ owned. ctl m (leaving owned) owned) (without_first (SIZE (file_in m)) (pages_from m.first m.held)))
-      (λ pass. refl) refl refl (λ pass number history. refl) (λ pass number. refl) (refuse_leads here m false m.held refusal fits fits.within)
+      (λ pass. refl) refl refl refl (λ pass number history. refl) (λ pass number. refl) (refuse_leads here m false m.held refusal fits fits.within)
   front_on (fronts.GiveBack false refusal) at runs way is =
       led _ _ _ _ _ _ _ way is (free m (fronts.GiveBack false refusal) start now runs way)
       (λ pass number history. ap (λ owned. ctl m (leaving owned) owned) (page_dropped m.first m.held at))
-      (λ pass. refl) refl refl (λ pass number history. refl) (λ pass number. refl) (refuse_leads here m false (m.held - 1) refusal fits (let w = fits.within in omega (arith, w)))
+      (λ pass. refl) refl refl refl (λ pass number history. refl) (λ pass number. refl) (refuse_leads here m false (m.held - 1) refusal fits (let w = fits.within in omega (arith, w)))
   front_on Passed at runs way is = absurd runs
   front_on (Over refusal) at runs way is = absurd runs

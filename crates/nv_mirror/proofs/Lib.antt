@@ -8,6 +8,7 @@ pub mod FaultLaws
 pub mod FrontLaws
 pub mod HistoryLaws
 pub mod MeasureLaws
+pub mod OwnLaws
 pub mod OwnedLaws
 pub mod PageLaws
 pub mod PagelessLaws

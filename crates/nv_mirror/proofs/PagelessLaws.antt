@@ -88,15 +88,15 @@ module _ (asked : Asked) (start now new : PassState) (found : ℕ) (fits : Fits 
       → Postcondition now (opened_by (pageless_opens_at asked control)) (core_op_of now.view (pageless_op control)) found new → IsInCall asked (pageless_after control found) start new
   pageless_on controls.Begin laws runs way is =
       let leads = stop_leads asked (found == 0) in
-      (mirror_on _ _ _ _ _ _ start now way _ _ _ _ _ found new is (free asked controls.Begin start now runs way) (λ pass number history. leads.0) (λ pass. refl) leads.1 leads.2 leads.3
+      (mirror_on _ _ _ _ _ _ start now way _ _ _ _ _ found new is (free asked controls.Begin start now runs way) (λ pass number history. leads.0) (λ pass. refl) leads.1 leads.2 refl leads.3
       (subst (λ place. Told (call_asked asked) place start new) leads.2 (told_kept (call_asked asked) None start now new way.told _ _ found is (free asked controls.Begin start now runs way) (λ pass number history. refl) (λ pass number. refl)))).0
   pageless_on controls.LoadOrder laws runs way is =
       let leads = order_leads asked (ordered now.view.opened.sizes (call_asked asked)) found (nat_lt found (2 ^ 60)) none.next in
-      (mirror_on _ _ _ _ _ _ start now way _ _ _ _ _ found new is (free asked controls.LoadOrder start now runs way) (λ pass number history. leads.0) (λ pass. refl) leads.1 leads.2 leads.3
+      (mirror_on _ _ _ _ _ _ start now way _ _ _ _ _ found new is (free asked controls.LoadOrder start now runs way) (λ pass number history. leads.0) (λ pass. refl) leads.1 leads.2 refl leads.3
       (subst (λ place. Told (call_asked asked) place start new) leads.2 (told_kept (call_asked asked) None start now new way.told _ _ found is (free asked controls.LoadOrder start now runs way) (λ pass number history. refl) (λ pass number. refl)))).0
   pageless_on controls.TakePlace laws runs way is =
       (mirror_on _ _ _ _ _ _ start now way _ _ _ _ _ found new is (free asked controls.TakePlace start now runs way)
-      (λ pass number history. ap (λ control. record (mirror (call_asked asked) controls.TakePlace) { control = control }) placed) (λ pass. refl) refl refl refl
+      (λ pass number history. ap (λ control. record (mirror (call_asked asked) controls.TakePlace) { control = control }) placed) (λ pass. refl) refl refl refl refl
       (told_placed (call_asked asked) start now new found laws way.told way.later way.mount (ap (λ (c : MirroredControl). c.call) way.mirrors) (ap (λ (c : MirroredControl). c.control) way.mirrors) is)).0
     where
       placed : (if is_write (call_asked asked) && (nat_lt 0 (len_of (call_asked asked)) && nat_lt 0 (at_of (call_asked asked) + len_of (call_asked asked))) then GrowLength else giving now.view.opened.sizes (call_asked asked)) ≡ Idle

@@ -267,7 +267,7 @@ module _ (m : AppendMachine) (done : ℕ) (start now new : PassState) (found : �
       ∙ ap (pledged is.before.view.opened.sizes (m.page + done)) mirrors
       ∙ ap (λ (v : PassView). pledged v.opened.sizes (m.page + done) (append_mirror_at sizes_now m before state)) is.between.view
       ∙ same ∙ pledged_so sizes_now m before done fits less b test)
-      (λ pass. refl) refl refl
+      (λ pass. refl) refl refl refl
       (worked_told drawings (append_call_of m) (append_mirror_at sizes_now m before state) None None start now is.before called is.between (Pledge (m.page + done)) found new is.stepped (λ sizes number history pass. refl) (λ pass number. refl)))
 
   on : (b : Bool) → (done + 1 == m.pages) ≡ b → IsUnderWay (record m { control = if b then appends.ReadyEntry 0 else appends.PledgePage (done + 1) }) start new
@@ -322,7 +322,7 @@ module _ (m : AppendMachine) (start now mid : PassState) (way : IsInCall m appen
             ∙ calls_leave (λ p. broken (drawing_of p)) (λ sizes work p. refl) mid.view.opened.sizes step.works (pass_of mid.view)
             ∙ ap broken mirrors
             ∙ ap (λ n. at stop_sizes m way.before (BreakEntry n) (entries_on stop_sizes m 0 ++ locks m)) (let e : m.number ≡ m.number + 0 = omega arith in e))
-            (λ pass. refl) fails refl
+            (λ pass. refl) fails refl refl
             (worked_told drawings (append_call_of m) _ None None start now mid way.called between Stop found new step (λ sizes number history pass. refl) (λ pass number. refl)));
         loaded = tt;
       },

@@ -30,6 +30,7 @@ use Rattle.nv_mirror.specs.declared.front.FrontControl.{FrontControl}
 use Rattle.nv_mirror.specs.declared.append.AppendControl.{AppendControl}
 use Rattle.nv_mirror.specs.Pageless as pageless
 use Rattle.nv_mirror.specs.Releases as release
+use Rattle.nv_mirror.specs.OwnSteps.{AreOwn}
 use Rattle.nv_mirror.specs.PassSteps.{refusal_in}
 use Rattle.nv_mirror.specs.RunningWrites.{AsksForWrite, IsUnderWay, refusal_of, place_of, front_part, write_measure}
 use Rattle.nv_mirror.specs.Ways.{released_of, refused_of}
@@ -45,6 +46,7 @@ over_of : (call other : FileCall) (is : MirroredControl) (refusal : Option Refus
 over_of call other is refusal place start now same called control owned = subst (λ c. IsOver c refusal place start now) same record {
   steps = called.steps;
   made = called.made;
+  own = subst (λ (o : Opened). AreOwn o.sizes call called.steps) called.mount called.own;
   refused = subst (λ (o : Opened). refusal_in o.sizes call called.steps ≡ refusal) called.mount called.refused;
   placed = called.placed;
   told = called.told;

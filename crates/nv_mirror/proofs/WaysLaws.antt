@@ -31,6 +31,7 @@ coarser call opens is refusal place start now called = record {
   idle = called.idle;
   steps = called.steps;
   made = called.made;
+  own = called.own;
   refused = called.refused;
   placed = called.placed;
   later = called.later;

@@ -1,5 +1,5 @@
 -- Worked: a step with device calls before it.
-use Rattle.std.proofs.Common.{◌≡◌, ℕ, List, ◌∷◌, inl, refl, sym, ap, subst, ◌∙◌}
+use Rattle.std.proofs.Common.{◌≡◌, ℕ, true, List, ◌∷◌, inl, refl, sym, ap, subst, ◌∙◌}
 use Rattle.std.specs.Prelude.{Option, Some, None}
 use Rattle.nv_plain.specs.Histories.{Answered}
 use Rattle.nv_plain.specs.declared.call.FileCall.{FileCall}
@@ -17,8 +17,10 @@ use Rattle.nv_table.specs.state.States.{PassState}
 use Rattle.nv_table.specs.steps.CallSteps.{Precondition}
 use Rattle.nv_table.proofs.steps.CallLaws.{later_by, later_on}
 use Rattle.nv_table.proofs.invariant.DrawnLaws.{calls_leave}
+use Rattle.nv_mirror.specs.OwnSteps.{is_own, AreOwn}
 use Rattle.nv_mirror.specs.PassSteps.{IsBetweenSteps, head_in, refusal_in, refused_by, place_by, either_of}
 use Rattle.nv_mirror.specs.declared.answers.Refusal.{Refusal}
+use Rattle.nv_mirror.proofs.OwnLaws.{own_on}
 use Rattle.nv_mirror.proofs.StepLaws.{taken_by, opened_same}
 use Rattle.nv_mirror.specs.Controls.{Mirror, Told, InCall}
 use Rattle.nv_mirror.proofs.ControlLaws.{told_same}
@@ -41,11 +43,13 @@ module _ {State : Type 0} (mirror : Mirror State) (call : FileCall) (is : State)
     pub worked_on : (then_is : State) (refusal_then : Option Refusal) (place_then : Option ℕ)
         → ((number : ℕ) (history : List Answered) → mirror.of (pass_of before.view) ≡ is → mirror.of (stepped before.view.opened.sizes number history core_op found (pass_worked before.view.opened.sizes step.works (pass_of before.view))) ≡ then_is)
         → ((pass : Pass) → left_after pass core_op ≡ pass.left) → either_of refusal (refused_by now.view.opened.sizes call (head_in called.steps) step.works core_op found) ≡ refusal_then → either_of place (place_by core_op found) ≡ place_then
-        → Told call place_then start new → InCall mirror call None then_is refusal_then place_then start new
-    worked_on then_is refusal_then place_then goes leaves refuses places told_then = record {
+        → is_own call refusal core_op ≡ true → Told call place_then start new → InCall mirror call None then_is refusal_then place_then start new
+    worked_on then_is refusal_then place_then goes leaves refuses places may told_then = record {
       idle = called.idle;
       steps = record { opens = None; works = step.works; op = core_op; found = found } ∷ called.steps;
       made = (now, called.made, taken_by now before new None core_op found between step);
+      own = subst (λ (o : Opened). AreOwn o.sizes call (record { opens = None; works = step.works; op = core_op; found = found } ∷ called.steps)) (sym opened)
+          (own_on now.view.opened.sizes call (record { opens = None; works = step.works; op = core_op; found = found }) called.steps refusal called.own called.refused refl may);
       refused = subst (λ (o : Opened). refusal_in o.sizes call (record { opens = None; works = step.works; op = core_op; found = found } ∷ called.steps) ≡ refusal_then) (sym opened)
           (ap (λ r. either_of r (refused_by now.view.opened.sizes call (head_in called.steps) step.works core_op found)) called.refused ∙ refuses);
       placed = ap (λ p. either_of p (place_by core_op found)) called.placed ∙ places;

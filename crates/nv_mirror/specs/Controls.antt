@@ -13,6 +13,7 @@ use Rattle.nv_table.specs.state.Views.{pass_of}
 use Rattle.nv_table.specs.state.States.{PassState}
 use Rattle.nv_mirror.specs.PassSteps.{PassStep, HasMade, refusal_in, place_in}
 use Rattle.nv_mirror.specs.Answers.{IsUnplaced, IsPlacedAs}
+use Rattle.nv_mirror.specs.OwnSteps.{AreOwn, AreOwnSoFar}
 use Rattle.nv_mirror.specs.declared.answers.Refusal.{Refusal}
 
 -- What of a pass a machine has at hand: how it is read off a pass, and the pass that has it so.
@@ -75,12 +76,13 @@ abbrev pub Told : FileCall → Option ℕ → (start now : PassState) → Type 0
 Told call None start now = IsUnplaced start.view now.view
 Told call (Some place) start now = (reply : Reply) × IsReplyTo call reply × IsPlacedAs start.view now.view call reply place
 
--- A call that has made some steps since a start, and what came of it: the pass is what its machine has at hand, with the call that the next step begins,
+-- A call that has made some steps since a start, all its own, and what came of it: the pass is what its machine has at hand, with the call that the next step begins,
 -- if that does.
 pub record InCall {State : Type 0} (mirror : Mirror State) (call : FileCall) (opens : Option FileCall) (is : State) (refusal : Option Refusal) (place : Option ℕ) (start now : PassState) : Type 0 where
   pub idle : IsIdle start
   pub steps : List PassStep
   pub made : HasMade steps start now
+  pub own : AreOwnSoFar opens now.view.opened.sizes call steps
   pub refused : refusal_in now.view.opened.sizes call steps ≡ refusal
   pub placed : place_in steps ≡ place
   pub later : IsLater start now
@@ -92,10 +94,11 @@ pub record InCall {State : Type 0} (mirror : Mirror State) (call : FileCall) (op
   pub told : Told call place start now
   pub mirrors : mirror.of (with_call now.view.opened.sizes opens (pass_of now.view)) ≡ is
 
--- The call is over, by these steps, and its pass is idle again: why it is refused, if it is, or its place.
+-- The call is over, by these steps, all its own, and its pass is idle again: why it is refused, if it is, or its place.
 pub record IsOver (call : FileCall) (refusal : Option Refusal) (place : Option ℕ) (start now : PassState) : Type 0 where
   pub steps : List PassStep
   pub made : HasMade steps start now
+  pub own : AreOwn start.view.opened.sizes call steps
   pub refused : refusal_in start.view.opened.sizes call steps ≡ refusal
   pub placed : place_in steps ≡ place
   pub told : Told call place start now

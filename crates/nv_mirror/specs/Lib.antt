@@ -2,6 +2,7 @@ pub mod Answers
 pub mod Appends
 pub mod Controls
 pub mod Fronts
+pub mod OwnSteps
 pub mod OwnedCells
 pub mod Pageless
 pub mod PassSteps

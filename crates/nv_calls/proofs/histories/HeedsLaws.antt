@@ -33,7 +33,7 @@ use Rattle.nv_mirror.specs.declared.answers.Refusal.TheVariants.{BadFd, TooFar, 
 use Rattle.nv_calls.specs.reads.EarlyRefusals.{early_range_refusal, early_fd_refusal, early_refusal}
 use Rattle.nv_calls.specs.fsync.SyncRuns.{file_of_fd, IsSyncRun}
 use Rattle.nv_calls.specs.histories.Heeds.{HasSeenStop, HeedsStop, is_stop_load, loads_stop, tells_stop, ReadsHeedStop, SyncsHeedStop}
-use Rattle.nv_calls.specs.histories.OwnSteps.{is_own, gives_back, AreOwn}
+use Rattle.nv_mirror.specs.OwnSteps.{is_own, gives_back, AreOwn}
 use Rattle.nv_calls.specs.reads.Reads.{refusal_of, IsOverBy}
 use Rattle.nv_mirror.specs.PassSteps.{PassStep, HasTaken, HasMade, IsBetweenSteps, either_of, refused_by, refusal_in, if_own, busy_at, head_in}
 
@@ -126,9 +126,9 @@ module _ (sound : RunsAreSound) (sizes : Sizes) (call : FileCall) (start : PassS
       load_refuses sizes call (head_in earlier) step.works step.op step.found is
       (load_finds sound taken.before now step.opens step.found at stepped (seen_between made.0 taken.before taken.between (made_stays earlier start made.0 made.1 seen)))
 
-  own_open : (refusal : Option Refusal) (op : Op) → op ≡ Load STOP → is_own refusal op ≡ true → refusal ≡ None
+  own_open : (refusal : Option Refusal) (op : Op) → op ≡ Load STOP → is_own call refusal op ≡ true → refusal ≡ None
   own_open None op load own = refl
-  own_open (Some refusal) op load own = let never : gives_back (Load STOP) ≡ true = sym (ap gives_back load) ∙ own in absurd (cc)
+  own_open (Some refusal) op load own = let never : gives_back call refusal (Load STOP) ≡ true = sym (ap (gives_back call refusal) load) ∙ own in absurd (cc)
 
   -- a call that comes to its load of STOP is refused by it
   pub comes_to_stop : (steps : List PassStep) (now : PassState) → HasMade steps start now → AreOwn sizes call steps → loads_stop steps ≡ true → refusal_in sizes call steps ≡ Some Stopped
@@ -151,13 +151,13 @@ refusal_tells (Some RegionFault) = true
 refusal_tells (Some StoreFault) = true
 refusal_tells refusal = false
 
-answer_tells : (result : Result Done Refusal) → tells_stop result ≡ refusal_tells (refusal_of result)
+pub answer_tells : (result : Result Done Refusal) → tells_stop result ≡ refusal_tells (refusal_of result)
 answer_tells (Err Stopped) = refl
 answer_tells (Err RegionFault) = refl
 answer_tells (Err StoreFault) = refl
 answer_tells result = refl
 
-tells_neither : (b : Bool) (one other : Option Refusal) → refusal_tells one ≡ false → refusal_tells other ≡ false → refusal_tells (if b then one else other) ≡ false
+pub tells_neither : (b : Bool) (one other : Option Refusal) → refusal_tells one ≡ false → refusal_tells other ≡ false → refusal_tells (if b then one else other) ≡ false
 tells_neither true one other first last = first
 tells_neither false one other first last = last
 
@@ -166,7 +166,7 @@ tells_set true one tells = absurd (cc)
 tells_set false one tells = refl
 
 -- a step that refuses its call for STOP, or a device fault, has seen it or set it
-never : (b : Bool) → b ≡ false → b ≡ true → ⊥
+pub never : (b : Bool) → b ≡ false → b ≡ true → ⊥
 never b off is = cc
 
 refuses_seeing : (sizes : Sizes) (call : FileCall) (head : ℕ) (works : List Work) (pass : Pass) (op : Op) (found : ℕ) → refusal_tells (refused_by sizes call head works op found) ≡ true → stopped_after pass op found ≡ true
@@ -205,7 +205,7 @@ answer_seen sizes call steps start now result made is tells =
 
 -- ---- calls that are over
 
-range_tells : (sizes : Sizes) (at len : ℕ) → refusal_tells (early_range_refusal sizes at len) ≡ false
+pub range_tells : (sizes : Sizes) (at len : ℕ) → refusal_tells (early_range_refusal sizes at len) ≡ false
 range_tells sizes at len =
     let long = nat_lt (min version_1.group_limit sizes.entries) (pages_touched at len sizes.page) in
     tells_neither (nat_lt (sizes.page * sizes.pages) (at + len)) (Some TooFar) (if long then Some TooLong else None) refl (tells_neither long (Some TooLong) None refl refl)
@@ -214,7 +214,7 @@ fd_tells : (sizes : Sizes) (fd : Option Fd) (at len : ℕ) → refusal_tells (ea
 fd_tells sizes None at len = refl
 fd_tells sizes (Some one) at len = tells_neither (can_read one.mode) (early_range_refusal sizes at len) (Some BadFd) (range_tells sizes at len) refl
 
-stopped_is : (result : Result Done Refusal) → refusal_of result ≡ Some Stopped → result ≡ Err Stopped
+pub stopped_is : (result : Result Done Refusal) → refusal_of result ≡ Some Stopped → result ≡ Err Stopped
 stopped_is (Ok done) is = absurd (cc)
 stopped_is (Err refusal) is = let same : refusal ≡ Stopped = cc in ap Err same
 

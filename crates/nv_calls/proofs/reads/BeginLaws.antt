@@ -119,7 +119,7 @@ module _ (fds : List Fd) (m : ReadMachine) (list : List ℕ) (file : ℕ) (old :
   free = subst IsCallFree (sym way.idle.control) (λ sizes values pass work due. due)
 
   begun_call : (new : PassState) (op : Op) (found : ℕ) (refusal : Option Refusal) → (is : Postcondition old (Some call) op found new) → refused_by old.view.opened.sizes call 0 is.works op found ≡ refusal
-      → place_by op found ≡ None → is_quiet None op ≡ true → InCall fds m.fd call refusal m.place m.faulted old new
+      → place_by op found ≡ None → is_quiet call None op ≡ true → InCall fds m.fd call refusal m.place m.faulted old new
   begun_call new op found refusal is refuses places quiet = record {
     idle = way.idle;
     unbarred = admitted.unbarred;
@@ -127,11 +127,11 @@ module _ (fds : List Fd) (m : ReadMachine) (list : List ℕ) (file : ℕ) (old :
     allowed = subst (λ (o : Opened). IsAllowed o.sizes call) (sym opened) admitted.allowed;
     steps = step ∷ [];
     made = (old, refl, taken_by old old new (Some call) op found (between_self old) is);
-    own = (refl, quiet_own None op quiet);
+    own = (refl, quiet_own call None op quiet);
     refused = ap (λ (o : Opened). refused_by o.sizes call 0 is.works op found) opened ∙ refuses;
     placed = places ∙ sym way.unplaced;
-    stopped = quiet_goes_on None op quiet ∙ sym way.unfaulted;
-    faults = way.unfaulted ∙ sym (ap is_fault (sym refuses) ∙ no_fault old.view.opened.sizes call 0 is.works op found (quiet_goes_on None op quiet));
+    stopped = quiet_goes_on call None op quiet ∙ sym way.unfaulted;
+    faults = way.unfaulted ∙ sym (ap is_fault (sym refuses) ∙ no_fault old.view.opened.sizes call 0 is.works op found (quiet_goes_on call None op quiet));
     mount = opened;
     later = later_by old new (Some call) op found is;
     spare = is.spare;

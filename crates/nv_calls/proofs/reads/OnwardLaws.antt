@@ -90,7 +90,7 @@ looked_same is = record { fd = ap (λ (n : ReadMachine). n.fd) is; at = ap (λ (
 
 module _ (fds : List Fd) (m : ReadMachine) (list : List ℕ) (start now new : PassState) (op : Op) (found : ℕ) (is : Postcondition now None op found new) (base base_then : Pass) (at then_at : Control) (owned owned_then : List Word)
     (sized_then : Bool) (len len_then : ℕ) (fetched fetched_then : List (ℕ × List ℕ)) (open_ : IsOpen fds m list start now) (old : pass_of now.view ≡ reading base (call_of m) at owned m.sized len fetched)
-    (then_is : pass_of new.view ≡ reading base_then (call_of m) then_at owned_then sized_then len_then fetched_then) (sees : base_then.seen ≡ base.seen) (made : base_then.mine ≡ base.mine) (unplaces : place_by op found ≡ None) (goes_on : is_quiet None op ≡ true) where
+    (then_is : pass_of new.view ≡ reading base_then (call_of m) then_at owned_then sized_then len_then fetched_then) (sees : base_then.seen ≡ base.seen) (made : base_then.mine ≡ base.mine) (unplaces : place_by op found ≡ None) (goes_on : is_quiet (call_of m) None op ≡ true) where
   told_then : IsUnplaced start.view new.view
   told_then = record {
     seen = ap (λ (p : Pass). p.seen) then_is ∙ sees ∙ sym (ap (λ (p : Pass). p.seen) old) ∙ open_.told.seen;

@@ -65,7 +65,7 @@ unplaced_on start now new seen mine is = record { seen = seen ∙ is.seen; mine 
 -- a step that refuses nothing leads on
 module _ (fds : List Fd) (m : ReadMachine) (list : List ℕ) (start now before new : PassState) (control : ReadControl) (way : IsOnWayAt fds m list start now control)
     (op : Op) (found : ℕ) (between : IsBetweenSteps now before) (is : Postcondition before None op found new) where
-  pub way_on : (head : ℕ) (scratch : List ℕ) (next : ReadControl) (base : Pass) → refused_by now.view.opened.sizes (call_of m) (head_in way.called.steps) is.works op found ≡ None → place_by op found ≡ None → is_quiet (refusal_at control) op ≡ true
+  pub way_on : (head : ℕ) (scratch : List ℕ) (next : ReadControl) (base : Pass) → refused_by now.view.opened.sizes (call_of m) (head_in way.called.steps) is.works op found ≡ None → place_by op found ≡ None → is_quiet (call_of m) (refusal_at control) op ≡ true
       → refusal_at next ≡ refusal_at control → m.place ≡ None → PlacedAt next m.place
       → (pass_of new.view).seen ≡ (pass_of now.view).seen → (pass_of new.view).mine ≡ (pass_of now.view).mine
       → ReadFactsAt now.view.opened.sizes (record m { head = head; scratch = scratch; control = next }) list base (values_of new.view) (pass_of new.view) next
@@ -131,7 +131,7 @@ module _ (fds : List Fd) (m : ReadMachine) (list : List ℕ) (start now : PassSt
             ∙ page_beside now.view.opened.sizes (call_of m) m.sized before page (page_before now.view.opened.sizes (call_of m) here.at.len page before low less here.at.more)
 
     pub patch_goes : (head : ℕ) (next : ReadControl) (base_then : Pass) (at_then : Control) (owned : List Word)
-        → refused_by now.view.opened.sizes (call_of m) (head_in way.called.steps) is.works op found ≡ None → place_by op found ≡ None → is_quiet (refusal_at control) op ≡ true
+        → refused_by now.view.opened.sizes (call_of m) (head_in way.called.steps) is.works op found ≡ None → place_by op found ≡ None → is_quiet (call_of m) (refusal_at control) op ≡ true
         → refusal_at next ≡ refusal_at control → m.place ≡ None → PlacedAt next m.place → base_then.seen ≡ way.base.seen → base_then.mine ≡ way.base.mine
         → pass_of new.view ≡ reading base_then (call_of m) at_then (owned ++ CLEANUP page ∷ read_owned now.view.opened.sizes (call_of m) m.sized) m.sized here.at.len here.at.fetched
         → (IsPatchingAt now.view.opened.sizes (record m { head = head; control = next }) list base_then (values_of new.view) (pass_of new.view) page at_then owned
@@ -182,7 +182,7 @@ module _ (fds : List Fd) (m : ReadMachine) (list : List ℕ) (start now : PassSt
     (here : IsPatchingAt now.view.opened.sizes m list way.base (values_of now.view) (pass_of now.view) page at [])
     (op : Op) (found : ℕ) (new : PassState) (free : IsCallFree at) (same : (kept : Values) → values_stepped now.view.opened.sizes (pass_of now.view) op kept ≡ kept)
     (is : Postcondition now None op found new) where
-  pub load_entry_goes : (number : ℕ) (base_then : Pass) → refused_by now.view.opened.sizes (call_of m) (head_in way.called.steps) is.works op found ≡ None → place_by op found ≡ None → is_quiet (refusal_at control) op ≡ true
+  pub load_entry_goes : (number : ℕ) (base_then : Pass) → refused_by now.view.opened.sizes (call_of m) (head_in way.called.steps) is.works op found ≡ None → place_by op found ≡ None → is_quiet (call_of m) (refusal_at control) op ≡ true
       → refusal_at control ≡ None → m.place ≡ None → base_then.seen ≡ way.base.seen → base_then.mine ≡ way.base.mine → m.head ≡ base_then.head
       → pass_of new.view ≡ reading base_then (call_of m) (if nat_lt number base_then.head then LoadEntry page number else GiveCleanup page)
       (CLEANUP page ∷ read_owned now.view.opened.sizes (call_of m) m.sized) m.sized here.at.len here.at.fetched

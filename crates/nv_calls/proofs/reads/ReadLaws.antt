@@ -23,11 +23,11 @@ use Rattle.nv_calls.specs.declared.reading.ReadControl.TheVariants as reads
 use Rattle.nv_calls.specs.reads.Advances.{IsSameRead}
 use Rattle.nv_mirror.specs.Answers.{IsUnplaced}
 use Rattle.nv_calls.specs.reads.EarlyRefusals.{early_refusal}
-use Rattle.nv_calls.specs.histories.OwnSteps.{AreOwn}
+use Rattle.nv_mirror.specs.OwnSteps.{AreOwn}
 use Rattle.nv_mirror.specs.OwnedCells.{pages_from, with_if}
 use Rattle.nv_calls.specs.reads.Reads.{call_of, with_cleanup, held_cells, reading, InCall, ReadTells, IsOnWay, IsReadOver, IsOverBy, IsReadDone, HasTold, refusal_of, done_of, placed_by, IsNothing, Refuses, ReadGoes, is_fault, place_of_result}
 use Rattle.nv_mirror.specs.PassSteps.{refusal_in}
-use Rattle.nv_calls.proofs.histories.OwnLaws.{own_are_passing}
+use Rattle.nv_mirror.proofs.OwnLaws.{own_are_passing}
 
 -- ---- the end of a call
 
@@ -48,7 +48,7 @@ over_from fds m list refusal place faulted start now result called room refuses 
       refused = ap (λ n. refusal_in start.view.opened.sizes (Read m.file m.at n) called.steps) room ∙ refused ∙ refuses;
       placed = called.placed ∙ places;
       stopped = set;
-      alone = λ unplaced unfaulted. own_are_passing start.view.opened.sizes (Read m.file m.at (length list)) called.steps own (called.placed ∙ places ∙ unplaced) (set ∙ unfaulted);
+      alone = λ unplaced unfaulted. own_are_passing m.file m.at (length list) start.view.opened.sizes called.steps own (called.placed ∙ places ∙ unplaced) (set ∙ unfaulted);
       told = told;
       idle = idle;
       later = called.later;

@@ -116,12 +116,12 @@ module _ (sizes : Sizes) (m : ReadMachine) (list : List ℕ) (base : Pass) (valu
 
 module _ (fds : List Fd) (m : ReadMachine) (list : List ℕ) (start now before new : PassState) (control next : ReadControl) (op : Op) (found : ℕ) (way : IsOnWayAt fds m list start now control) (between : IsBetweenSteps now before) (is : Postcondition before None op found new) where
   -- where it refuses nothing and takes no place, the read is on its way
-  way_on : (refusal_at control ≡ None) → (refusal_at next ≡ None) → m.place ≡ None → PlacedAt next m.place → refused_by now.view.opened.sizes (call_of m) (head_in way.called.steps) is.works op found ≡ None → place_by op found ≡ None → is_quiet (refusal_at next) op ≡ true
+  way_on : (refusal_at control ≡ None) → (refusal_at next ≡ None) → m.place ≡ None → PlacedAt next m.place → refused_by now.view.opened.sizes (call_of m) (head_in way.called.steps) is.works op found ≡ None → place_by op found ≡ None → is_quiet (call_of m) (refusal_at next) op ≡ true
       → IsUnplaced start.view new.view → ReadFactsAt new.view.opened.sizes (record m { control = next }) list way.base (values_of new.view) (pass_of new.view) next
       → IsOnWayAt fds (record m { control = next }) list start new next
   way_on none none_then unplaced placed refuses places stops told stands = record {
     called = subst (λ r. InCall fds m.fd (call_of m) r m.place m.faulted start new) (none ∙ sym none_then)
-        (quiet_after fds m.fd (call_of m) (refusal_at control) m.place m.faulted start now before new op found way.called between is refuses places (subst (λ r. is_quiet r op ≡ true) (none_then ∙ sym none) stops));
+        (quiet_after fds m.fd (call_of m) (refusal_at control) m.place m.faulted start now before new op found way.called between is refuses places (subst (λ r. is_quiet (call_of m) r op ≡ true) (none_then ∙ sym none) stops));
     base = way.base;
     stands = stands;
     placed = placed;
@@ -216,7 +216,7 @@ IsSearching fds m list base new page tries search sizes =
     (next : ReadControl) → IsAtPage sizes (record m { control = next }) list base (values_of new.view) (pass_of new.view) page (Searching page tries search) (read_owned sizes (call_of m) m.sized)
 
 module _ (fds : List Fd) (m : ReadMachine) (list : List ℕ) (start now before new : PassState) (control : ReadControl) (op : Op) (found : ℕ) (way : IsOnWayAt fds m list start now control) (between : IsBetweenSteps now before) (is : Postcondition before None op found new)
-    (none : refusal_at control ≡ None) (unplaced : m.place ≡ None) (refuses : refused_by now.view.opened.sizes (call_of m) (head_in way.called.steps) is.works op found ≡ None) (places : place_by op found ≡ None) (stops : is_quiet None op ≡ true)
+    (none : refusal_at control ≡ None) (unplaced : m.place ≡ None) (refuses : refused_by now.view.opened.sizes (call_of m) (head_in way.called.steps) is.works op found ≡ None) (places : place_by op found ≡ None) (stops : is_quiet (call_of m) None op ≡ true)
     (told : IsUnplaced start.view new.view) (page tries : ℕ) (search : Search) where
   go_again : IsSearching fds m list way.base new page tries search new.view.opened.sizes → IsTryOver (values_of new.view (PAGE page)) search → lacks_buffer (values_of new.view (PAGE page)) ≡ true
       → (more : Bool) → nat_lt tries (2 * new.view.opened.sizes.buffers) ≡ more → ReadGoes fds start (record m { control = if more then reads.TurnHand page tries else reads.LoadDirty page }) list new More

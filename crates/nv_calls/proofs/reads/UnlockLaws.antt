@@ -127,7 +127,7 @@ look_under fds m list start now control look way = way
 -- after a step that refuses nothing and takes no place the read goes on with what it has come to
 pub look_goes : (fds : List Fd) (m next : ReadMachine) (list : List ℕ) (start now before new last : PassState) (op : Op) (found : ℕ) (base : Pass)
     → (called : InCall fds m.fd (call_of m) None m.place m.faulted start now) → IsBetweenSteps now before → (is : Postcondition before None op found new) → IsAltered (λ kept. kept) new last
-    → next ≡ record m { control = next.control; copied = next.copied } → m.place ≡ None → refused_by now.view.opened.sizes (call_of m) (head_in called.steps) is.works op found ≡ None → place_by op found ≡ None → is_quiet None op ≡ true
+    → next ≡ record m { control = next.control; copied = next.copied } → m.place ≡ None → refused_by now.view.opened.sizes (call_of m) (head_in called.steps) is.works op found ≡ None → place_by op found ≡ None → is_quiet (call_of m) None op ≡ true
     → IsUnplaced start.view new.view → length list ≡ m.len → IsLook next.control → ReadFactsAt new.view.opened.sizes next list base (values_of new.view) (pass_of new.view) next.control
     → ReadGoes fds start next list last More
 look_goes fds m next list start now before new last op found base called between is same machine unplaced refuses places stops told room look stands =

@@ -23,12 +23,13 @@ use Rattle.nv_mount.specs.declared.fds.Fd.{Fd}
 use Rattle.nv_mirror.specs.declared.answers.Refusal.{Refusal}
 use Rattle.nv_mirror.specs.declared.answers.Refusal.TheVariants.{Busy, Stopped, Spent, Again, Raced}
 use Rattle.nv_mirror.specs.Answers.{IsUnplaced}
-use Rattle.nv_calls.specs.histories.OwnSteps.{is_own, AreOwn}
+use Rattle.nv_mirror.specs.OwnSteps.{is_own, AreOwn}
 use Rattle.nv_calls.specs.reads.Reads.{reading, InCall, ReadTells, is_fault}
 use Rattle.nv_mirror.specs.PassSteps.{IsBetweenSteps, either_of, refused_by, refusal_in, place_by, is_stop, if_own, busy_at, head_in}
 use Rattle.nv_core.proofs.steps.NextSteps.{steps_are_next}
 use Rattle.nv_core.specs.steps.StepKinds.{EnabledByKind}
-use Rattle.nv_calls.proofs.histories.OwnLaws.{is_quiet, quiet_own, quiet_goes_on, own_on}
+use Rattle.nv_mirror.proofs.OwnLaws.{own_on}
+use Rattle.nv_calls.proofs.histories.OwnLaws.{is_quiet, quiet_own, quiet_goes_on}
 use Rattle.nv_mirror.proofs.StepLaws.{between_self, opened_same, taken_by}
 
 -- ---- words by their places
@@ -118,7 +119,7 @@ unplaced_by start now new base call call_then control control_then owned owned_t
 pub in_call_on : (fds : List Fd) (fd : ℕ) (call : FileCall) (refusal refusal_then : Option Refusal) (at at_then : Option ℕ) (faulted faulted_then : Bool) (start now before new : PassState) (op : Op) (found : ℕ)
     → (called : InCall fds fd call refusal at faulted start now) → IsBetweenSteps now before → (is : Postcondition before None op found new)
     → either_of refusal (refused_by now.view.opened.sizes call (head_in called.steps) is.works op found) ≡ refusal_then → either_of at (place_by op found) ≡ at_then → faulted || is_stop op ≡ faulted_then → faulted_then ≡ is_fault refusal_then
-    → is_own refusal op ≡ true → InCall fds fd call refusal_then at_then faulted_then start new
+    → is_own call refusal op ≡ true → InCall fds fd call refusal_then at_then faulted_then start new
 in_call_on fds fd call refusal refusal_then at at_then faulted faulted_then start now before new op found called between is refuses places stops faults own_step = record {
   idle = called.idle;
   unbarred = called.unbarred;
@@ -183,26 +184,26 @@ no_fault sizes call head works op found goes_on = refl
 -- after some device calls
 pub quiet_after : (fds : List Fd) (fd : ℕ) (call : FileCall) (refusal : Option Refusal) (at : Option ℕ) (faulted : Bool) (start now before new : PassState) (op : Op) (found : ℕ)
     → (called : InCall fds fd call refusal at faulted start now) → IsBetweenSteps now before → (is : Postcondition before None op found new) → refused_by now.view.opened.sizes call (head_in called.steps) is.works op found ≡ None
-    → place_by op found ≡ None → is_quiet refusal op ≡ true → InCall fds fd call refusal at faulted start new
+    → place_by op found ≡ None → is_quiet call refusal op ≡ true → InCall fds fd call refusal at faulted start new
 quiet_after fds fd call refusal at faulted start now before new op found called between is refuses places quiet =
     in_call_on fds fd call refusal refusal at at faulted faulted start now before new op found called between is
-    (ap (either_of refusal) refuses ∙ either_none refusal) (ap (either_of at) places ∙ either_none at) (ap (λ b. faulted || b) (quiet_goes_on refusal op quiet) ∙ or_none faulted) called.faults (quiet_own refusal op quiet)
+    (ap (either_of refusal) refuses ∙ either_none refusal) (ap (either_of at) places ∙ either_none at) (ap (λ b. faulted || b) (quiet_goes_on call refusal op quiet) ∙ or_none faulted) called.faults (quiet_own call refusal op quiet)
 
 -- after none
 pub quiet_on : (fds : List Fd) (fd : ℕ) (call : FileCall) (refusal : Option Refusal) (at : Option ℕ) (faulted : Bool) (start now new : PassState) (op : Op) (found : ℕ)
     → (called : InCall fds fd call refusal at faulted start now) → (is : Postcondition now None op found new) → refused_by now.view.opened.sizes call (head_in called.steps) is.works op found ≡ None → place_by op found ≡ None
-    → is_quiet refusal op ≡ true → InCall fds fd call refusal at faulted start new
+    → is_quiet call refusal op ≡ true → InCall fds fd call refusal at faulted start new
 quiet_on fds fd call refusal at faulted start now new op found called is refuses places quiet =
     quiet_after fds fd call refusal at faulted start now now new op found called (between_self now) is refuses places quiet
 
 pub refusing_on : (fds : List Fd) (fd : ℕ) (call : FileCall) (refusal : Refusal) (at : Option ℕ) (faulted : Bool) (start now new : PassState) (op : Op) (found : ℕ)
     → (called : InCall fds fd call None at faulted start now) → (is : Postcondition now None op found new) → refused_by now.view.opened.sizes call (head_in called.steps) is.works op found ≡ Some refusal → place_by op found ≡ None
-    → is_quiet None op ≡ true → InCall fds fd call (Some refusal) at faulted start new
+    → is_quiet call None op ≡ true → InCall fds fd call (Some refusal) at faulted start new
 refusing_on fds fd call refusal at faulted start now new op found called is refuses places quiet =
-    let stops = quiet_goes_on None op quiet in
+    let stops = quiet_goes_on call None op quiet in
     in_call_on fds fd call None (Some refusal) at at faulted faulted start now now new op found called (between_self now) is
     refuses (ap (either_of at) places ∙ either_none at) (ap (λ b. faulted || b) stops ∙ or_none faulted)
-    (called.faults ∙ sym (ap is_fault (sym refuses) ∙ no_fault now.view.opened.sizes call (head_in called.steps) is.works op found stops)) (quiet_own None op quiet)
+    (called.faults ∙ sym (ap is_fault (sym refuses) ∙ no_fault now.view.opened.sizes call (head_in called.steps) is.works op found stops)) (quiet_own call None op quiet)
 
 -- ---- what a read tells before its place
 

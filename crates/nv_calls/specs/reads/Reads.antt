@@ -31,7 +31,7 @@ use Rattle.nv_calls.specs.declared.reading.ReadControl.TheVariants as reads
 use Rattle.nv_mirror.specs.Answers.{IsUnplaced, IsReadPlaced}
 use Rattle.nv_calls.specs.reads.EarlyRefusals.{early_refusal}
 use Rattle.nv_calls.specs.fsync.SyncRuns.{file_of_fd}
-use Rattle.nv_calls.specs.histories.OwnSteps.{AreOwn, ArePassing}
+use Rattle.nv_mirror.specs.OwnSteps.{AreOwn, ArePassing}
 use Rattle.nv_mirror.specs.PassSteps.{PassStep, HasMade, refusal_in, place_in, stops_in}
 use Rattle.nv_mirror.specs.OwnedCells.{pages_from, with_if}
 

@@ -1,0 +1,69 @@
+-- Own steps: the steps of one call, among which there is no other call's and no batch's.
+use Rattle.std.specs.Prelude.{◌≡◌, Bool, true, false, List, [], ◌∷◌, Option, Some, None}
+use Rattle.nv_plain.specs.declared.call.FileCall.{FileCall}
+use Rattle.nv_plain.specs.declared.call.FileCall.TheVariants.{Read, Write}
+use Rattle.nv_core.specs.state.Words.{Sizes}
+use Rattle.nv_core.specs.steps.Ops.{Op, Load, Take, Give, Place, Stop, Draw, Seize, Pledge, Ready, Grow, Break, Hold, Return, Turn, Hint}
+use Rattle.nv_mirror.specs.declared.answers.Refusal.{Refusal}
+use Rattle.nv_mirror.specs.declared.answers.Refusal.TheVariants.{RegionFault}
+use Rattle.nv_mirror.specs.PassSteps.{PassStep, refusal_in}
+
+-- A step changes nothing of the mount that stays so when its call holds nothing, but HAND, a hint, and which pages are buffered: it loads a word,
+-- takes a lock or gives one back, holds an entry or returns it, turns HAND, or sets a hint.
+abbrev pub is_passing : Op → Bool
+is_passing (Load word) = true
+is_passing (Take cell) = true
+is_passing (Give cell) = true
+is_passing (Hold number) = true
+is_passing (Return number) = true
+is_passing (Turn page) = true
+is_passing (Hint buffer page) = true
+is_passing op = false
+
+-- A step may come in a call: it loads a word, takes a lock or gives one back, takes the call's place, or sets STOP; in a read it also holds an entry or
+-- returns it, turns HAND, or sets a hint; in a write it draws numbers, seizes an entry, pledges a page, makes an entry ready, or makes the file longer.
+abbrev pub goes_on : FileCall → Op → Bool
+goes_on call (Load word) = true
+goes_on call (Take cell) = true
+goes_on call (Give cell) = true
+goes_on call (Place reply) = true
+goes_on call Stop = true
+goes_on (Read file at len) (Hold number) = true
+goes_on (Read file at len) (Return number) = true
+goes_on (Read file at len) (Turn page) = true
+goes_on (Read file at len) (Hint buffer page) = true
+goes_on (Write file at bytes) Draw = true
+goes_on (Write file at bytes) (Seize number) = true
+goes_on (Write file at bytes) (Pledge page) = true
+goes_on (Write file at bytes) (Ready number) = true
+goes_on (Write file at bytes) Grow = true
+goes_on call op = false
+
+-- And in one that is refused: it gives a lock back; where an entry's part has failed a read returns the entry that it held, and a write breaks its own.
+abbrev pub gives_back : FileCall → Refusal → Op → Bool
+gives_back call refusal (Give cell) = true
+gives_back (Read file at len) RegionFault (Return number) = true
+gives_back (Write file at bytes) RegionFault (Break number) = true
+gives_back call refusal op = false
+
+-- a step may come in a call that was refused so by its earlier ones, or for nothing yet
+abbrev pub is_own : FileCall → Option Refusal → Op → Bool
+is_own call None op = goes_on call op
+is_own call (Some refusal) op = gives_back call refusal op
+
+-- They are those of a call, the last of them first: the first one begins it, and no other begins any.
+abbrev pub AreOwn : Sizes → FileCall → List PassStep → Type 0
+AreOwn sizes call [] = ⊥
+AreOwn sizes call (step ∷ []) = (step.opens ≡ Some call) × (is_own call None step.op ≡ true)
+AreOwn sizes call (step ∷ (other ∷ earlier)) =
+    (step.opens ≡ None) × (is_own call (refusal_in sizes call (other ∷ earlier)) step.op ≡ true) × AreOwn sizes call (other ∷ earlier)
+
+-- so they are so far, where the next step begins the call, or it has begun
+abbrev pub AreOwnSoFar : (opens : Option FileCall) → Sizes → FileCall → List PassStep → Type 0
+AreOwnSoFar (Some begun) sizes call steps = (begun ≡ call) × (steps ≡ [])
+AreOwnSoFar None sizes call steps = AreOwn sizes call steps
+
+-- each of them changes nothing that stays
+abbrev pub ArePassing : List PassStep → Type 0
+ArePassing [] = Unit {0}
+ArePassing (step ∷ earlier) = (is_passing step.op ≡ true) × ArePassing earlier
