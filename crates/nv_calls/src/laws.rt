@@ -1,13 +1,33 @@
 //! Laws of calls that are over.
+ghost use Rattle.nv_calls.specs.histories.Complete.{ReadsAreComplete, SyncsAreComplete};
 ghost use Rattle.nv_calls.specs.histories.Heeds.{ReadsHeedStop, SyncsHeedStop};
+ghost use Rattle.nv_calls.specs.writes.WriteLaws.{RefusedWritesLeaveWords, WritesAreComplete, WritesHeedStop};
 
-use nv_core::runs_are_sound;
+use nv_core::{passes_are_left_alone, runs_are_sound};
 
 /// What the last advance of a call tells says too that the call heeds STOP: a pass that has seen it as set, or was answered that it is, or with a
 /// device fault, is answered that the mount is stopped by each later call that comes to its load of STOP.
 pub fn ended_calls_heed_stop()
     ensures reads { ReadsHeedStop }
+    ensures writes { WritesHeedStop }
     ensures syncs { SyncsHeedStop }
 {
     runs_are_sound();
+    passes_are_left_alone();
 }
+
+/// A write that is refused, and for no device fault, has changed no word of the mount but locks, and gave back each lock that it took.
+pub fn refused_writes_leave_words()
+    ensures { RefusedWritesLeaveWords }
+{
+    runs_are_sound();
+    passes_are_left_alone();
+}
+
+/// A call that isn't refused by what it asks for is done, where each lock that it takes is free, STOP is 0, no number is used up, the log has room for a write's
+/// entries, no other write draws between, and no device fails.
+pub fn calls_are_complete()
+    ensures reads { ReadsAreComplete }
+    ensures writes { WritesAreComplete }
+    ensures syncs { SyncsAreComplete }
+{}

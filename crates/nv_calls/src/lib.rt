@@ -18,7 +18,7 @@ mod sync;
 mod write;
 
 pub use alone::a_read_alone_is_not_busy;
-pub use laws::ended_calls_heed_stop;
+pub use laws::{calls_are_complete, ended_calls_heed_stop, refused_writes_leave_words};
 pub use machine::{Progress, SyncControl, SyncMachine};
 pub use nv_mirror::{Done, Refusal};
 pub use nv_op::Kind;

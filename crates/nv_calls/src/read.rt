@@ -5,6 +5,7 @@ ghost use Rattle.nv_table.specs.state.States.{IsOf, PassState};
 ghost use Rattle.nv_calls.specs.reads.Advances.{IsAdvance, IsOneOrNone, IsSameRead};
 ghost use Rattle.nv_mirror.specs.Answers.{IsReadPlaced, IsUnplaced};
 ghost use Rattle.nv_calls.specs.fsync.SyncRuns.{file_of_fd};
+ghost use Rattle.nv_calls.specs.histories.Complete.{IsCompleteRead};
 ghost use Rattle.nv_calls.specs.histories.Heeds.{HeedsStop};
 ghost use Rattle.nv_calls.specs.reads.PastSearch.{IsPastSearch};
 ghost use Rattle.nv_calls.specs.reads.Measures.{IsLess};
@@ -12,7 +13,7 @@ ghost use Rattle.nv_calls.specs.reads.Reads.{IsOnWay, IsReadOver, IsReadUnderWay
 ghost use Rattle.nv_calls.specs.histories.Tries.{IsTried};
 ghost use Rattle.nv_mirror.specs.declared.answers.Refusal.TheVariants.{Busy};
 
-use crate::{Progress, ReadControl, ReadMachine, ended_calls_heed_stop};
+use crate::{Progress, ReadControl, ReadMachine, calls_are_complete, ended_calls_heed_stop};
 use nv_mirror::{Done, Refusal};
 use nv_mount::Mount;
 use nv_pmem::Lines;
@@ -138,8 +139,10 @@ pub fn try_pread<L: Lines + Drop, B: Backing + Drop>(
     ensures kept { OnErr result (IsUnplaced pass.old.view pass.new.view) }
     ensures over { IsReadOver mount.now.fds fd at buf.new pass.old pass.new result }
     ensures stop { HeedsStop pass.old pass.new result }
+    ensures complete { IsCompleteRead mount.now.fds fd at buf.new pass.old pass.new result }
 {
     ended_calls_heed_stop();
+    calls_are_complete();
     pass.sees_a_run();
     let mut machine = ReadMachine::new(fd, at, buf.len() as u64);
     loop {

@@ -5,9 +5,10 @@ ghost use Rattle.nv_table.specs.invariant.Idle.{IsIdle, IsLater};
 ghost use Rattle.nv_table.specs.state.States.{IsOf};
 ghost use Rattle.nv_mirror.specs.Answers.{IsSyncPlaced, IsUnplaced};
 ghost use Rattle.nv_calls.specs.fsync.SyncRuns.{IsSyncRun, file_of_fd};
+ghost use Rattle.nv_calls.specs.histories.Complete.{IsCompleteSync};
 ghost use Rattle.nv_calls.specs.histories.Heeds.{SyncHeedsStop};
 
-use crate::ended_calls_heed_stop;
+use crate::{calls_are_complete, ended_calls_heed_stop};
 use nv_mirror::{Done, Refusal};
 use nv_mount::Mount;
 use nv_pmem::Lines;
@@ -66,8 +67,10 @@ pub fn try_fsync<L: Lines + Drop, B: Backing + Drop>(
     ensures kept { OnErr result (IsUnplaced pass.old.view pass.new.view) }
     ensures sync_run { IsSyncRun (file_of_fd mount.now.fds fd) pass.old pass.new result }
     ensures stop { SyncHeedsStop mount.now.fds fd pass.old pass.new result }
+    ensures complete { IsCompleteSync mount.now.fds fd pass.old pass.new result }
 {
     ended_calls_heed_stop();
+    calls_are_complete();
     pass.sees_a_run();
     match mount.fds().get(fd) {
         Some(open) => sync_by::<Brand, L, B>(mount.board(), pass, open.file),

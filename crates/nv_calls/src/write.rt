@@ -6,9 +6,13 @@ ghost use Rattle.nv_table.specs.state.States.{IsOf};
 ghost use Rattle.nv_table.specs.state.Workspaces.{IsWorkspace};
 ghost use Rattle.nv_mirror.specs.Answers.{IsUnplaced};
 ghost use Rattle.nv_calls.specs.fsync.SyncRuns.{file_of_fd};
+ghost use Rattle.nv_calls.specs.histories.Heeds.{HeedsStop};
+ghost use Rattle.nv_calls.specs.histories.Unmoved.{LeavesWords};
+ghost use Rattle.nv_calls.specs.writes.WriteLaws.{IsCompleteWrite};
 ghost use Rattle.nv_calls.specs.writes.Writes.{Admits, IsWriteOver, IsWritePlaced, IsWriteTried, ends_to_be_made_again};
 
 use crate::range::check_range;
+use crate::{calls_are_complete, ended_calls_heed_stop, refused_writes_leave_words};
 use nv_mirror::{Done, Refusal, RunningWrite};
 use nv_mount::Mount;
 use nv_op::Asked;
@@ -43,7 +47,8 @@ fn admit<L: Lines + Drop, B: Backing + Drop>(
 /// what it asks for before any step: a descriptor that isn't there or may not be written, an end past the last page of a file, more pages than 16 or than
 /// the log has entries; then where a lock was found held, where STOP was found set, where ORDER was found used up or HEAD leaves too few numbers, where the
 /// log has no room for its entries until some are cleaned, where another write drew its numbers, and after a device fault. A refused call has no place, and
-/// its pass holds nothing. Takes no memory, and waits for nobody: the parts of its entries lie on the pass's workspace while they are
+/// its pass holds nothing; but for a device fault it has changed no word of the mount but locks, which it gave back. One that finds its locks free, STOP at 0,
+/// numbers and room in the log, HEAD as it loaded it and no device that fails is done. Takes no memory, and waits for nobody: the parts of its entries lie on the pass's workspace while they are
 /// written, on which no part lies else.
 pub fn try_pwrite<L: Lines + Drop, B: Backing + Drop>(
     mount: &Mount<L, B>,
@@ -64,9 +69,16 @@ pub fn try_pwrite<L: Lines + Drop, B: Backing + Drop>(
     ensures done { IfOk result (λ done. (file : ℕ) × (file_of_fd mount.now.fds fd ≡ Some file) × IsWritePlaced file at bytes.now pass.old.view pass.new.view done) }
     ensures kept { OnErr result (IsUnplaced pass.old.view pass.new.view) }
     ensures over { IsWriteOver mount.now.fds fd at bytes.now pass.old pass.new result }
+    ensures left { LeavesWords pass.old pass.new result }
+    ensures stop { HeedsStop pass.old pass.new result }
+    ensures complete { IsCompleteWrite mount.now.fds fd at bytes.now pass.old pass.new result }
     ensures workspace { IsWorkspace mount.now.board.opened.sizes workspace.new }
     ensures bare { workspace.new.parts.items ≡ [] }
 {
+    ended_calls_heed_stop();
+    refused_writes_leave_words();
+    calls_are_complete();
+    pass.sees_a_run();
     let board = mount.board();
     let layout = board.layout();
     let file = admit(mount, layout, fd, at, bytes)?;

@@ -22,22 +22,22 @@ is_passing op = false
 
 -- A step may come in a call: it loads a word, takes a lock or gives one back, takes the call's place, or sets STOP; in a read it also holds an entry or
 -- returns it, turns HAND, or sets a hint; in a write it draws numbers, seizes an entry, pledges a page, makes an entry ready, or makes the file longer.
-abbrev pub goes_on : FileCall → Op → Bool
-goes_on call (Load word) = true
-goes_on call (Take cell) = true
-goes_on call (Give cell) = true
-goes_on call (Place reply) = true
-goes_on call Stop = true
-goes_on (Read file at len) (Hold number) = true
-goes_on (Read file at len) (Return number) = true
-goes_on (Read file at len) (Turn page) = true
-goes_on (Read file at len) (Hint buffer page) = true
-goes_on (Write file at bytes) Draw = true
-goes_on (Write file at bytes) (Seize number) = true
-goes_on (Write file at bytes) (Pledge page) = true
-goes_on (Write file at bytes) (Ready number) = true
-goes_on (Write file at bytes) Grow = true
-goes_on call op = false
+abbrev pub may_come_in : FileCall → Op → Bool
+may_come_in call (Load word) = true
+may_come_in call (Take cell) = true
+may_come_in call (Give cell) = true
+may_come_in call (Place reply) = true
+may_come_in call Stop = true
+may_come_in (Read file at len) (Hold number) = true
+may_come_in (Read file at len) (Return number) = true
+may_come_in (Read file at len) (Turn page) = true
+may_come_in (Read file at len) (Hint buffer page) = true
+may_come_in (Write file at bytes) Draw = true
+may_come_in (Write file at bytes) (Seize number) = true
+may_come_in (Write file at bytes) (Pledge page) = true
+may_come_in (Write file at bytes) (Ready number) = true
+may_come_in (Write file at bytes) Grow = true
+may_come_in call op = false
 
 -- And in one that is refused: it gives a lock back; where an entry's part has failed a read returns the entry that it held, and a write breaks its own.
 abbrev pub gives_back : FileCall → Refusal → Op → Bool
@@ -48,7 +48,7 @@ gives_back call refusal op = false
 
 -- a step may come in a call that was refused so by its earlier ones, or for nothing yet
 abbrev pub is_own : FileCall → Option Refusal → Op → Bool
-is_own call None op = goes_on call op
+is_own call None op = may_come_in call op
 is_own call (Some refusal) op = gives_back call refusal op
 
 -- They are those of a call, the last of them first: the first one begins it, and no other begins any.

@@ -34,8 +34,8 @@ use Rattle.nv_calls.specs.reads.EarlyRefusals.{early_range_refusal, early_fd_ref
 use Rattle.nv_calls.specs.fsync.SyncRuns.{file_of_fd, IsSyncRun}
 use Rattle.nv_calls.specs.histories.Heeds.{HasSeenStop, HeedsStop, is_stop_load, loads_stop, tells_stop, ReadsHeedStop, SyncsHeedStop}
 use Rattle.nv_mirror.specs.OwnSteps.{is_own, gives_back, AreOwn}
-use Rattle.nv_calls.specs.reads.Reads.{refusal_of, IsOverBy}
-use Rattle.nv_mirror.specs.PassSteps.{PassStep, HasTaken, HasMade, IsBetweenSteps, either_of, refused_by, refusal_in, if_own, busy_at, head_in}
+use Rattle.nv_calls.specs.reads.Reads.{refusal_of, is_fault, IsOverBy}
+use Rattle.nv_mirror.specs.PassSteps.{PassStep, HasTaken, HasMade, stops_in, IsBetweenSteps, either_of, refused_by, refusal_in, if_own, busy_at, head_in}
 
 -- ---- one step
 
@@ -151,7 +151,7 @@ refusal_tells (Some RegionFault) = true
 refusal_tells (Some StoreFault) = true
 refusal_tells refusal = false
 
-pub answer_tells : (result : Result Done Refusal) → tells_stop result ≡ refusal_tells (refusal_of result)
+answer_tells : (result : Result Done Refusal) → tells_stop result ≡ refusal_tells (refusal_of result)
 answer_tells (Err Stopped) = refl
 answer_tells (Err RegionFault) = refl
 answer_tells (Err StoreFault) = refl
@@ -166,7 +166,7 @@ tells_set true one tells = absurd (cc)
 tells_set false one tells = refl
 
 -- a step that refuses its call for STOP, or a device fault, has seen it or set it
-pub never : (b : Bool) → b ≡ false → b ≡ true → ⊥
+never : (b : Bool) → b ≡ false → b ≡ true → ⊥
 never b off is = cc
 
 refuses_seeing : (sizes : Sizes) (call : FileCall) (head : ℕ) (works : List Work) (pass : Pass) (op : Op) (found : ℕ) → refusal_tells (refused_by sizes call head works op found) ≡ true → stopped_after pass op found ≡ true
@@ -214,30 +214,44 @@ fd_tells : (sizes : Sizes) (fd : Option Fd) (at len : ℕ) → refusal_tells (ea
 fd_tells sizes None at len = refl
 fd_tells sizes (Some one) at len = tells_neither (can_read one.mode) (early_range_refusal sizes at len) (Some BadFd) (range_tells sizes at len) refl
 
-pub stopped_is : (result : Result Done Refusal) → refusal_of result ≡ Some Stopped → result ≡ Err Stopped
+stopped_is : (result : Result Done Refusal) → refusal_of result ≡ Some Stopped → result ≡ Err Stopped
 stopped_is (Ok done) is = absurd (cc)
 stopped_is (Err refusal) is = let same : refusal ≡ Stopped = cc in ap Err same
 
+-- a refusal that tells nothing of STOP is no device fault
+untold_mild : (refusal : Option Refusal) → refusal_tells refusal ≡ false → is_fault refusal ≡ false
+untold_mild (Some RegionFault) silent = absurd (cc)
+untold_mild (Some StoreFault) silent = absurd (cc)
+untold_mild refusal silent = refl
+
+-- a call that is refused by what it asks for, and one that is over by its steps
+pub refused_heeds : (refusal : Refusal) (start now : PassState) (result : Result Done Refusal) → refusal_tells (Some refusal) ≡ false → result ≡ Err refusal → now ≡ start → HeedsStop start now result
+refused_heeds refusal start now result silent is same = record {
+  steps = [];
+  made = same;
+  stays = λ seen. subst (λ (p : PassState). HasSeenStop p) (sym same) seen;
+  told = λ tells. absurd (never (tells_stop result) (ap tells_stop is ∙ answer_tells (Err refusal) ∙ silent) tells);
+  heeds = λ seen loads. cc;
+  sets = sym (ap (λ r. is_fault (refusal_of r)) is ∙ untold_mild (Some refusal) silent);
+}
+
+pub made_heeds : RunsAreSound → (call : FileCall) (steps : List PassStep) (start now : PassState) (result : Result Done Refusal) → IsMount (mount_of start.view.opened) → HasMade steps start now → AreOwn start.view.opened.sizes call steps
+    → refusal_in start.view.opened.sizes call steps ≡ refusal_of result → stops_in steps ≡ is_fault (refusal_of result) → HeedsStop start now result
+made_heeds sound call steps start now result mount made own refused set = record {
+  steps = steps;
+  made = made;
+  stays = made_stays steps start now made;
+  told = answer_seen start.view.opened.sizes call steps start now result made refused;
+  heeds = λ seen loads. stopped_is result (sym refused ∙ comes_to_stop sound start.view.opened.sizes call start mount seen steps now made own loads);
+  sets = set;
+}
+
 over_by_heeds : RunsAreSound → (by : Option Refusal) (fds : List Fd) (fd at : ℕ) (list : List ℕ) (start now : PassState) (result : Result Done Refusal) → refusal_tells by ≡ false → IsMount (mount_of start.view.opened)
     → IsOverBy by fds fd at list start now result → HeedsStop start now result
-over_by_heeds sound (Some refusal) fds fd at list start now result silent mount over = record {
-  steps = [];
-  made = over.1;
-  stays = λ seen. subst (λ (p : PassState). HasSeenStop p) (sym over.1) seen;
-  told = λ tells. absurd (never (tells_stop result) (ap tells_stop over.0 ∙ answer_tells (Err refusal) ∙ silent) tells);
-  heeds = λ seen loads. cc;
-}
+over_by_heeds sound (Some refusal) fds fd at list start now result silent mount over = refused_heeds refusal start now result silent over.0 over.1
 over_by_heeds sound None fds fd at list start now result silent mount over =
-    let sizes = start.view.opened.sizes in
-    let call = Read over.0 at (length list) in
     let ended = over.2 in
-    record {
-      steps = ended.steps;
-      made = ended.made;
-      stays = made_stays ended.steps start now ended.made;
-      told = answer_seen sizes call ended.steps start now result ended.made ended.refused;
-      heeds = λ seen loads. stopped_is result (sym ended.refused ∙ comes_to_stop sound sizes call start mount seen ended.steps now ended.made ended.own loads);
-    }
+    made_heeds sound (Read over.0 at (length list)) ended.steps start now result mount ended.made ended.own ended.refused ended.stopped
 
 pub reads_heed_stop : RunsAreSound → ReadsHeedStop
 reads_heed_stop sound fds fd at list start now result mount over =

@@ -11,8 +11,8 @@ use Rattle.nv_mirror.specs.declared.answers.Done.{Done}
 use Rattle.nv_mirror.specs.declared.answers.Refusal.{Refusal}
 use Rattle.nv_mirror.specs.declared.answers.Refusal.TheVariants.{Stopped, RegionFault, StoreFault}
 use Rattle.nv_calls.specs.fsync.SyncRuns.{file_of_fd, IsSyncRun}
-use Rattle.nv_calls.specs.reads.Reads.{IsReadOver}
-use Rattle.nv_mirror.specs.PassSteps.{PassStep, HasMade}
+use Rattle.nv_calls.specs.reads.Reads.{IsReadOver, is_fault, refusal_of}
+use Rattle.nv_mirror.specs.PassSteps.{PassStep, HasMade, stops_in}
 
 -- it has seen STOP as 1, or set it
 abbrev pub HasSeenStop : PassState → Type 0
@@ -36,13 +36,14 @@ tells_stop (Err StoreFault) = true
 tells_stop result = false
 
 -- A call of a pass by which it goes on: one that had seen STOP still has; so has one that is told of it; and a call of one that had is answered that the
--- mount is stopped, where it comes to its load of STOP.
+-- mount is stopped, where it comes to its load of STOP. One of its steps sets STOP exactly where it is answered that a device has failed.
 pub record HeedsStop (start now : PassState) (result : Result Done Refusal) : Type 0 where
   pub steps : List PassStep
   pub made : HasMade steps start now
   pub stays : HasSeenStop start → HasSeenStop now
   pub told : tells_stop result ≡ true → HasSeenStop now
   pub heeds : HasSeenStop start → loads_stop steps ≡ true → result ≡ Err Stopped
+  pub sets : stops_in steps ≡ is_fault (refusal_of result)
 
 -- So an fsync, which comes to that load with its first step.
 pub record SyncHeedsStop (fds : List Fd) (fd : ℕ) (start now : PassState) (result : Result Done Refusal) : Type 0 where

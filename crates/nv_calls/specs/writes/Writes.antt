@@ -15,6 +15,8 @@ use Rattle.nv_mirror.specs.declared.answers.Refusal.TheVariants.{BadFd, Busy, Ra
 use Rattle.nv_mirror.specs.Answers.{IsPlacedAs}
 use Rattle.nv_mirror.specs.Controls.{IsOver}
 use Rattle.nv_calls.specs.fsync.SyncRuns.{file_of_fd}
+use Rattle.nv_calls.specs.histories.Heeds.{HasSeenStop, HeedsStop}
+use Rattle.nv_calls.specs.histories.Unmoved.{LeavesWords}
 use Rattle.nv_calls.specs.reads.EarlyRefusals.{early_range_refusal}
 use Rattle.nv_calls.specs.reads.Reads.{refusal_of, place_of_result}
 
@@ -66,10 +68,14 @@ abbrev pub WereMadeAgain : List Fd → (fd at : ℕ) → List ℕ → List Refus
 WereMadeAgain fds fd at bytes [] start now = now ≡ start
 WereMadeAgain fds fd at bytes (last ∷ earlier) start now =
     (middle : PassState) × WereMadeAgain fds fd at bytes earlier start middle × (is_made_again last ≡ true) × IsWriteOver fds fd at bytes middle now (Err last)
+    × LeavesWords middle now (Err last)
 
--- After some that were, one more write came, which was answered so.
+-- After some that were, each of which left words as they were but those of locks, one more write came, which was answered so; and the pass kept what it had seen of STOP.
 pub record IsWriteTried (fds : List Fd) (fd at : ℕ) (bytes : List ℕ) (start now : PassState) (result : Result Done Refusal) : Type 0 where
   pub tries : List Refusal
   pub last : PassState
   pub again : WereMadeAgain fds fd at bytes tries start last
   pub over : IsWriteOver fds fd at bytes last now result
+  pub left : LeavesWords last now result
+  pub stays : HasSeenStop start → HasSeenStop last
+  pub heeds : HeedsStop last now result

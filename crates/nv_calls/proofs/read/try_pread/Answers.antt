@@ -16,6 +16,10 @@ pub returns-in-Ended-clause-stop : goal.returns-in-Ended-clause-stop
 returns-in-Ended-clause-stop g c =
     c.ended_calls_heed_stop.ensures.reads c.args.mount.now.fds c.args.fd c.args.at c.advance.new.list c.args.pass.now c.advance.new.pass c.in-Ended.result c.sees_a_run.ensures.mount (returns-in-Ended-clause-over g c)
 
+pub returns-in-Ended-clause-complete : goal.returns-in-Ended-clause-complete
+returns-in-Ended-clause-complete g c =
+    c.calls_are_complete.ensures.reads c.args.mount.now.fds c.args.fd c.args.at c.advance.new.list c.args.pass.now c.advance.new.pass c.in-Ended.result (returns-in-Ended-clause-over g c)
+
 pub returns-in-Ended-clause-idle : goal.returns-in-Ended-clause-idle
 returns-in-Ended-clause-idle g c =
     (over_told c.args.mount.now.fds c.advance.new.self.fd c.advance.new.self.at c.advance.new.list c.args.pass.now c.advance.new.pass c.in-Ended.result c.requires.idle

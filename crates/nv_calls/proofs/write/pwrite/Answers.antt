@@ -5,6 +5,7 @@ use Rattle.nv_table.proofs.steps.CallLaws.{later_on}
 use Rattle.nv_mirror.specs.declared.answers.Done.{Done}
 use Rattle.nv_mirror.specs.declared.answers.Refusal.{Refusal}
 use Rattle.nv_mirror.specs.Answers.{IsUnplaced}
+use Rattle.nv_calls.specs.histories.Unmoved.{LeavesWords}
 use Rattle.nv_calls.specs.writes.Writes.{IsWriteOver, ends_to_be_made_again, is_made_again}
 use Rattle.nv_calls.proofs.histories.OverLaws.{write_ok_since}
 use Rattle.nv_calls.proofs.write.pwrite.Goals as goal
@@ -29,13 +30,19 @@ loop-preserved g c =
       unplaced = record { seen = kept.seen ∙ c.loop.invariant.unplaced.seen; mine = kept.mine ∙ c.loop.invariant.unplaced.mine };
       again = (
         again.0 ∷ c.loop.invariant.again.0,
-        (old, c.loop.invariant.again.1, again.2, subst (IsWriteOver c.args.mount.now.fds c.args.fd c.args.at c.args.bytes.now old new) again.1 ensures.over),
+        (old, c.loop.invariant.again.1, again.2, subst (IsWriteOver c.args.mount.now.fds c.args.fd c.args.at c.args.bytes.now old new) again.1 ensures.over, subst (LeavesWords old new) again.1 ensures.left),
       );
+      stays = λ seen. ensures.stop.stays (c.loop.invariant.stays seen);
       workspace = ensures.workspace;
       bare = ensures.bare;
       next = tt;
       finite = tt;
     }
+
+pub returns-then-not-is_made_again-clause-tried : goal.returns-then-not-is_made_again-clause-tried
+returns-then-not-is_made_again-clause-tried g c =
+    let ensures = c.try_pwrite-result.ensures in
+    record { tries = c.loop.invariant.again.0; last = c.loop.pass; again = c.loop.invariant.again.1; over = ensures.over; left = ensures.left; stays = c.loop.invariant.stays; heeds = ensures.stop }
 
 pub returns-then-not-is_made_again-clause-done : goal.returns-then-not-is_made_again-clause-done
 returns-then-not-is_made_again-clause-done g c =

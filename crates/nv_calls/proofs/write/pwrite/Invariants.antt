@@ -5,6 +5,7 @@ use Rattle.nv_table.specs.state.States.{IsOf}
 use Rattle.nv_table.specs.state.Workspaces.{IsWorkspace}
 use Rattle.nv_mirror.specs.declared.answers.Refusal.{Refusal}
 use Rattle.nv_mirror.specs.Answers.{IsUnplaced}
+use Rattle.nv_calls.specs.histories.Heeds.{HasSeenStop}
 use Rattle.nv_calls.specs.writes.Writes.{WereMadeAgain}
 use Rattle.nv_calls.proofs.write.pwrite.Given as goal
 
@@ -16,6 +17,7 @@ invariant-loop g l = record {
   spare : l.pass.spare ≡ l.initial.pass.spare;
   unplaced : IsUnplaced l.initial.pass.view l.pass.view;
   again : (tries : List Refusal) × WereMadeAgain l.mount.fds l.fd l.at l.bytes tries l.initial.pass l.pass;
+  stays : HasSeenStop l.initial.pass → HasSeenStop l.pass;
   workspace : IsWorkspace l.mount.board.opened.sizes l.workspace;
   bare : l.workspace.parts.items ≡ [];
   next : (goal.iterator-loop g).can_next l.iterator';

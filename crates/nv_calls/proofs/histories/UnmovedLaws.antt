@@ -1,0 +1,73 @@
+-- Unmoved: a refused write changes no word but locks, and gives these back.
+use Rattle.std.proofs.Common.{◌≡◌, ℕ, ◌==◌, Bool, true, false, if◌then◌else◌, List, [], ◌∷◌, length, refl, sym, ap, ◌∙◌}
+use Rattle.std.specs.Prelude.{Option, Some, None, Result, Ok, Err}
+use Rattle.nv_plain.specs.declared.call.FileCall.{FileCall}
+use Rattle.nv_core.specs.invariant.InvariantLaws.{RunsAreSound}
+use Rattle.nv_core.specs.state.Passes.{Pass}
+use Rattle.nv_core.specs.state.Words.{Sizes, Word}
+use Rattle.nv_core.specs.steps.Frames.{OwnEventsTell}
+use Rattle.nv_core.specs.steps.Opening.{IsMount}
+use Rattle.nv_core.specs.steps.Ops.{Op, Load, Take, Give, Draw, Comes, Stays, moved, move_of}
+use Rattle.nv_table.specs.invariant.Idle.{IsIdle}
+use Rattle.nv_table.specs.state.Opened.{mount_of}
+use Rattle.nv_table.specs.state.States.{PassState}
+use Rattle.nv_table.specs.state.Views.{PassView, pass_of}
+use Rattle.nv_table.specs.steps.SeatSteps.{pass_before, pass_worked, with_call}
+use Rattle.nv_table.proofs.invariant.DrawnLaws.{calls_leave}
+use Rattle.nv_mount.specs.declared.fds.Fd.{Fd}
+use Rattle.nv_mirror.specs.declared.answers.Done.{Done}
+use Rattle.nv_mirror.specs.declared.answers.Refusal.{Refusal}
+use Rattle.nv_mirror.specs.PassSteps.{PassStep, HasMade, head_in}
+use Rattle.nv_calls.specs.histories.Unmoved.{AreLocking, LeavesWords, held_after, held_by, is_locking}
+use Rattle.nv_calls.specs.writes.Writes.{IsOverBy, early_refusal}
+use Rattle.nv_calls.specs.writes.WriteLaws.{RefusedWritesLeaveWords}
+use Rattle.nv_calls.proofs.histories.WriteStages.{locking}
+
+-- ---- what the steps hold
+
+taken_so : (b : Bool) (cell : Word) (held : List Word) → moved (if b then Comes cell else Stays) held ≡ (if b then cell ∷ held else held)
+taken_so true cell held = refl
+taken_so false cell held = refl
+
+moved_so : (sizes : Sizes) (op : Op) (head found : ℕ) (held : List Word) → is_locking head op found ≡ true → moved (move_of sizes op found) held ≡ held_after op found held
+moved_so sizes (Load word) head found held moves = refl
+moved_so sizes (Take cell) head found held moves = taken_so (found == 0) cell held
+moved_so sizes (Give cell) head found held moves = refl
+moved_so sizes Draw head found held moves = refl
+moved_so sizes op head found held moves = absurd (cc)
+
+with_owned : (sizes : Sizes) (opens : Option FileCall) (pass : Pass) → (with_call sizes opens pass).owned ≡ pass.owned
+with_owned sizes None pass = refl
+with_owned sizes (Some one) pass = refl
+
+held_so : (steps : List PassStep) (start now : PassState) → HasMade steps start now → AreLocking steps → (pass_of start.view).owned ≡ [] → (pass_of now.view).owned ≡ held_by steps
+held_so [] start now all moves none = ap (λ (p : PassState). (pass_of p.view).owned) all ∙ none
+held_so (step ∷ earlier) start now all moves none =
+    let is = all.2.stepped in
+    let old = all.2.before.view in
+    ap (λ (p : Pass). p.owned) is.pass
+    ∙ moved_so old.opened.sizes step.op (head_in earlier) step.found (pass_before old step.opens is.works).owned moves.0
+    ∙ ap (held_after step.op step.found)
+    (with_owned old.opened.sizes step.opens (pass_worked old.opened.sizes is.works (pass_of old))
+    ∙ calls_leave (λ (p : Pass). p.owned) (λ sizes work p. refl) old.opened.sizes is.works (pass_of old)
+    ∙ ap (λ (v : PassView). (pass_of v).owned) all.2.between.view ∙ held_so earlier start all.0 all.1 moves.1 none)
+
+-- ---- a write that is over
+
+over_leaves : RunsAreSound → OwnEventsTell → (by : Option Refusal) (fds : List Fd) (fd at : ℕ) (bytes : List ℕ) (start now : PassState) (result : Result Done Refusal) → IsMount (mount_of start.view.opened) → IsIdle start
+    → IsOverBy by fds fd at bytes start now result → LeavesWords start now result
+over_leaves sound tell (Some refusal) fds fd at bytes start now result mount idle over = record { steps = []; made = over.1; left = λ unplaced mild. (tt, refl) }
+over_leaves sound tell None fds fd at bytes start now (Ok done) mount idle over = record { steps = over.2.steps; made = over.2.made; left = λ unplaced mild. absurd (cc) }
+over_leaves sound tell None fds fd at bytes start now (Err refusal) mount idle over =
+    let ended = over.2 in
+    record {
+      steps = ended.steps;
+      made = ended.made;
+      left = λ unplaced mild.
+          let moves = locking sound tell start.view.opened.sizes over.0 at bytes start mount ended.steps now refusal ended.made ended.own ended.refused mild in
+          (moves, sym (held_so ended.steps start now ended.made moves idle.owned) ∙ ended.idle.owned);
+    }
+
+pub refused_writes_leave_words : RunsAreSound → OwnEventsTell → RefusedWritesLeaveWords
+refused_writes_leave_words sound tell fds fd at bytes start now result mount idle over =
+    over_leaves sound tell (early_refusal start.view.opened.sizes fds fd at (length bytes)) fds fd at bytes start now result mount idle over

@@ -1,0 +1,31 @@
+-- What is so of a write that is over, by the laws of such writes.
+use Rattle.std.proofs.Common.{rules, length}
+use Rattle.std.specs.Prelude.{Ok, Err}
+use Rattle.nv_calls.proofs.write.try_pwrite.Goals as goal
+
+pub returns-in-Over-Ok-clause-over : goal.returns-in-Over-Ok-clause-over
+returns-in-Over-Ok-clause-over g c = search rules
+
+pub returns-in-Over-Err-clause-over : goal.returns-in-Over-Err-clause-over
+returns-in-Over-Err-clause-over g c = search rules
+
+pub returns-in_err-file-clause-over : goal.returns-in_err-file-clause-over
+returns-in_err-file-clause-over g c = search rules
+
+pub returns-in_err-file-clause-stop : goal.returns-in_err-file-clause-stop
+returns-in_err-file-clause-stop g c =
+    c.ended_calls_heed_stop.ensures.writes c.args.mount.now.fds c.args.fd c.args.at c.args.bytes.now c.args.pass.now c.args.pass.now c.from_residual.result c.sees_a_run.ensures.mount (returns-in_err-file-clause-over g c)
+
+pub returns-in-Over-Ok-clause-stop : goal.returns-in-Over-Ok-clause-stop
+returns-in-Over-Ok-clause-stop g c =
+    c.ended_calls_heed_stop.ensures.writes c.args.mount.now.fds c.args.fd c.args.at c.args.bytes.now c.args.pass.now c.loop-write.pass (Ok record { place = c.in-Over-Ok.place; len = length c.args.bytes.now }) c.sees_a_run.ensures.mount
+    (returns-in-Over-Ok-clause-over g c)
+
+pub returns-in-Over-Err-clause-stop : goal.returns-in-Over-Err-clause-stop
+returns-in-Over-Err-clause-stop g c =
+    c.ended_calls_heed_stop.ensures.writes c.args.mount.now.fds c.args.fd c.args.at c.args.bytes.now c.args.pass.now c.loop-write.pass (Err c.in-Over-Err.refusal) c.sees_a_run.ensures.mount (returns-in-Over-Err-clause-over g c)
+
+pub returns-in-Over-Err-clause-left : goal.returns-in-Over-Err-clause-left
+returns-in-Over-Err-clause-left g c =
+    c.refused_writes_leave_words.ensures c.args.mount.now.fds c.args.fd c.args.at c.args.bytes.now c.args.pass.now c.loop-write.pass (Err c.in-Over-Err.refusal) c.sees_a_run.ensures.mount c.requires.idle
+    (returns-in-Over-Err-clause-over g c)

@@ -1,0 +1,37 @@
+-- Laws of writes that are over, whatever made their steps.
+use Rattle.std.specs.Prelude.{ℕ, List, length, Result}
+use Rattle.nv_plain.specs.declared.call.FileCall.TheVariants.{Write}
+use Rattle.nv_core.specs.steps.Opening.{IsMount}
+use Rattle.nv_table.specs.invariant.Idle.{IsIdle}
+use Rattle.nv_table.specs.state.Opened.{mount_of}
+use Rattle.nv_table.specs.state.States.{PassState}
+use Rattle.nv_mount.specs.declared.fds.Fd.{Fd}
+use Rattle.nv_mirror.specs.declared.answers.Done.{Done}
+use Rattle.nv_mirror.specs.declared.answers.Refusal.{Refusal}
+use Rattle.nv_calls.specs.fsync.SyncRuns.{file_of_fd}
+use Rattle.nv_calls.specs.histories.Complete.{IsComplete}
+use Rattle.nv_calls.specs.histories.Heeds.{HeedsStop}
+use Rattle.nv_calls.specs.histories.Unmoved.{LeavesWords}
+use Rattle.nv_calls.specs.writes.Writes.{IsWriteOver, early_refusal}
+
+-- each heeds STOP
+abbrev pub WritesHeedStop : Type 0
+WritesHeedStop =
+    (fds : List Fd) (fd at : ℕ) (bytes : List ℕ) (start now : PassState) (result : Result Done Refusal)
+    → IsMount (mount_of start.view.opened) → IsWriteOver fds fd at bytes start now result → HeedsStop start now result
+
+-- one that is refused, and for no device fault, leaves all words but locks, and these as they were
+abbrev pub RefusedWritesLeaveWords : Type 0
+RefusedWritesLeaveWords =
+    (fds : List Fd) (fd at : ℕ) (bytes : List ℕ) (start now : PassState) (result : Result Done Refusal)
+    → IsMount (mount_of start.view.opened) → IsIdle start → IsWriteOver fds fd at bytes start now result → LeavesWords start now result
+
+-- each is done where its steps find what they need
+abbrev pub IsCompleteWrite : List Fd → (fd at : ℕ) → List ℕ → (start now : PassState) → Result Done Refusal → Type 0
+IsCompleteWrite fds fd at bytes start now result =
+    IsComplete (λ file. Write file at bytes) (early_refusal start.view.opened.sizes fds fd at (length bytes)) (file_of_fd fds fd) start now result
+
+abbrev pub WritesAreComplete : Type 0
+WritesAreComplete =
+    (fds : List Fd) (fd at : ℕ) (bytes : List ℕ) (start now : PassState) (result : Result Done Refusal)
+    → IsWriteOver fds fd at bytes start now result → IsCompleteWrite fds fd at bytes start now result
