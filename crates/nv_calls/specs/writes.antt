@@ -1,3 +1,4 @@
--- Writes: what a write of a descriptor tells.
+-- Writes: what a write of a descriptor tells, as a whole and one step at a time.
 pub mod Writes
 pub mod WriteLaws
+pub mod WriteMachines

@@ -1,4 +1,4 @@
-//! The calls of a mount that threads share: reads, writes and fsync as a whole, reads and fsync also one step at a time.
+//! The calls of a mount that threads share: reads, writes and fsync, as a whole and one step at a time.
 #![tactic(auto)]
 
 mod alone;
@@ -16,6 +16,7 @@ mod read_steps;
 mod reading;
 mod sync;
 mod write;
+mod writing;
 
 pub use alone::a_read_alone_is_not_busy;
 pub use laws::{calls_are_complete, ended_calls_heed_stop, refused_writes_leave_words};
@@ -26,3 +27,4 @@ pub use read::{pread, try_pread};
 pub use reading::{Held, MOST_PAGE, ReadControl, ReadMachine};
 pub use sync::try_fsync;
 pub use write::{pwrite, try_pwrite};
+pub use writing::{WriteControl, WriteMachine};

@@ -22,7 +22,7 @@ use nv_table::{Layout, Pass, Workspace};
 use std::sync::Wait;
 
 // The file of a write that is not refused before its first step.
-fn admit<L: Lines + Drop, B: Backing + Drop>(
+pub(crate) fn admit<L: Lines + Drop, B: Backing + Drop>(
     mount: &Mount<L, B>,
     layout: Layout,
     fd: u64,

@@ -15,7 +15,7 @@ use Rattle.nv_core.specs.steps.Order.{plain_reply}
 use Rattle.nv_core.specs.steps.PassSteps.{stepped, left_after, mine_after}
 use Rattle.nv_table.specs.state.Opened.{Opened}
 use Rattle.nv_table.specs.state.States.{PassState}
-use Rattle.nv_table.specs.state.Views.{pass_of}
+use Rattle.nv_table.specs.state.Views.{PassView, pass_of}
 use Rattle.nv_table.specs.steps.CallSteps.{Precondition}
 use Rattle.nv_table.specs.steps.StepContracts.{Postcondition}
 use Rattle.nv_table.proofs.steps.CallLaws.{IsCallFree}
@@ -28,9 +28,9 @@ use Rattle.nv_mirror.specs.declared.append.AppendControl.TheVariants as appends
 use Rattle.nv_mirror.specs.declared.append.AppendMachine.{AppendMachine}
 use Rattle.nv_mirror.specs.OwnedCells.{pages_from, entries_from, with_if}
 use Rattle.nv_mirror.specs.OwnSteps.{is_own}
-use Rattle.nv_mirror.specs.PassSteps.{PassStep, either_of, head_by, head_in, place_by, refused_by, unless_room}
+use Rattle.nv_mirror.specs.PassSteps.{PassStep, either_of, head_by, head_in, is_stop, place_by, refused_by, unless_room}
 use Rattle.nv_mirror.specs.Controls.{Drawing, drawings, drawing_of, with_drawing, Told}
-use Rattle.nv_mirror.specs.Appends.{append_call_of, Fits, FitsAt, IsPlain, ready_number, ready_word_of, append_op_at, append_after_at, locks, entries_on, Before, append_mirror_at, append_refusal_at, append_place_at, HasHead, IsInCall}
+use Rattle.nv_mirror.specs.Appends.{append_call_of, Fits, FitsAt, IsPlain, fault_if, ready_number, ready_word_of, append_op_at, append_after_at, locks, entries_on, Before, append_mirror_at, append_refusal_at, append_place_at, HasHead, IsInCall}
 use Rattle.nv_mirror.proofs.ControlLaws.{PlaceLaws, mirror_due, mirror_on, place_plainly, told_kept, told_placed}
 use Rattle.nv_mirror.proofs.OwnedLaws.{entry_dropped}
 use Rattle.nv_mirror.proofs.PageLaws.{some_touched, without_first}
@@ -54,6 +54,21 @@ append_free m appends.CommitGroup start now plain way = absurd plain
 append_free m (appends.PledgePage pledged) start now plain way = absurd plain
 append_free m Appended start now plain way = absurd plain
 append_free m (Refused refusal) start now plain way = absurd plain
+
+-- STOP is set only where a device call has failed
+pub sets_no_stop : (view : PassView) (m : AppendMachine) (control : AppendControl) → fault_if (is_stop (core_op_of view (append_op_at m control false))) ≡ None
+sets_no_stop view m appends.LoadHead = refl
+sets_no_stop view m appends.LoadTail = refl
+sets_no_stop view m appends.DrawNumbers = refl
+sets_no_stop view m (appends.SeizeEntry seized) = refl
+sets_no_stop view m appends.CommitGroup = refl
+sets_no_stop view m (appends.PledgePage pledged) = refl
+sets_no_stop view m (appends.ReadyEntry ready) = refl
+sets_no_stop view m appends.TakePlace = refl
+sets_no_stop view m appends.GrowLength = refl
+sets_no_stop view m (appends.BreakEntry broken) = refl
+sets_no_stop view m Appended = refl
+sets_no_stop view m (Refused refusal) = refl
 
 pub append_due : (m : AppendMachine) (control : AppendControl) (start now : PassState) → IsPlain control → IsInCall m control start now → Precondition now None (core_op_of now.view (append_op_at m control false))
 append_due m appends.LoadHead start now plain way = mirror_due _ _ _ _ _ _ start now way.called _ tt (λ pass kept. refl) (λ pass. refl)

@@ -76,6 +76,13 @@ module _ (sizes : Sizes) where
     pub stop_tells : (pass_worked sizes works pass).control ≡ SetStopAfterCommit → fault_in works ≡ Some RegionFault
     stop_tells stops = elim (ends works values pass calls at due) [ inl fault ↦ fault.1 | inr none ↦ absurd (subst IsNoStop stops none.0) ]
 
+    -- and none where a page is pledged next
+    pub pledge_tells : (page : ℕ) → (pass_worked sizes works pass).control ≡ PledgePage page → fault_in works ≡ None
+    pledge_tells page pledges = elim (ends works values pass calls at due) [ inl fault ↦ absurd (apart (sym pledges ∙ fault.0)) | inr none ↦ none.1 ]
+      where
+        apart : PledgePage page ≡ SetStopAfterCommit → ⊥
+        apart e = cc
+
     -- and the other way
     pub fault_stops : fault_in works ≡ Some RegionFault → (pass_worked sizes works pass).control ≡ SetStopAfterCommit
     fault_stops fails = elim (ends works values pass calls at due) [ inl fault ↦ fault.0 | inr none ↦ absurd (clash (sym none.1 ∙ fails)) ]

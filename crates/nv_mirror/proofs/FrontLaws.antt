@@ -85,7 +85,7 @@ front_begins m start fits control idle = (
 
 -- ---- when the steps are due
 
-free : (m : FrontMachine) (control : FrontControl) (start now : PassState) → IsOpen control → IsInCall m control start now → IsCallFree (pass_of now.view).control
+pub free : (m : FrontMachine) (control : FrontControl) (start now : PassState) → IsOpen control → IsInCall m control start now → IsCallFree (pass_of now.view).control
 free m fronts.Begin start now runs way = subst (λ (p : PassState). IsCallFree (pass_of p.view).control) (sym way.fresh) (subst IsCallFree (sym way.idle.control) (λ sizes values pass work due. due))
 free m fronts.TakePage start now runs way = subst (λ (c : MirroredControl). IsCallFree c.control) (sym way.mirrors) (λ sizes values pass work due. due)
 free m fronts.LoadLength start now runs way = subst (λ (c : MirroredControl). IsCallFree c.control) (sym way.mirrors) (λ sizes values pass work due. due)

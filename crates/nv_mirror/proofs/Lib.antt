@@ -7,6 +7,7 @@ pub mod EndsLaws
 pub mod FaultLaws
 pub mod FrontLaws
 pub mod HistoryLaws
+pub mod ListLaws
 pub mod MeasureLaws
 pub mod OwnLaws
 pub mod OwnedLaws
@@ -18,3 +19,4 @@ pub mod RunningLaws
 pub mod StepLaws
 pub mod WaysLaws
 pub mod WorkedLaws
+pub mod WriteStepLaws

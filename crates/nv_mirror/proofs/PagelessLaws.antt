@@ -47,7 +47,7 @@ pageless_begins asked start none idle =
     ∙ ap (λ control. record (mirror (call_asked asked) controls.Begin) { control = control }) (no_page start.view.opened.sizes (call_asked asked) none).first)
     (call_begins control_mirror (call_asked asked) start idle)
 
-free : (asked : Asked) (control : PagelessControl) (start now : PassState) → IsOpen control → IsInCall asked control start now → IsCallFree (pass_of now.view).control
+pub free : (asked : Asked) (control : PagelessControl) (start now : PassState) → IsOpen control → IsInCall asked control start now → IsCallFree (pass_of now.view).control
 free asked controls.Begin start now runs way = subst (λ (p : PassState). IsCallFree (pass_of p.view).control) (sym way.fresh) (subst IsCallFree (sym way.idle.control) (λ sizes values pass work due. due))
 free asked controls.LoadOrder start now runs way = subst (λ (c : MirroredControl). IsCallFree c.control) (sym way.mirrors) (λ sizes values pass work due. due)
 free asked controls.TakePlace start now runs way = subst (λ (c : MirroredControl). IsCallFree c.control) (sym way.mirrors) (λ sizes values pass work due. due)

@@ -40,7 +40,7 @@ use Rattle.nv_mirror.specs.Controls.{Drawing, drawings, drawing_of, mirrored_con
 use Rattle.nv_op.specs.Ops.{core_op_of}
 use Rattle.nv_mirror.specs.Appends.{append_call_of, append_op, append_op_at, append_after_at, Fits, FitsAt, IsInCall, IsUnderWay, HasStepped, append_mirror_at, append_after, Before, locks, entries_on, pledged_then}
 use Rattle.nv_mirror.specs.Pledges.{with_piece_on, IsBeforePledge, HasPledged}
-use Rattle.nv_mirror.proofs.FaultLaws.{stop_tells, fault_stops}
+use Rattle.nv_mirror.proofs.FaultLaws.{stop_tells, pledge_tells, fault_stops}
 use Rattle.nv_mirror.proofs.OwnedLaws.{split_first}
 use Rattle.nv_mirror.proofs.StepLaws.{opened_same, taken_by}
 use Rattle.nv_mirror.proofs.WorkedLaws.{worked_due, worked_on, worked_told}
@@ -140,18 +140,22 @@ module _ (write : FileCall) (page : ℕ) (pass : PassState) (before : IsBeforePl
 
 -- ---- the pledge is due
 
-pub pledge_due : (write : FileCall) (page : ℕ) (pass mid : PassState) → IsBeforePledge write page pass → IsAltered (with_piece_on pass.view.opened.sizes write page) pass mid → Precondition mid None (Pledge page)
+pub pledge_due : (write : FileCall) (page : ℕ) (pass mid : PassState) → IsBeforePledge write page pass → IsAltered (with_piece_on pass.view.opened.sizes write page) pass mid
+    → (due : Precondition mid None (Pledge page)) × (fault_in due.works ≡ None)
 pledge_due write page pass mid before laid =
-    subst (λ (view : PassView). Precondition (record mid { view = view }) None (Pledge page)) (sym laid.view) record {
-      works = before.works;
-      due = before.due;
-      begins = tt;
-      may = inl (ap (step_at here (values_before pass.view before.works) (pass_worked here before.works (pass_of pass.view))) before.control);
-      staying = before.staying;
-      holds = subst (λ call. OwnsSlots here (λ value. value) (with_value left (PAGE page) (patched_by here call page (left (PAGE page)))) (still_owned (pass_of pass.view)) mid.now)
-          (sym (calls_leave (λ (p : Pass). p.call) (λ sizes work p. refl) here before.works (pass_of pass.view) ∙ before.makes))
-          (laid.owns_slots left (still_owned (pass_of pass.view)) before.shown);
-    }
+    subst (λ (view : PassView). (due : Precondition (record mid { view = view }) None (Pledge page)) × (fault_in due.works ≡ None)) (sym laid.view) (
+      record {
+        works = before.works;
+        due = before.due;
+        begins = tt;
+        may = inl (ap (step_at here (values_before pass.view before.works) (pass_worked here before.works (pass_of pass.view))) before.control);
+        staying = before.staying;
+        holds = subst (λ call. OwnsSlots here (λ value. value) (with_value left (PAGE page) (patched_by here call page (left (PAGE page)))) (still_owned (pass_of pass.view)) mid.now)
+            (sym (calls_leave (λ (p : Pass). p.call) (λ sizes work p. refl) here before.works (pass_of pass.view) ∙ before.makes))
+            (laid.owns_slots left (still_owned (pass_of pass.view)) before.shown);
+      },
+      before.well,
+    )
   where
     here : Sizes
     here = pass.view.opened.sizes
@@ -174,6 +178,7 @@ module _ (m : AppendMachine) (done : ℕ) (start now : PassState) (fits : Fits n
   before_next way = record {
     works = [];
     due = tt;
+    well = refl;
     control = ap (λ (d : Drawing). d.mirrored_control.control) way.called.mirrors;
     makes = ap (λ (d : Drawing). d.mirrored_control.call) way.called.mirrors;
     staying = way.called.left;
@@ -190,6 +195,7 @@ before_first m start now mid fits first shapes way result made pledging some =
     subst (λ (view : PassView). IsBeforePledge (append_call_of m) (m.page + 0) (record mid { view = view })) (sym made.view) record {
       works = made.works;
       due = made.due;
+      well = pledge_tells now.view.opened.sizes made.works (values_of now.view) (pass_of now.view) 0 (ap (λ (d : Drawing). d.mirrored_control.control) way.called.mirrors) made.due _ pledging;
       control = pledging ∙ ap PledgePage (ap (first_page now.view.opened.sizes) makes ∙ sym fits.page ∙ (let e : m.page ≡ m.page + 0 = omega arith in e));
       makes = makes;
       staying = way.called.left;
@@ -337,16 +343,19 @@ pledge_stepped m done was now found op is = record {
   step = record { opens = None; works = is.stepped.works; op = Pledge (m.page + done); found = found };
   taken = taken_by was is.before now None (Pledge (m.page + done)) found is.between is.stepped;
   op = op;
+  fault = is.well;
   next = refl;
 }
 
 -- and so is STOP, where a device call has failed
-pub stop_stepped : (m : AppendMachine) (was mid now : PassState) (found : ℕ) → m.control ≡ appends.CommitGroup → IsBetweenSteps was mid → Postcondition mid None Stop found now → HasStepped m (record m { control = appends.BreakEntry 0 }) was now
-stop_stepped m was mid now found at between is = record {
+pub stop_stepped : (m : AppendMachine) (was mid now : PassState) (found : ℕ) → m.control ≡ appends.CommitGroup → IsBetweenSteps was mid → (is : Postcondition mid None Stop found now)
+    → fault_in is.works ≡ Some RegionFault → HasStepped m (record m { control = appends.BreakEntry 0 }) was now
+stop_stepped m was mid now found at between is fails = record {
   failed = true;
   step = record { opens = None; works = is.works; op = Stop; found = found };
   taken = taken_by was mid now None Stop found between is;
   op = ap (λ control. core_op_of was.view (append_op_at m control true)) (sym at);
+  fault = fails;
   next = ap (λ control. append_after_at was.view.opened.sizes m control true found) (sym at);
 }
 
@@ -361,4 +370,5 @@ pledged_behind page found old mid new between is = record {
   before = is.before;
   between = record { table = is.between.table ∙ between.table; view = is.between.view ∙ between.view; spare = is.between.spare ∙ between.spare };
   stepped = is.stepped;
+  well = is.well;
 }

@@ -21,7 +21,7 @@ use Rattle.nv_mirror.specs.declared.front.FrontMachine.{FrontMachine}
 use Rattle.nv_mirror.specs.declared.front.FrontControl.TheVariants.{Passed}
 use Rattle.nv_mirror.specs.Fronts.{front_call_of as front_call, IsInCall as IsFront}
 use Rattle.nv_mirror.specs.OwnedCells.{pages_from, entries_from, with_if}
-use Rattle.nv_mirror.specs.PassSteps.{PassStep, HasTaken, head_in}
+use Rattle.nv_mirror.specs.PassSteps.{PassStep, HasTaken, fault_in, head_in, is_stop}
 use Rattle.nv_mirror.specs.Controls.{Drawing, drawings, InCall}
 
 -- what it asks for, and its call
@@ -212,12 +212,17 @@ pub record IsInCall (m : AppendMachine) (control : AppendControl) (start now : P
 abbrev pub IsUnderWay : AppendMachine → (start now : PassState) → Type 0
 IsUnderWay m start now = Fits now.view.opened.sizes m × IsInCall m m.control start now
 
--- It has made its next step: device calls of its commit may lie before that, of which one has failed or not.
+-- the fault of device calls, of which one has failed or not
+abbrev pub fault_if : Bool → Option Refusal
+fault_if failed = if failed then Some RegionFault else None
+
+-- It has made its next step: device calls of its commit may lie before that, of which one has failed or not. It sets STOP exactly where one has.
 pub record HasStepped (old new : AppendMachine) (was now : PassState) : Type 0 where
   pub failed : Bool
   pub step : PassStep
   pub taken : HasTaken step was now
   pub op : step.op ≡ core_op_of was.view (append_op old failed)
+  pub fault : fault_in step.works ≡ fault_if (is_stop step.op)
   pub next : new ≡ append_after was.view.opened.sizes old failed step.found
 
 -- ---- how many steps may still come

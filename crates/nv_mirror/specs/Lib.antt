@@ -10,3 +10,4 @@ pub mod Pledges
 pub mod Releases
 pub mod RunningWrites
 pub mod Ways
+pub mod WriteSteps

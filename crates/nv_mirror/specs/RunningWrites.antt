@@ -17,7 +17,6 @@ use Rattle.nv_mirror.specs.Appends.{append_call_of, append_measure}
 use Rattle.nv_mirror.specs.Controls.{IsOver}
 use Rattle.nv_mirror.specs.Fronts as front
 use Rattle.nv_mirror.specs.Fronts.{front_call_of, front_measure_at}
-use Rattle.nv_mirror.specs.PassSteps.{PassStep, HasTaken}
 use Rattle.nv_mirror.specs.Pageless as pageless
 use Rattle.nv_mirror.specs.Pageless.{pageless_measure}
 use Rattle.nv_mirror.specs.Releases as release
@@ -55,10 +54,6 @@ IsSettled (Over result) = Unit {0}
 abbrev pub IsOpen : RunningWrite → Type 0
 IsOpen (Over result) = ⊥
 IsOpen write = IsSettled write
-
--- its pass has made one step, behind the device calls that lie before it
-abbrev pub HasMadeOne : (old new : PassState) → Type 0
-HasMadeOne old new = (step : PassStep) × HasTaken step old new
 
 -- ---- how many steps may still come
 

@@ -13,7 +13,7 @@ ghost use Rattle.nv_mirror.specs.Pledges.{HasPledged, IsBeforePledge, with_piece
 use crate::{AppendControl, AppendMachine};
 use nv_core::cells_keep_their_shapes;
 use nv_entry::cut;
-use nv_op::{Op, perform, perform_after};
+use nv_op::{Op, perform_after};
 use nv_pages::{commit_entries, patch_page};
 use nv_pmem::Lines;
 use nv_store::Backing;
@@ -56,7 +56,7 @@ impl<'a> AppendMachine<'a> {
         let op = Op::Pledge {
             page: self.page + done,
         };
-        perform(board, pass, None, op)
+        perform_after::<Brand, L, B>(board, pass, op)
     }
 
     // Makes the pledge of the page behind so many.

@@ -6,6 +6,7 @@ mod answers;
 mod append;
 mod commit;
 mod front;
+mod lent;
 mod pageless;
 mod release;
 mod ways;

@@ -7,7 +7,8 @@ ghost use Rattle.nv_op.specs.Ops.{call_asked};
 ghost use Rattle.nv_table.specs.invariant.Idle.{IsIdle};
 ghost use Rattle.nv_table.specs.state.Keys.{sizes_of};
 ghost use Rattle.nv_table.specs.state.States.{IsOf, PassState};
-ghost use Rattle.nv_mirror.specs.RunningWrites.{AsksForWrite, HasMadeOne, IsOpen, IsSettled, IsUnderWay, write_measure};
+ghost use Rattle.nv_mirror.specs.RunningWrites.{AsksForWrite, IsOpen, IsSettled, IsUnderWay, write_measure};
+ghost use Rattle.nv_mirror.specs.WriteSteps.{HasMadeOne, IsFresh, write_fault, write_place};
 
 use crate::{
     AppendControl, AppendMachine, FrontControl, FrontMachine, PagelessControl, PagelessMachine,
@@ -38,6 +39,7 @@ impl<'a> RunningWrite<'a> {
         requires allowed { IsAllowed (sizes_of layout) (call_asked asked) }
         ensures begins { (pass : PassState) → pass.view.opened.sizes ≡ sizes_of layout → IsIdle pass → IsUnderWay (call_asked asked.entry) result pass pass }
         ensures settled { IsOpen result }
+        ensures fresh { IsFresh (sizes_of layout) (call_asked asked.entry) result }
     {
         if asked.size() == 0 {
             RunningWrite::Pageless(PagelessMachine::new(asked))
@@ -51,6 +53,8 @@ impl<'a> RunningWrite<'a> {
         requires way { (call : FileCall) × (start : PassState) × (now : PassState) × (sizes_of layout ≡ now.view.opened.sizes) × IsUnderWay call self start now }
         ensures settled { IsSettled result }
         ensures falls { write_measure result ≤ write_measure self.entry }
+        ensures fault { write_fault result ≡ write_fault self.entry }
+        ensures place { write_place result ≡ write_place self.entry }
         ensures way { (call : FileCall) (start now : PassState) → IsUnderWay call self.entry start now → IsUnderWay call result start now }
     {
         match self {
@@ -89,7 +93,7 @@ impl<'a> RunningWrite<'a> {
         requires places { min version_1.group_limit board.now.opened.sizes.entries ≤ vec_capacity parts.old }
         requires way { (call : FileCall) × (start : PassState) × IsUnderWay call self.old start pass.old }
         ensures board { IsOf board.now pass.new }
-        ensures one { HasMadeOne pass.old pass.new }
+        ensures one { HasMadeOne self.old self.new pass.old pass.new }
         ensures falls { write_measure self.new < write_measure self.old }
         ensures bare { parts.new.items ≡ [] }
         ensures places { vec_capacity parts.new ≡ vec_capacity parts.old }
@@ -119,7 +123,7 @@ impl<'a> RunningWrite<'a> {
         requires way { (call : FileCall) × (start : PassState) × IsUnderWay call self.old start pass.old }
         ensures board { IsOf board.now pass.new }
         ensures settled { IsSettled self.new }
-        ensures one { HasMadeOne pass.old pass.new }
+        ensures one { HasMadeOne self.old self.new pass.old pass.new }
         ensures falls { write_measure self.new < write_measure self.old }
         ensures bare { parts.new.items ≡ [] }
         ensures places { vec_capacity parts.new ≡ vec_capacity parts.old }

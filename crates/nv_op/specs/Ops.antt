@@ -1,5 +1,6 @@
 -- Operations: which step of the core each is, on which word, and what it makes of that.
-use Rattle.std.specs.Prelude.{◌≡◌, ℕ, ◌+◌, ◌<◌, ◌^◌, Option, Some, None}
+use Rattle.std.specs.Prelude.{◌≡◌, ℕ, ◌+◌, ◌<◌, ◌^◌, List, Option, Some, None}
+use Rattle.std.specs.Borrow.{Bor}
 use Rattle.nv_table.specs.declared.stepping.Moves.{Moves}
 use Rattle.nv_table.specs.declared.stepping.Moves.TheVariants.{Stays, Comes, ComesIfFree, Goes}
 use Rattle.nv_plain.specs.declared.call.FileCall.{FileCall}
@@ -94,6 +95,11 @@ call_asked (AsksSync file) = Sync file
 abbrev pub opened_by : Option Asked → Option FileCall
 opened_by (Some asked) = Some (call_asked asked)
 opened_by None = None
+
+-- what is asked for, with this list where it is a write
+abbrev pub asked_with : (list : Bor (List ℕ)) → Asked → Asked
+asked_with list (AsksWrite file at bytes) = AsksWrite file at list
+asked_with list asked = asked
 
 abbrev pub marks_for : Option Asked → Op → Marks
 marks_for (Some asked) op = Nothing

@@ -3,7 +3,7 @@ ghost use Rattle.std.specs.Prelude.{◌≡◌};
 ghost use Rattle.nv_core.specs.state.Words.{IsWord, place};
 ghost use Rattle.nv_table.specs.state.Keys.{sizes_of};
 ghost use Rattle.nv_table.specs.state.Layout.{slot_of_cell};
-ghost use Rattle.nv_op.specs.Ops.{SumIsSmall, call_asked, core_word, word_of_op, change_of, marks_for, moves_for};
+ghost use Rattle.nv_op.specs.Ops.{SumIsSmall, asked_with, call_asked, core_word, word_of_op, change_of, marks_for, moves_for};
 ghost use Rattle.nv_core.specs.state.Passes.{at_of, file_of, len_of};
 
 use nv_table::{Change, HAND, HEAD, Layout, Marks, Moves, ORDER, STOP, TAIL};
@@ -97,6 +97,21 @@ impl Asked<'_> {
             Asked::Read { len, .. } => len,
             Asked::Write { bytes, .. } => bytes.len() as u64,
             Asked::Sync { .. } => 0,
+        }
+    }
+
+    /// The same, with this list where it is a write.
+    pub fn with_list<'b>(self, list: &'b [u8]) -> Asked<'b>
+        ensures { result ≡ asked_with list.entry self.entry }
+    {
+        match self {
+            Asked::Read { file, at, len } => Asked::Read { file, at, len },
+            Asked::Write { file, at, .. } => Asked::Write {
+                file,
+                at,
+                bytes: list,
+            },
+            Asked::Sync { file } => Asked::Sync { file },
         }
     }
 }

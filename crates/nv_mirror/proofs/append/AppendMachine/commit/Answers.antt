@@ -26,7 +26,7 @@ perform_after-requires-clause-due g c =
 pub returns-in_default-clause-one : goal.returns-in_default-clause-one
 returns-in_default-clause-one g c =
     stop_stepped c.args.self.now c.args.pass.now c.commit_entries.new.pass c.perform_after.new.pass c.perform_after.result c.requires.at
-    (between_made c.args.pass.now c.commit_entries.new.pass _ c.in_default.ensures.committed) c.perform_after.ensures.stepped.0
+    (between_made c.args.pass.now c.commit_entries.new.pass _ c.in_default.ensures.committed) c.perform_after.ensures.stepped.0 c.perform_after.ensures.stepped.1
 
 pub returns-in_default-clause-falls : goal.returns-in_default-clause-falls
 returns-in_default-clause-falls g c =

@@ -15,8 +15,8 @@ patch-requires-clause-room g c =
     let pass = c.args.pass.now in
     slot_room (append_call_of m) _ pass c.requires.before (own_page pass.view.opened.sizes m c.args.done c.requires.fits c.requires.own)
 
-pub perform-requires-clause-due : goal.perform-requires-clause-due
-perform-requires-clause-due g c = pledge_due (append_call_of c.args.self) _ c.args.pass.now c.patch.new.pass c.requires.before c.patch.ensures
+pub perform_after-requires-clause-due : goal.perform_after-requires-clause-due
+perform_after-requires-clause-due g c = pledge_due (append_call_of c.args.self) _ c.args.pass.now c.patch.new.pass c.requires.before c.patch.ensures
 
 pub returns-clause-pledged : goal.returns-clause-pledged
-returns-clause-pledged g c = record { before = c.patch.new.pass; between = between_altered _ c.args.pass.now c.patch.new.pass c.patch.ensures; stepped = c.perform.ensures.stepped }
+returns-clause-pledged g c = record { before = c.patch.new.pass; between = between_altered _ c.args.pass.now c.patch.new.pass c.patch.ensures; stepped = c.perform_after.ensures.stepped.0; well = c.perform_after.ensures.stepped.1 }

@@ -11,9 +11,9 @@ use Rattle.nv_op.specs.declared.op.Op.{Op}
 use Rattle.nv_op.specs.Ops.{Fits, core_op_of}
 use Rattle.nv_mirror.specs.declared.append.AppendMachine.{AppendMachine}
 use Rattle.nv_mirror.specs.Appends.{IsUnderWay, append_after, append_op, append_measure}
-use Rattle.nv_mirror.proofs.AppendLaws.{some_pages, append_fits, append_due, append_on}
+use Rattle.nv_mirror.proofs.AppendLaws.{some_pages, append_fits, append_free, append_due, append_on, sets_no_stop}
 use Rattle.nv_mirror.proofs.AppendMeasures.{plain_open, append_less}
-use Rattle.nv_mirror.proofs.StepLaws.{between_self, taken_by}
+use Rattle.nv_mirror.proofs.StepLaws.{between_self, no_fault, taken_by}
 use Rattle.nv_mirror.proofs.append.AppendMachine.step.Goals as goal
 
 pub perform-found-requires-clause-fits : goal.perform-found-requires-clause-fits
@@ -41,6 +41,7 @@ returns-clause-one g c =
       step = record { opens = None; works = stepped.works; op = core_op_of pass.view (append_op m false); found = found };
       taken = taken_by pass pass c.perform-found.new.pass None (core_op_of pass.view (append_op m false)) found (between_self pass) stepped;
       op = refl;
+      fault = no_fault pass c.perform-found.new.pass None (core_op_of pass.view (append_op m false)) found (append_free m m.control c.requires.way.0 pass c.requires.plain c.requires.way.1.1) stepped ∙ sym (sets_no_stop pass.view m m.control);
       next = c.after.ensures ∙ ap (λ (s : Sizes). append_after s m false found) same;
     }
 

@@ -8,6 +8,9 @@ use Rattle.nv_mirror.specs.declared.write.RunningWrite.{RunningWrite}
 use Rattle.nv_mirror.specs.declared.write.RunningWrite.TheVariants.{Append}
 use Rattle.nv_mirror.specs.Releases as release
 use Rattle.nv_mirror.specs.RunningWrites.{IsUnderWay, front_part, write_measure}
+use Rattle.nv_mirror.specs.Pageless.{pageless_place_at, pageless_refusal_at}
+use Rattle.nv_mirror.specs.WriteSteps.{part_fault, write_fault, write_place}
+use Rattle.nv_mirror.proofs.WriteStepLaws.{over_fault, over_place}
 use Rattle.nv_mirror.proofs.RunningLaws.{pageless_over, front_over, release_over, released_open, refused_low, writes_some}
 use Rattle.nv_mirror.proofs.write.RunningWrite.settled.Goals as goal
 
@@ -45,3 +48,11 @@ returns-in-Refused-clause-way c call start now way =
 pub returns-in-Over-control-3-clause-way : goal.returns-in-Over-control-3-clause-way
 returns-in-Over-control-3-clause-way c call start now way =
     release_over c.in-Release.m call start now c.in-Over-control-3.is (subst (λ (w : RunningWrite). IsUnderWay call w start now) c.in-Release.is way)
+
+pub returns-in-Over-control-clause-place : goal.returns-in-Over-control-clause-place
+returns-in-Over-control-clause-place c =
+    over_place c.in-Over-control.result ∙ ap pageless_place_at (sym c.in-Over-control.is) ∙ ap write_place (sym c.in-Pageless.is)
+
+pub returns-in-Over-control-clause-fault : goal.returns-in-Over-control-clause-fault
+returns-in-Over-control-clause-fault c =
+    ap part_fault (over_fault c.in-Over-control.result ∙ ap pageless_refusal_at (sym c.in-Over-control.is)) ∙ ap write_fault (sym c.in-Pageless.is)

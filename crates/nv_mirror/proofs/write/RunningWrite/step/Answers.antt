@@ -1,10 +1,11 @@
 -- Its part makes a step, and goes on with the same call.
 use Rattle.std.proofs.Common.{◌<◌, sym, subst}
 use Rattle.nv_mirror.specs.declared.write.RunningWrite.{RunningWrite}
-use Rattle.nv_mirror.specs.RunningWrites.{IsUnderWay, write_measure}
-use Rattle.nv_mirror.specs.declared.write.RunningWrite.TheVariants.{Append}
+use Rattle.nv_mirror.specs.RunningWrites.{IsOpen, IsUnderWay, write_measure}
+use Rattle.nv_mirror.specs.WriteSteps.{HasMadeOne}
+use Rattle.nv_mirror.specs.declared.write.RunningWrite.TheVariants.{Pageless, Front, Append, Release}
 use Rattle.nv_mirror.proofs.RunningLaws.{front_goes, append_goes, append_falls}
-use Rattle.nv_mirror.proofs.StepLaws.{between_self, taken_by}
+use Rattle.nv_mirror.proofs.WriteStepLaws.{pageless_one, front_one, append_one, release_one}
 use Rattle.nv_mirror.proofs.write.RunningWrite.step.Goals as goal
 
 pub returns-in-Front-clause-way : goal.returns-in-Front-clause-way
@@ -25,14 +26,29 @@ returns-in-Append-clause-falls g c =
 pub returns-in-Pageless-clause-one : goal.returns-in-Pageless-clause-one
 returns-in-Pageless-clause-one g c =
     let pass = c.args.pass.now in
-    (_, taken_by pass pass c.advance.new.pass _ _ _ (between_self pass) c.advance.ensures.one.1)
+    let start = c.requires.way.1 in
+    let way = subst (λ (w : RunningWrite). IsUnderWay c.requires.way.0 w start pass) c.in-Pageless.is c.requires.way.2 in
+    subst (λ (w : RunningWrite). HasMadeOne w (Pageless c.advance.new.self) pass c.advance.new.pass) (sym c.in-Pageless.is)
+    (pageless_one c.in-Pageless.m c.advance.new.self start pass c.advance.new.pass c.advance.ensures.one.0 (subst IsOpen c.in-Pageless.is c.requires.open) way.1 c.advance.ensures.one.1 c.advance.ensures.one.2)
 
 pub returns-in-Front-clause-one : goal.returns-in-Front-clause-one
 returns-in-Front-clause-one g c =
     let pass = c.args.pass.now in
-    (_, taken_by pass pass c.advance-in-Front.new.pass _ _ _ (between_self pass) c.advance-in-Front.ensures.one.1)
+    let start = c.requires.way.1 in
+    let way = subst (λ (w : RunningWrite). IsUnderWay c.requires.way.0 w start pass) c.in-Front.is c.requires.way.2 in
+    subst (λ (w : RunningWrite). HasMadeOne w (Front c.advance-in-Front.new.self) pass c.advance-in-Front.new.pass) (sym c.in-Front.is)
+    (front_one c.in-Front.m c.advance-in-Front.new.self start pass c.advance-in-Front.new.pass c.advance-in-Front.ensures.one.0 (subst IsOpen c.in-Front.is c.requires.open) way.2 c.advance-in-Front.ensures.one.1 c.advance-in-Front.ensures.one.2)
+
+pub returns-in-Append-clause-one : goal.returns-in-Append-clause-one
+returns-in-Append-clause-one g c =
+    let pass = c.args.pass.now in
+    subst (λ (w : RunningWrite). HasMadeOne w (Append c.advance-in-Append.new.self) pass c.advance-in-Append.new.pass) (sym c.in-Append.is)
+    (append_one c.in-Append.m c.advance-in-Append.new.self pass c.advance-in-Append.new.pass (subst IsOpen c.in-Append.is c.requires.open) c.advance-in-Append.ensures.one)
 
 pub returns-in-Release-clause-one : goal.returns-in-Release-clause-one
 returns-in-Release-clause-one g c =
     let pass = c.args.pass.now in
-    (_, taken_by pass pass c.advance-in-Release.new.pass _ _ _ (between_self pass) c.advance-in-Release.ensures.one.1)
+    let start = c.requires.way.1 in
+    let way = subst (λ (w : RunningWrite). IsUnderWay c.requires.way.0 w start pass) c.in-Release.is c.requires.way.2 in
+    subst (λ (w : RunningWrite). HasMadeOne w (Release c.advance-in-Release.new.self) pass c.advance-in-Release.new.pass) (sym c.in-Release.is)
+    (release_one c.in-Release.m c.advance-in-Release.new.self start pass c.advance-in-Release.new.pass c.advance-in-Release.ensures.one.0 (subst IsOpen c.in-Release.is c.requires.open) way.1 c.advance-in-Release.ensures.one.1 c.advance-in-Release.ensures.one.2)

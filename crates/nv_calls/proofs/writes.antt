@@ -1,0 +1,3 @@
+-- Laws about writes.
+pub mod MachineLaws
+pub mod OverLaws

@@ -1,0 +1,263 @@
+-- Machines: a running write stands with its list put in and taken out where it stood, and an advance goes on from there.
+use Rattle.std.proofs.Common.{◌≡◌, ◌≢◌, ℕ, ◌<◌, ◌≤◌, ◌+◌, ◌*◌, nat_lt, Bool, true, false, if◌then◌else◌, List, length, refl, sym, ap, subst, ◌∙◌, inl, inr, arith}
+use Rattle.std.specs.Prelude.{Option, Some, None, option_map, min, Result, Ok, Err}
+use Rattle.std.specs.Borrow.{Bor}
+use Rattle.std.specs.List.{slice_get}
+use Rattle.nv_plain.specs.Layouts.{version_1}
+use Rattle.nv_plain.specs.Modes.{can_write}
+use Rattle.nv_plain.specs.Pieces.{pages_touched}
+use Rattle.nv_plain.specs.declared.call.FileCall.{FileCall}
+use Rattle.nv_plain.specs.declared.call.FileCall.TheVariants.{Write}
+use Rattle.nv_core.specs.state.Words.{Sizes}
+use Rattle.nv_table.specs.invariant.Idle.{IsIdle}
+use Rattle.nv_table.specs.state.Opened.{Opened}
+use Rattle.nv_table.specs.state.States.{PassState}
+use Rattle.nv_mount.specs.declared.fds.Fd.{Fd}
+use Rattle.nv_op.specs.declared.op.Asked.{Asked}
+use Rattle.nv_op.specs.declared.op.Asked.TheVariants.{Read as AsksRead, Write as AsksWrite, Sync as AsksSync}
+use Rattle.nv_op.specs.Kinds.{kind_of}
+use Rattle.nv_op.specs.Ops.{asked_with, call_asked}
+use Rattle.nv_mirror.specs.declared.answers.Done.{Done}
+use Rattle.nv_mirror.specs.declared.answers.Refusal.{Refusal}
+use Rattle.nv_mirror.specs.declared.answers.Refusal.TheVariants.{BadFd, TooFar, TooLong}
+use Rattle.nv_mirror.specs.declared.append.AppendMachine.{AppendMachine}
+use Rattle.nv_mirror.specs.declared.append.AppendControl.{AppendControl}
+use Rattle.nv_mirror.specs.declared.append.AppendControl.TheVariants.{Appended, Refused}
+use Rattle.nv_mirror.specs.declared.append.AppendControl.TheVariants as appends
+use Rattle.nv_mirror.specs.declared.front.FrontMachine.{FrontMachine}
+use Rattle.nv_mirror.specs.declared.front.FrontControl.{FrontControl}
+use Rattle.nv_mirror.specs.declared.front.FrontControl.TheVariants.{Passed, Over as FrontOver}
+use Rattle.nv_mirror.specs.declared.front.FrontControl.TheVariants as fronts
+use Rattle.nv_mirror.specs.declared.release.ReleaseMachine.{ReleaseMachine}
+use Rattle.nv_mirror.specs.declared.release.ReleaseControl.{ReleaseControl}
+use Rattle.nv_mirror.specs.declared.release.ReleaseControl.TheVariants as releases
+use Rattle.nv_mirror.specs.declared.write.RunningWrite.{RunningWrite}
+use Rattle.nv_mirror.specs.declared.write.RunningWrite.TheVariants.{Pageless, Front, Append, Release, Over}
+use Rattle.nv_mirror.specs.Appends.{append_measure_at, append_op_at, append_place_at}
+use Rattle.nv_mirror.specs.Fronts.{front_measure_at, front_op_at}
+use Rattle.nv_mirror.specs.Releases.{release_measure_at, release_op_at}
+use Rattle.nv_mirror.specs.RunningWrites.{IsOpen, IsSettled, IsUnderWay, write_measure}
+use Rattle.nv_mirror.proofs.ListLaws.{list_way}
+use Rattle.nv_mirror.specs.PassSteps.{either_of, fault_in, place_by}
+use Rattle.nv_mirror.specs.WriteSteps.{HasMadeOne, IsFresh, first_kind, part_fault, with_list, write_fault, write_kind, write_place}
+use Rattle.nv_calls.specs.declared.machine.Progress.{Progress}
+use Rattle.nv_calls.specs.declared.machine.Progress.TheVariants.{More, Ended}
+use Rattle.nv_calls.specs.declared.writing.WriteControl.{WriteControl}
+use Rattle.nv_calls.specs.declared.writing.WriteControl.TheVariants as writes
+use Rattle.nv_calls.specs.declared.writing.WriteMachine.{WriteMachine}
+use Rattle.nv_calls.specs.fsync.SyncRuns.{file_of_fd}
+use Rattle.nv_calls.specs.reads.EarlyRefusals.{early_range_refusal}
+use Rattle.nv_calls.specs.reads.Reads.{refusal_of}
+use Rattle.nv_calls.specs.writes.WriteMachines.{IsFewer, IsOfFile, IsOneStep, IsPutInAs, IsWriteUnderWay, StandsAt, WriteGoes, early_of, fault_at, kind_at, measure, measure_at, place_at, progress_of}
+use Rattle.nv_calls.specs.writes.Writes.{IsAdmitted, IsOverBy, early_fd_refusal, early_refusal}
+
+-- ---- the list is put in and taken out
+
+-- It stands where it stood.
+pub record StandsSame (write other : RunningWrite) : Type 0 where
+  pub kind : write_kind other ≡ write_kind write
+  pub place : write_place other ≡ write_place write
+  pub fault : write_fault other ≡ write_fault write
+  pub measure : write_measure other ≡ write_measure write
+
+module _ (list : Bor (List ℕ)) where
+  front_same : (m : FrontMachine) (control : FrontControl) → StandsSame (Front (record m { control = control })) (Front (record m { control = control; asked = asked_with list m.asked }))
+  front_same m fronts.Begin = record { kind = refl; place = refl; fault = refl; measure = refl }
+  front_same m fronts.TakePage = record { kind = refl; place = refl; fault = refl; measure = refl }
+  front_same m fronts.LoadLength = record { kind = refl; place = refl; fault = refl; measure = refl }
+  front_same m fronts.TakeSize = record { kind = refl; place = refl; fault = refl; measure = refl }
+  front_same m fronts.LoadStop = record { kind = refl; place = refl; fault = refl; measure = refl }
+  front_same m fronts.LoadOrder = record { kind = refl; place = refl; fault = refl; measure = refl }
+  front_same m Passed = record { kind = refl; place = refl; fault = refl; measure = refl }
+  front_same m (fronts.GiveBack true refusal) = record { kind = refl; place = refl; fault = refl; measure = refl }
+  front_same m (fronts.GiveBack false refusal) = record { kind = refl; place = refl; fault = refl; measure = refl }
+  front_same m (FrontOver refusal) = record { kind = refl; place = refl; fault = refl; measure = refl }
+
+  append_same : (m : AppendMachine) (control : AppendControl) → StandsSame (Append (record m { control = control })) (Append (record m { control = control; bytes = list }))
+  append_same m appends.LoadHead = record { kind = refl; place = refl; fault = refl; measure = refl }
+  append_same m appends.LoadTail = record { kind = refl; place = refl; fault = refl; measure = refl }
+  append_same m appends.DrawNumbers = record { kind = refl; place = refl; fault = refl; measure = refl }
+  append_same m (appends.SeizeEntry seized) = record { kind = refl; place = refl; fault = refl; measure = refl }
+  append_same m appends.CommitGroup = record { kind = refl; place = refl; fault = refl; measure = refl }
+  append_same m (appends.PledgePage pledged) = record { kind = refl; place = refl; fault = refl; measure = refl }
+  append_same m (appends.ReadyEntry ready) = record { kind = refl; place = refl; fault = refl; measure = refl }
+  append_same m appends.TakePlace = record { kind = refl; place = refl; fault = refl; measure = refl }
+  append_same m appends.GrowLength = record { kind = refl; place = refl; fault = refl; measure = refl }
+  append_same m (appends.BreakEntry broken) = record { kind = refl; place = refl; fault = refl; measure = refl }
+  append_same m Appended = record { kind = refl; place = refl; fault = refl; measure = refl }
+  append_same m (Refused refusal) = record { kind = refl; place = refl; fault = refl; measure = refl }
+
+  release_same : (m : ReleaseMachine) (control : ReleaseControl) → StandsSame (Release (record m { control = control })) (Release (record m { control = control; asked = asked_with list m.asked }))
+  release_same m releases.GiveSize = record { kind = refl; place = refl; fault = refl; measure = refl }
+  release_same m (releases.GivePage given) = record { kind = refl; place = refl; fault = refl; measure = refl }
+  release_same m releases.Over = record { kind = refl; place = refl; fault = refl; measure = refl }
+
+  pub list_same : (write : RunningWrite) → StandsSame write (with_list list write)
+  list_same (Pageless m) = record { kind = refl; place = refl; fault = refl; measure = refl }
+  list_same (Front m) = front_same m m.control
+  list_same (Append m) = append_same m m.control
+  list_same (Release m) = release_same m m.control
+  list_same (Over result) = record { kind = refl; place = refl; fault = refl; measure = refl }
+
+  pub list_open : (write : RunningWrite) → IsOpen write → IsOpen (with_list list write)
+  list_open (Pageless m) runs = runs
+  list_open (Front m) runs = runs
+  list_open (Append m) runs = runs
+  list_open (Release m) runs = runs
+  list_open (Over result) runs = runs
+
+-- A list takes the place of the one before it.
+asked_twice : (list other : Bor (List ℕ)) (asked : Asked) → asked_with list (asked_with other asked) ≡ asked_with list asked
+asked_twice list other (AsksWrite file at bytes) = refl
+asked_twice list other (AsksRead file at len) = refl
+asked_twice list other (AsksSync file) = refl
+
+list_twice : (list other : Bor (List ℕ)) (write : RunningWrite) → with_list list (with_list other write) ≡ with_list list write
+list_twice list other (Pageless m) = ap (λ asked. Pageless (record m { asked = asked })) (asked_twice list other m.asked)
+list_twice list other (Front m) = ap (λ asked. Front (record m { asked = asked })) (asked_twice list other m.asked)
+list_twice list other (Append m) = refl
+list_twice list other (Release m) = ap (λ asked. Release (record m { asked = asked })) (asked_twice list other m.asked)
+list_twice list other (Over result) = refl
+
+-- A write is under way with any list of its bytes, whichever it had before.
+lent_on : (list other : Bor (List ℕ)) (file at : ℕ) (start now : PassState) (write : RunningWrite) → IsUnderWay (Write file at list.now) (with_list other write) start now
+    → IsUnderWay (Write file at list.now) (with_list list write) start now
+lent_on list other file at start now write way =
+    subst (λ w. IsUnderWay (Write file at list.now) w start now) (list_twice list other write) (list_way list file at start now (with_list other write) way)
+
+-- ---- before the first step
+
+of_both : {T U : Type 0} (f : T → U) (b : Bool) (one other : T) (u : U) → f one ≡ u → f other ≡ u → f (if b then one else other) ≡ u
+of_both f true one other u first second = first
+of_both f false one other u first second = second
+
+-- no device call has failed where what it asks for is refused
+fd_faultless : (sizes : Sizes) (one : Option Fd) (at len : ℕ) → part_fault (early_fd_refusal sizes one at len) ≡ None
+fd_faultless sizes None at len = refl
+fd_faultless sizes (Some one) at len =
+    of_both part_fault (can_write one.mode) (early_range_refusal sizes at len) (Some BadFd) None
+    (of_both part_fault (nat_lt (sizes.page * sizes.pages) (at + len)) (Some TooFar) _ None refl
+    (of_both part_fault (nat_lt (min version_1.group_limit sizes.entries) (pages_touched at len sizes.page)) (Some TooLong) None None refl refl)) refl
+
+faultless : (sizes : Sizes) (fds : List Fd) (fd at len : ℕ) (refusal : Refusal) → early_refusal sizes fds fd at len ≡ Some refusal → None ≡ part_fault (Some refusal)
+faultless sizes fds fd at len refusal is = sym (fd_faultless sizes (slice_get fds fd) at len) ∙ ap part_fault is
+
+begun : (fds : List Fd) (m : WriteMachine) (list : List ℕ) (start now : PassState) → m.control ≡ writes.Begin → IsWriteUnderWay fds m list start now → IsIdle start × (now ≡ start)
+begun fds m list start now begins way = subst (StandsAt fds m list start now) begins way.stands
+
+-- It ends without a step where what it asks for is refused.
+pub ends_early : (fds : List Fd) (m : WriteMachine) (list : List ℕ) (start now : PassState) (refusal : Refusal) → m.control ≡ writes.Begin → early_of now.view.opened.sizes fds m ≡ Some refusal
+    → IsWriteUnderWay fds m list start now → WriteGoes fds start m list now (Ended (Err refusal))
+ends_early fds m list start now refusal begins early way =
+    let same = (begun fds m list start now begins way).1 in
+    let here : early_refusal start.view.opened.sizes fds m.fd m.at (length list) ≡ Some refusal =
+    ap (early_refusal start.view.opened.sizes fds m.fd m.at) way.room ∙ ap (λ (p : PassState). early_of p.view.opened.sizes fds m) (sym same) ∙ early in (
+      ap (λ control. option_map (λ place. record { place = place; len = m.len }) (place_at control)) begins,
+      ap fault_at begins ∙ faultless now.view.opened.sizes fds m.fd m.at m.len refusal early,
+      subst (λ by. IsOverBy by fds m.fd m.at list start now (Err refusal)) (sym here) (refl, same),
+    )
+
+-- ---- an advance goes on
+
+-- a machine whose write is so, with the list taken out
+abbrev pub kept : WriteMachine → (other : Bor (List ℕ)) → RunningWrite → WriteMachine
+kept m other write = record m { control = writes.Running (with_list other write) }
+
+module _ (fds : List Fd) (m : WriteMachine) (list other : Bor (List ℕ)) (room : length list.now ≡ m.len) (start now : PassState) where
+  runs_on : (write : RunningWrite) → IsOpen write → IsOfFile fds m list.now write start now → IsWriteUnderWay fds (kept m other write) list.now start now
+  runs_on write runs of = record {
+    room = room;
+    stands = (
+      list_open other write runs,
+      list,
+      record {
+        early = of.early;
+        file = of.file;
+        file_is = of.file_is;
+        way = subst (λ w. IsUnderWay (Write of.file m.at list.now) w start now) (sym (list_twice list other write)) (list_way list of.file m.at start now write of.way);
+      },
+    );
+  }
+
+  early_here : (write : RunningWrite) → IsOfFile fds m list.now write start now → early_refusal start.view.opened.sizes fds m.fd m.at (length list.now) ≡ None
+  early_here write of = ap (early_refusal start.view.opened.sizes fds m.fd m.at) room ∙ of.early
+
+  -- it goes on, or has told what a whole write tells
+  pub goes_on : (write : RunningWrite) → IsSettled write → IsOfFile fds m list.now write start now → WriteGoes fds start (kept m other write) list.now now (progress_of m.len write)
+  goes_on (Pageless part) runs of = runs_on (Pageless part) runs of
+  goes_on (Front part) runs of = runs_on (Front part) runs of
+  goes_on (Append part) runs of = runs_on (Append part) runs of
+  goes_on (Release part) runs of = runs_on (Release part) runs of
+  goes_on (Over (Ok place)) runs of = (
+    refl,
+    refl,
+    subst (λ by. IsOverBy by fds m.fd m.at list.now start now (Ok record { place = place; len = m.len })) (sym (early_here (Over (Ok place)) of)) (of.file, of.file_is, of.way),
+  )
+  goes_on (Over (Err refusal)) runs of = (
+    refl,
+    refl,
+    subst (λ by. IsOverBy by fds m.fd m.at list.now start now (Err refusal)) (sym (early_here (Over (Err refusal)) of)) (of.file, of.file_is, of.way),
+  )
+
+-- by fewer steps
+module _ (sizes : Sizes) (m : WriteMachine) (other : Bor (List ℕ)) (before : ℕ) (within : before ≤ measure sizes m) where
+  less : (write : RunningWrite) → write_measure write < before → write_measure (with_list other write) < measure sizes m
+  less write falls = let same = (list_same other write).measure in omega (arith, same, falls, within)
+
+  pub fewer : (write : RunningWrite) → write_measure write < before → IsFewer sizes m (kept m other write) (progress_of m.len write)
+  fewer (Pageless part) falls = less (Pageless part) falls
+  fewer (Front part) falls = less (Front part) falls
+  fewer (Append part) falls = less (Append part) falls
+  fewer (Release part) falls = less (Release part) falls
+  fewer (Over (Ok place)) falls = tt
+  fewer (Over (Err refusal)) falls = tt
+
+-- its step is the write's
+pub steps_on : (sizes : Sizes) (fds : List Fd) (m : WriteMachine) (list other : Bor (List ℕ)) (first write : RunningWrite) (old new : PassState) → IsPutInAs sizes fds m list.now first → HasMadeOne first write old new
+    → IsOneStep m (kept m other write) old new
+steps_on sizes fds m list other first write old new put is = record {
+  step = is.step;
+  is = is.taken;
+  kind = λ well. is.kind well ∙ put.kind;
+  fault = (list_same other write).fault ∙ is.fault ∙ ap (λ fault. either_of fault (fault_in is.step.works)) put.fault;
+  place = (list_same other write).place ∙ is.place ∙ ap (λ place. either_of place (place_by is.step.op is.step.found)) put.place;
+}
+
+-- ---- where it is put in
+
+module _ (sizes : Sizes) (fds : List Fd) (m : WriteMachine) (list : Bor (List ℕ)) (room : length list.now ≡ m.len) where
+  pub puts_running : (write : RunningWrite) → m.control ≡ writes.Running write → IsOpen write → IsPutInAs sizes fds m list.now (with_list list write)
+  puts_running write is runs = record {
+    more = list_open list write runs;
+    kind = (list_same list write).kind ∙ ap (kind_at m.len) (sym is);
+    place = (list_same list write).place ∙ ap place_at (sym is);
+    fault = (list_same list write).fault ∙ ap fault_at (sym is);
+    fewer = let same = (list_same list write).measure ∙ ap (measure_at sizes m) (sym is) in omega (arith, same);
+    way = λ start now same way. let stands = subst (StandsAt fds m list.now start now) is way.stands in let of = stands.2 in
+        record { early = of.early; file = of.file; file_is = of.file_is; way = lent_on list stands.1 of.file m.at start now write of.way };
+  }
+
+  module _ (file : ℕ) (write : RunningWrite) (begins : m.control ≡ writes.Begin) (admitted : IsAdmitted sizes fds m.fd m.at list.now file) where
+    begins_way : ((pass : PassState) → pass.view.opened.sizes ≡ sizes → IsIdle pass → IsUnderWay (Write file m.at list.now) write pass pass) → (start now : PassState) → now.view.opened.sizes ≡ sizes
+        → IsWriteUnderWay fds m list.now start now → IsOfFile fds m list.now write start now
+    begins_way fresh start now same way =
+        let begun = begun fds m list.now start now begins way in
+        let here : start.view.opened.sizes ≡ sizes = ap (λ (p : PassState). p.view.opened.sizes) (sym begun.1) ∙ same in
+        subst (λ (p : PassState). IsOfFile fds m list.now write start p) (sym begun.1) record {
+          early = ap (λ s. early_of s fds m) here ∙ ap (early_refusal sizes fds m.fd m.at) (sym room) ∙ admitted.early;
+          file = file;
+          file_is = admitted.file_is;
+          way = fresh start here begun.0;
+        }
+
+    pub puts_fresh : IsOpen write → IsFresh sizes (Write file m.at list.now) write → ((pass : PassState) → pass.view.opened.sizes ≡ sizes → IsIdle pass → IsUnderWay (Write file m.at list.now) write pass pass)
+        → IsPutInAs sizes fds m list.now write
+    puts_fresh runs new fresh = record {
+      more = runs;
+      kind = new.kind ∙ ap first_kind room ∙ ap (kind_at m.len) (sym begins);
+      place = new.place ∙ ap place_at (sym begins);
+      fault = new.fault ∙ ap fault_at (sym begins);
+      fewer = subst (λ control. write_measure write ≤ measure_at sizes m control) (sym begins)
+          (subst (λ n. write_measure write ≤ 20 + 6 * pages_touched m.at n sizes.page) room (let few = new.few in omega (arith, few)));
+      way = begins_way fresh;
+    }

@@ -1,0 +1,149 @@
+-- Write machines: where a write of a descriptor stands that is made one step at a time.
+use Rattle.std.specs.Prelude.{◌≡◌, ◌⊎◌, ℕ, ◌+◌, ◌*◌, ◌<◌, ◌≤◌, List, length, Option, Some, None, option_map, Result, Ok, Err}
+use Rattle.std.specs.Borrow.{Bor}
+use Rattle.nv_plain.specs.Pieces.{pages_touched}
+use Rattle.nv_plain.specs.declared.call.FileCall.TheVariants.{Write}
+use Rattle.nv_core.specs.state.Words.{Sizes}
+use Rattle.nv_table.specs.invariant.Idle.{IsIdle}
+use Rattle.nv_table.specs.state.States.{PassState}
+use Rattle.nv_mount.specs.declared.fds.Fd.{Fd}
+use Rattle.nv_op.specs.declared.kinds.Kind.{Kind}
+use Rattle.nv_op.specs.Kinds.{kind_of_op}
+use Rattle.nv_mirror.specs.declared.answers.Done.{Done}
+use Rattle.nv_mirror.specs.declared.answers.Refusal.{Refusal}
+use Rattle.nv_mirror.specs.declared.write.RunningWrite.{RunningWrite}
+use Rattle.nv_mirror.specs.declared.write.RunningWrite.TheVariants.{Over}
+use Rattle.nv_mirror.specs.PassSteps.{PassStep, HasTaken, either_of, fault_in, place_by}
+use Rattle.nv_mirror.specs.RunningWrites.{IsOpen, IsUnderWay, write_measure}
+use Rattle.nv_mirror.specs.WriteSteps.{first_kind, part_fault, with_list, write_fault, write_kind, write_place}
+use Rattle.nv_calls.specs.declared.machine.Progress.{Progress}
+use Rattle.nv_calls.specs.declared.machine.Progress.TheVariants.{More, Ended}
+use Rattle.nv_calls.specs.declared.writing.WriteControl.{WriteControl}
+use Rattle.nv_calls.specs.declared.writing.WriteControl.TheVariants as writes
+use Rattle.nv_calls.specs.declared.writing.WriteMachine.{WriteMachine}
+use Rattle.nv_calls.specs.fsync.SyncRuns.{file_of_fd}
+use Rattle.nv_calls.specs.reads.Reads.{done_of, refusal_of}
+use Rattle.nv_calls.specs.writes.Writes.{IsWriteOver, early_refusal}
+
+-- ---- what comes next, and what has come of it
+
+-- what it asks for is refused before any step
+abbrev pub early_of : Sizes → List Fd → WriteMachine → Option Refusal
+early_of sizes fds m = early_refusal sizes fds m.fd m.at m.len
+
+-- the kind of its next step, where no device call before that fails; before the first one that of a write that isn't refused so
+abbrev pub kind_at : (len : ℕ) → WriteControl → Kind
+kind_at len writes.Begin = first_kind len
+kind_at len (writes.Running write) = write_kind write
+
+abbrev pub next_kind_of : WriteMachine → Kind
+next_kind_of m = kind_at m.len m.control
+
+-- its place, once it has one
+abbrev pub place_at : WriteControl → Option ℕ
+place_at writes.Begin = None
+place_at (writes.Running write) = write_place write
+
+abbrev pub place_so_far : WriteMachine → Option ℕ
+place_so_far m = place_at m.control
+
+-- and the answer that it tells then
+abbrev pub placed_by : WriteMachine → Option Done
+placed_by m = option_map (λ place. record { place = place; len = m.len }) (place_so_far m)
+
+-- the fault of a device call before one of its steps, once there was one
+abbrev pub fault_at : WriteControl → Option Refusal
+fault_at writes.Begin = None
+fault_at (writes.Running write) = write_fault write
+
+abbrev pub fault_so_far : WriteMachine → Option Refusal
+fault_so_far m = fault_at m.control
+
+-- ---- since a start
+
+-- It isn't refused before its first step, and this is that write of its descriptor's file, of this list, which has made some steps.
+pub record IsOfFile (fds : List Fd) (m : WriteMachine) (list : List ℕ) (write : RunningWrite) (start now : PassState) : Type 0 where
+  pub early : early_of start.view.opened.sizes fds m ≡ None
+  pub file : ℕ
+  pub file_is : file_of_fd fds m.fd ≡ Some file
+  pub way : IsUnderWay (Write file m.at list) write start now
+
+-- Its pass was idle at the start. It has made no step yet, or is under way with a list of its bytes put in.
+abbrev pub StandsAt : List Fd → WriteMachine → (list : List ℕ) → (start now : PassState) → WriteControl → Type 0
+StandsAt fds m list start now writes.Begin = IsIdle start × (now ≡ start)
+StandsAt fds m list start now (writes.Running write) = IsOpen write × (lent : Bor (List ℕ)) × IsOfFile fds m list (with_list lent write) start now
+
+pub record IsWriteUnderWay (fds : List Fd) (m : WriteMachine) (list : List ℕ) (start now : PassState) : Type 0 where
+  pub room : length list ≡ m.len
+  pub stands : StandsAt fds m list start now m.control
+
+-- It goes on from a start, or has told what a whole write tells: then its machine tells the same answer, and whether that is a device fault.
+abbrev pub WriteGoes : List Fd → (start : PassState) → WriteMachine → (list : List ℕ) → (now : PassState) → Progress → Type 0
+WriteGoes fds start m list now More = IsWriteUnderWay fds m list start now
+WriteGoes fds start m list now (Ended result) =
+    (placed_by m ≡ done_of result) × (fault_so_far m ≡ part_fault (refusal_of result)) × IsWriteOver fds m.fd m.at list start now result
+
+-- ---- an advance
+
+-- it is the same write
+pub record IsSameWrite (m next : WriteMachine) : Type 0 where
+  pub fd : next.fd ≡ m.fd
+  pub at : next.at ≡ m.at
+  pub len : next.len ≡ m.len
+
+-- The pass has made one step, after the device calls that lie before it. It was of the kind that was said, where none of these has failed; the write has
+-- had a fault where it had one before, or one of them has failed; and it has its place where it had one before, or took it by this step.
+pub record IsOneStep (m next : WriteMachine) (old new : PassState) : Type 0 where
+  pub step : PassStep
+  pub is : HasTaken step old new
+  pub kind : fault_in step.works ≡ None → kind_of_op step.op ≡ next_kind_of m
+  pub fault : fault_so_far next ≡ either_of (fault_so_far m) (fault_in step.works)
+  pub place : place_so_far next ≡ either_of (place_so_far m) (place_by step.op step.found)
+
+-- It has made no step, since the write is refused by what it asks for.
+pub record IsNoStep (fds : List Fd) (m next : WriteMachine) (old new : PassState) (progress : Progress) : Type 0 where
+  pub refusal : Refusal
+  pub early : early_of old.view.opened.sizes fds m ≡ Some refusal
+  pub answer : progress ≡ Ended (Err refusal)
+  pub stays : next ≡ m
+  pub same : new ≡ old
+
+-- An advance makes one step, or, where the write is refused before its first step, none.
+abbrev pub IsOneOrNone : List Fd → (m next : WriteMachine) → (old new : PassState) → Progress → Type 0
+IsOneOrNone fds m next old new progress = IsNoStep fds m next old new progress ⊎ IsOneStep m next old new
+
+-- ---- how many steps may still come
+
+abbrev pub measure_at : Sizes → WriteMachine → WriteControl → ℕ
+measure_at sizes m writes.Begin = 20 + 6 * pages_touched m.at m.len sizes.page
+measure_at sizes m (writes.Running write) = write_measure write
+
+abbrev pub measure : Sizes → WriteMachine → ℕ
+measure sizes m = measure_at sizes m m.control
+
+-- a write that goes on has fewer steps before it
+abbrev pub IsFewer : Sizes → (m next : WriteMachine) → Progress → Type 0
+IsFewer sizes m next More = measure sizes next < measure sizes m
+IsFewer sizes m next (Ended result) = Unit {0}
+
+-- ---- its parts
+
+-- what an advance came to behind which the write is so
+abbrev pub progress_of : (len : ℕ) → RunningWrite → Progress
+progress_of len (Over (Ok place)) = Ended (Ok record { place = place; len = len })
+progress_of len (Over (Err refusal)) = Ended (Err refusal)
+progress_of len write = More
+
+-- the machine with its list put in: it stands where it stood
+pub record IsPutInAs (sizes : Sizes) (fds : List Fd) (m : WriteMachine) (list : List ℕ) (write : RunningWrite) : Type 0 where
+  pub more : IsOpen write
+  pub kind : write_kind write ≡ next_kind_of m
+  pub place : write_place write ≡ place_so_far m
+  pub fault : write_fault write ≡ fault_so_far m
+  pub fewer : write_measure write ≤ measure sizes m
+  pub way : (start now : PassState) → now.view.opened.sizes ≡ sizes → IsWriteUnderWay fds m list start now → IsOfFile fds m list write start now
+
+-- unless it is refused before its first step
+abbrev pub IsPutIn : Sizes → List Fd → WriteMachine → (list : List ℕ) → Result RunningWrite Refusal → Type 0
+IsPutIn sizes fds m list (Ok write) = IsPutInAs sizes fds m list write
+IsPutIn sizes fds m list (Err refusal) = (m.control ≡ writes.Begin) × (early_of sizes fds m ≡ Some refusal)
