@@ -10,8 +10,8 @@ use Rattle.nv_table.specs.declared.slot.Slot.{Slot}
 use Rattle.nv_table.specs.ends.Begun.{IsBegun}
 use Rattle.nv_table.specs.state.States.{BoardState, PassState}
 use Rattle.nv_mount.specs.declared.fds.Fd.{Fd}
-use Rattle.nv_mount.specs.declared.mount.OpenError.{OpenError}
-use Rattle.nv_mount.specs.declared.mount.OpenError.TheVariants.{NoMemory, StoreFault}
+use Rattle.nv_mount.specs.declared.refusals.OpenError.{OpenError}
+use Rattle.nv_mount.specs.declared.refusals.OpenError.TheVariants.{NoMemory, StoreFault}
 
 -- a mount: its board, and its descriptors
 pub record MountState : Type 0 where

@@ -3,6 +3,8 @@
 
 mod fds;
 mod mount;
+mod refusals;
 
 pub use fds::{Fd, FdError, Fds, MAX_FDS};
-pub use mount::{Mount, OpenError, PassesOut, Unopened};
+pub use mount::Mount;
+pub use refusals::{OpenError, PassesOut, Unopened};

@@ -20,18 +20,17 @@ ghost use Rattle.nv_mount.specs.OneHistories.{HasOneHistory};
 ghost use Rattle.nv_mount.specs.RisenCounts.{SawStop, failed_before};
 ghost use Rattle.nv_mount.specs.Telling.{AllDevicesTell, StoresHave};
 
-use crate::Fds;
+use crate::{Fds, OpenError, PassesOut, Unopened};
 use nv_core::{
     passes_are_left_alone, regions_at_rest_open, runs_are_sound, runs_keep_content,
     runs_keep_the_log,
 };
 use nv_header::Region;
 use nv_pmem::{Lines, rows_have_states};
-use nv_store::{Backing, StoreFault};
+use nv_store::Backing;
 use nv_table::{Board, Closed, Pass, Refused};
-use std::alloc::{AllocFailed, Global};
+use std::alloc::Global;
 use std::marker::Model;
-use thiserror::Error;
 
 /// A mount: its board, which threads share, and the descriptors of its files.
 pub struct Mount<L: Lines, B: Backing> {
@@ -48,55 +47,6 @@ impl<L: Lines, B: Backing> Model for Mount<L, B> {
     ghost view = { λ m. record { board = m.board; fds = m.fds } };
 
     ghost invariant = { λ m. All (λ fd. fd.file < m.board.opened.sizes.files) m.fds };
-}
-
-/// Why nothing is mounted.
-#[derive(Clone, Copy, Debug, PartialEq, Eq, Error)]
-pub enum OpenError {
-    /// There was not enough memory.
-    #[error("no memory")]
-    NoMemory,
-    /// A store did not tell its length, and its count of faults rose.
-    #[error("a store failed")]
-    StoreFault,
-}
-
-impl From<StoreFault> for OpenError {
-    ghost use Rattle.std.specs.Prelude.{◌≡◌};
-    ghost use Rattle.nv_mount.specs.declared.mount.OpenError.TheVariants as error;
-
-    ghost from_gives = { λ _ e. e ≡ error.StoreFault };
-
-    fn from(_: StoreFault) -> Self {
-        OpenError::StoreFault
-    }
-}
-
-impl From<AllocFailed<u64>> for OpenError {
-    ghost use Rattle.std.specs.Prelude.{◌≡◌};
-    ghost use Rattle.nv_mount.specs.declared.mount.OpenError.TheVariants as error;
-
-    ghost from_gives = { λ _ e. e ≡ error.NoMemory };
-
-    fn from(_: AllocFailed<u64>) -> Self {
-        OpenError::NoMemory
-    }
-}
-
-/// What comes back where nothing is mounted: the region and the stores, in their order, and why.
-#[derive(Drop)]
-pub struct Unopened<L: Lines, B> {
-    pub region: Region<L>,
-    pub stores: Vec<B>,
-    pub error: OpenError,
-}
-
-/// Passes are out: pass 0 has made more than it has taken in.
-#[derive(Clone, Copy, Debug, PartialEq, Eq, Error)]
-#[error("{made} passes were made, and {joined} joined")]
-pub struct PassesOut {
-    pub made: u64,
-    pub joined: u64,
 }
 
 // Asks each store for its length in bytes.

@@ -7,7 +7,7 @@
 //! events. So a step is one event of the core, after the device calls that its pass has made since its last one, and nothing else changes the
 //! table. `docs/machine.md` has all of it in words.
 //!
-//! [`step`] makes a step of any kind; the crates above say what their kinds are by [`Does`], and prove when they may come. The kinds that every
+//! [`step`] makes a step of any kind; the crates above say what their kinds are by [`StepSpec`], and prove when they may come. The kinds that every
 //! call has are here: [`load_word`], [`take`], [`give`], [`place`] and [`stop`].
 #![tactic(auto)]
 
@@ -19,6 +19,7 @@ mod laws;
 mod layout;
 mod opening;
 mod pass;
+mod passing;
 mod rule;
 mod seating;
 mod seats;

@@ -6,7 +6,8 @@ ghost use Rattle.nv_table.specs.state.Views.{pass_of, made_of};
 ghost use Rattle.nv_table.specs.state.States.{IsOf};
 
 use crate::pass::or_else;
-use crate::seating::{import_view as import_note, join, leave, part, split, take_in, tell};
+use crate::passing::{join, leave, split};
+use crate::seating::{import_view as import_into_seat, part, take_in, tell};
 use crate::{Board, Pass, Slot, View};
 use atomic_table::Seat;
 use nv_core::{passes_are_left_alone, runs_are_sound};
@@ -188,5 +189,5 @@ pub fn import_view<L: Lines, B: Backing>(
     ensures to { to.new ≡ imported_by to.old exported.run }
 {
     let ExportedView { seat } = exported;
-    import_note(&board.table.shared, &mut to.seat, seat);
+    import_into_seat(&board.table.shared, &mut to.seat, seat);
 }

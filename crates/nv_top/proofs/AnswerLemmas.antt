@@ -12,7 +12,7 @@ use Rattle.nv_engine.specs.Refusals.{write_refusal, most_pages, IsRefusedWrite}
 use Rattle.nv_engine.specs.declared.log.Log.{Log}
 use Rattle.nv_engine.specs.declared.error.WriteError.{WriteError}
 use Rattle.nv_trace.specs.declared.trace.Descriptor.{Descriptor}
-use Rattle.nv_trace.specs.declared.trace.TraceCall.TheVariants.{Pwrite}
+use Rattle.nv_trace.specs.declared.trace_call.TraceCall.TheVariants.{Pwrite}
 use Rattle.nv_trace.specs.declared.report.Refusal.TheVariants.{BadDescriptor, TooFar, TooLong}
 use Rattle.nv_top.specs.Answers.{IsAnswer, sizes_of_region}
 use Rattle.nv_top.specs.Faithful.{barred_there, descriptor_at, is_allowed}

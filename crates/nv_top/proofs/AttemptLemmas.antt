@@ -18,7 +18,7 @@ use Rattle.nv_engine.specs.declared.error.WriteError.{WriteError}
 use Rattle.nv_engine.specs.declared.error.WriteError.TheVariants as write_error
 use Rattle.nv_engine.specs.declared.log.Log.{Log}
 use Rattle.nv_trace.specs.declared.trace.Descriptor.{Descriptor}
-use Rattle.nv_trace.specs.declared.trace.TracedCall.{TracedCall}
+use Rattle.nv_trace.specs.declared.trace_call.TracedCall.{TracedCall}
 use Rattle.nv_trace.specs.declared.report.Refusal.{Refusal}
 use Rattle.nv_trace.specs.declared.report.Refusal.TheVariants.{BadDescriptor, TooFar, TooLong, Stopped, Spent, Again, RegionFault, StoreFault}
 use Rattle.nv_top.specs.Answers.{IsAnswer, IsRefusedAt, sizes_of_region}

@@ -18,8 +18,8 @@ use Rattle.nv_engine.specs.Laid.{LaidPiece, all_entries, entries_of_piece, leade
 use Rattle.nv_engine.specs.Logged.{AreFitting, HasLog, LoggedImagesRecover, RecoversTo}
 use Rattle.nv_engine.specs.declared.log.Log.{Log}
 use Rattle.nv_trace.specs.declared.trace.Descriptor.{Descriptor}
-use Rattle.nv_trace.specs.declared.trace.TraceCall.{TraceCall}
-use Rattle.nv_trace.specs.declared.trace.TraceCall.TheVariants.{Pread, Pwrite, Fsync}
+use Rattle.nv_trace.specs.declared.trace_call.TraceCall.{TraceCall}
+use Rattle.nv_trace.specs.declared.trace_call.TraceCall.TheVariants.{Pread, Pwrite, Fsync}
 use Rattle.nv_trace.specs.declared.report.Fate.{Fate}
 use Rattle.nv_trace.specs.declared.report.Fate.TheVariants.{Kept, Lost}
 use Rattle.nv_top.specs.Attempts.{IsHeld, piece_of_call}

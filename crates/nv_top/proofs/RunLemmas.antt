@@ -23,7 +23,7 @@ use Rattle.nv_trace.specs.declared.bad_line.Why.{Why}
 use Rattle.nv_trace.specs.declared.bad_line.Why.TheVariants.{Long as LongLine, Bytes as OddBytes}
 use Rattle.nv_trace.specs.declared.statement.Statement.TheVariants.{File, Opened, Call}
 use Rattle.nv_trace.specs.declared.trace.Form.{Form}
-use Rattle.nv_trace.specs.declared.trace.TracedCall.{TracedCall}
+use Rattle.nv_trace.specs.declared.trace_call.TracedCall.{TracedCall}
 use Rattle.nv_trace.specs.declared.report.Refusal.{Refusal}
 use Rattle.nv_trace.specs.declared.report.Refusal.TheVariants.{BadDescriptor, TooFar, TooLong, Stopped, Spent, Again, RegionFault, StoreFault}
 use Rattle.nv_top.specs.Faithful.{Basis, RunSizes, IsAllowedRefusal, MayBeDrawn, IsLeftOpen, IsReadCall, WasRefused, barred, entries_of, entries_taken, file_call, history_of, lines_of, not_later}

@@ -35,7 +35,7 @@ use Rattle.nv_engine.specs.Logged.{AreFitting, HasLog, LoggedImagesRecover}
 use Rattle.nv_engine.specs.declared.log.Log.{Log}
 use Rattle.nv_trace.specs.declared.trace.Descriptor.{Descriptor}
 use Rattle.nv_trace.specs.Traced.{Traced}
-use Rattle.nv_trace.specs.declared.trace.TracedCall.{TracedCall}
+use Rattle.nv_trace.specs.declared.trace_call.TracedCall.{TracedCall}
 use Rattle.nv_top.specs.Attempts.{HasRunTo, IsHeld, piece_of_call}
 use Rattle.nv_top.specs.Faithful.{Basis, IsLeftOpen, IsWrite, after_open, descriptors_in, entries_of, entries_taken, named}
 use Rattle.nv_top.specs.Fates.{fate_of, fated, fated_report, RecoversAsFated}

@@ -28,7 +28,7 @@ use Rattle.nv_open.specs.Refusals.{AreLong, CanBeRead, IsHeadRefused, IsRefusedF
 use Rattle.nv_open.specs.declared.error.Refusal.{Refusal}
 use Rattle.nv_open.specs.declared.error.Refusal.TheVariants.{Truncated, BadMagic, BadVersion, BadGeometry, BadName, BadEntry, TooManyFiles}
 use Rattle.nv_trace.specs.declared.trace.Descriptor.{Descriptor}
-use Rattle.nv_trace.specs.declared.trace.TracedCall.{TracedCall}
+use Rattle.nv_trace.specs.declared.trace_call.TracedCall.{TracedCall}
 use Rattle.nv_top.specs.Attempts.{HasRunTo, IsLong}
 use Rattle.nv_top.specs.Faithful.{Basis}
 use Rattle.nv_top.specs.declared.outcome.Outcome.{Outcome}

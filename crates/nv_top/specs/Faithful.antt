@@ -11,9 +11,9 @@ use Rattle.nv_plain.specs.Modes.{can_read, can_write}
 use Rattle.nv_plain.specs.declared.mode.Mode.TheVariants.{R}
 use Rattle.nv_plain.specs.Layouts.{version_1}
 use Rattle.nv_plain.specs.Pieces.{pages_touched}
-use Rattle.nv_trace.specs.declared.trace.TraceCall.{TraceCall}
-use Rattle.nv_trace.specs.declared.trace.TraceCall.TheVariants.{Pread, Pwrite, Fsync}
-use Rattle.nv_trace.specs.declared.trace.TracedCall.{TracedCall}
+use Rattle.nv_trace.specs.declared.trace_call.TraceCall.{TraceCall}
+use Rattle.nv_trace.specs.declared.trace_call.TraceCall.TheVariants.{Pread, Pwrite, Fsync}
+use Rattle.nv_trace.specs.declared.trace_call.TracedCall.{TracedCall}
 use Rattle.nv_trace.specs.declared.report.Fate.{Fate}
 use Rattle.nv_trace.specs.declared.report.Fate.TheVariants.{Kept, Lost}
 use Rattle.nv_trace.specs.declared.report.Refusal.{Refusal}

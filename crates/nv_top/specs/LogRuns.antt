@@ -9,7 +9,7 @@ use Rattle.nv_header.specs.declared.region.Region.{Region}
 use Rattle.nv_plain.specs.Files.{Files}
 use Rattle.nv_trace.specs.declared.trace.Descriptor.{Descriptor}
 use Rattle.nv_trace.specs.Traced.{Traced}
-use Rattle.nv_trace.specs.declared.trace.TracedCall.{TracedCall}
+use Rattle.nv_trace.specs.declared.trace_call.TracedCall.{TracedCall}
 use Rattle.nv_top.specs.Answers.{sizes_of_region}
 use Rattle.nv_top.specs.Faithful.{Basis, IsFaithful, files_shown}
 use Rattle.nv_top.specs.Leaving.{AreLeft}

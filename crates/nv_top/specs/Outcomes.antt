@@ -1,6 +1,6 @@
 -- Outcomes: what contracts see of the calls of a run.
 use Rattle.std.specs.Prelude.{ℕ, List, map}
-use Rattle.nv_trace.specs.declared.trace.TracedCall.{TracedCall}
+use Rattle.nv_trace.specs.declared.trace_call.TracedCall.{TracedCall}
 use Rattle.nv_top.specs.Faithful.{named}
 use Rattle.nv_top.specs.Reports.{PlacedCall, RefusedCall, OpenCall, Report}
 use Rattle.nv_top.specs.declared.outcome.Placed.{Placed}

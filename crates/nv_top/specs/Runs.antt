@@ -4,7 +4,7 @@ use Rattle.std.specs.List.Sorted.{IsStrictlyIncreasing}
 use Rattle.nv_plain.specs.Files.{Files}
 use Rattle.nv_plain.specs.Histories.{IsLegal, after}
 use Rattle.nv_trace.specs.declared.trace.Descriptor.{Descriptor}
-use Rattle.nv_trace.specs.declared.trace.TracedCall.{TracedCall}
+use Rattle.nv_trace.specs.declared.trace_call.TracedCall.{TracedCall}
 use Rattle.nv_top.specs.Faithful.{Basis, IsAllowedRefusal, IsLeftOpen, barred, entries_of, history_of, lines_of}
 use Rattle.nv_top.specs.Reports.{PlacedCall, RefusedCall}
 

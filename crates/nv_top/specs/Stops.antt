@@ -10,8 +10,8 @@ use Rattle.nv_recover.specs.declared.error.RecoverError.TheVariants as recover_e
 use Rattle.nv_open.specs.declared.error.OpenError.TheVariants as open_errors
 use Rattle.nv_trace.specs.Reading.{ending_of, Bad, Long}
 use Rattle.nv_trace.specs.declared.trace.Form.TheVariants.{Run}
-use Rattle.nv_trace.specs.declared.reader.ReadError.{ReadError}
-use Rattle.nv_trace.specs.declared.reader.ReadError.TheVariants as read_errors
+use Rattle.nv_trace.specs.declared.read_error.ReadError.{ReadError}
+use Rattle.nv_trace.specs.declared.read_error.ReadError.TheVariants as read_errors
 use Rattle.nv_top.specs.declared.words.WordsError.{WordsError}
 use Rattle.nv_top.specs.declared.words.WordsError.TheVariants as words_errors
 use Rattle.nv_top.specs.declared.ending.Stop.{Stop}

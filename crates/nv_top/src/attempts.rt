@@ -4,7 +4,7 @@ ghost use Rattle.std.specs.List.Sorted.{IsStrictlyIncreasing};
 ghost use Rattle.nv_plain.specs.Faults.{Rose};
 ghost use Rattle.nv_engine.specs.Keeping.{IsLog, IsSameRegion};
 ghost use Rattle.nv_trace.specs.Shape.{IsCallWithin};
-ghost use Rattle.nv_trace.specs.declared.trace.TracedCall.{TracedCall};
+ghost use Rattle.nv_trace.specs.declared.trace_call.TracedCall.{TracedCall};
 ghost use Rattle.nv_top.specs.Answers.{log_faults};
 ghost use Rattle.nv_top.specs.Early.{IsBusy};
 ghost use Rattle.nv_top.specs.Faithful.{Basis, is_allowed};

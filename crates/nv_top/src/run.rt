@@ -13,7 +13,7 @@ ghost use Rattle.nv_engine.specs.Holding.{Holds};
 ghost use Rattle.nv_engine.specs.Keeping.{IsLog, IsSameRegion};
 ghost use Rattle.nv_engine.specs.Laid.{LaidPiece, laid};
 ghost use Rattle.nv_trace.specs.Shape.{IsCallWithin, IsWellFormed};
-ghost use Rattle.nv_trace.specs.declared.trace.TracedCall.{TracedCall};
+ghost use Rattle.nv_trace.specs.declared.trace_call.TracedCall.{TracedCall};
 ghost use Rattle.nv_top.specs.Answers.{log_faults};
 ghost use Rattle.nv_open.specs.Held.{told_after};
 ghost use Rattle.nv_open.specs.declared.error.Refusal.TheVariants as refusals;

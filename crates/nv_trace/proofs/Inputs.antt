@@ -8,8 +8,8 @@ use Rattle.nv_trace.specs.Refused.{RefusalTells, IsRefusedAs}
 use Rattle.nv_trace.specs.Pending.{input_ends}
 use Rattle.nv_trace.specs.declared.trace.Form.{Form}
 use Rattle.nv_trace.specs.declared.reader.LineReader.{LineReader}
-use Rattle.nv_trace.specs.declared.reader.ReadError.{ReadError}
-use Rattle.nv_trace.specs.declared.reader.ReadError.TheVariants as read_errors
+use Rattle.nv_trace.specs.declared.read_error.ReadError.{ReadError}
+use Rattle.nv_trace.specs.declared.read_error.ReadError.TheVariants as read_errors
 
 -- the input, where it was told, ends as the reader and what is left say
 abbrev pub EndsAlike : Form → (told left : Option (List ℕ)) → LineReader → Type 0

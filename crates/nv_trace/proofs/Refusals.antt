@@ -6,8 +6,8 @@ use Rattle.nv_trace.specs.Refused.{IsBadLine, RefusalTells, read_error}
 use Rattle.nv_trace.specs.Pending.{ending_after, lines_end, input_ends, IsWithinLines, EndsAt}
 use Rattle.nv_trace.specs.declared.bad_line.BadLine.{BadLine}
 use Rattle.nv_trace.specs.declared.reader.LineReader.{LineReader}
-use Rattle.nv_trace.specs.declared.reader.LineError.{LineError}
-use Rattle.nv_trace.specs.declared.reader.LineError.TheVariants as line_errors
+use Rattle.nv_trace.specs.declared.read_error.LineError.{LineError}
+use Rattle.nv_trace.specs.declared.read_error.LineError.TheVariants as line_errors
 use Rattle.nv_trace.proofs.Endings.{line_ended, open_ended, at_end, stopped}
 
 named : (bad : BadLine) (number : ℕ) → bad.number ≡ number → Bad (record { number = number; why = bad.why }) ≡ Bad bad

@@ -3,8 +3,8 @@ use Rattle.std.specs.Prelude.{◌≡◌, ℕ, ◌+◌, ◌-◌, ◌≤◌, ◌==
 use Rattle.nv_trace.specs.Lines.{parts_between, onto_first, but_last, last_if_some}
 use Rattle.nv_trace.specs.Traced.{Traced}
 use Rattle.nv_trace.specs.Reading.{Ending, Bad, after_lines, long_unless_bad, largest_input, longest_line}
-use Rattle.nv_trace.specs.declared.reader.LineError.{LineError}
-use Rattle.nv_trace.specs.declared.reader.LineError.TheVariants as line_errors
+use Rattle.nv_trace.specs.declared.read_error.LineError.{LineError}
+use Rattle.nv_trace.specs.declared.read_error.LineError.TheVariants as line_errors
 use Rattle.nv_trace.specs.declared.reader.LineReader.{LineReader}
 
 -- some bytes before the first part

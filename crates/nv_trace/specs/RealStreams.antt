@@ -1,7 +1,7 @@
 -- Streams over a reader or a writer, which tell nothing of their bytes.
 use Rattle.std.specs.Prelude.{ℕ, List, Option, None}
-use Rattle.nv_trace.specs.declared.real_streams.ReaderSource.{ReaderSource}
-use Rattle.nv_trace.specs.declared.real_streams.WriterSink.{WriterSink}
+use Rattle.nv_trace.specs.declared.reader_source.ReaderSource.{ReaderSource}
+use Rattle.nv_trace.specs.declared.writer_sink.WriterSink.{WriterSink}
 
 -- what is not told
 abbrev pub untold : {S : Type 0} → S → Option (List ℕ)

@@ -2,10 +2,10 @@
 use Rattle.std.specs.Prelude.{◌≡◌, ℕ, List, Err}
 use Rattle.nv_trace.specs.Traced.{Traced}
 use Rattle.nv_trace.specs.Reading.{after_line, ending_of, Ending, Bad, Long}
-use Rattle.nv_trace.specs.declared.reader.LineError.{LineError}
-use Rattle.nv_trace.specs.declared.reader.LineError.TheVariants as line_errors
-use Rattle.nv_trace.specs.declared.reader.ReadError.{ReadError}
-use Rattle.nv_trace.specs.declared.reader.ReadError.TheVariants as read_errors
+use Rattle.nv_trace.specs.declared.read_error.LineError.{LineError}
+use Rattle.nv_trace.specs.declared.read_error.LineError.TheVariants as line_errors
+use Rattle.nv_trace.specs.declared.read_error.ReadError.{ReadError}
+use Rattle.nv_trace.specs.declared.read_error.ReadError.TheVariants as read_errors
 use Rattle.nv_trace.specs.declared.trace.Form.{Form}
 
 -- the line is bad for this reason, and is named by its number; want of memory has no cause

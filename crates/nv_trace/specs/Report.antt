@@ -4,8 +4,8 @@ use Rattle.std.specs.Fmt.{decimal}
 use Rattle.hex.specs.Hex.{encode_lower}
 use Rattle.nv_plain.specs.declared.call.Reply.{Reply}
 use Rattle.nv_plain.specs.declared.call.Reply.TheVariants.{Bytes, Count, Done}
-use Rattle.nv_trace.specs.declared.trace.TraceCall.{TraceCall}
-use Rattle.nv_trace.specs.declared.trace.TraceCall.TheVariants.{Pread, Pwrite, Fsync}
+use Rattle.nv_trace.specs.declared.trace_call.TraceCall.{TraceCall}
+use Rattle.nv_trace.specs.declared.trace_call.TraceCall.TheVariants.{Pread, Pwrite, Fsync}
 use Rattle.nv_trace.specs.declared.report.Refusal.{Refusal}
 use Rattle.nv_trace.specs.declared.report.Refusal.TheVariants.{BadDescriptor, TooFar, TooLong, Stopped, Spent, Again, RegionFault, StoreFault}
 use Rattle.nv_trace.specs.declared.report.Fate.{Fate}

@@ -10,10 +10,10 @@ use Rattle.nv_trace.specs.declared.bad_line.Why.{Why}
 use Rattle.nv_trace.specs.declared.bad_line.Why.TheVariants.{Form, Late, Number, Name, Many, Repeat, Unknown}
 use Rattle.nv_trace.specs.declared.bad_line.Unsaid.{Unsaid}
 use Rattle.nv_trace.specs.declared.bad_line.Unsaid.TheVariants as unsaid
-use Rattle.nv_trace.specs.declared.statement.CallPlace.{CallPlace}
+use Rattle.nv_trace.specs.declared.call_lines.CallPlace.{CallPlace}
 use Rattle.nv_trace.specs.declared.statement.Statement.{Statement}
 use Rattle.nv_trace.specs.declared.statement.Statement.TheVariants.{File, Opened, Call}
-use Rattle.nv_trace.specs.declared.trace.TraceCall.TheVariants.{Pread, Pwrite, Fsync}
+use Rattle.nv_trace.specs.declared.trace_call.TraceCall.TheVariants.{Pread, Pwrite, Fsync}
 
 -- the place of a name among some names, or how many there are
 abbrev pub said_place : List ℕ → List (List ℕ) → ℕ

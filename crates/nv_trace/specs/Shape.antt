@@ -8,8 +8,8 @@ use Rattle.nv_trace.specs.Said.{said_place}
 use Rattle.nv_trace.specs.Traced.{Traced}
 use Rattle.nv_trace.specs.declared.statement.Statement.{Statement}
 use Rattle.nv_trace.specs.declared.statement.Statement.TheVariants.{File, Opened, Call}
-use Rattle.nv_trace.specs.declared.trace.TraceCall.{TraceCall}
-use Rattle.nv_trace.specs.declared.trace.TraceCall.TheVariants.{Pread, Pwrite, Fsync}
+use Rattle.nv_trace.specs.declared.trace_call.TraceCall.{TraceCall}
+use Rattle.nv_trace.specs.declared.trace_call.TraceCall.TheVariants.{Pread, Pwrite, Fsync}
 
 -- a call's descriptor is one of so many, and its numbers lie in the grammar's ranges
 abbrev pub IsCallWithin : ℕ → TraceCall → Type 0

@@ -2,7 +2,7 @@
 use Rattle.std.specs.Prelude.{ℕ, List, []}
 use Rattle.nv_trace.specs.declared.trace.Form.{Form}
 use Rattle.nv_trace.specs.declared.trace.Descriptor.{Descriptor}
-use Rattle.nv_trace.specs.declared.trace.TracedCall.{TracedCall}
+use Rattle.nv_trace.specs.declared.trace_call.TracedCall.{TracedCall}
 
 pub record Traced : Type 0 where
   -- what it is read for

@@ -2,21 +2,32 @@
 #![tactic(auto)]
 
 mod bad_line;
-mod mem_streams;
+mod call_lines;
+mod mem_sink;
+mod mem_source;
+mod plan;
+mod read_error;
 mod reader;
-mod real_streams;
+mod reader_source;
 mod report;
+mod spelling;
 mod statement;
 mod streams;
 mod trace;
+mod trace_call;
+mod writer_sink;
 
 pub use bad_line::{BadLine, Why};
-pub use mem_streams::{MemSink, MemSource};
-pub use reader::{LineError, ReadError, read_line, read_trace};
-pub use real_streams::{ReaderSource, WriterSink};
+pub use mem_sink::MemSink;
+pub use mem_source::MemSource;
+pub use read_error::{LineError, ReadError};
+pub use reader::{read_line, read_trace};
+pub use reader_source::ReaderSource;
 pub use report::{
     Fate, Refusal, end_line, file_line, history_line, open_line, recovered_line, refused_line,
 };
 pub use statement::place_of;
 pub use streams::{Failed, Sink, Source, write_all};
-pub use trace::{Descriptor, Form, Trace, TraceCall, TracedCall};
+pub use trace::{Descriptor, Form, Trace};
+pub use trace_call::{TraceCall, TracedCall};
+pub use writer_sink::WriterSink;

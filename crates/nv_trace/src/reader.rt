@@ -6,75 +6,17 @@ ghost use Rattle.nv_trace.specs.Reading as reading;
 ghost use Rattle.nv_trace.specs.Reading.{after_line, ending_of, Whole};
 ghost use Rattle.nv_trace.specs.Grammar.{is_printable};
 ghost use Rattle.nv_trace.specs.Said.{IsUnsaid};
-ghost use Rattle.nv_trace.specs.Refused.{IsBadLine, IsRefusedAs, RefusalTells, read_error};
+ghost use Rattle.nv_trace.specs.Refused.{IsBadLine, IsRefusedAs, RefusalTells};
 ghost use Rattle.nv_trace.specs.Pending.{input_ends, lines_end, room_for, IsWithinLines, EndsAt};
-ghost use Rattle.nv_trace.specs.declared.reader.LineError.TheVariants as line_errors;
-ghost use Rattle.nv_trace.specs.declared.reader.ReadError.TheVariants as read_errors;
+ghost use Rattle.nv_trace.specs.declared.read_error.ReadError.TheVariants as read_errors;
 
 use crate::bad_line::{BadLine, Unsaid, Why};
+use crate::read_error::{LineError, ReadError};
 use crate::statement::statement_of;
 use crate::trace::Form;
 use crate::{Failed, Source, Trace};
 use nv_plain::NoMemory;
 use std::alloc::{AllocError, Global};
-use thiserror::Error;
-
-/// Why a line was not taken.
-#[derive(Clone, Copy, Debug, PartialEq, Eq, Error)]
-pub enum LineError {
-    #[error("{0}")]
-    Bad(BadLine),
-    #[error("no memory")]
-    NoMemory,
-}
-
-/// Why an input gave no trace.
-#[derive(Clone, Copy, Debug, PartialEq, Eq, Error)]
-pub enum ReadError {
-    #[error("{0}")]
-    Bad(BadLine),
-    #[error("the input is too long")]
-    InputLong,
-    #[error("the source failed")]
-    Failed,
-    #[error("no memory")]
-    NoMemory,
-}
-
-impl From<NoMemory> for LineError {
-    ghost from_gives = { λ _ error. error ≡ line_errors.NoMemory };
-
-    fn from(_: NoMemory) -> Self {
-        LineError::NoMemory
-    }
-}
-
-impl From<LineError> for ReadError {
-    ghost from_gives = { λ error given. given ≡ read_error error };
-
-    fn from(error: LineError) -> Self {
-        match error {
-            LineError::Bad(bad) => ReadError::Bad(bad),
-            LineError::NoMemory => ReadError::NoMemory,
-        }
-    }
-}
-
-impl From<Failed> for ReadError {
-    ghost from_gives = { λ _ error. error ≡ read_errors.Failed };
-
-    fn from(_: Failed) -> Self {
-        ReadError::Failed
-    }
-}
-
-impl From<AllocError> for ReadError {
-    ghost from_gives = { λ _ error. error ≡ read_errors.NoMemory };
-
-    fn from(_: AllocError) -> Self {
-        ReadError::NoMemory
-    }
-}
 
 /// The most bytes of a line that isn't skipped.
 const LONGEST_LINE: usize = 262_400;

@@ -1,10 +1,11 @@
 //! Traces, as data.
-ghost use Rattle.std.specs.Prelude.{◌≡◌, IfOk, OnErr, OnOk};
+ghost use Rattle.std.specs.Prelude.{◌≡◌, OnErr, OnOk};
 ghost use Rattle.nv_trace.specs.Shape.{IsWellFormed, MayFollow};
 ghost use Rattle.nv_trace.specs.Traced.{empty_trace};
 ghost use Rattle.nv_trace.specs.Reading.{with_statement};
 
 use crate::statement::Statement;
+use crate::trace_call::TracedCall;
 use nv_plain::{Bytes, Mode, NoMemory};
 use std::alloc::Global;
 use std::marker::Model;
@@ -23,22 +24,6 @@ pub enum Form {
 pub struct Descriptor {
     pub file: u64,
     pub mode: Mode,
-}
-
-/// A call as a trace has it, by its descriptor's number. Offsets and lengths are in bytes.
-#[derive(Debug, Drop)]
-pub enum TraceCall {
-    Pread { fd: u64, at: u64, len: u64 },
-    Pwrite { fd: u64, at: u64, bytes: Bytes },
-    Fsync { fd: u64 },
-}
-
-/// A call of a trace, with the number of its line, counted from 1, and its thread.
-#[derive(Debug, Drop)]
-pub struct TracedCall {
-    pub line: u64,
-    pub thread: u64,
-    pub call: TraceCall,
 }
 
 /// What the lines of a trace say: the files' names, the descriptors, and the calls in their order.

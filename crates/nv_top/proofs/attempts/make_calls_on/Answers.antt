@@ -1,7 +1,7 @@
 use Rattle.std.proofs.Common.{◌≡◌, ◌+◌, ◌<◌, [], ◌∷◌, ◌++◌, List, ℕ, All, length, take, sym, ap, subst, ◌∙◌, arith}
 use Rattle.std.proofs.lemmas.List.{take_all, take_more}
 use Rattle.nv_plain.specs.Faults.{Rose}
-use Rattle.nv_trace.specs.declared.trace.TracedCall.{TracedCall}
+use Rattle.nv_trace.specs.declared.trace_call.TracedCall.{TracedCall}
 use Rattle.nv_top.specs.Answers.{log_faults}
 use Rattle.nv_top.specs.Attempts.{HasRunTo}
 use Rattle.nv_top.specs.Runs.{IsAfterAll}

@@ -1,7 +1,7 @@
 use Rattle.std.proofs.Common.{◌≡◌, ℕ, List, true, sym, subst}
 use Rattle.nv_plain.specs.declared.call.Reply.TheVariants.{Count}
-use Rattle.nv_trace.specs.declared.trace.TraceCall.{TraceCall}
-use Rattle.nv_trace.specs.declared.trace.TraceCall.TheVariants.{Pwrite}
+use Rattle.nv_trace.specs.declared.trace_call.TraceCall.{TraceCall}
+use Rattle.nv_trace.specs.declared.trace_call.TraceCall.TheVariants.{Pwrite}
 use Rattle.nv_top.specs.Answers.{IsAnswer}
 use Rattle.nv_top.specs.Faithful.{is_allowed}
 use Rattle.nv_top.proofs.AnswerLemmas.{write_answered}

@@ -4,7 +4,7 @@ use Rattle.std.proofs.lemmas.Result.{IfOk-weaker}
 use Rattle.nv_plain.specs.Files.{Files}
 use Rattle.nv_engine.specs.Holding.{Holds}
 use Rattle.nv_engine.specs.Laid.{LaidPiece, laid}
-use Rattle.nv_trace.specs.declared.trace.TracedCall.{TracedCall}
+use Rattle.nv_trace.specs.declared.trace_call.TracedCall.{TracedCall}
 use Rattle.nv_top.specs.Faithful.{Basis, descriptors_in}
 use Rattle.nv_top.specs.Leaving.{AreLeft}
 use Rattle.nv_top.specs.LogRuns.{HasRun, HasRunOver, IsFirstRun, lines_in}

@@ -1,5 +1,5 @@
 use Rattle.std.specs.Io.KnownBytes as known
-use Rattle.nv_trace.proofs.real_streams.read_some.Given as goal
+use Rattle.nv_trace.proofs.reader_source.read_some.Given as goal
 
 -- the calls so far took nothing
 abbrev pub invariant-loop : goal.invariant-loop

@@ -2,7 +2,7 @@ use Rattle.std.proofs.Common.{◌≡◌, arith}
 use Rattle.std.proofs.lemmas.List.{take_all}
 use Rattle.nv_trace.specs.Grammar.{value_of}
 use Rattle.nv_trace.proofs.Numbers.{next_value}
-use Rattle.nv_trace.proofs.statement.value.Goals as goal
+use Rattle.nv_trace.proofs.spelling.value.Goals as goal
 
 pub returns-in_err-checked_mul : goal.returns-in_err-checked_mul
 returns-in_err-checked_mul c =

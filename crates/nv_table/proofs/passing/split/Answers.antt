@@ -1,6 +1,6 @@
 use Rattle.nv_table.specs.state.Keys.{opened_of}
 use Rattle.nv_table.proofs.passes.SeatLaws.{splits_allow}
-use Rattle.nv_table.proofs.seating.split.Goals as goal
+use Rattle.nv_table.proofs.passing.split.Goals as goal
 
 pub load-requires : goal.load-requires
 load-requires g c =

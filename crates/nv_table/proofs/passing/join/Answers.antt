@@ -1,6 +1,6 @@
 use Rattle.nv_table.specs.state.Keys.{opened_of}
 use Rattle.nv_table.proofs.passes.SeatLaws.{joins_allow}
-use Rattle.nv_table.proofs.seating.join.Goals as goal
+use Rattle.nv_table.proofs.passing.join.Goals as goal
 
 pub load-requires : goal.load-requires
 load-requires g c =

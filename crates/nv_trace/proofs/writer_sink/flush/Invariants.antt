@@ -1,5 +1,5 @@
 use Rattle.std.specs.Io.KnownBytes as known
-use Rattle.nv_trace.proofs.real_streams.flush.Given as goal
+use Rattle.nv_trace.proofs.writer_sink.flush.Given as goal
 
 -- the calls so far wrote nothing
 abbrev pub invariant-loop : goal.invariant-loop

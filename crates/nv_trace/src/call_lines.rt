@@ -1,0 +1,153 @@
+//! The lines of a trace that are calls.
+ghost use Rattle.std.specs.Prelude.{◌≡◌, ◌<◌, ◌≤◌, [], ◌∷◌, length, IfOk, Ok};
+ghost use Rattle.nv_trace.specs.Grammar as grammar;
+ghost use Rattle.nv_trace.specs.Said as said;
+ghost use Rattle.nv_trace.specs.Said.{IsRead, read_of, said_by, write_of};
+ghost use Rattle.nv_trace.specs.Shape.{MayFollow};
+
+use crate::bad_line::{Unsaid, Why};
+use crate::spelling::{LARGEST_COUNT, bytes_of, number, says};
+use crate::statement::Statement;
+use crate::trace::Trace;
+use crate::trace_call::TraceCall;
+use nv_plain::Bytes;
+use std::alloc::Global;
+
+/// The largest number of a descriptor.
+const LAST_DESCRIPTOR: u64 = 63;
+
+/// The largest offset of a call.
+const LARGEST_OFFSET: u64 = (1 << 62) - 1;
+
+/// The words that a line begins with that is no call's.
+fn is_keyword(field: &[u8]) -> bool
+    ensures { result ≡ said.is_keyword field.now }
+{
+    says(field, "file") || says(field, "fd") || says(field, "round") || says(field, "steps")
+}
+
+/// `T fsync FD`
+#[tactic(auto, unfolding(crate::specs::Said::said_by))]
+pub(crate) fn sync(trace: &Trace, thread: &[u8], word: &[u8], fd: &[u8]) -> Result<Statement, Why>
+    ensures read { result ≡ said_by trace.now (thread.now ∷ word.now ∷ fd.now ∷ []) }
+    ensures follows { IfOk result (MayFollow trace.now) }
+{
+    if is_keyword(thread) || !says(word, "fsync") {
+        return Err(Why::Form);
+    }
+    let fd = call_on(trace, thread, fd)?;
+    Ok(Statement::Call(TraceCall::Fsync { fd }))
+}
+
+/// `T pwrite FD OFF HEX` or `T pread FD OFF LEN`
+#[tactic(auto, unfolding(crate::specs::Said::said_by))]
+pub(crate) fn read_or_write(
+    alloc: Global,
+    trace: &Trace,
+    thread: &[u8],
+    word: &[u8],
+    fd: &[u8],
+    at: &[u8],
+    last: &[u8],
+) -> Result<Statement, Unsaid>
+    ensures read { IsRead result (said_by trace.now (thread.now ∷ word.now ∷ fd.now ∷ at.now ∷ last.now ∷ [])) }
+    ensures follows { IfOk result (MayFollow trace.now) }
+{
+    if is_keyword(thread) {
+        Err(Unsaid::Bad(Why::Form))
+    } else if says(word, "pwrite") {
+        write(alloc, trace, thread, fd, at, last)
+    } else if says(word, "pread") {
+        Ok(read(trace, thread, fd, at, last)?)
+    } else {
+        Err(Unsaid::Bad(Why::Form))
+    }
+}
+
+/// Where a call reads or writes: its descriptor and its offset.
+#[derive(Clone, Copy)]
+struct CallPlace {
+    fd: u64,
+    at: u64,
+}
+
+/// The place of a call, of the one thread that there is.
+fn call_at(trace: &Trace, thread: &[u8], fd: &[u8], at: &[u8]) -> Result<CallPlace, Why>
+    ensures read { result ≡ said.call_at trace.now thread.now fd.now at.now }
+    ensures within { IfOk result (λ place. (place.fd < length trace.now.descriptors) × (place.at ≤ grammar.largest_offset)) }
+{
+    let fd = call_on(trace, thread, fd)?;
+    let at = number(at, LARGEST_OFFSET)?;
+    Ok(CallPlace { fd, at })
+}
+
+/// The descriptor of a call.
+#[tactic(auto, unfolding(crate::specs::Said::call_on))]
+fn call_on(trace: &Trace, thread: &[u8], fd: &[u8]) -> Result<u64, Why>
+    ensures read { result ≡ said.call_on trace.now thread.now fd.now }
+    ensures declared { IfOk result (λ fd. fd < length trace.now.descriptors) }
+{
+    number(thread, 0)?;
+    let fd = number(fd, LAST_DESCRIPTOR)?;
+    if fd < trace.descriptors().len() as u64 {
+        Ok(fd)
+    } else {
+        Err(Why::Unknown)
+    }
+}
+
+/// A read, by how many bytes.
+fn read(trace: &Trace, thread: &[u8], fd: &[u8], at: &[u8], len: &[u8]) -> Result<Statement, Why>
+    ensures read { result ≡ read_of trace.now thread.now fd.now at.now len.now }
+    ensures follows { IfOk result (MayFollow trace.now) }
+{
+    let CallPlace { fd, at } = call_at(trace, thread, fd, at)?;
+    let len = number(len, LARGEST_COUNT)?;
+    Ok(Statement::Call(TraceCall::Pread { fd, at, len }))
+}
+
+/// A write, by its bytes.
+fn write(
+    alloc: Global,
+    trace: &Trace,
+    thread: &[u8],
+    fd: &[u8],
+    at: &[u8],
+    hex: &[u8],
+) -> Result<Statement, Unsaid>
+    ensures read { IsRead result (write_of trace.now thread.now fd.now at.now hex.now) }
+    ensures follows { IfOk result (MayFollow trace.now) }
+{
+    let CallPlace { fd, at } = call_at(trace, thread, fd, at)?;
+    let bytes = bytes_of(alloc, hex)?;
+    Ok(Statement::Call(TraceCall::Pwrite { fd, at, bytes }))
+}
+
+/// `T pfill FD OFF LEN BYTE`
+#[tactic(auto, unfolding(crate::specs::Said::said_by))]
+pub(crate) fn fill(
+    alloc: Global,
+    trace: &Trace,
+    thread: &[u8],
+    word: &[u8],
+    fd: &[u8],
+    at: &[u8],
+    len: &[u8],
+    byte: &[u8],
+) -> Result<Statement, Unsaid>
+    ensures read { IsRead result (said_by trace.now (thread.now ∷ word.now ∷ fd.now ∷ at.now ∷ len.now ∷ byte.now ∷ [])) }
+    ensures follows { IfOk result (MayFollow trace.now) }
+{
+    if is_keyword(thread) || !says(word, "pfill") {
+        return Err(Unsaid::Bad(Why::Form));
+    }
+    let CallPlace { fd, at } = call_at(trace, thread, fd, at)?;
+    let len = number(len, LARGEST_COUNT)?;
+    let byte = number(byte, 255)?;
+    let bytes = vec![in alloc; byte as u8; len as usize]?;
+    Ok(Statement::Call(TraceCall::Pwrite {
+        fd,
+        at,
+        bytes: Bytes::from_vec(bytes),
+    }))
+}
