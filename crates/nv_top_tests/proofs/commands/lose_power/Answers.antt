@@ -3,7 +3,7 @@ use Rattle.std.specs.Prelude.{IfSome}
 use Rattle.nv_bench.specs.Benches.{BenchState, powered_off}
 use Rattle.nv_bench.specs.Holding.{IsQuietHolding}
 use Rattle.nv_bench.specs.MemBench.{mem_state}
-use Rattle.nv_top.proofs.TestBenches.{on_ok_map, quiet_after}
+use Rattle.nv_open.proofs.TestBenches.{on_ok_map, quiet_after}
 use Rattle.nv_top_tests.proofs.commands.lose_power.Goals as goal
 
 pub returns-clause-quiet : goal.returns-clause-quiet

@@ -2,7 +2,7 @@ use Rattle.std.proofs.Common.{◌≡◌, []}
 use Rattle.std.specs.Prelude.{IfSome}
 use Rattle.nv_bench.specs.Holding.{IsQuietHolding}
 use Rattle.nv_bench.specs.MemBench.{mem_state, new_state}
-use Rattle.nv_top.proofs.TestBenches.{if_ok_step, quiet_new}
+use Rattle.nv_open.proofs.TestBenches.{if_ok_step, quiet_new}
 use Rattle.nv_top_tests.proofs.commands.new_bench.Goals as goal
 
 pub returns-clause-quiet : goal.returns-clause-quiet
