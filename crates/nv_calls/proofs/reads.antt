@@ -23,6 +23,5 @@ pub mod CopyLaws
 pub mod CopyWays
 pub mod FetchLaws
 pub mod PatchLaws
-pub mod PieceLaws
 pub mod PatchedLaws
 pub mod AloneLaws

@@ -4,8 +4,6 @@ pub mod EarlyRefusals
 pub mod Copied
 pub mod Ends
 pub mod PastSearch
-pub mod PageReads
-pub mod PieceReads
 pub mod Measures
 pub mod Reads
 pub mod ReadsAlone

@@ -1,10 +1,15 @@
 -- Owned cells: those in a row, split and given back.
-use Rattle.std.proofs.Common.{◌≡◌, ℕ, zero, suc, ◌+◌, ◌-◌, ◌<◌, ◌≤◌, false, if◌then◌else◌, List, ◌∷◌, ◌++◌, ap, ap₂, ◌∙◌, arith}
-use Rattle.nv_core.specs.state.Passes.{without}
+use Rattle.std.proofs.Common.{◌≡◌, ℕ, zero, suc, ◌+◌, ◌-◌, ◌<◌, ◌≤◌, false, if◌then◌else◌, List, [], ◌∷◌, ◌++◌, ap, ap₂, ◌∙◌, arith}
+use Rattle.nv_core.specs.state.Passes.{without, times}
 use Rattle.nv_core.specs.state.Words.{Sizes, Word, ENTRY, index, same}
 use Rattle.nv_core.specs.state.Words.{slot_of_entry}
 use Rattle.nv_core.proofs.state.Changes.{same_false}
 use Rattle.nv_core.proofs.state.SlotLaws.{apart}
+use Rattle.nv_table.specs.passes.PassesMade.{IsShownStill}
+use Rattle.nv_table.specs.state.Layout.{slot_total, cell_of}
+use Rattle.nv_table.specs.state.Views.{pass_of, still_owned, slot_times}
+use Rattle.nv_table.specs.state.States.{PassState}
+use Rattle.nv_table.proofs.steps.OwnedSlotLaws.{still_owned_all}
 use Rattle.nv_mirror.specs.OwnedCells.{cells_from, entries_from}
 use Rattle.nv_mirror.proofs.PageLaws.{without_first}
 
@@ -42,3 +47,10 @@ entry_dropped sizes first done count rest low few =
     ∙ dropped_behind (entry_at sizes) (entry_at sizes (first + done)) (first + done + 1) (count - (done + 1)) rest
     (λ i within. other_entry sizes (first + done) (first + done + 1 + i) (omega arith) (omega (arith, low, few, within)))
     ∙ ap (λ n. entries_from sizes n (count - (done + 1)) ++ rest) (let e : first + done + 1 ≡ first + (done + 1) = omega arith in e)
+
+-- ---- the slots that a pass owns
+
+-- the slot of a cell is owned as often as the cell is held
+pub slot_still_owned : (now : PassState) (slot : ℕ) (cell : Word) → IsShownStill now → (pass_of now.view).left ≡ [] → slot < slot_total now.view.opened.sizes → cell_of now.view.opened.sizes slot ≡ cell
+    → slot_times slot now.now ≡ times cell (pass_of now.view).owned
+slot_still_owned now slot cell still left low is = still.each slot low ∙ ap (λ c. times c (still_owned (pass_of now.view))) is ∙ ap (times cell) (still_owned_all (pass_of now.view) left)

@@ -78,13 +78,13 @@ module _ (sizes : Sizes) (m : AppendMachine) (done : ℕ) (fits : Fits sizes m) 
 
 -- ---- the page's slot
 
-page_is : {one other : ℕ} → PAGE one ≡ PAGE other → one ≡ other
+pub page_is : {one other : ℕ} → PAGE one ≡ PAGE other → one ≡ other
 page_is e = cc
 
 no_entry : {page slot : ℕ} → PAGE page ≡ ENTRY slot → ⊥
 no_entry e = cc
 
-no_size : {page file : ℕ} → PAGE page ≡ SIZE file → ⊥
+pub no_size : {page file : ℕ} → PAGE page ≡ SIZE file → ⊥
 no_size e = cc
 
 behind_entries : (sizes : Sizes) (page from count : ℕ) (rest : List Word) → times (PAGE page) (entries_from sizes from count ++ rest) ≡ times (PAGE page) rest
@@ -92,7 +92,7 @@ behind_entries sizes page from zero rest = refl
 behind_entries sizes page from (suc count) rest =
     times_else (PAGE page) (ENTRY (slot_of_entry sizes (from + count))) (entries_from sizes from count ++ rest) no_entry ∙ behind_entries sizes page from count rest
 
-behind_size : (page file : ℕ) (sized : Bool) (rest : List Word) → times (PAGE page) (with_if sized (SIZE file) rest) ≡ times (PAGE page) rest
+pub behind_size : (page file : ℕ) (sized : Bool) (rest : List Word) → times (PAGE page) (with_if sized (SIZE file) rest) ≡ times (PAGE page) rest
 behind_size page file true rest = times_else (PAGE page) (SIZE file) rest no_size
 behind_size page file false rest = refl
 
@@ -101,7 +101,7 @@ page_above page first zero high = refl
 page_above page first (suc count) high =
     times_else (PAGE page) (PAGE (first + count)) (pages_from first count) (λ e. let i = page_is e in omega (arith, i, high)) ∙ page_above page first count (omega (arith, high))
 
-page_inside : (page first count : ℕ) → first ≤ page → page < first + count → times (PAGE page) (pages_from first count) ≡ 1
+pub page_inside : (page first count : ℕ) → first ≤ page → page < first + count → times (PAGE page) (pages_from first count) ≡ 1
 page_inside page first zero low high = absurd (omega (arith, low, high))
 page_inside page first (suc count) low high = elim (cases_eq page (first + count)) [
   | inl here ↦
@@ -117,7 +117,7 @@ own_once sizes m done less =
     ∙ page_inside (m.page + done) m.page m.pages (omega arith) (omega (arith, less))
 
 -- a buffer has room for a page
-room_in : (page : ℕ) (first : Value) (buffer : Buffer) → HasShape page first (ABuffer (Some buffer)) → page ≤ length buffer.bytes
+pub room_in : (page : ℕ) (first : Value) (buffer : Buffer) → HasShape page first (ABuffer (Some buffer)) → page ≤ length buffer.bytes
 room_in page Bare buffer is = absurd is
 room_in page (APart device spares) buffer is = absurd is
 room_in page (AStore device) buffer is = absurd is

@@ -59,6 +59,23 @@ with_drawing is pass = record (with_mirrored_control is.mirrored_control pass) {
 abbrev pub drawings : Mirror Drawing
 drawings = record { of = drawing_of; with = with_drawing; whole = λ pass. refl }
 
+-- ---- of a read that loads a page
+
+-- HEAD as it saw it last, and the pages that it has fetched, too
+pub record Reading : Type 0 where
+  pub mirrored_control : MirroredControl
+  pub head : ℕ
+  pub fetched : List (ℕ × List ℕ)
+
+abbrev pub reading_of : Pass → Reading
+reading_of pass = record { mirrored_control = mirrored_control pass; head = pass.head; fetched = pass.fetched }
+
+abbrev pub with_reading : Reading → Pass → Pass
+with_reading is pass = record (with_mirrored_control is.mirrored_control pass) { head = is.head; fetched = is.fetched }
+
+abbrev pub readings : Mirror Reading
+readings = record { of = reading_of; with = with_reading; whole = λ pass. refl }
+
 -- ---- what every machine keeps
 
 -- a call that is to begin has made no step

@@ -3,9 +3,12 @@ pub mod Appends
 pub mod Controls
 pub mod Fronts
 pub mod OwnSteps
+pub mod Loads
 pub mod OwnedCells
+pub mod PageReads
 pub mod Pageless
 pub mod PassSteps
+pub mod PieceReads
 pub mod Pledges
 pub mod Releases
 pub mod RunningWrites

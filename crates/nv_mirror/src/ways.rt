@@ -1,19 +1,22 @@
 //! How one machine of a call goes on where another one ends.
-ghost use Rattle.std.specs.Prelude.{◌≡◌, true, if◌then◌else◌};
+ghost use Rattle.std.specs.Prelude.{◌≡◌, ℕ, ◌+◌, true, if◌then◌else◌, List};
 ghost use Rattle.nv_mirror.specs.declared.release.ReleaseControl.TheVariants as releases;
-ghost use Rattle.nv_core.specs.state.Passes.{is_write};
+ghost use Rattle.nv_core.specs.state.Passes.{VisitPage, is_write};
 ghost use Rattle.nv_table.specs.state.Keys.{sizes_of};
 ghost use Rattle.nv_table.specs.state.States.{PassState};
 ghost use Rattle.nv_mirror.specs.declared.append.AppendControl.TheVariants as appends;
 ghost use Rattle.nv_mirror.specs.declared.front.FrontControl.TheVariants as fronts;
 ghost use Rattle.nv_mirror.specs.Appends.{Fits as FitsAppend, IsUnderWay as IsAppendUnderWay, append_asked};
 ghost use Rattle.nv_mirror.specs.Fronts.{Fits as FitsFront, IsUnderWay as IsFrontUnderWay, front_call_of};
+ghost use Rattle.nv_mirror.specs.declared.load.LoadControl.TheVariants as loads;
+ghost use Rattle.nv_mirror.specs.Loads.{Fits as FitsLoad, IsReading, IsRefused as IsLoadRefused, IsUnderWay as IsLoadUnderWay, Misses, bytes_had, given_back};
 ghost use Rattle.nv_mirror.specs.Releases.{Fits as FitsRelease, IsUnderWay as IsReleaseUnderWay};
 ghost use Rattle.nv_mirror.specs.Ways.{IsRefused, refused_of, released_of};
 ghost use Rattle.nv_mirror.specs.declared.answers.Refusal.{Refusal};
 
 use crate::{
-    AppendControl, AppendMachine, FrontControl, FrontMachine, ReleaseControl, ReleaseMachine,
+    AppendControl, AppendMachine, FrontControl, FrontMachine, LoadControl, LoadMachine,
+    ReleaseControl, ReleaseMachine,
 };
 use nv_op::Asked;
 use nv_table::Layout;
@@ -120,6 +123,54 @@ impl<'a> AppendMachine<'a> {
             end: self.end,
             first: self.page,
             last: self.page + self.pages,
+            held: self.pages,
+            sized: self.sized,
+            length: self.length,
+            control: FrontControl::GiveBack {
+                size: self.sized,
+                refusal,
+            },
+        }
+    }
+}
+
+impl LoadMachine {
+    /// A law: it begins where its read misses its page, wherever that stands.
+    pub fn begins(&self)
+        ensures { (room : List ℕ) (start now : PassState) → FitsLoad now.view.opened.sizes self.now → self.now.control ≡ loads.LoadDirty → Misses self.now start now → IsLoadUnderWay self.now room start now }
+    {
+        let _ = self.page;
+    }
+
+    /// A law: where its page is loaded, the read has of it what lies in the room, and visits the page behind it next.
+    pub fn ends(&self)
+        ensures had { (room : List ℕ) (start now : PassState) → self.now.control ≡ loads.Loaded → IsLoadUnderWay self.now room start now → bytes_had now self.now.page ≡ room }
+        ensures reading { (room : List ℕ) (start now : PassState) → self.now.control ≡ loads.Loaded → IsLoadUnderWay self.now room start now → IsReading self.now (VisitPage (self.now.page + 1)) start now }
+    {
+        let _ = self.page;
+    }
+
+    /// The way back of a read whose page isn't loaded.
+    pub fn give_back(self, layout: Layout) -> FrontMachine<'static>
+        requires refused { IsLoadRefused self.control }
+        requires fits { FitsLoad (sizes_of layout) self }
+        ensures machine { (refusal : Refusal) × (self.control ≡ loads.Refused refusal) × (result ≡ given_back self refusal) }
+        ensures way { (room : List ℕ) (start now : PassState) → IsLoadUnderWay self room start now → IsFrontUnderWay result start now }
+    {
+        // Only the clause speaks of it.
+        let _ = layout;
+        let LoadControl::Refused(refusal) = self.control else {
+            unreachable!()
+        };
+        FrontMachine {
+            asked: Asked::Read {
+                file: self.file,
+                at: self.at,
+                len: self.len,
+            },
+            end: self.at + self.len,
+            first: self.first,
+            last: self.first + self.pages,
             held: self.pages,
             sized: self.sized,
             length: self.length,

@@ -27,7 +27,7 @@ use Rattle.nv_calls.specs.declared.reading.Held.{Held}
 use Rattle.nv_calls.specs.declared.reading.ReadMachine.{ReadMachine}
 use Rattle.nv_calls.specs.declared.reading.ReadControl.TheVariants as reads
 use Rattle.nv_calls.specs.reads.Advances.{IsSameRead, IsAdvance}
-use Rattle.nv_calls.specs.reads.PageReads.{page_read, HasFailedTakeStore}
+use Rattle.nv_mirror.specs.PageReads.{page_read, HasFailedPageRead}
 use Rattle.nv_calls.specs.reads.Reads.{IsLook, IsLooking, IsOnWayAt, ReadFactsAt, Refuses, ReadGoes, page_piece}
 use Rattle.nv_mirror.specs.PassSteps.{IsBetweenSteps}
 use Rattle.nv_calls.proofs.reads.ArmLaws.{at_control, arm_after}
@@ -46,7 +46,7 @@ module _ (m : ReadMachine) (now : PassState) (store : IsStore (values_of now.vie
 -- ---- the read has failed
 
 pub fail_ready : (fds : List Fd) (m : ReadMachine) (list : List ℕ) (start now mid : PassState) (page : ℕ) (dirty : Bool) → IsOnWayAt fds m list start now (reads.ReadStore page dirty) → IsStore (values_of now.view (STORE m.file)) → HasFailedCall (STORE m.file) now mid
-    → (due : Precondition mid None Stop) × HasFailedTakeStore due.works
+    → (due : Precondition mid None Stop) × HasFailedPageRead due.works
 fail_ready fds m list start now mid page dirty way store failed =
     let view = failed.altered.view in
     fail_due m list way.base mid page dirty (copying_on m list way.base now mid page dirty view way.stands) (store_on m now store mid view) failed.faults
@@ -56,7 +56,7 @@ fail_ready fds m list start now mid page dirty way store failed =
     (sym view) (failed.altered.owns_slots (values_of now.view) (still_owned (pass_of now.view)) way.called.still))
 
 pub fail_advance : (fds : List Fd) (m : ReadMachine) (list : List ℕ) (now mid : PassState) (page : ℕ) (dirty : Bool) → m.control ≡ reads.ReadStore page dirty → HasFailedCall (STORE m.file) now mid → m.faulted ≡ false
-    → (new : PassState) → ((found : ℕ) × (stepped : Postcondition mid None Stop found new) × HasFailedTakeStore stepped.works)
+    → (new : PassState) → ((found : ℕ) × (stepped : Postcondition mid None Stop found new) × HasFailedPageRead stepped.works)
     → (s : ReadMachine) (scratch : List ℕ) → s ≡ record m { scratch = scratch } → (held : Held) → held ≡ fetching_held now.view.opened.sizes m page dirty true
     → (next : ReadMachine) (progress : Progress) → Refuses (record s { faulted = true }) held StoreFault next progress → IsAdvance fds m next list list now new progress
 fail_advance fds m list now mid page dirty control_is failed unfaulted new stepped s scratch s_is held held_is next progress refuses_it = record {

@@ -31,57 +31,18 @@ use Rattle.nv_pages.specs.PageWork.{store_slot, with_page}
 use Rattle.nv_pages.proofs.AlterLaws.{at_store}
 use Rattle.nv_calls.specs.declared.reading.ReadMachine.{ReadMachine}
 use Rattle.nv_calls.specs.declared.reading.ReadControl.TheVariants as reads
-use Rattle.nv_calls.specs.reads.PageReads.{page_read, HasFailedTakeStore}
+use Rattle.nv_mirror.specs.PageReads.{page_read, HasFailedPageRead}
 use Rattle.nv_mirror.specs.OwnedCells.{with_if}
 use Rattle.nv_calls.specs.reads.Reads.{call_of, read_owned, reading, HasCopied, IsAtPage, IsLooking, IsOnWayAt, ReadFactsAt, page_piece}
 use Rattle.nv_calls.proofs.reads.FetchLaws.{page_of_read}
 use Rattle.nv_calls.proofs.reads.FrontLaws.{copied_same, bytes_same, bytes_else}
-use Rattle.nv_calls.proofs.reads.HeldLaws.{page_held, other_not_held, slot_still_owned}
+use Rattle.nv_calls.proofs.reads.HeldLaws.{page_held, other_not_held}
+use Rattle.nv_mirror.proofs.OwnedLaws.{slot_still_owned}
 use Rattle.nv_calls.proofs.reads.LookLaws.{piece_there, read_piece, copied_most, copied_more}
 use Rattle.nv_core.proofs.steps.NextSteps.{steps_are_next}
+use Rattle.nv_mirror.proofs.StoreReadLaws.{may_end, may_leave, called_same, fail_end, fail_leave, called_any, bytes_said}
 
--- ---- stores
-
--- a cell that kept a store keeps one
-pub store_by : (page : ℕ) (first now : Value) → IsStore first → HasShape page first now → IsStore now
-store_by page (AStore one) (AStore other) store shape = tt
-store_by page (AStore one) now store shape = absurd shape
-store_by page first now store shape = absurd store
-
-may_end : (value : Value) → IsStore value → CallMayEnd value Made
-may_end (AStore device) store = tt
-may_end value store = absurd store
-
-may_leave : (value : Value) (at : ℕ) (bytes : List ℕ) → IsStore value → CallMayLeave value (PageRead at bytes) Made
-may_leave (AStore device) at bytes store = tt
-may_leave value at bytes store = absurd store
-
--- a read that goes well leaves it as it was
-called_same : (value : Value) (at : ℕ) (bytes : List ℕ) → IsStore value → called (PageRead at bytes) Made value ≡ value
-called_same (AStore device) at bytes store = refl
-called_same value at bytes store = absurd store
-
-fail_end : (value : Value) (faults : ℕ) → IsStore value → Rose (faults_of value) faults → CallMayEnd value (Failed false faults)
-fail_end (AStore device) faults store rose = rose
-fail_end value faults store rose = absurd store
-
-fail_leave : (value : Value) (at faults : ℕ) (bytes : List ℕ) → IsStore value → CallMayLeave value (PageRead at bytes) (Failed false faults)
-fail_leave (AStore device) at faults bytes store = tt
-fail_leave value at faults bytes store = absurd store
-
--- one that fails leaves the same, whatever was to be read
-called_any : (value : Value) (at faults : ℕ) (bytes : List ℕ) → IsStore value → called (PageRead at bytes) (Failed false faults) value ≡ called (PageRead 0 []) (Failed false faults) value
-called_any (AStore device) at faults bytes store = refl
-called_any value at faults bytes store = absurd store
-
--- a store says some bytes of a page
-page_said : (sizes : Sizes) (at : ℕ) (told : Option Store) → (bytes : List ℕ) × SaysPage sizes at bytes told
-page_said sizes at (Some store) = (padded (bytes_at store.seen at sizes.page) sizes.page, refl)
-page_said sizes at None = (replicate sizes.page 0, length-replicate sizes.page 0)
-
-bytes_said : (sizes : Sizes) (at : ℕ) (value : Value) → IsStore value → (bytes : List ℕ) × SaysOf sizes at bytes value
-bytes_said sizes at (AStore device) store = page_said sizes at device.told
-bytes_said sizes at value store = absurd store
+-- ---- values
 
 -- a word that gets what it has is the same
 word_same : (f : Values) (word : Word) (value : Value) → value ≡ f word → (cell : Word) → with_value f word value cell ≡ f cell
@@ -322,7 +283,7 @@ module _ (m : ReadMachine) (list : List ℕ) (base : Pass) (mid : PassState) (pa
   -- STOP may be set after it
   pub fail_due : (faults : ℕ) → Rose (faults_of (values_of mid.view (STORE m.file))) faults
       → OwnsSlots mid.view.opened.sizes (λ value. value) (with_value (values_of mid.view) (STORE m.file) (called (PageRead 0 []) (Failed false faults) (values_of mid.view (STORE m.file)))) (still_owned (pass_of mid.view)) mid.now
-      → (due : Precondition mid None Stop) × HasFailedTakeStore due.works
+      → (due : Precondition mid None Stop) × HasFailedPageRead due.works
   fail_due faults rose owns_slots = (
     record {
       works = work ∷ [];

@@ -26,7 +26,7 @@ use Rattle.nv_calls.specs.declared.reading.ReadMachine.{ReadMachine}
 use Rattle.nv_calls.specs.declared.reading.ReadControl.{ReadControl}
 use Rattle.nv_calls.specs.declared.reading.ReadControl.TheVariants as reads
 use Rattle.nv_mirror.specs.Answers.{IsUnplaced}
-use Rattle.nv_calls.specs.reads.PageReads.{page_read, HasFailedTakeStore}
+use Rattle.nv_mirror.specs.PageReads.{page_read, HasFailedPageRead}
 use Rattle.nv_mirror.specs.OwnedCells.{with_if}
 use Rattle.nv_calls.specs.reads.Reads.{call_of, read_owned, held_cells, reading, IsLook, InCall, IsOnWayAt, IsUnderWayAt, ReadFactsAt, PlacedAt, refusal_at, Refuses, ReadGoes}
 use Rattle.nv_mirror.specs.PassSteps.{IsBetweenSteps, fault_in, either_of}
@@ -82,7 +82,7 @@ module _ (fds : List Fd) (m : ReadMachine) (list : List ℕ) (start now mid : Pa
 -- ---- STOP was set
 
 module _ (fds : List Fd) (m : ReadMachine) (list : List ℕ) (start now mid : PassState) (page : ℕ) (dirty : Bool) (way : IsOnWayAt fds m list start now (reads.ReadStore page dirty)) (between : IsBetweenSteps now mid)
-    (found : ℕ) (new : PassState) (is : Postcondition mid None Stop found new) (told : HasFailedTakeStore is.works) where
+    (found : ℕ) (new : PassState) (is : Postcondition mid None Stop found new) (told : HasFailedPageRead is.works) where
   abbrev at_failed : IsCopying m list way.base mid page dirty
   at_failed = copying_on m list way.base now mid page dirty between.view way.stands
 

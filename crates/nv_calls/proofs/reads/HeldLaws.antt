@@ -2,15 +2,10 @@
 use Rattle.std.proofs.Common.{◌≡◌, ◌≢◌, ◌⊎◌, ℕ, zero, suc, ◌+◌, ◌<◌, ◌≤◌, Bool, true, false, List, [], ◌∷◌, inl, inr, refl, sym, ap, ◌∙◌, arith}
 use Rattle.std.proofs.lemmas.Bool.{cases_eq}
 use Rattle.nv_plain.specs.declared.call.FileCall.{FileCall}
-use Rattle.nv_core.specs.state.Words.{Sizes, Word, SIZE, PAGE}
+use Rattle.nv_core.specs.state.Words.{Sizes, Word, SIZE, ENTRY, PAGE, CLEANUP}
 use Rattle.nv_core.specs.state.Passes.{first_page, end_page, page_count, file_of, times}
 use Rattle.nv_core.specs.invariant.ControlFacts.{IsPage}
 use Rattle.nv_core.proofs.invariant.LockLaws.{times_here, times_else}
-use Rattle.nv_table.specs.passes.PassesMade.{IsShownStill}
-use Rattle.nv_table.specs.state.Layout.{slot_total, cell_of}
-use Rattle.nv_table.specs.state.Views.{pass_of, still_owned, slot_times}
-use Rattle.nv_table.specs.state.States.{PassState}
-use Rattle.nv_table.proofs.steps.OwnedSlotLaws.{still_owned_all}
 use Rattle.nv_mirror.specs.OwnedCells.{pages_from, with_if}
 use Rattle.nv_calls.specs.reads.Reads.{read_owned}
 
@@ -68,9 +63,17 @@ other_not_held sizes call sized cell no_page no_size =
     with_else cell (SIZE (file_of call)) sized (pages_from (first_page sizes call) (page_count sizes call)) (no_size (file_of call))
     ∙ none_among cell (first_page sizes call) (page_count sizes call) no_page
 
--- ---- the slots that a pass owns
+-- the entry that it holds is among its owned cells once
+pub entry_held : (sizes : Sizes) (slot page : ℕ) (call : FileCall) (sized : Bool) → times (ENTRY slot) (ENTRY slot ∷ CLEANUP page ∷ read_owned sizes call sized) ≡ 1
+entry_held sizes slot page call sized =
+    times_here (ENTRY slot) (CLEANUP page ∷ read_owned sizes call sized)
+    ∙ ap (λ n. 1 + n) (times_else (ENTRY slot) (CLEANUP page) (read_owned sizes call sized) clash ∙ other_not_held sizes call sized (ENTRY slot) (λ p e. clash_page p e) (λ f e. clash_size f e))
+  where
+    clash : ENTRY slot ≡ CLEANUP page → ⊥
+    clash e = cc
 
--- the slot of a cell is owned as often as the cell is held
-pub slot_still_owned : (now : PassState) (slot : ℕ) (cell : Word) → IsShownStill now → (pass_of now.view).left ≡ [] → slot < slot_total now.view.opened.sizes → cell_of now.view.opened.sizes slot ≡ cell
-    → slot_times slot now.now ≡ times cell (pass_of now.view).owned
-slot_still_owned now slot cell still left low is = still.each slot low ∙ ap (λ c. times c (still_owned (pass_of now.view))) is ∙ ap (times cell) (still_owned_all (pass_of now.view) left)
+    clash_page : (p : ℕ) → ENTRY slot ≡ PAGE p → ⊥
+    clash_page p e = cc
+
+    clash_size : (f : ℕ) → ENTRY slot ≡ SIZE f → ⊥
+    clash_size f e = cc

@@ -29,7 +29,8 @@ use Rattle.nv_calls.specs.reads.Copied.{IsPut}
 use Rattle.nv_calls.specs.declared.reading.ReadControl.TheVariants as reads
 use Rattle.nv_calls.specs.reads.Reads.{call_of, front, read_owned, HasCopied, IsAtPage, IsLooking, ReadFactsAt, page_piece}
 use Rattle.nv_calls.proofs.reads.ArmLaws.{some_page}
-use Rattle.nv_calls.proofs.reads.HeldLaws.{page_held, slot_still_owned}
+use Rattle.nv_calls.proofs.reads.HeldLaws.{page_held}
+use Rattle.nv_mirror.proofs.OwnedLaws.{slot_still_owned}
 use Rattle.nv_calls.proofs.reads.LockLaws.{some_bytes}
 use Rattle.nv_calls.proofs.reads.BelowLaws.{AreBelow, IsBelow, load_head, bytes_above}
 

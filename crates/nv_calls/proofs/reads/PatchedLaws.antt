@@ -23,12 +23,12 @@ use Rattle.nv_calls.specs.declared.reading.ReadMachine.{ReadMachine}
 use Rattle.nv_calls.specs.declared.reading.ReadControl.{ReadControl}
 use Rattle.nv_calls.specs.declared.reading.ReadControl.TheVariants as reads
 use Rattle.nv_calls.specs.reads.Advances.{IsSameRead}
-use Rattle.nv_calls.specs.reads.PieceReads.{piece_read, HasFailedRead}
+use Rattle.nv_mirror.specs.PieceReads.{piece_read, HasFailedPieceRead}
 use Rattle.nv_calls.specs.reads.Reads.{call_of, read_owned, reading, IsAtPage, IsPatchingAt, ReadFactsAt, IsOnWayAt, ReadGoes}
 use Rattle.nv_mirror.specs.PassSteps.{IsBetweenSteps, fault_in}
 use Rattle.nv_calls.proofs.reads.FrontLaws.{copied_same, bytes_same, bytes_else}
 use Rattle.nv_calls.proofs.reads.PatchLaws.{page_beside, page_before, way_on, copied_as, load_entry_either, unplaced_on}
-use Rattle.nv_calls.proofs.reads.PieceLaws.{entry_held}
+use Rattle.nv_calls.proofs.reads.HeldLaws.{entry_held}
 use Rattle.nv_mirror.proofs.PageLaws.{without_first}
 use Rattle.nv_mirror.proofs.StepLaws.{opened_same}
 use Rattle.nv_calls.proofs.reads.WayLaws.{in_call_on, tells_none, none_tells, either_none}
@@ -146,7 +146,7 @@ module _ (fds : List Fd) (m : ReadMachine) (list : List ℕ) (start now : PassSt
           next (next_is ∙ ap (λ (n : ReadMachine). record n { control = if nat_lt (number + 1) n.head then reads.LoadEntry page (number + 1) else reads.GiveCleanup page }) laid_is)
 
   -- STOP is set
-  module _ (mid new : PassState) (found : ℕ) (between : IsBetweenSteps now (record mid { view = now.view })) (is : Postcondition (record mid { view = now.view }) None Stop found new) (failed : HasFailedRead is.works) where
+  module _ (mid new : PassState) (found : ℕ) (between : IsBetweenSteps now (record mid { view = now.view })) (is : Postcondition (record mid { view = now.view }) None Stop found new) (failed : HasFailedPieceRead is.works) where
     abbrev failed_work : Work
     failed_work = record { cell = ENTRY failed.slot; job = PieceRead failed.at failed.bytes; ending = Failed false failed.faults }
 

@@ -43,7 +43,8 @@ use Rattle.nv_calls.specs.reads.Reads.{call_of, read_owned, reading, IsAtPage, I
 use Rattle.nv_mirror.specs.PassSteps.{IsBetweenSteps, refused_by, place_by, head_in}
 use Rattle.nv_calls.proofs.histories.OwnLaws.{is_quiet}
 use Rattle.nv_calls.proofs.reads.FrontLaws.{copied_same, bytes_same}
-use Rattle.nv_calls.proofs.reads.HeldLaws.{index_is, page_held, page_not_held, slot_still_owned}
+use Rattle.nv_calls.proofs.reads.HeldLaws.{index_is, page_held, page_not_held}
+use Rattle.nv_mirror.proofs.OwnedLaws.{slot_still_owned}
 use Rattle.nv_mirror.proofs.PageLaws.{page_among}
 use Rattle.nv_mirror.proofs.StepLaws.{between_self, opened_same}
 use Rattle.nv_calls.proofs.reads.WayLaws.{IsCalls, word_is, still_due, reading_on, unplaced_by, quiet_after, tells_none, none_tells, by_sizes}

@@ -47,7 +47,8 @@ use Rattle.nv_calls.specs.reads.Reads.{call_of, read_owned, held_cells, reading,
 use Rattle.nv_mirror.specs.PassSteps.{IsBetweenSteps, refused_by, place_by, head_in}
 use Rattle.nv_calls.proofs.histories.OwnLaws.{is_quiet}
 use Rattle.nv_calls.proofs.reads.FrontLaws.{copied_same, bytes_same}
-use Rattle.nv_calls.proofs.reads.HeldLaws.{page_held, slot_still_owned}
+use Rattle.nv_calls.proofs.reads.HeldLaws.{page_held}
+use Rattle.nv_mirror.proofs.OwnedLaws.{slot_still_owned}
 use Rattle.nv_calls.proofs.reads.LockLaws.{some_bytes}
 use Rattle.nv_calls.proofs.reads.CopyWays.{look_placed}
 use Rattle.nv_calls.proofs.reads.OnwardLaws.{stepped_altered}

@@ -19,12 +19,12 @@ use Rattle.nv_mount.specs.declared.fds.Fd.{Fd}
 use Rattle.nv_pages.specs.PageWork.{OfKept, IsReadable, HasFailedCall, entry_slot}
 use Rattle.nv_calls.specs.declared.reading.ReadMachine.{ReadMachine}
 use Rattle.nv_calls.specs.declared.reading.ReadControl.TheVariants as reads
-use Rattle.nv_calls.specs.reads.PieceReads.{piece_read, HasFailedRead}
+use Rattle.nv_mirror.specs.PieceReads.{piece_read, HasFailedPieceRead}
 use Rattle.nv_calls.specs.reads.Reads.{IsOnWayAt}
 use Rattle.nv_calls.proofs.reads.ArmLaws.{some_page, some_entry, opened_by, at_control, arm_after}
 use Rattle.nv_calls.proofs.reads.PatchLaws.{piece_small}
 use Rattle.nv_calls.proofs.reads.PatchedLaws.{patch_stands, patch_left, patch_once, patch_next, patch_failed, same_patched, room_by}
-use Rattle.nv_calls.proofs.reads.PieceLaws.{readable, slot_held, slot_keeps, return_due, stop_due, from_mid, between_mid}
+use Rattle.nv_mirror.proofs.PieceReadLaws.{readable, slot_held, slot_keeps, return_due, stop_due, from_mid, between_mid}
 use Rattle.nv_mirror.proofs.StepLaws.{taken_by}
 use Rattle.nv_calls.proofs.reads.WayLaws.{set_clash}
 use Rattle.nv_calls.proofs.reading.ReadMachine.patch.Goals as goal
@@ -76,7 +76,7 @@ returns-in_default-clause-advance g c =
     let found = c.stop_after.ensures.stepped.0 in
     let between = between_mid old mid (λ kept. with_value kept (ENTRY (slot_of_entry sizes number)) (called (PageRead 0 []) (Failed false failed.faults) (kept (ENTRY (slot_of_entry sizes number))))) failed.altered in
     let before : PassState = record mid { view = old.view } in
-    let stepped = from_mid old mid failed.altered.view (λ (state : PassState). (is : Postcondition state None Stop found new) × HasFailedRead is.works) (c.stop_after.ensures.stepped.1, c.stop_after.ensures.stepped.2) in
+    let stepped = from_mid old mid failed.altered.view (λ (state : PassState). (is : Postcondition state None Stop found new) × HasFailedPieceRead is.works) (c.stop_after.ensures.stepped.1, c.stop_after.ensures.stepped.2) in
     record {
       same = record { fd = refl; at = refl; len = refl };
       one = record {

@@ -8,7 +8,7 @@ use Rattle.nv_table.specs.state.Views.{values_of}
 use Rattle.nv_table.specs.state.States.{BoardState}
 use Rattle.nv_pages.specs.PageWork.{store_slot}
 use Rattle.nv_pages.proofs.AlterLaws.{at_store}
-use Rattle.nv_calls.proofs.reads.CopyLaws.{store_by}
+use Rattle.nv_mirror.proofs.StoreReadLaws.{store_by}
 use Rattle.nv_calls.proofs.reading.ReadMachine.read_page.Goals as goal
 
 pub returns-clause-shapes : goal.returns-clause-shapes

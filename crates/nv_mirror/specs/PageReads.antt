@@ -9,7 +9,7 @@ abbrev pub page_read : (file at : ℕ) → List ℕ → List Work
 page_read file at bytes = record { cell = STORE file; job = PageRead at bytes; ending = Made } ∷ []
 
 -- one that has failed, and no other call
-pub record HasFailedTakeStore (works : List Work) : Type 0 where
+pub record HasFailedPageRead (works : List Work) : Type 0 where
   pub file : ℕ
   pub at : ℕ
   pub bytes : List ℕ

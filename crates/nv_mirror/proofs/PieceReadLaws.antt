@@ -1,4 +1,4 @@
--- Pieces: the read of the piece of an entry that a read holds, and what follows it.
+-- Piece reads: the read of the piece of an entry that a read holds, and what follows it.
 use Rattle.std.proofs.Common.{◌≡◌, ℕ, ◌+◌, ◌<◌, ◌≤◌, ◌==◌, ◌&&◌, nat_le, Bool, true, false, List, [], ◌∷◌, refl, sym, ap, subst, ◌∙◌, arith, eqb-true}
 use Rattle.std.specs.Prelude.{Option, Some, None}
 use Rattle.std.proofs.lemmas.Bool.{and_parts}
@@ -22,8 +22,8 @@ use Rattle.nv_core.specs.invariant.Sound.{Sound}
 use Rattle.nv_core.specs.state.Core.{Core, control_worked, with_value}
 use Rattle.nv_core.specs.steps.Order.{Values, CallEnabled, CallMayEnd, CallMayLeave, IsFailing, CallDue, SaysPieceOf, SaysPiece}
 use Rattle.nv_core.proofs.state.Changes.{by_word}
-use Rattle.nv_core.proofs.invariant.LockLaws.{times_here, times_else}
 use Rattle.nv_table.specs.passes.PassesMade.{IsShownStill}
+use Rattle.nv_table.specs.state.Limits.{MountIsWithinLimits}
 use Rattle.nv_table.specs.state.Opened.{mount_of, IsRunOf, state_of}
 use Rattle.nv_table.specs.state.Views.{pass_of, values_of, still_owned, slot_times, OwnsSlots}
 use Rattle.nv_table.specs.state.States.{PassState}
@@ -32,10 +32,9 @@ use Rattle.nv_table.proofs.steps.OwnedSlotLaws.{owns_slots_kept}
 use Rattle.nv_table.proofs.state.LayoutLaws.{cell_there}
 use Rattle.nv_pages.specs.Altered.{IsAltered}
 use Rattle.nv_pages.specs.PageWork.{OfKept, HasFailedCall, IsReadable, entry_slot}
-use Rattle.nv_calls.specs.reads.PieceReads.{piece_read, HasFailedRead}
+use Rattle.nv_mirror.specs.PieceReads.{piece_read, HasFailedPieceRead}
 use Rattle.nv_mirror.specs.PassSteps.{IsBetweenSteps}
-use Rattle.nv_calls.proofs.reads.HeldLaws.{slot_still_owned, other_not_held}
-use Rattle.nv_calls.specs.reads.Reads.{read_owned}
+use Rattle.nv_mirror.proofs.OwnedLaws.{slot_still_owned}
 use Rattle.nv_core.proofs.steps.NextSteps.{steps_are_next}
 use Rattle.nv_table.specs.steps.SeatSteps.{values_before, pass_before}
 
@@ -66,22 +65,7 @@ module _ (sound : RunsAreSound) (fit : HeldPiecesFit) (now : PassState) (page nu
 
 -- ---- its slot
 
--- the entry is among its owned cells once
-pub entry_held : (sizes : Sizes) (slot page : ℕ) (call : FileCall) (sized : Bool) → times (ENTRY slot) (ENTRY slot ∷ CLEANUP page ∷ read_owned sizes call sized) ≡ 1
-entry_held sizes slot page call sized =
-    times_here (ENTRY slot) (CLEANUP page ∷ read_owned sizes call sized)
-    ∙ ap (λ n. 1 + n) (times_else (ENTRY slot) (CLEANUP page) (read_owned sizes call sized) clash ∙ other_not_held sizes call sized (ENTRY slot) (λ p e. clash_page p e) (λ f e. clash_size f e))
-  where
-    clash : ENTRY slot ≡ CLEANUP page → ⊥
-    clash e = cc
-
-    clash_page : (p : ℕ) → ENTRY slot ≡ PAGE p → ⊥
-    clash_page p e = cc
-
-    clash_size : (f : ℕ) → ENTRY slot ≡ SIZE f → ⊥
-    clash_size f e = cc
-
--- so its slot is owned once
+-- where it is owned once, so is its slot
 pub slot_held : (now : PassState) (number : ℕ) → IsShownStill now → (pass_of now.view).left ≡ [] → 0 < now.view.opened.sizes.entries
     → times (ENTRY (slot_of_entry now.view.opened.sizes number)) (pass_of now.view).owned ≡ 1 → slot_times (entry_slot now.view.opened.sizes number) now.now ≡ 1
 slot_held now number still left some once =
@@ -210,11 +194,11 @@ module _ (now mid : PassState) (page number : ℕ) (still : IsShownStill now) (l
       )
 
   -- where it failed, STOP is set
-  pub stop_due : KeepsReady now.view.opened.sizes value → HasFailedCall cell now mid → (due : Precondition mid None Stop) × HasFailedRead due.works
+  pub stop_due : KeepsReady now.view.opened.sizes value → HasFailedCall cell now mid → (due : Precondition mid None Stop) × HasFailedPieceRead due.works
   stop_due ready failed =
       let piece = some_piece now.view.opened.sizes value ready in
       let faults = failed.faults in
-      to_mid now mid failed.altered.view (λ (state : PassState). (due : Precondition state None Stop) × HasFailedRead due.works) (
+      to_mid now mid failed.altered.view (λ (state : PassState). (due : Precondition state None Stop) × HasFailedPieceRead due.works) (
         record {
           works = piece_read now.view.opened.sizes number piece.at piece.bytes (Failed false faults);
           due = (
@@ -230,3 +214,11 @@ module _ (now mid : PassState) (page number : ℕ) (still : IsShownStill now) (l
         },
         record { slot = slot_of_entry now.view.opened.sizes number; at = piece.at; bytes = piece.bytes; faults = faults; is = refl },
       )
+
+-- ---- the mount, by a layout
+
+pub some_byte : {layout sizes : Sizes} → MountIsWithinLimits layout → layout ≡ sizes → 1 ≤ sizes.page
+some_byte limits same = let least = limits.least_page in subst (λ (s : Sizes). 1 ≤ s.page) same (omega (arith, least))
+
+pub some_entry : {layout sizes : Sizes} → MountIsWithinLimits layout → layout ≡ sizes → 0 < sizes.entries
+some_entry limits same = let least = limits.least_entries in subst (λ (s : Sizes). 0 < s.entries) same (omega (arith, least))

@@ -9,7 +9,7 @@ abbrev pub piece_read : Sizes → (number at : ℕ) → List ℕ → CallEnding 
 piece_read sizes number at bytes ending = record { cell = ENTRY (slot_of_entry sizes number); job = PieceRead at bytes; ending = ending } ∷ []
 
 -- one that has failed, and no other call
-pub record HasFailedRead (works : List Work) : Type 0 where
+pub record HasFailedPieceRead (works : List Work) : Type 0 where
   pub slot : ℕ
   pub at : ℕ
   pub bytes : List ℕ
