@@ -16,7 +16,6 @@ pub mod PlaceLaws
 pub mod MeasureLaws
 pub mod AdvanceLaws
 pub mod UnlockLaws
-pub mod BelowLaws
 pub mod LookLaws
 pub mod CopyAdvances
 pub mod CopyLaws

@@ -1,7 +1,6 @@
 -- Reads: their control states, and what each step of them leads to.
 pub mod Advances
 pub mod EarlyRefusals
-pub mod Copied
 pub mod Ends
 pub mod PastSearch
 pub mod Measures

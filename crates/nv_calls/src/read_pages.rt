@@ -14,7 +14,7 @@ ghost use Rattle.nv_core.specs.invariant.Shapes.{IsStore, HaveShapes};
 ghost use Rattle.nv_plain.specs.Files.{bytes_at};
 ghost use Rattle.nv_plain.specs.Pieces.{pages_touched};
 ghost use Rattle.nv_pages.specs.PageWork.{OfKept, HasFailedCall, page_slot, store_slot, with_page};
-ghost use Rattle.nv_calls.specs.reads.Copied.{IsPut};
+ghost use Rattle.nv_mirror.specs.Copied.{IsPut};
 ghost use Rattle.nv_pages.specs.Altered.{IsAltered};
 ghost use Rattle.nv_table.specs.passes.PassesMade.{IsShownStill};
 ghost use Rattle.nv_table.specs.state.Keys.{sizes_of};

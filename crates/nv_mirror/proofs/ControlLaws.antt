@@ -140,7 +140,7 @@ pub record PlaceLaws (opened : Opened) : Type 0 where
   pub mount : IsMount (mount_of opened)
 
 reply_to : (call : FileCall) (reply : Reply) → reply ≡ plain_reply call → IsReplyTo call reply
-reply_to (Read file at len) reply is = tt
+reply_to (Read file at len) reply is = λ none. is
 reply_to (Write file at bytes) reply is = is
 reply_to (Sync file) reply is = is
 

@@ -1,17 +1,15 @@
 -- Had pages: what a pass has of its read's pages, from one step to the next.
-use Rattle.std.proofs.Common.{◌≡◌, ◌≢◌, ℕ, ◌+◌, ◌==◌, Bool, true, false, if◌then◌else◌, List, [], ◌∷◌, ap, subst, sym, refl, ◌∙◌, arith, ne_eqb}
+use Rattle.std.proofs.Common.{◌≡◌, ◌≢◌, ℕ, ◌==◌, Bool, true, false, if◌then◌else◌, List, [], ◌∷◌, ap, refl, ◌∙◌, arith, ne_eqb}
 use Rattle.std.specs.Prelude.{None}
-use Rattle.nv_core.specs.state.Words.{Sizes, Word, SIZE, STORE, ENTRY, PAGE, CLEANUP, slot_of_entry}
+use Rattle.nv_core.specs.state.Words.{Sizes, STORE, ENTRY, PAGE, CLEANUP, slot_of_entry}
 use Rattle.nv_core.specs.state.Values.{bytes_in}
 use Rattle.nv_core.specs.state.Passes.{Pass, times}
 use Rattle.nv_core.specs.state.Core.{values_stepped, values_given}
 use Rattle.nv_core.specs.steps.Ops.{Op}
 use Rattle.nv_core.specs.steps.Order.{Values, Work, page_bytes}
-use Rattle.nv_core.specs.steps.PassSteps.{stepped}
 use Rattle.nv_core.specs.invariant.ControlFacts.{IsPage}
 use Rattle.nv_core.proofs.invariant.LockLaws.{times_else}
 use Rattle.nv_table.specs.steps.SeatSteps.{AreDue, values_then}
-use Rattle.nv_table.specs.state.Opened.{state_of}
 use Rattle.nv_table.specs.state.States.{PassState}
 use Rattle.nv_table.specs.state.Views.{pass_of, values_of}
 use Rattle.nv_table.specs.steps.StepContracts.{Postcondition}

@@ -1,19 +1,16 @@
 -- Loads: the steps of a page's load before which no device call comes are the core's.
-use Rattle.std.proofs.Common.{◌≡◌, ◌≢◌, ℕ, zero, suc, ◌+◌, ◌-◌, ◌*◌, ◌<◌, ◌≤◌, ◌==◌, ◌^◌, nat_lt, Bool, true, false, if◌then◌else◌, List, [], ◌∷◌, inl, inr, refl, sym, ap, ap₂, subst, ◌∙◌, arith}
+use Rattle.std.proofs.Common.{◌≡◌, ℕ, zero, suc, ◌+◌, ◌<◌, ◌==◌, nat_lt, Bool, true, false, if◌then◌else◌, List, [], ◌∷◌, inl, refl, sym, ap, subst, ◌∙◌, arith}
 use Rattle.std.specs.Prelude.{Option, Some, None, option_map}
 use Rattle.std.proofs.lemmas.Bool.{ltb-true}
 use Rattle.nv_plain.specs.Histories.{Answered}
-use Rattle.nv_plain.specs.declared.call.FileCall.{FileCall}
 use Rattle.nv_core.specs.state.Cleaner.{CleanerOp}
-use Rattle.nv_core.specs.state.Passes.{Pass, Control, TakeCleanup, TakeStore, ReadStore, ReadLoadTail, LoadEntry, HoldEntry, ReadPiece, GiveCleanup, GiveBack, CommitGroup, Cleaning, without, times, page_count, first_page}
-use Rattle.nv_core.specs.state.Words.{Sizes, Word, SIZE, STORE, ENTRY, PAGE, CLEANUP, DIRTY, place, slot_of_entry, ready, is_entry_of}
+use Rattle.nv_core.specs.state.Passes.{Pass, Control, TakeCleanup, TakeStore, ReadStore, LoadEntry, HoldEntry, ReadPiece, GiveCleanup, GiveBack, CommitGroup, Cleaning}
+use Rattle.nv_core.specs.state.Words.{Sizes, Word, SIZE, STORE, ENTRY, CLEANUP, DIRTY, place, slot_of_entry, ready, is_entry_of}
 use Rattle.nv_core.specs.steps.CleanerSteps.{next_cleaner_op}
 use Rattle.nv_core.specs.steps.ControlSteps.{leaving}
 use Rattle.nv_core.specs.steps.Ops.{Op, Load, ByCleaner, Comes, Stays, moved}
 use Rattle.nv_core.specs.steps.Order.{Values, step_at}
 use Rattle.nv_core.specs.steps.PassSteps.{stepped, left_after, mine_after}
-use Rattle.nv_core.specs.invariant.ControlFacts.{IsPage}
-use Rattle.nv_core.proofs.invariant.LockLaws.{times_else}
 use Rattle.nv_table.specs.state.Opened.{Opened}
 use Rattle.nv_table.specs.state.States.{PassState}
 use Rattle.nv_table.specs.state.Views.{pass_of, values_of}
@@ -31,10 +28,9 @@ use Rattle.nv_mirror.specs.OwnSteps.{is_own}
 use Rattle.nv_mirror.specs.OwnedCells.{pages_from, with_if}
 use Rattle.nv_mirror.specs.PassSteps.{either_of, head_in, place_by, refused_by}
 use Rattle.nv_mirror.specs.Controls.{Reading, readings, reading_of, with_reading}
-use Rattle.nv_mirror.specs.Loads.{load_call_of, Fits, FitsAt, IsPlain, IsMissed, IsInCall, Before, load_op_at, load_after_at, load_control_then, scanning_from, behind_store, load_locks, load_owned_at, load_mirror_at, load_refusal_at}
+use Rattle.nv_mirror.specs.Loads.{load_call_of, Fits, FitsAt, IsPlain, IsMissed, IsInCall, Before, load_op_at, load_after_at, scanning_from, behind_store, load_locks, load_mirror_at, load_refusal_at}
 use Rattle.nv_mirror.proofs.ControlLaws.{mirror_due, mirror_on, told_kept}
 use Rattle.nv_mirror.proofs.PageLaws.{some_touched, without_first}
-use Rattle.nv_mirror.proofs.PledgeLaws.{behind_size, page_inside}
 use Rattle.nv_mirror.proofs.StepLaws.{opened_same}
 
 -- ---- when the steps are due

@@ -1,8 +1,8 @@
 -- Load ways: where the load of a page begins, and how its read goes on.
-use Rattle.std.proofs.Common.{◌≡◌, ℕ, zero, suc, ◌+◌, ◌<◌, ◌≤◌, ◌^◌, ◌==◌, Bool, true, false, if◌then◌else◌, List, ◌∷◌, refl, sym, ap, ap₂, subst, ◌∙◌, arith}
+use Rattle.std.proofs.Common.{◌≡◌, ℕ, ◌+◌, ◌<◌, ◌≤◌, ◌^◌, Bool, true, false, if◌then◌else◌, List, refl, sym, ap, ap₂, subst, ◌∙◌, arith}
 use Rattle.std.specs.Prelude.{Option, Some, None}
 use Rattle.nv_plain.specs.declared.call.FileCall.{FileCall}
-use Rattle.nv_core.specs.state.Passes.{Control, VisitPage, end_page, len_of}
+use Rattle.nv_core.specs.state.Passes.{VisitPage}
 use Rattle.nv_core.specs.state.Words.{Sizes}
 use Rattle.nv_core.specs.steps.Order.{page_bytes}
 use Rattle.nv_core.proofs.state.Changes.{number_self}
@@ -11,13 +11,12 @@ use Rattle.nv_table.specs.state.States.{PassState}
 use Rattle.nv_table.specs.state.Views.{pass_of, values_of}
 use Rattle.nv_mirror.specs.declared.answers.Refusal.{Refusal}
 use Rattle.nv_mirror.specs.declared.front.FrontControl.TheVariants as fronts
-use Rattle.nv_mirror.specs.declared.front.FrontMachine.{FrontMachine}
 use Rattle.nv_mirror.specs.declared.load.LoadControl.TheVariants.{Loaded, Refused}
 use Rattle.nv_mirror.specs.declared.load.LoadControl.TheVariants as loads
 use Rattle.nv_mirror.specs.declared.load.LoadMachine.{LoadMachine}
 use Rattle.nv_mirror.specs.Fronts as front
 use Rattle.nv_mirror.specs.Controls.{MirroredControl, Reading, control_mirror, readings, InCall}
-use Rattle.nv_mirror.specs.Loads.{Fits, FitsAt, IsInCall, IsReading, IsUnderWay, Before, Misses, bytes_had, given_back, load_call_of, load_mirror_at}
+use Rattle.nv_mirror.specs.Loads.{Fits, IsInCall, IsReading, IsUnderWay, Misses, bytes_had, given_back, load_call_of}
 use Rattle.nv_mirror.proofs.PageLaws.{some_touched}
 use Rattle.nv_mirror.proofs.WaysLaws.{last_low}
 

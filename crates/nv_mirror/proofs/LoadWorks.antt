@@ -1,11 +1,11 @@
 -- Load works: the steps of a page's load behind the read of a device, or behind the filling of the page's buffer.
-use Rattle.std.proofs.Common.{◌≡◌, ◌≢◌, ℕ, zero, suc, ◌+◌, ◌<◌, ◌≤◌, ◌%◌, ◌==◌, nat_lt, Bool, true, false, if◌then◌else◌, List, [], ◌∷◌, inl, inr, refl, sym, ap, ap₂, subst, ◌∙◌, arith}
-use Rattle.std.specs.Prelude.{Option, Some, None}
+use Rattle.std.proofs.Common.{◌≡◌, ◌≢◌, ℕ, zero, suc, ◌+◌, ◌%◌, ◌==◌, nat_lt, Bool, true, false, if◌then◌else◌, List, [], ◌∷◌, refl, sym, ap, ap₂, subst, ◌∙◌}
+use Rattle.std.specs.Prelude.{Some, None}
 use Rattle.std.proofs.lemmas.Bool.{ltb-true}
 use Rattle.nv_plain.specs.Files.{overwritten}
 use Rattle.nv_plain.specs.Histories.{Answered}
 use Rattle.nv_core.specs.state.Words.{Sizes, Word, SIZE, STORE, ENTRY, PAGE, CLEANUP, same, slot_of_entry}
-use Rattle.nv_core.specs.state.Values.{Value, PageRead, PieceRead, Made, Failed, called, filled, faults_of}
+use Rattle.nv_core.specs.state.Values.{PageRead, PieceRead, Made, Failed, called, filled}
 use Rattle.nv_core.specs.state.Passes.{Pass, VisitPage, ReadLoadHead, LoadEntry, ReadPiece, ReturnEntry, GiveCleanup, fetched_bytes, times}
 use Rattle.nv_core.specs.state.Core.{control_worked, values_given, values_worked, with_value, worked}
 use Rattle.nv_core.specs.steps.Ops.{Op, Give, Return, Stop}
@@ -17,16 +17,15 @@ use Rattle.nv_core.proofs.state.Changes.{by_word, number_self, word_else}
 use Rattle.nv_table.specs.steps.SeatSteps.{pass_worked, values_before, values_then}
 use Rattle.nv_table.specs.state.Opened.{Opened}
 use Rattle.nv_table.specs.state.States.{PassState}
-use Rattle.nv_table.specs.state.Views.{PassView, OwnsSlots, pass_of, values_of, still_owned, slot_times}
+use Rattle.nv_table.specs.state.Views.{PassView, pass_of, values_of, still_owned, slot_times}
 use Rattle.nv_table.specs.steps.CallSteps.{Precondition}
 use Rattle.nv_table.specs.steps.StepContracts.{Postcondition}
 use Rattle.nv_table.proofs.steps.CallLaws.{IsCallFree}
 use Rattle.nv_table.proofs.steps.OwnedSlotLaws.{owns_slots_kept}
 use Rattle.nv_table.proofs.state.LayoutLaws.{cell_there}
 use Rattle.nv_pages.specs.Altered.{IsAltered}
-use Rattle.nv_pages.specs.PageWork.{HasFailedCall, page_slot, store_slot, with_page}
+use Rattle.nv_pages.specs.PageWork.{HasFailedCall, store_slot, with_page}
 use Rattle.nv_op.specs.Ops.{core_op_of}
-use Rattle.nv_mirror.specs.declared.answers.Refusal.TheVariants.{RegionFault, StoreFault}
 use Rattle.nv_mirror.specs.declared.load.LoadControl.{LoadControl}
 use Rattle.nv_mirror.specs.declared.load.LoadControl.TheVariants.{Loaded, GiveBackStore}
 use Rattle.nv_mirror.specs.declared.load.LoadControl.TheVariants as loads
@@ -38,7 +37,7 @@ use Rattle.nv_mirror.specs.PieceReads.{HasFailedPieceRead, piece_read}
 use Rattle.nv_mirror.specs.PassSteps.{IsBetweenSteps, either_of, head_in, place_by, refused_by}
 use Rattle.nv_mirror.specs.Controls.{Reading, readings, reading_of, with_reading, InCall}
 use Rattle.nv_mirror.specs.Loads.{load_call_of, Fits, FitsAt, HasStepped, IsInCall, IsMissed, IsUnderWay, KeepsOthers, Before, load_after, load_locks, load_mirror_at, load_op, load_refusal_at, scanning_from, values_fetched}
-use Rattle.nv_mirror.proofs.HadLaws.{bytes_else, had_by, held_once, no_works}
+use Rattle.nv_mirror.proofs.HadLaws.{bytes_else, had_by, no_works}
 use Rattle.nv_mirror.proofs.LoadLaws.{at}
 use Rattle.nv_mirror.proofs.OwnedLaws.{slot_still_owned}
 use Rattle.nv_mirror.proofs.PageLaws.{without_first}

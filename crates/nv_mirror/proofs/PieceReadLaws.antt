@@ -1,14 +1,13 @@
 -- Piece reads: the read of the piece of an entry that a read holds, and what follows it.
-use Rattle.std.proofs.Common.{◌≡◌, ℕ, ◌+◌, ◌<◌, ◌≤◌, ◌==◌, ◌&&◌, nat_le, Bool, true, false, List, [], ◌∷◌, refl, sym, ap, subst, ◌∙◌, arith, eqb-true}
+use Rattle.std.proofs.Common.{◌≡◌, ℕ, ◌<◌, ◌≤◌, ◌==◌, ◌&&◌, nat_le, true, false, List, [], refl, sym, ap, subst, ◌∙◌, arith, eqb-true}
 use Rattle.std.specs.Prelude.{Option, Some, None}
 use Rattle.std.proofs.lemmas.Bool.{and_parts}
 use Rattle.std.proofs.lemmas.Nat.{mod_below}
 use Rattle.std.proofs.Math.Nat.{mod-le}
 use Rattle.nv_plain.specs.Faults.{Rose}
 use Rattle.nv_plain.specs.Images.{entry_of, data_of}
-use Rattle.nv_plain.specs.declared.call.FileCall.{FileCall}
 use Rattle.nv_pmem.specs.Part.{Part, part_word}
-use Rattle.nv_core.specs.state.Words.{Sizes, Word, ENTRY, SIZE, PAGE, CLEANUP, held, kind_of, page_of, was_readied, is_entry_of, slot_of_entry}
+use Rattle.nv_core.specs.state.Words.{Sizes, Word, ENTRY, held, kind_of, page_of, was_readied, is_entry_of, slot_of_entry}
 use Rattle.nv_core.specs.state.Values.{Value, Bare, APart, AStore, ABuffer, PieceRead, PageRead, CallEnding, Made, Failed, called, faults_of}
 use Rattle.nv_core.specs.state.Passes.{ReadPiece, IsOneOf, times}
 use Rattle.nv_core.specs.steps.Ops.{Return, Stop}

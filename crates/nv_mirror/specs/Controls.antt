@@ -1,5 +1,5 @@
 -- Controls: what of a pass a machine mirrors, and what every machine keeps.
-use Rattle.std.specs.Prelude.{◌≡◌, refl, ℕ, Bool, List, [], Option, Some, None}
+use Rattle.std.specs.Prelude.{◌≡◌, refl, ℕ, nat_lt, Bool, false, List, [], Option, Some, None}
 use Rattle.nv_plain.specs.declared.call.FileCall.{FileCall}
 use Rattle.nv_plain.specs.declared.call.FileCall.TheVariants.{Read}
 use Rattle.nv_plain.specs.declared.call.Reply.{Reply}
@@ -83,9 +83,9 @@ abbrev pub IsUnbegunCall : Option FileCall → (start now : PassState) → Type 
 IsUnbegunCall (Some call) start now = now ≡ start
 IsUnbegunCall None start now = Unit {0}
 
--- the reply of a call that reads nothing follows from what it asks for
+-- the reply of a call that asks to read nothing follows from what it asks for
 abbrev pub IsReplyTo : FileCall → Reply → Type 0
-IsReplyTo (Read file at len) reply = Unit {0}
+IsReplyTo (Read file at len) reply = nat_lt 0 len ≡ false → reply ≡ plain_reply (Read file at len)
 IsReplyTo call reply = reply ≡ plain_reply call
 
 -- the call has its place in the history, or the history is as the pass saw it

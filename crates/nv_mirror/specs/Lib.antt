@@ -1,6 +1,7 @@
 pub mod Answers
 pub mod Appends
 pub mod Controls
+pub mod Copied
 pub mod Fronts
 pub mod OwnSteps
 pub mod Loads
@@ -12,5 +13,6 @@ pub mod PieceReads
 pub mod Pledges
 pub mod Releases
 pub mod RunningWrites
+pub mod Visits
 pub mod Ways
 pub mod WriteSteps

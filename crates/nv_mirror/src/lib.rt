@@ -10,7 +10,9 @@ mod lent;
 mod load;
 mod loading;
 mod pageless;
+mod read_ways;
 mod release;
+mod visit;
 mod ways;
 mod write;
 
@@ -20,4 +22,5 @@ pub use front::{FrontControl, FrontMachine};
 pub use load::{LoadControl, LoadMachine};
 pub use pageless::{PagelessControl, PagelessMachine};
 pub use release::{ReleaseControl, ReleaseMachine};
+pub use visit::{VisitControl, VisitMachine};
 pub use write::RunningWrite;

@@ -1,20 +1,19 @@
 -- Copies: a page is read from its store, which is given back, or STOP is set where it has failed.
-use Rattle.std.proofs.Common.{◌≡◌, ◌≢◌, ℕ, ◌+◌, ◌-◌, ◌*◌, ◌%◌, ◌<◌, ◌≤◌, Bool, true, false, if◌then◌else◌, List, [], ◌∷◌, ◌++◌, length, take, drop, refl, sym, ap, subst, ◌∙◌, arith, replicate}
-use Rattle.std.specs.Prelude.{Option, Some, None}
-use Rattle.std.proofs.lemmas.List.{length-take, length-drop, length-replicate}
+use Rattle.std.proofs.Common.{◌≡◌, ◌≢◌, ℕ, ◌+◌, ◌-◌, ◌*◌, ◌%◌, ◌<◌, ◌≤◌, Bool, true, false, if◌then◌else◌, List, [], ◌∷◌, ◌++◌, length, take, drop, refl, sym, ap, subst, ◌∙◌, arith}
+use Rattle.std.specs.Prelude.{None}
+use Rattle.std.proofs.lemmas.List.{length-take, length-drop}
 use Rattle.nv_plain.specs.Faults.{Rose}
-use Rattle.nv_plain.specs.Files.{bytes_at, padded}
+use Rattle.nv_plain.specs.Files.{bytes_at}
 use Rattle.nv_plain.specs.declared.call.FileCall.{FileCall}
-use Rattle.nv_store.specs.Store.{Store}
 use Rattle.nv_core.specs.state.Words.{Sizes, Word, PAGE, SIZE, STORE, CLEANUP, page_total, same}
-use Rattle.nv_core.specs.state.Values.{Value, AStore, PageRead, Made, Failed, called, faults_of, filled}
+use Rattle.nv_core.specs.state.Values.{Value, PageRead, Made, Failed, called, faults_of, filled}
 use Rattle.nv_core.specs.state.Passes.{Pass, VisitPage, ReadStore, ReadLoadHead, fetched_bytes, times, without}
 use Rattle.nv_core.specs.steps.Ops.{Give, Stop}
-use Rattle.nv_core.specs.steps.Order.{Values, Work, CallEnabled, CallMayEnd, CallMayLeave, IsFailing, CallDue, SaysPage, SaysOf, page_bytes}
+use Rattle.nv_core.specs.steps.Order.{Values, Work, CallEnabled, IsFailing, CallDue, SaysOf, page_bytes}
 use Rattle.nv_core.specs.steps.StepKinds.{MayGive}
 use Rattle.nv_core.specs.steps.PassSteps.{stepped}
 use Rattle.nv_core.specs.state.Core.{worked, values_worked, values_given, with_value, control_worked}
-use Rattle.nv_core.specs.invariant.Shapes.{HasShape, IsStore}
+use Rattle.nv_core.specs.invariant.Shapes.{IsStore}
 use Rattle.nv_core.specs.invariant.ControlFacts.{IsPage}
 use Rattle.nv_core.proofs.state.Changes.{word_else, by_word, same_self, number_self}
 use Rattle.nv_core.proofs.invariant.LockLaws.{times_here, times_else}

@@ -25,14 +25,14 @@ use Rattle.nv_pages.specs.Altered.{IsAltered}
 use Rattle.nv_pages.specs.PageWork.{OfKept, page_slot}
 use Rattle.nv_pages.proofs.AlterLaws.{at_page}
 use Rattle.nv_calls.specs.declared.reading.ReadMachine.{ReadMachine}
-use Rattle.nv_calls.specs.reads.Copied.{IsPut}
+use Rattle.nv_mirror.specs.Copied.{IsPut}
 use Rattle.nv_calls.specs.declared.reading.ReadControl.TheVariants as reads
 use Rattle.nv_calls.specs.reads.Reads.{call_of, front, read_owned, HasCopied, IsAtPage, IsLooking, ReadFactsAt, page_piece}
 use Rattle.nv_calls.proofs.reads.ArmLaws.{some_page}
 use Rattle.nv_calls.proofs.reads.HeldLaws.{page_held}
 use Rattle.nv_mirror.proofs.OwnedLaws.{slot_still_owned}
 use Rattle.nv_calls.proofs.reads.LockLaws.{some_bytes}
-use Rattle.nv_calls.proofs.reads.BelowLaws.{AreBelow, IsBelow, load_head, bytes_above}
+use Rattle.nv_mirror.proofs.FetchedLaws.{AreBelow, IsBelow, load_head, bytes_above}
 
 -- ---- a read's pages
 

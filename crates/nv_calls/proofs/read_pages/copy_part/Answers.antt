@@ -7,7 +7,7 @@ use Rattle.nv_plain.specs.Files.{bytes_at}
 use Rattle.nv_core.specs.state.Words.{PAGE}
 use Rattle.nv_core.specs.state.Values.{Value, bytes_in}
 use Rattle.nv_pages.specs.PageWork.{IsCopied}
-use Rattle.nv_calls.specs.reads.Copied.{IsPut}
+use Rattle.nv_mirror.specs.Copied.{IsPut}
 use Rattle.nv_calls.proofs.read_pages.copy_part.Goals as goal
 
 put_there : (value : Value) (at from size : ℕ) (old middle : List ℕ) (result : Option ℕ) → from + size ≤ length old → IsCopied value at (take (from + size - from) (drop from old)) middle result

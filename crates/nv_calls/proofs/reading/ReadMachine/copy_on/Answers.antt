@@ -9,10 +9,10 @@ use Rattle.nv_table.specs.state.Opened.{Opened}
 use Rattle.nv_table.specs.state.Views.{pass_of, values_of, slot_times}
 use Rattle.nv_pages.specs.PageWork.{page_slot}
 use Rattle.nv_pages.proofs.AlterLaws.{altered_then}
-use Rattle.nv_calls.specs.reads.Copied.{IsPut}
+use Rattle.nv_mirror.specs.Copied.{IsPut}
 use Rattle.nv_calls.specs.reads.Reads.{call_of, page_piece, IsLooking}
 use Rattle.nv_calls.proofs.reads.ArmLaws.{some_page, opened_by}
-use Rattle.nv_calls.proofs.reads.BelowLaws.{fetched_below}
+use Rattle.nv_mirror.proofs.FetchedLaws.{fetched_below}
 use Rattle.nv_calls.proofs.reads.LookLaws.{altered_none, of_kept, piece_is, looking_few, looking_most, looking_more, looked_there, looked_still_owned}
 use Rattle.nv_calls.proofs.reading.ReadMachine.copy_on.Goals as goal
 

@@ -6,10 +6,8 @@ use Rattle.nv_core.specs.state.Words.{STORE}
 use Rattle.nv_table.specs.state.Opened.{Opened}
 use Rattle.nv_table.specs.state.Keys.{sizes_of}
 use Rattle.nv_table.specs.steps.CallSteps.{Precondition}
-use Rattle.nv_table.specs.steps.StepContracts.{Postcondition}
 use Rattle.nv_op.specs.Ops.{core_op_of}
 use Rattle.nv_mirror.specs.PageReads.{page_read}
-use Rattle.nv_mirror.specs.declared.load.LoadControl.{LoadControl}
 use Rattle.nv_mirror.specs.declared.load.LoadControl.TheVariants as loads
 use Rattle.nv_mirror.specs.Loads.{HasStepped, IsUnderWay, load_after_at, load_op_at}
 use Rattle.nv_mirror.proofs.LoadWorks.{at_control, between_by, from_is, give_due, give_on, give_keeps, fail_due, fail_on, fail_keeps, works_stepped}

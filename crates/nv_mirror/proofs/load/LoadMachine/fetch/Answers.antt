@@ -1,5 +1,5 @@
 -- The slot of the store has one, and the buffer of the page has room for a page.
-use Rattle.std.proofs.Common.{◌≡◌, ◌<◌, ◌≤◌, length, sym, ap, subst, ◌∙◌}
+use Rattle.std.proofs.Common.{◌≡◌, ◌<◌, ◌≤◌, length, subst, ◌∙◌}
 use Rattle.std.specs.Prelude.{Some}
 use Rattle.nv_core.specs.state.Words.{page_total}
 use Rattle.nv_core.specs.state.Values.{Buffer, ABuffer}

@@ -1,5 +1,5 @@
 -- Its buffer is filled, and CLEANUP is given back.
-use Rattle.std.proofs.Common.{◌≡◌, ◌<◌, ◌≤◌, false, length, refl, sym, ap, subst, ◌∙◌}
+use Rattle.std.proofs.Common.{◌≡◌, ◌<◌, ◌≤◌, false, length, refl, sym, ap, subst}
 use Rattle.std.specs.Prelude.{Some}
 use Rattle.nv_core.specs.steps.Ops.{Give}
 use Rattle.nv_core.specs.state.Words.{CLEANUP, page_total}

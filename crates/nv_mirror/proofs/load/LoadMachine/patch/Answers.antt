@@ -1,6 +1,5 @@
 -- The piece is read, and the entry is returned, or STOP is set.
-use Rattle.std.proofs.Common.{◌≡◌, ◌+◌, ◌%◌, List, ℕ, take, true, false, refl, sym, ap, subst, ◌∙◌}
-use Rattle.std.specs.Prelude.{None}
+use Rattle.std.proofs.Common.{◌%◌, take, true, false, refl, sym, ap, subst, ◌∙◌}
 use Rattle.nv_plain.specs.Files.{overwritten}
 use Rattle.nv_core.specs.steps.Ops.{Return, Stop}
 use Rattle.nv_core.specs.state.Words.{Sizes}
