@@ -1,0 +1,10 @@
+pub mod AdvanceLaws
+pub mod BufferLaws
+pub mod EndLaws
+pub mod KeepsLaws
+pub mod SearchFacts
+pub mod SearchLaws
+pub mod SearchMeasures
+pub mod StepLaws
+pub mod TryLaws
+pub mod WaysLaws
