@@ -5,13 +5,13 @@ use Rattle.nv_core.specs.steps.Order.{Work}
 use Rattle.nv_plain.specs.declared.call.FileCall.{FileCall}
 use Rattle.nv_plain.specs.declared.call.Reply.{Reply}
 use Rattle.nv_core.specs.state.Words.{Sizes, HEAD, LENGTH, IsWord, place}
-use Rattle.nv_core.specs.steps.Ops.{Op as CoreOp, Take as TakeOp, Draw as DrawOp, Hold as HoldOp, Return as ReturnOp, move_of, value_after, word_of, ready_word}
+use Rattle.nv_core.specs.steps.Ops.{Op as CoreOp, Take as TakeOp, Draw as DrawOp, Hold as HoldOp, Return as ReturnOp, ByCleaner as CleanerStep, move_of, value_after, word_of, ready_word}
 use Rattle.nv_core.specs.invariant.ControlFacts.{FactsAt}
 use Rattle.nv_core.specs.state.Passes.{Pass, DrawNumbers, file_of, at_of, len_of, page_count}
 use Rattle.nv_core.specs.state.Core.{Core, worked}
 use Rattle.nv_core.specs.invariant.ForbiddenSteps.{NoDirtyAboveTheLog}
 use Rattle.nv_core.specs.invariant.Sound.{Sound}
-use Rattle.nv_core.specs.steps.StepKinds.{EnabledByKind}
+use Rattle.nv_core.specs.steps.StepKinds.{EnabledByKind, CleanerEnabled}
 use Rattle.nv_core.proofs.steps.NextSteps.{next_steps_may_come}
 use Rattle.nv_table.specs.steps.SeatSteps.{pass_worked, pass_before, values_before}
 use Rattle.nv_table.specs.state.Changes.{changed}
@@ -28,10 +28,15 @@ use Rattle.nv_table.specs.state.Views.{pass_of, values_of}
 use prog.Atomic.{either}
 use Rattle.std.proofs.lemmas.Bool.{cases_eq}
 use Rattle.nv_op.specs.declared.op.Op.{Op}
-use Rattle.nv_op.specs.declared.op.Op.TheVariants.{Load, Take, Give, Place, Stop, Draw, Seize, Pledge, Ready, Grow, Break, Hold, Return, Turn, Hint}
+use Rattle.nv_op.specs.declared.op.Op.TheVariants.{Load, Take, Give, Place, Stop, Draw, Seize, Pledge, Ready, Grow, Break, Hold, Return, Turn, Hint, ByCleaner}
+use Rattle.nv_op.specs.declared.cleaner_op.CleanerOp.{CleanerOp}
+use Rattle.nv_op.specs.declared.cleaner_op.CleanerOp.TheVariants as cleaner
+use Rattle.nv_op.specs.CleanerOps.{core_cleaner_op, word_of_cleaner_op}
+use Rattle.nv_op.proofs.CleanerOpLaws.{cleaner_moves_so, cleaner_value_so}
 use Rattle.nv_table.specs.invariant.Drawn.{marks_of, IsFromHead}
 use Rattle.nv_op.specs.declared.op.Asked.{Asked}
-use Rattle.nv_op.specs.Ops.{Fits, SumIsSmall, core_word, word_of_op, change_of, moves_for, marks_for, opened_by, core_op_at, core_op_of}
+use Rattle.nv_op.specs.Words.{core_word}
+use Rattle.nv_op.specs.Ops.{Fits, SumIsSmall, word_of_op, change_of, moves_for, marks_for, opened_by, core_op_at, core_op_of}
 
 -- ---- the slot that it moves
 
@@ -53,6 +58,7 @@ moves_so sizes reply (Hold number) found = refl
 moves_so sizes reply (Return number) found = refl
 moves_so sizes reply (Turn page) found = refl
 moves_so sizes reply (Hint buffer page) found = refl
+moves_so sizes reply (ByCleaner cleaner_op) found = cleaner_moves_so sizes cleaner_op found
 
 -- ---- the word and its value
 
@@ -64,6 +70,20 @@ leaves pass opens works f same none =
 
 begins_none : (call : FileCall) → Some call ≡ None → ⊥
 begins_none call e = cc
+
+on_cleaner_word : (pass : PassState) (op : CleanerOp) (works : List Work) (opens : Option FileCall)
+    → word_of pass.view.opened.sizes (pass_before pass.view opens works) (CleanerStep (core_cleaner_op op)) ≡ core_word (word_of_cleaner_op pass.view.opened.sizes op)
+on_cleaner_word pass (cleaner.TakeCleaner most) works opens = refl
+on_cleaner_word pass (cleaner.Load word) works opens = refl
+on_cleaner_word pass (cleaner.Take cell) works opens = refl
+on_cleaner_word pass (cleaner.Give cell) works opens = refl
+on_cleaner_word pass (cleaner.Hold number) works opens = refl
+on_cleaner_word pass (cleaner.Return number) works opens = refl
+on_cleaner_word pass (cleaner.Clean number) works opens = refl
+on_cleaner_word pass (cleaner.Subtract page) works opens = refl
+on_cleaner_word pass (cleaner.Free number) works opens = refl
+on_cleaner_word pass (cleaner.MoveTail tail) works opens = refl
+on_cleaner_word pass cleaner.Stop works opens = refl
 
 on_word : (pass : PassState) (opens : Option FileCall) (reply : Reply) (op : Op) (works : List Work) → Fits pass.view.opened.sizes opens (pass_of pass.view) op
     → word_of pass.view.opened.sizes (pass_before pass.view opens works) (core_op_at reply op) ≡ core_word (word_of_op pass.view.opened.sizes op)
@@ -83,6 +103,7 @@ on_word pass opens reply (Hold number) works fits = refl
 on_word pass opens reply (Return number) works fits = refl
 on_word pass opens reply (Turn page) works fits = refl
 on_word pass opens reply (Hint buffer page) works fits = refl
+on_word pass opens reply (ByCleaner cleaner_op) works fits = on_cleaner_word pass cleaner_op works opens
 
 exchanged : (found head count : ℕ) → (if found == head then found + count else found) ≡ either (found == head) (head + count) found
 exchanged found head count = elim (cases_eq found head) [
@@ -136,6 +157,11 @@ value_so dirty pass None reply (Return number) fits few due core sound made is l
 value_so dirty pass (Some call) reply (Return number) fits few due core sound made is low = absurd (begins_none call fits)
 value_so dirty pass opens reply (Turn page) fits few due core sound made is low = refl
 value_so dirty pass opens reply (Hint buffer page) fits few due core sound made is low = refl
+value_so dirty pass None reply (ByCleaner op) fits few due core sound made is low =
+    let by_kind = may_come pass (CleanerStep (core_cleaner_op op)) due in
+    cleaner_value_so pass.view.opened.sizes _ core pass.view.number sound op
+    (subst (λ (p : Pass). CleanerEnabled pass.view.opened.sizes p (core_cleaner_op op) p.control) (sym is) by_kind) low
+value_so dirty pass (Some call) reply (ByCleaner op) fits few due core sound made is low = absurd (begins_none call fits)
 
 -- ---- its word and its sum
 
@@ -170,6 +196,7 @@ small_so pass opens reply (Hold number) fits due stands = tt
 small_so pass opens reply (Return number) fits due stands = tt
 small_so pass opens reply (Turn page) fits due stands = tt
 small_so pass opens reply (Hint buffer page) fits due stands = tt
+small_so pass opens reply (ByCleaner cleaner_op) fits due stands = tt
 
 pub op_stands : (pass : PassState) (opens : Option FileCall) (core_op : CoreOp) (op : Op) → core_op ≡ core_op_of pass.view op → Fits pass.view.opened.sizes opens (pass_of pass.view) op
     → DueStepsStand pass → Precondition pass opens core_op → IsWord pass.view.opened.sizes (core_word (word_of_op pass.view.opened.sizes op)) × SumIsSmall op
@@ -225,6 +252,17 @@ marks_so None reply (Hold number) = refl
 marks_so None reply (Return number) = refl
 marks_so None reply (Turn page) = refl
 marks_so None reply (Hint buffer page) = refl
+marks_so None reply (ByCleaner cleaner.Stop) = refl
+marks_so None reply (ByCleaner (cleaner.TakeCleaner most)) = refl
+marks_so None reply (ByCleaner (cleaner.Load word)) = refl
+marks_so None reply (ByCleaner (cleaner.Take cell)) = refl
+marks_so None reply (ByCleaner (cleaner.Give cell)) = refl
+marks_so None reply (ByCleaner (cleaner.Hold number)) = refl
+marks_so None reply (ByCleaner (cleaner.Return number)) = refl
+marks_so None reply (ByCleaner (cleaner.Clean number)) = refl
+marks_so None reply (ByCleaner (cleaner.Subtract page)) = refl
+marks_so None reply (ByCleaner (cleaner.Free number)) = refl
+marks_so None reply (ByCleaner (cleaner.MoveTail tail)) = refl
 
 -- a draw is from HEAD as the pass saw it
 pub head_so : (sizes : Sizes) (pass : Pass) (opens : Option Asked) (op : Op) → Fits sizes (opened_by opens) pass op → IsFromHead (marks_for opens op) (change_of op) pass.head
@@ -244,3 +282,14 @@ head_so sizes pass None (Hold number) fits = tt
 head_so sizes pass None (Return number) fits = tt
 head_so sizes pass None (Turn page) fits = tt
 head_so sizes pass None (Hint buffer page) fits = tt
+head_so sizes pass None (ByCleaner cleaner.Stop) fits = tt
+head_so sizes pass None (ByCleaner (cleaner.TakeCleaner most)) fits = tt
+head_so sizes pass None (ByCleaner (cleaner.Load word)) fits = tt
+head_so sizes pass None (ByCleaner (cleaner.Take cell)) fits = tt
+head_so sizes pass None (ByCleaner (cleaner.Give cell)) fits = tt
+head_so sizes pass None (ByCleaner (cleaner.Hold number)) fits = tt
+head_so sizes pass None (ByCleaner (cleaner.Return number)) fits = tt
+head_so sizes pass None (ByCleaner (cleaner.Clean number)) fits = tt
+head_so sizes pass None (ByCleaner (cleaner.Subtract page)) fits = tt
+head_so sizes pass None (ByCleaner (cleaner.Free number)) fits = tt
+head_so sizes pass None (ByCleaner (cleaner.MoveTail tail)) fits = tt

@@ -7,8 +7,8 @@ use Rattle.nv_plain.specs.declared.call.FileCall.{FileCall}
 use Rattle.nv_plain.specs.declared.call.FileCall.TheVariants.{Read, Write, Sync}
 use Rattle.nv_table.specs.declared.stepping.Marks.{Marks}
 use Rattle.nv_table.specs.declared.stepping.Marks.TheVariants.{Nothing, Draws as DrawsNumbers, Places as TakesPlace, Stops as EndsCall}
-use Rattle.nv_core.specs.state.Words.{Sizes, Word as CoreWord, STOP, ORDER, HEAD, TAIL, HAND, SIZE, LENGTH, STORE, ENTRY, HINT, PAGE, CLEANUP, DIRTY, slot_of_entry}
-use Rattle.nv_core.specs.steps.Ops.{Op as CoreOp, Load as LoadOp, Take as TakeOp, Give as GiveOp, Place as PlaceOp, Stop as StopOp, Draw as DrawOp, Seize as SeizeOp, Pledge as PledgeOp, Ready as ReadyOp, Grow as GrowOp, Break as BreakOp, Hold as HoldOp, Return as ReturnOp, Turn as TurnOp, Hint as HintOp, ready_word}
+use Rattle.nv_core.specs.state.Words.{Sizes, slot_of_entry}
+use Rattle.nv_core.specs.steps.Ops.{Op as CoreOp, Load as LoadOp, Take as TakeOp, Give as GiveOp, Place as PlaceOp, Stop as StopOp, Draw as DrawOp, Seize as SeizeOp, Pledge as PledgeOp, Ready as ReadyOp, Grow as GrowOp, Break as BreakOp, Hold as HoldOp, Return as ReturnOp, Turn as TurnOp, Hint as HintOp, ByCleaner as CleanerStep, ready_word}
 use Rattle.nv_core.specs.state.Passes.{Pass, file_of, at_of, len_of, page_count}
 use Rattle.nv_plain.specs.declared.call.Reply.{Reply}
 use Rattle.nv_table.specs.state.Views.{PassView, pass_of, values_of}
@@ -16,26 +16,14 @@ use Rattle.nv_table.specs.steps.CallSteps.{reply_at}
 use Rattle.nv_table.specs.declared.acting.Change.{Change}
 use Rattle.nv_table.specs.declared.acting.Change.TheVariants.{Keep, Add, Subtract, Set, Exchange}
 use Rattle.nv_op.specs.declared.op.Word.{Word}
-use Rattle.nv_op.specs.declared.op.Word.TheVariants.{Stop as StopWord, Order, Head, Tail, Hand, Size, Length, Store, Entry, Hint as HintWord, Page, Cleanup, Dirty}
+use Rattle.nv_op.specs.declared.op.Word.TheVariants.{Stop as StopWord, Order, Head, Hand, Length, Entry, Hint as HintWord, Dirty}
 use Rattle.nv_op.specs.declared.op.Asked.{Asked}
 use Rattle.nv_op.specs.declared.op.Asked.TheVariants.{Read as AsksRead, Write as AsksWrite, Sync as AsksSync}
 use Rattle.nv_op.specs.declared.op.Op.{Op}
-use Rattle.nv_op.specs.declared.op.Op.TheVariants.{Load, Take, Give, Place, Stop, Draw, Seize, Pledge, Ready, Grow, Break, Hold, Return, Turn, Hint}
-
-abbrev pub core_word : Word → CoreWord
-core_word StopWord = STOP
-core_word Order = ORDER
-core_word Head = HEAD
-core_word Tail = TAIL
-core_word Hand = HAND
-core_word (Size file) = SIZE file
-core_word (Length file) = LENGTH file
-core_word (Store file) = STORE file
-core_word (Entry slot) = ENTRY slot
-core_word (HintWord buffer) = HINT buffer
-core_word (Page page) = PAGE page
-core_word (Cleanup page) = CLEANUP page
-core_word (Dirty page) = DIRTY page
+use Rattle.nv_op.specs.declared.op.Op.TheVariants.{Load, Take, Give, Place, Stop, Draw, Seize, Pledge, Ready, Grow, Break, Hold, Return, Turn, Hint, ByCleaner}
+use Rattle.nv_op.specs.declared.cleaner_op.CleanerOp.TheVariants as cleaner
+use Rattle.nv_op.specs.CleanerOps.{core_cleaner_op, word_of_cleaner_op, cleaner_change, cleaner_moves}
+use Rattle.nv_op.specs.Words.{core_word}
 
 -- the word that an operation is made on, and what it makes of it
 abbrev pub word_of_op : Sizes → Op → Word
@@ -54,6 +42,7 @@ word_of_op sizes (Hold number) = Entry (slot_of_entry sizes number)
 word_of_op sizes (Return number) = Entry (slot_of_entry sizes number)
 word_of_op sizes (Turn page) = Hand
 word_of_op sizes (Hint buffer page) = HintWord buffer
+word_of_op sizes (ByCleaner cleaner_op) = word_of_cleaner_op sizes cleaner_op
 
 -- its sum is a number of 64 bits
 abbrev pub SumIsSmall : Op → Type 0
@@ -67,6 +56,7 @@ Fits sizes opens pass (Ready number word) = (opens ≡ None) × (word ≡ ready_
 Fits sizes opens pass (Grow file length) = (opens ≡ None) × (file ≡ file_of pass.call) × (length ≡ at_of pass.call + len_of pass.call)
 Fits sizes opens pass (Hold number) = opens ≡ None
 Fits sizes opens pass (Return number) = opens ≡ None
+Fits sizes opens pass (ByCleaner cleaner_op) = opens ≡ None
 Fits sizes opens pass op = Unit {0}
 
 abbrev pub change_of : Op → Change
@@ -85,6 +75,7 @@ change_of (Hold number) = Add 1
 change_of (Return number) = Subtract 1
 change_of (Turn page) = Add 1
 change_of (Hint buffer page) = Set page
+change_of (ByCleaner cleaner_op) = cleaner_change cleaner_op
 
 -- the call that a step begins, if it does
 abbrev pub call_asked : Asked → FileCall
@@ -106,6 +97,7 @@ marks_for (Some asked) op = Nothing
 marks_for None Place = TakesPlace
 marks_for None Stop = EndsCall
 marks_for None (Draw head count) = DrawsNumbers
+marks_for None (ByCleaner cleaner.Stop) = EndsCall
 marks_for None op = Nothing
 
 abbrev pub moves_for : Op → (slot : Option ℕ) → Moves
@@ -116,6 +108,7 @@ moves_for (Hold number) (Some slot) = Comes slot
 moves_for (Ready number word) (Some slot) = Goes slot
 moves_for (Break number) (Some slot) = Goes slot
 moves_for (Return number) (Some slot) = Goes slot
+moves_for (ByCleaner cleaner_op) slot = cleaner_moves cleaner_op slot
 moves_for op slot = Stays
 
 -- its operation, with the reply of a call that takes its place
@@ -135,6 +128,7 @@ core_op_at reply (Hold number) = HoldOp number
 core_op_at reply (Return number) = ReturnOp number
 core_op_at reply (Turn page) = TurnOp page
 core_op_at reply (Hint buffer page) = HintOp buffer page
+core_op_at reply (ByCleaner cleaner_op) = CleanerStep (core_cleaner_op cleaner_op)
 
 abbrev pub core_op_of : PassView → Op → CoreOp
 core_op_of view op = core_op_at (reply_at view.opened.sizes (values_of view) (pass_of view) (pass_of view).control) op

@@ -3,10 +3,12 @@
 //! where it stands after it, and no place of a word, no slot and no arithmetic of a word comes into what it proves.
 #![tactic(auto)]
 
+mod cleaner_op;
 mod kinds;
 mod op;
 mod performing;
 
+pub use cleaner_op::CleanerOp;
 pub use kinds::Kind;
 pub use op::{Asked, Op, Word};
 pub use performing::{perform, perform_after};

@@ -3,10 +3,12 @@ ghost use Rattle.std.specs.Prelude.{◌≡◌};
 ghost use Rattle.nv_core.specs.state.Words.{IsWord, place};
 ghost use Rattle.nv_table.specs.state.Keys.{sizes_of};
 ghost use Rattle.nv_table.specs.state.Layout.{slot_of_cell};
-ghost use Rattle.nv_op.specs.Ops.{SumIsSmall, asked_with, call_asked, core_word, word_of_op, change_of, marks_for, moves_for};
+ghost use Rattle.nv_op.specs.Words.{core_word};
+ghost use Rattle.nv_op.specs.Ops.{SumIsSmall, asked_with, call_asked, word_of_op, change_of, marks_for, moves_for};
 ghost use Rattle.nv_core.specs.state.Passes.{at_of, file_of, len_of};
 
-use nv_table::{Change, HAND, HEAD, Layout, Marks, Moves, ORDER, STOP, TAIL};
+use crate::CleanerOp;
+use nv_table::{CLEANER, Change, HAND, HEAD, HEADER, Layout, Marks, Moves, ORDER, STOP, TAIL};
 
 /// A shared word, by what it is the word of: a file, a slot of the log, a buffer, or a page by its number of all pages.
 #[derive(Clone, Copy, Debug, PartialEq, Eq)]
@@ -16,6 +18,8 @@ pub enum Word {
     Head,
     Tail,
     Hand,
+    Cleaner,
+    Header,
     Size { file: u64 },
     Length { file: u64 },
     Store { file: u64 },
@@ -67,6 +71,8 @@ pub enum Op {
     Turn { page: u64 },
     /// HINT of a buffer is the page that was given it.
     Hint { buffer: u64, page: u64 },
+    /// A step of a batch of a cleaner.
+    ByCleaner(CleanerOp),
 }
 
 impl Asked<'_> {
@@ -128,6 +134,8 @@ impl Word {
             Word::Head => HEAD,
             Word::Tail => TAIL,
             Word::Hand => HAND,
+            Word::Cleaner => CLEANER,
+            Word::Header => HEADER,
             Word::Size { file } => layout.size(file),
             Word::Length { file } => layout.length(file),
             Word::Store { file } => layout.store(file),
@@ -162,6 +170,7 @@ impl Op {
             Op::Grow { file, .. } => Word::Length { file },
             Op::Turn { .. } => Word::Hand,
             Op::Hint { buffer, .. } => Word::Hint { buffer },
+            Op::ByCleaner(op) => op.word(layout),
         }
     }
 
@@ -191,6 +200,7 @@ impl Op {
             Op::Break { .. } => Change::Set(5),
             Op::Return { .. } => Change::Subtract(1),
             Op::Hint { page, .. } => Change::Set(page),
+            Op::ByCleaner(op) => op.change(),
         }
     }
 
@@ -200,7 +210,7 @@ impl Op {
     {
         match (opens, self) {
             (None, Op::Place) => Marks::Places,
-            (None, Op::Stop) => Marks::Stops,
+            (None, Op::Stop | Op::ByCleaner(CleanerOp::Stop)) => Marks::Stops,
             (None, Op::Draw { .. }) => Marks::Draws,
             _ => Marks::Nothing,
         }
@@ -227,6 +237,7 @@ impl Op {
                 Op::Give { .. } | Op::Ready { .. } | Op::Break { .. } | Op::Return { .. },
                 Some(slot),
             ) => Moves::Goes(slot),
+            (Op::ByCleaner(op), slot) => op.moves(slot),
             _ => Moves::Stays,
         }
     }

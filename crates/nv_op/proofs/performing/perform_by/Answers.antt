@@ -18,7 +18,8 @@ use Rattle.nv_table.specs.steps.CallSteps.{Precondition, reply_at}
 use Rattle.nv_table.specs.declared.acting.Change.{Change}
 use Rattle.nv_table.specs.declared.stepping.Moves.{Moves}
 use Rattle.nv_core.specs.state.Words.{IsWord}
-use Rattle.nv_op.specs.Ops.{Fits, core_word, word_of_op, moves_for, marks_for, core_op_of}
+use Rattle.nv_op.specs.Words.{core_word}
+use Rattle.nv_op.specs.Ops.{Fits, word_of_op, moves_for, marks_for, core_op_of}
 use Rattle.nv_op.proofs.OpLaws.{op_stands, op_ready, moves_so, marks_so, head_so}
 use Rattle.nv_op.proofs.performing.perform_by.Goals as goal
 

@@ -3,7 +3,8 @@ use Rattle.std.proofs.Common.{ap, ◌∙◌}
 use Rattle.nv_table.specs.state.Keys.{sizes_of}
 use Rattle.nv_table.specs.state.Layout.{slot_of_cell, word_of_place}
 use Rattle.nv_table.proofs.state.LayoutLaws.{place_there}
-use Rattle.nv_op.specs.Ops.{core_word, word_of_op}
+use Rattle.nv_op.specs.Words.{core_word}
+use Rattle.nv_op.specs.Ops.{word_of_op}
 use Rattle.nv_op.proofs.op.Op.slot.Goals as goal
 
 pub returns : goal.returns
