@@ -2,3 +2,4 @@ pub mod Altered
 pub mod CommitCalls
 pub mod Commits
 pub mod PageWork
+pub mod DeviceCalls

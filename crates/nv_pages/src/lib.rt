@@ -9,12 +9,14 @@ mod laws;
 mod search;
 mod slots;
 mod stores;
+mod tails;
 mod turns;
 
 pub use buffers::{copy_page, fill_page, lacks_buffer, move_buffer, patch_page};
 pub use commits::commit_entries;
 pub use entries::{Piece, patch, read_entry};
-pub use laws::commits_are_due;
+pub use laws::{commits_are_due, tail_calls_are_due};
 pub use search::{set_hint, turn_hand};
-pub use stores::read_store;
+pub use stores::{read_store, sync_store, write_store};
+pub use tails::move_header_tail;
 pub use turns::{hold_entry, return_entry};
