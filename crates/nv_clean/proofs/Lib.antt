@@ -1,0 +1,8 @@
+pub mod BatchLaws
+mod BehindLaws
+mod FactLaws
+mod FileLaws
+mod OwnedLaws
+mod PieceLaws
+mod RoomLaws
+mod StepLaws

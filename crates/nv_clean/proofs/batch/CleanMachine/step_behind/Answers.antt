@@ -1,0 +1,31 @@
+-- The step is the core's, behind these calls.
+use Rattle.std.proofs.Common.{◌≡◌, ◌∙◌, sym, ap, subst}
+use Rattle.std.specs.Prelude.{Some}
+use Rattle.nv_core.specs.state.Words.{Sizes}
+use Rattle.nv_core.specs.steps.CleanerSteps.{next_cleaner_op}
+use Rattle.nv_op.specs.CleanerOps.{core_cleaner_op}
+use Rattle.nv_table.specs.state.Keys.{sizes_of}
+use Rattle.nv_table.specs.state.Opened.{Opened}
+use Rattle.nv_clean.specs.Cleaning.{CleanState, ComesBehind, IsAfterCalls, SaysStands, control_of, inner_at}
+use Rattle.nv_clean.proofs.BehindLaws.{after_due, after_made, after_then}
+use Rattle.nv_clean.proofs.batch.CleanMachine.step_behind.Goals as goal
+
+pub perform_after-found-requires-clause-due : goal.perform_after-found-requires-clause-due
+perform_after-found-requires-clause-due g c =
+    let m = c.args.self.now in
+    let same = c.layout-layout.ensures ∙ sym (ap (λ (o : Opened). o.sizes) c.requires.board.same_mount) in
+    after_due m c.requires.way.0 c.requires.way.1 c.args.pass.now c.requires.way.2 c.requires.behind (core_cleaner_op c.next-op.result) g.W.Says.said c.requires.said
+    (subst (λ (s : Sizes). next_cleaner_op s m.owned m.batch (inner_at s m.batch m.control) ≡ Some (core_cleaner_op c.next-op.result)) same c.next-op.ensures.next)
+
+pub returns-clause-one : goal.returns-clause-one
+returns-clause-one g c start was behind =
+    after_made c.args.self.now start was c.args.pass.now behind c.requires.behind (core_cleaner_op c.next-op.result) c.perform_after-found.result c.perform_after-found.new.pass c.perform_after-found.ensures.stepped.0
+
+pub returns-clause-way : goal.returns-clause-way
+returns-clause-way g c start was behind =
+    let pass = c.args.pass.now in
+    let same = c.layout-layout.ensures ∙ sym (ap (λ (o : Opened). o.sizes) c.requires.board.same_mount) in
+    after_then _ start was pass (subst (λ (m : CleanState). IsAfterCalls m start was pass) (sym c.self.view_is) behind) (subst (λ (m : CleanState). ComesBehind m.control) (sym c.self.view_is) c.requires.behind)
+    (core_cleaner_op c.next-op.result) c.perform_after-found.result c.perform_after-found.new.pass c.perform_after-found.ensures.stepped.0
+    g.W.Says.said (subst (λ (m : CleanState). SaysStands g.W.Says.said (control_of pass.view.opened.sizes m) pass) (sym c.self.view_is) c.requires.said) c.perform_after-found.ensures.stepped.1
+    (sizes_of c.layout-layout.result) same c.follow-2.new.self c.follow.new.self c.follow-2.ensures.begun c.follow.ensures c.follow-2.ensures.owned c.follow-2.ensures.control c.follow-2.ensures.files

@@ -1,0 +1,2 @@
+pub mod OwnedCells
+pub mod Cleaning

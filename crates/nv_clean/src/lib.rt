@@ -1,0 +1,11 @@
+//! The cleaner: batches that carry the log to its files. A machine of a batch is the core's control state, run: what comes next and what follows it are the core's own
+//! functions of its batch and of the cells that its pass owns (`next_cleaner_op`, `after_cleaner_op`), and no step is said twice.
+#![tactic(auto)]
+
+mod batch;
+mod following;
+mod machine;
+mod owned;
+
+pub use batch::{CleanControl, CleanMachine, CleanRefusal};
+pub use owned::{Cell, MOST_CELLS, OwnedCells};
