@@ -9,7 +9,7 @@ use Rattle.nv_core.specs.steps.Order.{Values}
 use Rattle.nv_core.proofs.invariant.LockLaws.{times_here}
 use Rattle.nv_core.proofs.state.Changes.{differ, same_true, word_here, word_else}
 use Rattle.nv_pages.specs.PageWork.{robbed}
-use Rattle.nv_mirror.proofs.PledgeLaws.{page_is}
+use Rattle.nv_mirror.proofs.CellLaws.{page_is}
 use Rattle.nv_cache.specs.declared.search.SearchControl.{SearchControl}
 use Rattle.nv_cache.specs.declared.search.SearchControl.TheVariants.{Found, NotFound}
 use Rattle.nv_cache.specs.declared.search.SearchControl.TheVariants as searches

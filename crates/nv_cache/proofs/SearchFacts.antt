@@ -18,7 +18,7 @@ use Rattle.nv_table.proofs.steps.OwnedSlotLaws.{still_owned_all}
 use Rattle.nv_pages.specs.PageWork.{page_slot}
 use Rattle.nv_mirror.specs.OwnedCells.{pages_from}
 use Rattle.nv_mirror.proofs.PageLaws.{page_among}
-use Rattle.nv_mirror.proofs.PledgeLaws.{behind_size, page_inside, page_is}
+use Rattle.nv_mirror.proofs.CellLaws.{behind_size, page_inside, page_is}
 use Rattle.nv_cache.specs.declared.search.SearchMachine.{SearchMachine}
 use Rattle.nv_cache.specs.Searches.{Fits, IsVictim, locks, search_call_of}
 

@@ -32,7 +32,7 @@ use Rattle.nv_mirror.specs.Controls.{MirroredControl, control_mirror, InCall}
 use Rattle.nv_mirror.specs.PassSteps.{HasTaken, IsBetweenSteps, if_own}
 use Rattle.nv_mirror.specs.declared.answers.Refusal.{Refusal}
 use Rattle.nv_mirror.proofs.PageLaws.{without_first}
-use Rattle.nv_mirror.proofs.PledgeLaws.{page_is}
+use Rattle.nv_mirror.proofs.CellLaws.{page_is}
 use Rattle.nv_cache.specs.declared.search.SearchControl.{SearchControl}
 use Rattle.nv_cache.specs.declared.search.SearchControl.TheVariants.{Found, NotFound}
 use Rattle.nv_cache.specs.declared.search.SearchControl.TheVariants as searches

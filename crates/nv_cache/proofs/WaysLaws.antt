@@ -15,7 +15,7 @@ use Rattle.nv_mirror.specs.Loads as load
 use Rattle.nv_mirror.specs.Loads.{bytes_had}
 use Rattle.nv_mirror.specs.OwnedCells.{pages_from}
 use Rattle.nv_mirror.proofs.HadLaws.{bytes_same}
-use Rattle.nv_mirror.proofs.PledgeLaws.{behind_size, page_inside, page_is}
+use Rattle.nv_mirror.proofs.CellLaws.{behind_size, page_inside, page_is}
 use Rattle.nv_cache.specs.declared.search.SearchMachine.{SearchMachine}
 use Rattle.nv_cache.specs.Searches.{Fits, IsOver, IsUnderWay, Keeps, KeepsRest, locks, search_call_of, search_control_at}
 use Rattle.nv_cache.specs.Ways.{LacksBuffer, load_of, search_for}

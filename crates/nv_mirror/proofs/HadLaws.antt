@@ -23,7 +23,7 @@ use Rattle.nv_mirror.specs.Controls.{Reading}
 use Rattle.nv_mirror.specs.Loads.{load_call_of, load_control_at, Fits, IsInCall, IsPlain, KeepsOthers, bytes_had, load_locks, load_op_at, load_owned_at}
 use Rattle.nv_op.specs.Ops.{core_op_of}
 use Rattle.nv_mirror.proofs.LoadLaws.{load_free}
-use Rattle.nv_mirror.proofs.PledgeLaws.{behind_size, page_inside}
+use Rattle.nv_mirror.proofs.CellLaws.{behind_size, page_inside}
 
 -- ---- what a read has of a page
 

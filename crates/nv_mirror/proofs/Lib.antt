@@ -1,7 +1,5 @@
 pub mod AlteredCalls
-pub mod AppendLaws
-pub mod AppendMeasures
-pub mod BehindLaws
+pub mod CellLaws
 pub mod ControlLaws
 pub mod CopiedLaws
 pub mod DoneLaws
@@ -11,7 +9,6 @@ pub mod FetchedLaws
 pub mod FrontLaws
 pub mod HadLaws
 pub mod HistoryLaws
-pub mod ListLaws
 pub mod LoadLaws
 pub mod LoadMeasures
 pub mod LoadSlots
@@ -23,15 +20,11 @@ pub mod OwnedLaws
 pub mod PageLaws
 pub mod PagelessLaws
 pub mod PieceReadLaws
-pub mod PledgeLaws
 pub mod ReadParts
 pub mod ReleaseLaws
-pub mod RunningLaws
 pub mod StepLaws
 pub mod StoreReadLaws
 pub mod VisitLaws
 pub mod VisitPlaces
 pub mod VisitWays
-pub mod WaysLaws
 pub mod WorkedLaws
-pub mod WriteStepLaws

@@ -19,7 +19,7 @@ use Rattle.nv_mirror.specs.declared.load.LoadControl.{LoadControl}
 use Rattle.nv_mirror.specs.declared.load.LoadMachine.{LoadMachine}
 use Rattle.nv_mirror.specs.Loads.{load_call_of, Fits, IsInCall}
 use Rattle.nv_mirror.proofs.HadLaws.{held_once}
-use Rattle.nv_mirror.proofs.PledgeLaws.{room_in}
+use Rattle.nv_mirror.proofs.CellLaws.{room_in}
 use Rattle.nv_mirror.proofs.StoreReadLaws.{store_by}
 
 -- no more has changed than nothing

@@ -18,7 +18,7 @@ use Rattle.nv_mirror.specs.Fronts as front
 use Rattle.nv_mirror.specs.Controls.{MirroredControl, Reading, control_mirror, readings, InCall}
 use Rattle.nv_mirror.specs.Loads.{Fits, IsInCall, IsReading, IsUnderWay, Misses, bytes_had, given_back, load_call_of}
 use Rattle.nv_mirror.proofs.PageLaws.{some_touched}
-use Rattle.nv_mirror.proofs.WaysLaws.{last_low}
+use Rattle.nv_mirror.proofs.CellLaws.{last_low}
 
 module _ (call : FileCall) (refusal : Option Refusal) (place : Option ℕ) (start now : PassState) where
   -- what a load has at hand begins with what every call with pages has

@@ -32,7 +32,7 @@ use Rattle.nv_mirror.specs.Visits.{Fits, IsInCall, KnowsAt, page_piece, visit_ca
 use Rattle.nv_mirror.proofs.AlteredCalls.{by_slots, called_same}
 use Rattle.nv_mirror.proofs.CopiedLaws.{copied_most, copied_more}
 use Rattle.nv_mirror.proofs.FetchedLaws.{AreBelow, IsBelow, load_head, bytes_above, fetched_below}
-use Rattle.nv_mirror.proofs.PledgeLaws.{behind_size, page_inside}
+use Rattle.nv_mirror.proofs.CellLaws.{behind_size, page_inside}
 
 -- what is so of what its cells keep is so of what they kept at its last step
 pub of_kept : (old new : PassState) (P : Values → Type 0) → IsAltered (λ kept. kept) old new → IsShownStill old → OfKept new P → P (values_of old.view)

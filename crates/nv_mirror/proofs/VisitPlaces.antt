@@ -30,7 +30,7 @@ use Rattle.nv_mirror.proofs.ControlLaws.{PlaceLaws, mirror_on}
 use Rattle.nv_mirror.proofs.DoneLaws.{done_plainly}
 use Rattle.nv_mirror.proofs.PageLaws.{some_touched}
 use Rattle.nv_mirror.proofs.StepLaws.{opened_same}
-use Rattle.nv_mirror.proofs.WaysLaws.{last_low}
+use Rattle.nv_mirror.proofs.CellLaws.{last_low}
 
 module _ (m : VisitMachine) (list : List ℕ) (start now : PassState) (way : IsInCall m visits.TakePlace list start now) where
   abbrev sizes : Sizes

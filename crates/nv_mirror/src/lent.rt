@@ -1,21 +1,20 @@
-//! A running write whose list is lent: it is put in before a step, and taken out behind it; and what is told of the write between two steps.
-ghost use Rattle.std.specs.Prelude.{◌≡◌, false, is_some};
+//! Machines whose list is lent: it is put in before a step, and taken out behind it; and what is told of one between two steps.
+ghost use Rattle.std.specs.Prelude.{◌≡◌};
 ghost use Rattle.nv_op.specs.Kinds.{kind_of};
 ghost use Rattle.nv_op.specs.Ops.{asked_with};
-ghost use Rattle.nv_mirror.specs.Appends.{append_op, append_place_at};
-ghost use Rattle.nv_mirror.specs.Fronts.{front_op};
-ghost use Rattle.nv_mirror.specs.Pageless.{pageless_op, pageless_place_at};
+ghost use Rattle.nv_mirror.specs.Fronts.{front_op, front_refusal_at};
+ghost use Rattle.nv_mirror.specs.Pageless.{pageless_op, pageless_place_at, pageless_refusal_at};
 ghost use Rattle.nv_mirror.specs.Releases.{release_op};
-ghost use Rattle.nv_mirror.specs.WriteSteps.{append_refused, front_refused, pageless_refused, with_list, write_fault, write_kind, write_place};
 
 use crate::{
-    AppendControl, AppendMachine, FrontControl, FrontMachine, PagelessControl, PagelessMachine,
-    Refusal, ReleaseControl, ReleaseMachine, RunningWrite,
+    FrontControl, FrontMachine, PagelessControl, PagelessMachine, Refusal, ReleaseControl,
+    ReleaseMachine,
 };
 use nv_op::Kind;
 
 impl PagelessMachine<'_> {
-    fn with_list<'b>(self, list: &'b [u8]) -> PagelessMachine<'b>
+    /// The same machine, with this list where its own bytes were.
+    pub fn with_list<'b>(self, list: &'b [u8]) -> PagelessMachine<'b>
         ensures { result ≡ record self.entry { asked = asked_with list.entry self.entry.asked } }
     {
         PagelessMachine {
@@ -24,7 +23,8 @@ impl PagelessMachine<'_> {
         }
     }
 
-    fn next_kind(self) -> Kind
+    /// The kind of the next step.
+    pub fn next_kind(self) -> Kind
         ensures { result ≡ kind_of (pageless_op self.entry.control) }
     {
         match self.control {
@@ -33,7 +33,8 @@ impl PagelessMachine<'_> {
         }
     }
 
-    fn placed(self) -> Option<u64>
+    /// Its place, once it has one.
+    pub fn placed(self) -> Option<u64>
         ensures { result ≡ pageless_place_at self.entry.control }
     {
         match self.control {
@@ -42,8 +43,9 @@ impl PagelessMachine<'_> {
         }
     }
 
-    fn refused(self) -> Option<Refusal>
-        ensures { result ≡ pageless_refused self.entry }
+    /// Why it is refused, if it is.
+    pub fn refused(self) -> Option<Refusal>
+        ensures { result ≡ pageless_refusal_at self.entry.control }
     {
         match self.control {
             PagelessControl::Over(result) => result.err(),
@@ -53,7 +55,8 @@ impl PagelessMachine<'_> {
 }
 
 impl FrontMachine<'_> {
-    fn with_list<'b>(self, list: &'b [u8]) -> FrontMachine<'b>
+    /// The same machine, with this list where its own bytes were.
+    pub fn with_list<'b>(self, list: &'b [u8]) -> FrontMachine<'b>
         ensures { result ≡ record self.entry { asked = asked_with list.entry self.entry.asked } }
     {
         FrontMachine {
@@ -68,7 +71,8 @@ impl FrontMachine<'_> {
         }
     }
 
-    fn next_kind(self) -> Kind
+    /// The kind of the next step.
+    pub fn next_kind(self) -> Kind
         ensures { result ≡ kind_of (front_op self.entry) }
     {
         match self.control {
@@ -78,8 +82,9 @@ impl FrontMachine<'_> {
         }
     }
 
-    fn refused(self) -> Option<Refusal>
-        ensures { result ≡ front_refused self.entry }
+    /// Why it is refused, if it is.
+    pub fn refused(self) -> Option<Refusal>
+        ensures { result ≡ front_refusal_at self.entry.control }
     {
         match self.control {
             FrontControl::GiveBack { refusal, .. } | FrontControl::Over(refusal) => Some(refusal),
@@ -88,63 +93,9 @@ impl FrontMachine<'_> {
     }
 }
 
-impl AppendMachine<'_> {
-    fn with_list<'b>(self, list: &'b [u8]) -> AppendMachine<'b>
-        ensures { result ≡ record self.entry { bytes = list.entry } }
-    {
-        AppendMachine {
-            file: self.file,
-            at: self.at,
-            bytes: list,
-            end: self.end,
-            page: self.page,
-            pages: self.pages,
-            sized: self.sized,
-            length: self.length,
-            head: self.head,
-            number: self.number,
-            place: self.place,
-            control: self.control,
-        }
-    }
-
-    fn next_kind(self) -> Kind
-        ensures { result ≡ kind_of (append_op self.entry false) }
-    {
-        match self.control {
-            AppendControl::LoadHead | AppendControl::LoadTail => Kind::Load,
-            AppendControl::DrawNumbers => Kind::Draw,
-            AppendControl::SeizeEntry { .. } => Kind::Seize,
-            AppendControl::CommitGroup | AppendControl::PledgePage { .. } => Kind::Pledge,
-            AppendControl::ReadyEntry { .. } => Kind::Ready,
-            AppendControl::GrowLength => Kind::Grow,
-            AppendControl::BreakEntry { .. } => Kind::Break,
-            _ => Kind::Place,
-        }
-    }
-
-    fn placed(self) -> Option<u64>
-        ensures { result ≡ append_place_at self.entry self.entry.control }
-    {
-        match self.control {
-            AppendControl::GrowLength | AppendControl::Appended => Some(self.place),
-            _ => None,
-        }
-    }
-
-    fn refused(self) -> Option<Refusal>
-        ensures { result ≡ append_refused self.entry }
-    {
-        match self.control {
-            AppendControl::BreakEntry { .. } => Some(Refusal::RegionFault),
-            AppendControl::Refused(refusal) => Some(refusal),
-            _ => None,
-        }
-    }
-}
-
 impl ReleaseMachine<'_> {
-    fn with_list<'b>(self, list: &'b [u8]) -> ReleaseMachine<'b>
+    /// The same machine, with this list where its own bytes were.
+    pub fn with_list<'b>(self, list: &'b [u8]) -> ReleaseMachine<'b>
         ensures { result ≡ record self.entry { asked = asked_with list.entry self.entry.asked } }
     {
         ReleaseMachine {
@@ -158,67 +109,13 @@ impl ReleaseMachine<'_> {
         }
     }
 
-    fn next_kind(self) -> Kind
+    /// The kind of the next step.
+    pub fn next_kind(self) -> Kind
         ensures { result ≡ kind_of (release_op self.entry) }
     {
         match self.control {
             ReleaseControl::GiveSize | ReleaseControl::GivePage { .. } => Kind::Give,
             ReleaseControl::Over => Kind::Place,
         }
-    }
-}
-
-impl RunningWrite<'_> {
-    /// The same write, with this list where its own bytes were.
-    pub fn with_list<'b>(self, list: &'b [u8]) -> RunningWrite<'b>
-        ensures { result ≡ with_list list.entry self.entry }
-    {
-        match self {
-            RunningWrite::Pageless(m) => RunningWrite::Pageless(m.with_list(list)),
-            RunningWrite::Front(m) => RunningWrite::Front(m.with_list(list)),
-            RunningWrite::Append(m) => RunningWrite::Append(m.with_list(list)),
-            RunningWrite::Release(m) => RunningWrite::Release(m.with_list(list)),
-            RunningWrite::Over(result) => RunningWrite::Over(result),
-        }
-    }
-
-    /// The kind of the next step, if each device call before it ends well.
-    pub fn next_kind(self) -> Kind
-        ensures { result ≡ write_kind self.entry }
-    {
-        match self {
-            RunningWrite::Pageless(m) => m.next_kind(),
-            RunningWrite::Front(m) => m.next_kind(),
-            RunningWrite::Append(m) => m.next_kind(),
-            RunningWrite::Release(m) => m.next_kind(),
-            RunningWrite::Over(_) => Kind::Place,
-        }
-    }
-
-    /// Its place, from the step on by which it takes it.
-    pub fn placed(self) -> Option<u64>
-        ensures { result ≡ write_place self.entry }
-    {
-        match self {
-            RunningWrite::Pageless(m) => m.placed(),
-            RunningWrite::Front(_) => None,
-            RunningWrite::Append(m) => m.placed(),
-            RunningWrite::Release(m) => Some(m.place),
-            RunningWrite::Over(result) => result.ok(),
-        }
-    }
-
-    /// Whether a device call has failed that came before one of its steps: then it is refused for that, or is to be.
-    pub fn faulted(self) -> bool
-        ensures { result ≡ is_some (write_fault self.entry) }
-    {
-        let refused = match self {
-            RunningWrite::Pageless(m) => m.refused(),
-            RunningWrite::Front(m) => m.refused(),
-            RunningWrite::Append(m) => m.refused(),
-            RunningWrite::Release(_) => None,
-            RunningWrite::Over(result) => result.err(),
-        };
-        matches!(refused, Some(Refusal::RegionFault))
     }
 }

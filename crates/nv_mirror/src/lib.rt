@@ -3,24 +3,19 @@
 #![tactic(auto)]
 
 mod answers;
-mod append;
-mod commit;
 mod front;
 mod lent;
 mod load;
+mod load_ways;
 mod loading;
 mod pageless;
 mod read_ways;
 mod release;
 mod visit;
-mod ways;
-mod write;
 
 pub use answers::{Done, Refusal};
-pub use append::{AppendControl, AppendMachine};
 pub use front::{FrontControl, FrontMachine};
 pub use load::{LoadControl, LoadMachine};
 pub use pageless::{PagelessControl, PagelessMachine};
 pub use release::{ReleaseControl, ReleaseMachine};
 pub use visit::{VisitControl, VisitMachine};
-pub use write::RunningWrite;

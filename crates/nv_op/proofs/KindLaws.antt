@@ -2,7 +2,7 @@
 use Rattle.std.proofs.Common.{◌≡◌, refl}
 use Rattle.nv_table.specs.state.Views.{PassView}
 use Rattle.nv_op.specs.declared.op.Op.{Op}
-use Rattle.nv_op.specs.declared.op.Op.TheVariants.{Load, Take, Give, Place, Stop, Draw, Seize, Pledge, Ready, Grow, Break, Hold, Return, Turn, Hint}
+use Rattle.nv_op.specs.declared.op.Op.TheVariants.{Load, Take, Give, Place, Stop, Draw, Seize, Pledge, Ready, Grow, Break, Hold, Return, Turn, Hint, ByCleaner}
 use Rattle.nv_op.specs.Kinds.{kind_of, kind_of_op}
 use Rattle.nv_op.specs.Ops.{core_op_of}
 
@@ -22,3 +22,4 @@ kind_same view (Hold number) = refl
 kind_same view (Return number) = refl
 kind_same view (Turn page) = refl
 kind_same view (Hint buffer page) = refl
+kind_same view (ByCleaner cleaner_op) = refl

@@ -20,10 +20,13 @@ use Rattle.nv_op.specs.Ops.{asked_with, call_asked}
 use Rattle.nv_mirror.specs.declared.answers.Done.{Done}
 use Rattle.nv_mirror.specs.declared.answers.Refusal.{Refusal}
 use Rattle.nv_mirror.specs.declared.answers.Refusal.TheVariants.{BadFd, TooFar, TooLong}
-use Rattle.nv_mirror.specs.declared.append.AppendMachine.{AppendMachine}
-use Rattle.nv_mirror.specs.declared.append.AppendControl.{AppendControl}
-use Rattle.nv_mirror.specs.declared.append.AppendControl.TheVariants.{Appended, Refused}
-use Rattle.nv_mirror.specs.declared.append.AppendControl.TheVariants as appends
+use Rattle.nv_ring.specs.declared.numbers.DrawControl.{DrawControl}
+use Rattle.nv_ring.specs.declared.numbers.DrawControl.TheVariants as draws
+use Rattle.nv_ring.specs.declared.numbers.DrawMachine.{DrawMachine}
+use Rattle.nv_ring.specs.declared.append.AppendMachine.{AppendMachine}
+use Rattle.nv_ring.specs.declared.append.AppendControl.{AppendControl}
+use Rattle.nv_ring.specs.declared.append.AppendControl.TheVariants.{Appended, Refused}
+use Rattle.nv_ring.specs.declared.append.AppendControl.TheVariants as appends
 use Rattle.nv_mirror.specs.declared.front.FrontMachine.{FrontMachine}
 use Rattle.nv_mirror.specs.declared.front.FrontControl.{FrontControl}
 use Rattle.nv_mirror.specs.declared.front.FrontControl.TheVariants.{Passed, Over as FrontOver}
@@ -31,15 +34,15 @@ use Rattle.nv_mirror.specs.declared.front.FrontControl.TheVariants as fronts
 use Rattle.nv_mirror.specs.declared.release.ReleaseMachine.{ReleaseMachine}
 use Rattle.nv_mirror.specs.declared.release.ReleaseControl.{ReleaseControl}
 use Rattle.nv_mirror.specs.declared.release.ReleaseControl.TheVariants as releases
-use Rattle.nv_mirror.specs.declared.write.RunningWrite.{RunningWrite}
-use Rattle.nv_mirror.specs.declared.write.RunningWrite.TheVariants.{Pageless, Front, Append, Release, Over}
-use Rattle.nv_mirror.specs.Appends.{append_measure_at, append_op_at, append_place_at}
+use Rattle.nv_ring.specs.declared.write.RunningWrite.{RunningWrite}
+use Rattle.nv_ring.specs.declared.write.RunningWrite.TheVariants.{Pageless, Front, Draw, Append, Release, Over}
+use Rattle.nv_ring.specs.Appends.{append_measure_at, append_op_at, append_place_at}
 use Rattle.nv_mirror.specs.Fronts.{front_measure_at, front_op_at}
 use Rattle.nv_mirror.specs.Releases.{release_measure_at, release_op_at}
-use Rattle.nv_mirror.specs.RunningWrites.{IsOpen, IsSettled, IsUnderWay, write_measure}
-use Rattle.nv_mirror.proofs.ListLaws.{list_way}
+use Rattle.nv_ring.specs.RunningWrites.{IsOpen, IsSettled, IsUnderWay, write_measure}
+use Rattle.nv_ring.proofs.ListLaws.{list_way}
 use Rattle.nv_mirror.specs.PassSteps.{either_of, fault_in, place_by}
-use Rattle.nv_mirror.specs.WriteSteps.{HasMadeOne, IsFresh, first_kind, part_fault, with_list, write_fault, write_kind, write_place}
+use Rattle.nv_ring.specs.WriteSteps.{HasMadeOne, IsFresh, first_kind, part_fault, with_list, write_fault, write_kind, write_place}
 use Rattle.nv_calls.specs.declared.machine.Progress.{Progress}
 use Rattle.nv_calls.specs.declared.machine.Progress.TheVariants.{More, Ended}
 use Rattle.nv_calls.specs.declared.writing.WriteControl.{WriteControl}
@@ -73,10 +76,14 @@ module _ (list : Bor (List ℕ)) where
   front_same m (fronts.GiveBack false refusal) = record { kind = refl; place = refl; fault = refl; measure = refl }
   front_same m (FrontOver refusal) = record { kind = refl; place = refl; fault = refl; measure = refl }
 
+  draw_same : (m : DrawMachine) (control : DrawControl) → StandsSame (Draw (record m { control = control })) (Draw (record m { control = control; bytes = list }))
+  draw_same m draws.LoadHead = record { kind = refl; place = refl; fault = refl; measure = refl }
+  draw_same m draws.LoadTail = record { kind = refl; place = refl; fault = refl; measure = refl }
+  draw_same m draws.DrawNumbers = record { kind = refl; place = refl; fault = refl; measure = refl }
+  draw_same m draws.Drawn = record { kind = refl; place = refl; fault = refl; measure = refl }
+  draw_same m (draws.Refused refusal) = record { kind = refl; place = refl; fault = refl; measure = refl }
+
   append_same : (m : AppendMachine) (control : AppendControl) → StandsSame (Append (record m { control = control })) (Append (record m { control = control; bytes = list }))
-  append_same m appends.LoadHead = record { kind = refl; place = refl; fault = refl; measure = refl }
-  append_same m appends.LoadTail = record { kind = refl; place = refl; fault = refl; measure = refl }
-  append_same m appends.DrawNumbers = record { kind = refl; place = refl; fault = refl; measure = refl }
   append_same m (appends.SeizeEntry seized) = record { kind = refl; place = refl; fault = refl; measure = refl }
   append_same m appends.CommitGroup = record { kind = refl; place = refl; fault = refl; measure = refl }
   append_same m (appends.PledgePage pledged) = record { kind = refl; place = refl; fault = refl; measure = refl }
@@ -95,6 +102,7 @@ module _ (list : Bor (List ℕ)) where
   pub list_same : (write : RunningWrite) → StandsSame write (with_list list write)
   list_same (Pageless m) = record { kind = refl; place = refl; fault = refl; measure = refl }
   list_same (Front m) = front_same m m.control
+  list_same (Draw m) = draw_same m m.control
   list_same (Append m) = append_same m m.control
   list_same (Release m) = release_same m m.control
   list_same (Over result) = record { kind = refl; place = refl; fault = refl; measure = refl }
@@ -102,6 +110,7 @@ module _ (list : Bor (List ℕ)) where
   pub list_open : (write : RunningWrite) → IsOpen write → IsOpen (with_list list write)
   list_open (Pageless m) runs = runs
   list_open (Front m) runs = runs
+  list_open (Draw m) runs = runs
   list_open (Append m) runs = runs
   list_open (Release m) runs = runs
   list_open (Over result) runs = runs
@@ -115,6 +124,7 @@ asked_twice list other (AsksSync file) = refl
 list_twice : (list other : Bor (List ℕ)) (write : RunningWrite) → with_list list (with_list other write) ≡ with_list list write
 list_twice list other (Pageless m) = ap (λ asked. Pageless (record m { asked = asked })) (asked_twice list other m.asked)
 list_twice list other (Front m) = ap (λ asked. Front (record m { asked = asked })) (asked_twice list other m.asked)
+list_twice list other (Draw m) = refl
 list_twice list other (Append m) = refl
 list_twice list other (Release m) = ap (λ asked. Release (record m { asked = asked })) (asked_twice list other m.asked)
 list_twice list other (Over result) = refl
@@ -186,6 +196,7 @@ module _ (fds : List Fd) (m : WriteMachine) (list other : Bor (List ℕ)) (room 
   pub goes_on : (write : RunningWrite) → IsSettled write → IsOfFile fds m list.now write start now → WriteGoes fds start (kept m other write) list.now now (progress_of m.len write)
   goes_on (Pageless part) runs of = runs_on (Pageless part) runs of
   goes_on (Front part) runs of = runs_on (Front part) runs of
+  goes_on (Draw part) runs of = runs_on (Draw part) runs of
   goes_on (Append part) runs of = runs_on (Append part) runs of
   goes_on (Release part) runs of = runs_on (Release part) runs of
   goes_on (Over (Ok place)) runs of = (
@@ -207,6 +218,7 @@ module _ (sizes : Sizes) (m : WriteMachine) (other : Bor (List ℕ)) (before : �
   pub fewer : (write : RunningWrite) → write_measure write < before → IsFewer sizes m (kept m other write) (progress_of m.len write)
   fewer (Pageless part) falls = less (Pageless part) falls
   fewer (Front part) falls = less (Front part) falls
+  fewer (Draw part) falls = less (Draw part) falls
   fewer (Append part) falls = less (Append part) falls
   fewer (Release part) falls = less (Release part) falls
   fewer (Over (Ok place)) falls = tt

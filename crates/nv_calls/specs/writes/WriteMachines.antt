@@ -11,11 +11,11 @@ use Rattle.nv_op.specs.declared.kinds.Kind.{Kind}
 use Rattle.nv_op.specs.Kinds.{kind_of_op}
 use Rattle.nv_mirror.specs.declared.answers.Done.{Done}
 use Rattle.nv_mirror.specs.declared.answers.Refusal.{Refusal}
-use Rattle.nv_mirror.specs.declared.write.RunningWrite.{RunningWrite}
-use Rattle.nv_mirror.specs.declared.write.RunningWrite.TheVariants.{Over}
+use Rattle.nv_ring.specs.declared.write.RunningWrite.{RunningWrite}
+use Rattle.nv_ring.specs.declared.write.RunningWrite.TheVariants.{Over}
 use Rattle.nv_mirror.specs.PassSteps.{PassStep, HasTaken, either_of, fault_in, place_by}
-use Rattle.nv_mirror.specs.RunningWrites.{IsOpen, IsUnderWay, write_measure}
-use Rattle.nv_mirror.specs.WriteSteps.{first_kind, part_fault, with_list, write_fault, write_kind, write_place}
+use Rattle.nv_ring.specs.RunningWrites.{IsOpen, IsUnderWay, write_measure}
+use Rattle.nv_ring.specs.WriteSteps.{first_kind, part_fault, with_list, write_fault, write_kind, write_place}
 use Rattle.nv_calls.specs.declared.machine.Progress.{Progress}
 use Rattle.nv_calls.specs.declared.machine.Progress.TheVariants.{More, Ended}
 use Rattle.nv_calls.specs.declared.writing.WriteControl.{WriteControl}

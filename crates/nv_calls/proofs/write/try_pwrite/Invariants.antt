@@ -3,7 +3,7 @@ use Rattle.std.proofs.Common.{◌≡◌, []}
 use Rattle.nv_plain.specs.declared.call.FileCall.TheVariants.{Write}
 use Rattle.nv_table.specs.state.States.{IsOf}
 use Rattle.nv_table.specs.state.Workspaces.{IsWorkspace}
-use Rattle.nv_mirror.specs.RunningWrites.{IsSettled, IsUnderWay, write_measure}
+use Rattle.nv_ring.specs.RunningWrites.{IsSettled, IsUnderWay, write_measure}
 use Rattle.nv_calls.proofs.write.try_pwrite.Given as goal
 
 abbrev pub invariant-loop-write : goal.invariant-loop-write

@@ -3,7 +3,7 @@ use Rattle.std.proofs.Common.{◌≡◌, sym, ap, subst, inl, inr, ◌∙◌}
 use Rattle.nv_core.specs.state.Words.{Sizes}
 use Rattle.nv_plain.specs.declared.call.FileCall.TheVariants.{Write}
 use Rattle.nv_table.specs.state.Opened.{Opened}
-use Rattle.nv_mirror.specs.declared.write.RunningWrite.{RunningWrite}
+use Rattle.nv_ring.specs.declared.write.RunningWrite.{RunningWrite}
 use Rattle.nv_calls.specs.declared.writing.WriteControl.TheVariants as writes
 use Rattle.nv_calls.specs.declared.machine.Progress.{Progress}
 use Rattle.nv_calls.specs.writes.WriteMachines.{IsOfFile, IsOneOrNone, WriteGoes, progress_of}

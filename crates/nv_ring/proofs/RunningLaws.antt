@@ -1,0 +1,178 @@
+-- Running writes: each part goes on where the one before it ends, until the call is over.
+use Rattle.std.proofs.Common.{◌≡◌, ◌≢◌, ℕ, ◌+◌, ◌<◌, ◌≤◌, ◌==◌, ◌^◌, nat_lt, Bool, true, false, if◌then◌else◌, [], length, refl, ap, subst, ◌∙◌, arith}
+use Rattle.std.specs.Prelude.{Option, Some, None, Result, Ok, Err}
+use Rattle.std.proofs.lemmas.Bool.{lt-ltb}
+use Rattle.nv_plain.specs.declared.call.FileCall.{FileCall}
+use Rattle.nv_core.specs.state.Passes.{Idle, is_write, len_of}
+use Rattle.nv_table.specs.state.Opened.{Opened}
+use Rattle.nv_table.specs.state.States.{PassState}
+use Rattle.nv_op.specs.declared.op.Asked.{Asked}
+use Rattle.nv_op.specs.declared.op.Asked.TheVariants.{Read as AsksRead, Write as AsksWrite, Sync as AsksSync}
+use Rattle.nv_op.specs.Ops.{call_asked}
+use Rattle.nv_mirror.specs.declared.answers.Refusal.{Refusal}
+use Rattle.nv_ring.specs.declared.append.AppendMachine.{AppendMachine}
+use Rattle.nv_ring.specs.declared.append.AppendControl.TheVariants.{Appended, Refused}
+use Rattle.nv_ring.specs.declared.append.AppendControl.TheVariants as appends
+use Rattle.nv_mirror.specs.declared.front.FrontMachine.{FrontMachine}
+use Rattle.nv_mirror.specs.declared.front.FrontControl.TheVariants as fronts
+use Rattle.nv_mirror.specs.declared.pageless.PagelessControl.TheVariants as controls
+use Rattle.nv_mirror.specs.declared.pageless.PagelessMachine.{PagelessMachine}
+use Rattle.nv_mirror.specs.declared.release.ReleaseMachine.{ReleaseMachine}
+use Rattle.nv_mirror.specs.declared.release.ReleaseControl.TheVariants as releases
+use Rattle.nv_ring.specs.declared.write.RunningWrite.TheVariants.{Pageless, Front, Draw, Append, Release}
+use Rattle.nv_ring.specs.Appends as append
+use Rattle.nv_ring.specs.declared.numbers.DrawControl.{DrawControl}
+use Rattle.nv_ring.specs.declared.numbers.DrawControl.TheVariants as draws
+use Rattle.nv_ring.specs.declared.numbers.DrawMachine.{DrawMachine}
+use Rattle.nv_ring.specs.Draws as draw
+use Rattle.nv_ring.specs.Appends.{HasStepped, append_asked, append_measure, append_call_of, noted}
+use Rattle.nv_mirror.specs.Controls.{MirroredControl, control_mirror, InCall, IsOver}
+use Rattle.nv_mirror.specs.Fronts as front
+use Rattle.nv_mirror.specs.Fronts.{front_after, front_after_at}
+use Rattle.nv_core.specs.state.Words.{Sizes}
+use Rattle.nv_mirror.specs.declared.front.FrontControl.{FrontControl}
+use Rattle.nv_ring.specs.declared.append.AppendControl.{AppendControl}
+use Rattle.nv_mirror.specs.Pageless as pageless
+use Rattle.nv_mirror.specs.Releases as release
+use Rattle.nv_mirror.specs.OwnSteps.{AreOwn}
+use Rattle.nv_mirror.specs.PassSteps.{refusal_in}
+use Rattle.nv_ring.specs.RunningWrites.{AsksForWrite, IsUnderWay, refusal_of, place_of, front_part, write_measure}
+use Rattle.nv_ring.specs.Ways.{released_of, refused_of}
+use Rattle.nv_mirror.proofs.EndsLaws.{call_ends}
+
+if_same : (b : Bool) (one other : FrontMachine) (asked : Asked) → one.asked ≡ asked → other.asked ≡ asked → (if b then one else other).asked ≡ asked
+if_same true one other asked same also = same
+if_same false one other asked same also = also
+
+-- A call is over where its pass is idle and owns nothing.
+over_of : (call other : FileCall) (is : MirroredControl) (refusal : Option Refusal) (place : Option ℕ) (start now : PassState) → call ≡ other → InCall control_mirror call None is refusal place start now
+    → is.control ≡ Idle → is.owned ≡ [] → IsOver other refusal place start now
+over_of call other is refusal place start now same called control owned = subst (λ c. IsOver c refusal place start now) same record {
+  steps = called.steps;
+  made = called.made;
+  own = subst (λ (o : Opened). AreOwn o.sizes call called.steps) called.mount called.own;
+  refused = subst (λ (o : Opened). refusal_in o.sizes call called.steps ≡ refusal) called.mount called.refused;
+  placed = called.placed;
+  told = called.told;
+  idle = call_ends control_mirror call is refusal place start now called (ap (λ (c : MirroredControl). c.control) called.mirrors ∙ control) (ap (λ (c : MirroredControl). c.owned) called.mirrors ∙ owned);
+  later = called.later;
+  spare = called.spare;
+  mount = called.mount;
+}
+
+pub pageless_over : (m : PagelessMachine) (result : Result ℕ Refusal) (call : FileCall) (start now : PassState) → m.control ≡ controls.Over result → IsUnderWay call (Pageless m) start now → IsOver call (refusal_of result) (place_of result) start now
+pageless_over m (Ok place) call start now control way =
+    over_of (call_asked m.asked) call _ None (Some place) start now way.0 (subst (λ c. pageless.IsInCall m.asked c start now) control way.1.1) refl refl
+pageless_over m (Err refusal) call start now control way =
+    over_of (call_asked m.asked) call _ (Some refusal) None start now way.0 (subst (λ c. pageless.IsInCall m.asked c start now) control way.1.1) refl refl
+
+pub front_over : (m : FrontMachine) (refusal : Refusal) (call : FileCall) (start now : PassState) → m.control ≡ fronts.Over refusal → IsUnderWay call (Front m) start now → IsOver call (Some refusal) None start now
+front_over m refusal call start now control way =
+    over_of (front.front_call_of m) call _ (Some refusal) None start now way.0 (subst (λ c. front.IsInCall m c start now) control way.2.1) refl refl
+
+pub release_over : (m : ReleaseMachine) (call : FileCall) (start now : PassState) → m.control ≡ releases.Over → IsUnderWay call (Release m) start now → IsOver call None (Some m.place) start now
+release_over m call start now control way =
+    over_of (release.release_call_of m) call _ None (Some m.place) start now way.0 (subst (λ c. release.IsInCall m c start now) control way.1.1) refl refl
+
+-- ---- what is given back first
+
+pub released_open : (m : AppendMachine) (size : Bool) → release.IsOpen (if size then releases.GiveSize else releases.GivePage 0)
+released_open m true = tt
+released_open m false = tt
+
+pub released_low : (m : AppendMachine) (size : Bool) → release.release_measure_at (released_of m) (if size then releases.GiveSize else releases.GivePage 0) ≤ 3 + m.pages
+released_low m true = omega arith
+released_low m false = omega arith
+
+pub refused_low : (m : AppendMachine) (size : Bool) (refusal : Refusal) → front_part (refused_of m refusal) (fronts.GiveBack size refusal) ≤ 3 + m.pages
+refused_low m true refusal = omega arith
+refused_low m false refusal = omega arith
+
+-- a write that has some bytes is one
+pub writes_some : (m : AppendMachine) → 0 < length m.bytes.now → is_write (append_call_of m) ≡ true
+writes_some m some = lt-ltb 0 (length m.bytes.now) some
+
+pub asks_some : (asked : Asked) → AsksForWrite asked → len_of (call_asked asked) ≢ 0 → is_write (call_asked asked) ≡ true
+asks_some (AsksWrite file at bytes) write some = lt-ltb 0 (length bytes.now) (omega (arith, some))
+asks_some (AsksRead file at len) write some = absurd write
+asks_some (AsksSync file) write some = absurd write
+
+-- ---- a step goes on with the same call
+
+front_asks : (sizes : Sizes) (m : FrontMachine) (control : FrontControl) (found : ℕ) → (front_after_at sizes m control found).asked ≡ m.asked
+front_asks sizes m fronts.Begin found = by_lock (found == 0)
+  where
+    by_lock : (b : Bool) → (front.locked sizes m b).asked ≡ m.asked
+    by_lock true = refl
+    by_lock false = refl
+front_asks sizes m fronts.TakePage found = by_lock (found == 0)
+  where
+    by_lock : (b : Bool) → (front.locked sizes m b).asked ≡ m.asked
+    by_lock true = refl
+    by_lock false = refl
+front_asks sizes m fronts.LoadLength found = refl
+front_asks sizes m fronts.TakeSize found = if_same (found == 0) _ _ m.asked refl refl
+front_asks sizes m fronts.LoadStop found = if_same (found == 0) _ _ m.asked refl refl
+front_asks sizes m fronts.LoadOrder found = if_same (nat_lt found (2 ^ 60)) _ _ m.asked refl refl
+front_asks sizes m (fronts.GiveBack true refusal) found = refl
+front_asks sizes m (fronts.GiveBack false refusal) found = refl
+front_asks sizes m fronts.Passed found = refl
+front_asks sizes m (fronts.Over refusal) found = refl
+
+draw_asks : (m : DrawMachine) (control : DrawControl) (found : ℕ) → draw.draw_asked (draw.noted m control found) ≡ draw.draw_asked m
+draw_asks m draws.LoadHead found = refl
+draw_asks m draws.LoadTail found = refl
+draw_asks m draws.DrawNumbers found = refl
+draw_asks m draws.Drawn found = refl
+draw_asks m (draws.Refused refusal) found = refl
+
+draw_pages : (m : DrawMachine) (control : DrawControl) (found : ℕ) → (draw.noted m control found).pages ≡ m.pages
+draw_pages m draws.LoadHead found = refl
+draw_pages m draws.LoadTail found = refl
+draw_pages m draws.DrawNumbers found = refl
+draw_pages m draws.Drawn found = refl
+draw_pages m (draws.Refused refusal) found = refl
+
+append_asks : (m : AppendMachine) (control : AppendControl) (found : ℕ) → append_asked (noted m control found) ≡ append_asked m
+append_asks m (appends.SeizeEntry seized) found = refl
+append_asks m appends.CommitGroup found = refl
+append_asks m (appends.PledgePage pledged) found = refl
+append_asks m (appends.ReadyEntry ready) found = refl
+append_asks m appends.TakePlace found = refl
+append_asks m appends.GrowLength found = refl
+append_asks m Appended found = refl
+append_asks m (appends.BreakEntry broken) found = refl
+append_asks m (Refused refusal) found = refl
+
+append_pages : (m : AppendMachine) (control : AppendControl) (found : ℕ) → (noted m control found).pages ≡ m.pages
+append_pages m (appends.SeizeEntry seized) found = refl
+append_pages m appends.CommitGroup found = refl
+append_pages m (appends.PledgePage pledged) found = refl
+append_pages m (appends.ReadyEntry ready) found = refl
+append_pages m appends.TakePlace found = refl
+append_pages m appends.GrowLength found = refl
+append_pages m Appended found = refl
+append_pages m (appends.BreakEntry broken) found = refl
+append_pages m (Refused refusal) found = refl
+
+pub append_falls : (m new : AppendMachine) (was now : PassState) → HasStepped m new was now → append_measure new < append_measure m → write_measure (Append new) < write_measure (Append m)
+append_falls m new was now stepped falls =
+    let pages : new.pages ≡ m.pages = ap (λ (n : AppendMachine). n.pages) stepped.next ∙ append_pages m m.control stepped.step.found in
+    omega (arith, pages, falls)
+
+pub front_goes : (sizes : Sizes) (m new : FrontMachine) (found : ℕ) (call : FileCall) (start now : PassState) → new ≡ front_after sizes m found → front.front_call_of m ≡ call → is_write (front.front_call_of m) ≡ true → front.IsUnderWay new start now → IsUnderWay call (Front new) start now
+front_goes sizes m new found call start now is same write way =
+    let asked = ap (λ (f : FrontMachine). call_asked f.asked) is ∙ ap call_asked (front_asks sizes m m.control found) in
+    (asked ∙ same, ap is_write asked ∙ write, way)
+
+pub append_goes : (m new : AppendMachine) (was now : PassState) (call : FileCall) (start : PassState) → HasStepped m new was now → append_call_of m ≡ call → append.IsUnderWay new start now → IsUnderWay call (Append new) start now
+append_goes m new was now call start stepped same way =
+    (ap append_call_of stepped.next ∙ ap call_asked (append_asks m m.control stepped.step.found) ∙ same, way)
+
+pub draw_falls : (sizes : Sizes) (m new : DrawMachine) (found : ℕ) → new ≡ draw.draw_after sizes m found → draw.draw_measure new < draw.draw_measure m → write_measure (Draw new) < write_measure (Draw m)
+draw_falls sizes m new found is falls =
+    let pages : new.pages ≡ m.pages = ap (λ (n : DrawMachine). n.pages) is ∙ draw_pages m m.control found in
+    omega (arith, pages, falls)
+
+pub draw_goes : (sizes : Sizes) (m new : DrawMachine) (found : ℕ) (call : FileCall) (start now : PassState) → new ≡ draw.draw_after sizes m found → draw.draw_call_of m ≡ call → draw.IsUnderWay new start now → IsUnderWay call (Draw new) start now
+draw_goes sizes m new found call start now is same way = (ap draw.draw_call_of is ∙ ap call_asked (draw_asks m m.control found) ∙ same, way)
