@@ -1,8 +1,10 @@
 #!/usr/bin/env bash
 # Prints reads of 64 bytes a second by try_pread, over a store in memory, at one and at four threads, beside the same reads of such a store behind a
-# plain Mutex, in the same run. All pages have buffers, and each thread reads pages of its own; a read counts if it goes well and gives the bytes that
-# the store has. The program, bench/board, is proved, and compiled with optimization. Its files end in .txt, since rt refuses .rt and .antt files outside
-# of crates/. A folder may be named, in which what is built stays for the next run; else it is built in a new one, which is removed.
+# plain Mutex; and durable writes of 64 bytes a second by try_pwrite, beside those of the log of one thread behind a plain Mutex: first over parts in memory,
+# which keep what each line may hold after a power failure, and then over plain copies of their lines. All pages have buffers, and each thread reads and
+# writes pages of its own; a read counts if it goes well and gives the bytes that the store has. A log of 1,024 entries is filled and the next one opened
+# outside of the time. The program, bench/board, is proved, and compiled with optimization. Its files end in .txt, since rt refuses .rt and .antt files
+# outside of crates/. A folder may be named, in which what is built stays for the next run; else it is built in a new one, which is removed.
 set -eu
 if [ $# -gt 0 ]; then
     room=$(realpath -m "$1")/nvcache-board
@@ -12,17 +14,20 @@ else
 fi
 cd "$(dirname "$0")/.."
 rm -rf "$room"/crates/*/{src,specs,proofs}
-for crate in nv_plain nv_pmem nv_store nv_entry nv_header nv_core nv_table nv_pages nv_mount nv_op nv_mirror nv_calls; do
+for crate in nv_plain nv_pmem nv_store nv_entry nv_header nv_recover nv_engine nv_core nv_table nv_pages nv_mount nv_op nv_mirror nv_ring nv_calls; do
     mkdir -p "$room/crates/$crate"
     cp -r "crates/$crate/src" "crates/$crate/specs" "crates/$crate/proofs" "$room/crates/$crate"
 done
-(cd bench/board && find . -name '*.txt') | while read -r file; do
+(cd bench/board && find src specs proofs -name '*.txt') | while read -r file; do
     install -D -m 644 "bench/board/$file" "$room/crates/board/${file%.txt}"
 done
 cp HANDLES "$room"
 {
-    grep -E "^nv_(plain|pmem|store|entry|header|core|table|pages|mount|op|mirror|calls):" crates.txt
-    echo "board: nv_plain nv_pmem nv_store nv_header nv_mount nv_calls nv_table thiserror"
+    grep -E "^nv_(plain|pmem|store|entry|header|recover|engine|core|table|pages|mount|op|mirror|ring|calls):" crates.txt
+    echo "board: nv_plain nv_pmem nv_store nv_header nv_recover nv_engine nv_mount nv_calls nv_table thiserror"
 } > "$room/crates.txt"
+plain=$PWD/bench/board/plain/kind.rt.txt
 cd "$room/crates/board"
+rt run 2> "$room/log" || { cat "$room/log" >&2; exit 1; }
+cp "$plain" src/kind.rt
 rt run 2> "$room/log" || { cat "$room/log" >&2; exit 1; }
