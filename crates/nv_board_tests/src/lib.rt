@@ -9,6 +9,8 @@ mod descriptors;
 #[cfg(test)]
 mod given;
 #[cfg(test)]
+mod machines;
+#[cfg(test)]
 mod mounts;
 #[cfg(test)]
 mod reads;

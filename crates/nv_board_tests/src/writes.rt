@@ -18,7 +18,7 @@ use std::test::Fail;
 use std::thread::{Threads, join_mut};
 
 // What a pass of the mount works on.
-fn room(
+pub(crate) fn room(
     rt: &impl Abort,
     alloc: Global,
     mount: &Mount<MemPart, MemStore>,
