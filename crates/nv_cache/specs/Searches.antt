@@ -16,7 +16,7 @@ use Rattle.nv_pages.specs.PageWork.{OfKept, robbed}
 use Rattle.nv_pages.specs.Altered.{IsAltered}
 use Rattle.nv_op.specs.declared.op.Op.{Op}
 use Rattle.nv_op.specs.declared.op.Op.TheVariants.{Load, Take, Give, Turn, Hint}
-use Rattle.nv_op.specs.declared.op.Word.TheVariants.{Page, Hint as HintWord}
+use Rattle.nv_op.specs.declared.word.Word.TheVariants.{Page, Hint as HintWord}
 use Rattle.nv_op.specs.Ops.{core_op_of}
 use Rattle.nv_mirror.specs.Controls.{MirroredControl, control_mirror, InCall}
 use Rattle.nv_mirror.specs.OwnedCells.{pages_from, with_if}

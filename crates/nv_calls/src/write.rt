@@ -14,10 +14,10 @@ ghost use Rattle.nv_calls.specs.writes.Writes.{Admits, IsWriteOver, IsWritePlace
 use crate::range::check_range;
 use crate::{calls_are_complete, ended_calls_heed_stop, refused_writes_leave_words};
 use nv_mirror::{Done, Refusal};
-use nv_ring::RunningWrite;
 use nv_mount::Mount;
 use nv_op::Asked;
 use nv_pmem::Lines;
+use nv_ring::RunningWrite;
 use nv_store::Backing;
 use nv_table::{Layout, Pass, Workspace};
 use std::sync::Wait;

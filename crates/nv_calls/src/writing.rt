@@ -8,10 +8,10 @@ ghost use Rattle.nv_calls.specs.writes.WriteMachines.{IsFewer, IsOneOrNone, IsPu
 use crate::Progress;
 use crate::write::admit;
 use nv_mirror::{Done, Refusal};
-use nv_ring::RunningWrite;
 use nv_mount::Mount;
 use nv_op::{Asked, Kind};
 use nv_pmem::Lines;
+use nv_ring::RunningWrite;
 use nv_store::Backing;
 use nv_table::{Pass, Workspace};
 

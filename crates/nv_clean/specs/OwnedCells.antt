@@ -3,8 +3,8 @@ use Rattle.std.specs.Prelude.{◌≡◌, ℕ, Bool, true, false, List, [], ◌�
 use Rattle.nv_core.specs.state.Words.{Word, CLEANER, HEADER, STORE, CLEANUP, ENTRY}
 use Rattle.nv_core.specs.state.Cleaner.{CleanerOp as CoreCleanerOp, TakeCleaner as TakeCleanerOp}
 use Rattle.nv_core.specs.state.Cleaner as cleaner
-use Rattle.nv_op.specs.declared.op.Word.{Word as OpWord}
-use Rattle.nv_op.specs.declared.op.Word.TheVariants as words
+use Rattle.nv_op.specs.declared.word.Word.{Word as OpWord}
+use Rattle.nv_op.specs.declared.word.Word.TheVariants as words
 use Rattle.nv_op.specs.declared.cleaner_op.CleanerOp.{CleanerOp}
 use Rattle.nv_op.specs.declared.cleaner_op.CleanerOp.TheVariants.{Take, Give}
 use Rattle.nv_clean.specs.declared.owned.Cell.{Cell}

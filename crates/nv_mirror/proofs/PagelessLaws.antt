@@ -16,7 +16,7 @@ use Rattle.nv_table.specs.steps.CallSteps.{Precondition}
 use Rattle.nv_table.proofs.steps.CallLaws.{IsCallFree}
 use Rattle.nv_mirror.specs.declared.answers.Refusal.{Refusal}
 use Rattle.nv_mirror.specs.declared.answers.Refusal.TheVariants.{Stopped, Spent}
-use Rattle.nv_op.specs.declared.op.Asked.{Asked}
+use Rattle.nv_op.specs.declared.asked.Asked.{Asked}
 use Rattle.nv_op.specs.Ops.{call_asked, core_op_of, opened_by}
 use Rattle.nv_mirror.specs.declared.pageless.PagelessControl.{PagelessControl}
 use Rattle.nv_mirror.specs.declared.pageless.PagelessControl.TheVariants.{Over}

@@ -16,7 +16,7 @@ use Rattle.nv_mirror.specs.declared.load.LoadControl.TheVariants as loads
 use Rattle.nv_mirror.specs.declared.load.LoadMachine.{LoadMachine}
 use Rattle.nv_mirror.specs.declared.visit.VisitControl.TheVariants as visits
 use Rattle.nv_mirror.specs.declared.visit.VisitMachine.{VisitMachine}
-use Rattle.nv_op.specs.declared.op.Asked.TheVariants.{Read as AsksRead}
+use Rattle.nv_op.specs.declared.asked.Asked.TheVariants.{Read as AsksRead}
 use Rattle.nv_op.specs.Ops.{call_asked}
 use Rattle.nv_mirror.specs.declared.front.FrontControl.TheVariants as fronts
 use Rattle.nv_mirror.specs.declared.front.FrontMachine.{FrontMachine}

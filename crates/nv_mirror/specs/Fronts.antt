@@ -8,10 +8,10 @@ use Rattle.nv_table.specs.state.States.{PassState}
 use Rattle.nv_mirror.specs.OwnedCells.{pages_from, with_if}
 use Rattle.nv_mirror.specs.declared.answers.Refusal.{Refusal}
 use Rattle.nv_mirror.specs.declared.answers.Refusal.TheVariants.{Busy, Stopped, Spent}
-use Rattle.nv_op.specs.declared.op.Word.TheVariants.{Stop as StopWord, Order, Page, Size, Length}
+use Rattle.nv_op.specs.declared.word.Word.TheVariants.{Stop as StopWord, Order, Page, Size, Length}
 use Rattle.nv_op.specs.declared.op.Op.{Op}
 use Rattle.nv_op.specs.declared.op.Op.TheVariants.{Load, Take, Give}
-use Rattle.nv_op.specs.declared.op.Asked.{Asked}
+use Rattle.nv_op.specs.declared.asked.Asked.{Asked}
 use Rattle.nv_op.specs.Ops.{call_asked, opened_by}
 use Rattle.nv_mirror.specs.declared.front.FrontControl.{FrontControl}
 use Rattle.nv_mirror.specs.declared.front.FrontControl.TheVariants.{Passed, Over}

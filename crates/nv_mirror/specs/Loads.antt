@@ -9,11 +9,11 @@ use Rattle.nv_core.specs.invariant.ControlFacts.{IsPage}
 use Rattle.nv_table.specs.state.States.{PassState}
 use Rattle.nv_table.specs.state.Views.{pass_of, values_of}
 use Rattle.nv_pages.specs.PageWork.{with_page}
-use Rattle.nv_op.specs.declared.op.Word.TheVariants.{Head, Tail, Store, Entry, Cleanup, Dirty}
+use Rattle.nv_op.specs.declared.word.Word.TheVariants.{Head, Tail, Store, Entry, Cleanup, Dirty}
 use Rattle.nv_op.specs.declared.op.Op.{Op}
 use Rattle.nv_op.specs.declared.op.Op.TheVariants.{Load, Take, Give, Place, Stop, Hold, Return}
-use Rattle.nv_op.specs.declared.op.Asked.{Asked}
-use Rattle.nv_op.specs.declared.op.Asked.TheVariants.{Read as AsksRead}
+use Rattle.nv_op.specs.declared.asked.Asked.{Asked}
+use Rattle.nv_op.specs.declared.asked.Asked.TheVariants.{Read as AsksRead}
 use Rattle.nv_op.specs.Ops.{call_asked, core_op_of}
 use Rattle.nv_mirror.specs.declared.answers.Refusal.{Refusal}
 use Rattle.nv_mirror.specs.declared.answers.Refusal.TheVariants.{Busy, RegionFault, StoreFault}

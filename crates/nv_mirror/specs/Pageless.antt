@@ -6,10 +6,10 @@ use Rattle.nv_core.specs.state.Words.{Sizes}
 use Rattle.nv_table.specs.state.States.{PassState}
 use Rattle.nv_mirror.specs.declared.answers.Refusal.{Refusal}
 use Rattle.nv_mirror.specs.declared.answers.Refusal.TheVariants.{Stopped, Spent}
-use Rattle.nv_op.specs.declared.op.Word.TheVariants.{Stop as StopWord, Order}
+use Rattle.nv_op.specs.declared.word.Word.TheVariants.{Stop as StopWord, Order}
 use Rattle.nv_op.specs.declared.op.Op.{Op}
 use Rattle.nv_op.specs.declared.op.Op.TheVariants.{Load, Place}
-use Rattle.nv_op.specs.declared.op.Asked.{Asked}
+use Rattle.nv_op.specs.declared.asked.Asked.{Asked}
 use Rattle.nv_op.specs.Ops.{call_asked, opened_by}
 use Rattle.nv_mirror.specs.declared.pageless.PagelessControl.{PagelessControl}
 use Rattle.nv_mirror.specs.declared.pageless.PagelessControl.TheVariants.{Over}

@@ -4,7 +4,7 @@ use Rattle.nv_plain.specs.declared.call.FileCall.{FileCall}
 use Rattle.nv_core.specs.state.Passes.{Control, Idle, GiveSize, GivePage, file_of, first_page, page_count}
 use Rattle.nv_core.specs.state.Words.{Sizes, Word, SIZE}
 use Rattle.nv_table.specs.state.States.{PassState}
-use Rattle.nv_op.specs.declared.op.Word.TheVariants.{Size, Page}
+use Rattle.nv_op.specs.declared.word.Word.TheVariants.{Size, Page}
 use Rattle.nv_op.specs.declared.op.Op.{Op}
 use Rattle.nv_op.specs.declared.op.Op.TheVariants.{Give, Place}
 use Rattle.nv_op.specs.Ops.{call_asked}

@@ -12,8 +12,8 @@ use Rattle.nv_core.specs.steps.Order.{Values, next_step, page_bytes}
 use Rattle.nv_core.specs.steps.StepKinds.{AreValid}
 use Rattle.nv_table.specs.state.States.{PassState}
 use Rattle.nv_table.specs.state.Views.{pass_of, values_of}
-use Rattle.nv_op.specs.declared.op.Asked.{Asked}
-use Rattle.nv_op.specs.declared.op.Asked.TheVariants.{Read as AsksRead}
+use Rattle.nv_op.specs.declared.asked.Asked.{Asked}
+use Rattle.nv_op.specs.declared.asked.Asked.TheVariants.{Read as AsksRead}
 use Rattle.nv_op.specs.Ops.{call_asked}
 use Rattle.nv_mirror.specs.declared.load.LoadControl.TheVariants as loads
 use Rattle.nv_mirror.specs.declared.load.LoadMachine.{LoadMachine}

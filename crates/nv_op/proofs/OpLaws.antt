@@ -34,7 +34,7 @@ use Rattle.nv_op.specs.declared.cleaner_op.CleanerOp.TheVariants as cleaner
 use Rattle.nv_op.specs.CleanerOps.{core_cleaner_op, word_of_cleaner_op}
 use Rattle.nv_op.proofs.CleanerOpLaws.{cleaner_moves_so, cleaner_value_so}
 use Rattle.nv_table.specs.invariant.Drawn.{marks_of, IsFromHead}
-use Rattle.nv_op.specs.declared.op.Asked.{Asked}
+use Rattle.nv_op.specs.declared.asked.Asked.{Asked}
 use Rattle.nv_op.specs.Words.{core_word}
 use Rattle.nv_op.specs.Ops.{Fits, SumIsSmall, word_of_op, change_of, moves_for, marks_for, opened_by, core_op_at, core_op_of}
 

@@ -7,8 +7,8 @@ use Rattle.nv_core.specs.state.Cleaner.{CleanerOp as CoreCleanerOp, TakeCleaner 
 use Rattle.nv_core.specs.state.Cleaner as cleaner
 use Rattle.nv_table.specs.declared.acting.Change.{Change}
 use Rattle.nv_table.specs.declared.acting.Change.TheVariants.{Keep, Add, Subtract as Subtracts, Set, Exchange}
-use Rattle.nv_op.specs.declared.op.Word.{Word}
-use Rattle.nv_op.specs.declared.op.Word.TheVariants.{Stop as StopWord, Tail, Cleaner, Entry, Dirty}
+use Rattle.nv_op.specs.declared.word.Word.{Word}
+use Rattle.nv_op.specs.declared.word.Word.TheVariants.{Stop as StopWord, Tail, Cleaner, Entry, Dirty}
 use Rattle.nv_op.specs.declared.cleaner_op.CleanerOp.{CleanerOp}
 use Rattle.nv_op.specs.declared.cleaner_op.CleanerOp.TheVariants.{TakeCleaner, Load, Take, Give, Hold, Return, Clean, Subtract, Free, MoveTail, Stop}
 use Rattle.nv_op.specs.Words.{core_word}

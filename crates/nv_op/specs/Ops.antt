@@ -15,10 +15,10 @@ use Rattle.nv_table.specs.state.Views.{PassView, pass_of, values_of}
 use Rattle.nv_table.specs.steps.CallSteps.{reply_at}
 use Rattle.nv_table.specs.declared.acting.Change.{Change}
 use Rattle.nv_table.specs.declared.acting.Change.TheVariants.{Keep, Add, Subtract, Set, Exchange}
-use Rattle.nv_op.specs.declared.op.Word.{Word}
-use Rattle.nv_op.specs.declared.op.Word.TheVariants.{Stop as StopWord, Order, Head, Hand, Length, Entry, Hint as HintWord, Dirty}
-use Rattle.nv_op.specs.declared.op.Asked.{Asked}
-use Rattle.nv_op.specs.declared.op.Asked.TheVariants.{Read as AsksRead, Write as AsksWrite, Sync as AsksSync}
+use Rattle.nv_op.specs.declared.word.Word.{Word}
+use Rattle.nv_op.specs.declared.word.Word.TheVariants.{Stop as StopWord, Order, Head, Hand, Length, Entry, Hint as HintWord, Dirty}
+use Rattle.nv_op.specs.declared.asked.Asked.{Asked}
+use Rattle.nv_op.specs.declared.asked.Asked.TheVariants.{Read as AsksRead, Write as AsksWrite, Sync as AsksSync}
 use Rattle.nv_op.specs.declared.op.Op.{Op}
 use Rattle.nv_op.specs.declared.op.Op.TheVariants.{Load, Take, Give, Place, Stop, Draw, Seize, Pledge, Ready, Grow, Break, Hold, Return, Turn, Hint, ByCleaner}
 use Rattle.nv_op.specs.declared.cleaner_op.CleanerOp.TheVariants as cleaner

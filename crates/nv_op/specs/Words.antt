@@ -1,7 +1,7 @@
 -- Words: which word of the core each is.
 use Rattle.nv_core.specs.state.Words.{Word as CoreWord, STOP, ORDER, HEAD, TAIL, HAND, CLEANER, HEADER, SIZE, LENGTH, STORE, ENTRY, HINT, PAGE, CLEANUP, DIRTY}
-use Rattle.nv_op.specs.declared.op.Word.{Word}
-use Rattle.nv_op.specs.declared.op.Word.TheVariants.{Stop, Order, Head, Tail, Hand, Cleaner, Header, Size, Length, Store, Entry, Hint, Page, Cleanup, Dirty}
+use Rattle.nv_op.specs.declared.word.Word.{Word}
+use Rattle.nv_op.specs.declared.word.Word.TheVariants.{Stop, Order, Head, Tail, Hand, Cleaner, Header, Size, Length, Store, Entry, Hint, Page, Cleanup, Dirty}
 
 abbrev pub core_word : Word → CoreWord
 core_word Stop = STOP

@@ -3,12 +3,16 @@
 //! where it stands after it, and no place of a word, no slot and no arithmetic of a word comes into what it proves.
 #![tactic(auto)]
 
+mod asked;
 mod cleaner_op;
 mod kinds;
 mod op;
 mod performing;
+mod word;
 
+pub use asked::Asked;
 pub use cleaner_op::CleanerOp;
 pub use kinds::Kind;
-pub use op::{Asked, Op, Word};
+pub use op::Op;
 pub use performing::{perform, perform_after};
+pub use word::Word;

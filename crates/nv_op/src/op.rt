@@ -4,39 +4,10 @@ ghost use Rattle.nv_core.specs.state.Words.{IsWord, place};
 ghost use Rattle.nv_table.specs.state.Keys.{sizes_of};
 ghost use Rattle.nv_table.specs.state.Layout.{slot_of_cell};
 ghost use Rattle.nv_op.specs.Words.{core_word};
-ghost use Rattle.nv_op.specs.Ops.{SumIsSmall, asked_with, call_asked, word_of_op, change_of, marks_for, moves_for};
-ghost use Rattle.nv_core.specs.state.Passes.{at_of, file_of, len_of};
+ghost use Rattle.nv_op.specs.Ops.{SumIsSmall, word_of_op, change_of, marks_for, moves_for};
 
-use crate::CleanerOp;
-use nv_table::{CLEANER, Change, HAND, HEAD, HEADER, Layout, Marks, Moves, ORDER, STOP, TAIL};
-
-/// A shared word, by what it is the word of: a file, a slot of the log, a buffer, or a page by its number of all pages.
-#[derive(Clone, Copy, Debug, PartialEq, Eq)]
-pub enum Word {
-    Stop,
-    Order,
-    Head,
-    Tail,
-    Hand,
-    Cleaner,
-    Header,
-    Size { file: u64 },
-    Length { file: u64 },
-    Store { file: u64 },
-    Entry { slot: u64 },
-    Hint { buffer: u64 },
-    Page { page: u64 },
-    Cleanup { page: u64 },
-    Dirty { page: u64 },
-}
-
-/// A call, as its first step begins it. Only contracts speak of it.
-#[derive(Clone, Copy, Debug, PartialEq, Eq)]
-pub enum Asked<'a> {
-    Read { file: u64, at: u64, len: u64 },
-    Write { file: u64, at: u64, bytes: &'a [u8] },
-    Sync { file: u64 },
-}
+use crate::{Asked, CleanerOp, Word};
+use nv_table::{Change, Layout, Marks, Moves};
 
 /// A step of a call.
 #[derive(Clone, Copy, Debug, PartialEq, Eq)]
@@ -73,79 +44,6 @@ pub enum Op {
     Hint { buffer: u64, page: u64 },
     /// A step of a batch of a cleaner.
     ByCleaner(CleanerOp),
-}
-
-impl Asked<'_> {
-    /// Its file.
-    pub fn file(self) -> u64
-        ensures { result ≡ file_of (call_asked self.entry) }
-    {
-        match self {
-            Asked::Read { file, .. } | Asked::Write { file, .. } | Asked::Sync { file } => file,
-        }
-    }
-
-    /// Its offset in bytes; 0 for a sync.
-    pub fn at(self) -> u64
-        ensures { result ≡ at_of (call_asked self.entry) }
-    {
-        match self {
-            Asked::Read { at, .. } | Asked::Write { at, .. } => at,
-            Asked::Sync { .. } => 0,
-        }
-    }
-
-    /// How many bytes it asks for; 0 for a sync.
-    pub fn size(self) -> u64
-        ensures { result ≡ len_of (call_asked self.entry) }
-    {
-        match self {
-            Asked::Read { len, .. } => len,
-            Asked::Write { bytes, .. } => bytes.len() as u64,
-            Asked::Sync { .. } => 0,
-        }
-    }
-
-    /// The same, with this list where it is a write.
-    pub fn with_list<'b>(self, list: &'b [u8]) -> Asked<'b>
-        ensures { result ≡ asked_with list.entry self.entry }
-    {
-        match self {
-            Asked::Read { file, at, len } => Asked::Read { file, at, len },
-            Asked::Write { file, at, .. } => Asked::Write {
-                file,
-                at,
-                bytes: list,
-            },
-            Asked::Sync { file } => Asked::Sync { file },
-        }
-    }
-}
-
-impl Word {
-    // Where it stands.
-    fn place(self, layout: Layout) -> u64
-        requires { IsWord (sizes_of layout) (core_word self) }
-        ensures { result ≡ place (sizes_of layout) (core_word self) }
-    {
-        match self {
-            Word::Stop => STOP,
-            Word::Order => ORDER,
-            Word::Head => HEAD,
-            Word::Tail => TAIL,
-            Word::Hand => HAND,
-            Word::Cleaner => CLEANER,
-            Word::Header => HEADER,
-            Word::Size { file } => layout.size(file),
-            Word::Length { file } => layout.length(file),
-            Word::Store { file } => layout.store(file),
-            Word::Entry { slot } => layout.entry(slot),
-            Word::Hint { buffer } => layout.hint(buffer),
-            Word::Page { page } => layout.page_lock(page),
-            Word::Cleanup { page } => layout.cleanup(page),
-            Word::Dirty { page } => layout.dirty(page),
-        }
-    }
 }
 
 impl Op {

@@ -7,8 +7,8 @@ use Rattle.nv_plain.specs.declared.call.FileCall.TheVariants.{Write}
 use Rattle.nv_core.specs.state.Passes.{Control, VisitPage, WriteLoadHead, TakePlace, IsAllowed, at_of, end_page, file_of, first_page, is_read, is_write, len_of, page_count}
 use Rattle.nv_core.specs.state.Words.{Sizes, SIZE, Word}
 use Rattle.nv_table.specs.state.States.{PassState}
-use Rattle.nv_op.specs.declared.op.Asked.{Asked}
-use Rattle.nv_op.specs.declared.op.Asked.TheVariants.{Read as AsksRead, Write as AsksWrite, Sync as AsksSync}
+use Rattle.nv_op.specs.declared.asked.Asked.{Asked}
+use Rattle.nv_op.specs.declared.asked.Asked.TheVariants.{Read as AsksRead, Write as AsksWrite, Sync as AsksSync}
 use Rattle.nv_op.specs.Ops.{asked_with, call_asked, opened_by}
 use Rattle.nv_ring.specs.declared.append.AppendControl.{AppendControl}
 use Rattle.nv_ring.specs.declared.append.AppendControl.TheVariants as appends

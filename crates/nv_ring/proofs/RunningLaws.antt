@@ -6,8 +6,8 @@ use Rattle.nv_plain.specs.declared.call.FileCall.{FileCall}
 use Rattle.nv_core.specs.state.Passes.{Idle, is_write, len_of}
 use Rattle.nv_table.specs.state.Opened.{Opened}
 use Rattle.nv_table.specs.state.States.{PassState}
-use Rattle.nv_op.specs.declared.op.Asked.{Asked}
-use Rattle.nv_op.specs.declared.op.Asked.TheVariants.{Read as AsksRead, Write as AsksWrite, Sync as AsksSync}
+use Rattle.nv_op.specs.declared.asked.Asked.{Asked}
+use Rattle.nv_op.specs.declared.asked.Asked.TheVariants.{Read as AsksRead, Write as AsksWrite, Sync as AsksSync}
 use Rattle.nv_op.specs.Ops.{call_asked}
 use Rattle.nv_mirror.specs.declared.answers.Refusal.{Refusal}
 use Rattle.nv_ring.specs.declared.append.AppendMachine.{AppendMachine}

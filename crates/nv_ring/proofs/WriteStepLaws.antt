@@ -7,7 +7,7 @@ use Rattle.nv_table.specs.state.Views.{PassView, pass_of}
 use Rattle.nv_table.specs.steps.StepContracts.{Postcondition}
 use Rattle.nv_op.specs.Kinds.{kind_of, kind_of_op}
 use Rattle.nv_op.specs.Ops.{call_asked, core_op_of, opened_by}
-use Rattle.nv_op.specs.declared.op.Asked.{Asked}
+use Rattle.nv_op.specs.declared.asked.Asked.{Asked}
 use Rattle.nv_op.specs.declared.kinds.Kind.TheVariants.{Load, Take}
 use Rattle.nv_core.specs.state.Passes.{len_of}
 use Rattle.nv_op.proofs.KindLaws.{kind_same}

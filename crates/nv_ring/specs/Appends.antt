@@ -7,8 +7,8 @@ use Rattle.nv_core.specs.state.Words.{Sizes, Word, SIZE, ENTRY}
 use Rattle.nv_table.specs.state.States.{PassState}
 use Rattle.nv_op.specs.declared.op.Op.{Op}
 use Rattle.nv_op.specs.declared.op.Op.TheVariants.{Place, Stop, Seize, Pledge, Ready, Grow, Break}
-use Rattle.nv_op.specs.declared.op.Asked.{Asked}
-use Rattle.nv_op.specs.declared.op.Asked.TheVariants.{Write as AsksWrite}
+use Rattle.nv_op.specs.declared.asked.Asked.{Asked}
+use Rattle.nv_op.specs.declared.asked.Asked.TheVariants.{Write as AsksWrite}
 use Rattle.nv_op.specs.Ops.{call_asked, core_op_of}
 use Rattle.nv_mirror.specs.declared.answers.Refusal.{Refusal}
 use Rattle.nv_mirror.specs.declared.answers.Refusal.TheVariants.{RegionFault}

@@ -7,10 +7,10 @@ use Rattle.nv_core.specs.steps.Ops.{Op as CoreOp, Load as LoadWord, Draw as Draw
 use Rattle.nv_table.specs.state.States.{PassState}
 use Rattle.nv_table.specs.state.Views.{pass_of}
 use Rattle.nv_table.specs.steps.StepContracts.{Postcondition}
-use Rattle.nv_op.specs.declared.op.Word.TheVariants.{Head, Tail}
+use Rattle.nv_op.specs.declared.word.Word.TheVariants.{Head, Tail}
 use Rattle.nv_op.specs.declared.op.Op.{Op}
 use Rattle.nv_op.specs.declared.op.Op.TheVariants.{Load, Draw}
-use Rattle.nv_op.specs.declared.op.Asked.{Asked}
+use Rattle.nv_op.specs.declared.asked.Asked.{Asked}
 use Rattle.nv_mirror.specs.declared.answers.Refusal.{Refusal}
 use Rattle.nv_mirror.specs.declared.answers.Refusal.TheVariants.{Spent, Again, Raced}
 use Rattle.nv_mirror.specs.declared.front.FrontMachine.{FrontMachine}

@@ -13,8 +13,8 @@ use Rattle.nv_table.specs.invariant.Idle.{IsIdle}
 use Rattle.nv_table.specs.state.Opened.{Opened}
 use Rattle.nv_table.specs.state.States.{PassState}
 use Rattle.nv_mount.specs.declared.fds.Fd.{Fd}
-use Rattle.nv_op.specs.declared.op.Asked.{Asked}
-use Rattle.nv_op.specs.declared.op.Asked.TheVariants.{Read as AsksRead, Write as AsksWrite, Sync as AsksSync}
+use Rattle.nv_op.specs.declared.asked.Asked.{Asked}
+use Rattle.nv_op.specs.declared.asked.Asked.TheVariants.{Read as AsksRead, Write as AsksWrite, Sync as AsksSync}
 use Rattle.nv_op.specs.Kinds.{kind_of}
 use Rattle.nv_op.specs.Ops.{asked_with, call_asked}
 use Rattle.nv_mirror.specs.declared.answers.Done.{Done}

@@ -6,7 +6,7 @@ use Rattle.nv_table.specs.state.Keys.{sizes_of}
 use Rattle.nv_table.specs.state.Opened.{Opened}
 use Rattle.nv_table.specs.steps.StepContracts.{Postcondition}
 use Rattle.nv_table.specs.steps.CallSteps.{Precondition}
-use Rattle.nv_op.specs.declared.op.Asked.{Asked}
+use Rattle.nv_op.specs.declared.asked.Asked.{Asked}
 use Rattle.nv_op.specs.declared.op.Op.{Op}
 use Rattle.nv_table.specs.state.Views.{pass_of}
 use Rattle.nv_op.specs.Ops.{Fits as OpFits, core_op_of, opened_by}

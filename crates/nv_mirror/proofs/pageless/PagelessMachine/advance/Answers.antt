@@ -4,7 +4,7 @@ use Rattle.std.specs.Prelude.{Option}
 use Rattle.nv_table.specs.state.Opened.{Opened}
 use Rattle.nv_table.specs.steps.StepContracts.{Postcondition}
 use Rattle.nv_table.specs.steps.CallSteps.{Precondition}
-use Rattle.nv_op.specs.declared.op.Asked.{Asked}
+use Rattle.nv_op.specs.declared.asked.Asked.{Asked}
 use Rattle.nv_op.specs.declared.op.Op.{Op}
 use Rattle.nv_op.specs.Ops.{core_op_of, opened_by}
 use Rattle.nv_mirror.specs.declared.pageless.PagelessControl.{PagelessControl}
