@@ -28,7 +28,7 @@ use Rattle.nv_mirror.specs.OwnSteps.{is_own}
 use Rattle.nv_mirror.specs.OwnedCells.{pages_from, with_if}
 use Rattle.nv_mirror.specs.PassSteps.{either_of, head_in, place_by, refused_by}
 use Rattle.nv_mirror.specs.Controls.{Reading, readings, reading_of, with_reading}
-use Rattle.nv_mirror.specs.Loads.{load_call_of, Fits, FitsAt, IsPlain, IsMissed, IsInCall, Before, load_op_at, load_after_at, scanning_from, behind_store, load_locks, load_mirror_at, load_refusal_at}
+use Rattle.nv_mirror.specs.Loads.{load_call_of, fault_then, Fits, FitsAt, IsPlain, IsMissed, IsInCall, Before, load_op_at, load_after_at, scanning_from, behind_store, load_locks, load_mirror_at, load_refusal_at}
 use Rattle.nv_mirror.proofs.ControlLaws.{mirror_due, mirror_on, told_kept}
 use Rattle.nv_mirror.proofs.PageLaws.{some_touched, without_first}
 use Rattle.nv_mirror.proofs.StepLaws.{opened_same}
@@ -84,6 +84,12 @@ module _ (m : LoadMachine) (room : List ℕ) (start now : PassState) where
   load_due loads.GiveCleanup plain way = absurd plain
   load_due Loaded plain way = absurd plain
   load_due (Refused refusal) plain way = absurd plain
+
+-- no device call has failed where none has
+pub unfaulted : (control : LoadControl) → fault_then control false ≡ None
+unfaulted (loads.ReadStore dirty) = refl
+unfaulted (loads.ReadPiece number) = refl
+unfaulted control = refl
 
 -- its operations say nothing of the pass
 pub load_fits : (sizes : Sizes) (pass : Pass) (m : LoadMachine) (control : LoadControl) → OpFits sizes None pass (load_op_at sizes m control false)

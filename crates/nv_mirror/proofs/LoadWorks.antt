@@ -34,9 +34,9 @@ use Rattle.nv_mirror.specs.OwnSteps.{is_own}
 use Rattle.nv_mirror.specs.OwnedCells.{pages_from, with_if}
 use Rattle.nv_mirror.specs.PageReads.{HasFailedPageRead, page_read}
 use Rattle.nv_mirror.specs.PieceReads.{HasFailedPieceRead, piece_read}
-use Rattle.nv_mirror.specs.PassSteps.{IsBetweenSteps, either_of, head_in, place_by, refused_by}
+use Rattle.nv_mirror.specs.PassSteps.{IsBetweenSteps, either_of, fault_in, head_in, place_by, refused_by}
 use Rattle.nv_mirror.specs.Controls.{Reading, readings, reading_of, with_reading, InCall}
-use Rattle.nv_mirror.specs.Loads.{load_call_of, Fits, FitsAt, HasStepped, IsInCall, IsMissed, IsUnderWay, KeepsOthers, Before, load_after, load_locks, load_mirror_at, load_op, load_refusal_at, scanning_from, values_fetched}
+use Rattle.nv_mirror.specs.Loads.{load_call_of, fault_then, Fits, FitsAt, HasStepped, IsInCall, IsMissed, IsUnderWay, KeepsOthers, Before, load_after, load_locks, load_mirror_at, load_op, load_refusal_at, scanning_from, values_fetched}
 use Rattle.nv_mirror.proofs.HadLaws.{bytes_else, had_by, no_works}
 use Rattle.nv_mirror.proofs.LoadLaws.{at}
 use Rattle.nv_mirror.proofs.OwnedLaws.{slot_still_owned}
@@ -116,9 +116,15 @@ module _ (m : LoadMachine) (control : LoadControl) (room : List ℕ) (start now 
         ∙ sym (ap (λ (v : PassView). page_bytes (pass_of v).fetched values page) between.view))
 
     -- it is the machine's next step
-    pub works_stepped : (failed : Bool) (next : LoadMachine) → op ≡ core_op_of now.view (load_op here m failed) → next ≡ load_after here m failed found → HasStepped m next now new
-    works_stepped failed next op_is next_is =
-        record { failed = failed; step = record { opens = None; works = step.works; op = op; found = found }; taken = taken_by now mid new None op found between step; op = op_is; next = next_is }
+    pub works_stepped : (failed : Bool) (next : LoadMachine) → op ≡ core_op_of now.view (load_op here m failed) → fault_in works ≡ fault_then m.control failed → next ≡ load_after here m failed found → HasStepped m next now new
+    works_stepped failed next op_is fault_is next_is = record {
+      failed = failed;
+      step = record { opens = None; works = step.works; op = op; found = found };
+      taken = taken_by now mid new None op found between step;
+      op = op_is;
+      fault = ap fault_in told ∙ fault_is;
+      next = next_is;
+    }
 
 -- ---- among its owned cells
 
@@ -373,19 +379,19 @@ module _ (m : LoadMachine) (room : List ℕ) (start now mid : PassState) (fits :
       (altered.owns_slots (values_of now.view) (still_owned (pass_of now.view)) way.called.still))).0
 
   module _ (new : PassState) (found : ℕ) (step : Postcondition mid None (Give (CLEANUP m.page)) found new) where
-    none : step.works ≡ []
-    none =
+    pub unlock_alone : step.works ≡ []
+    unlock_alone =
         no_works mid.view.opened.sizes (values_of mid.view) (pass_of mid.view) step.works
         (subst (λ (v : PassView). IsCallFree (pass_of v).control) (sym altered.view) (subst IsCallFree (sym (ap (λ (r : Reading). r.mirrored_control.control) way.called.mirrors)) (λ sizes values pass work due. due))) step.due
 
     pub unlock_on : IsUnderWay (record m { control = Loaded }) room start new
     unlock_on =
-        works_on m loads.GiveCleanup room start now way mid new (between_by (with_page m.page room) now mid altered) [] (Give (CLEANUP m.page)) found step none Loaded room way.before fits tt
+        works_on m loads.GiveCleanup room start now way mid new (between_by (with_page m.page room) now mid altered) [] (Give (CLEANUP m.page)) found step unlock_alone Loaded room way.before fits tt
         (λ pass number history. ap (λ owned. at m (VisitPage (m.page + 1)) owned way.before.head ((m.page, room) ∷ way.before.fetched)) (without_first (CLEANUP m.page) (load_locks m)))
         (λ pass. refl) refl refl refl (λ sizes number history pass. refl) (λ pass number. refl) (λ state. tt)
 
     pub unlock_keeps : KeepsOthers m now new
     unlock_keeps =
-        works_keep m loads.GiveCleanup room start now way mid new (between_by (with_page m.page room) now mid altered) [] (Give (CLEANUP m.page)) found step none fits
+        works_keep m loads.GiveCleanup room start now way mid new (between_by (with_page m.page room) now mid altered) [] (Give (CLEANUP m.page)) found step unlock_alone fits
         (λ p ne. filled_then (PAGE p) ∙ word_else (values_of now.view) (PAGE m.page) (filled room (values_of now.view (PAGE m.page))) (PAGE p) (λ e. ne (page_is e)))
         (λ pass p values ne. refl)

@@ -24,7 +24,7 @@ use Rattle.nv_mirror.specs.declared.load.LoadMachine.{LoadMachine}
 use Rattle.nv_mirror.specs.declared.front.FrontControl.TheVariants as fronts
 use Rattle.nv_mirror.specs.declared.front.FrontMachine.{FrontMachine}
 use Rattle.nv_mirror.specs.OwnedCells.{pages_from, with_if}
-use Rattle.nv_mirror.specs.PassSteps.{PassStep, HasTaken}
+use Rattle.nv_mirror.specs.PassSteps.{PassStep, HasTaken, fault_in}
 use Rattle.nv_mirror.specs.Controls.{Reading, control_mirror, readings, InCall}
 
 -- what its read asks for, and its call
@@ -229,12 +229,19 @@ pub record Misses (m : LoadMachine) (start now : PassState) : Type 0 where
   pub called : IsReading m control start now
   pub next : next_step now.view.opened.sizes (values_of now.view) (pass_of now.view) ≡ Some (core.Load (DIRTY m.page))
 
+-- the fault of the device call that lies before the next step, where that has failed
+abbrev pub fault_then : LoadControl → (failed : Bool) → Option Refusal
+fault_then (loads.ReadStore dirty) failed = if failed then Some StoreFault else None
+fault_then (loads.ReadPiece number) failed = if failed then Some RegionFault else None
+fault_then control failed = None
+
 -- It has made its next step: a device call may lie before that, which has failed or not.
 pub record HasStepped (old new : LoadMachine) (was now : PassState) : Type 0 where
   pub failed : Bool
   pub step : PassStep
   pub taken : HasTaken step was now
   pub op : step.op ≡ core_op_of was.view (load_op was.view.opened.sizes old failed)
+  pub fault : fault_in step.works ≡ fault_then old.control failed
   pub next : new ≡ load_after was.view.opened.sizes old failed step.found
 
 -- ---- what comes before some steps

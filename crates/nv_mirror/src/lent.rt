@@ -1,14 +1,16 @@
 //! Machines whose list is lent: it is put in before a step, and taken out behind it; and what is told of one between two steps.
-ghost use Rattle.std.specs.Prelude.{◌≡◌};
+ghost use Rattle.std.specs.Prelude.{◌≡◌, false};
+ghost use Rattle.nv_core.specs.state.Words.{Sizes};
 ghost use Rattle.nv_op.specs.Kinds.{kind_of};
 ghost use Rattle.nv_op.specs.Ops.{asked_with};
 ghost use Rattle.nv_mirror.specs.Fronts.{front_op, front_refusal_at};
+ghost use Rattle.nv_mirror.specs.Loads.{load_op, load_refusal_at};
 ghost use Rattle.nv_mirror.specs.Pageless.{pageless_op, pageless_place_at, pageless_refusal_at};
 ghost use Rattle.nv_mirror.specs.Releases.{release_op};
 
 use crate::{
-    FrontControl, FrontMachine, PagelessControl, PagelessMachine, Refusal, ReleaseControl,
-    ReleaseMachine,
+    FrontControl, FrontMachine, LoadControl, LoadMachine, PagelessControl, PagelessMachine,
+    Refusal, ReleaseControl, ReleaseMachine,
 };
 use nv_op::Kind;
 
@@ -116,6 +118,42 @@ impl ReleaseMachine<'_> {
         match self.control {
             ReleaseControl::GiveSize | ReleaseControl::GivePage { .. } => Kind::Give,
             ReleaseControl::Over => Kind::Place,
+        }
+    }
+}
+
+impl LoadMachine {
+    /// The kind of the next step, if the device call before it ends well.
+    pub fn next_kind(self) -> Kind
+        ensures { (sizes : Sizes) → result ≡ kind_of (load_op sizes self false) }
+    {
+        match self.control {
+            LoadControl::LoadDirty
+            | LoadControl::LoadHead
+            | LoadControl::LoadTail
+            | LoadControl::LoadEntry { .. } => Kind::Load,
+            LoadControl::TakeCleanup | LoadControl::TakeStore { .. } => Kind::Take,
+            LoadControl::ReadStore { .. }
+            | LoadControl::GiveCleanup
+            | LoadControl::GiveBackStore { .. }
+            | LoadControl::GiveBackCleanup { .. } => Kind::Give,
+            LoadControl::HoldEntry { .. } => Kind::Hold,
+            LoadControl::ReadPiece { .. } | LoadControl::ReturnEntry { .. } => Kind::Return,
+            LoadControl::Loaded | LoadControl::Refused(_) => Kind::Place,
+        }
+    }
+
+    /// Why its page isn't loaded, if it isn't.
+    pub fn refused(self) -> Option<Refusal>
+        ensures { result ≡ load_refusal_at self.control }
+    {
+        match self.control {
+            LoadControl::ReturnEntry { .. } => Some(Refusal::RegionFault),
+            LoadControl::GiveBackStore { .. } => Some(Refusal::StoreFault),
+            LoadControl::GiveBackCleanup { refusal } | LoadControl::Refused(refusal) => {
+                Some(refusal)
+            }
+            _ => None,
         }
     }
 }

@@ -8,8 +8,9 @@ use Rattle.nv_table.specs.state.Keys.{sizes_of}
 use Rattle.nv_table.specs.steps.CallSteps.{Precondition}
 use Rattle.nv_op.specs.Ops.{core_op_of}
 use Rattle.nv_mirror.specs.PageReads.{page_read}
+use Rattle.nv_mirror.specs.PassSteps.{fault_in}
 use Rattle.nv_mirror.specs.declared.load.LoadControl.TheVariants as loads
-use Rattle.nv_mirror.specs.Loads.{HasStepped, IsUnderWay, load_after_at, load_op_at}
+use Rattle.nv_mirror.specs.Loads.{HasStepped, IsUnderWay, fault_then, load_after_at, load_op_at}
 use Rattle.nv_mirror.proofs.LoadWorks.{at_control, between_by, from_is, give_due, give_on, give_keeps, fail_due, fail_on, fail_keeps, works_stepped}
 use Rattle.nv_mirror.proofs.load.LoadMachine.copy.Goals as goal
 
@@ -26,6 +27,7 @@ returns-in_default-clause-one g c =
     works_stepped m (loads.ReadStore c.args.dirty) c.requires.way.0 c.requires.way.1 pass (at_control c.requires.way.2 c.requires.at) c.fetch.new.pass c.perform_after.new.pass
     (record { table = failed.altered.table; view = failed.altered.view; spare = failed.altered.spare }) step.works Stop c.perform_after.result step refl true _
     (ap (λ control. core_op_of pass.view (load_op_at pass.view.opened.sizes m control true)) (sym c.requires.at))
+    (ap fault_in c.perform_after.ensures.stepped.1.is ∙ ap (λ control. fault_then control true) (sym c.requires.at))
     (ap (λ control. load_after_at pass.view.opened.sizes m control true c.perform_after.result) (sym c.requires.at))
 
 pub returns-in_default-clause-others : goal.returns-in_default-clause-others
@@ -60,6 +62,7 @@ returns-clause-one g c =
     (works_stepped m (loads.ReadStore dirty) c.requires.way.0 c.requires.way.1 pass (at_control c.requires.way.2 c.requires.at) c.fetch.new.pass new
     (between_by _ pass c.fetch.new.pass c.in-Ok.ensures.altered) step.works (Give (STORE m.file)) found step refl false _
     (ap (λ control. core_op_of pass.view (load_op_at pass.view.opened.sizes m control false)) (sym c.requires.at))
+    (ap fault_in c.perform_read.ensures.stepped.1 ∙ ap (λ control. fault_then control false) (sym c.requires.at))
     (ap (λ control. load_after_at pass.view.opened.sizes m control false found) (sym c.requires.at)))
 
 pub returns-clause-others : goal.returns-clause-others

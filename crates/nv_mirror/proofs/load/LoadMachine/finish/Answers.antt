@@ -1,5 +1,5 @@
 -- Its buffer is filled, and CLEANUP is given back.
-use Rattle.std.proofs.Common.{◌≡◌, ◌<◌, ◌≤◌, false, length, refl, sym, ap, subst}
+use Rattle.std.proofs.Common.{◌≡◌, ◌<◌, ◌≤◌, false, length, refl, sym, ap, subst, ◌∙◌}
 use Rattle.std.specs.Prelude.{Some}
 use Rattle.nv_core.specs.steps.Ops.{Give}
 use Rattle.nv_core.specs.state.Words.{CLEANUP, page_total}
@@ -9,10 +9,11 @@ use Rattle.nv_table.specs.state.Opened.{Opened, mount_of}
 use Rattle.nv_table.specs.state.Views.{slot_times}
 use Rattle.nv_op.specs.Ops.{core_op_of}
 use Rattle.nv_pages.specs.PageWork.{page_slot}
+use Rattle.nv_mirror.specs.PassSteps.{fault_in}
 use Rattle.nv_mirror.specs.declared.load.LoadControl.TheVariants as loads
-use Rattle.nv_mirror.specs.Loads.{load_after_at, load_op_at}
+use Rattle.nv_mirror.specs.Loads.{fault_then, load_after_at, load_op_at}
 use Rattle.nv_mirror.proofs.LoadSlots.{altered_self, shapes_kept, page_there, page_slot_once, page_room}
-use Rattle.nv_mirror.proofs.LoadWorks.{at_control, between_by, unlock_due, unlock_on, unlock_keeps, works_stepped}
+use Rattle.nv_mirror.proofs.LoadWorks.{at_control, between_by, unlock_alone, unlock_due, unlock_on, unlock_keeps, works_stepped}
 use Rattle.nv_mirror.proofs.load.LoadMachine.finish.Goals as goal
 
 pub fill_page-requires-clause-page : goal.fill_page-requires-clause-page
@@ -52,6 +53,7 @@ returns-clause-one g c =
     works_stepped m loads.GiveCleanup c.args.room.now c.requires.way.0 pass (at_control c.requires.way.1 c.requires.at) c.fill_page.new.pass new
     (between_by _ pass c.fill_page.new.pass c.fill_page.ensures) step.works (Give (CLEANUP m.page)) found step refl false _
     (ap (λ control. core_op_of pass.view (load_op_at pass.view.opened.sizes m control false)) (sym c.requires.at))
+    (ap fault_in (unlock_alone m c.args.room.now c.requires.way.0 pass c.fill_page.new.pass c.requires.way.1.0 (at_control c.requires.way.1 c.requires.at) c.fill_page.ensures new found step) ∙ ap (λ control. fault_then control false) (sym c.requires.at))
     (ap (λ control. load_after_at pass.view.opened.sizes m control false found) (sym c.requires.at))
 
 pub returns-clause-others : goal.returns-clause-others

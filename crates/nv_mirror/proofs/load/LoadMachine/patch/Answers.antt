@@ -7,9 +7,10 @@ use Rattle.nv_core.specs.state.Values.{Made}
 use Rattle.nv_table.specs.state.Opened.{Opened}
 use Rattle.nv_table.specs.state.Views.{PassView}
 use Rattle.nv_op.specs.Ops.{core_op_of}
+use Rattle.nv_mirror.specs.PassSteps.{fault_in}
 use Rattle.nv_mirror.specs.PieceReads.{piece_read}
 use Rattle.nv_mirror.specs.declared.load.LoadControl.TheVariants as loads
-use Rattle.nv_mirror.specs.Loads.{HasStepped, IsUnderWay, load_after_at, load_op_at}
+use Rattle.nv_mirror.specs.Loads.{HasStepped, IsUnderWay, fault_then, load_after_at, load_op_at}
 use Rattle.nv_mirror.proofs.LoadWorks.{at_control, between_by, piece_stands, piece_once, return_on, return_keeps, break_on, break_keeps, works_stepped}
 use Rattle.nv_mirror.proofs.PieceReadLaws.{return_due, stop_due}
 use Rattle.nv_mirror.proofs.load.LoadMachine.patch.Goals as goal
@@ -34,6 +35,7 @@ returns-in_default-clause-one g c =
     works_stepped m (loads.ReadPiece c.args.number) c.args.room.now c.requires.way.0 pass (at_control c.requires.way.1 c.requires.at) c.read_piece.new.pass c.perform_after.new.pass
     (record { table = failed.altered.table; view = failed.altered.view; spare = failed.altered.spare }) step.works Stop found step refl true _
     (ap (λ control. core_op_of pass.view (load_op_at pass.view.opened.sizes m control true)) (sym c.requires.at))
+    (ap fault_in c.perform_after.ensures.stepped.1.is ∙ ap (λ control. fault_then control true) (sym c.requires.at))
     (ap (λ control. load_after_at pass.view.opened.sizes m control true found) (sym c.requires.at))
 
 pub returns-in_default-clause-others : goal.returns-in_default-clause-others
@@ -69,6 +71,7 @@ returns-clause-one g c =
     (works_stepped m (loads.ReadPiece c.args.number) c.args.room.now c.requires.way.0 pass (at_control c.requires.way.1 c.requires.at) c.read_piece.new.pass new
     (between_by (λ kept. kept) pass c.read_piece.new.pass c.in-Ok.ensures.same) step.works (Return c.args.number) found step refl false _
     (ap (λ control. core_op_of pass.view (load_op_at pass.view.opened.sizes m control false)) (sym c.requires.at))
+    (ap fault_in c.perform_read.ensures.stepped.1 ∙ ap (λ control. fault_then control false) (sym c.requires.at))
     (ap (λ control. load_after_at pass.view.opened.sizes m control false found) (sym c.requires.at)))
 
 pub returns-clause-others : goal.returns-clause-others

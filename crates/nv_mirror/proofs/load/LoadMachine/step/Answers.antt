@@ -13,9 +13,9 @@ use Rattle.nv_op.specs.Ops.{Fits, core_op_of}
 use Rattle.nv_mirror.specs.declared.load.LoadMachine.{LoadMachine}
 use Rattle.nv_mirror.specs.Loads.{IsUnderWay, load_after, load_op, load_measure}
 use Rattle.nv_mirror.proofs.HadLaws.{plain_keeps, plain_values}
-use Rattle.nv_mirror.proofs.LoadLaws.{load_fits, load_due, load_on}
+use Rattle.nv_mirror.proofs.LoadLaws.{load_fits, load_due, load_free, load_on, unfaulted}
 use Rattle.nv_mirror.proofs.LoadMeasures.{load_plain_open, load_less}
-use Rattle.nv_mirror.proofs.StepLaws.{between_self, taken_by}
+use Rattle.nv_mirror.proofs.StepLaws.{between_self, no_fault, taken_by}
 use Rattle.nv_mirror.proofs.load.LoadMachine.step.Goals as goal
 
 pub perform-found-requires-clause-fits : goal.perform-found-requires-clause-fits
@@ -49,6 +49,7 @@ returns-clause-one g c =
       step = record { opens = None; works = stepped.works; op = op; found = found };
       taken = taken_by pass pass new None op found (between_self pass) stepped;
       op = refl;
+      fault = no_fault pass new None op found (load_free m c.requires.way.0 c.requires.way.1 pass m.control c.requires.plain c.requires.way.2.1) stepped ∙ sym (unfaulted m.control);
       next = c.after.ensures ∙ ap (λ (s : Sizes). load_after s m false found) same;
     }
 
