@@ -1,16 +1,19 @@
 -- Ends: a call may begin on an idle pass, and one that is over leaves it idle.
-use Rattle.std.proofs.Common.{◌≡◌, ℕ, [], refl, subst, ◌∙◌}
+use Rattle.std.proofs.Common.{◌≡◌, ℕ, [], refl, ap, subst, ◌∙◌}
 use Rattle.std.specs.Prelude.{Option, Some, None}
 use Rattle.nv_plain.specs.declared.call.FileCall.{FileCall}
 use Rattle.nv_core.specs.state.Passes.{Idle}
 use Rattle.nv_core.specs.steps.PassSteps.{begun}
 use Rattle.nv_table.specs.invariant.Idle.{IsIdle}
+use Rattle.nv_table.specs.state.Opened.{Opened}
 use Rattle.nv_table.specs.state.Views.{pass_of, values_of, OwnsSlots}
 use Rattle.nv_table.specs.state.States.{PassState}
 use Rattle.nv_table.proofs.steps.CallLaws.{idle_is_still, none_still_owned, later_self, taken_same}
 use Rattle.nv_table.proofs.steps.OwnedSlotLaws.{still_owned_all}
 use Rattle.nv_mirror.specs.declared.answers.Refusal.{Refusal}
-use Rattle.nv_mirror.specs.Controls.{Mirror, InCall}
+use Rattle.nv_mirror.specs.Controls.{Mirror, MirroredControl, control_mirror, InCall, IsOver}
+use Rattle.nv_mirror.specs.OwnSteps.{AreOwn}
+use Rattle.nv_mirror.specs.PassSteps.{refusal_in}
 
 pub call_begins : {State : Type 0} (mirror : Mirror State) (call : FileCall) (start : PassState) → IsIdle start
     → InCall mirror call (Some call) (mirror.of (begun start.view.opened.sizes call (pass_of start.view))) None None start start
@@ -40,4 +43,20 @@ call_ends mirror call is refusal place start now called control owned = record {
   nothing = none_still_owned now.view.opened.sizes (λ value. value) (values_of now.view) now.now
       (subst (λ cells. OwnsSlots now.view.opened.sizes (λ value. value) (values_of now.view) cells now.now) (still_owned_all (pass_of now.view) called.left ∙ owned) called.still);
   taken = taken_same start.view now.view called.mount called.later.ended called.idle.taken;
+}
+
+-- A call is over where its pass is idle and owns nothing.
+pub call_over : (call other : FileCall) (is : MirroredControl) (refusal : Option Refusal) (place : Option ℕ) (start now : PassState) → call ≡ other → InCall control_mirror call None is refusal place start now
+    → is.control ≡ Idle → is.owned ≡ [] → IsOver other refusal place start now
+call_over call other is refusal place start now same called control owned = subst (λ c. IsOver c refusal place start now) same record {
+  steps = called.steps;
+  made = called.made;
+  own = subst (λ (o : Opened). AreOwn o.sizes call called.steps) called.mount called.own;
+  refused = subst (λ (o : Opened). refusal_in o.sizes call called.steps ≡ refusal) called.mount called.refused;
+  placed = called.placed;
+  told = called.told;
+  idle = call_ends control_mirror call is refusal place start now called (ap (λ (c : MirroredControl). c.control) called.mirrors ∙ control) (ap (λ (c : MirroredControl). c.owned) called.mirrors ∙ owned);
+  later = called.later;
+  spare = called.spare;
+  mount = called.mount;
 }

@@ -19,10 +19,12 @@ pub mod OwnLaws
 pub mod OwnedLaws
 pub mod PageLaws
 pub mod PagelessLaws
+pub mod PartLaws
 pub mod PieceReadLaws
 pub mod ReadParts
 pub mod ReleaseLaws
 pub mod StepLaws
+pub mod StopLaws
 pub mod StoreReadLaws
 pub mod VisitLaws
 pub mod VisitPlaces

@@ -1,10 +1,9 @@
 -- Read parts: what stays of a read as one of its parts makes a step.
-use Rattle.std.proofs.Common.{◌≡◌, ℕ, Bool, List, [], ◌∷◌, refl, sym, ap, subst, ◌∙◌}
+use Rattle.std.proofs.Common.{◌≡◌, ℕ, List, refl, sym, ap, subst, ◌∙◌}
 use Rattle.std.specs.Prelude.{None}
 use Rattle.nv_core.specs.state.Passes.{Pass}
 use Rattle.nv_core.specs.state.Words.{Word}
 use Rattle.nv_core.specs.steps.Ops.{Give}
-use Rattle.nv_table.specs.state.Opened.{state_of}
 use Rattle.nv_table.specs.state.States.{PassState}
 use Rattle.nv_table.specs.state.Views.{PassView, pass_of}
 use Rattle.nv_table.specs.steps.StepContracts.{Postcondition}
@@ -18,7 +17,7 @@ use Rattle.nv_mirror.specs.declared.visit.VisitMachine.{VisitMachine}
 use Rattle.nv_mirror.specs.Answers.{IsReadPlaced}
 use Rattle.nv_mirror.specs.Loads.{HasStepped, load_after, load_noted}
 use Rattle.nv_mirror.specs.PassSteps.{PassStep, HasTaken}
-use Rattle.nv_mirror.specs.Visits.{IsLoadOf, load_of}
+use Rattle.nv_mirror.specs.Visits.{IsLoadOf}
 use Rattle.nv_mirror.proofs.StepLaws.{opened_same}
 
 -- the mount is the same behind a step with the device calls before it

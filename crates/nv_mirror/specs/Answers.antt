@@ -1,5 +1,5 @@
 -- Answers: what a call tells that has its place in the history, and one that was refused.
-use Rattle.std.specs.Prelude.{◌≡◌, ℕ, List, [], ◌∷◌, ◌++◌, length, Option, Some, None}
+use Rattle.std.specs.Prelude.{◌≡◌, ℕ, List, [], ◌∷◌, ◌++◌, length, Option, Some, None, Result, Ok, Err}
 use Rattle.nv_plain.specs.Files.{Files}
 use Rattle.nv_plain.specs.Calls.{reply_of}
 use Rattle.nv_plain.specs.Histories.{Answered, after}
@@ -13,6 +13,7 @@ use Rattle.nv_core.specs.invariant.OneHistory.{IsPrefix}
 use Rattle.nv_table.specs.state.Opened.{mount_of}
 use Rattle.nv_table.specs.state.Views.{PassView, pass_of}
 use Rattle.nv_mirror.specs.declared.answers.Done.{Done as Answer}
+use Rattle.nv_mirror.specs.declared.answers.Refusal.{Refusal}
 
 -- a pass's call with its reply, as it stands in the history
 abbrev pub answered_by : PassView → FileCall → Reply → Answered
@@ -45,3 +46,19 @@ pub record IsReadPlaced (file at : ℕ) (list : List ℕ) (old new : PassView) (
   pub list_is : list ≡ bytes ++ rest
   pub count : answer.len ≡ length bytes
   pub placed : IsPlacedAs old new (Read file at (length list)) (Bytes bytes) answer.place
+
+-- ---- what came of a read
+
+-- why it is refused, if it is, and its place, if it has one
+abbrev pub refusal_in_answer : Result Answer Refusal → Option Refusal
+refusal_in_answer (Ok answer) = None
+refusal_in_answer (Err refusal) = Some refusal
+
+abbrev pub place_in_answer : Result Answer Refusal → Option ℕ
+place_in_answer (Ok answer) = Some answer.place
+place_in_answer (Err refusal) = None
+
+-- what a read of a file has told that is over
+abbrev pub HasTold : (file at : ℕ) → (list : List ℕ) → (old new : PassView) → Result Answer Refusal → Type 0
+HasTold file at list old new (Ok answer) = IsReadPlaced file at list old new answer
+HasTold file at list old new (Err refusal) = IsUnplaced old new

@@ -120,3 +120,15 @@ is_stop op = false
 abbrev pub stops_in : List PassStep → Bool
 stops_in [] = false
 stops_in (step ∷ earlier) = stops_in earlier || is_stop step.op
+
+-- the fault for which a call is refused, if it is that of a device
+abbrev pub device_fault : Option Refusal → Option Refusal
+device_fault (Some RegionFault) = Some RegionFault
+device_fault (Some StoreFault) = Some StoreFault
+device_fault refusal = None
+
+-- whether it is
+abbrev pub is_fault : Option Refusal → Bool
+is_fault (Some RegionFault) = true
+is_fault (Some StoreFault) = true
+is_fault refusal = false

@@ -1,0 +1,314 @@
+-- Stops: the steps of a read set STOP exactly where it is refused for a device fault, and those of one that is refused for another reason change nothing that stays.
+use Rattle.std.proofs.Common.{◌≡◌, ◌⊎◌, ℕ, ◌+◌, ◌^◌, ◌==◌, nat_lt, nat_le, not, ◌&&◌, ◌||◌, Bool, true, false, if◌then◌else◌, List, [], ◌∷◌, inl, inr, refl, sym, ap, ap₂, subst, ◌∙◌}
+use Rattle.std.specs.Prelude.{Option, Some, None}
+use Rattle.nv_plain.specs.declared.call.FileCall.{FileCall}
+use Rattle.nv_plain.specs.declared.call.FileCall.TheVariants.{Read}
+use Rattle.nv_core.specs.invariant.InvariantLaws.{RunsAreSound}
+use Rattle.nv_core.specs.invariant.Ownership.{is_among}
+use Rattle.nv_core.specs.state.Core.{control_worked, worked, values_worked}
+use Rattle.nv_core.specs.state.Passes.{Control, Pass, Idle, TakePage, LoadLength, TakeSize, LoadStop, LoadOrder, VisitPage, TakeCleanup, TakeStore, ReadStore, GiveStore, Searching, ReadLoadHead, LoadEntry, HoldEntry, ReadPiece, ReturnEntry, GiveCleanup, WriteLoadHead, WriteLoadTail, DrawNumbers, CommitGroup, PledgePage, TakePlace, GrowLength, GiveSize, GivePage, GiveBack, SetStopAfterRead, SetStopAfterPiece, SetStopAfterCommit, Cleaning, is_read, is_write, first_page, end_page, page_count, without}
+use Rattle.nv_core.specs.state.Values.{CallEnding, Made, Failed, Refused}
+use Rattle.nv_core.specs.state.Words.{Sizes, Word, STOP, ORDER, HEAD, TAIL, LENGTH, SIZE, STORE, ENTRY, HINT, PAGE, CLEANUP, DIRTY, ready, is_entry_of, slot_of_entry, place}
+use Rattle.nv_core.specs.steps.ControlSteps.{control_after, copying, first_control, hinted, leaving, giving, ending, ordered, scanning, after_give, after_head, after_hold, after_load, after_look, after_return, after_stop, after_tail, exceeds}
+use Rattle.nv_core.specs.steps.Frames.{OwnEventsTell}
+use Rattle.nv_core.specs.steps.Opening.{IsMount}
+use Rattle.nv_core.specs.steps.Ops.{Op, Load, Take, Give, Place, Stop, Draw, Hold, Return, Turn, Hint, Split, PutBack, Join}
+use Rattle.nv_core.specs.steps.Order.{Values, Work, Enabled, CallDue, IsFailing}
+use Rattle.nv_core.specs.steps.StepKinds.{MayLoad, MayTake, EnabledByKind}
+use Rattle.nv_core.proofs.state.Choices.{if_both, page_tried, IsGivingBack, gives_back as gives_back_at}
+use Rattle.nv_core.proofs.steps.CleanerControls.{of_cleaner_worked}
+use Rattle.nv_core.proofs.steps.NextSteps.{next_steps_may_come}
+use Rattle.nv_table.specs.state.Opened.{Opened, mount_of}
+use Rattle.nv_table.specs.state.States.{PassState}
+use Rattle.nv_table.specs.state.Views.{PassView, pass_of}
+use Rattle.nv_table.specs.steps.SeatSteps.{AreDue, pass_before, pass_worked, with_call}
+use Rattle.nv_table.proofs.invariant.StepAt.{IsMadeAt, made_at}
+use Rattle.nv_table.proofs.steps.RunsOn.{IsPlain, step_of}
+use Rattle.nv_mirror.specs.declared.answers.Refusal.{Refusal}
+use Rattle.nv_mirror.specs.declared.answers.Refusal.TheVariants.{Busy, Stopped, Spent, Again, Raced, RegionFault, StoreFault}
+use Rattle.nv_mirror.specs.OwnSteps.{AreOwn, ArePassing, gives_back, is_own, is_passing}
+use Rattle.nv_mirror.specs.PassSteps.{PassStep, HasMade, HasTaken, busy_at, either_of, fault_at, fault_by, fault_in, head_in, if_own, is_fault, is_stop, place_by, place_in, refusal_in, refused_by, stops_in}
+
+-- no device has failed
+abbrev IsCalm : Control → Type 0
+IsCalm control = IsFailing control → ⊥
+
+leaving_calm : (owned : List Word) → IsCalm (leaving owned)
+leaving_calm [] fails = fails
+leaving_calm (cell ∷ rest) fails = fails
+
+first_calm : (sizes : Sizes) (call : FileCall) → IsCalm (first_control sizes call)
+first_calm sizes call = if_both IsCalm (page_count sizes call == 0) LoadStop (TakePage (first_page sizes call)) (λ _ fails. fails) (λ _ fails. fails)
+
+-- ---- device calls
+
+-- a device fault is one of an entry's part or of a store
+abbrev IsFault : Option Refusal → Type 0
+IsFault (Some RegionFault) = Unit {0}
+IsFault (Some StoreFault) = Unit {0}
+IsFault (Some refusal) = ⊥
+IsFault None = Unit {0}
+
+fault_there : (cell : Word) → IsFault (fault_at cell)
+fault_there (STORE file) = tt
+fault_there (ENTRY slot) = tt
+fault_there cell = tt
+
+fault_of_work : (cell : Word) (ending : CallEnding) → IsFault (fault_by cell ending)
+fault_of_work cell (Failed came faults) = fault_there cell
+fault_of_work cell ending = tt
+
+first_fails : (one other : Option Refusal) → is_fault one ≡ true → is_fault (either_of one other) ≡ true
+first_fails (Some refusal) other fails = fails
+first_fails None other fails = absurd (cc)
+
+last_fails : (one other : Option Refusal) → IsFault one → is_fault other ≡ true → is_fault (either_of one other) ≡ true
+last_fails (Some RegionFault) other is fails = refl
+last_fails (Some StoreFault) other is fails = refl
+last_fails (Some refusal) other is fails = absurd is
+last_fails None other is fails = fails
+
+-- one leads to STOP only where it has failed
+module _ (sizes : Sizes) (values : Values) (pass : Pass) (work : Work) where
+  call_on : (ending : CallEnding) (control : Control) → CallDue sizes values pass work control → IsCalm (control_worked sizes pass ending control) ⊎ (is_fault (fault_by work.cell ending) ≡ true)
+  call_on Made (CommitGroup calls) due = inl (if_both IsCalm _ (PledgePage (first_page sizes pass.call)) (CommitGroup _) (λ _ fails. fails) (λ _ fails. fails))
+  call_on Made (ReadStore page dirty) due = inl (λ fails. fails)
+  call_on Made (ReadPiece page number) due = inl (λ fails. fails)
+  call_on Made (Cleaning batch inner) due = inl (of_cleaner_worked IsCalm (λ fails. fails) (λ b c fails. fails) batch Made inner)
+  call_on (Failed came faults) (CommitGroup calls) due = inr (ap (λ cell. is_fault (fault_at cell)) due.cell)
+  call_on (Failed came faults) (ReadStore page dirty) due = inr (ap (λ cell. is_fault (fault_at cell)) due.cell)
+  call_on (Failed came faults) (ReadPiece page number) due = inr (ap (λ cell. is_fault (fault_at cell)) due.cell)
+  call_on (Failed came faults) (Cleaning batch inner) due = inl (of_cleaner_worked IsCalm (λ fails. fails) (λ b c fails. fails) batch (Failed came faults) inner)
+  call_on Refused (CommitGroup calls) due = inl (λ fails. fails)
+  call_on Refused (ReadStore page dirty) due = inl (λ fails. fails)
+  call_on Refused (ReadPiece page number) due = inl (λ fails. fails)
+  call_on Refused (Cleaning batch inner) due = inl (of_cleaner_worked IsCalm (λ fails. fails) (λ b c fails. fails) batch Refused inner)
+  call_on how control due = absurd due
+
+works_fail : (sizes : Sizes) (works : List Work) (values : Values) (pass : Pass) → AreDue sizes values pass works → IsCalm pass.control → IsFailing (pass_worked sizes works pass).control → is_fault (fault_in works) ≡ true
+works_fail sizes [] values pass due calm fails = absurd (calm fails)
+works_fail sizes (work ∷ later) values pass due calm fails = elim (call_on sizes values pass work work.ending pass.control due.0.due) [
+  | inl still ↦ last_fails (fault_by work.cell work.ending) (fault_in later) (fault_of_work work.cell work.ending)
+      (works_fail sizes later (values_worked pass work values) (worked sizes work pass) due.1 still fails)
+  | inr failed ↦ first_fails (fault_by work.cell work.ending) (fault_in later) failed
+]
+
+-- ---- its own steps
+
+own_plain : (file at len : ℕ) (refusal : Option Refusal) (op : Op) → is_own (Read file at len) refusal op ≡ true → IsPlain op
+own_plain file at len None Split own = absurd (cc)
+own_plain file at len None (PutBack cell) own = absurd (cc)
+own_plain file at len None (Join number) own = absurd (cc)
+own_plain file at len (Some refusal) Split own = absurd (cc)
+own_plain file at len (Some refusal) (PutBack cell) own = absurd (cc)
+own_plain file at len (Some refusal) (Join number) own = absurd (cc)
+own_plain file at len refusal op own = tt
+
+mild_both : (b : Bool) (one other : Option Refusal) → is_fault one ≡ false → is_fault other ≡ false → is_fault (if b then one else other) ≡ false
+mild_both true one other first last = first
+mild_both false one other first last = last
+
+or_false : (b : Bool) → b || false ≡ b
+or_false true = refl
+or_false false = refl
+
+-- ---- behind one step
+
+module _ (sizes : Sizes) (values : Values) (pass : Pass) where
+  scanning_calm : (page number : ℕ) → IsCalm (scanning pass page number)
+  scanning_calm page number = if_both IsCalm (nat_lt number pass.head) (LoadEntry page number) (GiveCleanup page) (λ _ fails. fails) (λ _ fails. fails)
+
+  ordered_calm : IsCalm (ordered sizes pass.call)
+  ordered_calm = if_both IsCalm (is_write pass.call) WriteLoadHead (if is_read pass.call then VisitPage (first_page sizes pass.call) else TakePlace) (λ _ fails. fails)
+      (λ _. if_both IsCalm (is_read pass.call) (VisitPage (first_page sizes pass.call)) TakePlace (λ _ fails. fails) (λ _ fails. fails))
+
+  giving_calm : IsCalm (giving sizes pass.call)
+  giving_calm = if_both IsCalm (page_count sizes pass.call == 0) Idle (GivePage (first_page sizes pass.call)) (λ _ fails. fails) (λ _ fails. fails)
+
+  ending_calm : IsCalm (ending sizes pass)
+  ending_calm = if_both IsCalm pass.sized GiveSize (giving sizes pass.call) (λ _ fails. fails) (λ _. giving_calm)
+
+  loads_calm : (word : Word) (found : ℕ) → MayLoad sizes values pass word → IsCalm (after_load sizes pass word found)
+  loads_calm (LENGTH one) found may = if_both IsCalm (exceeds pass found && not pass.sized) TakeSize LoadStop (λ _ fails. fails) (λ _ fails. fails)
+  loads_calm STOP found may = if_both IsCalm (found == 0) LoadOrder (leaving pass.owned) (λ _ fails. fails) (λ _. leaving_calm pass.owned)
+  loads_calm ORDER found may = if_both IsCalm (nat_lt found (2 ^ 60)) (ordered sizes pass.call) (leaving pass.owned) (λ _. ordered_calm) (λ _. leaving_calm pass.owned)
+  loads_calm HEAD found (inl is) = subst (λ s. IsCalm (after_head sizes pass found s)) (sym is)
+      (if_both IsCalm (nat_le (found + page_count sizes pass.call) (2 ^ 60)) WriteLoadTail (leaving pass.owned) (λ _ fails. fails) (λ _. leaving_calm pass.owned))
+  loads_calm HEAD found (inr may) = subst (λ s. IsCalm (after_head sizes pass found s)) (sym may.1) (λ fails. fails)
+  loads_calm TAIL found (inl is) = subst (λ s. IsCalm (after_tail sizes pass found s)) (sym is)
+      (if_both IsCalm (nat_le (pass.head + page_count sizes pass.call) (found + sizes.entries)) DrawNumbers (leaving pass.owned) (λ _ fails. fails) (λ _. leaving_calm pass.owned))
+  loads_calm TAIL found (inr may) = subst (λ s. IsCalm (after_tail sizes pass found s)) (sym may.1) (scanning_calm may.0 found)
+  loads_calm (ENTRY slot) found may = subst (λ s. IsCalm (after_look pass found s)) (sym may.2)
+      (if_both IsCalm (is_entry_of ready may.0 found) (HoldEntry may.0 may.1) (scanning pass may.0 (may.1 + 1)) (λ _ fails. fails) (λ _. scanning_calm may.0 (may.1 + 1)))
+  loads_calm (DIRTY page) found may = if_both IsCalm (found == 0) (TakeStore page false) (TakeCleanup page) (λ _ fails. fails) (λ _ fails. fails)
+  loads_calm (HINT buffer) found may = subst (λ s. IsCalm (hinted sizes pass.call buffer found s)) (sym may.is) (λ fails. fails)
+  loads_calm word found may = absurd may
+
+  takes_calm : (cell : Word) (found : ℕ) → MayTake pass cell → IsCalm (control_after sizes pass (Take cell) found)
+  takes_calm (PAGE page) found may = page_tried IsCalm sizes pass page found (λ fails. fails) (λ fails. fails) (leaving_calm pass.owned) (λ missed tries search fails. fails) may
+  takes_calm (SIZE one) found may = if_both IsCalm (found == 0) LoadLength (leaving pass.owned) (λ _ fails. fails) (λ _. leaving_calm pass.owned)
+  takes_calm (STORE one) found may = if_both IsCalm (found == 0) (copying pass.control) (leaving pass.owned) (λ _. subst (λ s. IsCalm (copying s)) (sym may.2) (λ fails. fails)) (λ _. leaving_calm pass.owned)
+  takes_calm (CLEANUP page) found may = if_both IsCalm (found == 0) (TakeStore page true) (leaving pass.owned) (λ _ fails. fails) (λ _. leaving_calm pass.owned)
+  takes_calm cell found may = absurd may
+
+  gives_calm : (cell : Word) (control : Control) → IsGivingBack control → IsCalm (after_give sizes pass cell control)
+  gives_calm cell GiveBack may = leaving_calm (without cell pass.owned)
+  gives_calm cell GiveSize may = giving_calm
+  gives_calm cell (GivePage page) may = if_both IsCalm (page + 1 == end_page sizes pass.call) Idle (GivePage (page + 1)) (λ _ fails. fails) (λ _ fails. fails)
+  gives_calm cell (GiveStore page dirty) may = if_both IsCalm dirty (ReadLoadHead page) (VisitPage (page + 1)) (λ _ fails. fails) (λ _ fails. fails)
+  gives_calm cell (GiveCleanup page) may = λ fails. fails
+  gives_calm cell (Searching page tries search) may = λ fails. fails
+  gives_calm cell control may = absurd may
+
+  stops_calm : (control : Control) → IsFailing control → IsCalm (after_stop pass control)
+  stops_calm (SetStopAfterRead page dirty) may = leaving_calm pass.owned
+  stops_calm (SetStopAfterPiece page number) may = λ fails. fails
+  stops_calm SetStopAfterCommit may = λ fails. fails
+  stops_calm control may = absurd may
+
+  returns_calm : (page number : ℕ) (failed : Bool) → IsCalm (after_return sizes pass (ReturnEntry page number failed))
+  returns_calm page number failed =
+      let rest = without (ENTRY (slot_of_entry sizes number)) pass.owned in
+      if_both IsCalm failed (leaving rest) (scanning pass page (number + 1)) (λ _. leaving_calm rest) (λ _. scanning_calm page (number + 1))
+
+  -- behind no step of a read a device has failed
+  after_calm : (file at len : ℕ) (refusal : Option Refusal) (op : Op) (found : ℕ) → EnabledByKind sizes values pass op → is_own (Read file at len) refusal op ≡ true → IsCalm (control_after sizes pass op found)
+  after_calm file at len refusal (Load word) found may own = loads_calm word found may
+  after_calm file at len refusal (Take cell) found may own = takes_calm cell found may
+  after_calm file at len refusal (Give cell) found may own = gives_calm cell pass.control (gives_back_at pass cell pass.control may)
+  after_calm file at len refusal (Place reply) found may own = if_both IsCalm (is_write pass.call && exceeds pass pass.length) GrowLength (ending sizes pass) (λ _ fails. fails) (λ _. ending_calm)
+  after_calm file at len refusal Stop found may own = stops_calm pass.control may
+  after_calm file at len refusal (Hold number) found may own = subst (λ s. IsCalm (after_hold s)) (sym may.1) (λ fails. fails)
+  after_calm file at len refusal (Return number) found may own = subst (λ s. IsCalm (after_return sizes pass s)) (sym may.2) (returns_calm may.0 number may.1)
+  after_calm file at len refusal (Turn page) found may own = λ fails. fails
+  after_calm file at len refusal (Hint buffer page) found may own = λ fails. fails
+  after_calm file at len None op found may own = absurd (cc)
+  after_calm file at len (Some refusal) op found may own = absurd (cc)
+
+-- ---- the steps of a read
+
+module _ (sound : RunsAreSound) (tell : OwnEventsTell) (sizes : Sizes) (file at len : ℕ) (start : PassState) (mount : IsMount (mount_of start.view.opened)) where
+  abbrev call : FileCall
+  call = Read file at len
+
+  -- what is so of the pass after some steps
+  record Stands (now : PassState) : Type 0 where
+    opened : now.view.opened ≡ start.view.opened
+    calm : IsCalm (pass_of now.view).control
+
+  -- a step, with the pass as it finds it
+  module _ (step : PassStep) (middle now : PassState) (opened : middle.view.opened ≡ start.view.opened) (taken : HasTaken step middle now) (refusal : Option Refusal) (own : is_own (Read file at len) refusal step.op ≡ true) where
+    abbrev seen : PassView
+    seen = taken.before.view
+
+    abbrev there : Pass
+    there = pass_before seen step.opens taken.stepped.works
+
+    seen_opened : seen.opened ≡ start.view.opened
+    seen_opened = ap (λ (v : PassView). v.opened) taken.between.view ∙ opened
+
+    come : IsMadeAt seen taken.stepped.steps.run taken.stepped.works step.opens step.op step.found
+    come = made_at sound tell seen now.view taken.stepped.works step.opens step.op step.found (subst (λ (o : Opened). IsMount (mount_of o)) (sym seen_opened) mount) taken.stepped.steps
+
+    may : EnabledByKind seen.opened.sizes come.core.values there step.op
+    may = next_steps_may_come seen.opened.sizes come.core.values there step.op
+        (subst (λ p. Enabled seen.opened.sizes come.core.values p step.op) come.own (step_of seen.opened.sizes seen.number come.core step.op (own_plain file at len refusal step.op own) come.may.may))
+
+    stands_on : Stands now
+    stands_on = record {
+      opened = ap (λ (v : PassView). v.opened) taken.stepped.steps.is ∙ seen_opened;
+      calm = λ fails.
+          after_calm seen.opened.sizes come.core.values there file at len refusal step.op step.found may own (subst IsFailing (ap (λ (p : Pass). p.control) taken.stepped.pass) fails);
+    }
+
+    -- where it sets STOP a device has failed
+    stop_fails : step.op ≡ Stop → IsFailing there.control
+    stop_fails is = subst (EnabledByKind seen.opened.sizes come.core.values there) is may
+
+    first_sets : step.opens ≡ Some call → step.op ≡ Stop → ⊥
+    first_sets opens is =
+        let first = ap (λ o. (with_call seen.opened.sizes o (pass_worked seen.opened.sizes taken.stepped.works (pass_of seen))).control) opens in
+        first_calm seen.opened.sizes call (subst IsFailing first (stop_fails is))
+
+    later_sets : step.opens ≡ None → IsCalm (pass_of middle.view).control → step.op ≡ Stop → is_fault (fault_in step.works) ≡ true
+    later_sets opens calm is =
+        let there_is = ap (λ o. (with_call seen.opened.sizes o (pass_worked seen.opened.sizes taken.stepped.works (pass_of seen))).control) opens in
+        ap (λ works. is_fault (fault_in works)) (sym taken.works_are)
+        ∙ works_fail seen.opened.sizes taken.stepped.works _ (pass_of seen) taken.stepped.due (λ fails. calm (subst (λ (v : PassView). IsFailing (pass_of v).control) taken.between.view fails))
+        (subst IsFailing there_is (stop_fails is))
+
+  stands : (steps : List PassStep) (now : PassState) → HasMade steps start now → AreOwn sizes call steps → Stands now
+  stands [] now all own = absurd own
+  stands (step ∷ []) now all own = stands_on step all.0 now (ap (λ (p : PassState). p.view.opened) all.1) all.2 None own.1
+  stands (step ∷ (other ∷ earlier)) now all own = stands_on step all.0 now (stands (other ∷ earlier) all.0 all.1 own.2).opened all.2 (refusal_in sizes call (other ∷ earlier)) own.1
+
+  -- a step sets STOP where it refuses its call for a device fault
+  sets_by : (head : ℕ) (works : List Work) (op : Op) (found : ℕ) → (op ≡ Stop → is_fault (fault_in works) ≡ true) → is_stop op ≡ is_fault (refused_by sizes call head works op found)
+  sets_by head works (Take (PAGE page)) found fails =
+      let busy = mild_both (found == 0) None (Some (Busy (place sizes (PAGE page)))) refl refl in
+      sym (mild_both (found == 0) None (if_own sizes call page (busy_at sizes (PAGE page) found)) refl
+      (mild_both (is_among (first_page sizes call) (end_page sizes call) page) (busy_at sizes (PAGE page) found) None busy refl))
+  sets_by head works (Take cell) found fails = sym (mild_both (found == 0) None (Some (Busy (place sizes cell))) refl refl)
+  sets_by head works (Load STOP) found fails = sym (mild_both (found == 0) None (Some Stopped) refl refl)
+  sets_by head works (Load ORDER) found fails = sym (mild_both (nat_lt found (2 ^ 60)) None (Some (Spent found)) refl refl)
+  sets_by head works (Load HEAD) found fails = sym (mild_both (is_write call && not (nat_le (found + page_count sizes call) (2 ^ 60))) (Some (Spent found)) None refl refl)
+  sets_by head works (Load TAIL) found fails = sym (mild_both (is_write call && not (nat_le (head + page_count sizes call) (found + sizes.entries))) (Some (Again head found)) None refl refl)
+  sets_by head works Draw found fails = sym (mild_both (found == head) None (Some (Raced head found)) refl refl)
+  sets_by head works Stop found fails = sym (fails refl)
+  sets_by head works op found fails = refl
+
+  back_unset : (refusal : Refusal) (op : Op) → gives_back call refusal op ≡ true → is_stop op ≡ false
+  back_unset refusal Stop back = absurd (cc)
+  back_unset refusal op back = refl
+
+  next_sets : (step : PassStep) (earlier : List PassStep) (before : Option Refusal) → refusal_in sizes call earlier ≡ before → stops_in earlier ≡ is_fault (refusal_in sizes call earlier) → is_own call (refusal_in sizes call earlier) step.op ≡ true
+      → (step.op ≡ Stop → is_fault (fault_in step.works) ≡ true) → stops_in (step ∷ earlier) ≡ is_fault (refusal_in sizes call (step ∷ earlier))
+  next_sets step earlier None so_far set own fails =
+      ap (λ b. b || is_stop step.op) (set ∙ ap is_fault so_far) ∙ sets_by (head_in earlier) step.works step.op step.found fails
+      ∙ sym (ap (λ r. is_fault (either_of r (refused_by sizes call (head_in earlier) step.works step.op step.found))) so_far)
+  next_sets step earlier (Some refusal) so_far set own fails =
+      ap₂ (λ a b. a || b) (set ∙ ap is_fault so_far) (back_unset refusal step.op (sym (ap (λ r. is_own call r step.op) so_far) ∙ own)) ∙ or_false (is_fault (Some refusal))
+      ∙ sym (ap (λ r. is_fault (either_of r (refused_by sizes call (head_in earlier) step.works step.op step.found))) so_far)
+
+  -- its steps set STOP exactly where it is refused for a device fault
+  pub read_sets_stop : (steps : List PassStep) (now : PassState) → HasMade steps start now → AreOwn sizes (Read file at len) steps → stops_in steps ≡ is_fault (refusal_in sizes (Read file at len) steps)
+  read_sets_stop [] now all own = absurd own
+  read_sets_stop (step ∷ []) now all own =
+      next_sets step [] None refl refl own.1 (λ is. absurd (first_sets step all.0 now (ap (λ (p : PassState). p.view.opened) all.1) all.2 None own.1 own.0 is))
+  read_sets_stop (step ∷ (other ∷ earlier)) now all own =
+      let was = stands (other ∷ earlier) all.0 all.1 own.2 in
+      let refusal = refusal_in sizes call (other ∷ earlier) in
+      next_sets step (other ∷ earlier) refusal refl (read_sets_stop (other ∷ earlier) all.0 all.1 own.2) own.1 (later_sets step all.0 now was.opened all.2 refusal own.1 own.0 was.calm)
+
+-- ---- one that sets no STOP and takes no place
+
+passes_so : (file at len : ℕ) (refusal : Option Refusal) (op : Op) (found : ℕ) → is_own (Read file at len) refusal op ≡ true → is_stop op ≡ false → place_by op found ≡ None → is_passing op ≡ true
+passes_so file at len refusal (Load word) found own unset unplaced = refl
+passes_so file at len refusal (Take cell) found own unset unplaced = refl
+passes_so file at len refusal (Give cell) found own unset unplaced = refl
+passes_so file at len refusal (Hold number) found own unset unplaced = refl
+passes_so file at len refusal (Return number) found own unset unplaced = refl
+passes_so file at len refusal (Turn page) found own unset unplaced = refl
+passes_so file at len refusal (Hint buffer page) found own unset unplaced = refl
+passes_so file at len refusal (Place reply) found own unset unplaced = absurd (cc)
+passes_so file at len refusal Stop found own unset unplaced = absurd (cc)
+passes_so file at len None op found own unset unplaced = absurd (cc)
+passes_so file at len (Some refusal) op found own unset unplaced = absurd (cc)
+
+none_of : {T : Type 0} (one other : Option T) → either_of one other ≡ None → (one ≡ None) × (other ≡ None)
+none_of (Some one) other is = absurd (cc)
+none_of None other is = (refl, is)
+
+neither_of : (one other : Bool) → one || other ≡ false → (one ≡ false) × (other ≡ false)
+neither_of true other is = absurd (cc)
+neither_of false other is = (refl, is)
+
+-- its steps change nothing that stays
+pub read_passes : (sizes : Sizes) (file at len : ℕ) (steps : List PassStep) → AreOwn sizes (Read file at len) steps → stops_in steps ≡ false → place_in steps ≡ None → ArePassing steps
+read_passes sizes file at len [] own unset unplaced = tt
+read_passes sizes file at len (step ∷ []) own unset unplaced =
+    (passes_so file at len None step.op step.found own.1 (neither_of false (is_stop step.op) unset).1 (none_of None (place_by step.op step.found) unplaced).1, tt)
+read_passes sizes file at len (step ∷ (other ∷ earlier)) own unset unplaced =
+    let calm = neither_of (stops_in (other ∷ earlier)) (is_stop step.op) unset in
+    let none = none_of (place_in (other ∷ earlier)) (place_by step.op step.found) unplaced in
+    (passes_so file at len (refusal_in sizes (Read file at len) (other ∷ earlier)) step.op step.found own.1 calm.1 none.1, read_passes sizes file at len (other ∷ earlier) own.2 calm.0 none.0)
