@@ -2,6 +2,9 @@ pub mod AdvanceLaws
 pub mod BufferLaws
 pub mod EndLaws
 pub mod KeepsLaws
+pub mod ReadMeasures
+pub mod ReadStepLaws
+pub mod RunningLaws
 pub mod SearchFacts
 pub mod SearchLaws
 pub mod SearchMeasures

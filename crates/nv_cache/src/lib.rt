@@ -1,7 +1,11 @@
-//! The cache of pages: a read that misses a page searches a buffer for it, by the hand of the cache.
+//! The cache of pages: a read that misses a page searches a buffer for it, by the hand of the cache; and a read of a file as a whole, which goes through it.
 #![tactic(auto)]
 
+mod read;
+mod read_parts;
+mod read_told;
 mod search;
 mod ways;
 
+pub use read::RunningRead;
 pub use search::{Buffer, SearchControl, SearchMachine, find_buffer};
