@@ -1,6 +1,6 @@
 -- Read steps: of which kind each step of a running read is, and what comes of it.
 use Rattle.std.proofs.Common.{◌≡◌, ℕ, refl, sym, ap, subst, ◌∙◌}
-use Rattle.std.specs.Prelude.{Option, Some, None}
+use Rattle.std.specs.Prelude.{Option, Some, None, option_map, Ok, Err}
 use Rattle.nv_table.specs.state.States.{PassState}
 use Rattle.nv_table.specs.state.Views.{pass_of}
 use Rattle.nv_table.specs.steps.StepContracts.{Postcondition}
@@ -8,6 +8,7 @@ use Rattle.nv_table.proofs.steps.CallLaws.{IsCallFree}
 use Rattle.nv_op.specs.Ops.{core_op_of}
 use Rattle.nv_op.specs.declared.op.Op.TheVariants.{Place}
 use Rattle.nv_pages.specs.Altered.{IsAltered}
+use Rattle.nv_mirror.specs.declared.answers.Done.{Done}
 use Rattle.nv_mirror.specs.declared.front.FrontMachine.{FrontMachine}
 use Rattle.nv_mirror.specs.declared.load.LoadMachine.{LoadMachine}
 use Rattle.nv_mirror.specs.declared.pageless.PagelessMachine.{PagelessMachine}
@@ -26,8 +27,8 @@ use Rattle.nv_mirror.proofs.PartLaws.{device_faults, front_tells, load_tells, pa
 use Rattle.nv_mirror.proofs.StepLaws.{between_self, no_fault, taken_by}
 use Rattle.nv_op.specs.Ops.{opened_by}
 use Rattle.nv_cache.specs.declared.read.RunningRead.{RunningRead}
-use Rattle.nv_cache.specs.declared.read.RunningRead.TheVariants.{Pageless, Front, Load, TakePlace, Release}
-use Rattle.nv_cache.specs.ReadSteps.{HasMadeOne, read_fault, read_place}
+use Rattle.nv_cache.specs.declared.read.RunningRead.TheVariants.{Pageless, Front, Search, Load, TakePlace, Release, Over}
+use Rattle.nv_cache.specs.ReadSteps.{HasMadeOne, answer_at, read_answer, read_fault, read_place}
 
 pub front_one : (m next : FrontMachine) (start now new : PassState) (found : ℕ) → front.IsOpen m.control → front.IsUnderWay m start now
     → Postcondition now (opened_by (front.front_opens m)) (core_op_of now.view (front.front_op m)) found new → next ≡ front.front_after now.view.opened.sizes m found → HasMadeOne (Front m) (Front next) now new
@@ -73,3 +74,18 @@ place_one m next list start now new found way is next_is = record {
 pub settled_one : (read next then_ : RunningRead) (old mid new : PassState) → HasMadeOne read next old mid → IsAltered (λ kept. kept) mid new → read_fault then_ ≡ read_fault next → read_place then_ ≡ read_place next → HasMadeOne read then_ old new
 settled_one read next then_ old mid new one same fault place =
     record { step = one.step; taken = taken_same one.step old mid new same one.taken; kind = one.kind; fault = fault ∙ one.fault; place = place ∙ one.place }
+
+-- its answer tells its place
+pub answer_place : (read : RunningRead) → read_place read ≡ option_map (λ (done : Done). done.place) (read_answer read)
+answer_place (Pageless m) = by (pageless.pageless_place_at m.control)
+  where
+    by : (place : Option ℕ) → place ≡ option_map (λ (done : Done). done.place) (answer_at place 0)
+    by None = refl
+    by (Some place) = refl
+answer_place (Front m) = refl
+answer_place (Search of m) = refl
+answer_place (Load of m) = refl
+answer_place (TakePlace m) = refl
+answer_place (Release m copied) = refl
+answer_place (Over (Ok done)) = refl
+answer_place (Over (Err refusal)) = refl
