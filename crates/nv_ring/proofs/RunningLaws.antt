@@ -38,41 +38,22 @@ use Rattle.nv_mirror.specs.OwnSteps.{AreOwn}
 use Rattle.nv_mirror.specs.PassSteps.{refusal_in}
 use Rattle.nv_ring.specs.RunningWrites.{AsksForWrite, IsUnderWay, refusal_of, place_of, front_part, write_measure}
 use Rattle.nv_ring.specs.Ways.{released_of, refused_of}
-use Rattle.nv_mirror.proofs.EndsLaws.{call_ends}
-
-if_same : (b : Bool) (one other : FrontMachine) (asked : Asked) → one.asked ≡ asked → other.asked ≡ asked → (if b then one else other).asked ≡ asked
-if_same true one other asked same also = same
-if_same false one other asked same also = also
-
--- A call is over where its pass is idle and owns nothing.
-over_of : (call other : FileCall) (is : MirroredControl) (refusal : Option Refusal) (place : Option ℕ) (start now : PassState) → call ≡ other → InCall control_mirror call None is refusal place start now
-    → is.control ≡ Idle → is.owned ≡ [] → IsOver other refusal place start now
-over_of call other is refusal place start now same called control owned = subst (λ c. IsOver c refusal place start now) same record {
-  steps = called.steps;
-  made = called.made;
-  own = subst (λ (o : Opened). AreOwn o.sizes call called.steps) called.mount called.own;
-  refused = subst (λ (o : Opened). refusal_in o.sizes call called.steps ≡ refusal) called.mount called.refused;
-  placed = called.placed;
-  told = called.told;
-  idle = call_ends control_mirror call is refusal place start now called (ap (λ (c : MirroredControl). c.control) called.mirrors ∙ control) (ap (λ (c : MirroredControl). c.owned) called.mirrors ∙ owned);
-  later = called.later;
-  spare = called.spare;
-  mount = called.mount;
-}
+use Rattle.nv_mirror.proofs.EndsLaws.{call_over}
+use Rattle.nv_mirror.proofs.PartLaws.{front_keeps}
 
 pub pageless_over : (m : PagelessMachine) (result : Result ℕ Refusal) (call : FileCall) (start now : PassState) → m.control ≡ controls.Over result → IsUnderWay call (Pageless m) start now → IsOver call (refusal_of result) (place_of result) start now
 pageless_over m (Ok place) call start now control way =
-    over_of (call_asked m.asked) call _ None (Some place) start now way.0 (subst (λ c. pageless.IsInCall m.asked c start now) control way.1.1) refl refl
+    call_over (call_asked m.asked) call _ None (Some place) start now way.0 (subst (λ c. pageless.IsInCall m.asked c start now) control way.1.1) refl refl
 pageless_over m (Err refusal) call start now control way =
-    over_of (call_asked m.asked) call _ (Some refusal) None start now way.0 (subst (λ c. pageless.IsInCall m.asked c start now) control way.1.1) refl refl
+    call_over (call_asked m.asked) call _ (Some refusal) None start now way.0 (subst (λ c. pageless.IsInCall m.asked c start now) control way.1.1) refl refl
 
 pub front_over : (m : FrontMachine) (refusal : Refusal) (call : FileCall) (start now : PassState) → m.control ≡ fronts.Over refusal → IsUnderWay call (Front m) start now → IsOver call (Some refusal) None start now
 front_over m refusal call start now control way =
-    over_of (front.front_call_of m) call _ (Some refusal) None start now way.0 (subst (λ c. front.IsInCall m c start now) control way.2.1) refl refl
+    call_over (front.front_call_of m) call _ (Some refusal) None start now way.0 (subst (λ c. front.IsInCall m c start now) control way.2.1) refl refl
 
 pub release_over : (m : ReleaseMachine) (call : FileCall) (start now : PassState) → m.control ≡ releases.Over → IsUnderWay call (Release m) start now → IsOver call None (Some m.place) start now
 release_over m call start now control way =
-    over_of (release.release_call_of m) call _ None (Some m.place) start now way.0 (subst (λ c. release.IsInCall m c start now) control way.1.1) refl refl
+    call_over (release.release_call_of m) call _ None (Some m.place) start now way.0 (subst (λ c. release.IsInCall m c start now) control way.1.1) refl refl
 
 -- ---- what is given back first
 
@@ -98,26 +79,6 @@ asks_some (AsksRead file at len) write some = absurd write
 asks_some (AsksSync file) write some = absurd write
 
 -- ---- a step goes on with the same call
-
-front_asks : (sizes : Sizes) (m : FrontMachine) (control : FrontControl) (found : ℕ) → (front_after_at sizes m control found).asked ≡ m.asked
-front_asks sizes m fronts.Begin found = by_lock (found == 0)
-  where
-    by_lock : (b : Bool) → (front.locked sizes m b).asked ≡ m.asked
-    by_lock true = refl
-    by_lock false = refl
-front_asks sizes m fronts.TakePage found = by_lock (found == 0)
-  where
-    by_lock : (b : Bool) → (front.locked sizes m b).asked ≡ m.asked
-    by_lock true = refl
-    by_lock false = refl
-front_asks sizes m fronts.LoadLength found = refl
-front_asks sizes m fronts.TakeSize found = if_same (found == 0) _ _ m.asked refl refl
-front_asks sizes m fronts.LoadStop found = if_same (found == 0) _ _ m.asked refl refl
-front_asks sizes m fronts.LoadOrder found = if_same (nat_lt found (2 ^ 60)) _ _ m.asked refl refl
-front_asks sizes m (fronts.GiveBack true refusal) found = refl
-front_asks sizes m (fronts.GiveBack false refusal) found = refl
-front_asks sizes m fronts.Passed found = refl
-front_asks sizes m (fronts.Over refusal) found = refl
 
 draw_asks : (m : DrawMachine) (control : DrawControl) (found : ℕ) → draw.draw_asked (draw.noted m control found) ≡ draw.draw_asked m
 draw_asks m draws.LoadHead found = refl
@@ -162,7 +123,7 @@ append_falls m new was now stepped falls =
 
 pub front_goes : (sizes : Sizes) (m new : FrontMachine) (found : ℕ) (call : FileCall) (start now : PassState) → new ≡ front_after sizes m found → front.front_call_of m ≡ call → is_write (front.front_call_of m) ≡ true → front.IsUnderWay new start now → IsUnderWay call (Front new) start now
 front_goes sizes m new found call start now is same write way =
-    let asked = ap (λ (f : FrontMachine). call_asked f.asked) is ∙ ap call_asked (front_asks sizes m m.control found) in
+    let asked = ap front.front_call_of is ∙ front_keeps front.front_call_of (λ f held sized length control. refl) sizes m m.control found in
     (asked ∙ same, ap is_write asked ∙ write, way)
 
 pub append_goes : (m new : AppendMachine) (was now : PassState) (call : FileCall) (start : PassState) → HasStepped m new was now → append_call_of m ≡ call → append.IsUnderWay new start now → IsUnderWay call (Append new) start now

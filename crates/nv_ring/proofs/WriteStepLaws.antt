@@ -46,71 +46,19 @@ use Rattle.nv_ring.specs.WriteSteps.{HasMadeOne, IsFresh, first_kind, part_fault
 use Rattle.nv_mirror.specs.Controls.{MirroredControl}
 use Rattle.nv_table.proofs.steps.CallLaws.{IsCallFree}
 use Rattle.nv_ring.proofs.DrawLaws.{draw_free}
-use Rattle.nv_mirror.proofs.FrontLaws.{free}
-use Rattle.nv_mirror.proofs.PagelessLaws.{free as pageless_free}
+use Rattle.nv_mirror.proofs.PartLaws.{TellsFaults, front_tells, none_more, of_both, pageless_tells, release_tells}
 use Rattle.nv_mirror.proofs.StepLaws.{between_self, no_fault, taken_by}
 
--- both of two are so
-of_both : {T U : Type 0} (f : T → U) (b : Bool) (one other : T) (u : U) → f one ≡ u → f other ≡ u → f (if b then one else other) ≡ u
-of_both f true one other u first second = first
-of_both f false one other u first second = second
-
--- nothing more comes to a fault
-none_more : (fault : Option Refusal) → either_of fault None ≡ fault
-none_more None = refl
-none_more (Some fault) = refl
+part_faults : TellsFaults part_fault
+part_faults = record { none = refl; busy = λ cell. refl; stopped = refl; spent = λ found. refl }
 
 -- ---- a front
-
-rest_refused : (size : Bool) (held : ℕ) (refusal : Refusal) → front_refusal_at (front.rest size held refusal) ≡ Some refusal
-rest_refused true zero refusal = refl
-rest_refused true (suc held) refusal = refl
-rest_refused false zero refusal = refl
-rest_refused false (suc held) refusal = refl
-
-module _ (sizes : Sizes) (m : FrontMachine) (found : ℕ) where
-  abbrev fault_then : FrontMachine → Option Refusal
-  fault_then next = part_fault (front_refusal_at next.control)
-
-  locked_fault : (b : Bool) → fault_then (locked sizes m b) ≡ None
-  locked_fault true = ap part_fault (of_both front_refusal_at (m.first + m.held + 1 == m.last) fronts.LoadLength fronts.TakePage None refl refl)
-  locked_fault false = ap part_fault (rest_refused false m.held (Busy _))
-
-  front_fault : (control : FrontControl) → front.IsOpen control → fault_then (front_after_at sizes m control found) ≡ part_fault (front_refusal_at control)
-  front_fault fronts.Begin runs = locked_fault (found == 0)
-  front_fault fronts.TakePage runs = locked_fault (found == 0)
-  front_fault fronts.LoadLength runs = ap part_fault (of_both front_refusal_at _ fronts.TakeSize fronts.LoadStop None refl refl)
-  front_fault fronts.TakeSize runs = of_both fault_then (found == 0) _ _ None refl (ap part_fault (rest_refused false m.held (Busy _)))
-  front_fault fronts.LoadStop runs = of_both fault_then (found == 0) _ _ None refl (ap part_fault (rest_refused m.sized m.held Stopped))
-  front_fault fronts.LoadOrder runs = of_both fault_then (nat_lt found (2 ^ 60)) _ _ None refl (ap part_fault (rest_refused m.sized m.held (Spent found)))
-  front_fault Passed runs = absurd runs
-  front_fault (fronts.GiveBack true refusal) runs = ap part_fault (rest_refused false m.held refusal)
-  front_fault (fronts.GiveBack false refusal) runs = ap part_fault (rest_refused false (m.held - 1) refusal)
-  front_fault (Over refusal) runs = absurd runs
-
-  front_place : (view : PassView) (control : FrontControl) → place_by (core_op_of view (front_op_at m control)) found ≡ None
-  front_place view fronts.Begin = refl
-  front_place view fronts.TakePage = refl
-  front_place view fronts.LoadLength = refl
-  front_place view fronts.TakeSize = refl
-  front_place view fronts.LoadStop = refl
-  front_place view fronts.LoadOrder = refl
-  front_place view Passed = refl
-  front_place view (fronts.GiveBack true refusal) = refl
-  front_place view (fronts.GiveBack false refusal) = refl
-  front_place view (Over refusal) = refl
 
 pub front_one : (m next : FrontMachine) (start now new : PassState) (found : ℕ) → front.IsOpen m.control → front.IsUnderWay m start now
     → Postcondition now (opened_by (front_opens m)) (core_op_of now.view (front_op m)) found new → next ≡ front_after now.view.opened.sizes m found → HasMadeOne (Front m) (Front next) now new
 front_one m next start now new found runs way is next_is =
-    let none = no_fault now new _ _ found (free m m.control start now runs way.1) is in record {
-      step = record { opens = opened_by (front_opens m); works = is.works; op = core_op_of now.view (front_op m); found = found };
-      taken = taken_by now now new _ _ found (between_self now) is;
-      kind = λ well. kind_same now.view (front_op m);
-      fault = ap (λ (n : FrontMachine). part_fault (front_refusal_at n.control)) next_is ∙ front_fault now.view.opened.sizes m found m.control runs
-          ∙ sym (ap (either_of (part_fault (front_refusal_at m.control))) none ∙ none_more (part_fault (front_refusal_at m.control)));
-      place = sym (front_place now.view.opened.sizes m found now.view m.control);
-    }
+    let told = front_tells part_fault part_faults m next start now new found runs way is next_is in
+    record { step = told.step; taken = told.taken; kind = told.kind; fault = told.fault; place = told.placed }
 
 -- ---- a draw
 
@@ -209,48 +157,20 @@ append_one m next now new runs is =
 
 -- ---- a call without a page
 
-module _ (found : ℕ) where
-  pageless_place : (view : PassView) (control : PagelessControl) → pageless.IsOpen control
-      → pageless_place_at (pageless_after control found) ≡ either_of (pageless_place_at control) (place_by (core_op_of view (pageless_op control)) found)
-  pageless_place view controls.Begin runs = of_both pageless_place_at (found == 0) _ _ None refl refl
-  pageless_place view controls.LoadOrder runs = of_both pageless_place_at (nat_lt found (2 ^ 60)) _ _ None refl refl
-  pageless_place view controls.TakePlace runs = refl
-  pageless_place view (controls.Over answer) runs = absurd runs
-
-  pageless_fault : (control : PagelessControl) → pageless.IsOpen control → part_fault (pageless_refusal_at (pageless_after control found)) ≡ part_fault (pageless_refusal_at control)
-  pageless_fault controls.Begin runs = of_both (λ c. part_fault (pageless_refusal_at c)) (found == 0) _ _ None refl refl
-  pageless_fault controls.LoadOrder runs = of_both (λ c. part_fault (pageless_refusal_at c)) (nat_lt found (2 ^ 60)) _ _ None refl refl
-  pageless_fault controls.TakePlace runs = refl
-  pageless_fault (controls.Over answer) runs = absurd runs
-
 pub pageless_one : (m next : PagelessMachine) (start now new : PassState) (found : ℕ) → pageless.IsOpen m.control → pageless.IsUnderWay m start now
     → Postcondition now (opened_by (pageless.pageless_opens m)) (core_op_of now.view (pageless_op m.control)) found new → next.control ≡ pageless_after m.control found
     → HasMadeOne (Pageless m) (Pageless next) now new
-pageless_one m next start now new found runs way is next_is = record {
-  step = record { opens = opened_by (pageless.pageless_opens m); works = is.works; op = core_op_of now.view (pageless_op m.control); found = found };
-  taken = taken_by now now new _ _ found (between_self now) is;
-  kind = λ well. kind_same now.view (pageless_op m.control);
-  fault = ap (λ c. part_fault (pageless_refusal_at c)) next_is ∙ pageless_fault found m.control runs
-      ∙ sym (ap (either_of (part_fault (pageless_refusal_at m.control))) (no_fault now new _ _ found (pageless_free m.asked m.control start now runs way.1) is) ∙ none_more (part_fault (pageless_refusal_at m.control)));
-  place = ap pageless_place_at next_is ∙ pageless_place found now.view m.control runs;
-}
+pageless_one m next start now new found runs way is next_is =
+    let told = pageless_tells part_fault part_faults m next start now new found runs way is next_is in
+    record { step = told.step; taken = told.taken; kind = told.kind; fault = told.fault; place = told.placed }
 
 -- ---- what is given back
 
-release_free : (m : ReleaseMachine) (control : ReleaseControl) (start now : PassState) → release.IsOpen control → release.IsInCall m control start now → IsCallFree (pass_of now.view).control
-release_free m releases.GiveSize start now runs way = subst (λ (c : MirroredControl). IsCallFree c.control) (sym way.mirrors) (λ sizes values pass work due. due)
-release_free m (releases.GivePage given) start now runs way = subst (λ (c : MirroredControl). IsCallFree c.control) (sym way.mirrors) (λ sizes values pass work due. due)
-release_free m releases.Over start now runs way = absurd runs
-
 pub release_one : (m next : ReleaseMachine) (start now new : PassState) (found : ℕ) → release.IsOpen m.control → release.IsUnderWay m start now
     → Postcondition now None (core_op_of now.view (release_op m)) found new → next ≡ release_after m → HasMadeOne (Release m) (Release next) now new
-release_one m next start now new found runs way is next_is = record {
-  step = record { opens = None; works = is.works; op = core_op_of now.view (release_op m); found = found };
-  taken = taken_by now now new _ _ found (between_self now) is;
-  kind = λ well. kind_same now.view (release_op m);
-  fault = sym (no_fault now new _ _ found (release_free m m.control start now runs way.1) is);
-  place = ap (λ (n : ReleaseMachine). Some n.place) next_is;
-}
+release_one m next start now new found runs way is next_is =
+    let told = release_tells part_fault part_faults m next start now new found runs way is next_is in
+    record { step = told.step; taken = told.taken; kind = told.kind; fault = told.fault; place = told.placed }
 
 -- ---- where a part is over
 
