@@ -9,6 +9,7 @@ pub mod FetchedLaws
 pub mod FrontLaws
 pub mod HadLaws
 pub mod HistoryLaws
+pub mod LoadAnswerLaws
 pub mod LoadLaws
 pub mod LoadMeasures
 pub mod LoadSlots

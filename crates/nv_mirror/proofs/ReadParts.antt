@@ -17,7 +17,7 @@ use Rattle.nv_mirror.specs.declared.visit.VisitMachine.{VisitMachine}
 use Rattle.nv_mirror.specs.Answers.{IsReadPlaced}
 use Rattle.nv_mirror.specs.Loads.{HasStepped, load_after, load_noted}
 use Rattle.nv_mirror.specs.PassSteps.{PassStep, HasTaken}
-use Rattle.nv_mirror.specs.Visits.{IsLoadOf}
+use Rattle.nv_mirror.specs.Visits.{IsLoadOf, load_of}
 use Rattle.nv_mirror.proofs.StepLaws.{opened_same}
 
 -- the mount is the same behind a step with the device calls before it
@@ -42,11 +42,14 @@ noted_same load (loads.GiveBackStore dirty) found = refl
 noted_same load (loads.GiveBackCleanup refusal) found = refl
 noted_same load (loads.Refused refusal) found = refl
 
-pub load_of_still : (visit : VisitMachine) (old new : LoadMachine) (was now : PassState) → HasStepped old new was now → IsLoadOf old visit → IsLoadOf new visit
-load_of_still visit old new was now stepped is =
-    subst (λ (n : LoadMachine). IsLoadOf n visit) (sym stepped.next)
+pub load_still : (first old new : LoadMachine) (was now : PassState) → HasStepped old new was now → old ≡ record first { head = old.head; control = old.control } → new ≡ record first { head = new.head; control = new.control }
+load_still first old new was now stepped is =
+    subst (λ (n : LoadMachine). n ≡ record first { head = n.head; control = n.control }) (sym stepped.next)
     (ap (λ (l : LoadMachine). record l { control = (load_after was.view.opened.sizes old stepped.failed stepped.step.found).control }) (noted_same old old.control stepped.step.found)
     ∙ ap (λ (l : LoadMachine). record l { head = (load_noted old old.control stepped.step.found).head; control = (load_after was.view.opened.sizes old stepped.failed stepped.step.found).control }) is)
+
+pub load_of_still : (visit : VisitMachine) (old new : LoadMachine) (was now : PassState) → HasStepped old new was now → IsLoadOf old visit → IsLoadOf new visit
+load_of_still visit old new was now stepped is = load_still (load_of visit) old new was now stepped is
 
 -- what a placed read has told stays, where it gives something back
 pub told_still : (file from : ℕ) (list : List ℕ) (start was now : PassState) (done : Done) (cell : Word) (found : ℕ) → Postcondition was None (Give cell) found now → IsReadPlaced file from list start.view was.view done → IsReadPlaced file from list start.view now.view done

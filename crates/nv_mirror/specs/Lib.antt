@@ -2,6 +2,7 @@ pub mod Answers
 pub mod Controls
 pub mod Copied
 pub mod Fronts
+pub mod LoadAnswers
 pub mod Loads
 pub mod OwnSteps
 pub mod OwnedCells
