@@ -21,6 +21,7 @@ pub mod OwnedLaws
 pub mod PageLaws
 pub mod PagelessLaws
 pub mod PartLaws
+pub mod PartSpans
 pub mod PieceReadLaws
 pub mod ReadParts
 pub mod ReleaseLaws

@@ -1,12 +1,11 @@
 -- Visits: a read copies what the buffers of its pages have, and knows what comes next.
-use Rattle.std.proofs.Common.{◌≡◌, ◌⊎◌, ℕ, ◌+◌, ◌-◌, ◌%◌, ◌<◌, ◌≤◌, true, false, List, length, inl, inr, refl, sym, ap, subst, ◌∙◌, arith}
+use Rattle.std.proofs.Common.{◌≡◌, ◌⊎◌, ℕ, ◌+◌, ◌%◌, ◌<◌, ◌≤◌, nat_lt, Bool, true, false, List, length, inl, inr, refl, sym, ap, subst, ◌∙◌, arith}
 use Rattle.std.specs.Prelude.{Some, None}
-use Rattle.std.proofs.lemmas.Bool.{cases_eq}
+use Rattle.std.proofs.lemmas.Bool.{cases_eq, ltb-true}
 use Rattle.nv_plain.specs.Files.{bytes_at}
-use Rattle.nv_plain.specs.Pieces.{piece_of}
 use Rattle.nv_core.specs.state.Words.{Sizes, DIRTY, PAGE, page_total}
 use Rattle.nv_core.specs.state.Values.{is_valid, bytes_in, lacks_buffer}
-use Rattle.nv_core.specs.state.Passes.{first_page, end_read, covered, times}
+use Rattle.nv_core.specs.state.Passes.{end_read, covered, times}
 use Rattle.nv_core.specs.invariant.ControlFacts.{IsPage}
 use Rattle.nv_core.specs.steps.Ops as core
 use Rattle.nv_core.specs.steps.Order.{Values}
@@ -44,16 +43,9 @@ of_kept old new P is still all =
 pub visit_fits : (sizes : Sizes) (m : VisitMachine) (from page copied : ℕ) (control : VisitControl) → Fits sizes m → Fits sizes (record m { from = from; page = page; copied = copied; control = control })
 visit_fits sizes m from page copied control fits = record { allowed = fits.allowed; some = fits.some; first = fits.first; pages = fits.pages }
 
--- the end of what is read, by a layout of the mount
-pub before_end : (m : VisitMachine) (layout sizes : Sizes) (page end : ℕ) → layout ≡ sizes → end ≡ end_read layout (visit_call_of m) m.length → page < end → page < end_read sizes (visit_call_of m) m.length
-before_end m layout sizes page end same is low = subst (λ n. page < n) (is ∙ ap (λ s. end_read s (visit_call_of m) m.length) same) low
-
--- the piece of a page as the code cuts it
-pub piece_is : (m : VisitMachine) (layout sizes : Sizes) (page covers : ℕ) → layout ≡ sizes → m.first ≡ first_page sizes (visit_call_of m) → covers ≡ covered (visit_call_of m) m.length
-    → piece_of m.at covers layout.page (page - m.first) ≡ page_piece sizes (visit_call_of m) m.length page
-piece_is m layout sizes page covers same first is =
-    ap (λ n. piece_of m.at n layout.page (page - m.first)) is ∙ ap (λ (s : Sizes). piece_of m.at (covered (visit_call_of m) m.length) s.page (page - m.first)) same
-    ∙ ap (λ n. piece_of m.at (covered (visit_call_of m) m.length) sizes.page (page - n)) first
+-- a page that has bytes of the reply, by a layout of the mount
+pub before_end : (m : VisitMachine) (layout sizes : Sizes) (page : ℕ) (has : Bool) → layout ≡ sizes → has ≡ nat_lt page (end_read layout (visit_call_of m) m.length) → has ≡ true → page < end_read sizes (visit_call_of m) m.length
+before_end m layout sizes page has same is so = subst (λ s. page < end_read s (visit_call_of m) m.length) same (ltb-true page (end_read layout (visit_call_of m) m.length) (sym is ∙ so))
 
 module _ (m : VisitMachine) (control : VisitControl) (list : List ℕ) (start now : PassState) (fits : Fits now.view.opened.sizes m) (way : IsInCall m control list start now) (more : m.page < end_read now.view.opened.sizes (visit_call_of m) m.length) where
   abbrev sizes : Sizes

@@ -13,7 +13,6 @@ ghost use Rattle.nv_mirror.specs.declared.load.LoadMachine.{LoadMachine};
 ghost use Rattle.nv_mirror.specs.declared.visit.VisitControl.TheVariants as visits;
 
 use crate::{FrontMachine, LoadControl, LoadMachine, VisitControl, VisitMachine};
-use nv_entry::cut;
 use nv_op::Asked;
 use nv_table::Layout;
 
@@ -114,13 +113,12 @@ impl VisitMachine {
         ensures machine { result ≡ visits_next self (page_piece (sizes_of layout) (visit_call_of self) self.length self.page).size }
         ensures way { (load : LoadMachine) (start now : PassState) → now.view.opened.sizes ≡ sizes_of layout → IsLoadOf load self → load.control ≡ loads.Loaded → IsLoadUnderWay load room.now start now → Carries self list.old now → IsUnderWay result list.new start now }
     {
-        let span = cut(self.at, self.covered(), layout.page, self.page - self.first);
-        let from = (span.at % layout.page) as usize;
-        put_part(list, self.copied as usize, room, from, span.size as usize);
+        let (from, size) = self.part_of(layout, self.page);
+        put_part(list, self.copied as usize, room, from, size);
         VisitMachine {
             from: self.page + 1,
             page: self.page + 1,
-            copied: self.copied + span.size,
+            copied: self.copied + size as u64,
             control: VisitControl::Look,
             ..self
         }

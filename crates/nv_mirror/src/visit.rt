@@ -1,6 +1,6 @@
 //! A read at its pages: the bytes of those whose buffers are valid come to the front of its list, and the first other one is missed; behind its last page it
 //! takes its place.
-ghost use Rattle.std.specs.Prelude.{◌≡◌, ◌≢◌, ◌⊎◌, ℕ, ◌+◌, ◌<◌, ◌≤◌, List, length, true, false, if◌then◌else◌, None};
+ghost use Rattle.std.specs.Prelude.{◌≡◌, ◌≢◌, ◌⊎◌, ℕ, ◌+◌, ◌-◌, ◌*◌, ◌/◌, ◌%◌, ◌<◌, ◌≤◌, nat_lt, List, length, true, false, if◌then◌else◌, None};
 ghost use Rattle.nv_core.specs.state.Passes.{covered, end_read};
 ghost use Rattle.nv_core.specs.state.Values.{is_valid, lacks_buffer};
 ghost use Rattle.nv_core.specs.state.Words.{PAGE, page_total};
@@ -16,12 +16,11 @@ ghost use Rattle.nv_mirror.specs.Answers.{IsReadPlaced};
 ghost use Rattle.nv_mirror.specs.Copied.{IsPut};
 ghost use Rattle.nv_mirror.specs.Releases.{IsUnderWay as IsReleaseUnderWay};
 ghost use Rattle.nv_mirror.specs.declared.release.ReleaseControl.TheVariants as releases;
-ghost use Rattle.nv_mirror.specs.Visits.{Fits, HasLooked, IsInCall, IsUnderWay, KnowsAt, read_released, visit_call_of};
+ghost use Rattle.nv_mirror.specs.Visits.{Fits, HasLooked, IsInCall, IsUnderWay, KnowsAt, page_piece, read_released, visit_call_of};
 ghost use Rattle.nv_mirror.specs.declared.visit.VisitControl.TheVariants as visits;
 
 use crate::{ReleaseControl, ReleaseMachine};
 use nv_core::{runs_are_sound, runs_keep_content};
-use nv_entry::{cut, piece_count};
 use nv_op::{Asked, Op, perform};
 use nv_pages::{copy_page, lacks_buffer};
 use nv_plain::history_goes_on;
@@ -92,12 +91,40 @@ impl VisitMachine {
         self.len.min(self.length.saturating_sub(self.at))
     }
 
-    // The page behind the last that has bytes of the reply.
-    fn end_read(self, layout: Layout) -> u64
-        requires { Fits (sizes_of layout) self }
-        ensures { result ≡ end_read (sizes_of layout) (visit_call_of self) self.length }
+    // Where one of its pages begins in its file: by products alone, since its first page is known.
+    fn begin_of(self, layout: Layout, page: u64) -> u64
+        requires fits { Fits (sizes_of layout) self }
+        requires own { self.first ≤ page }
+        requires within { page ≤ self.first + self.pages }
+        ensures { result ≡ (self.at / layout.page + (page - self.first)) * layout.page }
     {
-        self.first + piece_count(self.at, self.covered(), layout.page)
+        (page - self.file * layout.pages) * layout.page
+    }
+
+    // Whether a page has bytes of the reply.
+    fn has_bytes(self, layout: Layout, page: u64) -> bool
+        requires fits { Fits (sizes_of layout) self }
+        requires own { self.first ≤ page }
+        requires within { page ≤ self.first + self.pages }
+        ensures { result ≡ nat_lt page (end_read (sizes_of layout) (visit_call_of self) self.length) }
+    {
+        let covered = self.covered();
+        covered > 0 && self.begin_of(layout, page) < self.at + covered
+    }
+
+    // Which bytes of a page belong to the reply: their offset in the page, and how many they are.
+    pub(crate) fn part_of(self, layout: Layout, page: u64) -> (usize, usize)
+        requires fits { Fits (sizes_of layout) self }
+        requires own { self.first ≤ page }
+        requires within { page < end_read (sizes_of layout) (visit_call_of self) self.length }
+        ensures at { result.0 ≡ (page_piece (sizes_of layout) (visit_call_of self) self.length page).at % layout.page }
+        ensures size { result.1 ≡ (page_piece (sizes_of layout) (visit_call_of self) self.length page).size }
+        ensures inside { (page_piece (sizes_of layout) (visit_call_of self) self.length page).from + result.1 ≤ covered (visit_call_of self) self.length }
+    {
+        let begin = self.begin_of(layout, page);
+        let at = self.at.saturating_sub(begin);
+        let end = (self.at + self.covered() - begin).min(layout.page);
+        (at as usize, (end - at) as usize)
     }
 
     // Copies what the buffers of pages have, from the first on whose bytes aren't in the list, as long as these are valid. The result is the first whose buffer isn't,
@@ -117,15 +144,11 @@ impl VisitMachine {
         // What it has fetched lies below the page at which its pass stands.
         pass.sees_a_run();
         let layout = board.layout();
-        let covered = self.covered();
-        let end = self.end_read(layout);
         let mut copied = self.copied;
         let mut page = self.page;
-        while page < end {
-            let span = cut(self.at, covered, layout.page, page - self.first);
-            let at = (span.at % layout.page) as usize;
-            let (place, size) = (copied as usize, span.size as usize);
-            let Some(count) = copy_part(board, pass, page, at, list, place, size) else {
+        while self.has_bytes(layout, page) {
+            let (at, size) = self.part_of(layout, page);
+            let Some(count) = copy_part(board, pass, page, at, list, copied as usize, size) else {
                 break;
             };
             copied += count as u64;
@@ -165,7 +188,7 @@ impl VisitMachine {
         ensures knows { KnowsAt self result pass.old }
     {
         let layout = board.layout();
-        if self.page == self.end_read(layout) {
+        if !self.has_bytes(layout, self.page) {
             return VisitControl::TakePlace;
         }
         if self.lacks(board, pass) {
