@@ -121,6 +121,6 @@ impl RunningRead {
         ensures way { (call : FileCall) (start : PassState) → IsUnderWay call self.old list.old room.old start pass.old → IsUnderWay call self.new list.new room.new start pass.new }
     {
         self.step(board, pass, room, piece);
-        *self = self.settled(board, pass, room, list);
+        self.settle(board, pass, room, list);
     }
 }

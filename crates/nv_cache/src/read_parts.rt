@@ -63,62 +63,66 @@ impl RunningRead {
     }
 
     // Goes on to its next part where one is over.
-    pub(crate) fn settled<L: Lines, B: Backing>(
-        self,
+    pub(crate) fn settle<L: Lines, B: Backing>(
+        &mut self,
         board: &Board<L, B>,
         pass: &mut Pass<L, B>,
         room: &[u8],
         list: &mut [u8],
-    ) -> Self
+    )
         requires board { IsOf board.now pass.old }
-        requires room { needs_rooms self ≡ true → length room.now ≡ pass.old.view.opened.sizes.page }
-        requires way { (call : FileCall) × (start : PassState) × IsUnderWay call self list.old room.now start pass.old }
+        requires room { needs_rooms self.old ≡ true → length room.now ≡ pass.old.view.opened.sizes.page }
+        requires way { (call : FileCall) × (start : PassState) × IsUnderWay call self.old list.old room.now start pass.old }
         ensures board { IsOf board.now pass.new }
         ensures same { IsAltered (λ kept. kept) pass.old pass.new }
-        ensures settled { IsSettled result }
-        ensures falls { read_measure pass.old.view.opened.sizes result ≤ read_measure pass.old.view.opened.sizes self }
-        ensures fault { read_fault result ≡ read_fault self }
-        ensures place { read_place result ≡ read_place self }
-        ensures bare { needs_rooms self ≡ false → holds_page result ≡ false }
-        ensures way { (call : FileCall) (start : PassState) → IsUnderWay call self list.old room.now start pass.old → IsUnderWay call result list.new room.now start pass.new }
+        ensures settled { IsSettled self.new }
+        ensures falls { read_measure pass.old.view.opened.sizes self.new ≤ read_measure pass.old.view.opened.sizes self.old }
+        ensures fault { read_fault self.new ≡ read_fault self.old }
+        ensures place { read_place self.new ≡ read_place self.old }
+        ensures bare { needs_rooms self.old ≡ false → holds_page self.new ≡ false }
+        ensures way { (call : FileCall) (start : PassState) → IsUnderWay call self.old list.old room.now start pass.old → IsUnderWay call self.new list.new room.now start pass.new }
     {
-        match self {
-            RunningRead::Pageless(m) => match m.control {
-                PagelessControl::Over(result) => RunningRead::Over(empty_answer(result)),
-                _ => self,
-            },
+        match *self {
+            RunningRead::Pageless(m) => {
+                if let PagelessControl::Over(result) = m.control {
+                    *self = RunningRead::Over(empty_answer(result));
+                }
+            }
             RunningRead::Front(m) => match m.control {
                 FrontControl::Passed => {
                     let visit = m.visit(board.layout());
-                    RunningRead::looked(visit, board, pass, list)
+                    *self = RunningRead::looked(visit, board, pass, list);
                 }
-                FrontControl::Over(refusal) => RunningRead::Over(Err(refusal)),
-                _ => self,
+                FrontControl::Over(refusal) => *self = RunningRead::Over(Err(refusal)),
+                _ => {}
             },
             RunningRead::Search { visit, search } => match search.control {
-                SearchControl::Found { .. } | SearchControl::NotFound { .. } => RunningRead::Load {
-                    visit,
-                    load: search.load(),
-                },
-                _ => self,
+                SearchControl::Found { .. } | SearchControl::NotFound { .. } => {
+                    let load = search.load();
+                    *self = RunningRead::Load { visit, load };
+                }
+                _ => {}
             },
             RunningRead::Load { visit, load } => match load.control {
                 LoadControl::Loaded => {
                     let next = visit.pass_page(board.layout(), room, list);
-                    RunningRead::looked(next, board, pass, list)
+                    *self = RunningRead::looked(next, board, pass, list);
                 }
-                LoadControl::Refused(_) => RunningRead::Front(load.give_back(board.layout())),
-                _ => self,
+                LoadControl::Refused(_) => {
+                    *self = RunningRead::Front(load.give_back(board.layout()));
+                }
+                _ => {}
             },
-            RunningRead::TakePlace(_) => self,
-            RunningRead::Release { release, copied } => match release.control {
-                ReleaseControl::Over => RunningRead::Over(Ok(Done {
-                    place: release.place,
-                    len: copied,
-                })),
-                _ => self,
-            },
-            RunningRead::Over(_) => self,
+            RunningRead::TakePlace(_) => {}
+            RunningRead::Release { release, copied } => {
+                if let ReleaseControl::Over = release.control {
+                    *self = RunningRead::Over(Ok(Done {
+                        place: release.place,
+                        len: copied,
+                    }));
+                }
+            }
+            RunningRead::Over(_) => {}
         }
     }
 }

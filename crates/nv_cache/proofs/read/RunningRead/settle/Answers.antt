@@ -7,7 +7,7 @@ use Rattle.nv_cache.specs.declared.read.RunningRead.{RunningRead}
 use Rattle.nv_cache.specs.declared.read.RunningRead.TheVariants.{Over}
 use Rattle.nv_cache.specs.RunningReads.{IsUnderWay}
 use Rattle.nv_cache.proofs.RunningLaws.{front_over, pageless_over, release_over, search_loads}
-use Rattle.nv_cache.proofs.read.RunningRead.settled.Goals as goal
+use Rattle.nv_cache.proofs.read.RunningRead.settle.Goals as goal
 
 -- ---- a look at its pages
 
@@ -33,7 +33,7 @@ returns-in-Loaded-clause-way g c call start before =
 
 pub returns-in-Found-clause-way : goal.returns-in-Found-clause-way
 returns-in-Found-clause-way g c call start way =
-    search_loads c.in-Search.visit c.in-Search.search c.load.result call c.args.list.now c.args.room.now start c.args.pass.now c.load.ensures.machine (c.load.ensures.way c.args.room.now start c.args.pass.now)
+    search_loads c.in-Search.visit c.in-Search.search c.load-load.result call c.args.list.now c.args.room.now start c.args.pass.now c.load-load.ensures.machine (c.load-load.ensures.way c.args.room.now start c.args.pass.now)
     (subst (λ (w : RunningRead). IsUnderWay call w c.args.list.now c.args.room.now start c.args.pass.now) c.in-Search.is way)
 
 -- ---- the end
