@@ -1,3 +1,2 @@
--- Fsync: what its steps tell.
-pub mod SyncLaws
+-- Fsync: what its steps are, and what they tell.
 pub mod MachineLaws

@@ -3,7 +3,7 @@
 
 mod alone;
 mod laws;
-mod machine;
+mod progress;
 mod range;
 mod read;
 mod read_begin;
@@ -15,16 +15,18 @@ mod read_search;
 mod read_steps;
 mod reading;
 mod sync;
+mod syncing;
 mod write;
 mod writing;
 
 pub use alone::a_read_alone_is_not_busy;
 pub use laws::{calls_are_complete, ended_calls_heed_stop, refused_writes_leave_words};
-pub use machine::{Progress, SyncControl, SyncMachine};
 pub use nv_mirror::{Done, Refusal};
 pub use nv_op::Kind;
+pub use progress::Progress;
 pub use read::{pread, try_pread};
 pub use reading::{Held, MOST_PAGE, ReadControl, ReadMachine};
 pub use sync::try_fsync;
+pub use syncing::{SyncControl, SyncMachine};
 pub use write::{pwrite, try_pwrite};
 pub use writing::{WriteControl, WriteMachine};

@@ -1,6 +1,5 @@
 //! An fsync, which has nothing to do but to take its place in the history.
-ghost use Rattle.std.specs.Prelude.{◌≡◌, ◌<◌, Some, IfOk, OnErr};
-ghost use Rattle.nv_plain.specs.declared.call.FileCall.TheVariants.{Sync};
+ghost use Rattle.std.specs.Prelude.{◌≡◌, IfOk, OnErr};
 ghost use Rattle.nv_table.specs.invariant.Idle.{IsIdle, IsLater};
 ghost use Rattle.nv_table.specs.state.States.{IsOf};
 ghost use Rattle.nv_mirror.specs.Answers.{IsSyncPlaced, IsUnplaced};
@@ -9,44 +8,12 @@ ghost use Rattle.nv_calls.specs.histories.Complete.{IsCompleteSync};
 ghost use Rattle.nv_calls.specs.histories.Heeds.{SyncHeedsStop};
 
 use crate::{calls_are_complete, ended_calls_heed_stop};
-use nv_mirror::{Done, Refusal};
+use nv_mirror::{Done, PagelessControl, PagelessMachine, Refusal};
 use nv_mount::Mount;
+use nv_op::Asked;
 use nv_pmem::Lines;
 use nv_store::Backing;
-use nv_table::{Board, Calls, ORDER, Pass, begin_with_load, load_word, place};
-use std::marker::Brand;
-
-// A sync of a file.
-fn sync_by<C: Calls, L: Lines, B: Backing>(
-    board: &Board<L, B>,
-    pass: &mut Pass<L, B>,
-    file: u64,
-) -> Result<Done, Refusal>
-    requires board { IsOf board.now pass.old }
-    requires idle { IsIdle pass.old }
-    requires call { C.call ≡ Sync file }
-    requires known { file < board.now.opened.sizes.files }
-    ensures board { IsOf board.now pass.new }
-    ensures idle { IsIdle pass.new }
-    ensures later { IsLater pass.old pass.new }
-    ensures spare { pass.new.spare ≡ pass.old.spare }
-    ensures done { IfOk result (λ done. IsSyncPlaced (Some file) pass.old.view pass.new.view done.place) }
-    ensures len { IfOk result (λ done. done.len ≡ 0) }
-    ensures kept { OnErr result (IsUnplaced pass.old.view pass.new.view) }
-    ensures sync_run { IsSyncRun (Some file) pass.old pass.new result }
-{
-    // Only clauses speak of the file: a sync's steps are the same for each.
-    let _ = file;
-    if begin_with_load::<C, L, B>(board, pass) != 0 {
-        return Err(Refusal::Stopped);
-    }
-    let found = load_word(board, pass, ORDER);
-    if found >= 1 << 60 {
-        return Err(Refusal::Spent { found });
-    }
-    let place = place(board, pass);
-    Ok(Done { place, len: 0 })
-}
+use nv_table::Pass;
 
 /// Syncs the file of a descriptor: takes the call's place in the history, which is how many calls stand before it. Refused exactly where no
 /// descriptor has this number, before any step; then where STOP was found set; and then where ORDER was found used up. Takes no memory, and
@@ -72,8 +39,15 @@ pub fn try_fsync<L: Lines + Drop, B: Backing + Drop>(
     ended_calls_heed_stop();
     calls_are_complete();
     pass.sees_a_run();
-    match mount.fds().get(fd) {
-        Some(open) => sync_by::<Brand, L, B>(mount.board(), pass, open.file),
-        None => Err(Refusal::BadFd),
+    let Some(open) = mount.fds().get(fd) else {
+        return Err(Refusal::BadFd);
+    };
+    let mut sync = PagelessMachine::new(Asked::Sync { file: open.file });
+    loop {
+        match sync.control {
+            PagelessControl::Over(Ok(place)) => return Ok(Done { place, len: 0 }),
+            PagelessControl::Over(Err(refusal)) => return Err(refusal),
+            _ => sync.advance(mount.board(), pass),
+        }
     }
 }

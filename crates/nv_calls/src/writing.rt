@@ -2,8 +2,9 @@
 ghost use Rattle.std.specs.Prelude.{◌≡◌, [], is_some};
 ghost use Rattle.nv_table.specs.state.States.{IsOf, PassState};
 ghost use Rattle.nv_table.specs.state.Workspaces.{IsWorkspace};
+ghost use Rattle.nv_calls.specs.calls.Advances.{IsFewer, IsOneOrNone};
 ghost use Rattle.nv_calls.specs.declared.writing.WriteControl.TheVariants as writes;
-ghost use Rattle.nv_calls.specs.writes.WriteMachines.{IsFewer, IsOneOrNone, IsPutIn, IsSameWrite, IsWriteUnderWay, WriteGoes, fault_so_far, next_kind_of, placed_by, progress_of};
+ghost use Rattle.nv_calls.specs.writes.WriteMachines.{IsPutIn, IsSameWrite, IsWriteUnderWay, WriteGoes, early_of, fault_so_far, measure, next_kind_of, placed_by, progress_of, standing};
 
 use crate::Progress;
 use crate::write::admit;
@@ -133,8 +134,8 @@ impl WriteMachine {
         requires bare { workspace.old.parts.items ≡ [] }
         ensures board { IsOf mount.now.board pass.new }
         ensures same { IsSameWrite self.old self.new }
-        ensures one { IsOneOrNone mount.now.fds self.old self.new pass.old pass.new result }
-        ensures fewer { IsFewer pass.old.view.opened.sizes self.old self.new result }
+        ensures one { IsOneOrNone standing (early_of pass.old.view.opened.sizes mount.now.fds self.old) self.old self.new pass.old pass.new result }
+        ensures fewer { IsFewer (measure pass.old.view.opened.sizes) self.old self.new result }
         ensures goes { (start : PassState) → IsWriteUnderWay mount.now.fds self.old list.now start pass.old → WriteGoes mount.now.fds start self.new list.now pass.new result }
         ensures workspace { IsWorkspace mount.now.board.opened.sizes workspace.new }
         ensures bare { workspace.new.parts.items ≡ [] }

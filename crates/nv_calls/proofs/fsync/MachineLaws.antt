@@ -1,108 +1,143 @@
--- Machines: when the step of each control state is due, and what it leads to.
-use Rattle.std.proofs.Common.{◌≡◌, ◌≢◌, ℕ, ◌<◌, ◌≤◌, ◌^◌, refl, sym, subst, ◌∙◌}
-use Rattle.std.specs.Prelude.{Option, Some, None, Ok, Err}
+-- Machines: what the steps of a sync are, one after another, and what they tell at its end.
+use Rattle.std.proofs.Common.{◌≡◌, ℕ, ◌==◌, ◌^◌, nat_lt, Bool, true, false, if◌then◌else◌, refl, sym, ap, subst, ◌∙◌, eqb-true}
+use Rattle.std.proofs.lemmas.Bool.{eqb-false, ltb-true, ltb-false}
+use Rattle.std.specs.Prelude.{List, Option, Some, None, Result, Ok, Err}
 use Rattle.nv_plain.specs.declared.call.FileCall.TheVariants.{Sync}
+use Rattle.nv_plain.specs.declared.call.Reply.{Reply}
 use Rattle.nv_core.specs.state.Words.{STOP, ORDER}
-use Rattle.nv_core.specs.state.Passes.{LoadOrder, TakePlace}
-use Rattle.nv_core.specs.steps.Ops.{Load}
-use Rattle.nv_table.specs.invariant.Idle.{IsIdle}
-use Rattle.nv_table.specs.steps.StepContracts.{Postcondition}
-use Rattle.nv_table.specs.state.Views.{pass_of}
+use Rattle.nv_core.specs.steps.Ops.{Op as CoreOp, Load, Place}
+use Rattle.nv_core.specs.steps.Order.{plain_reply}
 use Rattle.nv_table.specs.state.States.{PassState}
-use Rattle.nv_table.specs.steps.CallSteps.{Precondition, IsPlaced, load_op, place_op}
-use Rattle.nv_table.proofs.steps.CallLaws.{IsAt, sync_begun, order_due, order_loaded, place_due, sync_placed, later_self, later_by, later_on}
-use Rattle.nv_mirror.specs.declared.answers.Refusal.TheVariants.{BadFd, Stopped, Spent}
-use Rattle.nv_calls.specs.declared.machine.SyncControl.TheVariants as syncs
-use Rattle.nv_calls.specs.fsync.SyncMachines.{HasLoaded, IsSyncUnderWay, IsSyncEnded}
-use Rattle.nv_calls.proofs.fsync.SyncLaws.{stop_unplaced, order_is, order_unplaced, unplaced_on, place_is, done_by}
+use Rattle.nv_table.specs.steps.StepContracts.{Postcondition}
+use Rattle.nv_mount.specs.declared.fds.Fd.{Fd}
+use Rattle.nv_op.specs.declared.asked.Asked.TheVariants.{Sync as AsksSync}
+use Rattle.nv_op.specs.Kinds.{kind_of}
+use Rattle.nv_op.specs.Ops.{core_op_of, opened_by}
+use Rattle.nv_mirror.specs.declared.answers.Refusal.{Refusal}
+use Rattle.nv_mirror.specs.declared.answers.Refusal.TheVariants.{Stopped, Spent}
+use Rattle.nv_mirror.specs.declared.pageless.PagelessControl.{PagelessControl}
+use Rattle.nv_mirror.specs.declared.pageless.PagelessControl.TheVariants.{Over}
+use Rattle.nv_mirror.specs.declared.pageless.PagelessControl.TheVariants as controls
+use Rattle.nv_mirror.specs.declared.pageless.PagelessMachine.{PagelessMachine}
+use Rattle.nv_mirror.specs.Answers.{IsPlacedAs}
+use Rattle.nv_mirror.specs.Controls.{MirroredControl}
+use Rattle.nv_mirror.specs.PassSteps.{either_of, place_by}
+use Rattle.nv_mirror.specs.Pageless as pageless
+use Rattle.nv_mirror.specs.Pageless.{pageless_after, pageless_measure, pageless_op, pageless_opens, pageless_opens_at, pageless_place_at}
+use Rattle.nv_mirror.proofs.ControlLaws.{place_plainly}
+use Rattle.nv_mirror.proofs.EndsLaws.{call_over}
+use Rattle.nv_mirror.proofs.PartLaws.{pageless_tells}
+use Rattle.nv_calls.specs.calls.Advances.{IsOneStep}
+use Rattle.nv_calls.specs.calls.CallAnswers.{answer_of, done_at}
+use Rattle.nv_calls.specs.reads.Reads.{done_of}
+use Rattle.nv_calls.specs.declared.syncing.SyncControl.TheVariants as syncs
+use Rattle.nv_calls.specs.declared.syncing.SyncMachine.{SyncMachine}
+use Rattle.nv_calls.specs.fsync.SyncRuns.{IsSyncRun, file_of_fd}
+use Rattle.nv_calls.specs.fsync.SyncMachines.{IsOfFile, IsRunning, IsSyncEnded, SyncGoes, SyncSteps, at_step, progress_at, standing}
 
-at_order : (file : ℕ) (start now : PassState) → IsIdle start → Postcondition start (Some (Sync file)) (Load STOP) 0 now → IsAt now LoadOrder (Sync file)
-at_order file start now idle is = (sync_begun start now file 0 idle is).0 refl
+-- ---- one step more
 
-order_back : (file : ℕ) (now new : PassState) (found : ℕ) → IsAt now LoadOrder (Sync file) → Postcondition now None (Load ORDER) found new → Postcondition now None (load_op (pass_of now.view).control ORDER) found new
-order_back file now new found at is = subst (λ control. Postcondition now None (load_op control ORDER) found new) (sym at.stands) is
+module _ (file : ℕ) (start now new : PassState) (found : ℕ) where
+  stop_steps : (b : Bool) → found == 0 ≡ b → Postcondition start (Some (Sync file)) (Load STOP) found new → SyncSteps file (if b then controls.LoadOrder else Over (Err Stopped)) start new
+  stop_steps true zero is = subst (λ n. Postcondition start (Some (Sync file)) (Load STOP) n new) (eqb-true found 0 zero) is
+  stop_steps false some is = record { found = found; stop = is; set = eqb-false found 0 some }
 
-at_place : (file : ℕ) (start now : PassState) → IsIdle start → HasLoaded file start now → IsAt now TakePlace (Sync file)
-at_place file start now idle has =
-    let at = at_order file start has.begun idle has.stop in
-    (order_loaded has.begun now (Sync file) has.found at (order_back file has.begun now has.found at has.order)).0 has.low
+  order_steps : (b : Bool) → nat_lt found (2 ^ 60) ≡ b → Postcondition start (Some (Sync file)) (Load STOP) 0 now → Postcondition now None (Load ORDER) found new
+      → SyncSteps file (if b then controls.TakePlace else Over (Err (Spent found))) start new
+  order_steps true low stop is = record { begun = now; found = found; stop = stop; order = is; low = ltb-true found (2 ^ 60) low }
+  order_steps false high stop is = record { begun = now; stop = stop; order = is; spent = ltb-false found (2 ^ 60) high }
 
-pub order_next : (file : Option ℕ) (start now : PassState) → IsSyncUnderWay file syncs.LoadOrder start now → Precondition now None (load_op (pass_of now.view).control ORDER)
-order_next None start now way = absurd way.stands
-order_next (Some file) start now way = order_due now (Sync file) (at_order file start now way.idle way.stands)
+  steps_on : (control : PagelessControl) → pageless.IsOpen control → pageless.IsInCall (AsksSync file) control start now → SyncSteps file control start now
+      → Postcondition now (opened_by (pageless_opens_at (AsksSync file) control)) (core_op_of now.view (pageless_op control)) found new → SyncSteps file (pageless_after control found) start new
+  steps_on controls.Begin runs way steps is = stop_steps (found == 0) refl (subst (λ (p : PassState). Postcondition p (Some (Sync file)) (Load STOP) found new) steps is)
+  steps_on controls.LoadOrder runs way steps is = order_steps (nat_lt found (2 ^ 60)) refl steps is
+  steps_on controls.TakePlace runs way steps is = record {
+    begun = steps.begun;
+    loaded = now;
+    found = steps.found;
+    stop = steps.stop;
+    order = steps.order;
+    low = steps.low;
+    places = subst (λ (op : CoreOp). Postcondition now None op found new)
+        (place_plainly now (ap (λ (c : MirroredControl). c.control) way.mirrors) ∙ ap (λ (c : MirroredControl). Place (plain_reply c.call)) way.mirrors) is;
+  }
+  steps_on (Over result) runs way steps is = absurd runs
 
-pub place_next : (file : Option ℕ) (start now : PassState) → IsSyncUnderWay file syncs.TakePlace start now → Precondition now None (place_op now.view)
-place_next None start now way = absurd way.stands
-place_next (Some file) start now way = place_due now (Sync file) (at_place file start now way.idle way.stands)
+-- of a running one, whose machine makes the step
+runs_on : (file : ℕ) (sync next : PagelessMachine) (start now new : PassState) (found : ℕ) → pageless.IsOpen sync.control → next.asked ≡ sync.asked
+    → Postcondition now (opened_by (pageless_opens sync)) (core_op_of now.view (pageless_op sync.control)) found new → next.control ≡ pageless_after sync.control found
+    → pageless.IsUnderWay next start new → IsRunning file sync start now → IsRunning file next start new
+runs_on file sync next start now new found runs same is next_is way before = record {
+  asked = same ∙ before.asked;
+  way = way;
+  steps = subst (λ (c : PagelessControl). SyncSteps file c start new) (sym next_is)
+      (steps_on file start now new found sync.control runs (subst (λ asked. pageless.IsInCall asked sync.control start now) before.asked before.way.1) before.steps
+      (subst (λ asked. Postcondition now (opened_by (pageless_opens_at asked sync.control)) (core_op_of now.view (pageless_op sync.control)) found new) before.asked is));
+}
 
-pub idle_there : (file : Option ℕ) (start now : PassState) → IsSyncUnderWay file syncs.Begin start now → IsIdle now
-idle_there file start now way = subst IsIdle (sym way.stands) way.idle
+-- of a descriptor's file
+pub steps_of : (fds : List Fd) (fd : ℕ) (sync next : PagelessMachine) (start now new : PassState) (found : ℕ) → pageless.IsOpen sync.control → next.asked ≡ sync.asked
+    → Postcondition now (opened_by (pageless_opens sync)) (core_op_of now.view (pageless_op sync.control)) found new → next.control ≡ pageless_after sync.control found
+    → pageless.IsUnderWay next start new → IsOfFile fds fd sync start now → IsOfFile fds fd next start new
+steps_of fds fd sync next start now new found runs same is next_is way of =
+    record { file = of.file; file_is = of.file_is; running = runs_on of.file sync next start now new found runs same is next_is way of.running }
 
--- ---- what each step leads to
+-- ---- the end
 
-pub ended_bad : (file : Option ℕ) (start now : PassState) → file ≡ None → IsSyncUnderWay file syncs.Begin start now → IsSyncEnded file start now (Err BadFd)
-ended_bad file start now none way =
-    subst (λ (one : Option ℕ). IsSyncEnded one start now (Err BadFd)) (sym none)
-    (subst (λ (p : PassState). IsSyncEnded None start p (Err BadFd)) (sym way.stands)
-    record { idle = way.idle; later = later_self start; spare = refl; told = record { seen = refl; mine = refl }; sync_run = refl })
-
-begun_at : (file : ℕ) (start now new : PassState) (found : ℕ) → now ≡ start → Postcondition now (Some (Sync file)) (Load STOP) found new → Postcondition start (Some (Sync file)) (Load STOP) found new
-begun_at file start now new found same is = subst (λ (p : PassState). Postcondition p (Some (Sync file)) (Load STOP) found new) same is
-
-pub ended_stopped : (file : Option ℕ) (known : ℕ) (start now new : PassState) (found : ℕ) → file ≡ Some known → IsSyncUnderWay file syncs.Begin start now
-    → Postcondition now (Some (Sync known)) (Load STOP) found new → found ≢ 0 → IsSyncEnded file start new (Err Stopped)
-ended_stopped file known start now new found there way stepped some =
-    let is = begun_at known start now new found way.stands stepped in
-    subst (λ (one : Option ℕ). IsSyncEnded one start new (Err Stopped)) (sym there)
+ended_by : (file : ℕ) (result : Result ℕ Refusal) (start now : PassState) → pageless.IsInCall (AsksSync file) (Over result) start now → IsSyncRun (Some file) start now (answer_of 0 result)
+    → IsSyncEnded (Some file) start now (answer_of 0 result)
+ended_by file (Ok place) start now way run =
+    let over = call_over (Sync file) (Sync file) _ None (Some place) start now refl way refl refl in
     record {
-      idle = (sync_begun start new known found way.idle is).1 some;
-      later = later_by start new _ _ found is;
-      spare = is.spare;
-      told = stop_unplaced start new known found way.idle is;
-      sync_run = record { found = found; stop = is; set = some };
+      idle = over.idle;
+      later = over.later;
+      spare = over.spare;
+      told = ((subst (λ (reply : Reply). IsPlacedAs start.view now.view (Sync file) reply place) over.told.1 over.told.2, λ files. refl), refl);
+      sync_run = run;
+    }
+ended_by file (Err refusal) start now way run =
+    let over = call_over (Sync file) (Sync file) _ (Some refusal) None start now refl way refl refl in
+    record { idle = over.idle; later = over.later; spare = over.spare; told = over.told; sync_run = run }
+
+ended : (file : ℕ) (sync : PagelessMachine) (result : Result ℕ Refusal) (start now : PassState) → sync.control ≡ Over result → IsRunning file sync start now → IsSyncEnded (Some file) start now (answer_of 0 result)
+ended file sync result start now is running =
+    ended_by file result start now (subst (λ c. pageless.IsInCall (AsksSync file) c start now) is (subst (λ asked. pageless.IsInCall asked sync.control start now) running.asked running.way.1))
+    (subst (λ (c : PagelessControl). SyncSteps file c start now) is running.steps)
+
+pub ended_of : (fds : List Fd) (fd : ℕ) (sync : PagelessMachine) (result : Result ℕ Refusal) (start now : PassState) → sync.control ≡ Over result → IsOfFile fds fd sync start now
+    → IsSyncEnded (file_of_fd fds fd) start now (answer_of 0 result)
+ended_of fds fd sync result start now is of = subst (λ (file : Option ℕ). IsSyncEnded file start now (answer_of 0 result)) (sym of.file_is) (ended of.file sync result start now is of.running)
+
+-- ---- an advance
+
+-- its pass has made one step
+pub one_step : (m : SyncMachine) (sync next : PagelessMachine) (start old new : PassState) (found : ℕ) → sync.control ≡ at_step m.control → pageless.IsOpen sync.control → pageless.IsUnderWay sync start old
+    → Postcondition old (opened_by (pageless_opens sync)) (core_op_of old.view (pageless_op sync.control)) found new → next.control ≡ pageless_after sync.control found
+    → IsOneStep (standing m) (standing (record m { control = syncs.Running next })) old new
+one_step m sync next start old new found stands runs way is next_is =
+    let one = pageless_tells (λ refusal. None) record { none = refl; busy = λ cell. refl; stopped = refl; spent = λ found. refl } sync next start old new found runs way is next_is in
+    record {
+      step = one.step;
+      is = one.taken;
+      kind = λ well. one.kind well ∙ ap (λ c. kind_of (pageless_op c)) stands;
+      fault = one.fault;
+      place = one.placed ∙ ap (λ c. either_of (pageless_place_at c) (place_by one.step.op one.step.found)) stands;
     }
 
-pub more_order : (file : Option ℕ) (known : ℕ) (start now new : PassState) (found : ℕ) → file ≡ Some known → IsSyncUnderWay file syncs.Begin start now
-    → Postcondition now (Some (Sync known)) (Load STOP) found new → found ≡ 0 → IsSyncUnderWay file syncs.LoadOrder start new
-more_order file known start now new found there way stepped zero =
-    subst (λ (one : Option ℕ). IsSyncUnderWay one syncs.LoadOrder start new) (sym there)
-    record { idle = way.idle; stands = subst (λ n. Postcondition start (Some (Sync known)) (Load STOP) n new) zero (begun_at known start now new found way.stands stepped) }
+answered : (result : Result ℕ Refusal) → done_at 0 (pageless_place_at (Over result)) ≡ done_of (answer_of 0 result)
+answered (Ok place) = refl
+answered (Err refusal) = refl
 
-pub ended_spent : (file : Option ℕ) (start now new : PassState) (found : ℕ) → IsSyncUnderWay file syncs.LoadOrder start now
-    → Postcondition now None (load_op (pass_of now.view).control ORDER) found new → 2 ^ 60 ≤ found → IsSyncEnded file start new (Err (Spent found))
-ended_spent None start now new found way is high = absurd way.stands
-ended_spent (Some file) start now new found way is high =
-    let at = at_order file start now way.idle way.stands in
-    let order = order_is now new (Sync file) found at is in
-    record {
-      idle = (order_loaded now new (Sync file) found at is).1 high;
-      later = later_on start now new (later_by start now _ _ 0 way.stands) (later_by now new _ _ found order);
-      spare = order.spare ∙ way.stands.spare;
-      told = unplaced_on start.view now.view new.view (stop_unplaced start now file 0 way.idle way.stands) (order_unplaced now new (Sync file) found at order);
-      sync_run = record { begun = now; stop = way.stands; order = order; spent = high };
-    }
+goes_at : (fds : List Fd) (m : SyncMachine) (next : PagelessMachine) (start new : PassState) (control : PagelessControl) → next.control ≡ control → IsOfFile fds m.fd next start new
+    → SyncGoes fds start (record m { control = syncs.Running next }) new (progress_at control)
+goes_at fds m next start new (Over result) is of = (
+  ap (λ c. done_at 0 (pageless_place_at c)) is ∙ answered result,
+  ended_of fds m.fd next result start new is of,
+)
+goes_at fds m next start new controls.Begin is of = (subst pageless.IsOpen (sym is) tt, of)
+goes_at fds m next start new controls.LoadOrder is of = (subst pageless.IsOpen (sym is) tt, of)
+goes_at fds m next start new controls.TakePlace is of = (subst pageless.IsOpen (sym is) tt, of)
 
-pub more_place : (file : Option ℕ) (start now new : PassState) (found : ℕ) → IsSyncUnderWay file syncs.LoadOrder start now
-    → Postcondition now None (load_op (pass_of now.view).control ORDER) found new → found < 2 ^ 60 → IsSyncUnderWay file syncs.TakePlace start new
-more_place None start now new found way is low = absurd way.stands
-more_place (Some file) start now new found way is low =
-    let at = at_order file start now way.idle way.stands in
-    record { idle = way.idle; stands = record { begun = now; found = found; stop = way.stands; order = order_is now new (Sync file) found at is; low = low } }
-
-pub ended_done : (file : Option ℕ) (start now new : PassState) (place : ℕ) → IsSyncUnderWay file syncs.TakePlace start now
-    → Postcondition now None (place_op now.view) place new → IsPlaced now.view new.view place → IsSyncEnded file start new (Ok record { place = place; len = 0 })
-ended_done None start now new place way is placed = absurd way.stands
-ended_done (Some file) start now new place way is placed =
-    let has = way.stands in
-    let at = at_order file start has.begun way.idle has.stop in
-    let here = at_place file start now way.idle has in
-    let last = place_is now new file place here is in
-    let later = later_on start has.begun now (later_by start has.begun _ _ 0 has.stop) (later_by has.begun now _ _ has.found has.order) in
-    let still = unplaced_on start.view has.begun.view now.view (stop_unplaced start has.begun file 0 way.idle has.stop) (order_unplaced has.begun now (Sync file) has.found at has.order) in
-    record {
-      idle = sync_placed now new file place here is;
-      later = later_on start now new later (later_by now new _ _ place last);
-      spare = last.spare ∙ has.order.spare ∙ has.stop.spare;
-      told = (done_by start now new file place later still here last placed, refl);
-      sync_run = record { begun = has.begun; loaded = now; found = has.found; stop = has.stop; order = has.order; low = has.low; places = last };
-    }
+pub goes_on : (fds : List Fd) (m : SyncMachine) (next : PagelessMachine) (start new : PassState) → IsOfFile fds m.fd next start new
+    → SyncGoes fds start (record m { control = syncs.Running next }) new (progress_at next.control)
+goes_on fds m next start new of = goes_at fds m next start new next.control refl of

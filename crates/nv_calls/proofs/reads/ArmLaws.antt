@@ -11,7 +11,7 @@ use Rattle.nv_table.specs.state.Views.{pass_of}
 use Rattle.nv_table.specs.state.States.{BoardState, PassState, IsOf}
 use Rattle.nv_table.specs.steps.CallSteps.{Precondition, load_op, take_op, give_op}
 use Rattle.nv_mount.specs.declared.fds.Fd.{Fd}
-use Rattle.nv_calls.specs.declared.machine.Progress.{Progress}
+use Rattle.nv_calls.specs.declared.progress.Progress.{Progress}
 use Rattle.nv_calls.specs.declared.reading.ReadMachine.{ReadMachine}
 use Rattle.nv_calls.specs.declared.reading.ReadControl.{ReadControl}
 use Rattle.nv_calls.specs.reads.Advances.{IsSameRead, IsAdvance}

@@ -9,8 +9,8 @@ use Rattle.nv_core.specs.state.Words.{Sizes, Word, SIZE, STORE}
 use Rattle.nv_core.specs.state.Passes.{first_page, end_page, page_count, file_of}
 use Rattle.nv_core.proofs.state.PageLaws.{div_more}
 use Rattle.nv_mirror.specs.declared.answers.Refusal.{Refusal}
-use Rattle.nv_calls.specs.declared.machine.Progress.{Progress}
-use Rattle.nv_calls.specs.declared.machine.Progress.TheVariants.{More, Ended}
+use Rattle.nv_calls.specs.declared.progress.Progress.{Progress}
+use Rattle.nv_calls.specs.declared.progress.Progress.TheVariants.{More, Ended}
 use Rattle.nv_calls.specs.declared.reading.Held.{Held}
 use Rattle.nv_calls.specs.declared.reading.ReadMachine.{ReadMachine}
 use Rattle.nv_calls.specs.declared.reading.ReadControl.{ReadControl}

@@ -14,8 +14,8 @@ use Rattle.nv_table.specs.state.States.{PassState}
 use Rattle.nv_pages.specs.Altered.{IsAltered}
 use Rattle.nv_mount.specs.declared.fds.Fd.{Fd}
 use Rattle.nv_mirror.specs.declared.answers.Refusal.TheVariants.{Spent}
-use Rattle.nv_calls.specs.declared.machine.Progress.{Progress}
-use Rattle.nv_calls.specs.declared.machine.Progress.TheVariants.{More}
+use Rattle.nv_calls.specs.declared.progress.Progress.{Progress}
+use Rattle.nv_calls.specs.declared.progress.Progress.TheVariants.{More}
 use Rattle.nv_calls.specs.declared.reading.ReadMachine.{ReadMachine}
 use Rattle.nv_calls.specs.declared.reading.ReadControl.TheVariants as reads
 use Rattle.nv_calls.specs.reads.Reads.{call_of, read_owned, reading, front, IsMeasured, IsLooking, IsLook, IsOnWayAt, ReadFactsAt, Refuses, ReadGoes}

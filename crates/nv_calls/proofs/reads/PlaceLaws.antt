@@ -19,7 +19,7 @@ use Rattle.nv_table.specs.state.States.{PassState}
 use Rattle.nv_table.specs.steps.CallSteps.{Precondition, IsPlaced, place_op, reply_at}
 use Rattle.nv_table.proofs.steps.CallLaws.{IsCallFree}
 use Rattle.nv_mount.specs.declared.fds.Fd.{Fd}
-use Rattle.nv_calls.specs.declared.machine.Progress.{Progress}
+use Rattle.nv_calls.specs.declared.progress.Progress.{Progress}
 use Rattle.nv_calls.specs.declared.reading.ReadMachine.{ReadMachine}
 use Rattle.nv_calls.specs.declared.reading.ReadControl.TheVariants as reads
 use Rattle.nv_mirror.specs.Answers.{IsPlacedAs, IsReadPlaced}

@@ -35,8 +35,8 @@ use Rattle.nv_pages.specs.Altered.{IsAltered}
 use Rattle.nv_pages.specs.PageWork.{page_slot, with_page}
 use Rattle.nv_mount.specs.declared.fds.Fd.{Fd}
 use Rattle.nv_mirror.specs.declared.answers.Refusal.TheVariants.{RegionFault}
-use Rattle.nv_calls.specs.declared.machine.Progress.{Progress}
-use Rattle.nv_calls.specs.declared.machine.Progress.TheVariants.{More}
+use Rattle.nv_calls.specs.declared.progress.Progress.{Progress}
+use Rattle.nv_calls.specs.declared.progress.Progress.TheVariants.{More}
 use Rattle.nv_calls.specs.declared.reading.Held.{Held}
 use Rattle.nv_calls.specs.declared.reading.ReadMachine.{ReadMachine}
 use Rattle.nv_calls.specs.declared.reading.ReadControl.{ReadControl}

@@ -1,23 +1,19 @@
 -- Machines: a running write stands with its list put in and taken out where it stood, and an advance goes on from there.
-use Rattle.std.proofs.Common.{◌≡◌, ◌≢◌, ℕ, ◌<◌, ◌≤◌, ◌+◌, ◌*◌, nat_lt, Bool, true, false, if◌then◌else◌, List, length, refl, sym, ap, subst, ◌∙◌, inl, inr, arith}
-use Rattle.std.specs.Prelude.{Option, Some, None, option_map, min, Result, Ok, Err}
+use Rattle.std.proofs.Common.{◌≡◌, ℕ, ◌<◌, ◌≤◌, ◌+◌, ◌*◌, nat_lt, Bool, true, false, if◌then◌else◌, List, length, refl, sym, ap, subst, ◌∙◌, arith}
+use Rattle.std.specs.Prelude.{Option, Some, None, min, Ok, Err}
 use Rattle.std.specs.Borrow.{Bor}
 use Rattle.std.specs.List.{slice_get}
 use Rattle.nv_plain.specs.Layouts.{version_1}
 use Rattle.nv_plain.specs.Modes.{can_write}
 use Rattle.nv_plain.specs.Pieces.{pages_touched}
-use Rattle.nv_plain.specs.declared.call.FileCall.{FileCall}
 use Rattle.nv_plain.specs.declared.call.FileCall.TheVariants.{Write}
 use Rattle.nv_core.specs.state.Words.{Sizes}
 use Rattle.nv_table.specs.invariant.Idle.{IsIdle}
-use Rattle.nv_table.specs.state.Opened.{Opened}
 use Rattle.nv_table.specs.state.States.{PassState}
 use Rattle.nv_mount.specs.declared.fds.Fd.{Fd}
 use Rattle.nv_op.specs.declared.asked.Asked.{Asked}
 use Rattle.nv_op.specs.declared.asked.Asked.TheVariants.{Read as AsksRead, Write as AsksWrite, Sync as AsksSync}
-use Rattle.nv_op.specs.Kinds.{kind_of}
-use Rattle.nv_op.specs.Ops.{asked_with, call_asked}
-use Rattle.nv_mirror.specs.declared.answers.Done.{Done}
+use Rattle.nv_op.specs.Ops.{asked_with}
 use Rattle.nv_mirror.specs.declared.answers.Refusal.{Refusal}
 use Rattle.nv_mirror.specs.declared.answers.Refusal.TheVariants.{BadFd, TooFar, TooLong}
 use Rattle.nv_ring.specs.declared.numbers.DrawControl.{DrawControl}
@@ -36,22 +32,17 @@ use Rattle.nv_mirror.specs.declared.release.ReleaseControl.{ReleaseControl}
 use Rattle.nv_mirror.specs.declared.release.ReleaseControl.TheVariants as releases
 use Rattle.nv_ring.specs.declared.write.RunningWrite.{RunningWrite}
 use Rattle.nv_ring.specs.declared.write.RunningWrite.TheVariants.{Pageless, Front, Draw, Append, Release, Over}
-use Rattle.nv_ring.specs.Appends.{append_measure_at, append_op_at, append_place_at}
-use Rattle.nv_mirror.specs.Fronts.{front_measure_at, front_op_at}
-use Rattle.nv_mirror.specs.Releases.{release_measure_at, release_op_at}
 use Rattle.nv_ring.specs.RunningWrites.{IsOpen, IsSettled, IsUnderWay, write_measure}
 use Rattle.nv_ring.proofs.ListLaws.{list_way}
 use Rattle.nv_mirror.specs.PassSteps.{either_of, fault_in, place_by}
 use Rattle.nv_ring.specs.WriteSteps.{HasMadeOne, IsFresh, first_kind, part_fault, with_list, write_fault, write_kind, write_place}
-use Rattle.nv_calls.specs.declared.machine.Progress.{Progress}
-use Rattle.nv_calls.specs.declared.machine.Progress.TheVariants.{More, Ended}
-use Rattle.nv_calls.specs.declared.writing.WriteControl.{WriteControl}
+use Rattle.nv_calls.specs.calls.Advances.{IsFewer, IsOneStep}
+use Rattle.nv_calls.specs.calls.CallAnswers.{done_at}
+use Rattle.nv_calls.specs.declared.progress.Progress.TheVariants.{Ended}
 use Rattle.nv_calls.specs.declared.writing.WriteControl.TheVariants as writes
 use Rattle.nv_calls.specs.declared.writing.WriteMachine.{WriteMachine}
-use Rattle.nv_calls.specs.fsync.SyncRuns.{file_of_fd}
 use Rattle.nv_calls.specs.reads.EarlyRefusals.{early_range_refusal}
-use Rattle.nv_calls.specs.reads.Reads.{refusal_of}
-use Rattle.nv_calls.specs.writes.WriteMachines.{IsFewer, IsOfFile, IsOneStep, IsPutInAs, IsWriteUnderWay, StandsAt, WriteGoes, early_of, fault_at, kind_at, measure, measure_at, place_at, progress_of}
+use Rattle.nv_calls.specs.writes.WriteMachines.{IsOfFile, IsPutInAs, IsWriteUnderWay, StandsAt, WriteGoes, early_of, fault_at, kind_at, measure, measure_at, place_at, progress_of, standing}
 use Rattle.nv_calls.specs.writes.Writes.{IsAdmitted, IsOverBy, early_fd_refusal, early_refusal}
 
 -- ---- the list is put in and taken out
@@ -162,7 +153,7 @@ ends_early fds m list start now refusal begins early way =
     let same = (begun fds m list start now begins way).1 in
     let here : early_refusal start.view.opened.sizes fds m.fd m.at (length list) ≡ Some refusal =
     ap (early_refusal start.view.opened.sizes fds m.fd m.at) way.room ∙ ap (λ (p : PassState). early_of p.view.opened.sizes fds m) (sym same) ∙ early in (
-      ap (λ control. option_map (λ place. record { place = place; len = m.len }) (place_at control)) begins,
+      ap (λ control. done_at m.len (place_at control)) begins,
       ap fault_at begins ∙ faultless now.view.opened.sizes fds m.fd m.at m.len refusal early,
       subst (λ by. IsOverBy by fds m.fd m.at list start now (Err refusal)) (sym here) (refl, same),
     )
@@ -215,7 +206,7 @@ module _ (sizes : Sizes) (m : WriteMachine) (other : Bor (List ℕ)) (before : �
   less : (write : RunningWrite) → write_measure write < before → write_measure (with_list other write) < measure sizes m
   less write falls = let same = (list_same other write).measure in omega (arith, same, falls, within)
 
-  pub fewer : (write : RunningWrite) → write_measure write < before → IsFewer sizes m (kept m other write) (progress_of m.len write)
+  pub fewer : (write : RunningWrite) → write_measure write < before → IsFewer (measure sizes) m (kept m other write) (progress_of m.len write)
   fewer (Pageless part) falls = less (Pageless part) falls
   fewer (Front part) falls = less (Front part) falls
   fewer (Draw part) falls = less (Draw part) falls
@@ -226,7 +217,7 @@ module _ (sizes : Sizes) (m : WriteMachine) (other : Bor (List ℕ)) (before : �
 
 -- its step is the write's
 pub steps_on : (sizes : Sizes) (fds : List Fd) (m : WriteMachine) (list other : Bor (List ℕ)) (first write : RunningWrite) (old new : PassState) → IsPutInAs sizes fds m list.now first → HasMadeOne first write old new
-    → IsOneStep m (kept m other write) old new
+    → IsOneStep (standing m) (standing (kept m other write)) old new
 steps_on sizes fds m list other first write old new put is = record {
   step = is.step;
   is = is.taken;

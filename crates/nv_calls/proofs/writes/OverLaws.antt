@@ -1,6 +1,6 @@
 -- Over: what is so of a write that is over, and of one that goes on.
 use Rattle.std.proofs.Common.{◌≡◌, ℕ, ◌<◌, List, length, refl, sym, subst}
-use Rattle.std.specs.Prelude.{Option, Some, None, Result, Ok, Err}
+use Rattle.std.specs.Prelude.{Option, Some, None, Result}
 use Rattle.nv_table.specs.invariant.Idle.{IsIdle, IsLater}
 use Rattle.nv_table.specs.state.Opened.{Opened}
 use Rattle.nv_table.specs.state.States.{PassState}
@@ -8,10 +8,11 @@ use Rattle.nv_table.proofs.steps.CallLaws.{later_self}
 use Rattle.nv_mount.specs.declared.fds.Fd.{Fd}
 use Rattle.nv_mirror.specs.declared.answers.Done.{Done}
 use Rattle.nv_mirror.specs.declared.answers.Refusal.{Refusal}
-use Rattle.nv_calls.specs.declared.machine.Progress.{Progress}
-use Rattle.nv_calls.specs.declared.machine.Progress.TheVariants.{More, Ended}
+use Rattle.nv_calls.specs.calls.Advances.{IsFewer}
+use Rattle.nv_calls.specs.declared.progress.Progress.{Progress}
+use Rattle.nv_calls.specs.declared.progress.Progress.TheVariants.{More, Ended}
 use Rattle.nv_calls.specs.declared.writing.WriteMachine.{WriteMachine}
-use Rattle.nv_calls.specs.writes.WriteMachines.{IsFewer, IsWriteUnderWay, WriteGoes, measure}
+use Rattle.nv_calls.specs.writes.WriteMachines.{IsWriteUnderWay, WriteGoes, measure}
 use Rattle.nv_calls.specs.writes.Writes.{IsOverBy, IsWriteOver, early_refusal}
 
 -- a write that isn't over is under way
@@ -22,7 +23,7 @@ under_way fds start m list now (Ended result) open_ goes = absurd (open_ result 
 
 -- by fewer steps, of the same mount
 pub fewer_now : (old new : PassState) (m next : WriteMachine) (progress : Progress) → ((result : Result Done Refusal) → progress ≡ Ended result → ⊥) → new.view.opened ≡ old.view.opened
-    → IsFewer old.view.opened.sizes m next progress → measure new.view.opened.sizes next < measure old.view.opened.sizes m
+    → IsFewer (measure old.view.opened.sizes) m next progress → measure new.view.opened.sizes next < measure old.view.opened.sizes m
 fewer_now old new m next More open_ same less = subst (λ (o : Opened). measure o.sizes next < measure old.view.opened.sizes m) (sym same) less
 fewer_now old new m next (Ended result) open_ same less = absurd (open_ result refl)
 

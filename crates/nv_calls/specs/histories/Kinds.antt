@@ -2,16 +2,10 @@
 use Rattle.std.specs.Prelude.{ℕ, ◌==◌, if◌then◌else◌}
 use Rattle.nv_op.specs.declared.kinds.Kind.{Kind}
 use Rattle.nv_op.specs.declared.kinds.Kind.TheVariants.{Load, Take, Give, Place, Hold, Return, Hand, Hint}
-use Rattle.nv_calls.specs.declared.machine.SyncControl.{SyncControl}
-use Rattle.nv_calls.specs.declared.machine.SyncControl.TheVariants as syncs
 use Rattle.nv_calls.specs.declared.reading.ReadControl.{ReadControl}
 use Rattle.nv_calls.specs.declared.reading.ReadControl.TheVariants as reads
 
 -- if each device call before it ends well
-
-abbrev pub sync_kind : SyncControl → Kind
-sync_kind syncs.TakePlace = Place
-sync_kind control = Load
 
 -- of a read of so many bytes
 abbrev pub read_kind : (len : ℕ) → ReadControl → Kind

@@ -3,8 +3,8 @@ use Rattle.std.specs.Prelude.{◌≡◌, ◌⊎◌, ℕ, List, Some, Err}
 use Rattle.nv_table.specs.state.States.{PassState}
 use Rattle.nv_mount.specs.declared.fds.Fd.{Fd}
 use Rattle.nv_mirror.specs.declared.answers.Refusal.{Refusal}
-use Rattle.nv_calls.specs.declared.machine.Progress.{Progress}
-use Rattle.nv_calls.specs.declared.machine.Progress.TheVariants.{Ended}
+use Rattle.nv_calls.specs.declared.progress.Progress.{Progress}
+use Rattle.nv_calls.specs.declared.progress.Progress.TheVariants.{Ended}
 use Rattle.nv_calls.specs.reads.EarlyRefusals.{early_refusal}
 use Rattle.nv_calls.specs.declared.reading.ReadMachine.{ReadMachine}
 use Rattle.nv_op.specs.Kinds.{kind_of_op}

@@ -1,5 +1,5 @@
 -- Write machines: where a write of a descriptor stands that is made one step at a time.
-use Rattle.std.specs.Prelude.{◌≡◌, ◌⊎◌, ℕ, ◌+◌, ◌*◌, ◌<◌, ◌≤◌, List, length, Option, Some, None, option_map, Result, Ok, Err}
+use Rattle.std.specs.Prelude.{◌≡◌, ℕ, ◌+◌, ◌*◌, ◌≤◌, List, length, Option, Some, None, Result, Ok, Err}
 use Rattle.std.specs.Borrow.{Bor}
 use Rattle.nv_plain.specs.Pieces.{pages_touched}
 use Rattle.nv_plain.specs.declared.call.FileCall.TheVariants.{Write}
@@ -8,16 +8,16 @@ use Rattle.nv_table.specs.invariant.Idle.{IsIdle}
 use Rattle.nv_table.specs.state.States.{PassState}
 use Rattle.nv_mount.specs.declared.fds.Fd.{Fd}
 use Rattle.nv_op.specs.declared.kinds.Kind.{Kind}
-use Rattle.nv_op.specs.Kinds.{kind_of_op}
 use Rattle.nv_mirror.specs.declared.answers.Done.{Done}
 use Rattle.nv_mirror.specs.declared.answers.Refusal.{Refusal}
 use Rattle.nv_ring.specs.declared.write.RunningWrite.{RunningWrite}
 use Rattle.nv_ring.specs.declared.write.RunningWrite.TheVariants.{Over}
-use Rattle.nv_mirror.specs.PassSteps.{PassStep, HasTaken, either_of, fault_in, place_by}
 use Rattle.nv_ring.specs.RunningWrites.{IsOpen, IsUnderWay, write_measure}
 use Rattle.nv_ring.specs.WriteSteps.{first_kind, part_fault, with_list, write_fault, write_kind, write_place}
-use Rattle.nv_calls.specs.declared.machine.Progress.{Progress}
-use Rattle.nv_calls.specs.declared.machine.Progress.TheVariants.{More, Ended}
+use Rattle.nv_calls.specs.calls.Advances.{Standing}
+use Rattle.nv_calls.specs.calls.CallAnswers.{answer_of, done_at}
+use Rattle.nv_calls.specs.declared.progress.Progress.{Progress}
+use Rattle.nv_calls.specs.declared.progress.Progress.TheVariants.{More, Ended}
 use Rattle.nv_calls.specs.declared.writing.WriteControl.{WriteControl}
 use Rattle.nv_calls.specs.declared.writing.WriteControl.TheVariants as writes
 use Rattle.nv_calls.specs.declared.writing.WriteMachine.{WriteMachine}
@@ -49,7 +49,7 @@ place_so_far m = place_at m.control
 
 -- and the answer that it tells then
 abbrev pub placed_by : WriteMachine → Option Done
-placed_by m = option_map (λ place. record { place = place; len = m.len }) (place_so_far m)
+placed_by m = done_at m.len (place_so_far m)
 
 -- the fault of a device call before one of its steps, once there was one
 abbrev pub fault_at : WriteControl → Option Refusal
@@ -58,6 +58,9 @@ fault_at (writes.Running write) = write_fault write
 
 abbrev pub fault_so_far : WriteMachine → Option Refusal
 fault_so_far m = fault_at m.control
+
+abbrev pub standing : WriteMachine → Standing
+standing m = record { kind = next_kind_of m; place = place_so_far m; fault = fault_so_far m }
 
 -- ---- since a start
 
@@ -91,27 +94,6 @@ pub record IsSameWrite (m next : WriteMachine) : Type 0 where
   pub at : next.at ≡ m.at
   pub len : next.len ≡ m.len
 
--- The pass has made one step, after the device calls that lie before it. It was of the kind that was said, where none of these has failed; the write has
--- had a fault where it had one before, or one of them has failed; and it has its place where it had one before, or took it by this step.
-pub record IsOneStep (m next : WriteMachine) (old new : PassState) : Type 0 where
-  pub step : PassStep
-  pub is : HasTaken step old new
-  pub kind : fault_in step.works ≡ None → kind_of_op step.op ≡ next_kind_of m
-  pub fault : fault_so_far next ≡ either_of (fault_so_far m) (fault_in step.works)
-  pub place : place_so_far next ≡ either_of (place_so_far m) (place_by step.op step.found)
-
--- It has made no step, since the write is refused by what it asks for.
-pub record IsNoStep (fds : List Fd) (m next : WriteMachine) (old new : PassState) (progress : Progress) : Type 0 where
-  pub refusal : Refusal
-  pub early : early_of old.view.opened.sizes fds m ≡ Some refusal
-  pub answer : progress ≡ Ended (Err refusal)
-  pub stays : next ≡ m
-  pub same : new ≡ old
-
--- An advance makes one step, or, where the write is refused before its first step, none.
-abbrev pub IsOneOrNone : List Fd → (m next : WriteMachine) → (old new : PassState) → Progress → Type 0
-IsOneOrNone fds m next old new progress = IsNoStep fds m next old new progress ⊎ IsOneStep m next old new
-
 -- ---- how many steps may still come
 
 abbrev pub measure_at : Sizes → WriteMachine → WriteControl → ℕ
@@ -121,17 +103,11 @@ measure_at sizes m (writes.Running write) = write_measure write
 abbrev pub measure : Sizes → WriteMachine → ℕ
 measure sizes m = measure_at sizes m m.control
 
--- a write that goes on has fewer steps before it
-abbrev pub IsFewer : Sizes → (m next : WriteMachine) → Progress → Type 0
-IsFewer sizes m next More = measure sizes next < measure sizes m
-IsFewer sizes m next (Ended result) = Unit {0}
-
 -- ---- its parts
 
 -- what an advance came to behind which the write is so
 abbrev pub progress_of : (len : ℕ) → RunningWrite → Progress
-progress_of len (Over (Ok place)) = Ended (Ok record { place = place; len = len })
-progress_of len (Over (Err refusal)) = Ended (Err refusal)
+progress_of len (Over result) = Ended (answer_of len result)
 progress_of len write = More
 
 -- the machine with its list put in: it stands where it stood

@@ -2,8 +2,8 @@
 use Rattle.std.proofs.Common.{◌≡◌, List, ℕ, rules, sym, subst, ◌∙◌}
 use Rattle.nv_table.specs.state.States.{PassState}
 use Rattle.nv_mount.specs.declared.fds.Fd.{Fd}
-use Rattle.nv_calls.specs.declared.machine.Progress.{Progress}
-use Rattle.nv_calls.specs.declared.machine.Progress.TheVariants.{More}
+use Rattle.nv_calls.specs.declared.progress.Progress.{Progress}
+use Rattle.nv_calls.specs.declared.progress.Progress.TheVariants.{More}
 use Rattle.nv_calls.specs.declared.reading.ReadMachine.{ReadMachine}
 use Rattle.nv_calls.specs.reads.Reads.{IsReadUnderWay, ReadGoes}
 use Rattle.nv_board_tests.proofs.reads.a_held_page_is_busy.Goals as goal

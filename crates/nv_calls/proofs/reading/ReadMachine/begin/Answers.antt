@@ -9,7 +9,7 @@ use Rattle.nv_table.specs.invariant.Idle.{IsIdle}
 use Rattle.nv_table.specs.steps.StepContracts.{Postcondition}
 use Rattle.nv_table.specs.state.States.{PassState}
 use Rattle.nv_mount.specs.declared.fds.Fd.{Fd}
-use Rattle.nv_calls.specs.declared.machine.Progress.TheVariants.{More}
+use Rattle.nv_calls.specs.declared.progress.Progress.TheVariants.{More}
 use Rattle.nv_calls.specs.declared.reading.ReadMachine.{ReadMachine}
 use Rattle.nv_calls.specs.declared.reading.ReadControl.{ReadControl}
 use Rattle.nv_calls.specs.declared.reading.ReadControl.TheVariants as reads

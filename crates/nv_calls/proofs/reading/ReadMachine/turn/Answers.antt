@@ -1,7 +1,7 @@
 -- HAND is raised, and the HINT of the buffer that it has come to is next.
 use Rattle.std.proofs.Common.{◌+◌, ◌%◌, refl, sym, ap, subst}
 use Rattle.nv_core.specs.state.Words.{Sizes}
-use Rattle.nv_calls.specs.declared.machine.Progress.TheVariants.{More}
+use Rattle.nv_calls.specs.declared.progress.Progress.TheVariants.{More}
 use Rattle.nv_calls.specs.declared.reading.ReadControl.TheVariants as reads
 use Rattle.nv_calls.specs.reads.Reads.{ReadGoes}
 use Rattle.nv_calls.proofs.reads.ArmLaws.{at_control, arm}

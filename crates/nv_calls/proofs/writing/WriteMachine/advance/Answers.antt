@@ -1,12 +1,12 @@
 -- The write with its list in makes the step, and goes on with it taken out.
-use Rattle.std.proofs.Common.{◌≡◌, sym, ap, subst, inl, inr, ◌∙◌}
-use Rattle.nv_core.specs.state.Words.{Sizes}
+use Rattle.std.proofs.Common.{sym, ap, subst, inr}
 use Rattle.nv_plain.specs.declared.call.FileCall.TheVariants.{Write}
 use Rattle.nv_table.specs.state.Opened.{Opened}
 use Rattle.nv_ring.specs.declared.write.RunningWrite.{RunningWrite}
+use Rattle.nv_calls.specs.calls.Advances.{IsOneOrNone}
 use Rattle.nv_calls.specs.declared.writing.WriteControl.TheVariants as writes
-use Rattle.nv_calls.specs.declared.machine.Progress.{Progress}
-use Rattle.nv_calls.specs.writes.WriteMachines.{IsOfFile, IsOneOrNone, WriteGoes, progress_of}
+use Rattle.nv_calls.specs.declared.progress.Progress.{Progress}
+use Rattle.nv_calls.specs.writes.WriteMachines.{IsOfFile, WriteGoes, early_of, progress_of, standing}
 use Rattle.nv_calls.proofs.writes.MachineLaws.{goes_on, steps_on}
 use Rattle.nv_calls.proofs.writing.WriteMachine.advance.Goals as goal
 
@@ -21,7 +21,7 @@ pub returns-clause-one : goal.returns-clause-one
 returns-clause-one g c =
     let m = c.args.self.now in
     let sizes = c.args.mount.now.board.opened.sizes in
-    subst (λ (write : RunningWrite). IsOneOrNone c.args.mount.now.fds m (record m { control = writes.Running write }) c.args.pass.now c.advance.new.pass c.progress.result) (sym c.with_list.ensures)
+    subst (λ (write : RunningWrite). IsOneOrNone standing (early_of c.args.pass.now.view.opened.sizes c.args.mount.now.fds m) m (record m { control = writes.Running write }) c.args.pass.now c.advance.new.pass c.progress.result) (sym c.with_list.ensures)
     (inr (steps_on sizes c.args.mount.now.fds m c.args.list _ c.in-Ok.write c.advance.new.self c.args.pass.now c.advance.new.pass c.in-Ok.ensures c.advance.ensures.one))
 
 pub returns-clause-goes : goal.returns-clause-goes

@@ -1,0 +1,3 @@
+-- Calls: what reads, writes and syncs have in common.
+pub mod Advances
+pub mod CallAnswers
