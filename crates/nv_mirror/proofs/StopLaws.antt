@@ -1,23 +1,23 @@
--- Stops: the steps of a read set STOP exactly where it is refused for a device fault, and those of one that is refused for another reason change nothing that stays.
-use Rattle.std.proofs.Common.{◌≡◌, ◌⊎◌, ℕ, ◌+◌, ◌^◌, ◌==◌, nat_lt, nat_le, not, ◌&&◌, ◌||◌, Bool, true, false, if◌then◌else◌, List, [], ◌∷◌, inl, inr, refl, sym, ap, ap₂, subst, ◌∙◌}
+-- Stops: the steps of a call set STOP exactly where it is refused for a device fault, and those of a read that is refused for another reason change nothing that stays.
+use Rattle.std.proofs.Common.{◌≡◌, ℕ, ◌==◌, nat_lt, ◌||◌, ◌⊎◌, ◌+◌, ◌^◌, Bool, true, false, if◌then◌else◌, List, [], ◌∷◌, inl, inr, refl, sym, ap, ap₂, subst, ◌∙◌}
 use Rattle.std.specs.Prelude.{Option, Some, None}
 use Rattle.nv_plain.specs.declared.call.FileCall.{FileCall}
 use Rattle.nv_plain.specs.declared.call.FileCall.TheVariants.{Read}
 use Rattle.nv_core.specs.invariant.InvariantLaws.{RunsAreSound}
 use Rattle.nv_core.specs.invariant.Ownership.{is_among}
+use Rattle.nv_core.specs.state.Cleaner.{TakeCleaner}
 use Rattle.nv_core.specs.state.Core.{control_worked, worked, values_worked}
-use Rattle.nv_core.specs.state.Passes.{Control, Pass, Idle, TakePage, LoadLength, TakeSize, LoadStop, LoadOrder, VisitPage, TakeCleanup, TakeStore, ReadStore, GiveStore, Searching, ReadLoadHead, LoadEntry, HoldEntry, ReadPiece, ReturnEntry, GiveCleanup, WriteLoadHead, WriteLoadTail, DrawNumbers, CommitGroup, PledgePage, TakePlace, GrowLength, GiveSize, GivePage, GiveBack, SetStopAfterRead, SetStopAfterPiece, SetStopAfterCommit, Cleaning, is_read, is_write, first_page, end_page, page_count, without}
+use Rattle.nv_core.specs.state.Passes.{Control, Pass, Idle, TakePage, LoadLength, TakeSize, LoadStop, LoadOrder, VisitPage, Search, NotFound, TakeVictim, Searching, TakeCleanup, TakeStore, ReadStore, GiveStore, ReadLoadHead, ReadLoadTail, LoadEntry, HoldEntry, ReadPiece, ReturnEntry, GiveCleanup, WriteLoadHead, WriteLoadTail, DrawNumbers, SeizeEntry, CommitGroup, PledgePage, ReadyEntry, TakePlace, GrowLength, GiveSize, GivePage, GiveBack, SetStopAfterRead, SetStopAfterPiece, SetStopAfterCommit, BreakEntry, Cleaning, is_read, is_write, first_page, end_page, page_count, without}
 use Rattle.nv_core.specs.state.Values.{CallEnding, Made, Failed, Refused}
-use Rattle.nv_core.specs.state.Words.{Sizes, Word, STOP, ORDER, HEAD, TAIL, LENGTH, SIZE, STORE, ENTRY, HINT, PAGE, CLEANUP, DIRTY, ready, is_entry_of, slot_of_entry, place}
-use Rattle.nv_core.specs.steps.ControlSteps.{control_after, copying, first_control, hinted, leaving, giving, ending, ordered, scanning, after_give, after_head, after_hold, after_load, after_look, after_return, after_stop, after_tail, exceeds}
+use Rattle.nv_core.specs.state.Words.{Sizes, Word, STOP, ORDER, HEAD, TAIL, LENGTH, STORE, ENTRY, HINT, PAGE, SIZE, CLEANUP, DIRTY, slot_of_entry, place}
+use Rattle.nv_core.specs.steps.ControlSteps.{control_after, first_control, leaving, giving, ending, ordered, scanning, after_give, after_head, after_load, after_look, after_page, after_return, after_stop, after_tail, after_hold, copying, hinted, refused}
 use Rattle.nv_core.specs.steps.Frames.{OwnEventsTell}
 use Rattle.nv_core.specs.steps.Opening.{IsMount}
-use Rattle.nv_core.specs.steps.Ops.{Op, Load, Take, Give, Place, Stop, Draw, Hold, Return, Turn, Hint, Split, PutBack, Join}
-use Rattle.nv_core.specs.steps.Order.{Values, Work, Enabled, CallDue, IsFailing}
-use Rattle.nv_core.specs.steps.StepKinds.{MayLoad, MayTake, EnabledByKind}
-use Rattle.nv_core.proofs.state.Choices.{if_both, page_tried, IsGivingBack, gives_back as gives_back_at}
-use Rattle.nv_core.proofs.steps.CleanerControls.{of_cleaner_worked}
+use Rattle.nv_core.specs.steps.Ops.{Op, Load, Take, Give, Place, Stop, Draw, Seize, Pledge, Ready, Grow, Break, Hold, Return, Turn, Hint, ByCleaner, Split, PutBack, Join}
+use Rattle.nv_core.specs.steps.Order.{Values, Work, Enabled, CallDue, IsFailing, IsBatchEntry, step_at}
+use Rattle.nv_core.proofs.state.Choices.{if_both}
 use Rattle.nv_core.proofs.steps.NextSteps.{next_steps_may_come}
+use Rattle.nv_core.proofs.steps.CleanerControls.{of_cleaner_worked}
 use Rattle.nv_table.specs.state.Opened.{Opened, mount_of}
 use Rattle.nv_table.specs.state.States.{PassState}
 use Rattle.nv_table.specs.state.Views.{PassView, pass_of}
@@ -29,8 +29,9 @@ use Rattle.nv_mirror.specs.declared.answers.Refusal.TheVariants.{Busy, Stopped, 
 use Rattle.nv_mirror.specs.OwnSteps.{AreOwn, ArePassing, gives_back, is_own, is_passing}
 use Rattle.nv_mirror.specs.PassSteps.{PassStep, HasMade, HasTaken, busy_at, either_of, fault_at, fault_by, fault_in, head_in, if_own, is_fault, is_stop, place_by, place_in, refusal_in, refused_by, stops_in}
 
--- no device has failed
-abbrev IsCalm : Control → Type 0
+-- ---- no device has failed
+
+abbrev pub IsCalm : Control → Type 0
 IsCalm control = IsFailing control → ⊥
 
 leaving_calm : (owned : List Word) → IsCalm (leaving owned)
@@ -40,10 +41,138 @@ leaving_calm (cell ∷ rest) fails = fails
 first_calm : (sizes : Sizes) (call : FileCall) → IsCalm (first_control sizes call)
 first_calm sizes call = if_both IsCalm (page_count sizes call == 0) LoadStop (TakePage (first_page sizes call)) (λ _ fails. fails) (λ _ fails. fails)
 
+giving_calm : (sizes : Sizes) (call : FileCall) → IsCalm (giving sizes call)
+giving_calm sizes call = if_both IsCalm (page_count sizes call == 0) Idle (GivePage (first_page sizes call)) (λ _ fails. fails) (λ _ fails. fails)
+
+ordered_calm : (sizes : Sizes) (call : FileCall) → IsCalm (ordered sizes call)
+ordered_calm sizes call =
+    if_both IsCalm (is_write call) WriteLoadHead (if is_read call then VisitPage (first_page sizes call) else TakePlace) (λ _ fails. fails)
+    (λ _. if_both IsCalm (is_read call) (VisitPage (first_page sizes call)) TakePlace (λ _ fails. fails) (λ _ fails. fails))
+
+-- nor behind a step
+module _ (sizes : Sizes) (pass : Pass) where
+  ending_calm : IsCalm (ending sizes pass)
+  ending_calm = if_both IsCalm pass.sized GiveSize (giving sizes pass.call) (λ _ fails. fails) (λ _. giving_calm sizes pass.call)
+
+  scanning_calm : (page number : ℕ) → IsCalm (scanning pass page number)
+  scanning_calm page number = if_both IsCalm (nat_lt number pass.head) (LoadEntry page number) (GiveCleanup page) (λ _ fails. fails) (λ _ fails. fails)
+
+  head_calm : (found : ℕ) (control : Control) → IsCalm (after_head sizes pass found control)
+  head_calm found (ReadLoadHead page) = λ fails. fails
+  head_calm found control = if_both IsCalm _ WriteLoadTail (leaving pass.owned) (λ _ fails. fails) (λ _. leaving_calm pass.owned)
+
+  tail_calm : (found : ℕ) (control : Control) → IsCalm (after_tail sizes pass found control)
+  tail_calm found (ReadLoadTail page) = scanning_calm page found
+  tail_calm found control = if_both IsCalm _ DrawNumbers (leaving pass.owned) (λ _ fails. fails) (λ _. leaving_calm pass.owned)
+
+  look_calm : (found : ℕ) (control : Control) → IsCalm control → IsCalm (after_look pass found control)
+  look_calm found (LoadEntry page number) calm = if_both IsCalm _ (HoldEntry page number) (scanning pass page (number + 1)) (λ _ fails. fails) (λ _. scanning_calm page (number + 1))
+  look_calm found control calm = calm
+
+  hint_calm : (buffer victim : ℕ) (control : Control) → IsCalm control → IsCalm (hinted sizes pass.call buffer victim control)
+  hint_calm buffer victim (Searching page tries search) calm = λ fails. fails
+  hint_calm buffer victim control calm = calm
+
+  load_calm : (word : Word) (found : ℕ) → IsCalm pass.control → IsCalm (after_load sizes pass word found)
+  load_calm (LENGTH file) found calm = if_both IsCalm _ TakeSize LoadStop (λ _ fails. fails) (λ _ fails. fails)
+  load_calm STOP found calm = if_both IsCalm (found == 0) LoadOrder (leaving pass.owned) (λ _ fails. fails) (λ _. leaving_calm pass.owned)
+  load_calm ORDER found calm = if_both IsCalm _ (ordered sizes pass.call) (leaving pass.owned) (λ _. ordered_calm sizes pass.call) (λ _. leaving_calm pass.owned)
+  load_calm HEAD found calm = head_calm found pass.control
+  load_calm TAIL found calm = tail_calm found pass.control
+  load_calm (ENTRY slot) found calm = look_calm found pass.control calm
+  load_calm (DIRTY page) found calm = if_both IsCalm (found == 0) (TakeStore page false) (TakeCleanup page) (λ _ fails. fails) (λ _ fails. fails)
+  load_calm (HINT buffer) found calm = hint_calm buffer found pass.control calm
+  load_calm word found calm = calm
+
+  page_calm : (page : ℕ) (control : Control) → IsCalm (after_page sizes pass.call page control)
+  page_calm page (Searching missed tries search) = λ fails. fails
+  page_calm page control = if_both IsCalm _ LoadLength (TakePage (page + 1)) (λ _ fails. fails) (λ _ fails. fails)
+
+  store_calm : (control : Control) → IsCalm control → IsCalm (copying control)
+  store_calm (TakeStore page dirty) calm = λ fails. fails
+  store_calm control calm = calm
+
+  busy_calm : (cell : Word) (control : Control) → IsCalm (refused pass.owned cell control)
+  busy_calm (PAGE page) (Searching missed tries search) = λ fails. fails
+  busy_calm cell control = leaving_calm pass.owned
+
+  take_calm : (cell : Word) (found : ℕ) → IsCalm pass.control → IsCalm (control_after sizes pass (Take cell) found)
+  take_calm (PAGE page) found calm = if_both IsCalm (found == 0) _ _ (λ _. page_calm page pass.control) (λ _. busy_calm (PAGE page) pass.control)
+  take_calm (SIZE file) found calm = if_both IsCalm (found == 0) _ _ (λ _ fails. fails) (λ _. busy_calm (SIZE file) pass.control)
+  take_calm (STORE file) found calm = if_both IsCalm (found == 0) _ _ (λ _. store_calm pass.control calm) (λ _. busy_calm (STORE file) pass.control)
+  take_calm (CLEANUP page) found calm = if_both IsCalm (found == 0) _ _ (λ _ fails. fails) (λ _. busy_calm (CLEANUP page) pass.control)
+  take_calm cell found calm = if_both IsCalm (found == 0) _ _ (λ _. calm) (λ _. busy_calm cell pass.control)
+
+  give_calm : (cell : Word) (control : Control) → IsCalm control → IsCalm (after_give sizes pass cell control)
+  give_calm cell GiveBack calm = leaving_calm (without cell pass.owned)
+  give_calm cell GiveSize calm = giving_calm sizes pass.call
+  give_calm cell (GivePage page) calm = if_both IsCalm _ Idle (GivePage (page + 1)) (λ _ fails. fails) (λ _ fails. fails)
+  give_calm cell (GiveStore page dirty) calm = if_both IsCalm dirty (ReadLoadHead page) (VisitPage (page + 1)) (λ _ fails. fails) (λ _ fails. fails)
+  give_calm cell (GiveCleanup page) calm = λ fails. fails
+  give_calm cell (Searching page tries search) calm = λ fails. fails
+  give_calm cell control calm = calm
+
+  stop_calm : (control : Control) → IsCalm (after_stop pass control)
+  stop_calm SetStopAfterCommit = λ fails. fails
+  stop_calm (SetStopAfterPiece page number) = λ fails. fails
+  stop_calm control = leaving_calm pass.owned
+
+  return_calm : (control : Control) → IsCalm control → IsCalm (after_return sizes pass control)
+  return_calm (ReturnEntry page number failed) calm =
+      if_both IsCalm failed (leaving (without (ENTRY (slot_of_entry sizes number)) pass.owned)) (scanning pass page (number + 1)) (λ _. leaving_calm (without (ENTRY (slot_of_entry sizes number)) pass.owned)) (λ _. scanning_calm page (number + 1))
+  return_calm control calm = calm
+
+  hold_calm : (control : Control) → IsCalm control → IsCalm (after_hold control)
+  hold_calm (HoldEntry page number) calm = λ fails. fails
+  hold_calm control calm = calm
+
+  -- of a call, where none has failed before it, or it sets STOP
+  calm_after : (call : FileCall) (refusal : Option Refusal) (op : Op) (found : ℕ) → is_own call refusal op ≡ true → (is_stop op ≡ false → IsCalm pass.control) → IsCalm (control_after sizes pass op found)
+  calm_after call refusal (Load word) found own calm = load_calm word found (calm refl)
+  calm_after call refusal (Take cell) found own calm = take_calm cell found (calm refl)
+  calm_after call refusal (Give cell) found own calm = give_calm cell pass.control (calm refl)
+  calm_after call refusal (Place reply) found own calm = if_both IsCalm _ GrowLength (ending sizes pass) (λ _ fails. fails) (λ _. ending_calm)
+  calm_after call refusal Stop found own calm = stop_calm pass.control
+  calm_after call refusal Draw found own calm = if_both IsCalm _ (SeizeEntry found) (leaving pass.owned) (λ _ fails. fails) (λ _. leaving_calm pass.owned)
+  calm_after call refusal (Seize number) found own calm = if_both IsCalm _ (CommitGroup 0) (SeizeEntry (number + 1)) (λ _ fails. fails) (λ _ fails. fails)
+  calm_after call refusal (Pledge page) found own calm = if_both IsCalm _ (ReadyEntry _) (PledgePage (page + 1)) (λ _ fails. fails) (λ _ fails. fails)
+  calm_after call refusal (Ready number) found own calm = if_both IsCalm _ TakePlace (ReadyEntry _) (λ _ fails. fails) (λ _ fails. fails)
+  calm_after call refusal Grow found own calm = ending_calm
+  calm_after call refusal (Break number) found own calm =
+      let rest = without (ENTRY (slot_of_entry sizes number)) pass.owned in
+      if_both IsCalm _ (leaving rest) (BreakEntry (number + 1)) (λ _. leaving_calm rest) (λ _ fails. fails)
+  calm_after call refusal (Return number) found own calm = return_calm pass.control (calm refl)
+  calm_after call refusal (Turn page) found own calm = λ fails. fails
+  calm_after call refusal (Hint buffer page) found own calm = λ fails. fails
+  calm_after call None (ByCleaner cleaner_op) found own calm = absurd (cc)
+  calm_after call (Some refusal) (ByCleaner cleaner_op) found own calm = absurd (cc)
+  calm_after call refusal (Hold number) found own calm = hold_calm pass.control (calm refl)
+  calm_after call refusal op found own calm = calm refl
+
+-- where one has failed STOP is set next, and nothing else
+stops_there : (sizes : Sizes) (values : Values) (pass : Pass) (control : Control) → IsFailing control → step_at sizes values pass control ≡ Some Stop
+stops_there sizes values pass (SetStopAfterRead page dirty) fails = refl
+stops_there sizes values pass (SetStopAfterPiece page number) fails = refl
+stops_there sizes values pass SetStopAfterCommit fails = refl
+stops_there sizes values pass control fails = absurd fails
+
+entry_calm : (op : Op) (control : Control) → IsBatchEntry op control → IsCalm control
+entry_calm (ByCleaner (TakeCleaner most)) Idle entry = λ fails. fails
+entry_calm op control entry = absurd entry
+
+stop_so : (op : Op) → Some Stop ≡ Some op → is_stop op ≡ false → ⊥
+stop_so op is other = let same : Stop ≡ op = cc in let never : true ≡ false = ap is_stop same ∙ other in cc
+
+there_calm : (sizes : Sizes) (values : Values) (pass : Pass) (op : Op) → Enabled sizes values pass op → is_stop op ≡ false → IsCalm pass.control
+there_calm sizes values pass op may other = elim may [
+  | inl is ↦ λ fails. stop_so op (sym (stops_there sizes values pass pass.control fails) ∙ is) other
+  | inr entry ↦ entry_calm op pass.control entry
+]
+
 -- ---- device calls
 
 -- a device fault is one of an entry's part or of a store
-abbrev IsFault : Option Refusal → Type 0
+abbrev pub IsFault : Option Refusal → Type 0
 IsFault (Some RegionFault) = Unit {0}
 IsFault (Some StoreFault) = Unit {0}
 IsFault (Some refusal) = ⊥
@@ -57,6 +186,14 @@ fault_there cell = tt
 fault_of_work : (cell : Word) (ending : CallEnding) → IsFault (fault_by cell ending)
 fault_of_work cell (Failed came faults) = fault_there cell
 fault_of_work cell ending = tt
+
+either_fault : (one other : Option Refusal) → IsFault one → IsFault other → IsFault (either_of one other)
+either_fault (Some refusal) other first last = first
+either_fault None other first last = last
+
+pub faults_are : (works : List Work) → IsFault (fault_in works)
+faults_are [] = tt
+faults_are (work ∷ later) = either_fault (fault_by work.cell work.ending) (fault_in later) (fault_of_work work.cell work.ending) (faults_are later)
 
 first_fails : (one other : Option Refusal) → is_fault one ≡ true → is_fault (either_of one other) ≡ true
 first_fails (Some refusal) other fails = fails
@@ -93,18 +230,19 @@ works_fail sizes (work ∷ later) values pass due calm fails = elim (call_on siz
   | inr failed ↦ first_fails (fault_by work.cell work.ending) (fault_in later) failed
 ]
 
--- ---- its own steps
+-- ---- the steps of a call
 
-own_plain : (file at len : ℕ) (refusal : Option Refusal) (op : Op) → is_own (Read file at len) refusal op ≡ true → IsPlain op
-own_plain file at len None Split own = absurd (cc)
-own_plain file at len None (PutBack cell) own = absurd (cc)
-own_plain file at len None (Join number) own = absurd (cc)
-own_plain file at len (Some refusal) Split own = absurd (cc)
-own_plain file at len (Some refusal) (PutBack cell) own = absurd (cc)
-own_plain file at len (Some refusal) (Join number) own = absurd (cc)
-own_plain file at len refusal op own = tt
+-- none of them is between passes
+pub own_plain : (call : FileCall) (refusal : Option Refusal) (op : Op) → is_own call refusal op ≡ true → IsPlain op
+own_plain call None Split own = absurd (cc)
+own_plain call None (PutBack cell) own = absurd (cc)
+own_plain call None (Join number) own = absurd (cc)
+own_plain call (Some refusal) Split own = absurd (cc)
+own_plain call (Some refusal) (PutBack cell) own = absurd (cc)
+own_plain call (Some refusal) (Join number) own = absurd (cc)
+own_plain call refusal op own = tt
 
-mild_both : (b : Bool) (one other : Option Refusal) → is_fault one ≡ false → is_fault other ≡ false → is_fault (if b then one else other) ≡ false
+pub mild_both : (b : Bool) (one other : Option Refusal) → is_fault one ≡ false → is_fault other ≡ false → is_fault (if b then one else other) ≡ false
 mild_both true one other first last = first
 mild_both false one other first last = last
 
@@ -112,136 +250,7 @@ or_false : (b : Bool) → b || false ≡ b
 or_false true = refl
 or_false false = refl
 
--- ---- behind one step
-
-module _ (sizes : Sizes) (values : Values) (pass : Pass) where
-  scanning_calm : (page number : ℕ) → IsCalm (scanning pass page number)
-  scanning_calm page number = if_both IsCalm (nat_lt number pass.head) (LoadEntry page number) (GiveCleanup page) (λ _ fails. fails) (λ _ fails. fails)
-
-  ordered_calm : IsCalm (ordered sizes pass.call)
-  ordered_calm = if_both IsCalm (is_write pass.call) WriteLoadHead (if is_read pass.call then VisitPage (first_page sizes pass.call) else TakePlace) (λ _ fails. fails)
-      (λ _. if_both IsCalm (is_read pass.call) (VisitPage (first_page sizes pass.call)) TakePlace (λ _ fails. fails) (λ _ fails. fails))
-
-  giving_calm : IsCalm (giving sizes pass.call)
-  giving_calm = if_both IsCalm (page_count sizes pass.call == 0) Idle (GivePage (first_page sizes pass.call)) (λ _ fails. fails) (λ _ fails. fails)
-
-  ending_calm : IsCalm (ending sizes pass)
-  ending_calm = if_both IsCalm pass.sized GiveSize (giving sizes pass.call) (λ _ fails. fails) (λ _. giving_calm)
-
-  loads_calm : (word : Word) (found : ℕ) → MayLoad sizes values pass word → IsCalm (after_load sizes pass word found)
-  loads_calm (LENGTH one) found may = if_both IsCalm (exceeds pass found && not pass.sized) TakeSize LoadStop (λ _ fails. fails) (λ _ fails. fails)
-  loads_calm STOP found may = if_both IsCalm (found == 0) LoadOrder (leaving pass.owned) (λ _ fails. fails) (λ _. leaving_calm pass.owned)
-  loads_calm ORDER found may = if_both IsCalm (nat_lt found (2 ^ 60)) (ordered sizes pass.call) (leaving pass.owned) (λ _. ordered_calm) (λ _. leaving_calm pass.owned)
-  loads_calm HEAD found (inl is) = subst (λ s. IsCalm (after_head sizes pass found s)) (sym is)
-      (if_both IsCalm (nat_le (found + page_count sizes pass.call) (2 ^ 60)) WriteLoadTail (leaving pass.owned) (λ _ fails. fails) (λ _. leaving_calm pass.owned))
-  loads_calm HEAD found (inr may) = subst (λ s. IsCalm (after_head sizes pass found s)) (sym may.1) (λ fails. fails)
-  loads_calm TAIL found (inl is) = subst (λ s. IsCalm (after_tail sizes pass found s)) (sym is)
-      (if_both IsCalm (nat_le (pass.head + page_count sizes pass.call) (found + sizes.entries)) DrawNumbers (leaving pass.owned) (λ _ fails. fails) (λ _. leaving_calm pass.owned))
-  loads_calm TAIL found (inr may) = subst (λ s. IsCalm (after_tail sizes pass found s)) (sym may.1) (scanning_calm may.0 found)
-  loads_calm (ENTRY slot) found may = subst (λ s. IsCalm (after_look pass found s)) (sym may.2)
-      (if_both IsCalm (is_entry_of ready may.0 found) (HoldEntry may.0 may.1) (scanning pass may.0 (may.1 + 1)) (λ _ fails. fails) (λ _. scanning_calm may.0 (may.1 + 1)))
-  loads_calm (DIRTY page) found may = if_both IsCalm (found == 0) (TakeStore page false) (TakeCleanup page) (λ _ fails. fails) (λ _ fails. fails)
-  loads_calm (HINT buffer) found may = subst (λ s. IsCalm (hinted sizes pass.call buffer found s)) (sym may.is) (λ fails. fails)
-  loads_calm word found may = absurd may
-
-  takes_calm : (cell : Word) (found : ℕ) → MayTake pass cell → IsCalm (control_after sizes pass (Take cell) found)
-  takes_calm (PAGE page) found may = page_tried IsCalm sizes pass page found (λ fails. fails) (λ fails. fails) (leaving_calm pass.owned) (λ missed tries search fails. fails) may
-  takes_calm (SIZE one) found may = if_both IsCalm (found == 0) LoadLength (leaving pass.owned) (λ _ fails. fails) (λ _. leaving_calm pass.owned)
-  takes_calm (STORE one) found may = if_both IsCalm (found == 0) (copying pass.control) (leaving pass.owned) (λ _. subst (λ s. IsCalm (copying s)) (sym may.2) (λ fails. fails)) (λ _. leaving_calm pass.owned)
-  takes_calm (CLEANUP page) found may = if_both IsCalm (found == 0) (TakeStore page true) (leaving pass.owned) (λ _ fails. fails) (λ _. leaving_calm pass.owned)
-  takes_calm cell found may = absurd may
-
-  gives_calm : (cell : Word) (control : Control) → IsGivingBack control → IsCalm (after_give sizes pass cell control)
-  gives_calm cell GiveBack may = leaving_calm (without cell pass.owned)
-  gives_calm cell GiveSize may = giving_calm
-  gives_calm cell (GivePage page) may = if_both IsCalm (page + 1 == end_page sizes pass.call) Idle (GivePage (page + 1)) (λ _ fails. fails) (λ _ fails. fails)
-  gives_calm cell (GiveStore page dirty) may = if_both IsCalm dirty (ReadLoadHead page) (VisitPage (page + 1)) (λ _ fails. fails) (λ _ fails. fails)
-  gives_calm cell (GiveCleanup page) may = λ fails. fails
-  gives_calm cell (Searching page tries search) may = λ fails. fails
-  gives_calm cell control may = absurd may
-
-  stops_calm : (control : Control) → IsFailing control → IsCalm (after_stop pass control)
-  stops_calm (SetStopAfterRead page dirty) may = leaving_calm pass.owned
-  stops_calm (SetStopAfterPiece page number) may = λ fails. fails
-  stops_calm SetStopAfterCommit may = λ fails. fails
-  stops_calm control may = absurd may
-
-  returns_calm : (page number : ℕ) (failed : Bool) → IsCalm (after_return sizes pass (ReturnEntry page number failed))
-  returns_calm page number failed =
-      let rest = without (ENTRY (slot_of_entry sizes number)) pass.owned in
-      if_both IsCalm failed (leaving rest) (scanning pass page (number + 1)) (λ _. leaving_calm rest) (λ _. scanning_calm page (number + 1))
-
-  -- behind no step of a read a device has failed
-  after_calm : (file at len : ℕ) (refusal : Option Refusal) (op : Op) (found : ℕ) → EnabledByKind sizes values pass op → is_own (Read file at len) refusal op ≡ true → IsCalm (control_after sizes pass op found)
-  after_calm file at len refusal (Load word) found may own = loads_calm word found may
-  after_calm file at len refusal (Take cell) found may own = takes_calm cell found may
-  after_calm file at len refusal (Give cell) found may own = gives_calm cell pass.control (gives_back_at pass cell pass.control may)
-  after_calm file at len refusal (Place reply) found may own = if_both IsCalm (is_write pass.call && exceeds pass pass.length) GrowLength (ending sizes pass) (λ _ fails. fails) (λ _. ending_calm)
-  after_calm file at len refusal Stop found may own = stops_calm pass.control may
-  after_calm file at len refusal (Hold number) found may own = subst (λ s. IsCalm (after_hold s)) (sym may.1) (λ fails. fails)
-  after_calm file at len refusal (Return number) found may own = subst (λ s. IsCalm (after_return sizes pass s)) (sym may.2) (returns_calm may.0 number may.1)
-  after_calm file at len refusal (Turn page) found may own = λ fails. fails
-  after_calm file at len refusal (Hint buffer page) found may own = λ fails. fails
-  after_calm file at len None op found may own = absurd (cc)
-  after_calm file at len (Some refusal) op found may own = absurd (cc)
-
--- ---- the steps of a read
-
-module _ (sound : RunsAreSound) (tell : OwnEventsTell) (sizes : Sizes) (file at len : ℕ) (start : PassState) (mount : IsMount (mount_of start.view.opened)) where
-  abbrev call : FileCall
-  call = Read file at len
-
-  -- what is so of the pass after some steps
-  record Stands (now : PassState) : Type 0 where
-    opened : now.view.opened ≡ start.view.opened
-    calm : IsCalm (pass_of now.view).control
-
-  -- a step, with the pass as it finds it
-  module _ (step : PassStep) (middle now : PassState) (opened : middle.view.opened ≡ start.view.opened) (taken : HasTaken step middle now) (refusal : Option Refusal) (own : is_own (Read file at len) refusal step.op ≡ true) where
-    abbrev seen : PassView
-    seen = taken.before.view
-
-    abbrev there : Pass
-    there = pass_before seen step.opens taken.stepped.works
-
-    seen_opened : seen.opened ≡ start.view.opened
-    seen_opened = ap (λ (v : PassView). v.opened) taken.between.view ∙ opened
-
-    come : IsMadeAt seen taken.stepped.steps.run taken.stepped.works step.opens step.op step.found
-    come = made_at sound tell seen now.view taken.stepped.works step.opens step.op step.found (subst (λ (o : Opened). IsMount (mount_of o)) (sym seen_opened) mount) taken.stepped.steps
-
-    may : EnabledByKind seen.opened.sizes come.core.values there step.op
-    may = next_steps_may_come seen.opened.sizes come.core.values there step.op
-        (subst (λ p. Enabled seen.opened.sizes come.core.values p step.op) come.own (step_of seen.opened.sizes seen.number come.core step.op (own_plain file at len refusal step.op own) come.may.may))
-
-    stands_on : Stands now
-    stands_on = record {
-      opened = ap (λ (v : PassView). v.opened) taken.stepped.steps.is ∙ seen_opened;
-      calm = λ fails.
-          after_calm seen.opened.sizes come.core.values there file at len refusal step.op step.found may own (subst IsFailing (ap (λ (p : Pass). p.control) taken.stepped.pass) fails);
-    }
-
-    -- where it sets STOP a device has failed
-    stop_fails : step.op ≡ Stop → IsFailing there.control
-    stop_fails is = subst (EnabledByKind seen.opened.sizes come.core.values there) is may
-
-    first_sets : step.opens ≡ Some call → step.op ≡ Stop → ⊥
-    first_sets opens is =
-        let first = ap (λ o. (with_call seen.opened.sizes o (pass_worked seen.opened.sizes taken.stepped.works (pass_of seen))).control) opens in
-        first_calm seen.opened.sizes call (subst IsFailing first (stop_fails is))
-
-    later_sets : step.opens ≡ None → IsCalm (pass_of middle.view).control → step.op ≡ Stop → is_fault (fault_in step.works) ≡ true
-    later_sets opens calm is =
-        let there_is = ap (λ o. (with_call seen.opened.sizes o (pass_worked seen.opened.sizes taken.stepped.works (pass_of seen))).control) opens in
-        ap (λ works. is_fault (fault_in works)) (sym taken.works_are)
-        ∙ works_fail seen.opened.sizes taken.stepped.works _ (pass_of seen) taken.stepped.due (λ fails. calm (subst (λ (v : PassView). IsFailing (pass_of v).control) taken.between.view fails))
-        (subst IsFailing there_is (stop_fails is))
-
-  stands : (steps : List PassStep) (now : PassState) → HasMade steps start now → AreOwn sizes call steps → Stands now
-  stands [] now all own = absurd own
-  stands (step ∷ []) now all own = stands_on step all.0 now (ap (λ (p : PassState). p.view.opened) all.1) all.2 None own.1
-  stands (step ∷ (other ∷ earlier)) now all own = stands_on step all.0 now (stands (other ∷ earlier) all.0 all.1 own.2).opened all.2 (refusal_in sizes call (other ∷ earlier)) own.1
-
+module _ (sizes : Sizes) (call : FileCall) where
   -- a step sets STOP where it refuses its call for a device fault
   sets_by : (head : ℕ) (works : List Work) (op : Op) (found : ℕ) → (op ≡ Stop → is_fault (fault_in works) ≡ true) → is_stop op ≡ is_fault (refused_by sizes call head works op found)
   sets_by head works (Take (PAGE page)) found fails =
@@ -251,8 +260,8 @@ module _ (sound : RunsAreSound) (tell : OwnEventsTell) (sizes : Sizes) (file at 
   sets_by head works (Take cell) found fails = sym (mild_both (found == 0) None (Some (Busy (place sizes cell))) refl refl)
   sets_by head works (Load STOP) found fails = sym (mild_both (found == 0) None (Some Stopped) refl refl)
   sets_by head works (Load ORDER) found fails = sym (mild_both (nat_lt found (2 ^ 60)) None (Some (Spent found)) refl refl)
-  sets_by head works (Load HEAD) found fails = sym (mild_both (is_write call && not (nat_le (found + page_count sizes call) (2 ^ 60))) (Some (Spent found)) None refl refl)
-  sets_by head works (Load TAIL) found fails = sym (mild_both (is_write call && not (nat_le (head + page_count sizes call) (found + sizes.entries))) (Some (Again head found)) None refl refl)
+  sets_by head works (Load HEAD) found fails = sym (mild_both _ (Some (Spent found)) None refl refl)
+  sets_by head works (Load TAIL) found fails = sym (mild_both _ (Some (Again head found)) None refl refl)
   sets_by head works Draw found fails = sym (mild_both (found == head) None (Some (Raced head found)) refl refl)
   sets_by head works Stop found fails = sym (fails refl)
   sets_by head works op found fails = refl
@@ -270,17 +279,69 @@ module _ (sound : RunsAreSound) (tell : OwnEventsTell) (sizes : Sizes) (file at 
       ap₂ (λ a b. a || b) (set ∙ ap is_fault so_far) (back_unset refusal step.op (sym (ap (λ r. is_own call r step.op) so_far) ∙ own)) ∙ or_false (is_fault (Some refusal))
       ∙ sym (ap (λ r. is_fault (either_of r (refused_by sizes call (head_in earlier) step.works step.op step.found))) so_far)
 
-  -- its steps set STOP exactly where it is refused for a device fault
-  pub read_sets_stop : (steps : List PassStep) (now : PassState) → HasMade steps start now → AreOwn sizes (Read file at len) steps → stops_in steps ≡ is_fault (refusal_in sizes (Read file at len) steps)
-  read_sets_stop [] now all own = absurd own
-  read_sets_stop (step ∷ []) now all own =
-      next_sets step [] None refl refl own.1 (λ is. absurd (first_sets step all.0 now (ap (λ (p : PassState). p.view.opened) all.1) all.2 None own.1 own.0 is))
-  read_sets_stop (step ∷ (other ∷ earlier)) now all own =
-      let was = stands (other ∷ earlier) all.0 all.1 own.2 in
-      let refusal = refusal_in sizes call (other ∷ earlier) in
-      next_sets step (other ∷ earlier) refusal refl (read_sets_stop (other ∷ earlier) all.0 all.1 own.2) own.1 (later_sets step all.0 now was.opened all.2 refusal own.1 own.0 was.calm)
+  module _ (sound : RunsAreSound) (tell : OwnEventsTell) (start : PassState) (mount : IsMount (mount_of start.view.opened)) where
+    -- what is so of the pass after some steps
+    record Stands (now : PassState) : Type 0 where
+      opened : now.view.opened ≡ start.view.opened
+      calm : IsCalm (pass_of now.view).control
 
--- ---- one that sets no STOP and takes no place
+    -- a step behind some, with the pass as it finds it
+    module _ (step : PassStep) (middle now : PassState) (opened : middle.view.opened ≡ start.view.opened) (taken : HasTaken step middle now) (refusal : Option Refusal) (own : is_own call refusal step.op ≡ true) where
+      abbrev seen : PassView
+      seen = taken.before.view
+
+      abbrev there : Pass
+      there = pass_before seen step.opens taken.stepped.works
+
+      seen_opened : seen.opened ≡ start.view.opened
+      seen_opened = ap (λ (v : PassView). v.opened) taken.between.view ∙ opened
+
+      come : IsMadeAt seen taken.stepped.steps.run taken.stepped.works step.opens step.op step.found
+      come = made_at sound tell seen now.view taken.stepped.works step.opens step.op step.found (subst (λ (o : Opened). IsMount (mount_of o)) (sym seen_opened) mount) taken.stepped.steps
+
+      may : Enabled seen.opened.sizes come.core.values there step.op
+      may = subst (λ p. Enabled seen.opened.sizes come.core.values p step.op) come.own (step_of seen.opened.sizes seen.number come.core step.op (own_plain call refusal step.op own) come.may.may)
+
+      stands_on : Stands now
+      stands_on = record {
+        opened = ap (λ (v : PassView). v.opened) taken.stepped.steps.is ∙ seen_opened;
+        calm = λ fails.
+            calm_after seen.opened.sizes there call refusal step.op step.found own (there_calm seen.opened.sizes come.core.values there step.op may)
+            (subst IsFailing (ap (λ (p : Pass). p.control) taken.stepped.pass) fails);
+      }
+
+      -- where it sets STOP a device has failed
+      fails_there : step.op ≡ Stop → IsFailing there.control
+      fails_there is = next_steps_may_come seen.opened.sizes come.core.values there Stop (subst (Enabled seen.opened.sizes come.core.values there) is may)
+
+      first_sets : step.opens ≡ Some call → step.op ≡ Stop → ⊥
+      first_sets opens is =
+          first_calm seen.opened.sizes call
+          (subst IsFailing (ap (λ o. (with_call seen.opened.sizes o (pass_worked seen.opened.sizes taken.stepped.works (pass_of seen))).control) opens) (fails_there is))
+
+      later_sets : step.opens ≡ None → Stands middle → step.op ≡ Stop → is_fault (fault_in step.works) ≡ true
+      later_sets opens was is =
+          ap (λ works. is_fault (fault_in works)) (sym taken.works_are)
+          ∙ works_fail seen.opened.sizes taken.stepped.works _ (pass_of seen) taken.stepped.due (λ fails. was.calm (subst (λ (v : PassView). IsFailing (pass_of v).control) taken.between.view fails))
+          (subst IsFailing (ap (λ o. (with_call seen.opened.sizes o (pass_worked seen.opened.sizes taken.stepped.works (pass_of seen))).control) opens) (fails_there is))
+
+    stands : (steps : List PassStep) (now : PassState) → HasMade steps start now → AreOwn sizes call steps → Stands now
+    stands [] now all own = absurd own
+    stands (step ∷ []) now all own = stands_on step all.0 now (ap (λ (p : PassState). p.view.opened) all.1) all.2 None own.1
+    stands (step ∷ (other ∷ earlier)) now all own =
+        stands_on step all.0 now (stands (other ∷ earlier) all.0 all.1 own.2).opened all.2 (refusal_in sizes call (other ∷ earlier)) own.1
+
+    -- its steps set STOP exactly where it is refused for a device fault
+    pub sets_stop : (steps : List PassStep) (now : PassState) → HasMade steps start now → AreOwn sizes call steps → stops_in steps ≡ is_fault (refusal_in sizes call steps)
+    sets_stop [] now all own = absurd own
+    sets_stop (step ∷ []) now all own =
+        next_sets step [] None refl refl own.1 (λ is. absurd (first_sets step all.0 now (ap (λ (p : PassState). p.view.opened) all.1) all.2 None own.1 own.0 is))
+    sets_stop (step ∷ (other ∷ earlier)) now all own =
+        let was = stands (other ∷ earlier) all.0 all.1 own.2 in
+        let refusal = refusal_in sizes call (other ∷ earlier) in
+        next_sets step (other ∷ earlier) refusal refl (sets_stop (other ∷ earlier) all.0 all.1 own.2) own.1 (later_sets step all.0 now was.opened all.2 refusal own.1 own.0 was)
+
+-- ---- a read that sets no STOP and takes no place
 
 passes_so : (file at len : ℕ) (refusal : Option Refusal) (op : Op) (found : ℕ) → is_own (Read file at len) refusal op ≡ true → is_stop op ≡ false → place_by op found ≡ None → is_passing op ≡ true
 passes_so file at len refusal (Load word) found own unset unplaced = refl
