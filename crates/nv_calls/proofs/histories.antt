@@ -1,8 +1,6 @@
 -- Histories: what the steps of a call tell.
 pub mod CompleteLaws
-pub mod OwnLaws
 pub mod HeedsLaws
-pub mod OverLaws
+pub mod SinceLaws
 pub mod UnmovedLaws
-pub mod WriteLaws
 pub mod WriteStages

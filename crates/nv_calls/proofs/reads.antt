@@ -1,26 +1,4 @@
--- Reads: what each step of them leads to.
-pub mod WayLaws
-pub mod ArmLaws
-pub mod ReadLaws
-pub mod LockLaws
-pub mod FrontLaws
-pub mod HeldLaws
-pub mod SearchLaws
-pub mod BeginLaws
-pub mod EndLaws
-pub mod LeaveLaws
-pub mod LengthLaws
-pub mod OnwardLaws
-pub mod OrderLaws
-pub mod PlaceLaws
-pub mod MeasureLaws
-pub mod AdvanceLaws
-pub mod UnlockLaws
-pub mod LookLaws
-pub mod CopyAdvances
-pub mod CopyLaws
-pub mod CopyWays
-pub mod FetchLaws
-pub mod PatchLaws
-pub mod PatchedLaws
+-- Laws about reads.
 pub mod AloneLaws
+pub mod MachineLaws
+pub mod OverLaws

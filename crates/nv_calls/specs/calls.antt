@@ -1,3 +1,6 @@
 -- Calls: what reads, writes and syncs have in common.
+pub mod Accesses
 pub mod Advances
 pub mod CallAnswers
+pub mod EarlyRefusals
+pub mod EndedCalls

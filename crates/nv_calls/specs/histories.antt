@@ -1,6 +1,5 @@
 -- Histories: what a pass has done in a call, and what came of it.
 pub mod Complete
 pub mod Heeds
-pub mod Kinds
 pub mod Tries
 pub mod Unmoved

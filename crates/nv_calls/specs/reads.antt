@@ -1,8 +1,4 @@
--- Reads: their control states, and what each step of them leads to.
-pub mod Advances
-pub mod EarlyRefusals
-pub mod Ends
-pub mod PastSearch
-pub mod Measures
+-- Reads: what a read of a descriptor tells, as a whole and one step at a time.
 pub mod Reads
+pub mod ReadMachines
 pub mod ReadsAlone

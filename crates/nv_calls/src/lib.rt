@@ -1,18 +1,11 @@
 //! The calls of a mount that threads share: reads, writes and fsync, as a whole and one step at a time.
 #![tactic(auto)]
 
+mod admit;
 mod alone;
 mod laws;
 mod progress;
-mod range;
 mod read;
-mod read_begin;
-mod read_ends;
-mod read_faults;
-mod read_pages;
-mod read_patch;
-mod read_search;
-mod read_steps;
 mod reading;
 mod sync;
 mod syncing;
@@ -25,7 +18,7 @@ pub use nv_mirror::{Done, Refusal};
 pub use nv_op::Kind;
 pub use progress::Progress;
 pub use read::{pread, try_pread};
-pub use reading::{Held, MOST_PAGE, ReadControl, ReadMachine};
+pub use reading::{MOST_PAGE, ReadControl, ReadMachine};
 pub use sync::try_fsync;
 pub use syncing::{SyncControl, SyncMachine};
 pub use write::{pwrite, try_pwrite};

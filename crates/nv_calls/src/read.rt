@@ -1,117 +1,56 @@
 //! Reads of files.
-ghost use Rattle.std.specs.Prelude.{◌≡◌, ◌≢◌, ℕ, Some, IfOk, OnErr, Err};
+ghost use Rattle.std.specs.Prelude.{◌≡◌, ◌≢◌, ◌<◌, ℕ, [], false, true, IfOk, OnErr};
+ghost use Rattle.nv_plain.specs.declared.call.FileCall.{FileCall};
 ghost use Rattle.nv_table.specs.invariant.Idle.{IsIdle, IsLater};
 ghost use Rattle.nv_table.specs.state.States.{IsOf, PassState};
-ghost use Rattle.nv_calls.specs.reads.Advances.{IsAdvance, IsOneOrNone, IsSameRead};
+ghost use Rattle.nv_cache.specs.RunningReads.{IsSettled, IsUnderWay, holds_page, needs_rooms, read_measure};
 ghost use Rattle.nv_mirror.specs.Answers.{IsReadPlaced, IsUnplaced};
 ghost use Rattle.nv_calls.specs.fsync.SyncRuns.{file_of_fd};
 ghost use Rattle.nv_calls.specs.histories.Complete.{IsCompleteRead};
 ghost use Rattle.nv_calls.specs.histories.Heeds.{HeedsStop};
-ghost use Rattle.nv_calls.specs.reads.PastSearch.{IsPastSearch};
-ghost use Rattle.nv_calls.specs.reads.Measures.{IsLess};
-ghost use Rattle.nv_calls.specs.reads.Reads.{IsOnWay, IsReadOver, IsReadUnderWay, ReadGoes};
+ghost use Rattle.nv_calls.specs.reads.Reads.{IsReadOver};
 ghost use Rattle.nv_calls.specs.histories.Tries.{IsTried};
 ghost use Rattle.nv_mirror.specs.declared.answers.Refusal.TheVariants.{Busy};
 
-use crate::{Progress, ReadControl, ReadMachine, calls_are_complete, ended_calls_heed_stop};
+use crate::admit::{Access, admit};
+use crate::{MOST_PAGE, calls_are_complete, ended_calls_heed_stop};
+use nv_cache::RunningRead;
+use nv_core::{passes_are_left_alone, runs_are_sound};
 use nv_mirror::{Done, Refusal};
 use nv_mount::Mount;
 use nv_pmem::Lines;
 use nv_store::Backing;
-use nv_table::Pass;
+use nv_table::{Board, Pass};
 use std::sync::Wait;
 
-impl ReadMachine {
-    /// Makes the next step, after the device calls that lie before it; a read that is refused by what it asks for ends at its first advance,
-    /// with no step. `list` has as many bytes as the read asks for, the same at each advance; the reply comes to its front. The pass was
-    /// idle before the first one, and has begun no other call since.
-    pub fn advance<L: Lines + Drop, B: Backing + Drop>(
-        &mut self,
-        mount: &Mount<L, B>,
-        pass: &mut Pass<L, B>,
-        list: &mut [u8],
-    ) -> Progress
-        requires board { IsOf mount.now.board pass.old }
-        requires under_way { (start : PassState) × IsReadUnderWay mount.now.fds self.old list.old start pass.old }
-        ensures board { IsOf mount.now.board pass.new }
-        ensures same { IsSameRead self.old self.new }
-        ensures one { IsOneOrNone mount.now.fds self.old self.new pass.old pass.new result }
-        ensures less { IsLess pass.old.view.opened.sizes self.old self.new result }
-        ensures goes { (start : PassState) → IsReadUnderWay mount.now.fds self.old list.old start pass.old → ReadGoes mount.now.fds start self.new list.new pass.new result }
-    {
-        match self.control {
-            ReadControl::Begin => self.begin(mount, pass, list),
-            ReadControl::TakePage { page } => self.lock(mount, pass, list, page),
-            ReadControl::LoadLength => self.load_length(mount, pass, list),
-            ReadControl::TakeSize => self.take_size(mount, pass, list),
-            ReadControl::LoadStop => self.check(mount, pass, list),
-            ReadControl::LoadOrder => self.order(mount, pass, list),
-            ReadControl::TurnHand { page, tries } => self.turn(mount, pass, list, page, tries),
-            ReadControl::LoadHint {
-                page,
-                tries,
-                buffer,
-            } => self.hint(mount, pass, list, page, tries, buffer),
-            ReadControl::TakeVictim {
-                page,
-                tries,
-                buffer,
-                victim,
-            } => self.take_victim(mount, pass, list, page, tries, buffer, victim),
-            ReadControl::GiveVictim {
-                page,
-                tries,
-                buffer,
-                victim,
-            } => self.give_victim(mount, pass, list, page, tries, buffer, victim),
-            ReadControl::SetHint {
-                page,
-                tries,
-                buffer,
-            } => self.point(mount, pass, list, page, tries, buffer),
-            _ => self.advance_later(mount, pass, list),
-        }
-    }
-
-    // The steps from DIRTY of a page on.
-    fn advance_later<L: Lines + Drop, B: Backing + Drop>(
-        &mut self,
-        mount: &Mount<L, B>,
-        pass: &mut Pass<L, B>,
-        list: &mut [u8],
-    ) -> Progress
-        requires board { IsOf mount.now.board pass.old }
-        requires way { (start : PassState) × IsOnWay mount.now.fds self.old list.old start pass.old }
-        requires late { IsPastSearch self.old.control }
-        ensures board { IsOf mount.now.board pass.new }
-        ensures advance { IsAdvance mount.now.fds self.old self.new list.old list.new pass.old pass.new result }
-        ensures less { IsLess pass.old.view.opened.sizes self.old self.new result }
-    {
-        match self.control {
-            ReadControl::LoadDirty { page } => self.look(mount, pass, list, page),
-            ReadControl::TakeCleanup { page } => self.take_cleanup(mount, pass, list, page),
-            ReadControl::TakeStore { page, dirty } => self.take_store(
-                mount, pass, list, page, dirty,
-            ),
-            ReadControl::ReadStore { page, dirty } => self.copy(mount, pass, list, page, dirty),
-            ReadControl::LoadHead { page } => self.load_head(mount, pass, list, page),
-            ReadControl::LoadTail { page } => self.start(mount, pass, list, page),
-            ReadControl::LoadEntry { page, number } => self.load_entry(
-                mount, pass, list, page, number,
-            ),
-            ReadControl::HoldEntry { page, number } => self.hold_next(
-                mount, pass, list, page, number,
-            ),
-            ReadControl::ReadPiece { page, number } => self.patch(mount, pass, list, page, number),
-            ReadControl::ReturnEntry { page, number } => self.restore(
-                mount, pass, list, page, number,
-            ),
-            ReadControl::GiveCleanup { page } => self.give_cleanup(mount, pass, list, page),
-            ReadControl::TakePlace => self.take_place(mount, pass, list),
-            ReadControl::GiveSize => self.give_size(mount, pass, list),
-            ReadControl::GivePage { page } => self.give_page(mount, pass, list, page),
-            ReadControl::GiveBack { held, refusal } => self.leave(mount, pass, list, held, refusal),
-            _ => unreachable!(),
+// The advances of a read from the load of a page on, with rooms for that, until it needs none.
+#[inline(never)]
+fn load_in_rooms<L: Lines, B: Backing>(
+    board: &Board<L, B>,
+    pass: &mut Pass<L, B>,
+    read: &mut RunningRead,
+    list: &mut [u8],
+)
+    requires board { IsOf board.now pass.old }
+    requires settled { IsSettled read.old }
+    requires needs { needs_rooms read.old ≡ true }
+    requires bare { holds_page read.old ≡ false }
+    requires way { (call : FileCall) × (start : PassState) × IsUnderWay call read.old list.old [] start pass.old }
+    ensures board { IsOf board.now pass.new }
+    ensures settled { IsSettled read.new }
+    ensures bare { holds_page read.new ≡ false }
+    ensures falls { read_measure board.now.opened.sizes read.new < read_measure board.now.opened.sizes read.old }
+    ensures way { (call : FileCall) (start : PassState) → IsUnderWay call read.old list.old [] start pass.old → IsUnderWay call read.new list.new [] start pass.new }
+{
+    let page = board.layout().page as usize;
+    let mut room = [0; MOST_PAGE];
+    let mut piece = [0; MOST_PAGE];
+    read.takes_any_room();
+    loop {
+        read.advance(board, pass, &mut room[..page], &mut piece[..page], list);
+        if !read.needs_rooms() {
+            read.takes_any_room();
+            return;
         }
     }
 }
@@ -141,13 +80,23 @@ pub fn try_pread<L: Lines + Drop, B: Backing + Drop>(
     ensures stop { HeedsStop pass.old pass.new result }
     ensures complete { IsCompleteRead mount.now.fds fd at buf.new pass.old pass.new result }
 {
+    runs_are_sound();
+    passes_are_left_alone();
     ended_calls_heed_stop();
     calls_are_complete();
     pass.sees_a_run();
-    let mut machine = ReadMachine::new(fd, at, buf.len() as u64);
+    let len = buf.len() as u64;
+    let file = admit(mount, Access::Reads, fd, at, len)?;
+    let board = mount.board();
+    let mut read = RunningRead::new(board.layout(), file, at, len);
     loop {
-        if let Progress::Ended(result) = machine.advance(mount, pass, buf) {
+        if let RunningRead::Over(result) = read {
             return result;
+        }
+        if read.needs_rooms() {
+            load_in_rooms(board, pass, &mut read, buf);
+        } else {
+            read.advance(board, pass, &mut [], &mut [], buf);
         }
     }
 }

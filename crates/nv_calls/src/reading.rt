@@ -1,134 +1,35 @@
-//! What a read is that is made one step at a time.
-ghost use Rattle.std.specs.Prelude.{◌≡◌, false, None, option_map};
-ghost use Rattle.nv_calls.specs.histories.Kinds.{read_kind};
+//! A read that is made one step at a time.
+ghost use Rattle.std.specs.Prelude.{◌≡◌, ◌<◌, is_some, length};
+ghost use Rattle.nv_plain.specs.declared.call.FileCall.{FileCall};
+ghost use Rattle.nv_core.specs.state.Words.{Sizes};
+ghost use Rattle.nv_cache.specs.ReadSteps.{HasMadeOne};
+ghost use Rattle.nv_cache.specs.RunningReads.{IsOpen, IsSettled, IsUnderWay, read_measure};
+ghost use Rattle.nv_table.specs.state.States.{IsOf, PassState};
+ghost use Rattle.nv_calls.specs.calls.Advances.{IsFewer, IsOneOrNone};
 ghost use Rattle.nv_calls.specs.declared.reading.ReadControl.TheVariants as reads;
+ghost use Rattle.nv_calls.specs.reads.ReadMachines.{IsBegun, IsReadUnderWay, IsSameRead, ReadGoes, early_of, fault_so_far, measure, next_kind_of, placed_by, progress_of, standing};
 
+use crate::Progress;
+use crate::admit::{Access, admit};
+use nv_cache::RunningRead;
+use nv_core::{passes_are_left_alone, runs_are_sound};
 use nv_mirror::{Done, Refusal};
+use nv_mount::Mount;
 use nv_op::Kind;
+use nv_pmem::Lines;
+use nv_store::Backing;
+use nv_table::{Board, Pass};
 
 /// How many bytes a page has at most.
 pub const MOST_PAGE: usize = 4096;
 
-/// What a read on its way out still owns: so many of its pages, from the first one on; SIZE; CLEANUP of a page; and the store.
-#[derive(Clone, Copy, Debug, PartialEq, Eq)]
-pub struct Held {
-    pub pages: u64,
-    pub sized: bool,
-    pub cleanup: Option<u64>,
-    pub stored: bool,
-}
-
-/// The step that comes next. A page is named by its number of all pages.
+/// Where it stands.
 #[derive(Clone, Copy, Debug, PartialEq, Eq)]
 pub enum ReadControl {
-    /// The first one: the lock of the first page, or, for no bytes, the load of STOP.
+    /// It has made no step yet.
     Begin,
-    /// The lock of this page.
-    TakePage {
-        page: u64,
-    },
-    /// The load of LENGTH.
-    LoadLength,
-    /// The lock of LENGTH.
-    TakeSize,
-    /// The load of STOP.
-    LoadStop,
-    /// The load of ORDER.
-    LoadOrder,
-    /// Another try to find a buffer for this page, after so many.
-    TurnHand {
-        page: u64,
-        tries: u64,
-    },
-    /// The load of the HINT of this buffer.
-    LoadHint {
-        page: u64,
-        tries: u64,
-        buffer: u64,
-    },
-    /// The lock of the page that it names, the victim.
-    TakeVictim {
-        page: u64,
-        tries: u64,
-        buffer: u64,
-        victim: u64,
-    },
-    /// The victim is given back, without its buffer.
-    GiveVictim {
-        page: u64,
-        tries: u64,
-        buffer: u64,
-        victim: u64,
-    },
-    /// The HINT is set to this page.
-    SetHint {
-        page: u64,
-        tries: u64,
-        buffer: u64,
-    },
-    /// The load of this page's DIRTY.
-    LoadDirty {
-        page: u64,
-    },
-    /// CLEANUP of this page, which has entries.
-    TakeCleanup {
-        page: u64,
-    },
-    /// The lock of the store, for this page: it has entries where it is dirty.
-    TakeStore {
-        page: u64,
-        dirty: bool,
-    },
-    /// The store is read, and given back.
-    ReadStore {
-        page: u64,
-        dirty: bool,
-    },
-    /// The load of HEAD, for the entries of this page.
-    LoadHead {
-        page: u64,
-    },
-    /// The load of TAIL.
-    LoadTail {
-        page: u64,
-    },
-    /// The load of the ENTRY of this number.
-    LoadEntry {
-        page: u64,
-        number: u64,
-    },
-    /// The entry of this number is held.
-    HoldEntry {
-        page: u64,
-        number: u64,
-    },
-    /// Its piece is read, and it is returned.
-    ReadPiece {
-        page: u64,
-        number: u64,
-    },
-    /// It is returned, since its part has failed.
-    ReturnEntry {
-        page: u64,
-        number: u64,
-    },
-    /// CLEANUP of this page is given back.
-    GiveCleanup {
-        page: u64,
-    },
-    /// The read's place in the history.
-    TakePlace,
-    /// SIZE is given back.
-    GiveSize,
-    /// This page is given back.
-    GivePage {
-        page: u64,
-    },
-    /// What was taken last is given back, since the read is refused.
-    GiveBack {
-        held: Held,
-        refusal: Refusal,
-    },
+    /// It has made some, or is over.
+    Running(RunningRead),
 }
 
 /// A read of a descriptor, which makes one step at each advance.
@@ -138,94 +39,162 @@ pub struct ReadMachine {
     pub at: u64,
     pub len: u64,
     pub control: ReadControl,
-    /// The descriptor's file, once it has begun.
-    pub file: u64,
-    /// It has taken SIZE.
-    pub sized: bool,
-    /// How many bytes there are to read, once LENGTH is loaded for good.
-    pub covered: u64,
-    /// How many of them are in front of its list.
-    pub copied: u64,
-    /// HEAD as it loaded it for the page with entries at which it is.
-    pub head: u64,
-    /// Its place, once it has one.
-    pub place: Option<u64>,
-    /// A device call has failed.
-    pub faulted: bool,
-    /// Room for the bytes of a page.
-    pub scratch: [u8; MOST_PAGE],
+    /// Room for the bytes of a page that it loads.
+    pub room: [u8; MOST_PAGE],
+}
+
+// What an advance came to behind which the read is so.
+fn progress(read: RunningRead) -> Progress
+    ensures { result ≡ progress_of read }
+{
+    match read {
+        RunningRead::Over(result) => Progress::Ended(result),
+        _ => Progress::More,
+    }
+}
+
+// Makes the next step of a read that loads a page, with room for a piece of it.
+#[inline(never)]
+fn advance_with_piece<L: Lines, B: Backing>(
+    board: &Board<L, B>,
+    pass: &mut Pass<L, B>,
+    read: &mut RunningRead,
+    room: &mut [u8],
+    list: &mut [u8],
+)
+    requires board { IsOf board.now pass.old }
+    requires open { IsOpen read.old }
+    requires room { length room.old ≡ pass.old.view.opened.sizes.page }
+    requires way { (call : FileCall) × (start : PassState) × IsUnderWay call read.old list.old room.old start pass.old }
+    ensures board { IsOf board.now pass.new }
+    ensures settled { IsSettled read.new }
+    ensures one { HasMadeOne read.old read.new pass.old pass.new }
+    ensures falls { read_measure pass.old.view.opened.sizes read.new < read_measure pass.old.view.opened.sizes read.old }
+    ensures way { (call : FileCall) (start : PassState) → IsUnderWay call read.old list.old room.old start pass.old → IsUnderWay call read.new list.new room.new start pass.new }
+{
+    let page = board.layout().page as usize;
+    let mut piece = [0; MOST_PAGE];
+    read.advance(board, pass, room, &mut piece[..page], list);
+}
+
+// Makes the next step of a read, in this room for a page.
+fn advance_in<L: Lines, B: Backing>(
+    board: &Board<L, B>,
+    pass: &mut Pass<L, B>,
+    read: &mut RunningRead,
+    room: &mut [u8],
+    list: &mut [u8],
+)
+    requires board { IsOf board.now pass.old }
+    requires open { IsOpen read.old }
+    requires room { length room.old ≡ pass.old.view.opened.sizes.page }
+    requires way { (call : FileCall) × (start : PassState) × IsUnderWay call read.old list.old room.old start pass.old }
+    ensures board { IsOf board.now pass.new }
+    ensures settled { IsSettled read.new }
+    ensures one { HasMadeOne read.old read.new pass.old pass.new }
+    ensures falls { read_measure pass.old.view.opened.sizes read.new < read_measure pass.old.view.opened.sizes read.old }
+    ensures way { (call : FileCall) (start : PassState) → IsUnderWay call read.old list.old room.old start pass.old → IsUnderWay call read.new list.new room.new start pass.new }
+{
+    if read.needs_rooms() {
+        advance_with_piece(board, pass, read, room, list);
+    } else {
+        read.advance(board, pass, room, &mut [], list);
+    }
 }
 
 impl ReadMachine {
     /// A read of `len` bytes from the offset `at` on, which has made no step yet.
     pub fn new(fd: u64, at: u64, len: u64) -> Self
-        ensures { result ≡ record { fd = fd; at = at; len = len; control = reads.Begin; file = 0; sized = false; covered = 0; copied = 0; head = 0; place = None; faulted = false; scratch = result.scratch } }
+        ensures { result ≡ record { fd = fd; at = at; len = len; control = reads.Begin; room = result.room } }
     {
         ReadMachine {
             fd,
             at,
             len,
             control: ReadControl::Begin,
-            file: 0,
-            sized: false,
-            covered: 0,
-            copied: 0,
-            head: 0,
-            place: None,
-            faulted: false,
-            scratch: [0; MOST_PAGE],
+            room: [0; MOST_PAGE],
         }
     }
 
-    /// The kind of the next step, if each device call before it ends well. Before the first advance it is that of the first step of a
-    /// read which isn't refused before.
+    /// The kind of the next step, if each device call before it ends well. Before the first advance it is that of the first step of a read
+    /// which isn't refused before.
     pub fn next_kind(&self) -> Kind
-        ensures { result ≡ read_kind self.now.len self.now.control }
+        ensures { (sizes : Sizes) → result ≡ next_kind_of sizes self.now }
     {
         match self.control {
             ReadControl::Begin if self.len == 0 => Kind::Load,
-            ReadControl::Begin
-            | ReadControl::TakePage { .. }
-            | ReadControl::TakeSize
-            | ReadControl::TakeVictim { .. }
-            | ReadControl::TakeCleanup { .. }
-            | ReadControl::TakeStore { .. } => Kind::Take,
-            ReadControl::TurnHand { .. } => Kind::Hand,
-            ReadControl::SetHint { .. } => Kind::Hint,
-            ReadControl::HoldEntry { .. } => Kind::Hold,
-            ReadControl::ReadPiece { .. } | ReadControl::ReturnEntry { .. } => Kind::Return,
-            ReadControl::TakePlace => Kind::Place,
-            ReadControl::GiveVictim { .. }
-            | ReadControl::ReadStore { .. }
-            | ReadControl::GiveCleanup { .. }
-            | ReadControl::GiveSize
-            | ReadControl::GivePage { .. }
-            | ReadControl::GiveBack { .. } => Kind::Give,
-            ReadControl::LoadLength
-            | ReadControl::LoadStop
-            | ReadControl::LoadOrder
-            | ReadControl::LoadHint { .. }
-            | ReadControl::LoadDirty { .. }
-            | ReadControl::LoadHead { .. }
-            | ReadControl::LoadTail { .. }
-            | ReadControl::LoadEntry { .. } => Kind::Load,
+            ReadControl::Begin => Kind::Take,
+            ReadControl::Running(read) => read.next_kind(),
         }
     }
 
     /// Its answer, from the step on by which it takes its place.
     pub fn placed(&self) -> Option<Done>
-        ensures { result ≡ option_map (λ place. record { place = place; len = self.now.copied }) self.now.place }
+        ensures { result ≡ placed_by self.now }
     {
-        self.place.map(|place| Done {
-            place,
-            len: self.copied,
-        })
+        match self.control {
+            ReadControl::Begin => None,
+            ReadControl::Running(read) => read.placed(),
+        }
     }
 
     /// Whether a device call of its advances has failed.
     pub fn faulted(&self) -> bool
-        ensures { result ≡ self.now.faulted }
+        ensures { result ≡ is_some (fault_so_far self.now) }
     {
-        self.faulted
+        match self.control {
+            ReadControl::Begin => false,
+            ReadControl::Running(read) => read.faulted(),
+        }
+    }
+
+    // The read of its descriptor's file, unless it is refused before its first step. Only contracts speak of the list.
+    fn begun<L: Lines + Drop, B: Backing + Drop>(
+        &self,
+        mount: &Mount<L, B>,
+        _list: &[u8],
+    ) -> Result<RunningRead, Refusal>
+        requires under_way { (start : PassState) × (now : PassState) × (now.view.opened ≡ mount.now.board.opened) × IsReadUnderWay mount.now.fds self.now _list.now start now }
+        ensures { IsBegun mount.now.board.opened.sizes mount.now.fds self.now _list.now result }
+    {
+        match self.control {
+            ReadControl::Begin => {
+                let file = admit(mount, Access::Reads, self.fd, self.at, self.len)?;
+                let layout = mount.board().layout();
+                Ok(RunningRead::new(layout, file, self.at, self.len))
+            }
+            ReadControl::Running(read) => Ok(read),
+        }
+    }
+
+    /// Makes the next step, after the device calls that lie before it; a read that is refused by what it asks for ends at its first advance,
+    /// with no step. `list` has as many bytes as the read asks for, the same at each advance; the reply comes to its front. The pass was
+    /// idle before the first one, and has begun no other call since.
+    pub fn advance<L: Lines + Drop, B: Backing + Drop>(
+        &mut self,
+        mount: &Mount<L, B>,
+        pass: &mut Pass<L, B>,
+        list: &mut [u8],
+    ) -> Progress
+        requires board { IsOf mount.now.board pass.old }
+        requires under_way { (start : PassState) × IsReadUnderWay mount.now.fds self.old list.old start pass.old }
+        ensures board { IsOf mount.now.board pass.new }
+        ensures same { IsSameRead self.old self.new }
+        ensures one { IsOneOrNone (standing pass.old.view.opened.sizes) (early_of pass.old.view.opened.sizes mount.now.fds self.old) self.old self.new pass.old pass.new result }
+        ensures less { IsFewer (measure pass.old.view.opened.sizes) self.old self.new result }
+        ensures goes { (start : PassState) → IsReadUnderWay mount.now.fds self.old list.old start pass.old → ReadGoes mount.now.fds start self.new list.new pass.new result }
+    {
+        runs_are_sound();
+        passes_are_left_alone();
+        pass.sees_a_run();
+        let mut read = match self.begun(mount, list) {
+            Ok(read) => read,
+            Err(refusal) => return Progress::Ended(Err(refusal)),
+        };
+        let board = mount.board();
+        let page = board.layout().page as usize;
+        advance_in(board, pass, &mut read, &mut self.room[..page], list);
+        self.control = ReadControl::Running(read);
+        progress(read)
     }
 }

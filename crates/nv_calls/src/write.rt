@@ -1,7 +1,6 @@
 //! Writes of files.
 ghost use Rattle.std.specs.Prelude.{◌≡◌, ℕ, false, [], Some, IfOk, OnErr};
 ghost use Rattle.nv_table.specs.invariant.Idle.{IsIdle, IsLater};
-ghost use Rattle.nv_table.specs.state.Keys.{sizes_of};
 ghost use Rattle.nv_table.specs.state.States.{IsOf};
 ghost use Rattle.nv_table.specs.state.Workspaces.{IsWorkspace};
 ghost use Rattle.nv_mirror.specs.Answers.{IsUnplaced};
@@ -9,9 +8,9 @@ ghost use Rattle.nv_calls.specs.fsync.SyncRuns.{file_of_fd};
 ghost use Rattle.nv_calls.specs.histories.Heeds.{HeedsStop};
 ghost use Rattle.nv_calls.specs.histories.Unmoved.{LeavesWords};
 ghost use Rattle.nv_calls.specs.writes.WriteLaws.{IsCompleteWrite};
-ghost use Rattle.nv_calls.specs.writes.Writes.{Admits, IsWriteOver, IsWritePlaced, IsWriteTried, ends_to_be_made_again};
+ghost use Rattle.nv_calls.specs.writes.Writes.{IsWriteOver, IsWritePlaced, IsWriteTried, ends_to_be_made_again};
 
-use crate::range::check_range;
+use crate::admit::{Access, admit};
 use crate::{calls_are_complete, ended_calls_heed_stop, refused_writes_leave_words};
 use nv_mirror::{Done, Refusal};
 use nv_mount::Mount;
@@ -19,29 +18,8 @@ use nv_op::Asked;
 use nv_pmem::Lines;
 use nv_ring::RunningWrite;
 use nv_store::Backing;
-use nv_table::{Layout, Pass, Workspace};
+use nv_table::{Pass, Workspace};
 use std::sync::Wait;
-
-// The file of a write that is not refused before its first step.
-pub(crate) fn admit<L: Lines + Drop, B: Backing + Drop>(
-    mount: &Mount<L, B>,
-    layout: Layout,
-    fd: u64,
-    at: u64,
-    bytes: &[u8],
-) -> Result<u64, Refusal>
-    requires { sizes_of layout ≡ mount.now.board.opened.sizes }
-    ensures { Admits (sizes_of layout) mount.now.fds fd at bytes.now result }
-{
-    let Some(open) = mount.fds().get(fd) else {
-        return Err(Refusal::BadFd);
-    };
-    if !open.mode.can_write() {
-        return Err(Refusal::BadFd);
-    }
-    check_range(layout, at, bytes.len() as u64)?;
-    Ok(open.file)
-}
 
 /// Writes to the file of a descriptor (POSIX.1-2017, pwrite): all of `bytes` stand in the file from the offset `at` on, and the file ends at their end
 /// where it ended before. The answer tells how many they are, and the call's place in the history, which is how many calls stand before it. Refused by
@@ -82,7 +60,7 @@ pub fn try_pwrite<L: Lines + Drop, B: Backing + Drop>(
     pass.sees_a_run();
     let board = mount.board();
     let layout = board.layout();
-    let file = admit(mount, layout, fd, at, bytes)?;
+    let file = admit(mount, Access::Writes, fd, at, bytes.len() as u64)?;
     let mut write = RunningWrite::new(layout, Asked::Write { file, at, bytes });
     loop {
         match write {

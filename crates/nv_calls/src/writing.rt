@@ -7,7 +7,7 @@ ghost use Rattle.nv_calls.specs.declared.writing.WriteControl.TheVariants as wri
 ghost use Rattle.nv_calls.specs.writes.WriteMachines.{IsPutIn, IsSameWrite, IsWriteUnderWay, WriteGoes, early_of, fault_so_far, measure, next_kind_of, placed_by, progress_of, standing};
 
 use crate::Progress;
-use crate::write::admit;
+use crate::admit::{Access, admit};
 use nv_mirror::{Done, Refusal};
 use nv_mount::Mount;
 use nv_op::{Asked, Kind};
@@ -106,7 +106,7 @@ impl WriteMachine {
         match self.control {
             WriteControl::Begin => {
                 let layout = mount.board().layout();
-                let file = admit(mount, layout, self.fd, self.at, list)?;
+                let file = admit(mount, Access::Writes, self.fd, self.at, self.len)?;
                 let asked = Asked::Write {
                     file,
                     at: self.at,

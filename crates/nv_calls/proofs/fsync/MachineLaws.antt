@@ -28,8 +28,7 @@ use Rattle.nv_mirror.proofs.ControlLaws.{place_plainly}
 use Rattle.nv_mirror.proofs.EndsLaws.{call_over}
 use Rattle.nv_mirror.proofs.PartLaws.{pageless_tells}
 use Rattle.nv_calls.specs.calls.Advances.{IsOneStep}
-use Rattle.nv_calls.specs.calls.CallAnswers.{answer_of, done_at}
-use Rattle.nv_calls.specs.reads.Reads.{done_of}
+use Rattle.nv_calls.specs.calls.CallAnswers.{answer_of, done_at, done_of}
 use Rattle.nv_calls.specs.declared.syncing.SyncControl.TheVariants as syncs
 use Rattle.nv_calls.specs.declared.syncing.SyncMachine.{SyncMachine}
 use Rattle.nv_calls.specs.fsync.SyncRuns.{IsSyncRun, file_of_fd}

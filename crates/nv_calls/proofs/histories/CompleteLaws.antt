@@ -1,9 +1,9 @@
 -- Complete: a call whose steps find what they need is refused by none of them.
-use Rattle.std.proofs.Common.{◌≡◌, ℕ, ◌+◌, ◌^◌, ◌==◌, nat_le, ◌&&◌, Bool, true, false, if◌then◌else◌, List, [], ◌∷◌, length, refl, sym, ap, ap₂, subst, ◌∙◌, eq-eqb, ne_eqb}
+use Rattle.std.proofs.Common.{◌≡◌, ℕ, ◌+◌, ◌^◌, ◌==◌, nat_le, ◌&&◌, Bool, true, false, if◌then◌else◌, List, [], ◌∷◌, refl, sym, ap, ap₂, subst, ◌∙◌, eq-eqb, ne_eqb}
 use Rattle.std.specs.Prelude.{Option, Some, None, not, Result, Ok, Err}
 use Rattle.std.proofs.lemmas.Bool.{lt-ltb, le-ltb, le-leb}
 use Rattle.nv_plain.specs.declared.call.FileCall.{FileCall}
-use Rattle.nv_plain.specs.declared.call.FileCall.TheVariants.{Read, Sync}
+use Rattle.nv_plain.specs.declared.call.FileCall.TheVariants.{Sync}
 use Rattle.nv_plain.specs.declared.call.Reply.TheVariants.{Done as Replied}
 use Rattle.nv_core.specs.invariant.Ownership.{is_among}
 use Rattle.nv_core.specs.state.Passes.{first_page, end_page, page_count, is_write}
@@ -16,11 +16,10 @@ use Rattle.nv_mirror.specs.declared.answers.Refusal.{Refusal}
 use Rattle.nv_mirror.specs.declared.answers.Refusal.TheVariants.{BadFd, Busy, Stopped, Spent, Again, Raced}
 use Rattle.nv_mirror.specs.PassSteps.{PassStep, HasMade, either_of, busy_at, fault_in, head_in, refusal_in, refused_by}
 use Rattle.nv_mirror.proofs.StepLaws.{between_self, taken_by}
-use Rattle.nv_mount.specs.declared.fds.Fd.{Fd}
 use Rattle.nv_calls.specs.fsync.SyncRuns.{file_of_fd, IsSyncRun}
-use Rattle.nv_calls.specs.histories.Complete.{AllFind, Finds, IsComplete, IsCompleteRead, ReadsAreComplete, SyncsAreComplete}
-use Rattle.nv_calls.specs.reads.EarlyRefusals.{early_refusal}
-use Rattle.nv_calls.specs.reads.Reads.{IsOverBy, refusal_of}
+use Rattle.nv_calls.specs.histories.Complete.{AllFind, Finds, IsComplete, SyncsAreComplete}
+use Rattle.nv_mirror.specs.Answers.{refusal_in_answer}
+use Rattle.nv_calls.specs.calls.EndedCalls.{IsCallOver}
 
 free_so : (sizes : Sizes) (cell : Word) (found : ℕ) → found ≡ 0 → busy_at sizes cell found ≡ None
 free_so sizes cell found free = ap (λ b. if b then None else Some (Busy (place sizes cell))) (eq-eqb found 0 free)
@@ -55,13 +54,13 @@ all_find_on sizes call (step ∷ earlier) find =
     ap₂ either_of (all_find_on sizes call earlier find.2) (finds_on sizes call (head_in earlier) step.works step.op step.found find.0 find.1)
 
 -- so its call is done
-done_where_all_find : (sizes : Sizes) (call : FileCall) (steps : List PassStep) (result : Result Done Refusal) → refusal_in sizes call steps ≡ refusal_of result → AllFind sizes call steps → (answer : Done) × (result ≡ Ok answer)
+done_where_all_find : (sizes : Sizes) (call : FileCall) (steps : List PassStep) (result : Result Done Refusal) → refusal_in sizes call steps ≡ refusal_in_answer result → AllFind sizes call steps → (answer : Done) × (result ≡ Ok answer)
 done_where_all_find sizes call steps (Ok answer) is find = (answer, refl)
 done_where_all_find sizes call steps (Err refusal) is find = let never : None ≡ Some refusal = sym (all_find_on sizes call steps find) ∙ is in absurd (cc)
 
 -- a call of a file that is over by such steps, and one that is refused by what it asks for
-pub made_complete : (asks : (file : ℕ) → FileCall) (early : Option Refusal) (file : Option ℕ) (one : ℕ) (start now : PassState) (result : Result Done Refusal) → file ≡ Some one → (steps : List PassStep) → HasMade steps start now
-    → refusal_in start.view.opened.sizes (asks one) steps ≡ refusal_of result → IsComplete asks early file start now result
+made_complete : (asks : (file : ℕ) → FileCall) (early : Option Refusal) (file : Option ℕ) (one : ℕ) (start now : PassState) (result : Result Done Refusal) → file ≡ Some one → (steps : List PassStep) → HasMade steps start now
+    → refusal_in start.view.opened.sizes (asks one) steps ≡ refusal_in_answer result → IsComplete asks early file start now result
 made_complete asks early file one start now result at steps made refused = record {
   steps = steps;
   made = made;
@@ -73,19 +72,17 @@ made_complete asks early file one start now result at steps made refused = recor
     some_same : (one other : ℕ) → Some one ≡ Some other → one ≡ other
     some_same one other is = cc
 
-pub refused_complete : (asks : (file : ℕ) → FileCall) (early : Option Refusal) (refusal : Refusal) (file : Option ℕ) (start now : PassState) (result : Result Done Refusal) → now ≡ start → Some refusal ≡ early → IsComplete asks early file start now result
+refused_complete : (asks : (file : ℕ) → FileCall) (early : Option Refusal) (refusal : Refusal) (file : Option ℕ) (start now : PassState) (result : Result Done Refusal) → now ≡ start → Some refusal ≡ early → IsComplete asks early file start now result
 refused_complete asks early refusal file start now result made is = record { steps = []; made = made; done = λ none other at_other find. let clash : Some refusal ≡ None = is ∙ none in absurd (cc) }
 
--- ---- a read that is over
+-- ---- a read or a write that is over
 
-over_by_complete : (by : Option Refusal) (fds : List Fd) (fd at : ℕ) (list : List ℕ) (start now : PassState) (result : Result Done Refusal) → by ≡ early_refusal start.view.opened.sizes fds fd at (length list)
-    → IsOverBy by fds fd at list start now result → IsCompleteRead fds fd at list start now result
-over_by_complete (Some refusal) fds fd at list start now result is over = refused_complete (λ file. Read file at (length list)) _ refusal (file_of_fd fds fd) start now result over.1 is
-over_by_complete None fds fd at list start now result is over =
-    made_complete (λ file. Read file at (length list)) _ (file_of_fd fds fd) over.0 start now result over.1 over.2.steps over.2.made over.2.refused
+by_complete : (by early : Option Refusal) (file : Option ℕ) (asks : ℕ → FileCall) (start now : PassState) (result : Result Done Refusal) → by ≡ early → IsCallOver by file asks start now result → IsComplete asks early file start now result
+by_complete (Some refusal) early file asks start now result is over = refused_complete asks early refusal file start now result over.1 is
+by_complete None early file asks start now result is over = made_complete asks early file over.0 start now result over.1 over.2.steps over.2.made over.2.refused
 
-pub reads_are_complete : ReadsAreComplete
-reads_are_complete fds fd at list start now result over = over_by_complete (early_refusal start.view.opened.sizes fds fd at (length list)) fds fd at list start now result refl over
+pub over_complete : (early : Option Refusal) (file : Option ℕ) (asks : ℕ → FileCall) (start now : PassState) (result : Result Done Refusal) → IsCallOver early file asks start now result → IsComplete asks early file start now result
+over_complete early file asks start now result over = by_complete early early file asks start now result refl over
 
 -- ---- a sync that is over
 

@@ -1,11 +1,11 @@
 -- STOP: what the steps of a pass that has seen it find, and which answers tell of it.
-use Rattle.std.proofs.Common.{◌≡◌, ℕ, ◌+◌, ◌*◌, ◌==◌, ◌^◌, ◌||◌, Bool, true, false, if◌then◌else◌, List, [], ◌∷◌, ◌++◌, length, map, refl, sym, ap, subst, ◌∙◌, arith, ne_eqb}
+use Rattle.std.proofs.Common.{◌≡◌, ℕ, ◌+◌, ◌*◌, ◌==◌, ◌^◌, ◌||◌, Bool, true, false, if◌then◌else◌, List, [], ◌∷◌, ◌++◌, map, refl, sym, ap, subst, ◌∙◌, arith, ne_eqb}
 use Rattle.std.specs.Prelude.{Option, Some, None, nat_lt, min, Result, Ok, Err}
 use Rattle.std.specs.List.{slice_get}
 use Rattle.nv_plain.specs.Layouts.{version_1}
-use Rattle.nv_plain.specs.Modes.{can_read}
 use Rattle.nv_plain.specs.Pieces.{pages_touched}
-use Rattle.nv_plain.specs.declared.call.FileCall.TheVariants.{Read, Sync}
+use Rattle.nv_plain.specs.declared.call.FileCall.TheVariants.{Sync}
+use Rattle.nv_plain.specs.declared.mode.Mode.{Mode}
 use Rattle.nv_plain.specs.declared.call.Reply.TheVariants.{Done as Replied}
 use Rattle.nv_mount.specs.declared.fds.Fd.{Fd}
 use Rattle.nv_plain.specs.declared.call.FileCall.{FileCall}
@@ -17,6 +17,7 @@ use Rattle.nv_core.specs.invariant.Ownership.{is_among}
 use Rattle.nv_core.specs.state.Core.{Core}
 use Rattle.nv_core.specs.steps.Events.{Event, CallsDevice, after_run, after_event}
 use Rattle.nv_core.specs.invariant.InvariantLaws.{RunsAreSound}
+use Rattle.nv_core.specs.steps.Frames.{OwnEventsTell}
 use Rattle.nv_core.specs.steps.Opening.{IsMount, opening}
 use Rattle.nv_core.specs.steps.Order.{Work}
 use Rattle.nv_core.specs.steps.PassSteps.{stopped_after}
@@ -30,12 +31,14 @@ use Rattle.nv_table.proofs.invariant.DrawnLaws.{calls_leave}
 use Rattle.nv_mirror.specs.declared.answers.Done.{Done}
 use Rattle.nv_mirror.specs.declared.answers.Refusal.{Refusal}
 use Rattle.nv_mirror.specs.declared.answers.Refusal.TheVariants.{BadFd, TooFar, TooLong, Busy, Stopped, Spent, Again, Raced, RegionFault, StoreFault}
-use Rattle.nv_calls.specs.reads.EarlyRefusals.{early_range_refusal, early_fd_refusal, early_refusal}
+use Rattle.nv_calls.specs.calls.EarlyRefusals.{early_range_refusal, early_fd_refusal, early_refusal}
 use Rattle.nv_calls.specs.fsync.SyncRuns.{file_of_fd, IsSyncRun}
-use Rattle.nv_calls.specs.histories.Heeds.{HasSeenStop, HeedsStop, is_stop_load, loads_stop, tells_stop, ReadsHeedStop, SyncsHeedStop}
+use Rattle.nv_calls.specs.histories.Heeds.{HasSeenStop, HeedsStop, is_stop_load, loads_stop, tells_stop, SyncsHeedStop}
 use Rattle.nv_mirror.specs.OwnSteps.{is_own, gives_back, AreOwn}
-use Rattle.nv_calls.specs.reads.Reads.{refusal_of, is_fault, IsOverBy}
-use Rattle.nv_mirror.specs.PassSteps.{PassStep, HasTaken, HasMade, stops_in, IsBetweenSteps, either_of, refused_by, refusal_in, if_own, busy_at, head_in}
+use Rattle.nv_mirror.specs.Answers.{refusal_in_answer}
+use Rattle.nv_calls.specs.calls.EndedCalls.{IsCallOver}
+use Rattle.nv_mirror.proofs.StopLaws.{sets_stop}
+use Rattle.nv_mirror.specs.PassSteps.{PassStep, HasTaken, HasMade, stops_in, IsBetweenSteps, is_fault, either_of, refused_by, refusal_in, if_own, busy_at, head_in}
 
 -- ---- one step
 
@@ -65,7 +68,7 @@ stays_stopped pass (ByCleaner (cleaner.Load STOP)) found seen = kept_if (found =
 stays_stopped pass (ByCleaner cleaner.Stop) found seen = refl
 stays_stopped pass op found seen = seen
 
-pub step_stays : (old new : PassState) (opens : Option FileCall) (op : Op) (found : ℕ) → Postcondition old opens op found new → HasSeenStop old → HasSeenStop new
+step_stays : (old new : PassState) (opens : Option FileCall) (op : Op) (found : ℕ) → Postcondition old opens op found new → HasSeenStop old → HasSeenStop new
 step_stays old new opens op found is seen =
     seen_after old new opens op found is ∙ stays_stopped (pass_before old.view opens is.works) op found (before_stopped old.view opens is.works ∙ seen)
 
@@ -81,7 +84,7 @@ stop_found opened run by works opens found =
     ap (λ (core : Core). core.words STOP) (after_parts opened.sizes (opening (mount_of opened)) run (calls ++ last) ∙ after_parts opened.sizes (state_of opened run) calls last)
     ∙ words_after opened.sizes (after_run opened.sizes (state_of opened run) calls) by opens found
 
-pub load_finds : RunsAreSound → (old new : PassState) (opens : Option FileCall) (found : ℕ) → IsMount (mount_of old.view.opened) → Postcondition old opens (Load STOP) found new → HasSeenStop old → found ≡ 1
+load_finds : RunsAreSound → (old new : PassState) (opens : Option FileCall) (found : ℕ) → IsMount (mount_of old.view.opened) → Postcondition old opens (Load STOP) found new → HasSeenStop old → found ≡ 1
 load_finds sound old new opens found mount is seen =
     let run = is.steps.run ++ events old.view.number is.works (act_of opens (Load STOP) found) in
     let at : ((state_of old.view.opened run).passes old.view.number).stopped ≡ true = subst (λ (view : PassView). (pass_of view).stopped ≡ true) is.steps.is (step_stays old new opens (Load STOP) found is seen) in
@@ -96,7 +99,7 @@ seen_between old new same seen = subst (λ (view : PassView). (pass_of view).sto
 taken_stays : (step : PassStep) (old new : PassState) → HasTaken step old new → HasSeenStop old → HasSeenStop new
 taken_stays step old new taken seen = step_stays taken.before new step.opens step.op step.found taken.stepped (seen_between old taken.before taken.between seen)
 
-pub made_stays : (steps : List PassStep) (start now : PassState) → HasMade steps start now → HasSeenStop start → HasSeenStop now
+made_stays : (steps : List PassStep) (start now : PassState) → HasMade steps start now → HasSeenStop start → HasSeenStop now
 made_stays [] start now same seen = subst (λ (p : PassState). HasSeenStop p) (sym same) seen
 made_stays (step ∷ earlier) start now made seen = taken_stays step made.0 now made.2 (made_stays earlier start made.0 made.1 seen)
 
@@ -151,13 +154,13 @@ refusal_tells (Some RegionFault) = true
 refusal_tells (Some StoreFault) = true
 refusal_tells refusal = false
 
-answer_tells : (result : Result Done Refusal) → tells_stop result ≡ refusal_tells (refusal_of result)
+answer_tells : (result : Result Done Refusal) → tells_stop result ≡ refusal_tells (refusal_in_answer result)
 answer_tells (Err Stopped) = refl
 answer_tells (Err RegionFault) = refl
 answer_tells (Err StoreFault) = refl
 answer_tells result = refl
 
-pub tells_neither : (b : Bool) (one other : Option Refusal) → refusal_tells one ≡ false → refusal_tells other ≡ false → refusal_tells (if b then one else other) ≡ false
+tells_neither : (b : Bool) (one other : Option Refusal) → refusal_tells one ≡ false → refusal_tells other ≡ false → refusal_tells (if b then one else other) ≡ false
 tells_neither true one other first last = first
 tells_neither false one other first last = last
 
@@ -182,7 +185,7 @@ refuses_seeing sizes call head works pass Draw found tells = absurd (never _ (te
 refuses_seeing sizes call head works pass Stop found tells = refl
 refuses_seeing sizes call head works pass op found tells = absurd (cc)
 
-pub made_tells : (sizes : Sizes) (call : FileCall) (steps : List PassStep) (start now : PassState) → HasMade steps start now → refusal_tells (refusal_in sizes call steps) ≡ true → HasSeenStop now
+made_tells : (sizes : Sizes) (call : FileCall) (steps : List PassStep) (start now : PassState) → HasMade steps start now → refusal_tells (refusal_in sizes call steps) ≡ true → HasSeenStop now
 made_tells sizes call [] start now made tells = absurd (cc)
 made_tells sizes call (step ∷ earlier) start now made tells = by (refusal_in sizes call earlier) refl (made_tells sizes call earlier start made.0 made.1)
   where
@@ -198,23 +201,23 @@ made_tells sizes call (step ∷ earlier) start now made tells = by (refusal_in s
         ∙ refuses_seeing sizes call (head_in earlier) step.works (pass_before taken.before.view step.opens taken.stepped.works) step.op step.found
         (sym (ap (λ r. refusal_tells (either_of r (refused_by sizes call (head_in earlier) step.works step.op step.found))) is) ∙ tells)
 
-pub answer_seen : (sizes : Sizes) (call : FileCall) (steps : List PassStep) (start now : PassState) (result : Result Done Refusal) → HasMade steps start now → refusal_in sizes call steps ≡ refusal_of result
+answer_seen : (sizes : Sizes) (call : FileCall) (steps : List PassStep) (start now : PassState) (result : Result Done Refusal) → HasMade steps start now → refusal_in sizes call steps ≡ refusal_in_answer result
     → tells_stop result ≡ true → HasSeenStop now
 answer_seen sizes call steps start now result made is tells =
     made_tells sizes call steps start now made (ap refusal_tells is ∙ sym (answer_tells result) ∙ tells)
 
 -- ---- calls that are over
 
-pub range_tells : (sizes : Sizes) (at len : ℕ) → refusal_tells (early_range_refusal sizes at len) ≡ false
+range_tells : (sizes : Sizes) (at len : ℕ) → refusal_tells (early_range_refusal sizes at len) ≡ false
 range_tells sizes at len =
     let long = nat_lt (min version_1.group_limit sizes.entries) (pages_touched at len sizes.page) in
     tells_neither (nat_lt (sizes.page * sizes.pages) (at + len)) (Some TooFar) (if long then Some TooLong else None) refl (tells_neither long (Some TooLong) None refl refl)
 
-fd_tells : (sizes : Sizes) (fd : Option Fd) (at len : ℕ) → refusal_tells (early_fd_refusal sizes fd at len) ≡ false
-fd_tells sizes None at len = refl
-fd_tells sizes (Some one) at len = tells_neither (can_read one.mode) (early_range_refusal sizes at len) (Some BadFd) (range_tells sizes at len) refl
+early_tells : (may : Mode → Bool) (sizes : Sizes) (fd : Option Fd) (at len : ℕ) → refusal_tells (early_fd_refusal may sizes fd at len) ≡ false
+early_tells may sizes None at len = refl
+early_tells may sizes (Some one) at len = tells_neither (may one.mode) (early_range_refusal sizes at len) (Some BadFd) (range_tells sizes at len) refl
 
-stopped_is : (result : Result Done Refusal) → refusal_of result ≡ Some Stopped → result ≡ Err Stopped
+stopped_is : (result : Result Done Refusal) → refusal_in_answer result ≡ Some Stopped → result ≡ Err Stopped
 stopped_is (Ok done) is = absurd (cc)
 stopped_is (Err refusal) is = let same : refusal ≡ Stopped = cc in ap Err same
 
@@ -225,18 +228,18 @@ untold_mild (Some StoreFault) silent = absurd (cc)
 untold_mild refusal silent = refl
 
 -- a call that is refused by what it asks for, and one that is over by its steps
-pub refused_heeds : (refusal : Refusal) (start now : PassState) (result : Result Done Refusal) → refusal_tells (Some refusal) ≡ false → result ≡ Err refusal → now ≡ start → HeedsStop start now result
+refused_heeds : (refusal : Refusal) (start now : PassState) (result : Result Done Refusal) → refusal_tells (Some refusal) ≡ false → result ≡ Err refusal → now ≡ start → HeedsStop start now result
 refused_heeds refusal start now result silent is same = record {
   steps = [];
   made = same;
   stays = λ seen. subst (λ (p : PassState). HasSeenStop p) (sym same) seen;
   told = λ tells. absurd (never (tells_stop result) (ap tells_stop is ∙ answer_tells (Err refusal) ∙ silent) tells);
   heeds = λ seen loads. cc;
-  sets = sym (ap (λ r. is_fault (refusal_of r)) is ∙ untold_mild (Some refusal) silent);
+  sets = sym (ap (λ r. is_fault (refusal_in_answer r)) is ∙ untold_mild (Some refusal) silent);
 }
 
-pub made_heeds : RunsAreSound → (call : FileCall) (steps : List PassStep) (start now : PassState) (result : Result Done Refusal) → IsMount (mount_of start.view.opened) → HasMade steps start now → AreOwn start.view.opened.sizes call steps
-    → refusal_in start.view.opened.sizes call steps ≡ refusal_of result → stops_in steps ≡ is_fault (refusal_of result) → HeedsStop start now result
+made_heeds : RunsAreSound → (call : FileCall) (steps : List PassStep) (start now : PassState) (result : Result Done Refusal) → IsMount (mount_of start.view.opened) → HasMade steps start now → AreOwn start.view.opened.sizes call steps
+    → refusal_in start.view.opened.sizes call steps ≡ refusal_in_answer result → stops_in steps ≡ is_fault (refusal_in_answer result) → HeedsStop start now result
 made_heeds sound call steps start now result mount made own refused set = record {
   steps = steps;
   made = made;
@@ -246,17 +249,18 @@ made_heeds sound call steps start now result mount made own refused set = record
   sets = set;
 }
 
-over_by_heeds : RunsAreSound → (by : Option Refusal) (fds : List Fd) (fd at : ℕ) (list : List ℕ) (start now : PassState) (result : Result Done Refusal) → refusal_tells by ≡ false → IsMount (mount_of start.view.opened)
-    → IsOverBy by fds fd at list start now result → HeedsStop start now result
-over_by_heeds sound (Some refusal) fds fd at list start now result silent mount over = refused_heeds refusal start now result silent over.0 over.1
-over_by_heeds sound None fds fd at list start now result silent mount over =
+by_heeds : RunsAreSound → OwnEventsTell → (early : Option Refusal) (file : Option ℕ) (asks : ℕ → FileCall) (start now : PassState) (result : Result Done Refusal) → refusal_tells early ≡ false → IsMount (mount_of start.view.opened)
+    → IsCallOver early file asks start now result → HeedsStop start now result
+by_heeds sound tell (Some refusal) file asks start now result silent mount over = refused_heeds refusal start now result silent over.0 over.1
+by_heeds sound tell None file asks start now result silent mount over =
     let ended = over.2 in
-    made_heeds sound (Read over.0 at (length list)) ended.steps start now result mount ended.made ended.own ended.refused ended.stopped
+    let sets = sets_stop start.view.opened.sizes (asks over.0) sound tell start mount ended.steps now ended.made ended.own in
+    made_heeds sound (asks over.0) ended.steps start now result mount ended.made ended.own ended.refused (sets ∙ ap is_fault ended.refused)
 
-pub reads_heed_stop : RunsAreSound → ReadsHeedStop
-reads_heed_stop sound fds fd at list start now result mount over =
-    let by = early_refusal start.view.opened.sizes fds fd at (length list) in
-    over_by_heeds sound by fds fd at list start now result (fd_tells start.view.opened.sizes (slice_get fds fd) at (length list)) mount over
+pub over_heeds : RunsAreSound → OwnEventsTell → (may : Mode → Bool) (fds : List Fd) (fd at len : ℕ) (asks : ℕ → FileCall) (start now : PassState) (result : Result Done Refusal) → IsMount (mount_of start.view.opened)
+    → IsCallOver (early_refusal may start.view.opened.sizes fds fd at len) (file_of_fd fds fd) asks start now result → HeedsStop start now result
+over_heeds sound tell may fds fd at len asks start now result mount over =
+    by_heeds sound tell (early_refusal may start.view.opened.sizes fds fd at len) (file_of_fd fds fd) asks start now result (early_tells may start.view.opened.sizes (slice_get fds fd) at len) mount over
 
 -- ---- an fsync
 

@@ -1,7 +1,9 @@
 -- Unmoved: a refused write changes no word but locks, and gives these back.
 use Rattle.std.proofs.Common.{◌≡◌, ℕ, ◌==◌, Bool, true, false, if◌then◌else◌, List, [], ◌∷◌, length, refl, sym, ap, ◌∙◌}
 use Rattle.std.specs.Prelude.{Option, Some, None, Result, Ok, Err}
+use Rattle.nv_plain.specs.Modes.{can_write}
 use Rattle.nv_plain.specs.declared.call.FileCall.{FileCall}
+use Rattle.nv_plain.specs.declared.call.FileCall.TheVariants.{Write}
 use Rattle.nv_core.specs.invariant.InvariantLaws.{RunsAreSound}
 use Rattle.nv_core.specs.state.Passes.{Pass}
 use Rattle.nv_core.specs.state.Words.{Sizes, Word}
@@ -14,12 +16,13 @@ use Rattle.nv_table.specs.state.States.{PassState}
 use Rattle.nv_table.specs.state.Views.{PassView, pass_of}
 use Rattle.nv_table.specs.steps.SeatSteps.{pass_before, pass_worked, with_call}
 use Rattle.nv_table.proofs.invariant.DrawnLaws.{calls_leave}
-use Rattle.nv_mount.specs.declared.fds.Fd.{Fd}
 use Rattle.nv_mirror.specs.declared.answers.Done.{Done}
 use Rattle.nv_mirror.specs.declared.answers.Refusal.{Refusal}
 use Rattle.nv_mirror.specs.PassSteps.{PassStep, HasMade, head_in}
 use Rattle.nv_calls.specs.histories.Unmoved.{AreLocking, LeavesWords, held_after, held_by, is_locking}
-use Rattle.nv_calls.specs.writes.Writes.{IsOverBy, early_refusal}
+use Rattle.nv_calls.specs.calls.EarlyRefusals.{early_refusal}
+use Rattle.nv_calls.specs.calls.EndedCalls.{IsCallOver}
+use Rattle.nv_calls.specs.fsync.SyncRuns.{file_of_fd}
 use Rattle.nv_calls.specs.writes.WriteLaws.{RefusedWritesLeaveWords}
 use Rattle.nv_calls.proofs.histories.WriteStages.{locking}
 
@@ -54,11 +57,11 @@ held_so (step ∷ earlier) start now all moves none =
 
 -- ---- a write that is over
 
-over_leaves : RunsAreSound → OwnEventsTell → (by : Option Refusal) (fds : List Fd) (fd at : ℕ) (bytes : List ℕ) (start now : PassState) (result : Result Done Refusal) → IsMount (mount_of start.view.opened) → IsIdle start
-    → IsOverBy by fds fd at bytes start now result → LeavesWords start now result
-over_leaves sound tell (Some refusal) fds fd at bytes start now result mount idle over = record { steps = []; made = over.1; left = λ unplaced mild. (tt, refl) }
-over_leaves sound tell None fds fd at bytes start now (Ok done) mount idle over = record { steps = over.2.steps; made = over.2.made; left = λ unplaced mild. absurd (cc) }
-over_leaves sound tell None fds fd at bytes start now (Err refusal) mount idle over =
+over_leaves : RunsAreSound → OwnEventsTell → (by : Option Refusal) (file : Option ℕ) (at : ℕ) (bytes : List ℕ) (start now : PassState) (result : Result Done Refusal) → IsMount (mount_of start.view.opened) → IsIdle start
+    → IsCallOver by file (λ one. Write one at bytes) start now result → LeavesWords start now result
+over_leaves sound tell (Some refusal) file at bytes start now result mount idle over = record { steps = []; made = over.1; left = λ unplaced mild. (tt, refl) }
+over_leaves sound tell None file at bytes start now (Ok done) mount idle over = record { steps = over.2.steps; made = over.2.made; left = λ unplaced mild. absurd (cc) }
+over_leaves sound tell None file at bytes start now (Err refusal) mount idle over =
     let ended = over.2 in
     record {
       steps = ended.steps;
@@ -70,4 +73,4 @@ over_leaves sound tell None fds fd at bytes start now (Err refusal) mount idle o
 
 pub refused_writes_leave_words : RunsAreSound → OwnEventsTell → RefusedWritesLeaveWords
 refused_writes_leave_words sound tell fds fd at bytes start now result mount idle over =
-    over_leaves sound tell (early_refusal start.view.opened.sizes fds fd at (length bytes)) fds fd at bytes start now result mount idle over
+    over_leaves sound tell (early_refusal can_write start.view.opened.sizes fds fd at (length bytes)) (file_of_fd fds fd) at bytes start now result mount idle over

@@ -1,23 +1,22 @@
--- Write stages: how far a write is at each of its steps, which of them set STOP, and what those of a refused one change.
-use Rattle.std.proofs.Common.{◌≡◌, ◌⊎◌, ℕ, ◌+◌, ◌^◌, ◌==◌, nat_lt, nat_le, not, ◌&&◌, ◌||◌, Bool, true, false, if◌then◌else◌, List, [], ◌∷◌, inl, inr, refl, sym, ap, ap₂, subst, ◌∙◌}
+-- Write stages: how far a write is at each of its steps, and what those of a refused one change.
+use Rattle.std.proofs.Common.{◌≡◌, ℕ, ◌+◌, ◌==◌, not, Bool, true, false, if◌then◌else◌, List, [], ◌∷◌, inl, inr, refl, sym, ap, subst, ◌∙◌}
 use Rattle.std.specs.Prelude.{Option, Some, None}
 use Rattle.nv_plain.specs.declared.call.FileCall.{FileCall}
 use Rattle.nv_plain.specs.declared.call.FileCall.TheVariants.{Write}
 use Rattle.nv_core.specs.invariant.ControlFacts.{ControlFacts, FactsAt}
 use Rattle.nv_core.specs.invariant.InvariantLaws.{RunsAreSound}
-use Rattle.nv_core.specs.invariant.Ownership.{is_among}
 use Rattle.nv_core.specs.state.Cleaner.{CleanerOp}
 use Rattle.nv_core.specs.state.Core.{control_worked, worked, values_worked}
-use Rattle.nv_core.specs.state.Passes.{Control, Pass, Idle, TakePage, LoadLength, TakeSize, LoadStop, LoadOrder, VisitPage, TakeCleanup, TakeStore, ReadStore, GiveStore, LoadHint, Searching, ReadLoadHead, ReadLoadTail, LoadEntry, HoldEntry, ReadPiece, ReturnEntry, GiveCleanup, WriteLoadHead, WriteLoadTail, DrawNumbers, SeizeEntry, CommitGroup, PledgePage, ReadyEntry, TakePlace, GrowLength, GiveSize, GivePage, GiveBack, SetStopAfterRead, SetStopAfterPiece, SetStopAfterCommit, BreakEntry, Cleaning, is_read, is_write, first_page, end_page, page_count, without}
+use Rattle.nv_core.specs.state.Passes.{Control, Pass, Idle, TakePage, LoadLength, TakeSize, LoadStop, LoadOrder, TakeCleanup, TakeStore, ReadStore, GiveStore, LoadHint, Searching, ReadLoadHead, ReadLoadTail, LoadEntry, HoldEntry, ReadPiece, ReturnEntry, GiveCleanup, WriteLoadHead, WriteLoadTail, DrawNumbers, SeizeEntry, CommitGroup, PledgePage, ReadyEntry, TakePlace, GrowLength, GiveSize, GivePage, GiveBack, SetStopAfterRead, SetStopAfterPiece, SetStopAfterCommit, BreakEntry, Cleaning, is_read, first_page, end_page, page_count, without}
 use Rattle.nv_core.specs.state.Values.{CallEnding, Made, Failed, Refused}
-use Rattle.nv_core.specs.state.Words.{Sizes, Word, STOP, ORDER, HEAD, TAIL, LENGTH, SIZE, STORE, ENTRY, HINT, PAGE, CLEANUP, DIRTY, slot_of_entry, place}
-use Rattle.nv_core.specs.steps.ControlSteps.{control_after, first_control, leaving, giving, ending, ordered, after_give, after_head, after_load, after_stop, after_tail, exceeds}
+use Rattle.nv_core.specs.state.Words.{Sizes, Word, STOP, ORDER, HEAD, TAIL, LENGTH, SIZE, STORE, ENTRY, HINT, PAGE, CLEANUP, DIRTY, slot_of_entry}
+use Rattle.nv_core.specs.steps.ControlSteps.{control_after, leaving, giving, ending, after_give, after_stop}
 use Rattle.nv_core.specs.steps.Frames.{OwnEventsTell}
 use Rattle.nv_core.specs.steps.Opening.{IsMount}
-use Rattle.nv_core.specs.steps.Ops.{Op, Load, Take, Give, Place, Stop, Draw, Seize, Pledge, Ready, Grow, Break, Hold, Return, Turn, Hint, ByCleaner, Split, PutBack, Join}
+use Rattle.nv_core.specs.steps.Ops.{Op, Load, Take, Give, Place, Stop, Draw, Seize, Pledge, Ready, Grow, Break, Hold, Return, Turn, Hint, ByCleaner}
 use Rattle.nv_core.specs.steps.Order.{Values, Work, Enabled, CallDue, IsFailing}
 use Rattle.nv_core.specs.steps.StepKinds.{MayLoad, MayTake, EnabledByKind}
-use Rattle.nv_core.proofs.state.Choices.{if_both, page_tried, IsGivingBack, gives_back as gives_back_at}
+use Rattle.nv_core.proofs.state.Choices.{if_both, IsGivingBack, gives_back as gives_back_at}
 use Rattle.nv_core.proofs.steps.CleanerControls.{of_cleaner_worked}
 use Rattle.nv_core.proofs.steps.NextSteps.{next_steps_may_come}
 use Rattle.nv_core.proofs.steps.SearchLaws.{looked_at, tried_at}
@@ -27,133 +26,62 @@ use Rattle.nv_table.specs.state.Views.{PassView, pass_of}
 use Rattle.nv_table.specs.steps.SeatSteps.{AreDue, pass_before, pass_worked, with_call}
 use Rattle.nv_table.proofs.invariant.DrawnLaws.{calls_leave}
 use Rattle.nv_table.proofs.invariant.StepAt.{IsMadeAt, made_at}
-use Rattle.nv_table.proofs.steps.RunsOn.{IsPlain, step_of}
+use Rattle.nv_table.proofs.steps.RunsOn.{step_of}
 use Rattle.nv_mirror.specs.declared.answers.Refusal.{Refusal}
-use Rattle.nv_mirror.specs.declared.answers.Refusal.TheVariants.{Busy, Stopped, Spent, Again, Raced, RegionFault, StoreFault}
+use Rattle.nv_mirror.specs.declared.answers.Refusal.TheVariants.{RegionFault, StoreFault}
 use Rattle.nv_mirror.specs.OwnSteps.{gives_back, is_own, AreOwn}
-use Rattle.nv_mirror.specs.PassSteps.{PassStep, HasMade, HasTaken, busy_at, either_of, fault_at, fault_by, fault_in, head_in, if_own, is_stop, refusal_in, refused_by, stops_in}
+use Rattle.nv_mirror.specs.PassSteps.{PassStep, HasMade, HasTaken, either_of, head_in, is_fault, refusal_in, refused_by}
 use Rattle.nv_calls.specs.histories.Unmoved.{AreLocking, is_locking}
-use Rattle.nv_calls.specs.reads.Reads.{is_fault}
+use Rattle.nv_mirror.proofs.StopLaws.{IsFault, faults_are, own_plain}
 
 -- ---- how far a write is
 
--- before its draw, or a device has failed, or else
-data Stage : Type 0 where
-  Early : Stage
-  Failing : Stage
-  Late : Stage
-
-abbrev stage : Control → Stage
-stage (TakePage page) = Early
-stage LoadLength = Early
-stage TakeSize = Early
-stage LoadStop = Early
-stage LoadOrder = Early
-stage WriteLoadHead = Early
-stage WriteLoadTail = Early
-stage DrawNumbers = Early
-stage (SetStopAfterRead page dirty) = Failing
-stage (SetStopAfterPiece page number) = Failing
-stage SetStopAfterCommit = Failing
-stage control = Late
+-- before its draw, or else
+abbrev is_early : Control → Bool
+is_early (TakePage page) = true
+is_early LoadLength = true
+is_early TakeSize = true
+is_early LoadStop = true
+is_early LoadOrder = true
+is_early WriteLoadHead = true
+is_early WriteLoadTail = true
+is_early DrawNumbers = true
+is_early control = false
 
 abbrev IsEarly : Control → Type 0
-IsEarly control = stage control ≡ Early
+IsEarly control = is_early control ≡ true
 
 abbrev IsLate : Control → Type 0
-IsLate control = stage control ≡ Late
+IsLate control = is_early control ≡ false
 
-abbrev IsCalm : Control → Type 0
-IsCalm control = stage control ≡ Failing → ⊥
-
-late_or_early : {T : Type 0} (one : Stage) → one ≡ Late → one ≡ Early → T
+late_or_early : {T : Type 0} (one : Bool) → one ≡ false → one ≡ true → T
 late_or_early one late early = absurd (cc)
-
-late_calm : (one : Stage) → one ≡ Late → one ≡ Failing → ⊥
-late_calm one late fails = cc
-
-early_calm : (one : Stage) → one ≡ Early → one ≡ Failing → ⊥
-early_calm one early fails = cc
-
-failing_so : (control : Control) → IsFailing control → stage control ≡ Failing
-failing_so (SetStopAfterRead page dirty) fails = refl
-failing_so (SetStopAfterPiece page number) fails = refl
-failing_so SetStopAfterCommit fails = refl
-failing_so control fails = absurd fails
 
 leaving_late : (owned : List Word) → IsLate (leaving owned)
 leaving_late [] = refl
 leaving_late (cell ∷ rest) = refl
 
-first_early : (sizes : Sizes) (call : FileCall) → IsEarly (first_control sizes call)
-first_early sizes call = if_both IsEarly (page_count sizes call == 0) LoadStop (TakePage (first_page sizes call)) (λ _. refl) (λ _. refl)
-
 -- ---- device calls
 
--- a device fault is one of an entry's part or of a store
-abbrev IsFault : Option Refusal → Type 0
-IsFault (Some RegionFault) = Unit {0}
-IsFault (Some StoreFault) = Unit {0}
-IsFault (Some refusal) = ⊥
-IsFault None = Unit {0}
-
-fault_there : (cell : Word) → IsFault (fault_at cell)
-fault_there (STORE file) = tt
-fault_there (ENTRY slot) = tt
-fault_there cell = tt
-
-fault_of_work : (cell : Word) (ending : CallEnding) → IsFault (fault_by cell ending)
-fault_of_work cell (Failed came faults) = fault_there cell
-fault_of_work cell ending = tt
-
-either_fault : (one other : Option Refusal) → IsFault one → IsFault other → IsFault (either_of one other)
-either_fault (Some refusal) other first last = first
-either_fault None other first last = last
-
-faults_are : (works : List Work) → IsFault (fault_in works)
-faults_are [] = tt
-faults_are (work ∷ later) = either_fault (fault_by work.cell work.ending) (fault_in later) (fault_of_work work.cell work.ending) (faults_are later)
-
-first_fails : (one other : Option Refusal) → is_fault one ≡ true → is_fault (either_of one other) ≡ true
-first_fails (Some refusal) other fails = fails
-first_fails None other fails = absurd (cc)
-
-last_fails : (one other : Option Refusal) → IsFault one → is_fault other ≡ true → is_fault (either_of one other) ≡ true
-last_fails (Some RegionFault) other is fails = refl
-last_fails (Some StoreFault) other is fails = refl
-last_fails (Some refusal) other is fails = absurd is
-last_fails None other is fails = fails
-
--- one leads to no control state before the draw; and to STOP only where it has failed
+-- one leads to no control state before the draw
 module _ (sizes : Sizes) (values : Values) (pass : Pass) (work : Work) where
-  call_on : (ending : CallEnding) (control : Control) → CallDue sizes values pass work control → IsLate (control_worked sizes pass ending control) ⊎ ((stage (control_worked sizes pass ending control) ≡ Failing) × (is_fault (fault_by work.cell ending) ≡ true))
-  call_on Made (CommitGroup calls) due = inl (if_both IsLate _ (PledgePage (first_page sizes pass.call)) (CommitGroup _) (λ _. refl) (λ _. refl))
-  call_on Made (ReadStore page dirty) due = inl refl
-  call_on Made (ReadPiece page number) due = inl refl
-  call_on Made (Cleaning batch inner) due = inl (of_cleaner_worked IsLate refl (λ b c. refl) batch Made inner)
-  call_on (Failed came faults) (CommitGroup calls) due = inr (refl, ap (λ cell. is_fault (fault_at cell)) due.cell)
-  call_on (Failed came faults) (ReadStore page dirty) due = inr (refl, ap (λ cell. is_fault (fault_at cell)) due.cell)
-  call_on (Failed came faults) (ReadPiece page number) due = inr (refl, ap (λ cell. is_fault (fault_at cell)) due.cell)
-  call_on (Failed came faults) (Cleaning batch inner) due = inl (of_cleaner_worked IsLate refl (λ b c. refl) batch (Failed came faults) inner)
-  call_on Refused (CommitGroup calls) due = inl refl
-  call_on Refused (ReadStore page dirty) due = inl refl
-  call_on Refused (ReadPiece page number) due = inl refl
-  call_on Refused (Cleaning batch inner) due = inl (of_cleaner_worked IsLate refl (λ b c. refl) batch Refused inner)
+  call_on : (ending : CallEnding) (control : Control) → CallDue sizes values pass work control → IsLate (control_worked sizes pass ending control)
+  call_on Made (CommitGroup calls) due = if_both IsLate _ (PledgePage (first_page sizes pass.call)) (CommitGroup _) (λ _. refl) (λ _. refl)
+  call_on Made (ReadStore page dirty) due = refl
+  call_on Made (ReadPiece page number) due = refl
+  call_on (Failed came faults) (CommitGroup calls) due = refl
+  call_on (Failed came faults) (ReadStore page dirty) due = refl
+  call_on (Failed came faults) (ReadPiece page number) due = refl
+  call_on Refused (CommitGroup calls) due = refl
+  call_on Refused (ReadStore page dirty) due = refl
+  call_on Refused (ReadPiece page number) due = refl
+  call_on how (Cleaning batch inner) due = of_cleaner_worked IsLate refl (λ b c. refl) batch how inner
   call_on how control due = absurd due
 
 works_early : (sizes : Sizes) (works : List Work) (values : Values) (pass : Pass) → AreDue sizes values pass works → IsEarly (pass_worked sizes works pass).control → IsEarly pass.control
 works_early sizes [] values pass due early = early
 works_early sizes (work ∷ later) values pass due early =
-    let then_ = works_early sizes later (values_worked pass work values) (worked sizes work pass) due.1 early in
-    elim (call_on sizes values pass work work.ending pass.control due.0.due) [ inl late ↦ late_or_early _ late then_ | inr fails ↦ absurd (early_calm _ then_ fails.0) ]
-
-works_fail : (sizes : Sizes) (works : List Work) (values : Values) (pass : Pass) → AreDue sizes values pass works → IsCalm pass.control → stage (pass_worked sizes works pass).control ≡ Failing → is_fault (fault_in works) ≡ true
-works_fail sizes [] values pass due calm fails = absurd (calm fails)
-works_fail sizes (work ∷ later) values pass due calm fails = elim (call_on sizes values pass work work.ending pass.control due.0.due) [
-  | inl late ↦ last_fails (fault_by work.cell work.ending) (fault_in later) (fault_of_work work.cell work.ending)
-      (works_fail sizes later (values_worked pass work values) (worked sizes work pass) due.1 (late_calm _ late) fails)
-  | inr failed ↦ first_fails (fault_by work.cell work.ending) (fault_in later) failed.1
-]
+    late_or_early _ (call_on sizes values pass work work.ending pass.control due.0.due) (works_early sizes later (values_worked pass work values) (worked sizes work pass) due.1 early)
 
 -- ---- its own steps
 
@@ -161,15 +89,6 @@ works_fail sizes (work ∷ later) values pass due calm fails = elim (call_on siz
 no_cleaner : (file at : ℕ) (bytes : List ℕ) (refusal : Option Refusal) (cleaner_op : CleanerOp) → is_own (Write file at bytes) refusal (ByCleaner cleaner_op) ≡ true → ⊥
 no_cleaner file at bytes None cleaner_op own = cc
 no_cleaner file at bytes (Some refusal) cleaner_op own = cc
-
-own_plain : (file at : ℕ) (bytes : List ℕ) (refusal : Option Refusal) (op : Op) → is_own (Write file at bytes) refusal op ≡ true → IsPlain op
-own_plain file at bytes None Split own = absurd (cc)
-own_plain file at bytes None (PutBack cell) own = absurd (cc)
-own_plain file at bytes None (Join number) own = absurd (cc)
-own_plain file at bytes (Some refusal) Split own = absurd (cc)
-own_plain file at bytes (Some refusal) (PutBack cell) own = absurd (cc)
-own_plain file at bytes (Some refusal) (Join number) own = absurd (cc)
-own_plain file at bytes refusal op own = tt
 
 no_fault_so : {T : Type 0} (refusal : Refusal) → IsFault (Some refusal) → is_fault (Some refusal) ≡ false → T
 no_fault_so RegionFault is none = absurd (cc)
@@ -179,14 +98,6 @@ no_fault_so refusal is none = absurd is
 lost_so : (b : Bool) (one refusal : Refusal) → (if b then None else Some one) ≡ Some refusal → not b ≡ true
 lost_so true one refusal is = absurd (cc)
 lost_so false one refusal is = refl
-
-mild_both : (b : Bool) (one other : Option Refusal) → is_fault one ≡ false → is_fault other ≡ false → is_fault (if b then one else other) ≡ false
-mild_both true one other first last = first
-mild_both false one other first last = last
-
-or_false : (b : Bool) → b || false ≡ b
-or_false true = refl
-or_false false = refl
 
 -- ---- one step of a write
 
@@ -199,12 +110,12 @@ module _ (sizes : Sizes) (values : Values) (pass : Pass) (file at : ℕ) (bytes 
   not_at control is reads = no_read (reads (subst (FactsAt sizes pass) is facts))
 
   loads_early : (word : Word) → MayLoad sizes values pass word → IsEarly pass.control
-  loads_early (LENGTH one) may = ap stage may.0
-  loads_early STOP may = ap stage may
-  loads_early ORDER may = ap stage may
-  loads_early HEAD (inl is) = ap stage is
+  loads_early (LENGTH one) may = ap is_early may.0
+  loads_early STOP may = ap is_early may
+  loads_early ORDER may = ap is_early may
+  loads_early HEAD (inl is) = ap is_early is
   loads_early HEAD (inr may) = not_at (ReadLoadHead may.0) may.1 (λ f. f.0)
-  loads_early TAIL (inl is) = ap stage is
+  loads_early TAIL (inl is) = ap is_early is
   loads_early TAIL (inr may) = not_at (ReadLoadTail may.0) may.1 (λ f. f.0)
   loads_early (ENTRY slot) may = not_at (LoadEntry may.0 may.1) may.2 (λ f. f.0.0)
   loads_early (DIRTY page) may = looked_at (λ c. FactsAt sizes pass c → IsEarly c) sizes values pass page (λ from f. no_read f.0) (λ tries search f. no_read f.0) may facts
@@ -213,7 +124,7 @@ module _ (sizes : Sizes) (values : Values) (pass : Pass) (file at : ℕ) (bytes 
 
   takes_early : (cell : Word) → MayTake pass cell → IsEarly pass.control
   takes_early (PAGE page) may = tried_at (λ c. FactsAt sizes pass c → IsEarly c) pass page (λ f. refl) (λ missed tries buffer f. no_read f.0) may facts
-  takes_early (SIZE one) may = ap stage may.0
+  takes_early (SIZE one) may = ap is_early may.0
   takes_early (STORE one) may = not_at (TakeStore may.0 may.1) may.2 (λ f. f.0)
   takes_early (CLEANUP page) may = not_at (TakeCleanup page) may (λ f. f.0)
   takes_early cell may = absurd may
@@ -238,37 +149,6 @@ module _ (sizes : Sizes) (values : Values) (pass : Pass) (file at : ℕ) (bytes 
   stops_late (SetStopAfterPiece page number) may = refl
   stops_late SetStopAfterCommit may = refl
   stops_late control may = absurd may
-
-  -- ---- behind it
-
-  ordered_calm : IsCalm (ordered sizes pass.call)
-  ordered_calm = if_both IsCalm (is_write pass.call) WriteLoadHead (if is_read pass.call then VisitPage (first_page sizes pass.call) else TakePlace) (λ _. early_calm _ refl)
-      (λ _. if_both IsCalm (is_read pass.call) (VisitPage (first_page sizes pass.call)) TakePlace (λ _. late_calm _ refl) (λ _. late_calm _ refl))
-
-  leaving_calm : IsCalm (leaving pass.owned)
-  leaving_calm = late_calm _ (leaving_late pass.owned)
-
-  loads_calm : (word : Word) (found : ℕ) → MayLoad sizes values pass word → IsCalm (after_load sizes pass word found)
-  loads_calm (LENGTH one) found may = if_both IsCalm (exceeds pass found && not pass.sized) TakeSize LoadStop (λ _. early_calm _ refl) (λ _. early_calm _ refl)
-  loads_calm STOP found may = if_both IsCalm (found == 0) LoadOrder (leaving pass.owned) (λ _. early_calm _ refl) (λ _. leaving_calm)
-  loads_calm ORDER found may = if_both IsCalm (nat_lt found (2 ^ 60)) (ordered sizes pass.call) (leaving pass.owned) (λ _. ordered_calm) (λ _. leaving_calm)
-  loads_calm HEAD found (inl is) = subst (λ s. IsCalm (after_head sizes pass found s)) (sym is)
-      (if_both IsCalm (nat_le (found + page_count sizes pass.call) (2 ^ 60)) WriteLoadTail (leaving pass.owned) (λ _. early_calm _ refl) (λ _. leaving_calm))
-  loads_calm HEAD found (inr may) = not_at (ReadLoadHead may.0) may.1 (λ f. f.0)
-  loads_calm TAIL found (inl is) = subst (λ s. IsCalm (after_tail sizes pass found s)) (sym is)
-      (if_both IsCalm (nat_le (pass.head + page_count sizes pass.call) (found + sizes.entries)) DrawNumbers (leaving pass.owned) (λ _. early_calm _ refl) (λ _. leaving_calm))
-  loads_calm TAIL found (inr may) = not_at (ReadLoadTail may.0) may.1 (λ f. f.0)
-  loads_calm (ENTRY slot) found may = not_at (LoadEntry may.0 may.1) may.2 (λ f. f.0.0)
-  loads_calm (DIRTY page) found may = if_both IsCalm (found == 0) (TakeStore page false) (TakeCleanup page) (λ _. late_calm _ refl) (λ _. late_calm _ refl)
-  loads_calm (HINT buffer) found may = not_at (Searching may.page may.tries (LoadHint buffer)) may.is (λ f. f.0)
-  loads_calm word found may = absurd may
-
-  takes_calm : (cell : Word) (found : ℕ) → MayTake pass cell → IsCalm (control_after sizes pass (Take cell) found)
-  takes_calm (PAGE page) found may = page_tried IsCalm sizes pass page found (early_calm _ refl) (early_calm _ refl) leaving_calm (λ missed tries search. late_calm _ refl) may
-  takes_calm (SIZE one) found may = if_both IsCalm (found == 0) LoadLength (leaving pass.owned) (λ _. early_calm _ refl) (λ _. leaving_calm)
-  takes_calm (STORE one) found may = not_at (TakeStore may.0 may.1) may.2 (λ f. f.0)
-  takes_calm (CLEANUP page) found may = not_at (TakeCleanup page) may (λ f. f.0)
-  takes_calm cell found may = absurd may
 
   -- all but a load and a take lead past the draw
   abbrev is_light : Op → Bool
@@ -304,18 +184,12 @@ module _ (sizes : Sizes) (values : Values) (pass : Pass) (file at : ℕ) (bytes 
   after_early refusal (Take cell) found may own early = (takes_early cell may, λ head. refl)
   after_early refusal op found may own early = late_or_early _ (later_on refusal op found refl may own) early
 
-  -- and behind none a device has failed
-  after_calm : (refusal : Option Refusal) (op : Op) (found : ℕ) → EnabledByKind sizes values pass op → is_own (Write file at bytes) refusal op ≡ true → IsCalm (control_after sizes pass op found)
-  after_calm refusal (Load word) found may own = loads_calm word found may
-  after_calm refusal (Take cell) found may own = takes_calm cell found may
-  after_calm refusal op found may own = late_calm _ (later_on refusal op found refl may own)
-
   -- one that refuses the call, and for no device fault, came there
   refuses_early : (in_sizes : Sizes) (head : ℕ) (works : List Work) (op : Op) (found : ℕ) (refusal : Refusal) → EnabledByKind sizes values pass op
       → refused_by in_sizes (Write file at bytes) head works op found ≡ Some refusal → is_fault (Some refusal) ≡ false → IsEarly pass.control × (is_locking head op found ≡ true)
   refuses_early in_sizes head works (Load word) found refusal may is sound = (loads_early word may, refl)
   refuses_early in_sizes head works (Take cell) found refusal may is sound = (takes_early cell may, refl)
-  refuses_early in_sizes head works Draw found refusal may is sound = (ap stage may, lost_so (found == head) _ refusal is)
+  refuses_early in_sizes head works Draw found refusal may is sound = (ap is_early may, lost_so (found == head) _ refusal is)
   refuses_early in_sizes head works Stop found refusal may is sound = no_fault_so refusal (subst IsFault is (faults_are works)) sound
   refuses_early in_sizes head works op found refusal may is sound = absurd (cc)
 
@@ -330,7 +204,6 @@ module _ (sound : RunsAreSound) (tell : OwnEventsTell) (sizes : Sizes) (file at 
     opened : now.view.opened ≡ start.view.opened
     makes : (pass_of now.view).call ≡ call
     early : IsEarly (pass_of now.view).control → AreLocking steps
-    calm : IsCalm (pass_of now.view).control
 
   -- a step behind some, with the pass as it finds it
   module _ (step : PassStep) (earlier : List PassStep) (middle now : PassState) (opened : middle.view.opened ≡ start.view.opened) (taken : HasTaken step middle now) (refusal : Option Refusal) (own : is_own call refusal step.op ≡ true) where
@@ -348,7 +221,7 @@ module _ (sound : RunsAreSound) (tell : OwnEventsTell) (sizes : Sizes) (file at 
 
     may : EnabledByKind seen.opened.sizes come.core.values there step.op
     may = next_steps_may_come seen.opened.sizes come.core.values there step.op
-        (subst (λ p. Enabled seen.opened.sizes come.core.values p step.op) come.own (step_of seen.opened.sizes seen.number come.core step.op (own_plain file at bytes refusal step.op own) come.may.may))
+        (subst (λ p. Enabled seen.opened.sizes come.core.values p step.op) come.own (step_of seen.opened.sizes seen.number come.core step.op (own_plain (Write file at bytes) refusal step.op own) come.may.may))
 
     stands_so : FactsAt seen.opened.sizes there there.control
     stands_so = (subst (ControlFacts seen.opened.sizes) come.own (come.sound.control_facts seen.number)).at
@@ -362,10 +235,8 @@ module _ (sound : RunsAreSound) (tell : OwnEventsTell) (sizes : Sizes) (file at 
       opened = now_opened;
       makes = ap (λ (p : Pass). p.call) taken.stepped.pass ∙ makes;
       early = λ early.
-          let was = after_early seen.opened.sizes come.core.values there file at bytes makes stands_so refusal step.op step.found may own (sym (ap (λ (p : Pass). stage p.control) taken.stepped.pass) ∙ early) in
+          let was = after_early seen.opened.sizes come.core.values there file at bytes makes stands_so refusal step.op step.found may own (sym (ap (λ (p : Pass). is_early p.control) taken.stepped.pass) ∙ early) in
           (was.1 (head_in earlier), before was.0);
-      calm = λ fails.
-          after_calm seen.opened.sizes come.core.values there file at bytes makes stands_so refusal step.op step.found may own (sym (ap (λ (p : Pass). stage p.control) taken.stepped.pass) ∙ fails);
     }
 
     refused_on : there.call ≡ call → (IsEarly there.control → AreLocking earlier) → (why : Refusal) → refused_by sizes call (head_in earlier) step.works step.op step.found ≡ Some why
@@ -374,18 +245,9 @@ module _ (sound : RunsAreSound) (tell : OwnEventsTell) (sizes : Sizes) (file at 
         let was = refuses_early seen.opened.sizes come.core.values there file at bytes makes stands_so sizes (head_in earlier) step.works step.op step.found why may is mild in
         (was.1, before was.0)
 
-    -- where it sets STOP it stands so
-    stop_fails : step.op ≡ Stop → stage there.control ≡ Failing
-    stop_fails is = failing_so there.control (subst (EnabledByKind seen.opened.sizes come.core.values there) is may)
-
     -- the first step of the call, and a later one
     first_makes : step.opens ≡ Some call → there.call ≡ call
     first_makes opens = ap (λ o. (with_call seen.opened.sizes o (pass_worked seen.opened.sizes taken.stepped.works (pass_of seen))).call) opens
-
-    first_sets : step.opens ≡ Some call → step.op ≡ Stop → ⊥
-    first_sets opens is =
-        let first = ap (λ o. (with_call seen.opened.sizes o (pass_worked seen.opened.sizes taken.stepped.works (pass_of seen))).control) opens in
-        early_calm _ (ap stage first ∙ first_early seen.opened.sizes call) (stop_fails is)
 
     module _ (opens : step.opens ≡ None) (was : Stands earlier middle) where
       there_is : there ≡ pass_worked seen.opened.sizes taken.stepped.works (pass_of seen)
@@ -397,13 +259,8 @@ module _ (sound : RunsAreSound) (tell : OwnEventsTell) (sizes : Sizes) (file at 
 
       later_early : IsEarly there.control → AreLocking earlier
       later_early early =
-          was.early (sym (ap (λ (v : PassView). stage (pass_of v).control) taken.between.view)
-          ∙ works_early seen.opened.sizes taken.stepped.works _ (pass_of seen) taken.stepped.due (sym (ap (λ (p : Pass). stage p.control) there_is) ∙ early))
-
-      later_sets : step.op ≡ Stop → is_fault (fault_in step.works) ≡ true
-      later_sets is = ap (λ works. is_fault (fault_in works)) (sym taken.works_are)
-          ∙ works_fail seen.opened.sizes taken.stepped.works _ (pass_of seen) taken.stepped.due (λ fails. was.calm (sym (ap (λ (v : PassView). stage (pass_of v).control) taken.between.view) ∙ fails))
-          (sym (ap (λ (p : Pass). stage p.control) there_is) ∙ stop_fails is)
+          was.early (sym (ap (λ (v : PassView). is_early (pass_of v).control) taken.between.view)
+          ∙ works_early seen.opened.sizes taken.stepped.works _ (pass_of seen) taken.stepped.due (sym (ap (λ (p : Pass). is_early p.control) there_is) ∙ early))
 
   stands : (steps : List PassStep) (now : PassState) → HasMade steps start now → AreOwn sizes call steps → Stands steps now
   stands [] now all own = absurd own
@@ -442,44 +299,3 @@ module _ (sound : RunsAreSound) (tell : OwnEventsTell) (sizes : Sizes) (file at 
       refused_on step [] all.0 now opened all.2 None own.1 (first_makes step [] all.0 now opened all.2 None own.1 own.0) (λ early. tt) why is mild
   locking (step ∷ (other ∷ earlier)) now why all own is mild =
       next_locking step other earlier now why all own (refusal_in sizes call (other ∷ earlier)) refl is mild (λ before. locking (other ∷ earlier) all.0 why all.1 own.2 before mild)
-
-  -- ---- STOP
-
-  -- a step sets STOP where it refuses its call for a device fault
-  sets_by : (head : ℕ) (works : List Work) (op : Op) (found : ℕ) → (op ≡ Stop → is_fault (fault_in works) ≡ true) → is_stop op ≡ is_fault (refused_by sizes call head works op found)
-  sets_by head works (Take (PAGE page)) found fails =
-      let busy = mild_both (found == 0) None (Some (Busy (place sizes (PAGE page)))) refl refl in
-      sym (mild_both (found == 0) None (if_own sizes call page (busy_at sizes (PAGE page) found)) refl
-      (mild_both (is_among (first_page sizes call) (end_page sizes call) page) (busy_at sizes (PAGE page) found) None busy refl))
-  sets_by head works (Take cell) found fails = sym (mild_both (found == 0) None (Some (Busy (place sizes cell))) refl refl)
-  sets_by head works (Load STOP) found fails = sym (mild_both (found == 0) None (Some Stopped) refl refl)
-  sets_by head works (Load ORDER) found fails = sym (mild_both (nat_lt found (2 ^ 60)) None (Some (Spent found)) refl refl)
-  sets_by head works (Load HEAD) found fails = sym (mild_both _ (Some (Spent found)) None refl refl)
-  sets_by head works (Load TAIL) found fails = sym (mild_both _ (Some (Again head found)) None refl refl)
-  sets_by head works Draw found fails = sym (mild_both (found == head) None (Some (Raced head found)) refl refl)
-  sets_by head works Stop found fails = sym (fails refl)
-  sets_by head works op found fails = refl
-
-  back_unset : (refusal : Refusal) (op : Op) → gives_back call refusal op ≡ true → is_stop op ≡ false
-  back_unset refusal Stop back = absurd (cc)
-  back_unset refusal op back = refl
-
-  next_sets : (step : PassStep) (earlier : List PassStep) (before : Option Refusal) → refusal_in sizes call earlier ≡ before → stops_in earlier ≡ is_fault (refusal_in sizes call earlier) → is_own call (refusal_in sizes call earlier) step.op ≡ true
-      → (step.op ≡ Stop → is_fault (fault_in step.works) ≡ true) → stops_in (step ∷ earlier) ≡ is_fault (refusal_in sizes call (step ∷ earlier))
-  next_sets step earlier None so_far set own fails =
-      ap (λ b. b || is_stop step.op) (set ∙ ap is_fault so_far) ∙ sets_by (head_in earlier) step.works step.op step.found fails
-      ∙ sym (ap (λ r. is_fault (either_of r (refused_by sizes call (head_in earlier) step.works step.op step.found))) so_far)
-  next_sets step earlier (Some refusal) so_far set own fails =
-      ap₂ (λ a b. a || b) (set ∙ ap is_fault so_far) (back_unset refusal step.op (sym (ap (λ r. is_own call r step.op) so_far) ∙ own)) ∙ or_false (is_fault (Some refusal))
-      ∙ sym (ap (λ r. is_fault (either_of r (refused_by sizes call (head_in earlier) step.works step.op step.found))) so_far)
-
-  -- its steps set STOP exactly where it is refused for a device fault
-  pub sets_stop : (steps : List PassStep) (now : PassState) → HasMade steps start now → AreOwn sizes call steps → stops_in steps ≡ is_fault (refusal_in sizes call steps)
-  sets_stop [] now all own = absurd own
-  sets_stop (step ∷ []) now all own =
-      let opened = ap (λ (p : PassState). p.view.opened) all.1 in
-      next_sets step [] None refl refl own.1 (λ is. absurd (first_sets step [] all.0 now opened all.2 None own.1 own.0 is))
-  sets_stop (step ∷ (other ∷ earlier)) now all own =
-      let was = stands (other ∷ earlier) all.0 all.1 own.2 in
-      let refusal = refusal_in sizes call (other ∷ earlier) in
-      next_sets step (other ∷ earlier) refusal refl (sets_stop (other ∷ earlier) all.0 all.1 own.2) own.1 (later_sets step (other ∷ earlier) all.0 now was.opened all.2 refusal own.1 own.0 was)

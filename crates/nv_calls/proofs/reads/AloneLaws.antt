@@ -22,8 +22,11 @@ use Rattle.nv_mount.specs.declared.fds.Fd.{Fd}
 use Rattle.nv_mirror.specs.declared.answers.Done.{Done}
 use Rattle.nv_mirror.specs.declared.answers.Refusal.{Refusal}
 use Rattle.nv_mirror.specs.declared.answers.Refusal.TheVariants.{BadFd, TooFar, TooLong, Busy, Stopped, Spent, Again, Raced}
-use Rattle.nv_calls.specs.reads.EarlyRefusals.{early_refusal, early_fd_refusal, early_range_refusal}
-use Rattle.nv_calls.specs.reads.Reads.{IsOverBy, refusal_of}
+use Rattle.nv_calls.specs.calls.EarlyRefusals.{early_refusal, early_fd_refusal, early_range_refusal}
+use Rattle.nv_calls.specs.calls.EndedCalls.{IsOverBy}
+use Rattle.nv_calls.specs.fsync.SyncRuns.{file_of_fd}
+use Rattle.nv_calls.specs.reads.Reads.{IsReadDone}
+use Rattle.nv_mirror.specs.Answers.{refusal_in_answer}
 use Rattle.nv_calls.specs.reads.ReadsAlone.{NoReadIsBusy}
 use Rattle.nv_mirror.specs.PassSteps.{PassStep, HasMade, either_of, busy_at, if_own, fault_at, fault_by, fault_in, refused_by, refusal_in, head_in}
 
@@ -63,10 +66,10 @@ range_other sizes at len =
     choice (nat_lt (sizes.page * sizes.pages) (at + len)) (Some TooFar) (if nat_lt (min version_1.group_limit sizes.entries) (pages_touched at len sizes.page) then Some TooLong else None) tt
     (choice (nat_lt (min version_1.group_limit sizes.entries) (pages_touched at len sizes.page)) (Some TooLong) None tt tt)
 
-early_other : (sizes : Sizes) (fds : List Fd) (fd at len : ℕ) → IsOther (early_refusal sizes fds fd at len)
+early_other : (sizes : Sizes) (fds : List Fd) (fd at len : ℕ) → IsOther (early_refusal can_read sizes fds fd at len)
 early_other sizes fds fd at len = by (slice_get fds fd)
   where
-    by : (one : Option Fd) → IsOther (early_fd_refusal sizes one at len)
+    by : (one : Option Fd) → IsOther (early_fd_refusal can_read sizes one at len)
     by None = tt
     by (Some one) = choice (can_read one.mode) (early_range_refusal sizes at len) (Some BadFd) (range_other sizes at len) tt
 
@@ -114,11 +117,11 @@ module _ (alone : StaysAlone) (locks : NoLockIsHeld) where
 
   pub no_read_is_busy : NoReadIsBusy
   no_read_is_busy fds fd at list start now result cell mount knows is over busy =
-      by (early_refusal start.view.opened.sizes fds fd at (length list)) (early_other start.view.opened.sizes fds fd at (length list)) over
+      by (early_refusal can_read start.view.opened.sizes fds fd at (length list)) (early_other start.view.opened.sizes fds fd at (length list)) over
     where
-      by : (refusal : Option Refusal) → IsOther refusal → IsOverBy refusal fds fd at list start now result → ⊥
-      by (Some refusal) other ended = subst (λ (r : Result Done Refusal). IsOther (refusal_of r)) (sym ended.0 ∙ busy) other
+      by : (refusal : Option Refusal) → IsOther refusal → IsOverBy refusal (file_of_fd fds fd) (λ file. IsReadDone file at list start now result) start now result → ⊥
+      by (Some refusal) other ended = subst (λ (r : Result Done Refusal). IsOther (refusal_in_answer r)) (sym ended.0 ∙ busy) other
       by None other ended =
-          let over = ended.2 in
-          subst (λ (r : Result Done Refusal). IsOther (refusal_of r)) busy
+          let over = ended.2.over in
+          subst (λ (r : Result Done Refusal). IsOther (refusal_in_answer r)) busy
           (subst IsOther over.refused (all_open start.view.opened.sizes (Read ended.0 at (length list)) over.steps start now over.made mount knows is).other)

@@ -1,21 +1,15 @@
 -- Machines: a running write stands with its list put in and taken out where it stood, and an advance goes on from there.
-use Rattle.std.proofs.Common.{◌≡◌, ℕ, ◌<◌, ◌≤◌, ◌+◌, ◌*◌, nat_lt, Bool, true, false, if◌then◌else◌, List, length, refl, sym, ap, subst, ◌∙◌, arith}
-use Rattle.std.specs.Prelude.{Option, Some, None, min, Ok, Err}
+use Rattle.std.proofs.Common.{◌≡◌, ℕ, ◌<◌, ◌≤◌, true, false, List, length, refl, sym, ap, subst, ◌∙◌, arith}
+use Rattle.std.specs.Prelude.{None, Ok, Err}
 use Rattle.std.specs.Borrow.{Bor}
-use Rattle.std.specs.List.{slice_get}
-use Rattle.nv_plain.specs.Layouts.{version_1}
 use Rattle.nv_plain.specs.Modes.{can_write}
-use Rattle.nv_plain.specs.Pieces.{pages_touched}
 use Rattle.nv_plain.specs.declared.call.FileCall.TheVariants.{Write}
 use Rattle.nv_core.specs.state.Words.{Sizes}
-use Rattle.nv_table.specs.invariant.Idle.{IsIdle}
 use Rattle.nv_table.specs.state.States.{PassState}
 use Rattle.nv_mount.specs.declared.fds.Fd.{Fd}
 use Rattle.nv_op.specs.declared.asked.Asked.{Asked}
 use Rattle.nv_op.specs.declared.asked.Asked.TheVariants.{Read as AsksRead, Write as AsksWrite, Sync as AsksSync}
 use Rattle.nv_op.specs.Ops.{asked_with}
-use Rattle.nv_mirror.specs.declared.answers.Refusal.{Refusal}
-use Rattle.nv_mirror.specs.declared.answers.Refusal.TheVariants.{BadFd, TooFar, TooLong}
 use Rattle.nv_ring.specs.declared.numbers.DrawControl.{DrawControl}
 use Rattle.nv_ring.specs.declared.numbers.DrawControl.TheVariants as draws
 use Rattle.nv_ring.specs.declared.numbers.DrawMachine.{DrawMachine}
@@ -35,15 +29,14 @@ use Rattle.nv_ring.specs.declared.write.RunningWrite.TheVariants.{Pageless, Fron
 use Rattle.nv_ring.specs.RunningWrites.{IsOpen, IsSettled, IsUnderWay, write_measure}
 use Rattle.nv_ring.proofs.ListLaws.{list_way}
 use Rattle.nv_mirror.specs.PassSteps.{either_of, fault_in, place_by}
-use Rattle.nv_ring.specs.WriteSteps.{HasMadeOne, IsFresh, first_kind, part_fault, with_list, write_fault, write_kind, write_place}
+use Rattle.nv_ring.specs.WriteSteps.{HasMadeOne, with_list, write_fault, write_kind, write_place}
 use Rattle.nv_calls.specs.calls.Advances.{IsFewer, IsOneStep}
-use Rattle.nv_calls.specs.calls.CallAnswers.{done_at}
-use Rattle.nv_calls.specs.declared.progress.Progress.TheVariants.{Ended}
 use Rattle.nv_calls.specs.declared.writing.WriteControl.TheVariants as writes
 use Rattle.nv_calls.specs.declared.writing.WriteMachine.{WriteMachine}
-use Rattle.nv_calls.specs.reads.EarlyRefusals.{early_range_refusal}
-use Rattle.nv_calls.specs.writes.WriteMachines.{IsOfFile, IsPutInAs, IsWriteUnderWay, StandsAt, WriteGoes, early_of, fault_at, kind_at, measure, measure_at, place_at, progress_of, standing}
-use Rattle.nv_calls.specs.writes.Writes.{IsAdmitted, IsOverBy, early_fd_refusal, early_refusal}
+use Rattle.nv_calls.specs.calls.EarlyRefusals.{early_refusal}
+use Rattle.nv_calls.specs.calls.EndedCalls.{IsCallOver}
+use Rattle.nv_calls.specs.fsync.SyncRuns.{file_of_fd}
+use Rattle.nv_calls.specs.writes.WriteMachines.{IsOfFile, IsPutInAs, IsWriteUnderWay, StandsAt, WriteGoes, fault_at, kind_at, measure, measure_at, place_at, progress_of, standing}
 
 -- ---- the list is put in and taken out
 
@@ -126,38 +119,6 @@ lent_on : (list other : Bor (List ℕ)) (file at : ℕ) (start now : PassState) 
 lent_on list other file at start now write way =
     subst (λ w. IsUnderWay (Write file at list.now) w start now) (list_twice list other write) (list_way list file at start now (with_list other write) way)
 
--- ---- before the first step
-
-of_both : {T U : Type 0} (f : T → U) (b : Bool) (one other : T) (u : U) → f one ≡ u → f other ≡ u → f (if b then one else other) ≡ u
-of_both f true one other u first second = first
-of_both f false one other u first second = second
-
--- no device call has failed where what it asks for is refused
-fd_faultless : (sizes : Sizes) (one : Option Fd) (at len : ℕ) → part_fault (early_fd_refusal sizes one at len) ≡ None
-fd_faultless sizes None at len = refl
-fd_faultless sizes (Some one) at len =
-    of_both part_fault (can_write one.mode) (early_range_refusal sizes at len) (Some BadFd) None
-    (of_both part_fault (nat_lt (sizes.page * sizes.pages) (at + len)) (Some TooFar) _ None refl
-    (of_both part_fault (nat_lt (min version_1.group_limit sizes.entries) (pages_touched at len sizes.page)) (Some TooLong) None None refl refl)) refl
-
-faultless : (sizes : Sizes) (fds : List Fd) (fd at len : ℕ) (refusal : Refusal) → early_refusal sizes fds fd at len ≡ Some refusal → None ≡ part_fault (Some refusal)
-faultless sizes fds fd at len refusal is = sym (fd_faultless sizes (slice_get fds fd) at len) ∙ ap part_fault is
-
-begun : (fds : List Fd) (m : WriteMachine) (list : List ℕ) (start now : PassState) → m.control ≡ writes.Begin → IsWriteUnderWay fds m list start now → IsIdle start × (now ≡ start)
-begun fds m list start now begins way = subst (StandsAt fds m list start now) begins way.stands
-
--- It ends without a step where what it asks for is refused.
-pub ends_early : (fds : List Fd) (m : WriteMachine) (list : List ℕ) (start now : PassState) (refusal : Refusal) → m.control ≡ writes.Begin → early_of now.view.opened.sizes fds m ≡ Some refusal
-    → IsWriteUnderWay fds m list start now → WriteGoes fds start m list now (Ended (Err refusal))
-ends_early fds m list start now refusal begins early way =
-    let same = (begun fds m list start now begins way).1 in
-    let here : early_refusal start.view.opened.sizes fds m.fd m.at (length list) ≡ Some refusal =
-    ap (early_refusal start.view.opened.sizes fds m.fd m.at) way.room ∙ ap (λ (p : PassState). early_of p.view.opened.sizes fds m) (sym same) ∙ early in (
-      ap (λ control. done_at m.len (place_at control)) begins,
-      ap fault_at begins ∙ faultless now.view.opened.sizes fds m.fd m.at m.len refusal early,
-      subst (λ by. IsOverBy by fds m.fd m.at list start now (Err refusal)) (sym here) (refl, same),
-    )
-
 -- ---- an advance goes on
 
 -- a machine whose write is so, with the list taken out
@@ -180,8 +141,8 @@ module _ (fds : List Fd) (m : WriteMachine) (list other : Bor (List ℕ)) (room 
     );
   }
 
-  early_here : (write : RunningWrite) → IsOfFile fds m list.now write start now → early_refusal start.view.opened.sizes fds m.fd m.at (length list.now) ≡ None
-  early_here write of = ap (early_refusal start.view.opened.sizes fds m.fd m.at) room ∙ of.early
+  early_here : (write : RunningWrite) → IsOfFile fds m list.now write start now → early_refusal can_write start.view.opened.sizes fds m.fd m.at (length list.now) ≡ None
+  early_here write of = ap (early_refusal can_write start.view.opened.sizes fds m.fd m.at) room ∙ of.early
 
   -- it goes on, or has told what a whole write tells
   pub goes_on : (write : RunningWrite) → IsSettled write → IsOfFile fds m list.now write start now → WriteGoes fds start (kept m other write) list.now now (progress_of m.len write)
@@ -193,12 +154,12 @@ module _ (fds : List Fd) (m : WriteMachine) (list other : Bor (List ℕ)) (room 
   goes_on (Over (Ok place)) runs of = (
     refl,
     refl,
-    subst (λ by. IsOverBy by fds m.fd m.at list.now start now (Ok record { place = place; len = m.len })) (sym (early_here (Over (Ok place)) of)) (of.file, of.file_is, of.way),
+    subst (λ by. IsCallOver by (file_of_fd fds m.fd) (λ file. Write file m.at list.now) start now (Ok record { place = place; len = m.len })) (sym (early_here (Over (Ok place)) of)) (of.file, of.file_is, of.way),
   )
   goes_on (Over (Err refusal)) runs of = (
     refl,
     refl,
-    subst (λ by. IsOverBy by fds m.fd m.at list.now start now (Err refusal)) (sym (early_here (Over (Err refusal)) of)) (of.file, of.file_is, of.way),
+    subst (λ by. IsCallOver by (file_of_fd fds m.fd) (λ file. Write file m.at list.now) start now (Err refusal)) (sym (early_here (Over (Err refusal)) of)) (of.file, of.file_is, of.way),
   )
 
 -- by fewer steps
@@ -239,28 +200,3 @@ module _ (sizes : Sizes) (fds : List Fd) (m : WriteMachine) (list : Bor (List �
     way = λ start now same way. let stands = subst (StandsAt fds m list.now start now) is way.stands in let of = stands.2 in
         record { early = of.early; file = of.file; file_is = of.file_is; way = lent_on list stands.1 of.file m.at start now write of.way };
   }
-
-  module _ (file : ℕ) (write : RunningWrite) (begins : m.control ≡ writes.Begin) (admitted : IsAdmitted sizes fds m.fd m.at list.now file) where
-    begins_way : ((pass : PassState) → pass.view.opened.sizes ≡ sizes → IsIdle pass → IsUnderWay (Write file m.at list.now) write pass pass) → (start now : PassState) → now.view.opened.sizes ≡ sizes
-        → IsWriteUnderWay fds m list.now start now → IsOfFile fds m list.now write start now
-    begins_way fresh start now same way =
-        let begun = begun fds m list.now start now begins way in
-        let here : start.view.opened.sizes ≡ sizes = ap (λ (p : PassState). p.view.opened.sizes) (sym begun.1) ∙ same in
-        subst (λ (p : PassState). IsOfFile fds m list.now write start p) (sym begun.1) record {
-          early = ap (λ s. early_of s fds m) here ∙ ap (early_refusal sizes fds m.fd m.at) (sym room) ∙ admitted.early;
-          file = file;
-          file_is = admitted.file_is;
-          way = fresh start here begun.0;
-        }
-
-    pub puts_fresh : IsOpen write → IsFresh sizes (Write file m.at list.now) write → ((pass : PassState) → pass.view.opened.sizes ≡ sizes → IsIdle pass → IsUnderWay (Write file m.at list.now) write pass pass)
-        → IsPutInAs sizes fds m list.now write
-    puts_fresh runs new fresh = record {
-      more = runs;
-      kind = new.kind ∙ ap first_kind room ∙ ap (kind_at m.len) (sym begins);
-      place = new.place ∙ ap place_at (sym begins);
-      fault = new.fault ∙ ap fault_at (sym begins);
-      fewer = subst (λ control. write_measure write ≤ measure_at sizes m control) (sym begins)
-          (subst (λ n. write_measure write ≤ 20 + 6 * pages_touched m.at n sizes.page) room (let few = new.few in omega (arith, few)));
-      way = begins_way fresh;
-    }

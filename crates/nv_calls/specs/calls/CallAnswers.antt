@@ -1,7 +1,14 @@
--- Call answers: what a call is answered whose answer is so many bytes.
-use Rattle.std.specs.Prelude.{ℕ, Option, option_map, Result, Ok, Err}
+-- Call answers: what a call is answered, and what it tells once it has its place.
+use Rattle.std.specs.Prelude.{ℕ, Option, Some, None, option_map, Result, Ok, Err}
 use Rattle.nv_mirror.specs.declared.answers.Done.{Done}
 use Rattle.nv_mirror.specs.declared.answers.Refusal.{Refusal}
+
+-- the answer of a call that has its place
+abbrev pub done_of : Result Done Refusal → Option Done
+done_of (Ok done) = Some done
+done_of (Err refusal) = None
+
+-- ---- of a call whose answer is so many bytes
 
 -- what it is answered where its steps came to this
 abbrev pub answer_of : (len : ℕ) → Result ℕ Refusal → Result Done Refusal

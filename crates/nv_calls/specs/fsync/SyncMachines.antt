@@ -22,8 +22,7 @@ use Rattle.nv_mirror.specs.Answers.{IsSyncPlaced, IsUnplaced}
 use Rattle.nv_mirror.specs.Pageless as pageless
 use Rattle.nv_mirror.specs.Pageless.{pageless_measure, pageless_op, pageless_place_at}
 use Rattle.nv_calls.specs.calls.Advances.{Standing}
-use Rattle.nv_calls.specs.calls.CallAnswers.{answer_of, done_at}
-use Rattle.nv_calls.specs.reads.Reads.{done_of}
+use Rattle.nv_calls.specs.calls.CallAnswers.{answer_of, done_at, done_of}
 use Rattle.nv_calls.specs.declared.progress.Progress.{Progress}
 use Rattle.nv_calls.specs.declared.progress.Progress.TheVariants.{More, Ended}
 use Rattle.nv_calls.specs.declared.syncing.SyncControl.{SyncControl}

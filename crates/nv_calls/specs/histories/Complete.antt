@@ -1,5 +1,6 @@
 -- Complete: a call is done where it finds what it needs.
 use Rattle.std.specs.Prelude.{◌≡◌, ℕ, ◌+◌, ◌<◌, ◌≤◌, ◌^◌, true, List, [], ◌∷◌, length, Option, Some, None, Result, Ok}
+use Rattle.nv_plain.specs.Modes.{can_read}
 use Rattle.nv_plain.specs.declared.call.FileCall.{FileCall}
 use Rattle.nv_plain.specs.declared.call.FileCall.TheVariants.{Read, Sync}
 use Rattle.nv_core.specs.invariant.Ownership.{is_among}
@@ -12,7 +13,7 @@ use Rattle.nv_mirror.specs.declared.answers.Done.{Done}
 use Rattle.nv_mirror.specs.declared.answers.Refusal.{Refusal}
 use Rattle.nv_mirror.specs.PassSteps.{PassStep, HasMade, fault_in, head_in}
 use Rattle.nv_calls.specs.fsync.SyncRuns.{file_of_fd, IsSyncRun}
-use Rattle.nv_calls.specs.reads.EarlyRefusals.{early_refusal}
+use Rattle.nv_calls.specs.calls.EarlyRefusals.{early_refusal}
 use Rattle.nv_calls.specs.reads.Reads.{IsReadOver}
 
 -- What a step needs to find, where its call loaded HEAD as it was: a lock is free, unless it is that of a page which is no page of the call, a victim's; STOP is 0, and
@@ -42,7 +43,7 @@ pub record IsComplete (asks : (file : ℕ) → FileCall) (early : Option Refusal
 
 abbrev pub IsCompleteRead : List Fd → (fd at : ℕ) → (list : List ℕ) → (start now : PassState) → Result Done Refusal → Type 0
 IsCompleteRead fds fd at list start now result =
-    IsComplete (λ file. Read file at (length list)) (early_refusal start.view.opened.sizes fds fd at (length list)) (file_of_fd fds fd) start now result
+    IsComplete (λ file. Read file at (length list)) (early_refusal can_read start.view.opened.sizes fds fd at (length list)) (file_of_fd fds fd) start now result
 
 -- a law: each that is over is so, whatever made its steps
 abbrev pub ReadsAreComplete : Type 0

@@ -11,8 +11,9 @@ use Rattle.nv_mirror.specs.declared.answers.Done.{Done}
 use Rattle.nv_mirror.specs.declared.answers.Refusal.{Refusal}
 use Rattle.nv_mirror.specs.declared.answers.Refusal.TheVariants.{Stopped, RegionFault, StoreFault}
 use Rattle.nv_calls.specs.fsync.SyncRuns.{file_of_fd, IsSyncRun}
-use Rattle.nv_calls.specs.reads.Reads.{IsReadOver, is_fault, refusal_of}
-use Rattle.nv_mirror.specs.PassSteps.{PassStep, HasMade, stops_in}
+use Rattle.nv_mirror.specs.Answers.{refusal_in_answer}
+use Rattle.nv_mirror.specs.PassSteps.{PassStep, HasMade, is_fault, stops_in}
+use Rattle.nv_calls.specs.reads.Reads.{IsReadOver}
 
 -- it has seen STOP as 1, or set it
 abbrev pub HasSeenStop : PassState → Type 0
@@ -43,7 +44,7 @@ pub record HeedsStop (start now : PassState) (result : Result Done Refusal) : Ty
   pub stays : HasSeenStop start → HasSeenStop now
   pub told : tells_stop result ≡ true → HasSeenStop now
   pub heeds : HasSeenStop start → loads_stop steps ≡ true → result ≡ Err Stopped
-  pub sets : stops_in steps ≡ is_fault (refusal_of result)
+  pub sets : stops_in steps ≡ is_fault (refusal_in_answer result)
 
 -- So an fsync, which comes to that load with its first step.
 pub record SyncHeedsStop (fds : List Fd) (fd : ℕ) (start now : PassState) (result : Result Done Refusal) : Type 0 where

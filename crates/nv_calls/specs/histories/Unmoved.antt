@@ -6,8 +6,8 @@ use Rattle.nv_core.specs.steps.Ops.{Op, Load, Take, Give, Draw}
 use Rattle.nv_table.specs.state.States.{PassState}
 use Rattle.nv_mirror.specs.declared.answers.Done.{Done}
 use Rattle.nv_mirror.specs.declared.answers.Refusal.{Refusal}
-use Rattle.nv_mirror.specs.PassSteps.{PassStep, HasMade, head_in}
-use Rattle.nv_calls.specs.reads.Reads.{refusal_of, place_of_result, is_fault}
+use Rattle.nv_mirror.specs.Answers.{place_in_answer, refusal_in_answer}
+use Rattle.nv_mirror.specs.PassSteps.{PassStep, HasMade, head_in, is_fault}
 
 -- A step changes no word but a lock, where its call loaded HEAD as it was: it loads a word, takes a lock or gives one back, or is a draw that found
 -- HEAD moved.
@@ -37,4 +37,4 @@ held_by (step ∷ earlier) = held_after step.op step.found (held_by earlier)
 pub record LeavesWords (start now : PassState) (result : Result Done Refusal) : Type 0 where
   pub steps : List PassStep
   pub made : HasMade steps start now
-  pub left : place_of_result result ≡ None → is_fault (refusal_of result) ≡ false → AreLocking steps × (held_by steps ≡ [])
+  pub left : place_in_answer result ≡ None → is_fault (refusal_in_answer result) ≡ false → AreLocking steps × (held_by steps ≡ [])

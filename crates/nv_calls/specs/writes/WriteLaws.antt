@@ -1,5 +1,6 @@
 -- Laws of writes that are over, whatever made their steps.
 use Rattle.std.specs.Prelude.{ℕ, List, length, Result}
+use Rattle.nv_plain.specs.Modes.{can_write}
 use Rattle.nv_plain.specs.declared.call.FileCall.TheVariants.{Write}
 use Rattle.nv_core.specs.steps.Opening.{IsMount}
 use Rattle.nv_table.specs.invariant.Idle.{IsIdle}
@@ -12,7 +13,8 @@ use Rattle.nv_calls.specs.fsync.SyncRuns.{file_of_fd}
 use Rattle.nv_calls.specs.histories.Complete.{IsComplete}
 use Rattle.nv_calls.specs.histories.Heeds.{HeedsStop}
 use Rattle.nv_calls.specs.histories.Unmoved.{LeavesWords}
-use Rattle.nv_calls.specs.writes.Writes.{IsWriteOver, early_refusal}
+use Rattle.nv_calls.specs.calls.EarlyRefusals.{early_refusal}
+use Rattle.nv_calls.specs.writes.Writes.{IsWriteOver}
 
 -- each heeds STOP
 abbrev pub WritesHeedStop : Type 0
@@ -29,7 +31,7 @@ RefusedWritesLeaveWords =
 -- each is done where its steps find what they need
 abbrev pub IsCompleteWrite : List Fd → (fd at : ℕ) → List ℕ → (start now : PassState) → Result Done Refusal → Type 0
 IsCompleteWrite fds fd at bytes start now result =
-    IsComplete (λ file. Write file at bytes) (early_refusal start.view.opened.sizes fds fd at (length bytes)) (file_of_fd fds fd) start now result
+    IsComplete (λ file. Write file at bytes) (early_refusal can_write start.view.opened.sizes fds fd at (length bytes)) (file_of_fd fds fd) start now result
 
 abbrev pub WritesAreComplete : Type 0
 WritesAreComplete =

@@ -2,6 +2,7 @@
 use Rattle.std.specs.Prelude.{◌≡◌, ℕ, ◌+◌, ◌*◌, ◌≤◌, List, length, Option, Some, None, Result, Ok, Err}
 use Rattle.std.specs.Borrow.{Bor}
 use Rattle.nv_plain.specs.Pieces.{pages_touched}
+use Rattle.nv_plain.specs.Modes.{can_write}
 use Rattle.nv_plain.specs.declared.call.FileCall.TheVariants.{Write}
 use Rattle.nv_core.specs.state.Words.{Sizes}
 use Rattle.nv_table.specs.invariant.Idle.{IsIdle}
@@ -10,26 +11,27 @@ use Rattle.nv_mount.specs.declared.fds.Fd.{Fd}
 use Rattle.nv_op.specs.declared.kinds.Kind.{Kind}
 use Rattle.nv_mirror.specs.declared.answers.Done.{Done}
 use Rattle.nv_mirror.specs.declared.answers.Refusal.{Refusal}
+use Rattle.nv_mirror.specs.Answers.{refusal_in_answer}
 use Rattle.nv_ring.specs.declared.write.RunningWrite.{RunningWrite}
 use Rattle.nv_ring.specs.declared.write.RunningWrite.TheVariants.{Over}
 use Rattle.nv_ring.specs.RunningWrites.{IsOpen, IsUnderWay, write_measure}
 use Rattle.nv_ring.specs.WriteSteps.{first_kind, part_fault, with_list, write_fault, write_kind, write_place}
 use Rattle.nv_calls.specs.calls.Advances.{Standing}
-use Rattle.nv_calls.specs.calls.CallAnswers.{answer_of, done_at}
+use Rattle.nv_calls.specs.calls.CallAnswers.{answer_of, done_at, done_of}
+use Rattle.nv_calls.specs.calls.EarlyRefusals.{early_refusal}
 use Rattle.nv_calls.specs.declared.progress.Progress.{Progress}
 use Rattle.nv_calls.specs.declared.progress.Progress.TheVariants.{More, Ended}
 use Rattle.nv_calls.specs.declared.writing.WriteControl.{WriteControl}
 use Rattle.nv_calls.specs.declared.writing.WriteControl.TheVariants as writes
 use Rattle.nv_calls.specs.declared.writing.WriteMachine.{WriteMachine}
 use Rattle.nv_calls.specs.fsync.SyncRuns.{file_of_fd}
-use Rattle.nv_calls.specs.reads.Reads.{done_of, refusal_of}
-use Rattle.nv_calls.specs.writes.Writes.{IsWriteOver, early_refusal}
+use Rattle.nv_calls.specs.writes.Writes.{IsWriteOver}
 
 -- ---- what comes next, and what has come of it
 
 -- what it asks for is refused before any step
 abbrev pub early_of : Sizes → List Fd → WriteMachine → Option Refusal
-early_of sizes fds m = early_refusal sizes fds m.fd m.at m.len
+early_of sizes fds m = early_refusal can_write sizes fds m.fd m.at m.len
 
 -- the kind of its next step, where no device call before that fails; before the first one that of a write that isn't refused so
 abbrev pub kind_at : (len : ℕ) → WriteControl → Kind
@@ -84,7 +86,7 @@ pub record IsWriteUnderWay (fds : List Fd) (m : WriteMachine) (list : List ℕ) 
 abbrev pub WriteGoes : List Fd → (start : PassState) → WriteMachine → (list : List ℕ) → (now : PassState) → Progress → Type 0
 WriteGoes fds start m list now More = IsWriteUnderWay fds m list start now
 WriteGoes fds start m list now (Ended result) =
-    (placed_by m ≡ done_of result) × (fault_so_far m ≡ part_fault (refusal_of result)) × IsWriteOver fds m.fd m.at list start now result
+    (placed_by m ≡ done_of result) × (fault_so_far m ≡ part_fault (refusal_in_answer result)) × IsWriteOver fds m.fd m.at list start now result
 
 -- ---- an advance
 

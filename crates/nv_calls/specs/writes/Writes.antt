@@ -1,42 +1,20 @@
 -- Writes of descriptors: which are refused before their first step, and what one tells when it is over.
-use Rattle.std.specs.Prelude.{◌≡◌, ℕ, Bool, true, false, if◌then◌else◌, List, [], ◌∷◌, length, Option, Some, None, Result, Ok, Err}
-use Rattle.std.specs.List.{slice_get}
+use Rattle.std.specs.Prelude.{◌≡◌, ℕ, Bool, true, false, List, [], ◌∷◌, length, Result, Ok, Err}
 use Rattle.nv_plain.specs.Modes.{can_write}
 use Rattle.nv_plain.specs.declared.call.FileCall.TheVariants.{Write}
 use Rattle.nv_plain.specs.declared.call.Reply.TheVariants.{Count}
-use Rattle.nv_core.specs.state.Passes.{IsAllowed}
-use Rattle.nv_core.specs.state.Words.{Sizes}
 use Rattle.nv_table.specs.state.States.{PassState}
 use Rattle.nv_table.specs.state.Views.{PassView}
 use Rattle.nv_mount.specs.declared.fds.Fd.{Fd}
 use Rattle.nv_mirror.specs.declared.answers.Done.{Done}
 use Rattle.nv_mirror.specs.declared.answers.Refusal.{Refusal}
-use Rattle.nv_mirror.specs.declared.answers.Refusal.TheVariants.{BadFd, Busy, Raced}
+use Rattle.nv_mirror.specs.declared.answers.Refusal.TheVariants.{Busy, Raced}
 use Rattle.nv_mirror.specs.Answers.{IsPlacedAs}
-use Rattle.nv_mirror.specs.Controls.{IsOver}
 use Rattle.nv_calls.specs.fsync.SyncRuns.{file_of_fd}
 use Rattle.nv_calls.specs.histories.Heeds.{HasSeenStop, HeedsStop}
 use Rattle.nv_calls.specs.histories.Unmoved.{LeavesWords}
-use Rattle.nv_calls.specs.reads.EarlyRefusals.{early_range_refusal}
-use Rattle.nv_calls.specs.reads.Reads.{refusal_of, place_of_result}
-
--- There is no such descriptor, or it may not be written; or else its range is refused.
-abbrev pub early_fd_refusal : Sizes → Option Fd → (at len : ℕ) → Option Refusal
-early_fd_refusal sizes None at len = Some BadFd
-early_fd_refusal sizes (Some one) at len = if can_write one.mode then early_range_refusal sizes at len else Some BadFd
-
-abbrev pub early_refusal : Sizes → List Fd → (fd at len : ℕ) → Option Refusal
-early_refusal sizes fds fd at len = early_fd_refusal sizes (slice_get fds fd) at len
-
--- A write that is not refused so is one of its descriptor's file, which the core allows.
-pub record IsAdmitted (sizes : Sizes) (fds : List Fd) (fd at : ℕ) (bytes : List ℕ) (file : ℕ) : Type 0 where
-  pub early : early_refusal sizes fds fd at (length bytes) ≡ None
-  pub file_is : file_of_fd fds fd ≡ Some file
-  pub allowed : IsAllowed sizes (Write file at bytes)
-
-abbrev pub Admits : Sizes → List Fd → (fd at : ℕ) → List ℕ → Result ℕ Refusal → Type 0
-Admits sizes fds fd at bytes (Ok file) = IsAdmitted sizes fds fd at bytes file
-Admits sizes fds fd at bytes (Err refusal) = early_refusal sizes fds fd at (length bytes) ≡ Some refusal
+use Rattle.nv_calls.specs.calls.EarlyRefusals.{early_refusal}
+use Rattle.nv_calls.specs.calls.EndedCalls.{IsCallOver}
 
 -- A write of a file has its place, and all its bytes.
 pub record IsWritePlaced (file at : ℕ) (bytes : List ℕ) (old new : PassView) (answer : Done) : Type 0 where
@@ -44,12 +22,9 @@ pub record IsWritePlaced (file at : ℕ) (bytes : List ℕ) (old new : PassView)
   pub placed : IsPlacedAs old new (Write file at bytes) (Count (length bytes)) answer.place
 
 -- It is over: what it asks for is refused before any step, or it was a write of its descriptor's file, over by its steps.
-abbrev pub IsOverBy : Option Refusal → List Fd → (fd at : ℕ) → List ℕ → (start now : PassState) → Result Done Refusal → Type 0
-IsOverBy (Some refusal) fds fd at bytes start now result = (result ≡ Err refusal) × (now ≡ start)
-IsOverBy None fds fd at bytes start now result = (file : ℕ) × (file_of_fd fds fd ≡ Some file) × IsOver (Write file at bytes) (refusal_of result) (place_of_result result) start now
-
 abbrev pub IsWriteOver : List Fd → (fd at : ℕ) → List ℕ → (start now : PassState) → Result Done Refusal → Type 0
-IsWriteOver fds fd at bytes start now result = IsOverBy (early_refusal start.view.opened.sizes fds fd at (length bytes)) fds fd at bytes start now result
+IsWriteOver fds fd at bytes start now result =
+    IsCallOver (early_refusal can_write start.view.opened.sizes fds fd at (length bytes)) (file_of_fd fds fd) (λ file. Write file at bytes) start now result
 
 -- ---- a write that is made again
 

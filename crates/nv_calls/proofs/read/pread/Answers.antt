@@ -6,7 +6,7 @@ use Rattle.nv_mirror.specs.declared.answers.Refusal.TheVariants.{Busy}
 use Rattle.nv_mirror.specs.Answers.{IsUnplaced}
 use Rattle.nv_calls.specs.reads.Reads.{IsReadOver}
 use Rattle.nv_calls.specs.histories.Tries.{WereBusy}
-use Rattle.nv_calls.proofs.histories.OverLaws.{ok_since}
+use Rattle.nv_calls.proofs.histories.SinceLaws.{ok_since}
 use Rattle.nv_calls.proofs.read.pread.Goals as goal
 
 pub loop-preserved : goal.loop-preserved

@@ -1,60 +1,42 @@
--- The read goes on by its advances, and what it told when it is over is told of it.
-use Rattle.std.proofs.Common.{sym, subst, ◌∙◌}
+-- What a read that is over tells is so by the laws of such reads.
+use Rattle.std.proofs.Common.{◌≡◌, [], length, sym, ap, subst, ◌∙◌, rules}
+use Rattle.std.specs.Prelude.{None}
+use Rattle.nv_plain.specs.Modes.{can_read}
+use Rattle.nv_plain.specs.declared.call.FileCall.TheVariants.{Read}
+use Rattle.nv_core.specs.state.Passes.{len_of}
+use Rattle.nv_table.specs.state.Opened.{Opened}
+use Rattle.nv_cache.specs.declared.read.RunningRead.{RunningRead}
+use Rattle.nv_cache.specs.declared.read.RunningRead.TheVariants.{Over}
+use Rattle.nv_cache.specs.RunningReads.{IsUnderWay}
+use Rattle.nv_calls.specs.calls.EarlyRefusals.{early_refusal}
 use Rattle.nv_calls.specs.reads.Reads.{IsReadOver}
-use Rattle.nv_calls.proofs.histories.OverLaws.{over_told, goes_on, fewer}
+use Rattle.nv_calls.proofs.reads.OverLaws.{over_by}
 use Rattle.nv_calls.proofs.read.try_pread.Goals as goal
 
-pub returns-in-Ended-clause-over : goal.returns-in-Ended-clause-over
-returns-in-Ended-clause-over g c =
+pub returns-in_err-file-clause-stop : goal.returns-in_err-file-clause-stop
+returns-in_err-file-clause-stop g c =
+    let over : IsReadOver c.args.mount.now.fds c.args.fd c.args.at c.args.buf.now c.args.pass.now c.args.pass.now c.from_residual.result = search rules in
+    c.ended_calls_heed_stop.ensures.reads c.args.mount.now.fds c.args.fd c.args.at c.args.buf.now c.args.pass.now c.args.pass.now c.from_residual.result c.sees_a_run.ensures.mount over
+
+pub returns-in-Over-clause-over : goal.returns-in-Over-clause-over
+returns-in-Over-clause-over g c =
+    let start = c.args.pass.now in
+    let now = c.loop-read.pass in
     let fds = c.args.mount.now.fds in
-    let list = c.advance.new.list in
-    let goes = (c.in-Ended.ensures.goes c.args.pass.now c.loop-result.invariant.way).2 in
-    subst (λ at. IsReadOver fds c.args.fd at list c.args.pass.now c.advance.new.pass c.in-Ended.result) (c.advance.ensures.same.at ∙ c.loop-result.invariant.at)
-    (subst (λ fd. IsReadOver fds fd c.advance.new.self.at list c.args.pass.now c.advance.new.pass c.in-Ended.result) (c.advance.ensures.same.fd ∙ c.loop-result.invariant.fd) goes)
+    let file = c.in_ok-file.file in
+    let list = c.loop-read.buf in
+    let size : length c.args.buf.now ≡ length list = ap len_of c.loop-read.invariant.way.asks in
+    let early : early_refusal can_read start.view.opened.sizes fds c.args.fd c.args.at (length list) ≡ None =
+    ap (λ (o : Opened). early_refusal can_read o.sizes fds c.args.fd c.args.at (length list)) c.requires.board.same_mount
+    ∙ ap (early_refusal can_read c.args.mount.now.board.opened.sizes fds c.args.fd c.args.at) (sym size) ∙ c.in_ok-file.ensures.early in
+    over_by c.runs_are_sound.ensures.runs c.passes_are_left_alone.ensures.own fds c.args.fd c.args.at list [] start now c.in-Over.result c.sees_a_run.ensures.mount file early c.in_ok-file.ensures.file_is
+    (subst (λ n. IsUnderWay (Read file c.args.at n) (Over c.in-Over.result) list [] start now) size
+    (subst (λ (read : RunningRead). IsUnderWay (Read file c.args.at (length c.args.buf.now)) read list [] start now) c.in-Over.is c.loop-read.invariant.way))
 
-pub returns-in-Ended-clause-stop : goal.returns-in-Ended-clause-stop
-returns-in-Ended-clause-stop g c =
-    c.ended_calls_heed_stop.ensures.reads c.args.mount.now.fds c.args.fd c.args.at c.advance.new.list c.args.pass.now c.advance.new.pass c.in-Ended.result c.sees_a_run.ensures.mount (returns-in-Ended-clause-over g c)
+pub returns-in-Over-clause-stop : goal.returns-in-Over-clause-stop
+returns-in-Over-clause-stop g c =
+    c.ended_calls_heed_stop.ensures.reads c.args.mount.now.fds c.args.fd c.args.at c.loop-read.buf c.args.pass.now c.loop-read.pass c.in-Over.result c.sees_a_run.ensures.mount (returns-in-Over-clause-over g c)
 
-pub returns-in-Ended-clause-complete : goal.returns-in-Ended-clause-complete
-returns-in-Ended-clause-complete g c =
-    c.calls_are_complete.ensures.reads c.args.mount.now.fds c.args.fd c.args.at c.advance.new.list c.args.pass.now c.advance.new.pass c.in-Ended.result (returns-in-Ended-clause-over g c)
-
-pub returns-in-Ended-clause-idle : goal.returns-in-Ended-clause-idle
-returns-in-Ended-clause-idle g c =
-    (over_told c.args.mount.now.fds c.advance.new.self.fd c.advance.new.self.at c.advance.new.list c.args.pass.now c.advance.new.pass c.in-Ended.result c.requires.idle
-    (c.in-Ended.ensures.goes c.args.pass.now c.loop-result.invariant.way).2).idle
-
-pub returns-in-Ended-clause-later : goal.returns-in-Ended-clause-later
-returns-in-Ended-clause-later g c =
-    (over_told c.args.mount.now.fds c.advance.new.self.fd c.advance.new.self.at c.advance.new.list c.args.pass.now c.advance.new.pass c.in-Ended.result c.requires.idle
-    (c.in-Ended.ensures.goes c.args.pass.now c.loop-result.invariant.way).2).later
-
-pub returns-in-Ended-clause-spare : goal.returns-in-Ended-clause-spare
-returns-in-Ended-clause-spare g c =
-    (over_told c.args.mount.now.fds c.advance.new.self.fd c.advance.new.self.at c.advance.new.list c.args.pass.now c.advance.new.pass c.in-Ended.result c.requires.idle
-    (c.in-Ended.ensures.goes c.args.pass.now c.loop-result.invariant.way).2).spare
-
-pub returns-in-Ended-clause-done : goal.returns-in-Ended-clause-done
-returns-in-Ended-clause-done g c =
-    (over_told c.args.mount.now.fds c.args.fd c.args.at c.advance.new.list c.args.pass.now c.advance.new.pass c.in-Ended.result c.requires.idle
-    (returns-in-Ended-clause-over g c)).done
-
-pub returns-in-Ended-clause-kept : goal.returns-in-Ended-clause-kept
-returns-in-Ended-clause-kept g c =
-    (over_told c.args.mount.now.fds c.advance.new.self.fd c.advance.new.self.at c.advance.new.list c.args.pass.now c.advance.new.pass c.in-Ended.result c.requires.idle
-    (c.in-Ended.ensures.goes c.args.pass.now c.loop-result.invariant.way).2).kept
-
-pub loop-result-preserved : goal.loop-result-preserved
-loop-result-preserved g c = record {
-  board = c.advance.ensures.board;
-  way = goes_on c.args.mount.now.fds c.args.pass.now c.advance.new.self c.advance.new.list c.advance.new.pass c.advance.result c.in_default.not-Ended
-      (c.advance.ensures.goes c.args.pass.now c.loop-result.invariant.way);
-  fd = c.advance.ensures.same.fd ∙ c.loop-result.invariant.fd;
-  at = c.advance.ensures.same.at ∙ c.loop-result.invariant.at;
-}
-
-pub loop-result-smaller : goal.loop-result-smaller
-loop-result-smaller g c =
-    fewer c.loop-result.pass c.advance.new.pass c.loop-result.machine c.advance.new.self c.advance.result c.in_default.not-Ended
-    (c.advance.ensures.board.same_mount ∙ sym c.loop-result.invariant.board.same_mount) c.advance.ensures.less
+pub returns-in-Over-clause-complete : goal.returns-in-Over-clause-complete
+returns-in-Over-clause-complete g c =
+    c.calls_are_complete.ensures.reads c.args.mount.now.fds c.args.fd c.args.at c.loop-read.buf c.args.pass.now c.loop-read.pass c.in-Over.result (returns-in-Over-clause-over g c)

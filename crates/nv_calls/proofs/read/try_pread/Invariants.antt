@@ -1,17 +1,17 @@
--- The read is under way from where the pass stood at first, and there are fewer and fewer steps before it.
-use Rattle.std.proofs.Common.{◌≡◌}
+-- The read is under way from where the pass stood at first, it holds no page, and there are fewer and fewer steps before it.
+use Rattle.std.proofs.Common.{◌≡◌, [], false}
+use Rattle.nv_plain.specs.declared.call.FileCall.TheVariants.{Read}
 use Rattle.nv_table.specs.state.States.{IsOf}
-use Rattle.nv_calls.specs.reads.Measures.{measure}
-use Rattle.nv_calls.specs.reads.Reads.{IsReadUnderWay}
+use Rattle.nv_cache.specs.RunningReads.{IsSettled, IsUnderWay, holds_page, read_measure}
 use Rattle.nv_calls.proofs.read.try_pread.Given as goal
 
-abbrev pub invariant-loop-result : goal.invariant-loop-result
-invariant-loop-result g l = record {
+abbrev pub invariant-loop-read : goal.invariant-loop-read
+invariant-loop-read g l = record {
   board : IsOf l.mount.board l.pass;
-  way : IsReadUnderWay l.mount.fds l.machine l.buf l.initial.pass l.pass;
-  fd : l.machine.fd ≡ l.fd;
-  at : l.machine.at ≡ l.at;
+  settled : IsSettled l.read;
+  bare : holds_page l.read ≡ false;
+  way : IsUnderWay (Read l.file l.at l.len) l.read l.buf [] l.initial.pass l.pass;
 }
 
-abbrev pub decreases-loop-result : goal.decreases-loop-result
-decreases-loop-result g l = measure l.pass.view.opened.sizes l.machine
+abbrev pub decreases-loop-read : goal.decreases-loop-read
+decreases-loop-read g l = read_measure l.mount.board.opened.sizes l.read

@@ -7,7 +7,7 @@ use Rattle.nv_mirror.specs.declared.answers.Refusal.{Refusal}
 use Rattle.nv_mirror.specs.Answers.{IsUnplaced}
 use Rattle.nv_calls.specs.histories.Unmoved.{LeavesWords}
 use Rattle.nv_calls.specs.writes.Writes.{IsWriteOver, ends_to_be_made_again, is_made_again}
-use Rattle.nv_calls.proofs.histories.OverLaws.{write_ok_since}
+use Rattle.nv_calls.proofs.histories.SinceLaws.{write_ok_since}
 use Rattle.nv_calls.proofs.write.pwrite.Goals as goal
 
 -- it was refused, so that it is made again
