@@ -1,13 +1,14 @@
 -- Batches: a step that the core's order says is due, and the batch goes on with the core.
 use Rattle.std.proofs.Common.{◌≡◌, ℕ, List, [], ◌∷◌, inl, inr, refl, sym, ap, subst, ◌∙◌}
-use Rattle.std.specs.Prelude.{Some, None, option_map}
-use Rattle.nv_core.specs.state.Words.{Sizes, Word}
+use Rattle.std.specs.Prelude.{Option, Some, None, Bool, true, false, if◌then◌else◌, ◌==◌, option_map}
+use Rattle.nv_core.specs.state.Words.{Sizes, Word, CLEANER, is_lock}
+use Rattle.nv_core.specs.state.Cleaner as cleaner
 use Rattle.nv_core.specs.state.Cleaner.{Batch, CleanerControl, CleanerOp as CoreCleanerOp, TakeCleaner as TakeCleanerOp}
 use Rattle.nv_core.specs.state.Passes.{Control, Idle, Cleaning, Pass}
 use Rattle.nv_core.specs.state.Core.{worked}
-use Rattle.nv_core.specs.steps.CleanerSteps.{next_cleaner_op}
+use Rattle.nv_core.specs.steps.CleanerSteps.{last_taken, new_batch, next_cleaner_op, next_store}
 use Rattle.nv_core.specs.steps.ControlSteps.{after_by_cleaner}
-use Rattle.nv_core.specs.steps.Ops.{ByCleaner as CleanerStep, cleaner_move, moved}
+use Rattle.nv_core.specs.steps.Ops.{Op, ByCleaner as CleanerStep, Comes, Stays, cleaner_move, moved}
 use Rattle.nv_core.specs.steps.Order.{Values, Work, step_at, next_step, IsBatchEntry}
 use Rattle.nv_table.specs.invariant.Idle.{IsIdle, IsLater}
 use Rattle.nv_table.specs.state.States.{PassState}
@@ -16,11 +17,12 @@ use Rattle.nv_table.specs.steps.CallSteps.{Precondition}
 use Rattle.nv_table.specs.steps.SeatSteps.{AreDue, pass_worked, values_before}
 use Rattle.nv_table.specs.steps.StepContracts.{Postcondition}
 use Rattle.nv_table.proofs.invariant.DrawnLaws.{calls_leave}
-use Rattle.nv_table.proofs.steps.CallLaws.{idle_is_still, later_self, later_by, later_on, none_still_owned, taken_same}
+use Rattle.nv_table.proofs.steps.CallLaws.{IsCallFree, idle_is_still, later_self, later_by, later_on, none_still_owned, taken_same}
 use Rattle.nv_table.proofs.steps.OwnedSlotLaws.{still_owned_all}
-use Rattle.nv_mirror.specs.PassSteps.{PassStep, HasTaken, IsBetweenSteps}
-use Rattle.nv_mirror.proofs.StepLaws.{taken_by, opened_same}
+use Rattle.nv_mirror.specs.PassSteps.{PassStep, HasMade, HasTaken, IsBetweenSteps}
+use Rattle.nv_mirror.proofs.StepLaws.{between_self, taken_by, opened_same}
 use Rattle.nv_clean.specs.Cleaning.{InBatch}
+use Rattle.nv_clean.specs.OwnSteps.{comes_in_batch, is_own}
 
 -- ---- its beginning and its end
 
@@ -29,6 +31,7 @@ batch_begins start idle = record {
   idle = idle;
   steps = [];
   made = refl;
+  own = tt;
   later = later_self start;
   spare = refl;
   mount = refl;
@@ -48,6 +51,73 @@ batch_ends start now is = record {
       (subst (λ cells. OwnsSlots now.view.opened.sizes (λ value. value) (values_of now.view) cells now.now) (still_owned_all (pass_of now.view) is.left ∙ is.owned_is) is.still);
   taken = taken_same start.view now.view is.mount is.later.ended is.idle.taken;
 }
+
+-- ---- its steps are its own
+
+-- no device call is due before its first step
+pub idle_free : IsCallFree Idle
+idle_free s values pass work due = due
+
+pub no_works : (sizes : Sizes) (values : Values) (pass : Pass) (works : List Work) → IsCallFree pass.control → AreDue sizes values pass works → works ≡ []
+no_works sizes values pass [] free due = refl
+no_works sizes values pass (work ∷ later) free due = absurd (free sizes values pass work due.0.due)
+
+-- a step that is next in a batch takes no CLEANER
+ComesNext : Option CoreCleanerOp → Type 0
+ComesNext None = Unit {0}
+ComesNext (Some op) = comes_in_batch (CleanerStep op) ≡ true
+
+module _ (sizes : Sizes) (owned : List Word) (batch : Batch) where
+  comes_last : (cells : List Word) → ComesNext (last_taken cells)
+  unfolding ComesNext
+  comes_last [] = tt
+  comes_last (cell ∷ rest) = go (is_lock cell)
+    where
+      go : (b : Bool) → ComesNext (if b then Some (cleaner.Give cell) else None)
+      go true = refl
+      go false = tt
+
+  comes_store : (files : List ℕ) → ComesNext (next_store files)
+  unfolding ComesNext
+  comes_store [] = tt
+  comes_store (file ∷ rest) = refl
+
+  comes_at : (inner : CleanerControl) → ComesNext (next_cleaner_op sizes owned batch inner)
+  unfolding ComesNext
+  comes_at cleaner.TakeHeader = refl
+  comes_at cleaner.LoadStop = refl
+  comes_at cleaner.LoadTail = refl
+  comes_at cleaner.LoadHead = refl
+  comes_at (cleaner.LoadEntry i) = refl
+  comes_at (cleaner.TakeCleanup i) = refl
+  comes_at cleaner.TakeStore = refl
+  comes_at (cleaner.HoldEntry i) = refl
+  comes_at (cleaner.ReadPiece i) = tt
+  comes_at (cleaner.WriteBack i) = tt
+  comes_at (cleaner.CleanEntry i) = refl
+  comes_at (cleaner.SubtractDirty i) = refl
+  comes_at (cleaner.GiveCleanup i) = refl
+  comes_at (cleaner.RefusedReturnEntry i end) = refl
+  comes_at (cleaner.FailedReturnEntry i end) = refl
+  comes_at (cleaner.RefusedGiveCleanup i) = refl
+  comes_at (cleaner.SyncStores files) = tt
+  comes_at (cleaner.MoveHeaderTail calls) = tt
+  comes_at (cleaner.FreeEntry number) = refl
+  comes_at cleaner.AdvanceTail = refl
+  comes_at (cleaner.GiveStores files) = comes_store files
+  comes_at cleaner.GiveHeader = refl
+  comes_at cleaner.GiveCleaner = refl
+  comes_at (cleaner.SetStop held) = refl
+  comes_at cleaner.GiveBack = comes_last owned
+
+  comes_next : (inner : CleanerControl) (op : CoreCleanerOp) → next_cleaner_op sizes owned batch inner ≡ Some op → comes_in_batch (CleanerStep op) ≡ true
+  unfolding ComesNext
+  comes_next inner op next = subst ComesNext next (comes_at inner)
+
+-- so it is one of the batch's own, once that has begun
+own_of : (steps : List PassStep) (start now : PassState) (op : Op) → HasMade steps start now → (now ≡ start → ⊥) → comes_in_batch op ≡ true → is_own steps op ≡ true
+own_of [] start now op made begun comes = absurd (begun made)
+own_of (step ∷ earlier) start now op made begun comes = comes
 
 -- ---- a step that is due
 
@@ -131,12 +201,24 @@ module _ (control : Control) (owned : List Word) (start now : PassState) (called
         made = λ zero. ap (λ (v : PassView). made_of v) between.view;
       }
 
-      pub goes_on : (mid : Control) → worked_pass.control ≡ mid
+      -- a pass that stands in a batch has begun it
+      not_idle : (batch : Batch) (inner : CleanerControl) → worked_pass.control ≡ Cleaning batch inner → now ≡ start → ⊥
+      not_idle batch inner at same =
+          let idle : (pass_of before.view).control ≡ Idle = ap (λ (v : PassView). (pass_of v).control) between.view ∙ ap (λ (p : PassState). (pass_of p.view).control) same ∙ called.idle.control in
+          let none : step.works ≡ [] = no_works before.view.opened.sizes (values_of before.view) (pass_of before.view) step.works (subst IsCallFree (sym idle) idle_free) step.due in
+          let still : worked_pass.control ≡ Idle = ap (λ works. (pass_worked before.view.opened.sizes works (pass_of before.view)).control) none ∙ idle in
+          let e : Idle ≡ Cleaning batch inner = sym still ∙ at in cc
+
+      pub own_next : (sizes : Sizes) (batch : Batch) (inner : CleanerControl) → worked_pass.control ≡ Cleaning batch inner → next_cleaner_op sizes owned batch inner ≡ Some op → is_own called.steps (CleanerStep op) ≡ true
+      own_next sizes batch inner at next = own_of called.steps start now (CleanerStep op) called.made (not_idle batch inner at) (comes_next sizes owned batch inner op next)
+
+      pub goes_on : is_own called.steps (CleanerStep op) ≡ true → (mid : Control) → worked_pass.control ≡ mid
           → InBatch (after_by_cleaner now.view.opened.sizes (moved (cleaner_move now.view.opened.sizes op found) owned) op found mid) (moved (cleaner_move now.view.opened.sizes op found) owned) start new
-      goes_on mid behind = record {
+      goes_on own mid behind = record {
         idle = called.idle;
         steps = made_step ∷ called.steps;
         made = (now, called.made, made_one);
+        own = (refl, own, called.own);
         later = later_on start now new called.later (later_on now before new later_between (later_by before new None (CleanerStep op) found step));
         spare = step.spare ∙ between.spare ∙ called.spare;
         mount = opened ∙ called.mount;
@@ -152,3 +234,13 @@ module _ (control : Control) (owned : List Word) (start now : PassState) (called
             ∙ ap (λ (s : Sizes). after_by_cleaner s (moved (cleaner_move s op found) owned) op found mid) same_sizes;
         owned_is = ap (λ (p : Pass). p.owned) step.pass ∙ ap (moved (cleaner_move before.view.opened.sizes op found)) owns ∙ ap (λ (s : Sizes). moved (cleaner_move s op found) owned) same_sizes;
       }
+
+-- it begins where CLEANER is found free
+pub begins_on : (most found : ℕ) (start new : PassState) → IsIdle start → Postcondition start None (CleanerStep (TakeCleanerOp most)) found new
+    → InBatch (if found == 0 then Cleaning (new_batch most) cleaner.TakeHeader else Idle) (moved (if found == 0 then Comes CLEANER else Stays) []) start new
+unfolding batch_begins
+begins_on most found start new idle step =
+    goes_on Idle [] start start (batch_begins start idle) start (between_self start) (TakeCleanerOp most) found new step refl Idle
+    (ap (λ works. (pass_worked start.view.opened.sizes works (pass_of start.view)).control)
+    (no_works start.view.opened.sizes (values_of start.view) (pass_of start.view) step.works (subst IsCallFree (sym idle.control) idle_free) step.due)
+    ∙ idle.control)

@@ -1,5 +1,6 @@
 pub mod BatchLaws
 mod BehindLaws
+pub mod CleanStepLaws
 mod FactLaws
 mod FileLaws
 mod OwnedLaws

@@ -39,7 +39,8 @@ use Rattle.nv_pages.specs.DeviceCalls.{HasCalled, HasWritten}
 use Rattle.nv_pages.specs.PageWork.{OfKept, HasFailedCall, IsReadable, entry_slot, store_slot}
 use Rattle.nv_pages.proofs.AlterLaws.{altered_as}
 use Rattle.nv_clean.specs.declared.batch.CleanControl.TheVariants as cleans
-use Rattle.nv_clean.specs.Cleaning.{CleanState, HasReadPiece, IsBehind, IsUnderWay, control_at, control_of, written_at}
+use Rattle.nv_clean.specs.declared.batch.CleanRefusal.TheVariants.{RegionFault}
+use Rattle.nv_clean.specs.Cleaning.{CleanState, HasReadPiece, IsBehind, IsUnderWay, control_at, control_of, write_refusal, written_at}
 use Rattle.nv_clean.proofs.BehindLaws.{behind_call, behind_more}
 
 -- ---- what is so by an answer
@@ -165,7 +166,7 @@ module _ (sound : RunsAreSound) (was : PassState) (mount : IsMount (mount_of was
   pub store_file : file < sizes.files
   store_file = goes.files file (goes.stored tt)
 
-  abbrev behind : IsBehind (Cleaning m.batch (cleaner.ReadPiece at)) m start was was
+  abbrev behind : IsBehind (Cleaning m.batch (cleaner.ReadPiece at)) None m start was was
   behind = record {
     control = control_of sizes m;
     called = way.called;
@@ -174,6 +175,7 @@ module _ (sound : RunsAreSound) (was : PassState) (mount : IsMount (mount_of was
     works = [];
     due = tt;
     stands_so = way.called.control_is ∙ ap (control_at sizes m.batch) stands;
+    refused = refl;
     shows = way.called.still;
   }
 
@@ -212,7 +214,7 @@ module _ (sound : RunsAreSound) (was : PassState) (mount : IsMount (mount_of was
       pub was_read : (offset : ℕ) (bytes : List ℕ) → IsAltered (λ kept. kept) was now → OfKept was (λ kept. SaysPieceOf sizes offset bytes (kept entry)) → IsStore ((mount_of was.view.opened).values (STORE file))
           → HaveShapes sizes.page (mount_of was.view.opened).values (values_of was.view) → HasReadPiece m at offset bytes start was now
       was_read offset bytes altered says first shapes = record {
-        behind = behind_more (Cleaning m.batch (cleaner.ReadPiece at)) m start was was behind entry (PieceRead offset bytes) Made now (read_called offset bytes altered) (λ kept. refl)
+        behind = behind_more (Cleaning m.batch (cleaner.ReadPiece at)) None m start was was behind entry (PieceRead offset bytes) Made now (read_called offset bytes altered) (λ kept. refl)
             record { at = offset; bytes = bytes; cell = refl; job = refl; says = said } entry_owned (Cleaning m.batch (cleaner.WriteBack at)) refl;
         says = subst (SaysPieceOf sizes offset bytes) (sym (same_there entry)) said;
         there = store_file;
@@ -227,9 +229,9 @@ module _ (sound : RunsAreSound) (was : PassState) (mount : IsMount (mount_of was
           same_there cell = by_word (λ other value. value ≡ values_of was.view other) (values_of was.view) entry (called (PieceRead offset bytes) Made (values_of was.view entry)) (called_made offset bytes (values_of was.view entry)) (λ other ne. refl) cell
 
       -- and where that failed STOP is set next
-      pub read_failed : HasFailedCall entry was now → IsBehind (Cleaning m.batch (cleaner.SetStop (at + 1))) m start was now
+      pub read_failed : HasFailedCall entry was now → IsBehind (Cleaning m.batch (cleaner.SetStop (at + 1))) (Some RegionFault) m start was now
       read_failed failed =
-          behind_call (Cleaning m.batch (cleaner.ReadPiece at)) m start was was behind entry (PieceRead piece.at piece.bytes) (Failed false failed.faults) now
+          behind_call (Cleaning m.batch (cleaner.ReadPiece at)) None m start was was behind entry (PieceRead piece.at piece.bytes) (Failed false failed.faults) now
           (may_fail sizes failed.faults (values_of was.view entry) readable.0 (failed.rose (values_of was.view) (still_owned (pass_of was.view)) way.called.still))
           (may_leave_failed piece.at failed.faults piece.bytes (values_of was.view entry))
           (altered_as (λ kept. with_value kept entry (called (PageRead 0 []) (Failed false failed.faults) (kept entry))) (λ kept. with_value kept entry (called (PieceRead piece.at piece.bytes) (Failed false failed.faults) (kept entry)))
@@ -263,13 +265,13 @@ module _ (m : CleanState) (at offset : ℕ) (bytes : List ℕ) (start was now : 
   store_slot_is value one =
       subst IsStore (sym (slot_keeps write_sizes (values_before was.view read.behind.works) (still_owned (pass_of was.view)) now.now (STORE to_file) (store_slot write_sizes to_file) read.behind.shows store_at.1 value one)) read.store
 
-  pub has_written : (next : PassState) (result : Result (Unit {0}) StoreError) → HasWritten to_file offset bytes result now next → IsBehind (written_at m.batch at result) m start was next
+  pub has_written : (next : PassState) (result : Result (Unit {0}) StoreError) → HasWritten to_file offset bytes result now next → IsBehind (written_at m.batch at result) (write_refusal result) m start was next
   has_written next (Ok done) is =
-      behind_more (Cleaning m.batch (cleaner.WriteBack at)) m start was now read.behind (STORE to_file) (PieceWrite offset bytes is.0) Made next is.1 (λ kept. refl)
+      behind_more (Cleaning m.batch (cleaner.WriteBack at)) None m start was now read.behind (STORE to_file) (PieceWrite offset bytes is.0) Made next is.1 (λ kept. refl)
       record { at = offset; bytes = bytes; left = is.0; cell = refl; job = refl; says = read.says } read.once _ refl
   has_written next (Err Fault) is =
-      behind_more (Cleaning m.batch (cleaner.WriteBack at)) m start was now read.behind (STORE to_file) (PieceWrite offset bytes is.0) (Failed false is.1) next is.2 (λ kept. refl)
+      behind_more (Cleaning m.batch (cleaner.WriteBack at)) None m start was now read.behind (STORE to_file) (PieceWrite offset bytes is.0) (Failed false is.1) next is.2 (λ kept. refl)
       record { at = offset; bytes = bytes; left = is.0; cell = refl; job = refl; says = read.says } read.once _ refl
   has_written next (Err NoMemory) is =
-      behind_more (Cleaning m.batch (cleaner.WriteBack at)) m start was now read.behind (STORE to_file) (PieceWrite offset bytes is.0) Refused next is.1 (λ kept. refl)
+      behind_more (Cleaning m.batch (cleaner.WriteBack at)) None m start was now read.behind (STORE to_file) (PieceWrite offset bytes is.0) Refused next is.1 (λ kept. refl)
       record { at = offset; bytes = bytes; left = is.0; cell = refl; job = refl; says = read.says } read.once _ refl

@@ -27,9 +27,12 @@ use Rattle.nv_table.proofs.steps.CallLaws.{IsCallFree}
 use Rattle.nv_mirror.proofs.StepLaws.{between_self, opened_same}
 use Rattle.nv_clean.specs.declared.batch.CleanControl.{CleanControl}
 use Rattle.nv_clean.specs.declared.batch.CleanControl.TheVariants as cleans
-use Rattle.nv_clean.specs.Cleaning.{AreApart, CleanState, Fits, FitsAt, HasStepped, InBatch, IsBegun, IsPlain, IsUnderWay, OwnsAt, control_at, control_of, files_then, inner_at}
+use Rattle.nv_clean.specs.Cleaning.{AreApart, CleanState, Fits, FitsAt, InBatch, IsBegun, IsPlain, IsUnderWay, OwnsAt, calls_refusal, control_at, control_of, files_then, inner_at}
 use Rattle.nv_clean.specs.OwnedCells.{TakesCell}
-use Rattle.nv_clean.proofs.BatchLaws.{step_due, made_one, goes_on}
+use Rattle.nv_clean.proofs.BatchLaws.{begins_on, no_works, idle_free, step_due, made_one, own_next, goes_on}
+use Rattle.nv_clean.specs.CleanSteps.{HasMadeOne, first_refusal, kind_at, refusal_at, refusal_then}
+use Rattle.nv_clean.specs.declared.batch.CleanRefusal.TheVariants.{Busy}
+use Rattle.nv_clean.proofs.CleanStepLaws.{has_made, next_kind_is}
 use Rattle.nv_clean.proofs.FactLaws.{fits_at, owns_at, stores_there}
 use Rattle.nv_clean.proofs.RoomLaws.{apart_few}
 
@@ -86,10 +89,6 @@ plain_free sizes batch cleans.Begin plain s values pass work due = absurd plain
 plain_free sizes batch (cleans.WriteBack i) plain s values pass work due = absurd plain
 plain_free sizes batch cleans.Retire plain s values pass work due = absurd plain
 plain_free sizes batch cleans.Over plain s values pass work due = absurd plain
-
-no_works : (sizes : Sizes) (values : Values) (pass : Pass) (works : List Work) → IsCallFree pass.control → AreDue sizes values pass works → works ≡ []
-no_works sizes values pass [] free due = refl
-no_works sizes values pass (work ∷ later) free due = absurd (free sizes values pass work due.0.due)
 
 -- ---- the files whose STORE a batch holds
 
@@ -195,18 +194,29 @@ module _ (sound : RunsAreSound) (now : PassState) (mount : IsMount (mount_of now
     owns_fits limit =
         subst (λ owned. OwnsAt owned m.control) way.called.owned_is (owns_at sizes (mount_of now.view.opened).values core now.view.number core_sound m.batch limit m.control way.called.control_is)
 
-    module _ (plain : IsPlain m.control) (op : CoreCleanerOp) (found : ℕ) (new : PassState) (step : Postcondition now None (CleanerStep op) found new) where
+    module _ (plain : IsPlain m.control) (op : CoreCleanerOp) (found : ℕ) (new : PassState) (step : Postcondition now None (CleanerStep op) found new)
+        (next : next_cleaner_op sizes m.owned m.batch inner ≡ Some op) where
       abbrev owned_then : List Word
       owned_then = moved (cleaner_move sizes op found) m.owned
+
+      -- no device call came before it
+      pub plain_works : step.works ≡ []
+      plain_works = no_works sizes (values_of now.view) (pass_of now.view) step.works (subst IsCallFree (sym way.called.control_is) (plain_free sizes m.batch m.control plain)) step.due
+
+      -- what its step tells
+      pub plain_one : (s : Sizes) → s ≡ sizes → (then_is : CleanState) → then_is.refusal ≡ refusal_at s m.batch m.refusal m.control found → HasMadeOne s m then_is now new
+      plain_one s same then_is refusal =
+          has_made s m then_is now new _ (made_one (control_of sizes m) m.owned start now way.called now (between_self now) op found new step) (λ well. next_kind_is sizes m.owned m.batch m.control plain op next)
+          (refusal ∙ ap (λ calls. refusal_then s m calls found) (sym (ap calls_refusal plain_works)))
+
+      plain_stands : (pass_worked sizes step.works (pass_of now.view)).control ≡ Cleaning m.batch inner
+      plain_stands = ap (λ works. (pass_worked sizes works (pass_of now.view)).control) plain_works ∙ way.called.control_is ∙ plain_at sizes m.batch m.control plain
 
       -- the batch goes on with the core
       pub plain_on : InBatch (after_cleaner_op sizes owned_then m.batch inner found) owned_then start new
       plain_on =
-          subst (λ mid. InBatch (after_by_cleaner sizes owned_then op found mid) owned_then start new) (plain_at sizes m.batch m.control plain)
-          (goes_on (control_of sizes m) m.owned start now way.called now (between_self now) op found new step (control_of sizes m)
-          (ap (λ works. (pass_worked sizes works (pass_of now.view)).control)
-          (no_works sizes (values_of now.view) (pass_of now.view) step.works (subst IsCallFree (sym way.called.control_is) (plain_free sizes m.batch m.control plain)) step.due)
-          ∙ way.called.control_is))
+          goes_on (control_of sizes m) m.owned start now way.called now (between_self now) op found new step
+          (own_next (control_of sizes m) m.owned start now way.called now (between_self now) op found new step sizes m.batch inner plain_stands next) (Cleaning m.batch inner) plain_stands
 
       new_sound : Sound new.view.opened.sizes (mount_of new.view.opened).values (state_of new.view.opened new.view.run)
       new_sound =
@@ -214,8 +224,8 @@ module _ (sound : RunsAreSound) (now : PassState) (mount : IsMount (mount_of now
           (sound (mount_of now.view.opened) _ mount step.steps.is_run)
 
       -- the step is that of STORE where that is taken next
-      taken_store : m.control ≡ cleans.TakeStore → next_cleaner_op sizes m.owned m.batch inner ≡ Some op → op ≡ cleaner.Take (STORE (group_file sizes m.batch))
-      taken_store at next = cleaner_op_is (cleaner.Take (STORE (group_file sizes m.batch))) op (sym (ap (λ c. next_cleaner_op sizes m.owned m.batch (inner_at sizes m.batch c)) at) ∙ next)
+      taken_store : m.control ≡ cleans.TakeStore → op ≡ cleaner.Take (STORE (group_file sizes m.batch))
+      taken_store at = cleaner_op_is (cleaner.Take (STORE (group_file sizes m.batch))) op (sym (ap (λ c. next_cleaner_op sizes m.owned m.batch (inner_at sizes m.batch c)) at) ∙ next)
 
       -- a STORE that was found free is none of the batch's
       store_free : m.control ≡ cleans.TakeStore → found ≡ 0 → op ≡ cleaner.Take (STORE (group_file sizes m.batch)) → holds_store m.batch (group_file sizes m.batch) ≡ false
@@ -250,9 +260,9 @@ module _ (sound : RunsAreSound) (now : PassState) (mount : IsMount (mount_of now
               absurd (omega (arith, before, one, same_before, after, most, same_after, here))
 
       -- there is room for its file among those that the batch holds
-      pub store_room : sizes.files ≤ 16 → next_cleaner_op sizes m.owned m.batch inner ≡ Some op → m.control ≡ cleans.TakeStore → found ≡ 0 → length m.batch.files < 16
-      store_room limit next at none =
-          let few = apart_few (group_file sizes m.batch ∷ m.batch.files) sizes.files (store_free at none (taken_store at next), way.apart) (λ file is. there file (group_file sizes m.batch == file) refl is) in
+      pub store_room : sizes.files ≤ 16 → m.control ≡ cleans.TakeStore → found ≡ 0 → length m.batch.files < 16
+      store_room limit at none =
+          let few = apart_few (group_file sizes m.batch ∷ m.batch.files) sizes.files (store_free at none (taken_store at), way.apart) (λ file is. there file (group_file sizes m.batch == file) refl is) in
           omega (arith, few, limit)
         where
           stands : (pass_of now.view).control ≡ Cleaning m.batch cleaner.TakeStore
@@ -265,23 +275,23 @@ module _ (sound : RunsAreSound) (now : PassState) (mount : IsMount (mount_of now
           there file false is one = stores_there sizes (mount_of now.view.opened).values core now.view.number core_sound m.batch cleaner.TakeStore stands tt file one
 
       -- and they stay apart
-      pub files_apart : next_cleaner_op sizes m.owned m.batch inner ≡ Some op → AreApart (files_then sizes m.batch m.control found)
-      files_apart next = apart_then sizes m.batch m.control found way.apart (λ at none. store_free at none (taken_store at next))
+      pub files_apart : AreApart (files_then sizes m.batch m.control found)
+      files_apart = apart_then sizes m.batch m.control found way.apart (λ at none. store_free at none (taken_store at))
 
       -- ---- and so it is of what the machine has at hand
 
       abbrev IsThen : CleanState → List Word → Sizes → Type 0
       IsThen then_is owns s =
-          next_cleaner_op s m.owned m.batch (inner_at s m.batch m.control) ≡ Some op → owns ≡ moved (cleaner_move s op found) m.owned → then_is.owned ≡ owns
+          owns ≡ moved (cleaner_move s op found) m.owned → then_is.owned ≡ owns
           → control_of s then_is ≡ after_cleaner_op s owns m.batch (inner_at s m.batch m.control) found → then_is.batch.files ≡ files_then s m.batch m.control found
           → IsUnderWay then_is start new
 
       is_then : (then_is : CleanState) (owns : List Word) → IsBegun then_is.control → IsThen then_is owns sizes
-      is_then then_is owns begun next move owned control files = record {
+      is_then then_is owns begun move owned control files = record {
         called = subst (λ (o : Opened). InBatch (control_of o.sizes then_is) then_is.owned start new) (sym (opened_same now new None (CleanerStep op) found step))
             (subst (λ c. InBatch c then_is.owned start new) (sym (control ∙ ap (λ o. after_cleaner_op sizes o m.batch inner found) move))
             (subst (λ o. InBatch (after_cleaner_op sizes owned_then m.batch inner found) o start new) (sym (owned ∙ move)) plain_on));
-        apart = subst AreApart (sym files) (files_apart next);
+        apart = subst AreApart (sym files) files_apart;
         fresh = λ at. absurd (subst IsBegun at begun);
       }
 
@@ -290,26 +300,37 @@ module _ (sound : RunsAreSound) (now : PassState) (mount : IsMount (mount_of now
 
 -- ---- its first step
 
--- no device call comes before it
-idle_free : IsCallFree Idle
-idle_free s values pass work due = due
-
 module _ (now : PassState) (m : CleanState) (at : m.control ≡ cleans.Begin) (start : PassState) (way : IsUnderWay m start now) (found : ℕ) (new : PassState) (step : Postcondition now None (CleanerStep (TakeCleaner m.batch.most)) found new) where
-  idle_called : InBatch Idle [] start now
-  idle_called = subst (λ owned. InBatch Idle owned start now) (way.fresh at).0 (subst (λ c. InBatch (control_at now.view.opened.sizes m.batch c) m.owned start now) at way.called)
-
-  pub begun_one : HasStepped now new
-  begun_one = record { step = _; taken = made_one Idle [] start now idle_called now (between_self now) (TakeCleaner m.batch.most) found new step }
+  -- where it has made no step the pass is idle
+  begin_idle : (was : PassState) → was ≡ start → Postcondition was None (CleanerStep (TakeCleaner m.batch.most)) found new
+      → InBatch (if found == 0 then Cleaning (new_batch m.batch.most) cleaner.TakeHeader else Idle) (moved (if found == 0 then Comes CLEANER else Stays) []) start new
+  begin_idle was same taken =
+      begins_on m.batch.most found start new way.called.idle (subst (λ p. Postcondition p None (CleanerStep (TakeCleaner m.batch.most)) found new) same taken)
 
   begin_on : InBatch (if found == 0 then Cleaning (new_batch m.batch.most) cleaner.TakeHeader else Idle) (moved (if found == 0 then Comes CLEANER else Stays) []) start new
-  begin_on =
-      goes_on Idle [] start now idle_called now (between_self now) (TakeCleaner m.batch.most) found new step Idle
-      (ap (λ works. (pass_worked now.view.opened.sizes works (pass_of now.view)).control)
-      (no_works now.view.opened.sizes (values_of now.view) (pass_of now.view) step.works (subst IsCallFree (sym idle_called.control_is) idle_free) step.due)
-      ∙ idle_called.control_is)
+  begin_on = begin_idle now (way.fresh at).2 step
+
+  begin_works : step.works ≡ []
+  begin_works = no_works now.view.opened.sizes (values_of now.view) (pass_of now.view) step.works
+      (subst IsCallFree (sym (ap (λ (p : PassState). (pass_of p.view).control) (way.fresh at).2 ∙ way.called.idle.control)) idle_free) step.due
 
   opened_then : new.view.opened ≡ now.view.opened
   opened_then = opened_same now new None (CleanerStep (TakeCleaner m.batch.most)) found step
+
+  begin_one : (sizes : Sizes) (then_is : CleanState) → then_is.refusal ≡ refusal_at sizes m.batch m.refusal cleans.Begin found → HasMadeOne sizes m then_is now new
+  begin_one sizes then_is refusal =
+      has_made sizes m then_is now new _ (made_one _ m.owned start now way.called now (between_self now) (TakeCleaner m.batch.most) found new step) (λ well. sym (ap (kind_at m.batch) at))
+      (refusal ∙ ap (λ control. refusal_at sizes m.batch m.refusal control found) (sym at) ∙ ap (λ calls. refusal_then sizes m calls found) (sym (ap calls_refusal begin_works)))
+
+  pub one_free : found ≡ 0 → (sizes : Sizes) (then_is : CleanState) → then_is.refusal ≡ m.refusal → (was : CleanState) → m ≡ was → HasMadeOne sizes was then_is now new
+  one_free none sizes then_is refusal was same =
+      subst (λ m. HasMadeOne sizes m then_is now new) same
+      (begin_one sizes then_is (refusal ∙ sym (ap (λ b. if b then m.refusal else first_refusal m.batch m.refusal (Busy 5)) (eq-eqb found 0 none))))
+
+  pub one_held : found ≢ 0 → (sizes : Sizes) (then_is : CleanState) → then_is.refusal ≡ first_refusal m.batch m.refusal (Busy 5) → (was : CleanState) → m ≡ was → HasMadeOne sizes was then_is now new
+  one_held some sizes then_is refusal was same =
+      subst (λ m. HasMadeOne sizes m then_is now new) same
+      (begin_one sizes then_is (refusal ∙ sym (ap (λ b. if b then m.refusal else first_refusal m.batch m.refusal (Busy 5)) (ne_eqb found 0 some))))
 
   -- CLEANER was free
   pub begin_free : found ≡ 0 → (then_is : CleanState) → then_is.control ≡ cleans.TakeHeader → then_is.batch ≡ m.batch → then_is.owned ≡ moved (if found == 0 then Comes CLEANER else Stays) m.owned → IsUnderWay then_is start new

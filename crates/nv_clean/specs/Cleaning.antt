@@ -1,10 +1,11 @@
 -- Cleaning: a batch of a cleaner as the core has it, and the machine that runs it.
-use Rattle.std.specs.Prelude.{◌≡◌, ◌≢◌, ℕ, ◌+◌, ◌-◌, ◌<◌, ◌≤◌, ◌==◌, ◌^◌, false, if◌then◌else◌, List, [], ◌∷◌, length, Option, Result, Ok, Err, filter}
+use Rattle.std.specs.Prelude.{◌≡◌, ◌≢◌, ℕ, ◌+◌, ◌-◌, ◌<◌, ◌≤◌, ◌==◌, ◌^◌, Bool, true, false, if◌then◌else◌, List, [], ◌∷◌, length, Option, Some, None, Result, Ok, Err, filter}
 use Rattle.std.specs.List.{list_any, range_with_len}
 use Rattle.nv_core.specs.state.Words.{Sizes, Word, ENTRY, STORE, page_total, slot_of_entry}
 use Rattle.nv_core.specs.state.Cleaner.{Batch, CleanerControl}
 use Rattle.nv_core.specs.state.Cleaner as cleaner
 use Rattle.nv_core.specs.state.Passes.{Control, Idle, Cleaning, times}
+use Rattle.nv_core.specs.state.Values.{CallEnding, Made, Failed, Refused}
 use Rattle.nv_core.specs.steps.CleanerSteps.{each_next, group_file, group_page, holds_store, new_batch, rising_files, syncing}
 use Rattle.nv_table.specs.invariant.Idle.{IsIdle, IsLater}
 use Rattle.nv_table.specs.passes.PassesMade.{IsShownStill}
@@ -16,10 +17,12 @@ use Rattle.nv_store.specs.declared.backing.StoreError.{StoreError}
 use Rattle.nv_store.specs.declared.backing.StoreError.TheVariants.{Fault, NoMemory}
 use Rattle.nv_table.specs.state.States.{PassState}
 use Rattle.nv_mirror.specs.Answers.{IsUnplaced}
-use Rattle.nv_mirror.specs.PassSteps.{PassStep, HasMade, HasTaken, IsBetweenSteps}
+use Rattle.nv_mirror.specs.PassSteps.{PassStep, HasMade, IsBetweenSteps, either_of}
 use Rattle.nv_clean.specs.declared.batch.CleanControl.{CleanControl}
 use Rattle.nv_clean.specs.declared.batch.CleanControl.TheVariants as cleans
 use Rattle.nv_clean.specs.declared.batch.CleanRefusal.{CleanRefusal}
+use Rattle.nv_clean.specs.declared.batch.CleanRefusal.TheVariants as refusals
+use Rattle.nv_clean.specs.OwnSteps.{AreOwn}
 
 -- what contracts see of a machine: the core's batch, the cells that its pass owns, where it stands, and why it is refused, if it is
 pub record CleanState : Type 0 where
@@ -115,7 +118,7 @@ abbrev pub files_then : Sizes → Batch → CleanControl → (found : ℕ) → L
 files_then sizes batch cleans.TakeStore found = if found == 0 then group_file sizes batch ∷ batch.files else batch.files
 files_then sizes batch control found = batch.files
 
--- ---- the parts of a batch: its front, its claims of a group's locks, its entries, and what comes at its end
+-- ---- the parts of a batch: its front, its claims of a group's locks, its entries, what it undoes, and what comes at its end
 
 abbrev pub IsFront : CleanControl → Type 0
 IsFront cleans.TakeHeader = Unit {0}
@@ -135,10 +138,14 @@ IsOnEntries (cleans.HoldEntry at) = Unit {0}
 IsOnEntries (cleans.CleanEntry at) = Unit {0}
 IsOnEntries (cleans.SubtractDirty at) = Unit {0}
 IsOnEntries (cleans.GiveCleanup at) = Unit {0}
-IsOnEntries (cleans.ReturnEntry at end) = Unit {0}
-IsOnEntries (cleans.ReturnFailed at end) = Unit {0}
-IsOnEntries (cleans.UndoCleanup at) = Unit {0}
 IsOnEntries control = ⊥
+
+-- what is undone of a group that can't be cleaned
+abbrev pub IsUndoing : CleanControl → Type 0
+IsUndoing (cleans.ReturnEntry at end) = Unit {0}
+IsUndoing (cleans.ReturnFailed at end) = Unit {0}
+IsUndoing (cleans.UndoCleanup at) = Unit {0}
+IsUndoing control = ⊥
 
 abbrev pub IsEnd : CleanControl → Type 0
 IsEnd (cleans.FreeEntry number) = Unit {0}
@@ -170,6 +177,11 @@ abbrev pub IsBegun : CleanControl → Type 0
 IsBegun cleans.Begin = ⊥
 IsBegun control = Unit {0}
 
+-- and its last one
+abbrev pub is_over : CleanControl → Bool
+is_over cleans.Over = true
+is_over control = false
+
 abbrev pub IsOpen : CleanControl → Type 0
 IsOpen cleans.Over = ⊥
 IsOpen control = Unit {0}
@@ -199,11 +211,12 @@ inner_at sizes batch control = cleaner.GiveBack
 
 -- ---- a batch under way
 
--- A batch that has made some steps since a start: its pass stands so and owns these cells. It has no place, and the history is as the pass saw it.
+-- A batch that has made some steps since a start, all its own: its pass stands so and owns these cells. It has no place, and the history is as the pass saw it.
 pub record InBatch (control : Control) (owned : List Word) (start now : PassState) : Type 0 where
   pub idle : IsIdle start
   pub steps : List PassStep
   pub made : HasMade steps start now
+  pub own : AreOwn steps
   pub later : IsLater start now
   pub spare : now.spare ≡ start.spare
   pub mount : now.view.opened ≡ start.view.opened
@@ -221,17 +234,24 @@ AreApart (first ∷ rest) = (list_any (λ other. other == first) rest ≡ false)
 pub record IsUnderWay (m : CleanState) (start now : PassState) : Type 0 where
   pub called : InBatch (control_of now.view.opened.sizes m) m.owned start now
   pub apart : AreApart m.batch.files
-  pub fresh : m.control ≡ cleans.Begin → (m.owned ≡ []) × (m.batch ≡ new_batch m.batch.most)
-
--- It has made one step, after the device calls that lie before it.
-pub record HasStepped (was now : PassState) : Type 0 where
-  pub step : PassStep
-  pub taken : HasTaken step was now
+  pub fresh : m.control ≡ cleans.Begin → (m.owned ≡ []) × (m.batch ≡ new_batch m.batch.most) × (now ≡ start) × (m.refusal ≡ None)
 
 -- ---- device calls
 
--- It has made some device calls since its last step, which are due one after another, and behind them stands so; what it owns shows what they leave.
-pub record IsBehind (stands : Control) (m : CleanState) (start was now : PassState) : Type 0 where
+-- why a device call did not end well, if it did not: a fault of a store, or of a part of the region, or want of memory
+abbrev pub call_refusal : Word → CallEnding → Option CleanRefusal
+call_refusal cell Made = None
+call_refusal cell Refused = Some refusals.NoMemory
+call_refusal (STORE file) (Failed came faults) = Some refusals.StoreFault
+call_refusal cell (Failed came faults) = Some refusals.RegionFault
+
+-- the first of some that did not
+abbrev pub calls_refusal : List Work → Option CleanRefusal
+calls_refusal [] = None
+calls_refusal (work ∷ later) = either_of (call_refusal work.cell work.ending) (calls_refusal later)
+
+-- It has made some device calls since its last step, which are due one after another and ended so, and behind them stands so; what it owns shows what they leave.
+pub record IsBehind (stands : Control) (refusal : Option CleanRefusal) (m : CleanState) (start was now : PassState) : Type 0 where
   pub control : Control
   pub called : InBatch control m.owned start was
   pub apart : AreApart m.batch.files
@@ -239,29 +259,41 @@ pub record IsBehind (stands : Control) (m : CleanState) (start was now : PassSta
   pub works : List Work
   pub due : AreDue was.view.opened.sizes (values_of was.view) (pass_of was.view) works
   pub stands_so : (pass_worked was.view.opened.sizes works (pass_of was.view)).control ≡ stands
+  pub refused : calls_refusal works ≡ refusal
   pub shows : OwnsSlots was.view.opened.sizes (λ value. value) (values_before was.view works) (still_owned (pass_of was.view)) now.now
+
+-- why it returns an entry that it was to write back
+abbrev pub refusal_behind : CleanControl → Option CleanRefusal
+refusal_behind (cleans.ReturnEntry at end) = Some refusals.NoMemory
+refusal_behind control = None
 
 -- and so it has, where it goes on there
 abbrev pub IsAfterCalls : CleanState → (start was now : PassState) → Type 0
-IsAfterCalls m start was now = IsBehind (control_of now.view.opened.sizes m) m start was now
+IsAfterCalls m start was now = IsBehind (control_of now.view.opened.sizes m) (refusal_behind m.control) m start was now
 
--- What is said of some device calls is that the pass stands so behind them.
-abbrev pub SaysStands : (List Work → Type 0) → Control → (now : PassState) → Type 0
-SaysStands said stands now = (works : List Work)
-    → (said works → (pass_worked now.view.opened.sizes works (pass_of now.view)).control ≡ stands) × ((pass_worked now.view.opened.sizes works (pass_of now.view)).control ≡ stands → said works)
+-- What is said of some device calls is that they ended so, and that the pass stands so behind them.
+abbrev pub SaysStands : (List Work → Type 0) → Control → Option CleanRefusal → (now : PassState) → Type 0
+SaysStands said stands refusal now = (works : List Work)
+    → (said works → ((pass_worked now.view.opened.sizes works (pass_of now.view)).control ≡ stands) × (calls_refusal works ≡ refusal))
+    × ((pass_worked now.view.opened.sizes works (pass_of now.view)).control ≡ stands → calls_refusal works ≡ refusal → said works)
 
 -- ---- an entry's piece, which is written back
 
 -- It has read the piece of an entry of its group, and writes it to the store of the group's file next, which it holds.
 pub record HasReadPiece (m : CleanState) (at offset : ℕ) (bytes : List ℕ) (start was now : PassState) : Type 0 where
-  pub behind : IsBehind (Cleaning m.batch (cleaner.WriteBack at)) m start was now
+  pub behind : IsBehind (Cleaning m.batch (cleaner.WriteBack at)) None m start was now
   pub says : SaysPieceOf was.view.opened.sizes offset bytes (values_before was.view behind.works (ENTRY (slot_of_entry was.view.opened.sizes (m.batch.reached + at))))
   pub there : group_file was.view.opened.sizes m.batch < was.view.opened.sizes.files
   pub once : times (STORE (group_file was.view.opened.sizes m.batch)) m.owned ≡ 1
   pub store : IsStore (values_before was.view behind.works (STORE (group_file was.view.opened.sizes m.batch)))
 
--- where it stands behind the write, by its answer
+-- where it stands behind the write, by its answer, and why that was not well, if it wasn't
 abbrev pub written_at : Batch → (at : ℕ) → Result (Unit {0}) StoreError → Control
 written_at batch at (Ok done) = each_next batch at (cleaner.HoldEntry (at + 1)) (Cleaning batch (cleaner.CleanEntry 0))
 written_at batch at (Err Fault) = Cleaning batch (cleaner.SetStop (at + 1))
 written_at batch at (Err NoMemory) = Cleaning batch (cleaner.RefusedReturnEntry 0 (at + 1))
+
+abbrev pub write_refusal : Result (Unit {0}) StoreError → Option CleanRefusal
+write_refusal (Ok done) = None
+write_refusal (Err Fault) = Some refusals.StoreFault
+write_refusal (Err NoMemory) = Some refusals.NoMemory

@@ -1,2 +1,4 @@
+pub mod OwnSteps
 pub mod OwnedCells
 pub mod Cleaning
+pub mod CleanSteps

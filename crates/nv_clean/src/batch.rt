@@ -1,15 +1,12 @@
-//! A batch, where it stands, and the step that comes next.
-ghost use Rattle.std.specs.Prelude.{◌≡◌, ◌+◌, ◌<◌, nat_lt, [], ◌∷◌, length, if◌then◌else◌, None, Some};
-ghost use Rattle.nv_core.specs.steps.CleanerSteps.{group_file, group_page, holds_store, last_taken, new_batch, next_cleaner_op};
-ghost use Rattle.nv_op.specs.CleanerOps.{core_cleaner_op};
+//! A batch, and where it stands.
+ghost use Rattle.std.specs.Prelude.{◌≡◌, ◌+◌, ◌<◌, ◌==◌, nat_lt, [], ◌∷◌, length, if◌then◌else◌, None};
+ghost use Rattle.nv_core.specs.steps.CleanerSteps.{group_file, group_page, holds_store, new_batch};
 ghost use Rattle.nv_table.specs.state.Keys.{sizes_of};
-ghost use Rattle.nv_clean.specs.OwnedCells.{MovesCells};
 ghost use Rattle.nv_clean.specs.declared.batch.CleanControl.TheVariants as cleans;
-ghost use Rattle.nv_clean.specs.Cleaning.{Fits, IsLockFirst, IsPlain, OwnsAt, files_from, inner_at};
+ghost use Rattle.nv_clean.specs.Cleaning.{files_from};
 
 use crate::OwnedCells;
 use arrayvec::ArrayVec;
-use nv_op::{CleanerOp, Word};
 use nv_table::Layout;
 use std::marker::Model;
 use thiserror::Error;
@@ -145,6 +142,14 @@ impl CleanMachine {
         self.pages[at as usize]
     }
 
+    // Whether it is the last one of the group.
+    pub(crate) fn is_last(&self, at: u64) -> bool
+        ensures { result ≡ (at + 1 == length self.now.batch.pages) }
+    {
+        let count = self.pages.len() as u64;
+        at < count && at + 1 == count
+    }
+
     // Its file.
     pub(crate) fn file(&self, layout: Layout) -> u64
         requires { 0 < length self.now.batch.pages }
@@ -169,80 +174,5 @@ impl CleanMachine {
             file += 1;
         }
         file
-    }
-
-    // The next step, where no device call comes before it.
-    pub(crate) fn next(&self, layout: Layout) -> CleanerOp
-        requires plain { IsPlain self.now.control }
-        requires fits { Fits (sizes_of layout) self.now }
-        requires owns { OwnsAt self.now.owned self.now.control }
-        ensures cells { MovesCells result }
-        ensures next { next_cleaner_op (sizes_of layout) self.now.owned self.now.batch (inner_at (sizes_of layout) self.now.batch self.now.control) ≡ Some (core_cleaner_op result) }
-    {
-        match self.control {
-            CleanControl::TakeHeader => CleanerOp::Take { cell: Word::Header },
-            CleanControl::LoadStop => CleanerOp::Load { word: Word::Stop },
-            CleanControl::LoadTail => CleanerOp::Load { word: Word::Tail },
-            CleanControl::LoadHead => CleanerOp::Load { word: Word::Head },
-            CleanControl::LoadEntry { at } => CleanerOp::Load {
-                word: Word::Entry {
-                    slot: (self.reached + at) % layout.entries,
-                },
-            },
-            CleanControl::TakeCleanup { at } => CleanerOp::Take {
-                cell: Word::Cleanup {
-                    page: self.page(at),
-                },
-            },
-            CleanControl::TakeStore => CleanerOp::Take {
-                cell: Word::Store {
-                    file: self.file(layout),
-                },
-            },
-            CleanControl::HoldEntry { at } => CleanerOp::Hold {
-                number: self.reached + at,
-            },
-            CleanControl::CleanEntry { at } => CleanerOp::Clean {
-                number: self.reached + at,
-            },
-            CleanControl::SubtractDirty { at } => CleanerOp::Subtract {
-                page: self.page(at),
-            },
-            CleanControl::GiveCleanup { at } | CleanControl::UndoCleanup { at } => {
-                CleanerOp::Give {
-                    cell: Word::Cleanup {
-                        page: self.page(at),
-                    },
-                }
-            }
-            CleanControl::ReturnEntry { at, .. } | CleanControl::ReturnFailed { at, .. } => {
-                CleanerOp::Return {
-                    number: self.reached + at,
-                }
-            }
-            CleanControl::FreeEntry { number } => CleanerOp::Free { number },
-            CleanControl::AdvanceTail => CleanerOp::MoveTail { tail: self.reached },
-            CleanControl::GiveStore { file } => CleanerOp::Give {
-                cell: Word::Store { file },
-            },
-            CleanControl::GiveHeader => CleanerOp::Give { cell: Word::Header },
-            CleanControl::GiveCleaner => CleanerOp::Give {
-                cell: Word::Cleaner,
-            },
-            CleanControl::GiveBack => self.give_last(),
-            _ => unreachable!(),
-        }
-    }
-
-    // The lock that was taken last is given back.
-    fn give_last(&self) -> CleanerOp
-        requires { IsLockFirst self.now.owned }
-        ensures cells { MovesCells result }
-        ensures next { last_taken self.now.owned ≡ Some (core_cleaner_op result) }
-    {
-        let Some(cell) = self.owned.last_taken() else {
-            unreachable!()
-        };
-        CleanerOp::Give { cell: cell.word() }
     }
 }

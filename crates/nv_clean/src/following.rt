@@ -1,12 +1,14 @@
 //! What a batch is after a step: the core's own functions, run.
-ghost use Rattle.std.specs.Prelude.{◌≡◌, ℕ, ◌+◌, ◌<◌, ◌≤◌, ◌^◌, true, length, Some, if◌then◌else◌, ◌==◌};
+ghost use Rattle.std.specs.Prelude.{◌≡◌, ℕ, ◌+◌, ◌<◌, ◌≤◌, ◌^◌, true, length, nat_lt, if◌then◌else◌, ◌==◌};
 ghost use Rattle.nv_core.specs.state.Cleaner as cleaner;
 ghost use Rattle.nv_core.specs.state.Passes.{Cleaning};
 ghost use Rattle.nv_core.specs.state.Words.{Sizes};
 ghost use Rattle.nv_core.specs.steps.CleanerSteps.{after_cleaner_op, batch_with_page, claimed, closed, discharging, each_next, finishing, holds_store, may_pass, next_group, retreating, surveyed, surveying, withdrawing};
 ghost use Rattle.nv_table.specs.state.Keys.{sizes_of};
 ghost use Rattle.nv_clean.specs.declared.batch.CleanControl.TheVariants as cleans;
-ghost use Rattle.nv_clean.specs.Cleaning.{Fits, IsBegun, IsClaim, IsEnd, IsFront, IsOnEntries, IsPlain, control_of, files_from, files_then, inner_at};
+ghost use Rattle.nv_clean.specs.declared.batch.CleanRefusal.TheVariants as refusals;
+ghost use Rattle.nv_clean.specs.CleanSteps.{first_refusal, refusal_at};
+ghost use Rattle.nv_clean.specs.Cleaning.{Fits, IsBegun, IsClaim, IsEnd, IsFront, IsLow, IsOnEntries, IsPlain, IsUndoing, control_of, files_from, files_then, inner_at};
 
 use crate::{CleanControl, CleanMachine, CleanRefusal};
 use nv_table::{HEADER, Layout};
@@ -18,6 +20,7 @@ impl CleanMachine {
         ensures begun { IsBegun self.new.control }
         ensures owned { self.new.owned ≡ self.old.owned }
         ensures files { self.new.batch.files ≡ self.old.batch.files }
+        ensures refusal { self.new.refusal ≡ self.old.refusal }
     {
         self.control = if self.owned.is_empty() {
             CleanControl::Over
@@ -40,6 +43,7 @@ impl CleanMachine {
         ensures begun { IsBegun self.new.control }
         ensures owned { self.new.owned ≡ self.old.owned }
         ensures files { self.new.batch.files ≡ self.old.batch.files }
+        ensures refusal { self.new.refusal ≡ self.old.refusal }
     {
         self.close();
         if self.reached == self.tail {
@@ -49,11 +53,11 @@ impl CleanMachine {
         }
     }
 
-    // Why it has cleaned nothing, where its first group can't be cleaned.
+    // Why it has cleaned nothing, where its first group can't be cleaned. The first reason stays.
     pub(crate) fn refuse(&mut self, refusal: CleanRefusal)
-        ensures { self.new ≡ record self.old { refusal = if self.old.batch.reached == self.old.batch.tail then Some refusal else self.old.refusal } }
+        ensures { self.new ≡ record self.old { refusal = first_refusal self.old.batch self.old.refusal refusal } }
     {
-        if self.reached == self.tail {
+        if self.refusal.is_none() && self.reached == self.tail {
             self.refusal = Some(refusal);
         }
     }
@@ -64,6 +68,7 @@ impl CleanMachine {
         ensures begun { IsBegun self.new.control }
         ensures owned { self.new.owned ≡ self.old.owned }
         ensures files { self.new.batch.files ≡ self.old.batch.files }
+        ensures refusal { self.new.refusal ≡ (if nat_lt self.old.batch.reached self.old.batch.head then self.old.refusal else first_refusal self.old.batch self.old.refusal (refusals.Idle self.old.batch.tail)) }
     {
         if self.reached < self.head {
             self.control = CleanControl::LoadEntry { at: 0 };
@@ -79,6 +84,7 @@ impl CleanMachine {
         ensures begun { IsBegun self.new.control }
         ensures owned { self.new.owned ≡ self.old.owned }
         ensures files { self.new.batch.files ≡ self.old.batch.files }
+        ensures refusal { self.new.refusal ≡ self.old.refusal }
     {
         if at == 0 {
             self.finish();
@@ -108,6 +114,7 @@ impl CleanMachine {
         ensures begun { IsBegun self.new.control }
         ensures owned { self.new.owned ≡ self.old.owned }
         ensures files { self.new.batch.files ≡ self.old.batch.files }
+        ensures refusal { (sizes : Sizes) → self.new.refusal ≡ refusal_at sizes self.old.batch self.old.refusal (cleans.LoadEntry at) found }
     {
         if at == 0 && !self.may_pass(found) {
             self.refuse(CleanRefusal::Idle { at: self.tail });
@@ -132,6 +139,7 @@ impl CleanMachine {
         ensures begun { IsBegun self.new.control }
         ensures owned { self.new.owned ≡ self.old.owned }
         ensures files { self.new.batch.files ≡ self.old.batch.files }
+        ensures refusal { self.new.refusal ≡ self.old.refusal }
     {
         let count = self.pages.len() as u64;
         self.control = if at + 1 != count {
@@ -144,21 +152,21 @@ impl CleanMachine {
     }
 
     // The next entry of the group, or what comes behind the last.
-    fn each(&mut self, at: u64, next: CleanControl, last: CleanControl)
-        requires { at < length self.old.batch.pages }
-        ensures control { self.new ≡ record self.old { control = if at + 1 == length self.old.batch.pages then last else next } }
+    pub(crate) fn each(&mut self, at: u64, next: CleanControl, last: CleanControl)
+        ensures { self.new ≡ record self.old { control = if at + 1 == length self.old.batch.pages then last else next } }
     {
-        let count = self.pages.len() as u64;
-        self.control = if at + 1 == count { last } else { next };
+        self.control = if self.is_last(at) { last } else { next };
     }
 
     // The group at hand is cleaned.
     fn pass_group(&mut self)
-        requires small { self.old.batch.reached ≤ 2 ^ 60 }
+        requires low { IsLow self.old.batch }
+        requires some { 0 < length self.old.batch.pages }
         ensures control { (sizes : Sizes) → control_of sizes self.new ≡ surveying sizes self.old.owned (next_group self.old.batch) }
         ensures begun { IsBegun self.new.control }
         ensures owned { self.new.owned ≡ self.old.owned }
         ensures files { self.new.batch.files ≡ self.old.batch.files }
+        ensures refusal { self.new.refusal ≡ self.old.refusal }
     {
         self.reached += self.pages.len() as u64;
         self.close();
@@ -171,6 +179,7 @@ impl CleanMachine {
         ensures begun { IsBegun self.new.control }
         ensures owned { self.new.owned ≡ self.old.owned }
         ensures files { self.new.batch.files ≡ self.old.batch.files }
+        ensures refusal { self.new.refusal ≡ self.old.refusal }
     {
         let next = self.next_store(layout, from);
         self.control = if next < layout.files {
@@ -188,6 +197,7 @@ impl CleanMachine {
         ensures begun { IsBegun self.new.control }
         ensures owned { self.new.owned ≡ self.old.owned }
         ensures files { self.new.batch.files ≡ self.old.batch.files }
+        ensures refusal { self.new.refusal ≡ first_refusal self.old.batch self.old.refusal (refusals.Busy cell) }
     {
         self.refuse(CleanRefusal::Busy { cell });
         self.retreat(at);
@@ -200,6 +210,7 @@ impl CleanMachine {
         ensures begun { IsBegun self.new.control }
         ensures owned { self.new.owned ≡ self.old.owned }
         ensures files { self.new.batch.files ≡ self.old.batch.files }
+        ensures refusal { (sizes : Sizes) → self.new.refusal ≡ refusal_at sizes self.old.batch self.old.refusal self.old.control found }
     {
         match self.control {
             CleanControl::TakeHeader if found == 0 => self.control = CleanControl::LoadStop,
@@ -233,6 +244,7 @@ impl CleanMachine {
         ensures begun { IsBegun self.new.control }
         ensures owned { self.new.owned ≡ self.old.owned }
         ensures files { self.new.batch.files ≡ files_then (sizes_of layout) self.old.batch self.old.control found }
+        ensures refusal { self.new.refusal ≡ refusal_at (sizes_of layout) self.old.batch self.old.refusal self.old.control found }
     {
         match self.control {
             CleanControl::TakeCleanup { at } if found == 0 => self.claim(layout, at),
@@ -261,6 +273,7 @@ impl CleanMachine {
         ensures begun { IsBegun self.new.control }
         ensures owned { self.new.owned ≡ self.old.owned }
         ensures files { self.new.batch.files ≡ self.old.batch.files }
+        ensures refusal { (sizes : Sizes) → self.new.refusal ≡ refusal_at sizes self.old.batch self.old.refusal self.old.control found }
     {
         match self.control {
             CleanControl::LoadEntry { at } => self.look(at, found),
@@ -275,12 +288,25 @@ impl CleanMachine {
                 CleanControl::SubtractDirty { at: at + 1 },
                 CleanControl::GiveCleanup { at: 0 },
             ),
-            CleanControl::GiveCleanup { at } if at + 1 == self.pages.len() as u64 => {
-                self.pass_group();
-            }
+            CleanControl::GiveCleanup { at } if self.is_last(at) => self.pass_group(),
             CleanControl::GiveCleanup { at } => {
                 self.control = CleanControl::GiveCleanup { at: at + 1 };
             }
+            _ => unreachable!(),
+        }
+    }
+
+    // After a step that undoes what was done of a group.
+    fn follow_undoing(&mut self)
+        requires undoes { IsUndoing self.old.control }
+        requires fits { (sizes : Sizes) × Fits sizes self.old }
+        ensures control { (sizes : Sizes) (found : ℕ) → control_of sizes self.new ≡ after_cleaner_op sizes self.old.owned self.old.batch (inner_at sizes self.old.batch self.old.control) found }
+        ensures begun { IsBegun self.new.control }
+        ensures owned { self.new.owned ≡ self.old.owned }
+        ensures files { self.new.batch.files ≡ self.old.batch.files }
+        ensures refusal { self.new.refusal ≡ self.old.refusal }
+    {
+        match self.control {
             CleanControl::ReturnEntry { at, end } if at + 1 == end => {
                 let count = self.pages.len() as u64;
                 self.retreat(count);
@@ -293,7 +319,7 @@ impl CleanMachine {
                 self.control = CleanControl::ReturnFailed { at: at + 1, end };
             }
             CleanControl::UndoCleanup { at } => self.retreat(at),
-            _ => {}
+            _ => unreachable!(),
         }
     }
 
@@ -305,6 +331,7 @@ impl CleanMachine {
         ensures begun { IsBegun self.new.control }
         ensures owned { self.new.owned ≡ self.old.owned }
         ensures files { self.new.batch.files ≡ self.old.batch.files }
+        ensures refusal { self.new.refusal ≡ self.old.refusal }
     {
         match self.control {
             CleanControl::FreeEntry { number } if number + 1 == self.reached => {
@@ -330,6 +357,7 @@ impl CleanMachine {
         ensures begun { IsBegun self.new.control }
         ensures owned { self.new.owned ≡ self.old.owned }
         ensures files { self.new.batch.files ≡ files_then (sizes_of layout) self.old.batch self.old.control found }
+        ensures refusal { self.new.refusal ≡ refusal_at (sizes_of layout) self.old.batch self.old.refusal self.old.control found }
     {
         match self.control {
             CleanControl::TakeHeader
@@ -339,6 +367,9 @@ impl CleanMachine {
             CleanControl::TakeCleanup { .. } | CleanControl::TakeStore => {
                 self.follow_claims(layout, found);
             }
+            CleanControl::ReturnEntry { .. }
+            | CleanControl::ReturnFailed { .. }
+            | CleanControl::UndoCleanup { .. } => self.follow_undoing(),
             CleanControl::FreeEntry { .. }
             | CleanControl::AdvanceTail
             | CleanControl::GiveStore { .. }

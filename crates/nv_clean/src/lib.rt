@@ -5,7 +5,9 @@
 mod batch;
 mod following;
 mod machine;
+mod next;
 mod owned;
+mod telling;
 
 pub use batch::{CleanControl, CleanMachine, CleanRefusal};
 pub use owned::{Cell, MOST_CELLS, OwnedCells};

@@ -1,10 +1,13 @@
 //! The steps of a batch.
-ghost use Rattle.std.specs.Prelude.{◌≡◌, ◌+◌, ◌<◌, ◌≤◌, length, take, IfOk, OnErr};
+ghost use Rattle.std.specs.Prelude.{◌≡◌, ◌+◌, ◌<◌, ◌≤◌, length, take, IfOk, OnErr, Some};
 ghost use Rattle.nv_core.specs.state.Cleaner as cleaner;
 ghost use Rattle.nv_core.specs.state.Passes.{Cleaning};
 ghost use Rattle.nv_table.specs.state.States.{IsOf, PassState};
+ghost use Rattle.nv_op.specs.declared.kinds.Kind.TheVariants.{Stop};
 ghost use Rattle.nv_clean.specs.declared.batch.CleanControl.TheVariants as cleans;
-ghost use Rattle.nv_clean.specs.Cleaning.{ComesBehind, HasReadPiece, Fits, HasStepped, IsAfterCalls, IsBehind, IsPlain, IsUnderWay, OwnsAt, SaysStands, control_of, written_at};
+ghost use Rattle.nv_clean.specs.declared.batch.CleanRefusal.TheVariants as refusals;
+ghost use Rattle.nv_clean.specs.CleanSteps.{HasMadeOne, HasSteppedBehind, clean_kind};
+ghost use Rattle.nv_clean.specs.Cleaning.{ComesBehind, HasReadPiece, Fits, IsAfterCalls, IsBehind, IsPlain, IsUnderWay, OwnsAt, SaysStands, control_of, refusal_behind, write_refusal, written_at};
 
 use crate::{CleanControl, CleanMachine, CleanRefusal};
 use nv_core::{cells_keep_their_shapes, ready_pieces_fit, runs_are_sound};
@@ -22,7 +25,7 @@ impl CleanMachine {
         requires at { self.old.control ≡ cleans.Begin }
         requires way { (start : PassState) × IsUnderWay self.old start pass.old }
         ensures board { IsOf board.now pass.new }
-        ensures one { HasStepped pass.old pass.new }
+        ensures one { HasMadeOne board.now.opened.sizes self.old self.new pass.old pass.new }
         ensures way { (start : PassState) → IsUnderWay self.old start pass.old → IsUnderWay self.new start pass.new }
     {
         let layout = board.layout();
@@ -32,7 +35,7 @@ impl CleanMachine {
         if found == 0 {
             self.control = CleanControl::TakeHeader;
         } else {
-            self.refusal = Some(CleanRefusal::Busy { cell: CLEANER });
+            self.refuse(CleanRefusal::Busy { cell: CLEANER });
             self.control = CleanControl::Over;
         }
     }
@@ -43,7 +46,7 @@ impl CleanMachine {
         requires plain { IsPlain self.old.control }
         requires way { (start : PassState) × IsUnderWay self.old start pass.old }
         ensures board { IsOf board.now pass.new }
-        ensures one { HasStepped pass.old pass.new }
+        ensures one { HasMadeOne board.now.opened.sizes self.old self.new pass.old pass.new }
         ensures way { (start : PassState) → IsUnderWay self.old start pass.old → IsUnderWay self.new start pass.new }
     {
         runs_are_sound();
@@ -64,12 +67,13 @@ impl CleanMachine {
     )
         requires board { IsOf board.now pass.old }
         requires behind { ComesBehind self.old.control }
-        requires said { SaysStands W.said (control_of pass.old.view.opened.sizes self.old) pass.old }
+        requires said { SaysStands W.said (control_of pass.old.view.opened.sizes self.old) (refusal_behind self.old.control) pass.old }
         requires fits { Fits pass.old.view.opened.sizes self.old }
         requires owns { OwnsAt self.old.owned self.old.control }
         requires way { (start : PassState) × (was : PassState) × IsAfterCalls self.old start was pass.old }
         ensures board { IsOf board.now pass.new }
-        ensures one { (start was : PassState) → IsAfterCalls self.old start was pass.old → HasStepped was pass.new }
+        ensures one { (start was : PassState) → IsAfterCalls self.old start was pass.old → HasSteppedBehind (clean_kind self.old) (refusal_behind self.old.control) was pass.new }
+        ensures refusal { self.new.refusal ≡ self.old.refusal }
         ensures way { (start was : PassState) → IsAfterCalls self.old start was pass.old → IsUnderWay self.new start pass.new }
     {
         let layout = board.layout();
@@ -88,11 +92,12 @@ impl CleanMachine {
         refusal: CleanRefusal,
     )
         requires board { IsOf board.now pass.old }
-        requires said { SaysStands W.said (Cleaning self.old.batch (cleaner.SetStop held)) pass.old }
-        requires way { (start : PassState) × (was : PassState) × IsBehind (Cleaning self.old.batch (cleaner.SetStop held)) self.old start was pass.old }
+        requires said { SaysStands W.said (Cleaning self.old.batch (cleaner.SetStop held)) (Some refusal) pass.old }
+        requires way { (start : PassState) × (was : PassState) × IsBehind (Cleaning self.old.batch (cleaner.SetStop held)) (Some refusal) self.old start was pass.old }
         ensures board { IsOf board.now pass.new }
-        ensures one { (start was : PassState) → IsBehind (Cleaning self.old.batch (cleaner.SetStop held)) self.old start was pass.old → HasStepped was pass.new }
-        ensures way { (start was : PassState) → IsBehind (Cleaning self.old.batch (cleaner.SetStop held)) self.old start was pass.old → IsUnderWay self.new start pass.new }
+        ensures one { (start was : PassState) → IsBehind (Cleaning self.old.batch (cleaner.SetStop held)) (Some refusal) self.old start was pass.old → HasSteppedBehind Stop (Some refusal) was pass.new }
+        ensures refusal { self.new.refusal ≡ Some refusal }
+        ensures way { (start was : PassState) → IsBehind (Cleaning self.old.batch (cleaner.SetStop held)) (Some refusal) self.old start was pass.old → IsUnderWay self.new start pass.new }
     {
         perform_after::<W, L, B>(board, pass, Op::ByCleaner(CleanerOp::Stop));
         self.refusal = Some(refusal);
@@ -118,7 +123,7 @@ impl CleanMachine {
         ensures board { IsOf board.now pass.new }
         ensures length { IfOk result (λ read. read.size ≤ length piece.new) }
         ensures read { IfOk result (λ read. (start : PassState) → IsUnderWay self.now start pass.old → HasReadPiece self.now at read.at (take read.size piece.new) start pass.old pass.new) }
-        ensures failed { OnErr result ((start : PassState) → IsUnderWay self.now start pass.old → IsBehind (Cleaning self.now.batch (cleaner.SetStop (at + 1))) self.now start pass.old pass.new) }
+        ensures failed { OnErr result ((start : PassState) → IsUnderWay self.now start pass.old → IsBehind (Cleaning self.now.batch (cleaner.SetStop (at + 1))) (Some refusals.RegionFault) self.now start pass.old pass.new) }
     {
         runs_are_sound();
         ready_pieces_fit();
@@ -145,7 +150,7 @@ impl CleanMachine {
         requires some { 0 < length self.now.batch.pages }
         requires read { (start : PassState) × (was : PassState) × HasReadPiece self.now at offset bytes.now start was pass.old }
         ensures board { IsOf board.now pass.new }
-        ensures written { (start was : PassState) → HasReadPiece self.now at offset bytes.now start was pass.old → IsBehind (written_at self.now.batch at result) self.now start was pass.new }
+        ensures written { (start was : PassState) → HasReadPiece self.now at offset bytes.now start was pass.old → IsBehind (written_at self.now.batch at result) (write_refusal result) self.now start was pass.new }
     {
         let layout = board.layout();
         write_store(board, pass, self.file(layout), offset, bytes)

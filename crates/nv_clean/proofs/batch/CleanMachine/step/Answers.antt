@@ -8,9 +8,8 @@ use Rattle.nv_table.specs.state.Keys.{sizes_of}
 use Rattle.nv_table.specs.state.Opened.{Opened}
 use Rattle.nv_clean.specs.declared.batch.CleanControl.TheVariants as cleans
 use Rattle.nv_clean.specs.Cleaning.{CleanState, Fits, IsPlain, IsUnderWay, inner_at}
-use Rattle.nv_clean.proofs.BatchLaws.{made_one}
-use Rattle.nv_mirror.proofs.StepLaws.{between_self}
-use Rattle.nv_clean.proofs.StepLaws.{plain_fits, owns_fits, takes_room, store_room, way_then}
+use Rattle.nv_clean.specs.CleanSteps.{HasMadeOne, refusal_at}
+use Rattle.nv_clean.proofs.StepLaws.{plain_fits, plain_one, owns_fits, takes_room, store_room, way_then}
 use Rattle.nv_clean.proofs.batch.CleanMachine.step.Goals as goal
 
 pub next-op-requires-clause-fits : goal.next-op-requires-clause-fits
@@ -46,15 +45,19 @@ follow-requires-2-clause-room g c at none =
     subst (λ (m : CleanState). length m.batch.files < 16) (sym c.self.view_is)
     (store_room c.runs_are_sound.ensures.runs c.args.pass.now c.sees_a_run.ensures.mount c.sees_a_run.ensures.run c.due_steps_stand.ensures c.args.self.now c.requires.way.0 c.requires.way.1 c.requires.plain
     (core_cleaner_op c.next-op.result) c.perform-found.result c.perform-found.new.pass c.perform-found.ensures.stepped
-    (subst (λ (s : Sizes). s.files ≤ 16) same c.layout-layout.result.limits.most_files)
     (subst (λ (s : Sizes). next_cleaner_op s c.args.self.now.owned c.args.self.now.batch (inner_at s c.args.self.now.batch c.args.self.now.control) ≡ Some (core_cleaner_op c.next-op.result)) same c.next-op.ensures.next)
+    (subst (λ (s : Sizes). s.files ≤ 16) same c.layout-layout.result.limits.most_files)
     (subst (λ (m : CleanState). m.control ≡ cleans.TakeStore) c.self.view_is at) none)
 
 pub returns-clause-one : goal.returns-clause-one
-returns-clause-one g c = record {
-  step = _;
-  taken = made_one _ _ c.requires.way.0 c.args.pass.now c.requires.way.1.called c.args.pass.now (between_self c.args.pass.now) (core_cleaner_op c.next-op.result) c.perform-found.result c.perform-found.new.pass c.perform-found.ensures.stepped;
-}
+returns-clause-one g c =
+    let same = c.layout-layout.ensures ∙ sym (ap (λ (o : Opened). o.sizes) c.requires.board.same_mount) in
+    subst (λ (s : Sizes). HasMadeOne s c.args.self.now c.follow-2.new.self c.args.pass.now c.perform-found.new.pass) c.layout-layout.ensures
+    (plain_one c.runs_are_sound.ensures.runs c.args.pass.now c.sees_a_run.ensures.mount c.sees_a_run.ensures.run c.due_steps_stand.ensures c.args.self.now c.requires.way.0 c.requires.way.1 c.requires.plain
+    (core_cleaner_op c.next-op.result) c.perform-found.result c.perform-found.new.pass c.perform-found.ensures.stepped
+    (subst (λ (s : Sizes). next_cleaner_op s c.args.self.now.owned c.args.self.now.batch (inner_at s c.args.self.now.batch c.args.self.now.control) ≡ Some (core_cleaner_op c.next-op.result)) same c.next-op.ensures.next)
+    (sizes_of c.layout-layout.result) same c.follow-2.new.self
+    (c.follow-2.ensures.refusal ∙ ap (λ (m : CleanState). refusal_at (sizes_of c.layout-layout.result) m.batch m.refusal m.control c.perform-found.result) c.self.view_is))
 
 pub returns-clause-way : goal.returns-clause-way
 returns-clause-way g c start way =
@@ -63,6 +66,7 @@ returns-clause-way g c start way =
     (subst (λ (m : CleanState). IsUnderWay m start c.args.pass.now) (sym c.self.view_is) way)
     (subst (λ (m : CleanState). IsPlain m.control) (sym c.self.view_is) c.requires.plain)
     (core_cleaner_op c.next-op.result) c.perform-found.result c.perform-found.new.pass c.perform-found.ensures.stepped
+    (subst (λ (m : CleanState). next_cleaner_op c.args.pass.now.view.opened.sizes m.owned m.batch (inner_at c.args.pass.now.view.opened.sizes m.batch m.control) ≡ Some (core_cleaner_op c.next-op.result)) (sym c.self.view_is)
+    (subst (λ (s : Sizes). next_cleaner_op s c.args.self.now.owned c.args.self.now.batch (inner_at s c.args.self.now.batch c.args.self.now.control) ≡ Some (core_cleaner_op c.next-op.result)) same c.next-op.ensures.next))
     (sizes_of c.layout-layout.result) same c.follow-2.new.self c.follow.new.self c.follow-2.ensures.begun
-    (subst (λ (m : CleanState). next_cleaner_op (sizes_of c.layout-layout.result) m.owned m.batch (inner_at (sizes_of c.layout-layout.result) m.batch m.control) ≡ Some (core_cleaner_op c.next-op.result)) (sym c.self.view_is) c.next-op.ensures.next)
     c.follow.ensures c.follow-2.ensures.owned c.follow-2.ensures.control c.follow-2.ensures.files
