@@ -134,7 +134,7 @@ module _ (batch : Batch) (inner : CleanerControl) (refusal : Option CleanRefusal
 
   module _ (op : CoreCleanerOp) (found : ℕ) (new : PassState) (step : Postcondition now None (CleanerStep op) found new) where
     pub behind_made : (kind : Kind) → kind_of_cleaner_op op ≡ kind → calls_refusal step.works ≡ refusal → HasSteppedBehind kind refusal was new
-    behind_made kind of_kind refused = record { step = _; taken = made_one behind.control m.owned start was behind.called now behind.between op found new step; kind_is = of_kind; refused = refused }
+    behind_made kind of_kind refused = record { step = _; taken = made_one behind.control m.owned start was behind.called now behind.between op found new step; opens = refl; op = op; op_is = refl; kind_is = of_kind; refused = refused }
 
     pub behind_on : (sizes : Sizes) → next_cleaner_op sizes m.owned batch inner ≡ Some op → (pass_worked now.view.opened.sizes step.works (pass_of now.view)).control ≡ Cleaning batch inner
         → InBatch (after_by_cleaner was.view.opened.sizes (moved (cleaner_move was.view.opened.sizes op found) m.owned) op found (Cleaning batch inner)) (moved (cleaner_move was.view.opened.sizes op found) m.owned) start new
@@ -204,6 +204,21 @@ module _ (m : CleanState) (start was now : PassState) (behind : IsAfterCalls m s
 
     pub after_then : (said : List Work → Type 0) → SaysStands said (control_of mount_sizes m) (refusal_behind m.control) now → said step.works → next_cleaner_op mount_sizes m.owned m.batch inner_then ≡ Some op → (s : Sizes) → s ≡ mount_sizes → (then_is : CleanState) (owns : List Word) → IsBegun then_is.control → IsThen then_is owns s
     after_then said says so next s same then_is owns begun = subst (IsThen then_is owns) (sym (same ∙ same_sizes)) (is_then next ((says step.works).0 so).0 then_is owns begun)
+
+-- it may go on elsewhere with what it owns
+pub behind_as : (stands then_stands : Control) (refusal : Option CleanRefusal) (m mid : CleanState) (start was now : PassState) → IsBehind stands refusal m start was now → stands ≡ then_stands → m.owned ≡ mid.owned → m.batch.files ≡ mid.batch.files
+    → IsBehind then_stands refusal mid start was now
+behind_as stands then_stands refusal m mid start was now behind same owned files = record {
+  control = behind.control;
+  called = subst (λ o. InBatch behind.control o start was) owned behind.called;
+  apart = subst AreApart files behind.apart;
+  between = behind.between;
+  works = behind.works;
+  due = behind.due;
+  stands_so = behind.stands_so ∙ same;
+  refused = behind.refused;
+  shows = behind.shows;
+}
 
 -- ---- and where STOP is set behind them
 

@@ -2,7 +2,7 @@
 use Rattle.std.proofs.Common.{◌≡◌, ℕ, Bool, true, false, if◌then◌else◌, List, [], ◌∷◌, refl, sym, ap, subst, ◌∙◌}
 use Rattle.std.specs.Prelude.{Option, Some, None, ◌||◌, ◌==◌, ◌&&◌, not, nat_lt}
 use Rattle.nv_core.specs.state.Words.{Sizes, Word, HEADER, STORE, CLEANER, CLEANUP, is_lock, place}
-use Rattle.nv_core.specs.state.Cleaner.{Batch, CleanerOp as CoreCleanerOp}
+use Rattle.nv_core.specs.state.Cleaner.{Batch, CleanerOp as CoreCleanerOp, TakeCleaner}
 use Rattle.nv_core.specs.state.Cleaner as cleaner
 use Rattle.nv_core.specs.steps.CleanerSteps.{group_file, group_page, last_taken, may_pass, next_cleaner_op}
 use Rattle.nv_op.specs.declared.kinds.Kind.{Kind}
@@ -14,7 +14,7 @@ use Rattle.nv_clean.specs.declared.batch.CleanControl.{CleanControl}
 use Rattle.nv_clean.specs.declared.batch.CleanControl.TheVariants as cleans
 use Rattle.nv_clean.specs.declared.batch.CleanRefusal.{CleanRefusal}
 use Rattle.nv_clean.specs.declared.batch.CleanRefusal.TheVariants.{Idle, Busy, Stopped, RegionFault, StoreFault, NoMemory}
-use Rattle.nv_clean.specs.Cleaning.{CleanState, ComesBehind, IsPlain, calls_refusal, inner_at}
+use Rattle.nv_clean.specs.Cleaning.{CallsDevices, CleanState, ComesBehind, IsEnd, IsPlain, calls_refusal, inner_at}
 use Rattle.nv_clean.specs.CleanSteps.{HasMadeOne, HasSteppedBehind, clean_kind, first_refusal, is_fault, kind_at, refusal_at, refusal_then, unless_free}
 
 -- ---- whether a device has failed
@@ -68,23 +68,44 @@ behind_silent sizes batch was (cleans.ReturnEntry at end) found comes = refl
 behind_silent sizes batch was (cleans.FreeEntry number) found comes = refl
 behind_silent sizes batch was control found comes = absurd comes
 
+-- nor does it say anything before them
+pub calls_silent : (sizes : Sizes) (batch : Batch) (was : Option CleanRefusal) (control : CleanControl) (found : ℕ) → CallsDevices control → refusal_at sizes batch was control found ≡ was
+calls_silent sizes batch was (cleans.WriteBack at) found calls = refl
+calls_silent sizes batch was cleans.Retire found calls = refl
+calls_silent sizes batch was control found calls = absurd calls
+
 -- ---- a step
 
-pub has_made : (sizes : Sizes) (m next : CleanState) (old new : PassState) (step : PassStep) → HasTaken step old new → (calls_refusal step.works ≡ None → kind_of_op step.op ≡ clean_kind m)
-    → next.refusal ≡ refusal_then sizes m (calls_refusal step.works) step.found → HasMadeOne sizes m next old new
-has_made sizes m next old new step taken kind refusal = record {
-  step = step;
-  taken = taken;
-  kind = kind;
-  refusal = refusal;
-  fault = ap is_fault refusal ∙ fault_then sizes m (calls_refusal step.works) step.found;
-}
+pub has_made : (sizes : Sizes) (m next : CleanState) (old new : PassState) (kind : Kind) (refusal : Option CleanRefusal) → (one : HasSteppedBehind kind refusal old new) → (refusal ≡ None → kind ≡ clean_kind m)
+    → next.refusal ≡ refusal_then sizes m refusal one.step.found → (m.control ≡ cleans.Begin → one.op ≡ TakeCleaner m.batch.most) → (IsEnd m.control → next.batch ≡ m.batch) → HasMadeOne sizes m next old new
+has_made sizes m next old new kind refusal one of_kind told begins ends =
+    let same = ap (λ calls. refusal_then sizes m calls one.step.found) (sym one.refused) in
+    record {
+      step = one.step;
+      taken = one.taken;
+      opens = one.opens;
+      op = one.op;
+      op_is = one.op_is;
+      begins = begins;
+      kind = λ well. one.kind_is ∙ of_kind (sym one.refused ∙ well);
+      refusal = told ∙ same;
+      fault = ap is_fault (told ∙ same) ∙ fault_then sizes m (calls_refusal one.step.works) one.step.found;
+      ends = ends;
+    }
+
+no_begin : (control : CleanControl) → CallsDevices control → control ≡ cleans.Begin → ⊥
+no_begin control calls is = subst CallsDevices is calls
+
+no_end : (control : CleanControl) → CallsDevices control → IsEnd control → ⊥
+no_end (cleans.WriteBack at) calls ends = ends
+no_end cleans.Retire calls ends = ends
+no_end control calls ends = calls
 
 -- behind device calls that ended so
-pub made_behind : (sizes : Sizes) (m next : CleanState) (old new : PassState) (kind : Kind) (refusal : Option CleanRefusal) → HasSteppedBehind kind refusal old new → (refusal ≡ None → kind ≡ clean_kind m)
+pub made_behind : (sizes : Sizes) (m next : CleanState) (old new : PassState) (kind : Kind) (refusal : Option CleanRefusal) → CallsDevices m.control → HasSteppedBehind kind refusal old new → (refusal ≡ None → kind ≡ clean_kind m)
     → ((found : ℕ) → next.refusal ≡ refusal_then sizes m refusal found) → HasMadeOne sizes m next old new
-made_behind sizes m next old new kind refusal one of_kind told =
-    has_made sizes m next old new one.step one.taken (λ well. one.kind_is ∙ of_kind (sym one.refused ∙ well)) (told one.step.found ∙ ap (λ calls. refusal_then sizes m calls one.step.found) (sym one.refused))
+made_behind sizes m next old new kind refusal calls one of_kind told =
+    has_made sizes m next old new kind refusal one of_kind (told one.step.found) (λ is. absurd (no_begin m.control calls is)) (λ is. absurd (no_end m.control calls is))
 
 -- ---- its kind
 

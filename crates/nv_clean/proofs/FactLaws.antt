@@ -171,3 +171,16 @@ module _ (sizes : Sizes) (first : Values) (core : Core) (by : ℕ) (sound : Soun
   owns_at limit cleans.GiveHeader at = tt
   owns_at limit cleans.GiveCleaner at = tt
   owns_at limit cleans.Over at = tt
+
+  -- ---- an entry that is written back
+
+  pub written_places : (i : ℕ) → Is (cleaner.ReadPiece i) → (j : ℕ) → j < length batch.pages → IsPlace batch j
+  written_places i at = place (cleaner.ReadPiece i) at tt
+
+  pub written_room : sizes.files ≤ 16 → (i : ℕ) → Is (cleaner.ReadPiece i) → i + 1 < length batch.pages → length (core.passes by).owned < 50
+  written_room limit i at more =
+      let short = whole_few (cleaner.ReadPiece i) at tt tt (omega (arith, more)) in
+      let most = owns_few sizes first core by sound batch (cleaner.ReadPiece i) at (i + 1) (locks_at (cleaner.ReadPiece i) at) (omega arith) (λ file. at_most_one (holds_store batch file))
+      (far_store (cleaner.ReadPiece i) at tt) (λ page. omega arith)
+      (λ number held. let a = held.0 in let b = held.1 in (number - batch.reached, omega (arith, a, b), omega (arith, a))) in
+      omega (arith, limit, more, short, most)

@@ -3,7 +3,9 @@ mod BehindLaws
 pub mod CleanStepLaws
 mod FactLaws
 mod FileLaws
+mod MeasureLaws
 mod OwnedLaws
 mod PieceLaws
 mod RoomLaws
 mod StepLaws
+mod WriteLaws

@@ -40,8 +40,9 @@ use Rattle.nv_pages.specs.PageWork.{OfKept, HasFailedCall, IsReadable, entry_slo
 use Rattle.nv_pages.proofs.AlterLaws.{altered_as}
 use Rattle.nv_clean.specs.declared.batch.CleanControl.TheVariants as cleans
 use Rattle.nv_clean.specs.declared.batch.CleanRefusal.TheVariants.{RegionFault}
-use Rattle.nv_clean.specs.Cleaning.{CleanState, HasReadPiece, IsBehind, IsUnderWay, control_at, control_of, write_refusal, written_at}
+use Rattle.nv_clean.specs.Cleaning.{CleanState, HasReadPiece, IsBehind, IsGroupHeld, IsUnderWay, control_at, control_of, write_refusal, written_at}
 use Rattle.nv_clean.proofs.BehindLaws.{behind_call, behind_more}
+use Rattle.nv_clean.proofs.FactLaws.{written_places, written_room}
 
 -- ---- what is so by an answer
 
@@ -162,6 +163,14 @@ module _ (sound : RunsAreSound) (was : PassState) (mount : IsMount (mount_of was
   store_owned =
       let locks : HoldsLocks sizes (core.passes was.view.number) (Cleaning m.batch (cleaner.ReadPiece at)) = subst (HoldsLocks sizes (core.passes was.view.number)) here (core_sound.ownership was.view.number).locks in
       sym (ap (times (STORE file)) way.called.owned_is) ∙ locks (STORE file) (λ slot e. cc) ∙ ap (λ b. if b then 1 else 0) (goes.stored tt)
+
+  -- the group at hand, of which this entry is held
+  pub group_held : sizes.files ≤ 16 → IsGroupHeld m (at + 1)
+  group_held limit = record {
+    within = let w = reads_within in omega (arith, w);
+    places = written_places sizes (mount_of was.view.opened).values core was.view.number core_sound m.batch at here;
+    room = λ more. subst (λ owned. length owned < 50) way.called.owned_is (written_room sizes (mount_of was.view.opened).values core was.view.number core_sound m.batch limit at here more);
+  }
 
   pub store_file : file < sizes.files
   store_file = goes.files file (goes.stored tt)

@@ -1,17 +1,18 @@
 -- Steps: what a step of a batch needs, and what it leaves.
-use Rattle.std.proofs.Common.{◌≡◌, ◌≢◌, ℕ, ◌<◌, ◌≤◌, ◌==◌, Bool, true, false, if◌then◌else◌, List, [], ◌∷◌, length, refl, sym, ap, subst, ◌∙◌, arith, eqb-true, eq-eqb, ne_eqb}
+use Rattle.std.proofs.Common.{◌≡◌, ◌≢◌, ℕ, ◌+◌, ◌<◌, ◌≤◌, ◌==◌, Bool, true, false, if◌then◌else◌, List, [], ◌∷◌, length, refl, sym, ap, subst, ◌∙◌, arith, eqb-true, eq-eqb, ne_eqb}
 use Rattle.std.specs.Prelude.{Some, None, ◌||◌}
 use Rattle.std.specs.List.{list_any}
-use Rattle.nv_core.specs.state.Words.{Sizes, Word, CLEANER, STORE, is_lock}
+use Rattle.nv_core.specs.state.Words.{Sizes, Word, HEAD, CLEANER, STORE, is_lock}
 use Rattle.nv_core.specs.state.Cleaner.{Batch, CleanerControl, CleanerOp as CoreCleanerOp, TakeCleaner}
 use Rattle.nv_core.specs.state.Cleaner as cleaner
 use Rattle.nv_core.specs.state.Core.{Core}
 use Rattle.nv_core.specs.state.Passes.{Idle, Cleaning, Pass, times}
-use Rattle.nv_core.specs.steps.CleanerSteps.{after_cleaner_op, group_file, holds_store, last_taken, new_batch, next_cleaner_op}
+use Rattle.nv_core.specs.steps.CleanerSteps.{after_cleaner_op, cleaner_word, group_file, holds_store, last_taken, new_batch, next_cleaner_op}
 use Rattle.nv_core.specs.steps.ControlSteps.{after_by_cleaner}
 use Rattle.nv_core.specs.steps.Ops.{ByCleaner as CleanerStep, Comes, Stays, cleaner_move, moved}
 use Rattle.nv_core.specs.steps.Order.{Values, Work}
 use Rattle.nv_core.specs.steps.Opening.{IsMount}
+use Rattle.nv_core.specs.steps.Frames.{OwnEventsTell}
 use Rattle.nv_core.specs.invariant.InvariantLaws.{RunsAreSound}
 use Rattle.nv_core.specs.invariant.Ownership.{HoldsLocks}
 use Rattle.nv_core.specs.invariant.Sound.{Sound}
@@ -24,13 +25,15 @@ use Rattle.nv_table.specs.steps.CallSteps.{DueStepsStand, Precondition}
 use Rattle.nv_table.specs.steps.SeatSteps.{AreDue, pass_worked}
 use Rattle.nv_table.specs.steps.StepContracts.{Postcondition}
 use Rattle.nv_table.proofs.steps.CallLaws.{IsCallFree}
+use Rattle.nv_table.proofs.invariant.StepAt.{IsMadeAt, made_at}
 use Rattle.nv_mirror.proofs.StepLaws.{between_self, opened_same}
 use Rattle.nv_clean.specs.declared.batch.CleanControl.{CleanControl}
 use Rattle.nv_clean.specs.declared.batch.CleanControl.TheVariants as cleans
-use Rattle.nv_clean.specs.Cleaning.{AreApart, CleanState, Fits, FitsAt, InBatch, IsBegun, IsPlain, IsUnderWay, OwnsAt, calls_refusal, control_at, control_of, files_then, inner_at}
+use Rattle.nv_clean.specs.Cleaning.{AreApart, CleanState, Fits, FitsAt, InBatch, IsBegun, IsEnd, IsPlain, IsUnderWay, OwnsAt, calls_refusal, control_at, control_of, files_then, inner_at}
 use Rattle.nv_clean.specs.OwnedCells.{TakesCell}
 use Rattle.nv_clean.proofs.BatchLaws.{begins_on, no_works, idle_free, step_due, made_one, own_next, goes_on}
-use Rattle.nv_clean.specs.CleanSteps.{HasMadeOne, first_refusal, kind_at, refusal_at, refusal_then}
+use Rattle.nv_clean.specs.CleanSteps.{HasMadeOne, clean_kind, first_refusal, kind_at, refusal_at}
+use Rattle.nv_op.specs.declared.kinds.Kind.TheVariants.{Take}
 use Rattle.nv_clean.specs.declared.batch.CleanRefusal.TheVariants.{Busy}
 use Rattle.nv_clean.proofs.CleanStepLaws.{has_made, next_kind_is}
 use Rattle.nv_clean.proofs.FactLaws.{fits_at, owns_at, stores_there}
@@ -204,10 +207,17 @@ module _ (sound : RunsAreSound) (now : PassState) (mount : IsMount (mount_of now
       plain_works = no_works sizes (values_of now.view) (pass_of now.view) step.works (subst IsCallFree (sym way.called.control_is) (plain_free sizes m.batch m.control plain)) step.due
 
       -- what its step tells
-      pub plain_one : (s : Sizes) → s ≡ sizes → (then_is : CleanState) → then_is.refusal ≡ refusal_at s m.batch m.refusal m.control found → HasMadeOne s m then_is now new
+      pub plain_one : (s : Sizes) → s ≡ sizes → (then_is : CleanState) → then_is.refusal ≡ refusal_at s m.batch m.refusal m.control found → (IsEnd m.control → then_is.batch ≡ m.batch) → HasMadeOne s m then_is now new
       plain_one s same then_is refusal =
-          has_made s m then_is now new _ (made_one (control_of sizes m) m.owned start now way.called now (between_self now) op found new step) (λ well. next_kind_is sizes m.owned m.batch m.control plain op next)
-          (refusal ∙ ap (λ calls. refusal_then s m calls found) (sym (ap calls_refusal plain_works)))
+          has_made s m then_is now new (clean_kind m) None record {
+            step = _;
+            taken = made_one (control_of sizes m) m.owned start now way.called now (between_self now) op found new step;
+            opens = refl;
+            op = op;
+            op_is = refl;
+            kind_is = next_kind_is sizes m.owned m.batch m.control plain op next;
+            refused = ap calls_refusal plain_works;
+          } (λ well. refl) refusal (λ is. absurd (subst IsPlain is plain))
 
       plain_stands : (pass_worked sizes step.works (pass_of now.view)).control ≡ Cleaning m.batch inner
       plain_stands = ap (λ works. (pass_worked sizes works (pass_of now.view)).control) plain_works ∙ way.called.control_is ∙ plain_at sizes m.batch m.control plain
@@ -274,6 +284,20 @@ module _ (sound : RunsAreSound) (now : PassState) (mount : IsMount (mount_of now
               subst (λ f. f < sizes.files) (eqb-true (group_file sizes m.batch) file is) fits.1
           there file false is one = stores_there sizes (mount_of now.view.opened).values core now.view.number core_sound m.batch cleaner.TakeStore stands tt file one
 
+      -- HEAD is found no further from its numbers than the log is long
+      pub head_near : OwnEventsTell → m.control ≡ cleans.LoadHead → found ≤ m.batch.reached + sizes.entries
+      head_near tell at =
+          let made : IsMadeAt now.view step.steps.run step.works None (CleanerStep op) found = made_at sound tell now.view new.view step.works None (CleanerStep op) found mount step.steps in
+          let stands : (made.core.passes now.view.number).control ≡ Cleaning m.batch cleaner.LoadHead =
+          ap (λ (p : Pass). p.control) made.own ∙ plain_stands ∙ ap (λ control. Cleaning m.batch (inner_at sizes m.batch control)) at in
+          let loads : op ≡ cleaner.Load HEAD = cleaner_op_is (cleaner.Load HEAD) op (sym (ap (λ control. next_cleaner_op sizes m.owned m.batch (inner_at sizes m.batch control)) at) ∙ next) in
+          let head : made.core.words HEAD ≡ found = ap (λ o. made.core.words (cleaner_word sizes o)) (sym loads) ∙ made.may.is in
+          let goes = made.sound.grouped.progress.each now.view.number m.batch cleaner.LoadHead stands tt in
+          let room = made.sound.window.room in
+          let tail = goes.tail in
+          let low = goes.low in
+          omega (arith, head, room, tail, low)
+
       -- and they stay apart
       pub files_apart : AreApart (files_then sizes m.batch m.control found)
       files_apart = apart_then sizes m.batch m.control found way.apart (λ at none. store_free at none (taken_store at))
@@ -319,8 +343,15 @@ module _ (now : PassState) (m : CleanState) (at : m.control ≡ cleans.Begin) (s
 
   begin_one : (sizes : Sizes) (then_is : CleanState) → then_is.refusal ≡ refusal_at sizes m.batch m.refusal cleans.Begin found → HasMadeOne sizes m then_is now new
   begin_one sizes then_is refusal =
-      has_made sizes m then_is now new _ (made_one _ m.owned start now way.called now (between_self now) (TakeCleaner m.batch.most) found new step) (λ well. sym (ap (kind_at m.batch) at))
-      (refusal ∙ ap (λ control. refusal_at sizes m.batch m.refusal control found) (sym at) ∙ ap (λ calls. refusal_then sizes m calls found) (sym (ap calls_refusal begin_works)))
+      has_made sizes m then_is now new Take None record {
+        step = _;
+        taken = made_one _ m.owned start now way.called now (between_self now) (TakeCleaner m.batch.most) found new step;
+        opens = refl;
+        op = TakeCleaner m.batch.most;
+        op_is = refl;
+        kind_is = refl;
+        refused = ap calls_refusal begin_works;
+      } (λ well. sym (ap (kind_at m.batch) at)) (refusal ∙ ap (λ control. refusal_at sizes m.batch m.refusal control found) (sym at)) (λ is. refl) (λ is. absurd (subst IsEnd at is))
 
   pub one_free : found ≡ 0 → (sizes : Sizes) (then_is : CleanState) → then_is.refusal ≡ m.refusal → (was : CleanState) → m ≡ was → HasMadeOne sizes was then_is now new
   one_free none sizes then_is refusal was same =

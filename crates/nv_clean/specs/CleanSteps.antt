@@ -1,7 +1,8 @@
 -- Clean steps: what a batch does next and what has come of it so far, and what one step of it is.
 use Rattle.std.specs.Prelude.{◌≡◌, ℕ, ◌+◌, ◌==◌, nat_lt, Bool, true, false, not, ◌&&◌, ◌||◌, if◌then◌else◌, length, Option, Some, None}
 use Rattle.nv_core.specs.state.Words.{Sizes, CLEANER, HEADER, STORE, CLEANUP, place}
-use Rattle.nv_core.specs.state.Cleaner.{Batch}
+use Rattle.nv_core.specs.state.Cleaner.{Batch, CleanerOp, TakeCleaner}
+use Rattle.nv_core.specs.steps.Ops.{ByCleaner}
 use Rattle.nv_core.specs.steps.CleanerSteps.{group_file, group_page, may_pass}
 use Rattle.nv_table.specs.state.States.{PassState}
 use Rattle.nv_op.specs.declared.kinds.Kind.{Kind}
@@ -12,7 +13,7 @@ use Rattle.nv_clean.specs.declared.batch.CleanControl.{CleanControl}
 use Rattle.nv_clean.specs.declared.batch.CleanControl.TheVariants as cleans
 use Rattle.nv_clean.specs.declared.batch.CleanRefusal.{CleanRefusal}
 use Rattle.nv_clean.specs.declared.batch.CleanRefusal.TheVariants.{Idle, Busy, Stopped, RegionFault, StoreFault}
-use Rattle.nv_clean.specs.Cleaning.{CleanState, calls_refusal}
+use Rattle.nv_clean.specs.Cleaning.{CleanState, IsEnd, calls_refusal}
 
 -- ---- what comes next
 
@@ -82,18 +83,27 @@ refusal_then sizes m (Some refusal) found = first_refusal m.batch m.refusal refu
 
 -- ---- a step
 
--- Its pass has made one step, behind the device calls that lie before it. It was of the kind that was said, where each of these has ended well. Why it cleaned nothing, if
--- it did, follows from what the step found, and from how those calls ended; and a device has failed where one had before, or at one of them.
+-- Its pass has made one step, behind the device calls that lie before it: the take of CLEANER, where it had made none. It was of the kind that was said, where each of
+-- these calls has ended well. Why it cleaned nothing, if it did, follows from what the step found, and from how those calls ended; and a device has failed where one had
+-- before, or at one of them. What it has cleaned is told to its end.
 pub record HasMadeOne (sizes : Sizes) (m next : CleanState) (old new : PassState) : Type 0 where
   pub step : PassStep
   pub taken : HasTaken step old new
+  pub opens : step.opens ≡ None
+  pub op : CleanerOp
+  pub op_is : step.op ≡ ByCleaner op
+  pub begins : m.control ≡ cleans.Begin → op ≡ TakeCleaner m.batch.most
   pub kind : calls_refusal step.works ≡ None → kind_of_op step.op ≡ clean_kind m
   pub refusal : next.refusal ≡ refusal_then sizes m (calls_refusal step.works) step.found
   pub fault : is_fault next.refusal ≡ (is_fault m.refusal || is_fault (calls_refusal step.works))
+  pub ends : IsEnd m.control → next.batch ≡ m.batch
 
 -- It has made a step of this kind, behind device calls that ended so.
 pub record HasSteppedBehind (kind : Kind) (refusal : Option CleanRefusal) (was now : PassState) : Type 0 where
   pub step : PassStep
   pub taken : HasTaken step was now
+  pub opens : step.opens ≡ None
+  pub op : CleanerOp
+  pub op_is : step.op ≡ ByCleaner op
   pub kind_is : kind_of_op step.op ≡ kind
   pub refused : calls_refusal step.works ≡ refusal

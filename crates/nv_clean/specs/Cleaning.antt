@@ -164,7 +164,13 @@ IsPlain cleans.Retire = ⊥
 IsPlain cleans.Over = ⊥
 IsPlain control = Unit {0}
 
--- one that may come behind device calls
+-- device calls come before the next step
+abbrev pub CallsDevices : CleanControl → Type 0
+CallsDevices (cleans.WriteBack at) = Unit {0}
+CallsDevices cleans.Retire = Unit {0}
+CallsDevices control = ⊥
+
+-- a step that may come behind them
 abbrev pub ComesBehind : CleanControl → Type 0
 ComesBehind (cleans.HoldEntry at) = Unit {0}
 ComesBehind (cleans.CleanEntry at) = Unit {0}
@@ -286,6 +292,12 @@ pub record HasReadPiece (m : CleanState) (at offset : ℕ) (bytes : List ℕ) (s
   pub there : group_file was.view.opened.sizes m.batch < was.view.opened.sizes.files
   pub once : times (STORE (group_file was.view.opened.sizes m.batch)) m.owned ≡ 1
   pub store : IsStore (values_before was.view behind.works (STORE (group_file was.view.opened.sizes m.batch)))
+
+-- So many entries of its group are held: the numbers of the group, and room for the next one.
+pub record IsGroupHeld (m : CleanState) (held : ℕ) : Type 0 where
+  pub within : held ≤ length m.batch.pages
+  pub places : (i : ℕ) → i < length m.batch.pages → IsPlace m.batch i
+  pub room : held < length m.batch.pages → length m.owned < 50
 
 -- where it stands behind the write, by its answer, and why that was not well, if it wasn't
 abbrev pub written_at : Batch → (at : ℕ) → Result (Unit {0}) StoreError → Control

@@ -2,3 +2,4 @@ pub mod OwnSteps
 pub mod OwnedCells
 pub mod Cleaning
 pub mod CleanSteps
+pub mod Measures

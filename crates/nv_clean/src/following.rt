@@ -19,7 +19,7 @@ impl CleanMachine {
         ensures control { (sizes : Sizes) → control_of sizes self.new ≡ withdrawing self.old.owned self.old.batch }
         ensures begun { IsBegun self.new.control }
         ensures owned { self.new.owned ≡ self.old.owned }
-        ensures files { self.new.batch.files ≡ self.old.batch.files }
+        ensures batch { self.new.batch ≡ self.old.batch }
         ensures refusal { self.new.refusal ≡ self.old.refusal }
     {
         self.control = if self.owned.is_empty() {
@@ -178,7 +178,7 @@ impl CleanMachine {
         ensures control { control_of (sizes_of layout) self.new ≡ discharging self.old.batch (files_from (sizes_of layout) self.old.batch from) }
         ensures begun { IsBegun self.new.control }
         ensures owned { self.new.owned ≡ self.old.owned }
-        ensures files { self.new.batch.files ≡ self.old.batch.files }
+        ensures batch { self.new.batch ≡ self.old.batch }
         ensures refusal { self.new.refusal ≡ self.old.refusal }
     {
         let next = self.next_store(layout, from);
@@ -330,7 +330,7 @@ impl CleanMachine {
         ensures control { (found : ℕ) → control_of (sizes_of layout) self.new ≡ after_cleaner_op (sizes_of layout) self.old.owned self.old.batch (inner_at (sizes_of layout) self.old.batch self.old.control) found }
         ensures begun { IsBegun self.new.control }
         ensures owned { self.new.owned ≡ self.old.owned }
-        ensures files { self.new.batch.files ≡ self.old.batch.files }
+        ensures batch { self.new.batch ≡ self.old.batch }
         ensures refusal { self.new.refusal ≡ self.old.refusal }
     {
         match self.control {
@@ -357,6 +357,7 @@ impl CleanMachine {
         ensures begun { IsBegun self.new.control }
         ensures owned { self.new.owned ≡ self.old.owned }
         ensures files { self.new.batch.files ≡ files_then (sizes_of layout) self.old.batch self.old.control found }
+        ensures ends { IsEnd self.old.control → self.new.batch ≡ self.old.batch }
         ensures refusal { self.new.refusal ≡ refusal_at (sizes_of layout) self.old.batch self.old.refusal self.old.control found }
     {
         match self.control {

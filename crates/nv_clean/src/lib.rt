@@ -8,6 +8,7 @@ mod machine;
 mod next;
 mod owned;
 mod telling;
+mod writing;
 
 pub use batch::{CleanControl, CleanMachine, CleanRefusal};
 pub use owned::{Cell, MOST_CELLS, OwnedCells};

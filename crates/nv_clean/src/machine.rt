@@ -1,31 +1,30 @@
 //! The steps of a batch.
-ghost use Rattle.std.specs.Prelude.{◌≡◌, ◌+◌, ◌<◌, ◌≤◌, length, take, IfOk, OnErr, Some};
+ghost use Rattle.std.specs.Prelude.{◌≡◌, ◌+◌, ◌<◌, length, Some};
 ghost use Rattle.nv_core.specs.state.Cleaner as cleaner;
 ghost use Rattle.nv_core.specs.state.Passes.{Cleaning};
 ghost use Rattle.nv_table.specs.state.States.{IsOf, PassState};
 ghost use Rattle.nv_op.specs.declared.kinds.Kind.TheVariants.{Stop};
 ghost use Rattle.nv_clean.specs.declared.batch.CleanControl.TheVariants as cleans;
-ghost use Rattle.nv_clean.specs.declared.batch.CleanRefusal.TheVariants as refusals;
 ghost use Rattle.nv_clean.specs.CleanSteps.{HasMadeOne, HasSteppedBehind, clean_kind};
-ghost use Rattle.nv_clean.specs.Cleaning.{ComesBehind, HasReadPiece, Fits, IsAfterCalls, IsBehind, IsPlain, IsUnderWay, OwnsAt, SaysStands, control_of, refusal_behind, write_refusal, written_at};
+ghost use Rattle.nv_clean.specs.Measures.{clean_measure};
+ghost use Rattle.nv_clean.specs.Cleaning.{ComesBehind, Fits, IsAfterCalls, IsBehind, IsPlain, IsUnderWay, OwnsAt, SaysStands, control_of, refusal_behind};
 
 use crate::{CleanControl, CleanMachine, CleanRefusal};
-use nv_core::{cells_keep_their_shapes, ready_pieces_fit, runs_are_sound};
-use nv_entry::RegionFault;
+use nv_core::{passes_are_left_alone, runs_are_sound};
 use nv_op::{CleanerOp, Op, perform, perform_after};
-use nv_pages::{Piece, read_entry, write_store};
 use nv_pmem::Lines;
-use nv_store::{Backing, StoreError};
+use nv_store::Backing;
 use nv_table::{Board, CLEANER, Pass, Says};
 
 impl CleanMachine {
     // Takes CLEANER, with which a batch begins.
-    fn begin<L: Lines, B: Backing>(&mut self, board: &Board<L, B>, pass: &mut Pass<L, B>)
+    pub(crate) fn begin<L: Lines, B: Backing>(&mut self, board: &Board<L, B>, pass: &mut Pass<L, B>)
         requires board { IsOf board.now pass.old }
         requires at { self.old.control ≡ cleans.Begin }
         requires way { (start : PassState) × IsUnderWay self.old start pass.old }
         ensures board { IsOf board.now pass.new }
         ensures one { HasMadeOne board.now.opened.sizes self.old self.new pass.old pass.new }
+        ensures falls { clean_measure board.now.opened.sizes self.new < clean_measure board.now.opened.sizes self.old }
         ensures way { (start : PassState) → IsUnderWay self.old start pass.old → IsUnderWay self.new start pass.new }
     {
         let layout = board.layout();
@@ -41,15 +40,17 @@ impl CleanMachine {
     }
 
     // Makes the next step, where no device call comes before it.
-    fn step<L: Lines, B: Backing>(&mut self, board: &Board<L, B>, pass: &mut Pass<L, B>)
+    pub(crate) fn step<L: Lines, B: Backing>(&mut self, board: &Board<L, B>, pass: &mut Pass<L, B>)
         requires board { IsOf board.now pass.old }
         requires plain { IsPlain self.old.control }
         requires way { (start : PassState) × IsUnderWay self.old start pass.old }
         ensures board { IsOf board.now pass.new }
         ensures one { HasMadeOne board.now.opened.sizes self.old self.new pass.old pass.new }
+        ensures falls { clean_measure board.now.opened.sizes self.new < clean_measure board.now.opened.sizes self.old }
         ensures way { (start : PassState) → IsUnderWay self.old start pass.old → IsUnderWay self.new start pass.new }
     {
         runs_are_sound();
+        passes_are_left_alone();
         pass.sees_a_run();
         pass.due_steps_stand();
         let layout = board.layout();
@@ -60,7 +61,7 @@ impl CleanMachine {
     }
 
     // Makes the next step, behind some device calls.
-    fn step_behind<W: Says, L: Lines, B: Backing>(
+    pub(crate) fn step_behind<W: Says, L: Lines, B: Backing>(
         &mut self,
         board: &Board<L, B>,
         pass: &mut Pass<L, B>,
@@ -74,6 +75,7 @@ impl CleanMachine {
         ensures board { IsOf board.now pass.new }
         ensures one { (start was : PassState) → IsAfterCalls self.old start was pass.old → HasSteppedBehind (clean_kind self.old) (refusal_behind self.old.control) was pass.new }
         ensures refusal { self.new.refusal ≡ self.old.refusal }
+        ensures falls { clean_measure board.now.opened.sizes self.new < clean_measure board.now.opened.sizes self.old }
         ensures way { (start was : PassState) → IsAfterCalls self.old start was pass.old → IsUnderWay self.new start pass.new }
     {
         let layout = board.layout();
@@ -84,7 +86,7 @@ impl CleanMachine {
     }
 
     // Sets STOP, where one of the device calls before it has failed, with so many entries of the group held. What is held is given back then.
-    fn stop_behind<W: Says, L: Lines, B: Backing>(
+    pub(crate) fn stop_behind<W: Says, L: Lines, B: Backing>(
         &mut self,
         board: &Board<L, B>,
         pass: &mut Pass<L, B>,
@@ -97,6 +99,7 @@ impl CleanMachine {
         ensures board { IsOf board.now pass.new }
         ensures one { (start was : PassState) → IsBehind (Cleaning self.old.batch (cleaner.SetStop held)) (Some refusal) self.old start was pass.old → HasSteppedBehind Stop (Some refusal) was pass.new }
         ensures refusal { self.new.refusal ≡ Some refusal }
+        ensures falls { clean_measure board.now.opened.sizes self.new < length self.old.owned + held + 2 }
         ensures way { (start was : PassState) → IsBehind (Cleaning self.old.batch (cleaner.SetStop held)) (Some refusal) self.old start was pass.old → IsUnderWay self.new start pass.new }
     {
         perform_after::<W, L, B>(board, pass, Op::ByCleaner(CleanerOp::Stop));
@@ -106,53 +109,5 @@ impl CleanMachine {
         } else {
             self.control = CleanControl::ReturnFailed { at: 0, end: held };
         }
-    }
-
-    // Reads the piece of an entry of the group at hand.
-    fn read_piece<L: Lines, B: Backing>(
-        &self,
-        board: &Board<L, B>,
-        pass: &mut Pass<L, B>,
-        piece: &mut [u8],
-        at: u64,
-    ) -> Result<Piece, RegionFault>
-        requires board { IsOf board.now pass.old }
-        requires at { self.now.control ≡ cleans.WriteBack at }
-        requires page { length piece.old ≡ board.now.opened.sizes.page }
-        requires way { (start : PassState) × IsUnderWay self.now start pass.old }
-        ensures board { IsOf board.now pass.new }
-        ensures length { IfOk result (λ read. read.size ≤ length piece.new) }
-        ensures read { IfOk result (λ read. (start : PassState) → IsUnderWay self.now start pass.old → HasReadPiece self.now at read.at (take read.size piece.new) start pass.old pass.new) }
-        ensures failed { OnErr result ((start : PassState) → IsUnderWay self.now start pass.old → IsBehind (Cleaning self.now.batch (cleaner.SetStop (at + 1))) (Some refusals.RegionFault) self.now start pass.old pass.new) }
-    {
-        runs_are_sound();
-        ready_pieces_fit();
-        cells_keep_their_shapes();
-        board.keeps_stores_and_buffers();
-        pass.sees_a_run();
-        pass.due_steps_stand();
-        let layout = board.layout();
-        // Only the clauses speak of it.
-        let _ = layout;
-        read_entry(board, pass, self.reached + at, piece)
-    }
-
-    // And writes it to the store of the group's file.
-    fn write_piece<L: Lines, B: Backing>(
-        &self,
-        board: &Board<L, B>,
-        pass: &mut Pass<L, B>,
-        at: u64,
-        offset: u64,
-        bytes: &[u8],
-    ) -> Result<(), StoreError>
-        requires board { IsOf board.now pass.old }
-        requires some { 0 < length self.now.batch.pages }
-        requires read { (start : PassState) × (was : PassState) × HasReadPiece self.now at offset bytes.now start was pass.old }
-        ensures board { IsOf board.now pass.new }
-        ensures written { (start was : PassState) → HasReadPiece self.now at offset bytes.now start was pass.old → IsBehind (written_at self.now.batch at result) (write_refusal result) self.now start was pass.new }
-    {
-        let layout = board.layout();
-        write_store(board, pass, self.file(layout), offset, bytes)
     }
 }

@@ -7,9 +7,13 @@ use Rattle.nv_op.specs.CleanerOps.{core_cleaner_op}
 use Rattle.nv_table.specs.state.Keys.{sizes_of}
 use Rattle.nv_table.specs.state.Opened.{Opened}
 use Rattle.nv_clean.specs.declared.batch.CleanControl.TheVariants as cleans
-use Rattle.nv_clean.specs.Cleaning.{CleanState, Fits, IsPlain, IsUnderWay, inner_at}
+use Rattle.nv_clean.specs.Cleaning.{CleanState, Fits, IsEnd, IsPlain, IsUnderWay, inner_at}
 use Rattle.nv_clean.specs.CleanSteps.{HasMadeOne, refusal_at}
-use Rattle.nv_clean.proofs.StepLaws.{plain_fits, plain_one, owns_fits, takes_room, store_room, way_then}
+use Rattle.nv_core.specs.steps.CleanerSteps.{after_cleaner_op}
+use Rattle.nv_core.specs.steps.Ops.{cleaner_move, moved}
+use Rattle.nv_clean.specs.Measures.{clean_measure}
+use Rattle.nv_clean.proofs.MeasureLaws.{IsNear, step_falls}
+use Rattle.nv_clean.proofs.StepLaws.{head_near, plain_fits, plain_one, owns_fits, takes_room, store_room, way_then}
 use Rattle.nv_clean.proofs.batch.CleanMachine.step.Goals as goal
 
 pub next-op-requires-clause-fits : goal.next-op-requires-clause-fits
@@ -57,7 +61,24 @@ returns-clause-one g c =
     (core_cleaner_op c.next-op.result) c.perform-found.result c.perform-found.new.pass c.perform-found.ensures.stepped
     (subst (λ (s : Sizes). next_cleaner_op s c.args.self.now.owned c.args.self.now.batch (inner_at s c.args.self.now.batch c.args.self.now.control) ≡ Some (core_cleaner_op c.next-op.result)) same c.next-op.ensures.next)
     (sizes_of c.layout-layout.result) same c.follow-2.new.self
-    (c.follow-2.ensures.refusal ∙ ap (λ (m : CleanState). refusal_at (sizes_of c.layout-layout.result) m.batch m.refusal m.control c.perform-found.result) c.self.view_is))
+    (c.follow-2.ensures.refusal ∙ ap (λ (m : CleanState). refusal_at (sizes_of c.layout-layout.result) m.batch m.refusal m.control c.perform-found.result) c.self.view_is)
+    (λ is. c.follow-2.ensures.ends (subst (λ (m : CleanState). IsEnd m.control) (sym c.self.view_is) is) ∙ ap (λ (m : CleanState). m.batch) c.self.view_is))
+
+pub returns-clause-falls : goal.returns-clause-falls
+returns-clause-falls g c =
+    let m = c.args.self.now in
+    let sizes = sizes_of c.layout-layout.result in
+    let op = core_cleaner_op c.next-op.result in
+    let found = c.perform-found.result in
+    let same = c.layout-layout.ensures ∙ sym (ap (λ (o : Opened). o.sizes) c.requires.board.same_mount) in
+    let next = subst (λ (s : Sizes). next_cleaner_op s m.owned m.batch (inner_at s m.batch m.control) ≡ Some op) same c.next-op.ensures.next in
+    subst (λ (s : Sizes). clean_measure s c.follow-2.new.self < clean_measure s m) c.layout-layout.ensures
+    (step_falls sizes m c.follow-2.new.self op found c.follow.new.self c.requires.plain
+    (subst (λ (s : Sizes). Fits s m) (sym same) (plain_fits c.runs_are_sound.ensures.runs c.args.pass.now c.sees_a_run.ensures.mount c.sees_a_run.ensures.run c.due_steps_stand.ensures m c.requires.way.0 c.requires.way.1 c.requires.plain))
+    (subst (λ (s : Sizes). IsNear s m.batch m.control found) (sym same)
+    (head_near c.runs_are_sound.ensures.runs c.args.pass.now c.sees_a_run.ensures.mount c.sees_a_run.ensures.run c.due_steps_stand.ensures m c.requires.way.0 c.requires.way.1 c.requires.plain op found c.perform-found.new.pass c.perform-found.ensures.stepped next c.passes_are_left_alone.ensures.own))
+    c.next-op.ensures.next (c.follow.ensures ∙ ap (λ (m : CleanState). moved (cleaner_move sizes op found) m.owned) c.self.view_is) c.follow-2.ensures.owned c.follow-2.ensures.begun
+    (c.follow-2.ensures.control ∙ ap (λ (m : CleanState). after_cleaner_op sizes c.follow.new.self m.batch (inner_at sizes m.batch m.control) found) c.self.view_is))
 
 pub returns-clause-way : goal.returns-clause-way
 returns-clause-way g c start way =

@@ -1,14 +1,18 @@
 -- The step is the core's, behind these calls.
-use Rattle.std.proofs.Common.{◌≡◌, ◌∙◌, sym, ap, subst}
+use Rattle.std.proofs.Common.{◌≡◌, ◌<◌, ◌∙◌, sym, ap, subst}
 use Rattle.std.specs.Prelude.{Some}
 use Rattle.nv_core.specs.state.Words.{Sizes}
 use Rattle.nv_core.specs.steps.CleanerSteps.{next_cleaner_op}
 use Rattle.nv_op.specs.CleanerOps.{core_cleaner_op}
 use Rattle.nv_table.specs.state.Keys.{sizes_of}
 use Rattle.nv_table.specs.state.Opened.{Opened}
-use Rattle.nv_clean.specs.Cleaning.{CleanState, ComesBehind, IsAfterCalls, SaysStands, control_of, inner_at, refusal_behind}
+use Rattle.nv_clean.specs.Cleaning.{CleanState, ComesBehind, Fits, IsAfterCalls, SaysStands, control_of, inner_at, refusal_behind}
 use Rattle.nv_clean.specs.CleanSteps.{clean_kind, refusal_at}
 use Rattle.nv_clean.proofs.CleanStepLaws.{behind_silent, next_kind_is}
+use Rattle.nv_core.specs.steps.CleanerSteps.{after_cleaner_op}
+use Rattle.nv_core.specs.steps.Ops.{cleaner_move, moved}
+use Rattle.nv_clean.specs.Measures.{clean_measure}
+use Rattle.nv_clean.proofs.MeasureLaws.{step_falls}
 use Rattle.nv_clean.proofs.BehindLaws.{after_due, after_made, after_then, comes_plain}
 use Rattle.nv_clean.proofs.batch.CleanMachine.step_behind.Goals as goal
 
@@ -30,6 +34,19 @@ returns-clause-refusal g c =
     let m = c.args.self.now in
     c.follow-2.ensures.refusal ∙ ap (λ (m : CleanState). refusal_at (sizes_of c.layout-layout.result) m.batch m.refusal m.control c.perform_after-found.result) c.self.view_is
     ∙ behind_silent (sizes_of c.layout-layout.result) m.batch m.refusal m.control c.perform_after-found.result c.requires.behind
+
+pub returns-clause-falls : goal.returns-clause-falls
+returns-clause-falls g c =
+    let m = c.args.self.now in
+    let sizes = sizes_of c.layout-layout.result in
+    let op = core_cleaner_op c.next-op.result in
+    let found = c.perform_after-found.result in
+    let same = c.layout-layout.ensures ∙ sym (ap (λ (o : Opened). o.sizes) c.requires.board.same_mount) in
+    subst (λ (s : Sizes). clean_measure s c.follow-2.new.self < clean_measure s m) c.layout-layout.ensures
+    (step_falls sizes m c.follow-2.new.self op found c.follow.new.self (comes_plain m.control c.requires.behind)
+    (subst (λ (s : Sizes). Fits s m) (sym same) c.requires.fits) (λ at. absurd (subst ComesBehind at c.requires.behind))
+    c.next-op.ensures.next (c.follow.ensures ∙ ap (λ (m : CleanState). moved (cleaner_move sizes op found) m.owned) c.self.view_is) c.follow-2.ensures.owned c.follow-2.ensures.begun
+    (c.follow-2.ensures.control ∙ ap (λ (m : CleanState). after_cleaner_op sizes c.follow.new.self m.batch (inner_at sizes m.batch m.control) found) c.self.view_is))
 
 pub returns-clause-way : goal.returns-clause-way
 returns-clause-way g c start was behind =
