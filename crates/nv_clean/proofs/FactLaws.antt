@@ -58,7 +58,7 @@ module _ (sizes : Sizes) (first : Values) (core : Core) (by : ℕ) (sound : Soun
 
   -- ---- its numbers
 
-  retires : (files : List ℕ) → (core.passes by).control ≡ syncing batch files → IsLow batch × (batch.tail < batch.reached)
+  pub retires : (files : List ℕ) → (core.passes by).control ≡ syncing batch files → IsLow batch × (batch.tail < batch.reached)
   retires [] at = (low (cleaner.MoveHeaderTail 0) at tt, (facts (cleaner.MoveHeaderTail 0) at).1)
   retires (file ∷ rest) at = (low (cleaner.SyncStores (file ∷ rest)) at tt, (facts (cleaner.SyncStores (file ∷ rest)) at).1)
 

@@ -6,6 +6,7 @@ mod FileLaws
 mod MeasureLaws
 mod OwnedLaws
 mod PieceLaws
+mod RetireLaws
 mod RoomLaws
 mod StepLaws
 mod WriteLaws

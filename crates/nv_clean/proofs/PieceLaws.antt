@@ -56,11 +56,11 @@ if_err (Err error) is then_so = then_so is
 
 -- ---- a slot of a cell that a pass owns
 
-slot_once : (sizes : Sizes) (kept : Values) (cells : List Word) (slots : List (ℕ × Value)) (cell : Word) (slot : ℕ) → OwnsSlots sizes (λ value. value) kept cells slots → slot < slot_total sizes → cell_of sizes slot ≡ cell → times cell cells ≡ 1
+pub slot_once : (sizes : Sizes) (kept : Values) (cells : List Word) (slots : List (ℕ × Value)) (cell : Word) (slot : ℕ) → OwnsSlots sizes (λ value. value) kept cells slots → slot < slot_total sizes → cell_of sizes slot ≡ cell → times cell cells ≡ 1
     → slot_times slot slots ≡ 1
 slot_once sizes kept cells slots cell slot owns low is once = owns.each slot low ∙ ap (λ c. times c cells) is ∙ once
 
-slot_keeps : (sizes : Sizes) (kept : Values) (cells : List Word) (slots : List (ℕ × Value)) (cell : Word) (slot : ℕ) → OwnsSlots sizes (λ value. value) kept cells slots → cell_of sizes slot ≡ cell → (value : Value) → IsOneOf slots (slot, value)
+pub slot_keeps : (sizes : Sizes) (kept : Values) (cells : List Word) (slots : List (ℕ × Value)) (cell : Word) (slot : ℕ) → OwnsSlots sizes (λ value. value) kept cells slots → cell_of sizes slot ≡ cell → (value : Value) → IsOneOf slots (slot, value)
     → value ≡ kept cell
 slot_keeps sizes kept cells slots cell slot owns is value one = owns.shows slot value one ∙ ap kept is
 
@@ -118,7 +118,7 @@ some_piece sizes (APart device spares) ready = go device.told refl
     }
 some_piece sizes value ready = absurd ready
 
-store_by : (page : ℕ) (first now : Value) → IsStore first → HasShape page first now → IsStore now
+pub store_by : (page : ℕ) (first now : Value) → IsStore first → HasShape page first now → IsStore now
 store_by page (AStore one) (AStore other) store shape = tt
 store_by page (AStore one) now store shape = absurd shape
 store_by page first now store shape = absurd store

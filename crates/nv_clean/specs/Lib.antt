@@ -3,3 +3,4 @@ pub mod OwnedCells
 pub mod Cleaning
 pub mod CleanSteps
 pub mod Measures
+pub mod Retiring

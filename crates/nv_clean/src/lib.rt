@@ -7,6 +7,7 @@ mod following;
 mod machine;
 mod next;
 mod owned;
+mod retiring;
 mod telling;
 mod writing;
 
