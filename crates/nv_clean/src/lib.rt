@@ -2,6 +2,7 @@
 //! functions of its batch and of the cells that its pass owns (`next_cleaner_op`, `after_cleaner_op`), and no step is said twice.
 #![tactic(auto)]
 
+mod advancing;
 mod batch;
 mod following;
 mod machine;

@@ -1,0 +1,38 @@
+//! An advance of a batch: its next step, after the device calls that lie before it.
+ghost use Rattle.std.specs.Prelude.{◌≡◌, ◌<◌, length};
+ghost use Rattle.nv_table.specs.state.States.{IsOf, PassState};
+ghost use Rattle.nv_clean.specs.CleanSteps.{HasMadeOne};
+ghost use Rattle.nv_clean.specs.Cleaning.{IsOpen, IsUnderWay};
+ghost use Rattle.nv_clean.specs.Measures.{clean_measure};
+
+use crate::{CleanControl, CleanMachine};
+use nv_pmem::Lines;
+use nv_store::Backing;
+use nv_table::{Board, Pass};
+
+impl CleanMachine {
+    /// Makes the next step, after the device calls that lie before it. The piece of an entry that is written back lies in `piece` meanwhile, which is as long as a page.
+    pub fn advance<L: Lines, B: Backing>(
+        &mut self,
+        board: &Board<L, B>,
+        pass: &mut Pass<L, B>,
+        piece: &mut [u8],
+    )
+        requires board { IsOf board.now pass.old }
+        requires open { IsOpen self.old.control }
+        requires page { length piece.old ≡ board.now.opened.sizes.page }
+        requires way { (start : PassState) × IsUnderWay self.old start pass.old }
+        ensures board { IsOf board.now pass.new }
+        ensures one { HasMadeOne board.now.opened.sizes self.old self.new pass.old pass.new }
+        ensures falls { clean_measure board.now.opened.sizes self.new < clean_measure board.now.opened.sizes self.old }
+        ensures way { (start : PassState) → IsUnderWay self.old start pass.old → IsUnderWay self.new start pass.new }
+    {
+        match self.control {
+            CleanControl::Begin => self.begin(board, pass),
+            CleanControl::WriteBack { at } => self.write_back(board, pass, piece, at),
+            CleanControl::Retire => self.retire(board, pass),
+            CleanControl::Over => unreachable!(),
+            _ => self.step(board, pass),
+        }
+    }
+}
