@@ -7,9 +7,8 @@ use Rattle.nv_core.specs.state.Cleaner as cleaner
 use Rattle.nv_core.specs.steps.CleanerSteps.{group_file, group_page, last_taken, may_pass, next_cleaner_op}
 use Rattle.nv_op.specs.declared.kinds.Kind.{Kind}
 use Rattle.nv_op.specs.declared.kinds.Kind.TheVariants.{Give}
-use Rattle.nv_op.specs.Kinds.{kind_of_cleaner_op, kind_of_op}
+use Rattle.nv_op.specs.Kinds.{kind_of_cleaner_op}
 use Rattle.nv_table.specs.state.States.{PassState}
-use Rattle.nv_mirror.specs.PassSteps.{PassStep, HasTaken, either_of}
 use Rattle.nv_clean.specs.declared.batch.CleanControl.{CleanControl}
 use Rattle.nv_clean.specs.declared.batch.CleanControl.TheVariants as cleans
 use Rattle.nv_clean.specs.declared.batch.CleanRefusal.{CleanRefusal}

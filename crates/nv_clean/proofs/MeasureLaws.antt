@@ -13,7 +13,7 @@ use Rattle.nv_core.specs.steps.Ops.{Comes, Stays, cleaner_move, moved}
 use Rattle.nv_clean.specs.declared.batch.CleanControl.{CleanControl}
 use Rattle.nv_clean.specs.declared.batch.CleanControl.TheVariants as cleans
 use Rattle.nv_clean.specs.Cleaning.{CleanState, FitsAt, IsBegun, IsPlain, control_at, control_of, files_from, inner_at}
-use Rattle.nv_clean.specs.Measures.{clean_measure, control_measure, ending_measure, inner_measure, later_measure, log_measure, measure_at, retiring_measure}
+use Rattle.nv_clean.specs.Measures.{clean_measure, control_measure, inner_measure, later_measure, log_measure, measure_at, retiring_measure}
 use Rattle.nv_core.proofs.state.Changes.{same_self}
 use Rattle.nv_clean.proofs.StepLaws.{plain_at}
 

@@ -15,7 +15,7 @@ use Rattle.nv_core.specs.steps.CleanerSteps.{after_cleaner_work, holds_store, ri
 use Rattle.nv_core.specs.steps.Order.{Values, Work, CallDue, CallMayLeave, CleanerCallDue, IsTailCall}
 use Rattle.nv_core.specs.steps.Opening.{IsMount}
 use Rattle.nv_core.specs.invariant.InvariantLaws.{RunsAreSound}
-use Rattle.nv_core.specs.invariant.Ownership.{HoldsLocks, lock_held}
+use Rattle.nv_core.specs.invariant.Ownership.{HoldsLocks}
 use Rattle.nv_core.specs.invariant.Rooms.{KeepsRoomy, MovesRoomy}
 use Rattle.nv_core.specs.invariant.Shapes.{HaveShapes, IsStore}
 use Rattle.nv_core.specs.invariant.Sound.{Sound}

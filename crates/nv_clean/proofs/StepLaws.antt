@@ -8,9 +8,7 @@ use Rattle.nv_core.specs.state.Cleaner as cleaner
 use Rattle.nv_core.specs.state.Core.{Core}
 use Rattle.nv_core.specs.state.Passes.{Idle, Cleaning, Pass, times}
 use Rattle.nv_core.specs.steps.CleanerSteps.{after_cleaner_op, cleaner_word, group_file, holds_store, last_taken, new_batch, next_cleaner_op}
-use Rattle.nv_core.specs.steps.ControlSteps.{after_by_cleaner}
 use Rattle.nv_core.specs.steps.Ops.{ByCleaner as CleanerStep, Comes, Stays, cleaner_move, moved}
-use Rattle.nv_core.specs.steps.Order.{Values, Work}
 use Rattle.nv_core.specs.steps.Opening.{IsMount}
 use Rattle.nv_core.specs.steps.Frames.{OwnEventsTell}
 use Rattle.nv_core.specs.invariant.InvariantLaws.{RunsAreSound}
@@ -22,7 +20,7 @@ use Rattle.nv_table.specs.state.Opened.{Opened, mount_of, IsRunOf, state_of}
 use Rattle.nv_table.specs.state.States.{PassState}
 use Rattle.nv_table.specs.state.Views.{PassView, pass_of, values_of}
 use Rattle.nv_table.specs.steps.CallSteps.{DueStepsStand, Precondition}
-use Rattle.nv_table.specs.steps.SeatSteps.{AreDue, pass_worked}
+use Rattle.nv_table.specs.steps.SeatSteps.{pass_worked}
 use Rattle.nv_table.specs.steps.StepContracts.{Postcondition}
 use Rattle.nv_table.proofs.steps.CallLaws.{IsCallFree}
 use Rattle.nv_table.proofs.invariant.StepAt.{IsMadeAt, made_at}

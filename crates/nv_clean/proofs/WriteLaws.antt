@@ -1,7 +1,6 @@
 -- Writes back: what follows the write of an entry's piece.
-use Rattle.std.proofs.Common.{◌≡◌, ◌≢◌, ℕ, ◌+◌, ◌-◌, ◌*◌, ◌<◌, ◌≤◌, ◌==◌, Bool, true, false, if◌then◌else◌, length, inl, inr, refl, sym, ap, subst, ◌∙◌, arith, eq-eqb, ne_eqb}
-use Rattle.std.proofs.lemmas.Bool.{cases_eq}
-use Rattle.std.specs.Prelude.{Option, Some, None, Err}
+use Rattle.std.proofs.Common.{◌≡◌, ℕ, ◌+◌, ◌==◌, Bool, true, false, if◌then◌else◌, length, refl, sym, ap, subst, ◌∙◌}
+use Rattle.std.specs.Prelude.{Some, None, Err}
 use Rattle.nv_core.specs.state.Words.{Sizes}
 use Rattle.nv_core.specs.state.Cleaner as cleaner
 use Rattle.nv_core.specs.state.Passes.{Cleaning}
@@ -13,12 +12,11 @@ use Rattle.nv_clean.specs.declared.batch.CleanControl.{CleanControl}
 use Rattle.nv_clean.specs.declared.batch.CleanControl.TheVariants as cleans
 use Rattle.nv_clean.specs.declared.batch.CleanRefusal.{CleanRefusal}
 use Rattle.nv_clean.specs.declared.batch.CleanRefusal.TheVariants.{Idle, Busy, Stopped, RegionFault, StoreFault, NoMemory}
-use Rattle.nv_clean.specs.Cleaning.{CallsDevices, CleanState, ComesBehind, Fits, FitsAt, IsAfterCalls, IsBehind, IsGroupHeld, OwnsAt, control_at, control_of, refusal_behind, write_refusal, written_at}
+use Rattle.nv_clean.specs.Cleaning.{CallsDevices, CleanState, IsAfterCalls, IsBehind, IsGroupHeld, control_at, control_of, refusal_behind, write_refusal, written_at}
 use Rattle.nv_clean.specs.CleanSteps.{HasMadeOne, HasSteppedBehind, clean_kind, first_refusal, is_fault, kind_at, refusal_then}
-use Rattle.nv_clean.specs.Measures.{clean_measure, later_measure, measure_at, retiring_measure}
 use Rattle.nv_clean.proofs.BehindLaws.{behind_as}
 use Rattle.nv_clean.proofs.CleanStepLaws.{calls_silent, made_behind}
-use Rattle.nv_clean.proofs.MeasureLaws.{both, writes_measure}
+use Rattle.nv_clean.proofs.MeasureLaws.{both}
 
 fault_told : (sizes : Sizes) (m : CleanState) (refusal : CleanRefusal) (found : ℕ) → is_fault (Some refusal) ≡ true → Some refusal ≡ refusal_then sizes m (Some refusal) found
 fault_told sizes m RegionFault found fault = refl

@@ -1,6 +1,5 @@
 -- What is said of the leader's ENTRY, or of a follower's.
-use Rattle.std.proofs.Common.{◌≡◌, sym, ap, ◌∙◌}
-use Rattle.nv_clean.specs.declared.batch.CleanControl.TheVariants as cleans
+use Rattle.std.proofs.Common.{sym, ap, ◌∙◌}
 use Rattle.nv_clean.specs.Cleaning.{CleanState}
 use Rattle.nv_clean.specs.CleanSteps.{refusal_at}
 use Rattle.nv_clean.proofs.batch.CleanMachine.follow_entries.Goals as goal

@@ -1,9 +1,5 @@
 -- The calls of the move are due one after another.
-use Rattle.std.proofs.Common.{◌≡◌, sym, ap, subst}
-use Rattle.nv_core.specs.state.Passes.{IsOneOf}
-use Rattle.nv_core.specs.state.Values.{Value}
-use Rattle.nv_core.specs.invariant.Rooms.{KeepsRoomy}
-use Rattle.nv_table.specs.state.Views.{slot_times}
+use Rattle.std.proofs.Common.{subst}
 use Rattle.nv_pages.specs.DeviceCalls.{HasMovedTail}
 use Rattle.nv_clean.specs.Cleaning.{CleanState}
 use Rattle.nv_clean.proofs.RetireLaws.{header_slot_is, header_slot_once, tail_failed, tail_moved}

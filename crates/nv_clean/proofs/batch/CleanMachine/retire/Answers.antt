@@ -1,9 +1,9 @@
 -- The batch goes on with the core, be it that a device call has failed or not.
-use Rattle.std.proofs.Common.{◌≡◌, ◌+◌, ◌<◌, length, ◌∙◌, refl, sym, ap, subst, arith}
+use Rattle.std.proofs.Common.{◌+◌, ◌<◌, length, ◌∙◌, sym, ap, subst, arith}
 use Rattle.std.specs.Prelude.{Some, None}
 use Rattle.nv_core.specs.steps.CleanerSteps.{rising_files}
 use Rattle.nv_op.specs.declared.kinds.Kind.TheVariants.{Free, Stop}
-use Rattle.nv_table.specs.state.Opened.{Opened, mount_of, state_of}
+use Rattle.nv_table.specs.state.Opened.{mount_of, state_of}
 use Rattle.nv_clean.specs.declared.batch.CleanControl.TheVariants as cleans
 use Rattle.nv_clean.specs.declared.batch.CleanRefusal.TheVariants.{RegionFault, StoreFault}
 use Rattle.nv_clean.specs.CleanSteps.{kind_at, refusal_at}

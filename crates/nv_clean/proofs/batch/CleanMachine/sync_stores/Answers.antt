@@ -1,5 +1,5 @@
 -- Each store is synced in its turn.
-use Rattle.std.proofs.Common.{◌≡◌, ◌≢◌, ℕ, ◌+◌, ◌-◌, ◌<◌, ◌≤◌, Bool, true, false, List, [], ◌∷◌, ◌∙◌, sym, ap, subst, arith}
+use Rattle.std.proofs.Common.{◌≡◌, ℕ, ◌+◌, ◌-◌, ◌<◌, true, false, List, ◌∙◌, sym, ap, subst, arith}
 use Rattle.std.specs.Prelude.{Some, filter}
 use Rattle.std.specs.List.{range_with_len}
 use Rattle.nv_core.specs.state.Cleaner as cleaner
