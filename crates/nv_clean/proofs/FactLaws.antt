@@ -1,12 +1,12 @@
 -- Facts: what the invariant says of a batch by where it stands.
-use Rattle.std.proofs.Common.{◌≡◌, ℕ, zero, suc, ◌+◌, ◌-◌, ◌<◌, ◌≤◌, Bool, true, false, if◌then◌else◌, List, [], ◌∷◌, length, refl, ap, subst, ◌∙◌, arith}
+use Rattle.std.proofs.Common.{◌≡◌, ◌≢◌, ℕ, zero, suc, ◌+◌, ◌-◌, ◌<◌, ◌≤◌, Bool, true, false, if◌then◌else◌, List, [], ◌∷◌, length, refl, ap, subst, ◌∙◌, arith}
 use Rattle.std.specs.Prelude.{Some}
 use Rattle.nv_core.specs.state.Words.{Sizes, Word, ENTRY, IsWord}
 use Rattle.nv_core.specs.state.Cleaner.{Batch, CleanerControl, CleanerOp as CoreCleanerOp}
 use Rattle.nv_core.specs.state.Cleaner as cleaner
 use Rattle.nv_core.specs.state.Core.{Core}
 use Rattle.nv_core.specs.state.Passes.{Cleaning, IsFilling, IsHeldEntry, times}
-use Rattle.nv_core.specs.steps.CleanerSteps.{cleaner_word, holds_store, next_cleaner_op, rising_files, syncing}
+use Rattle.nv_core.specs.steps.CleanerSteps.{cleaner_word, count_of, may_pass, holds_store, next_cleaner_op, rising_files, syncing}
 use Rattle.nv_core.specs.steps.Order.{Values}
 use Rattle.nv_core.specs.invariant.ControlFacts.{CleanerFactsAt, FactsAt}
 use Rattle.nv_core.specs.invariant.LogWindow.{InWindow}
@@ -16,8 +16,21 @@ use Rattle.nv_core.specs.log.Progress.{HasLoadedTail, HasWholeGroup, IsBatchUnde
 use Rattle.nv_core.proofs.invariant.LockLaws.{times_here}
 use Rattle.nv_clean.specs.declared.batch.CleanControl.{CleanControl}
 use Rattle.nv_clean.specs.declared.batch.CleanControl.TheVariants as cleans
-use Rattle.nv_clean.specs.Cleaning.{IsLow, IsPlace, FitsAt, OwnsAt, IsLockFirst, control_at, inner_at}
+use Rattle.nv_clean.specs.Cleaning.{ComesBehind, IsLow, IsPlace, FitsAt, OwnsAt, IsLockFirst, control_at, inner_at}
 use Rattle.nv_clean.proofs.RoomLaws.{count_taken, owns_few}
+
+-- ENTRY of a leader that is passed says how many entries its group has, and it is known at its followers'
+abbrev pub IsCounted : Batch → CleanControl → (found : ℕ) → Type 0
+IsCounted batch (cleans.LoadEntry i) found = (i ≡ 0 → may_pass batch found ≡ true → (1 ≤ count_of found) × (count_of found ≤ 16)) × (i ≢ 0 → i < batch.count)
+IsCounted batch control found = Unit {0}
+
+-- what comes behind device calls loads no ENTRY
+pub behind_counted : (batch : Batch) (control : CleanControl) (found : ℕ) → ComesBehind control → IsCounted batch control found
+behind_counted batch (cleans.HoldEntry i) found comes = tt
+behind_counted batch (cleans.CleanEntry i) found comes = tt
+behind_counted batch (cleans.ReturnEntry i end) found comes = tt
+behind_counted batch (cleans.FreeEntry number) found comes = tt
+behind_counted batch control found comes = absurd comes
 
 at_most_one : (b : Bool) → (if b then 1 else 0) ≤ 1
 at_most_one true = omega arith
@@ -43,15 +56,21 @@ module _ (sizes : Sizes) (first : Values) (core : Core) (by : ℕ) (sound : Soun
     small = let there : InWindow core (batch.reached + i) = ((way inner at loaded).looked i within).within in let high = there.1 in let s = sound.window.small in omega (arith, high, s);
   }
 
-  -- its group is no larger than one may be
-  few : (inner : CleanerControl) → Is inner → HasLoadedTail inner → 0 < length batch.pages → batch.count ≤ 16
-  few inner at loaded some =
+  -- its group has an entry, and is no larger than one may be
+  pub counts : (inner : CleanerControl) → Is inner → HasLoadedTail inner → 0 < length batch.pages → (1 ≤ batch.count) × (batch.count ≤ 16)
+  counts inner at loaded some =
       let w = way inner at loaded in
       let there : InWindow core (batch.reached + 0) = (w.looked 0 some).within in
       let same_number : batch.reached + 0 ≡ batch.reached = omega arith in
       let group = sound.grouped.groups.each batch.reached (subst (InWindow core) same_number there) in
-      let count = w.count some in let many = group.drawn.many in let short = group.allowed.short in
-      omega (arith, count, many, short)
+      let count = w.count some in
+      let least = group.drawn.some in
+      let many = group.drawn.many in
+      let short = group.allowed.short in
+      (omega (arith, count, least), omega (arith, count, many, short))
+
+  few : (inner : CleanerControl) → Is inner → HasLoadedTail inner → 0 < length batch.pages → batch.count ≤ 16
+  few inner at loaded some = (counts inner at loaded some).1
 
   whole_few : (inner : CleanerControl) → Is inner → HasLoadedTail inner → HasWholeGroup inner → 0 < length batch.pages → length batch.pages ≤ 16
   whole_few inner at loaded whole some = let w = (way inner at loaded).whole whole in let f = few inner at loaded some in omega (arith, w, f)

@@ -1,20 +1,21 @@
 -- Measures: each step of a batch lowers how many may still come.
-use Rattle.std.proofs.Common.{◌≡◌, ◌≢◌, ℕ, suc, ◌+◌, ◌-◌, ◌*◌, ◌<◌, ◌≤◌, ◌==◌, Bool, true, false, if◌then◌else◌, List, [], ◌∷◌, ◌++◌, length, inl, inr, refl, sym, ap, subst, ◌∙◌, arith, eq-eqb, ne_eqb, length-append}
-use Rattle.std.proofs.lemmas.Bool.{cases_eq, cases_lt, lt-ltb, le-ltb}
+use Rattle.std.proofs.Common.{◌≡◌, ◌≢◌, ℕ, suc, ◌+◌, ◌-◌, ◌*◌, ◌<◌, ◌≤◌, ◌==◌, Bool, true, false, if◌then◌else◌, List, [], ◌∷◌, ◌++◌, length, inl, inr, refl, sym, ap, subst, ◌∙◌, arith, eq-eqb, eqb-true, ne_eqb, length-append}
+use Rattle.std.proofs.lemmas.Bool.{cases_eq, cases_lt, lt-ltb, le-ltb, leb-true, true≢false}
 use Rattle.std.proofs.lemmas.List.FromFn.{length-range_with_len}
-use Rattle.std.specs.Prelude.{Option, Some, None, nat_lt, not, ◌&&◌, filter}
+use Rattle.std.specs.Prelude.{Option, Some, None, nat_lt, nat_le, not, ◌&&◌, ◌||◌, ◌⊎◌, filter}
 use Rattle.std.specs.List.{range_with_len}
-use Rattle.nv_core.specs.state.Words.{Sizes, Word, CLEANER, HEADER, STORE, CLEANUP, ENTRY, is_lock, page_of, same, slot_of_entry}
+use Rattle.nv_core.specs.state.Words.{Sizes, Word, CLEANER, HEADER, STORE, CLEANUP, ENTRY, is_lock, kind_of, page_of, ready, same, slot_of_entry}
 use Rattle.nv_core.specs.state.Cleaner.{Batch, CleanerControl, CleanerOp as CoreCleanerOp}
 use Rattle.nv_core.specs.state.Cleaner as cleaner
 use Rattle.nv_core.specs.state.Passes.{Control, Idle, Cleaning, without}
-use Rattle.nv_core.specs.steps.CleanerSteps.{after_cleaner_op, batch_with_page, claimed, closed, discharging, each_next, finishing, group_file, group_page, holds_store, last_taken, may_pass, next_cleaner_op, next_group, retreating, rising_files, surveyed, surveying, syncing, withdrawing}
+use Rattle.nv_core.specs.steps.CleanerSteps.{after_cleaner_op, batch_with_page, claimed, closed, count_of, discharging, each_next, finishing, group_file, group_page, holds_store, last_taken, may_pass, next_cleaner_op, next_group, retreating, rising_files, surveyed, surveying, syncing, withdrawing}
 use Rattle.nv_core.specs.steps.Ops.{Comes, Stays, cleaner_move, moved}
 use Rattle.nv_clean.specs.declared.batch.CleanControl.{CleanControl}
 use Rattle.nv_clean.specs.declared.batch.CleanControl.TheVariants as cleans
 use Rattle.nv_clean.specs.Cleaning.{CleanState, FitsAt, IsBegun, IsPlain, control_at, control_of, files_from, inner_at}
-use Rattle.nv_clean.specs.Measures.{clean_measure, control_measure, inner_measure, later_measure, log_measure, measure_at, retiring_measure}
+use Rattle.nv_clean.specs.Measures.{clean_measure, control_measure, first_measure, group_measure, inner_measure, later_measure, load_measure, measure_at, most_measure, retiring_measure}
 use Rattle.nv_core.proofs.state.Changes.{same_self}
+use Rattle.nv_clean.proofs.FactLaws.{IsCounted}
 use Rattle.nv_clean.proofs.StepLaws.{plain_at}
 
 -- ---- choices
@@ -77,11 +78,10 @@ module _ (sizes : Sizes) where
       by_eq (λ b. control_measure sizes (if b then finishing sizes owned batch else Cleaning batch (cleaner.RefusedGiveCleanup (i - 1))) ≤ i + retiring_measure sizes batch) i 0
       (λ none. omega (arith, f)) (λ some. omega (arith, some))
 
-  surveys : (owned : List Word) (batch : Batch) (most : ℕ) → (batch.reached < batch.head → 149 + later_measure sizes batch < most) → retiring_measure sizes batch < most → control_measure sizes (surveying sizes owned batch) < most
-  surveys owned batch most more last =
+  surveys : (owned : List Word) (batch : Batch) (most : ℕ) → 1 + first_measure batch + later_measure sizes batch 0 < most → control_measure sizes (surveying sizes owned batch) < most
+  surveys owned batch most less =
       let f = finishes owned batch in
-      by_lt (λ b. control_measure sizes (if b then Cleaning batch (cleaner.LoadEntry 0) else finishing sizes owned batch) < most) batch.reached batch.head
-      (λ less. let m = more less in omega (arith, m)) (λ high. omega (arith, f, last))
+      by_lt (λ b. control_measure sizes (if b then Cleaning batch (cleaner.LoadEntry 0) else finishing sizes owned batch) < most) batch.reached batch.head (λ more. omega (arith, less)) (λ high. omega (arith, f, less))
 
   each_falls : (batch : Batch) (i : ℕ) (inner : CleanerControl) (last : Control) (most : ℕ) → (i + 1 ≡ length batch.pages → control_measure sizes last < most) → (i + 1 ≢ length batch.pages → inner_measure sizes batch inner < most)
       → control_measure sizes (each_next batch i inner last) < most
@@ -121,11 +121,63 @@ module _ (sizes : Sizes) where
           subst (λ b. length (if b then rest else cell ∷ without cell rest) + control_measure sizes (withdrawing (if b then rest else cell ∷ without cell rest) batch) < length (cell ∷ rest) + 1) (sym (same_self cell))
           (omega (arith, w))
 
-  -- what is found of HEAD lies no further than the log is long
-  abbrev pub IsNear : Batch → CleanControl → (found : ℕ) → Type 0
-  IsNear batch control found = control ≡ cleans.LoadHead → found ≤ batch.reached + sizes.entries
+  -- a group that may be passed is the first one, or the batch has room for it
+  has_room : (batch : Batch) (found : ℕ) → may_pass batch found ≡ true → (batch.reached ≡ batch.tail) ⊎ (batch.reached + count_of found ≤ batch.tail + batch.most)
+  has_room batch found passes = of_kind (kind_of found == ready) (batch.reached == batch.tail) (nat_le (batch.reached + count_of found) (batch.tail + batch.most)) refl refl passes
+    where
+      of_kind : (kind first room : Bool) → (batch.reached == batch.tail) ≡ first → nat_le (batch.reached + count_of found) (batch.tail + batch.most) ≡ room → (kind && (first || room)) ≡ true
+          → (batch.reached ≡ batch.tail) ⊎ (batch.reached + count_of found ≤ batch.tail + batch.most)
+      of_kind true true room first_is room_is so = inl (eqb-true batch.reached batch.tail first_is)
+      of_kind true false true first_is room_is so = inr (leb-true (batch.reached + count_of found) (batch.tail + batch.most) room_is)
+      of_kind true false false first_is room_is so = absurd (true≢false (sym so))
+      of_kind false first room first_is room_is so = absurd (true≢false (sym so))
 
-  falls_at : (owned : List Word) (batch : Batch) (control : CleanControl) (found : ℕ) → IsPlain control → FitsAt sizes batch control → IsNear batch control found
+  -- so behind its leader it counts less than before
+  passes : (batch : Batch) (count steps : ℕ) → 1 ≤ count → count ≤ 16 → (batch.reached ≡ batch.tail) ⊎ (batch.reached + count ≤ batch.tail + batch.most) → steps ≤ 9 * count + 5
+      → steps + later_measure sizes batch count < 1 + first_measure batch + later_measure sizes batch 0
+  passes batch count steps some few (inl first) less =
+      let f : first_measure batch ≡ 256 = ap (λ b. if b then 256 else 0) (eq-eqb batch.reached batch.tail first) in omega (arith, some, few, less, f)
+  passes batch count steps some few (inr room) less =
+      by_eq (λ b. steps + later_measure sizes batch count < 1 + (if b then 256 else 0) + later_measure sizes batch 0) batch.reached batch.tail (λ is. omega (arith, some, few, less)) (λ other. omega (arith, some, room, less))
+
+  load_falls : (owned : List Word) (batch : Batch) (i found : ℕ) → length batch.pages ≡ i → IsCounted batch (cleans.LoadEntry i) found
+      → control_measure sizes (if i == 0 && not (may_pass batch found) then finishing sizes owned batch else surveyed (batch_with_page batch i found) i) < load_measure sizes batch i
+  load_falls owned batch i found long counted =
+      by_eq (λ b. control_measure sizes (if b && not (may_pass batch found) then finishing sizes owned batch else surveyed (with_count b) i)
+      < (if b then 1 + first_measure batch + later_measure sizes batch 0 else (batch.count - i) + 8 * batch.count + 6 + later_measure sizes batch batch.count)) i 0 leader follower
+    where
+      with_count : Bool → Batch
+      with_count b = record batch { count = if b then count_of found else batch.count; pages = batch.pages ++ page_of found ∷ [] }
+
+      more : length (batch.pages ++ page_of found ∷ []) ≡ length batch.pages + 1
+      more = length-append batch.pages (page_of found ∷ [])
+
+      leader : i ≡ 0 → control_measure sizes (if not (may_pass batch found) then finishing sizes owned batch else surveyed (with_count true) i) < 1 + first_measure batch + later_measure sizes batch 0
+      leader none = go (may_pass batch found) refl
+        where
+          go : (b : Bool) → may_pass batch found ≡ b → control_measure sizes (if not b then finishing sizes owned batch else surveyed (with_count true) i) < 1 + first_measure batch + later_measure sizes batch 0
+          go false is = let f = finishes owned batch in omega (arith, f)
+          go true is =
+              let c = counted.0 none is in
+              let some = c.0 in
+              let few = c.1 in
+              by_lt (λ b. control_measure sizes (if b then Cleaning (with_count true) (cleaner.LoadEntry (i + 1)) else Cleaning (with_count true) (cleaner.TakeCleanup 0)) < 1 + first_measure batch + later_measure sizes batch 0) (i + 1) (count_of found)
+              (λ less. subst (λ b. (if b then 1 + first_measure (with_count true) + later_measure sizes (with_count true) 0 else (count_of found - (i + 1)) + 8 * count_of found + 6 + later_measure sizes batch (count_of found)) < 1 + first_measure batch + later_measure sizes batch 0)
+              (sym (ne_eqb (i + 1) 0 (omega arith)))
+              (let p = passes batch (count_of found) ((count_of found - (i + 1)) + 8 * count_of found + 6) some few (has_room batch found is) (omega (arith, less)) in omega (arith, p)))
+              (λ high. let p = passes batch (count_of found) 13 some few (has_room batch found is) (omega (arith, some)) in
+              let one : count_of found ≡ 1 = omega (arith, some, high, none) in
+              omega (arith, p, more, long, none, one))
+
+      follower : i ≢ 0 → control_measure sizes (surveyed (with_count false) i) < (batch.count - i) + 8 * batch.count + 6 + later_measure sizes batch batch.count
+      follower some =
+          let less = counted.1 some in
+          by_lt (λ b. control_measure sizes (if b then Cleaning (with_count false) (cleaner.LoadEntry (i + 1)) else Cleaning (with_count false) (cleaner.TakeCleanup 0)) < (batch.count - i) + 8 * batch.count + 6 + later_measure sizes batch batch.count) (i + 1) batch.count
+          (λ next. subst (λ b. (if b then 1 + first_measure (with_count false) + later_measure sizes (with_count false) 0 else (batch.count - (i + 1)) + 8 * batch.count + 6 + later_measure sizes batch batch.count) < (batch.count - i) + 8 * batch.count + 6 + later_measure sizes batch batch.count)
+          (sym (ne_eqb (i + 1) 0 (omega arith))) (omega (arith, less)))
+          (λ high. let whole : length (batch.pages ++ page_of found ∷ []) ≡ batch.count = omega (arith, more, long, less, high) in omega (arith, whole, less))
+
+  falls_at : (owned : List Word) (batch : Batch) (control : CleanControl) (found : ℕ) → IsPlain control → FitsAt sizes batch control → IsCounted batch control found
       → Falls owned batch (inner_at sizes batch control) found (next_cleaner_op sizes owned batch (inner_at sizes batch control))
   unfolding Falls
   falls_at owned batch cleans.TakeHeader found plain fits near =
@@ -135,28 +187,17 @@ module _ (sizes : Sizes) where
       let w = withdraws owned batch in
       let less : control_measure sizes (if found == 0 then Cleaning batch cleaner.LoadTail else withdrawing owned batch) < inner_measure sizes batch cleaner.LoadStop =
       both (λ b. control_measure sizes (if b then Cleaning batch cleaner.LoadTail else withdrawing owned batch) < inner_measure sizes batch cleaner.LoadStop) (found == 0) (omega arith) (omega (arith, w)) in omega (arith, less)
-  falls_at owned batch cleans.LoadTail found plain fits near = omega arith
+  falls_at owned batch cleans.LoadTail found plain fits near =
+      let less : first_measure (record batch { tail = found; reached = found }) ≤ 256 = both (λ b. (if b then 256 else 0) ≤ 256) (found == found) (omega arith) (omega arith) in omega (arith, less)
   falls_at owned batch cleans.LoadHead found plain fits near =
-      let n = near refl in
-      let less = surveys owned (record batch { head = found }) (inner_measure sizes batch cleaner.LoadHead) (λ more. omega (arith, n)) (omega arith) in omega (arith, less)
-  falls_at owned batch (cleans.LoadEntry i) found plain fits near =
-      let long = fits.1 in
-      let few = fits.2 in
-      let f = finishes owned batch in
-      let more : length (batch.pages ++ page_of found ∷ []) ≡ length batch.pages + 1 = length-append batch.pages (page_of found ∷ []) in
-      let most = inner_measure sizes batch (cleaner.LoadEntry i) in
-      let next : control_measure sizes (surveyed (batch_with_page batch i found) i) < inner_measure sizes batch (cleaner.LoadEntry i) =
-      both (λ b. control_measure sizes (if b then Cleaning (batch_with_page batch i found) (cleaner.LoadEntry (i + 1)) else Cleaning (batch_with_page batch i found) (cleaner.TakeCleanup 0)) < inner_measure sizes batch (cleaner.LoadEntry i))
-      (nat_lt (i + 1) (batch_with_page batch i found).count) (omega (arith, few)) (omega (arith, long, few, more)) in
-      let less : control_measure sizes (if i == 0 && not (may_pass batch found) then finishing sizes owned batch else surveyed (batch_with_page batch i found) i) < inner_measure sizes batch (cleaner.LoadEntry i) =
-      both (λ b. control_measure sizes (if b then finishing sizes owned batch else surveyed (batch_with_page batch i found) i) < inner_measure sizes batch (cleaner.LoadEntry i)) (i == 0 && not (may_pass batch found)) (omega (arith, f)) next in
-      omega (arith, less)
+      let less = surveys owned (record batch { head = found }) (inner_measure sizes batch cleaner.LoadHead) (omega arith) in omega (arith, less)
+  falls_at owned batch (cleans.LoadEntry i) found plain fits near = let less = load_falls owned batch i found fits.1 near in omega (arith, less)
   falls_at owned batch (cleans.TakeCleanup i) found plain fits near =
       let own = fits.0 in
       let r = retreats owned batch i in
       takes owned (CLEANUP (group_page batch i)) found (inner_measure sizes batch (cleaner.TakeCleanup i)) (λ o. each_next batch i (cleaner.TakeCleanup (i + 1)) (claimed sizes batch)) (λ o. retreating sizes o batch i)
-      (let less = each_falls batch i (cleaner.TakeCleanup (i + 1)) (claimed sizes batch) (6 * length batch.pages + 5 + later_measure sizes batch + 2 * (length batch.pages - (i + 1)))
-      (λ last. both (λ b. control_measure sizes (if b then Cleaning batch (cleaner.HoldEntry 0) else Cleaning batch cleaner.TakeStore) < 6 * length batch.pages + 5 + later_measure sizes batch + 2 * (length batch.pages - (i + 1)))
+      (let less = each_falls batch i (cleaner.TakeCleanup (i + 1)) (claimed sizes batch) (group_measure sizes batch (6 * length batch.pages + 5 + 2 * (length batch.pages - (i + 1))))
+      (λ last. both (λ b. control_measure sizes (if b then Cleaning batch (cleaner.HoldEntry 0) else Cleaning batch cleaner.TakeStore) < group_measure sizes batch (6 * length batch.pages + 5 + 2 * (length batch.pages - (i + 1))))
       (holds_store batch (group_file sizes batch)) (omega arith) (omega arith)) (λ more. omega (arith, own)) in omega (arith, less, own))
       (omega (arith, r, own))
   falls_at owned batch cleans.TakeStore found plain fits near =
@@ -178,7 +219,9 @@ module _ (sizes : Sizes) where
       let left = without (CLEANUP (group_page batch i)) owned in
       gives owned (CLEANUP (group_page batch i)) (each_next batch i (cleaner.GiveCleanup (i + 1)) (surveying sizes left (next_group batch))) most
       (each_falls batch i (cleaner.GiveCleanup (i + 1)) (surveying sizes left (next_group batch)) most
-      (λ last. surveys left (next_group batch) most (λ less. omega (arith, last, less)) (omega (arith, last))) (λ more. omega (arith, own)))
+      (λ last.
+      let beyond : first_measure (next_group batch) ≡ 0 = ap (λ b. if b then 256 else 0) (ne_eqb (batch.reached + length batch.pages) batch.tail (let low = fits.low.low in omega (arith, low, own))) in
+      surveys left (next_group batch) most (omega (arith, last, beyond))) (λ more. omega (arith, own)))
   falls_at owned batch (cleans.ReturnEntry i end) found plain fits near =
       let own = fits.1 in
       let entry = ENTRY (slot_of_entry sizes (batch.reached + i)) in
@@ -230,7 +273,7 @@ module _ (sizes : Sizes) where
   plain_measure : (m : CleanState) → IsPlain m.control → clean_measure sizes m ≡ length m.owned + inner_measure sizes m.batch (inner_at sizes m.batch m.control)
   plain_measure m plain = ap (λ n. length m.owned + n) (begun_measure m.batch m.control (plain_begun m.control plain) ∙ ap (control_measure sizes) (plain_at sizes m.batch m.control plain))
 
-  pub step_falls : (m next : CleanState) (op : CoreCleanerOp) (found : ℕ) (owns : List Word) → IsPlain m.control → FitsAt sizes m.batch m.control → IsNear sizes m.batch m.control found
+  pub step_falls : (m next : CleanState) (op : CoreCleanerOp) (found : ℕ) (owns : List Word) → IsPlain m.control → FitsAt sizes m.batch m.control → IsCounted m.batch m.control found
       → next_cleaner_op sizes m.owned m.batch (inner_at sizes m.batch m.control) ≡ Some op → owns ≡ moved (cleaner_move sizes op found) m.owned → next.owned ≡ owns → IsBegun next.control
       → control_of sizes next ≡ after_cleaner_op sizes owns m.batch (inner_at sizes m.batch m.control) found → clean_measure sizes next < clean_measure sizes m
   unfolding Falls
@@ -254,10 +297,10 @@ module _ (sizes : Sizes) where
       omega (arith, less, left, goes)
 
   -- its first step
-  pub begin_falls : (m next : CleanState) (found : ℕ) → m.control ≡ cleans.Begin → next.owned ≡ moved (if found == 0 then Comes CLEANER else Stays) m.owned → measure_at sizes next.batch next.control ≤ 154 + log_measure sizes
+  pub begin_falls : (m next : CleanState) (found : ℕ) → m.control ≡ cleans.Begin → next.owned ≡ moved (if found == 0 then Comes CLEANER else Stays) m.owned → measure_at sizes next.batch next.control ≤ 6 + most_measure sizes m.batch.most
       → clean_measure sizes next < clean_measure sizes m
   begin_falls m next found at owned less =
-      let was : measure_at sizes m.batch m.control ≡ 156 + log_measure sizes = ap (measure_at sizes m.batch) at in
+      let was : measure_at sizes m.batch m.control ≡ 8 + most_measure sizes m.batch.most = ap (measure_at sizes m.batch) at in
       let more : length (moved (if found == 0 then Comes CLEANER else Stays) m.owned) ≤ suc (length m.owned) =
       both (λ b. length (moved (if b then Comes CLEANER else Stays) m.owned) ≤ suc (length m.owned)) (found == 0) (omega arith) (omega arith) in
       let left : length next.owned ≡ length (moved (if found == 0 then Comes CLEANER else Stays) m.owned) = ap length owned in
@@ -266,7 +309,7 @@ module _ (sizes : Sizes) where
   -- ---- behind device calls
 
   -- where a piece is written back
-  pub writes_measure : (m : CleanState) (at : ℕ) → m.control ≡ cleans.WriteBack at → clean_measure sizes m ≡ length m.owned + (4 * length m.batch.pages + 2 * (length m.batch.pages - at) + later_measure sizes m.batch)
+  pub writes_measure : (m : CleanState) (at : ℕ) → m.control ≡ cleans.WriteBack at → clean_measure sizes m ≡ length m.owned + group_measure sizes m.batch (4 * length m.batch.pages + 2 * (length m.batch.pages - at))
   writes_measure m at is = ap (λ control. length m.owned + measure_at sizes m.batch control) is
 
   -- and where a batch is retired: as much as where its first entry is freed, and no less than where STOP is set

@@ -1,18 +1,18 @@
 -- Steps: what a step of a batch needs, and what it leaves.
-use Rattle.std.proofs.Common.{◌≡◌, ◌≢◌, ℕ, ◌+◌, ◌<◌, ◌≤◌, ◌==◌, Bool, true, false, if◌then◌else◌, List, [], ◌∷◌, length, refl, sym, ap, subst, ◌∙◌, arith, eqb-true, eq-eqb, ne_eqb}
-use Rattle.std.specs.Prelude.{Some, None, ◌||◌}
+use Rattle.std.proofs.Common.{◌≡◌, ◌≢◌, ℕ, zero, suc, ◌+◌, ◌<◌, ◌≤◌, ◌==◌, Bool, true, false, if◌then◌else◌, List, [], ◌∷◌, ◌++◌, length, refl, sym, ap, subst, ◌∙◌, arith, eqb-true, eq-eqb, ne_eqb, length-append}
+use Rattle.std.specs.Prelude.{Some, None, nat_lt, not, ◌||◌}
 use Rattle.std.specs.List.{list_any}
-use Rattle.nv_core.specs.state.Words.{Sizes, Word, HEAD, CLEANER, STORE, is_lock}
+use Rattle.nv_core.specs.state.Words.{Sizes, Word, CLEANER, STORE, is_lock, page_of}
 use Rattle.nv_core.specs.state.Cleaner.{Batch, CleanerControl, CleanerOp as CoreCleanerOp, TakeCleaner}
 use Rattle.nv_core.specs.state.Cleaner as cleaner
 use Rattle.nv_core.specs.state.Core.{Core}
-use Rattle.nv_core.specs.state.Passes.{Idle, Cleaning, Pass, times}
-use Rattle.nv_core.specs.steps.CleanerSteps.{after_cleaner_op, cleaner_word, group_file, holds_store, last_taken, new_batch, next_cleaner_op}
+use Rattle.nv_core.specs.state.Passes.{Idle, Cleaning, times}
+use Rattle.nv_core.specs.steps.CleanerSteps.{after_cleaner_op, batch_with_page, count_of, finishing, group_file, holds_store, last_taken, may_pass, new_batch, next_cleaner_op, surveyed}
 use Rattle.nv_core.specs.steps.Ops.{ByCleaner as CleanerStep, Comes, Stays, cleaner_move, moved}
 use Rattle.nv_core.specs.steps.Opening.{IsMount}
-use Rattle.nv_core.specs.steps.Frames.{OwnEventsTell}
 use Rattle.nv_core.specs.invariant.InvariantLaws.{RunsAreSound}
 use Rattle.nv_core.specs.invariant.Ownership.{HoldsLocks}
+use Rattle.nv_core.specs.invariant.ControlFacts.{FactsAt}
 use Rattle.nv_core.specs.invariant.Sound.{Sound}
 use Rattle.nv_core.proofs.invariant.CleanerLocks.{cleaner_op_is}
 use Rattle.nv_core.proofs.invariant.LockLaws.{times_here}
@@ -23,7 +23,6 @@ use Rattle.nv_table.specs.steps.CallSteps.{DueStepsStand, Precondition}
 use Rattle.nv_table.specs.steps.SeatSteps.{pass_worked}
 use Rattle.nv_table.specs.steps.StepContracts.{Postcondition}
 use Rattle.nv_table.proofs.steps.CallLaws.{IsCallFree}
-use Rattle.nv_table.proofs.invariant.StepAt.{IsMadeAt, made_at}
 use Rattle.nv_mirror.proofs.StepLaws.{between_self, opened_same}
 use Rattle.nv_clean.specs.declared.batch.CleanControl.{CleanControl}
 use Rattle.nv_clean.specs.declared.batch.CleanControl.TheVariants as cleans
@@ -34,7 +33,7 @@ use Rattle.nv_clean.specs.CleanSteps.{HasMadeOne, clean_kind, first_refusal, kin
 use Rattle.nv_op.specs.declared.kinds.Kind.TheVariants.{Take}
 use Rattle.nv_clean.specs.declared.batch.CleanRefusal.TheVariants.{Busy}
 use Rattle.nv_clean.proofs.CleanStepLaws.{has_made, next_kind_is}
-use Rattle.nv_clean.proofs.FactLaws.{fits_at, owns_at, stores_there}
+use Rattle.nv_clean.proofs.FactLaws.{IsCounted, counts as fact_counts, fits_at, owns_at, stores_there}
 use Rattle.nv_clean.proofs.RoomLaws.{apart_few}
 
 -- ---- control states that are plain
@@ -282,19 +281,62 @@ module _ (sound : RunsAreSound) (now : PassState) (mount : IsMount (mount_of now
               subst (λ f. f < sizes.files) (eqb-true (group_file sizes m.batch) file is) fits.1
           there file false is one = stores_there sizes (mount_of now.view.opened).values core now.view.number core_sound m.batch cleaner.TakeStore stands tt file one
 
-      -- HEAD is found no further from its numbers than the log is long
-      pub head_near : OwnEventsTell → m.control ≡ cleans.LoadHead → found ≤ m.batch.reached + sizes.entries
-      head_near tell at =
-          let made : IsMadeAt now.view step.steps.run step.works None (CleanerStep op) found = made_at sound tell now.view new.view step.works None (CleanerStep op) found mount step.steps in
-          let stands : (made.core.passes now.view.number).control ≡ Cleaning m.batch cleaner.LoadHead =
-          ap (λ (p : Pass). p.control) made.own ∙ plain_stands ∙ ap (λ control. Cleaning m.batch (inner_at sizes m.batch control)) at in
-          let loads : op ≡ cleaner.Load HEAD = cleaner_op_is (cleaner.Load HEAD) op (sym (ap (λ control. next_cleaner_op sizes m.owned m.batch (inner_at sizes m.batch control)) at) ∙ next) in
-          let head : made.core.words HEAD ≡ found = ap (λ o. made.core.words (cleaner_word sizes o)) (sym loads) ∙ made.may.is in
-          let goes = made.sound.grouped.progress.each now.view.number m.batch cleaner.LoadHead stands tt in
-          let room = made.sound.window.room in
-          let tail = goes.tail in
-          let low = goes.low in
-          omega (arith, head, room, tail, low)
+      -- how many entries the group at hand has is known
+      pub is_counted : IsCounted m.batch m.control found
+      is_counted = go m.control refl
+        where
+          -- it has passed its leader
+          counts : (i : ℕ) → m.control ≡ cleans.LoadEntry i → i ≡ 0 → may_pass m.batch found ≡ true → (1 ≤ count_of found) × (count_of found ≤ 16)
+          counts i at none passes = by_next (nat_lt (0 + 1) (count_of found)) refl
+            where
+              after : Batch
+              after = batch_with_page m.batch 0 found
+
+              some : 0 < length (m.batch.pages ++ page_of found ∷ [])
+              some = let more = length-append m.batch.pages (page_of found ∷ []) in omega (arith, more)
+
+              control_is : (pass_of new.view).control ≡ surveyed after 0
+              control_is = plain_on.control_is ∙ ap (λ c. after_cleaner_op sizes owned_then m.batch (inner_at sizes m.batch c) found) (at ∙ ap (λ i. cleans.LoadEntry i) none)
+                  ∙ ap (λ b. if not b then finishing sizes owned_then m.batch else surveyed after 0) passes
+
+              by_next : (b : Bool) → nat_lt (0 + 1) (count_of found) ≡ b → (1 ≤ count_of found) × (count_of found ≤ 16)
+              by_next true is =
+                  fact_counts new.view.opened.sizes (mount_of new.view.opened).values (state_of new.view.opened new.view.run) new.view.number new_sound after (cleaner.LoadEntry (0 + 1))
+                  (control_is ∙ ap (λ b. if b then Cleaning after (cleaner.LoadEntry (0 + 1)) else Cleaning after (cleaner.TakeCleanup 0)) is) tt some
+              by_next false is =
+                  fact_counts new.view.opened.sizes (mount_of new.view.opened).values (state_of new.view.opened new.view.run) new.view.number new_sound after (cleaner.TakeCleanup 0)
+                  (control_is ∙ ap (λ b. if b then Cleaning after (cleaner.LoadEntry (0 + 1)) else Cleaning after (cleaner.TakeCleanup 0)) is) tt some
+
+          follows : (i : ℕ) → m.control ≡ cleans.LoadEntry i → (i ≡ 0 → ⊥) → i < m.batch.count
+          follows zero at some = absurd (some refl)
+          follows (suc i) at some =
+              let facts : (length m.batch.pages ≡ suc i) × (suc i < m.batch.count) = subst (FactsAt sizes (pass_of now.view)) (way.called.control_is ∙ ap (control_at sizes m.batch) at) (core_sound.control_facts now.view.number).at in facts.1
+
+          go : (control : CleanControl) → m.control ≡ control → IsCounted m.batch control found
+          go (cleans.LoadEntry i) at = (counts i at, follows i at)
+          go cleans.Begin at = tt
+          go cleans.TakeHeader at = tt
+          go cleans.LoadStop at = tt
+          go cleans.LoadTail at = tt
+          go cleans.LoadHead at = tt
+          go (cleans.TakeCleanup i) at = tt
+          go cleans.TakeStore at = tt
+          go (cleans.HoldEntry i) at = tt
+          go (cleans.WriteBack i) at = tt
+          go (cleans.CleanEntry i) at = tt
+          go (cleans.SubtractDirty i) at = tt
+          go (cleans.GiveCleanup i) at = tt
+          go (cleans.ReturnEntry i end) at = tt
+          go (cleans.ReturnFailed i end) at = tt
+          go (cleans.UndoCleanup i) at = tt
+          go cleans.Retire at = tt
+          go (cleans.FreeEntry number) at = tt
+          go cleans.AdvanceTail at = tt
+          go (cleans.GiveStore file) at = tt
+          go cleans.GiveHeader at = tt
+          go cleans.GiveCleaner at = tt
+          go cleans.GiveBack at = tt
+          go cleans.Over at = tt
 
       -- and they stay apart
       pub files_apart : AreApart (files_then sizes m.batch m.control found)

@@ -10,7 +10,7 @@ ghost use Rattle.nv_clean.specs.Measures.{clean_measure};
 ghost use Rattle.nv_clean.specs.Cleaning.{ComesBehind, Fits, IsAfterCalls, IsBehind, IsPlain, IsUnderWay, OwnsAt, SaysStands, control_of, refusal_behind};
 
 use crate::{CleanControl, CleanMachine, CleanRefusal};
-use nv_core::{passes_are_left_alone, runs_are_sound};
+use nv_core::runs_are_sound;
 use nv_op::{CleanerOp, Op, perform, perform_after};
 use nv_pmem::Lines;
 use nv_store::Backing;
@@ -50,7 +50,6 @@ impl CleanMachine {
         ensures way { (start : PassState) → IsUnderWay self.old start pass.old → IsUnderWay self.new start pass.new }
     {
         runs_are_sound();
-        passes_are_left_alone();
         pass.sees_a_run();
         pass.due_steps_stand();
         let layout = board.layout();

@@ -12,8 +12,8 @@ use Rattle.nv_clean.specs.CleanSteps.{HasMadeOne, refusal_at}
 use Rattle.nv_core.specs.steps.CleanerSteps.{after_cleaner_op}
 use Rattle.nv_core.specs.steps.Ops.{cleaner_move, moved}
 use Rattle.nv_clean.specs.Measures.{clean_measure}
-use Rattle.nv_clean.proofs.MeasureLaws.{IsNear, step_falls}
-use Rattle.nv_clean.proofs.StepLaws.{head_near, plain_fits, plain_one, owns_fits, takes_room, store_room, way_then}
+use Rattle.nv_clean.proofs.MeasureLaws.{step_falls}
+use Rattle.nv_clean.proofs.StepLaws.{is_counted, plain_fits, plain_one, owns_fits, takes_room, store_room, way_then}
 use Rattle.nv_clean.proofs.batch.CleanMachine.step.Goals as goal
 
 pub next-op-requires-clause-fits : goal.next-op-requires-clause-fits
@@ -75,8 +75,7 @@ returns-clause-falls g c =
     subst (λ (s : Sizes). clean_measure s c.follow-2.new.self < clean_measure s m) c.layout-layout.ensures
     (step_falls sizes m c.follow-2.new.self op found c.follow.new.self c.requires.plain
     (subst (λ (s : Sizes). Fits s m) (sym same) (plain_fits c.runs_are_sound.ensures.runs c.args.pass.now c.sees_a_run.ensures.mount c.sees_a_run.ensures.run c.due_steps_stand.ensures m c.requires.way.0 c.requires.way.1 c.requires.plain))
-    (subst (λ (s : Sizes). IsNear s m.batch m.control found) (sym same)
-    (head_near c.runs_are_sound.ensures.runs c.args.pass.now c.sees_a_run.ensures.mount c.sees_a_run.ensures.run c.due_steps_stand.ensures m c.requires.way.0 c.requires.way.1 c.requires.plain op found c.perform-found.new.pass c.perform-found.ensures.stepped next c.passes_are_left_alone.ensures.own))
+    (is_counted c.runs_are_sound.ensures.runs c.args.pass.now c.sees_a_run.ensures.mount c.sees_a_run.ensures.run c.due_steps_stand.ensures m c.requires.way.0 c.requires.way.1 c.requires.plain op found c.perform-found.new.pass c.perform-found.ensures.stepped next)
     c.next-op.ensures.next (c.follow.ensures ∙ ap (λ (m : CleanState). moved (cleaner_move sizes op found) m.owned) c.self.view_is) c.follow-2.ensures.owned c.follow-2.ensures.begun
     (c.follow-2.ensures.control ∙ ap (λ (m : CleanState). after_cleaner_op sizes c.follow.new.self m.batch (inner_at sizes m.batch m.control) found) c.self.view_is))
 

@@ -12,6 +12,7 @@ use Rattle.nv_clean.proofs.CleanStepLaws.{behind_silent, next_kind_is}
 use Rattle.nv_core.specs.steps.CleanerSteps.{after_cleaner_op}
 use Rattle.nv_core.specs.steps.Ops.{cleaner_move, moved}
 use Rattle.nv_clean.specs.Measures.{clean_measure}
+use Rattle.nv_clean.proofs.FactLaws.{behind_counted}
 use Rattle.nv_clean.proofs.MeasureLaws.{step_falls}
 use Rattle.nv_clean.proofs.BehindLaws.{after_due, after_made, after_then, comes_plain}
 use Rattle.nv_clean.proofs.batch.CleanMachine.step_behind.Goals as goal
@@ -44,7 +45,7 @@ returns-clause-falls g c =
     let same = c.layout-layout.ensures ∙ sym (ap (λ (o : Opened). o.sizes) c.requires.board.same_mount) in
     subst (λ (s : Sizes). clean_measure s c.follow-2.new.self < clean_measure s m) c.layout-layout.ensures
     (step_falls sizes m c.follow-2.new.self op found c.follow.new.self (comes_plain m.control c.requires.behind)
-    (subst (λ (s : Sizes). Fits s m) (sym same) c.requires.fits) (λ at. absurd (subst ComesBehind at c.requires.behind))
+    (subst (λ (s : Sizes). Fits s m) (sym same) c.requires.fits) (behind_counted m.batch m.control found c.requires.behind)
     c.next-op.ensures.next (c.follow.ensures ∙ ap (λ (m : CleanState). moved (cleaner_move sizes op found) m.owned) c.self.view_is) c.follow-2.ensures.owned c.follow-2.ensures.begun
     (c.follow-2.ensures.control ∙ ap (λ (m : CleanState). after_cleaner_op sizes c.follow.new.self m.batch (inner_at sizes m.batch m.control) found) c.self.view_is))
 
