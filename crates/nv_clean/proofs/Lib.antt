@@ -10,3 +10,8 @@ mod RetireLaws
 mod RoomLaws
 mod StepLaws
 mod WriteLaws
+mod TellLaws
+mod ToldLaws
+mod AnswerLaws
+mod NotedLaws
+mod OverLaws

@@ -64,7 +64,7 @@ plain_at sizes batch (cleans.WriteBack i) plain = absurd plain
 plain_at sizes batch cleans.Retire plain = absurd plain
 plain_at sizes batch cleans.Over plain = absurd plain
 
-plain_free : (sizes : Sizes) (batch : Batch) (control : CleanControl) → IsPlain control → IsCallFree (control_at sizes batch control)
+pub plain_free : (sizes : Sizes) (batch : Batch) (control : CleanControl) → IsPlain control → IsCallFree (control_at sizes batch control)
 plain_free sizes batch cleans.TakeHeader plain s values pass work due = due
 plain_free sizes batch cleans.LoadStop plain s values pass work due = due
 plain_free sizes batch cleans.LoadTail plain s values pass work due = due

@@ -4,3 +4,4 @@ pub mod Cleaning
 pub mod CleanSteps
 pub mod Measures
 pub mod Retiring
+pub mod Answers

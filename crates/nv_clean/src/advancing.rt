@@ -2,7 +2,7 @@
 ghost use Rattle.std.specs.Prelude.{◌≡◌, ◌<◌, length};
 ghost use Rattle.nv_table.specs.state.States.{IsOf, PassState};
 ghost use Rattle.nv_clean.specs.CleanSteps.{HasMadeOne};
-ghost use Rattle.nv_clean.specs.Cleaning.{IsOpen, IsUnderWay};
+ghost use Rattle.nv_clean.specs.Cleaning.{IsOpen, IsUnderWay, IsBegun};
 ghost use Rattle.nv_clean.specs.Measures.{clean_measure};
 
 use crate::{CleanControl, CleanMachine};
@@ -25,6 +25,7 @@ impl CleanMachine {
         ensures board { IsOf board.now pass.new }
         ensures one { HasMadeOne board.now.opened.sizes self.old self.new pass.old pass.new }
         ensures falls { clean_measure board.now.opened.sizes self.new < clean_measure board.now.opened.sizes self.old }
+        ensures begun { IsBegun self.new.control }
         ensures way { (start : PassState) → IsUnderWay self.old start pass.old → IsUnderWay self.new start pass.new }
     {
         match self.control {

@@ -4,6 +4,7 @@
 
 mod advancing;
 mod batch;
+mod clean;
 mod following;
 mod machine;
 mod next;
@@ -13,4 +14,5 @@ mod telling;
 mod writing;
 
 pub use batch::{CleanControl, CleanMachine, CleanRefusal};
+pub use clean::{Cleaned, try_clean};
 pub use owned::{Cell, MOST_CELLS, OwnedCells};

@@ -7,7 +7,7 @@ ghost use Rattle.nv_op.specs.declared.kinds.Kind.TheVariants.{Stop};
 ghost use Rattle.nv_clean.specs.declared.batch.CleanControl.TheVariants as cleans;
 ghost use Rattle.nv_clean.specs.CleanSteps.{HasMadeOne, HasSteppedBehind, clean_kind};
 ghost use Rattle.nv_clean.specs.Measures.{clean_measure};
-ghost use Rattle.nv_clean.specs.Cleaning.{ComesBehind, Fits, IsAfterCalls, IsBehind, IsPlain, IsUnderWay, OwnsAt, SaysStands, control_of, refusal_behind};
+ghost use Rattle.nv_clean.specs.Cleaning.{ComesBehind, Fits, IsAfterCalls, IsBehind, IsPlain, IsUnderWay, OwnsAt, SaysStands, control_of, refusal_behind, IsBegun};
 
 use crate::{CleanControl, CleanMachine, CleanRefusal};
 use nv_core::runs_are_sound;
@@ -25,6 +25,7 @@ impl CleanMachine {
         ensures board { IsOf board.now pass.new }
         ensures one { HasMadeOne board.now.opened.sizes self.old self.new pass.old pass.new }
         ensures falls { clean_measure board.now.opened.sizes self.new < clean_measure board.now.opened.sizes self.old }
+        ensures begun { IsBegun self.new.control }
         ensures way { (start : PassState) → IsUnderWay self.old start pass.old → IsUnderWay self.new start pass.new }
     {
         let layout = board.layout();
@@ -47,6 +48,7 @@ impl CleanMachine {
         ensures board { IsOf board.now pass.new }
         ensures one { HasMadeOne board.now.opened.sizes self.old self.new pass.old pass.new }
         ensures falls { clean_measure board.now.opened.sizes self.new < clean_measure board.now.opened.sizes self.old }
+        ensures begun { IsBegun self.new.control }
         ensures way { (start : PassState) → IsUnderWay self.old start pass.old → IsUnderWay self.new start pass.new }
     {
         runs_are_sound();
@@ -75,6 +77,7 @@ impl CleanMachine {
         ensures one { (start was : PassState) → IsAfterCalls self.old start was pass.old → HasSteppedBehind (clean_kind self.old) (refusal_behind self.old.control) was pass.new }
         ensures refusal { self.new.refusal ≡ self.old.refusal }
         ensures falls { clean_measure board.now.opened.sizes self.new < clean_measure board.now.opened.sizes self.old }
+        ensures begun { IsBegun self.new.control }
         ensures way { (start was : PassState) → IsAfterCalls self.old start was pass.old → IsUnderWay self.new start pass.new }
     {
         let layout = board.layout();
@@ -99,6 +102,7 @@ impl CleanMachine {
         ensures one { (start was : PassState) → IsBehind (Cleaning self.old.batch (cleaner.SetStop held)) (Some refusal) self.old start was pass.old → HasSteppedBehind Stop (Some refusal) was pass.new }
         ensures refusal { self.new.refusal ≡ Some refusal }
         ensures falls { clean_measure board.now.opened.sizes self.new < length self.old.owned + held + 2 }
+        ensures begun { IsBegun self.new.control }
         ensures way { (start was : PassState) → IsBehind (Cleaning self.old.batch (cleaner.SetStop held)) (Some refusal) self.old start was pass.old → IsUnderWay self.new start pass.new }
     {
         perform_after::<W, L, B>(board, pass, Op::ByCleaner(CleanerOp::Stop));

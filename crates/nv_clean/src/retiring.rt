@@ -5,7 +5,7 @@ ghost use Rattle.nv_core.specs.state.Passes.{Cleaning};
 ghost use Rattle.nv_table.specs.state.States.{IsOf, PassState};
 ghost use Rattle.nv_clean.specs.declared.batch.CleanControl.TheVariants as cleans;
 ghost use Rattle.nv_clean.specs.declared.batch.CleanRefusal.TheVariants as refusals;
-ghost use Rattle.nv_clean.specs.Cleaning.{IsBehind, IsUnderWay};
+ghost use Rattle.nv_clean.specs.Cleaning.{IsBehind, IsUnderWay, IsBegun};
 ghost use Rattle.nv_clean.specs.CleanSteps.{HasMadeOne};
 ghost use Rattle.nv_clean.specs.Measures.{clean_measure};
 ghost use Rattle.nv_clean.specs.Retiring.{IsSyncing};
@@ -75,6 +75,7 @@ impl CleanMachine {
         ensures board { IsOf board.now pass.new }
         ensures one { HasMadeOne board.now.opened.sizes self.old self.new pass.old pass.new }
         ensures falls { clean_measure board.now.opened.sizes self.new < clean_measure board.now.opened.sizes self.old }
+        ensures begun { IsBegun self.new.control }
         ensures way { (start : PassState) → IsUnderWay self.old start pass.old → IsUnderWay self.new start pass.new }
     {
         runs_are_sound();

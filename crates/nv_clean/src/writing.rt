@@ -7,7 +7,7 @@ ghost use Rattle.nv_table.specs.state.States.{IsOf, PassState};
 ghost use Rattle.nv_clean.specs.declared.batch.CleanControl.TheVariants as cleans;
 ghost use Rattle.nv_clean.specs.declared.batch.CleanRefusal.TheVariants as refusals;
 ghost use Rattle.nv_clean.specs.CleanSteps.{HasMadeOne, is_fault};
-ghost use Rattle.nv_clean.specs.Cleaning.{HasReadPiece, IsBehind, IsGroupHeld, IsUnderWay, write_refusal, written_at};
+ghost use Rattle.nv_clean.specs.Cleaning.{HasReadPiece, IsBehind, IsGroupHeld, IsUnderWay, write_refusal, written_at, IsBegun};
 ghost use Rattle.nv_clean.specs.Measures.{clean_measure};
 
 use crate::{CleanControl, CleanMachine, CleanRefusal};
@@ -82,6 +82,7 @@ impl CleanMachine {
         ensures board { IsOf board.now pass.new }
         ensures one { (start was : PassState) → IsBehind (each_next self.old.batch at (cleaner.HoldEntry (at + 1)) (Cleaning self.old.batch (cleaner.CleanEntry 0))) None self.old start was pass.old → HasMadeOne board.now.opened.sizes self.old self.new was pass.new }
         ensures falls { clean_measure board.now.opened.sizes self.new < clean_measure board.now.opened.sizes self.old }
+        ensures begun { IsBegun self.new.control }
         ensures way { (start was : PassState) → IsBehind (each_next self.old.batch at (cleaner.HoldEntry (at + 1)) (Cleaning self.old.batch (cleaner.CleanEntry 0))) None self.old start was pass.old → IsUnderWay self.new start pass.new }
     {
         self.each(
@@ -106,6 +107,7 @@ impl CleanMachine {
         ensures board { IsOf board.now pass.new }
         ensures one { (start was : PassState) → IsBehind (Cleaning self.old.batch (cleaner.RefusedReturnEntry 0 (at + 1))) (Some refusals.NoMemory) self.old start was pass.old → HasMadeOne board.now.opened.sizes self.old self.new was pass.new }
         ensures falls { clean_measure board.now.opened.sizes self.new < clean_measure board.now.opened.sizes self.old }
+        ensures begun { IsBegun self.new.control }
         ensures way { (start was : PassState) → IsBehind (Cleaning self.old.batch (cleaner.RefusedReturnEntry 0 (at + 1))) (Some refusals.NoMemory) self.old start was pass.old → IsUnderWay self.new start pass.new }
     {
         self.refuse(CleanRefusal::NoMemory);
@@ -129,6 +131,7 @@ impl CleanMachine {
         ensures board { IsOf board.now pass.new }
         ensures one { (start was : PassState) → IsBehind (Cleaning self.old.batch (cleaner.SetStop (at + 1))) (Some refusal) self.old start was pass.old → HasMadeOne board.now.opened.sizes self.old self.new was pass.new }
         ensures falls { clean_measure board.now.opened.sizes self.new < clean_measure board.now.opened.sizes self.old }
+        ensures begun { IsBegun self.new.control }
         ensures way { (start was : PassState) → IsBehind (Cleaning self.old.batch (cleaner.SetStop (at + 1))) (Some refusal) self.old start was pass.old → IsUnderWay self.new start pass.new }
     {
         self.stop_behind::<Brand, L, B>(board, pass, at + 1, refusal);
@@ -149,6 +152,7 @@ impl CleanMachine {
         ensures board { IsOf board.now pass.new }
         ensures one { HasMadeOne board.now.opened.sizes self.old self.new pass.old pass.new }
         ensures falls { clean_measure board.now.opened.sizes self.new < clean_measure board.now.opened.sizes self.old }
+        ensures begun { IsBegun self.new.control }
         ensures way { (start : PassState) → IsUnderWay self.old start pass.old → IsUnderWay self.new start pass.new }
     {
         runs_are_sound();

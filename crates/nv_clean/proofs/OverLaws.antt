@@ -1,0 +1,147 @@
+-- Over: what a batch begins with, and what is so where it is over.
+use Rattle.std.proofs.Common.{◌≡◌, ◌⊎◌, inl, inr, ℕ, ◌-◌, ◌<◌, ◌≤◌, Bool, true, false, if◌then◌else◌, List, [], ◌∷◌, refl, sym, ap, ap₂, subst, ◌∙◌, arith}
+use Rattle.std.specs.Prelude.{Option, Some, None, is_some}
+use Rattle.nv_core.specs.state.Words.{Sizes, Word, SIZE, STORE, ENTRY}
+use Rattle.nv_core.specs.state.Core.{Core}
+use Rattle.nv_core.specs.state.Passes.{Idle, IsFilling, IsHeldEntry, times}
+use Rattle.nv_core.specs.steps.CleanerSteps.{new_batch}
+use Rattle.nv_core.specs.steps.Frames.{OwnEventsTell}
+use Rattle.nv_core.specs.steps.Opening.{IsMount}
+use Rattle.nv_core.specs.steps.Order.{Values}
+use Rattle.nv_core.specs.invariant.InvariantLaws.{RunsAreSound}
+use Rattle.nv_core.specs.invariant.Ownership.{HoldsLocks, Ownership}
+use Rattle.nv_core.specs.invariant.Sound.{Sound}
+use Rattle.nv_core.proofs.invariant.LockLaws.{times_here}
+use Rattle.nv_table.specs.invariant.Idle.{IsIdle}
+use Rattle.nv_table.specs.state.Opened.{mount_of, IsRunOf, state_of}
+use Rattle.nv_table.specs.state.States.{PassState}
+use Rattle.nv_table.specs.state.Views.{pass_of}
+use Rattle.nv_mirror.specs.PassSteps.{PassStep}
+use Rattle.nv_clean.specs.declared.batch.CleanControl.{CleanControl}
+use Rattle.nv_clean.specs.declared.batch.CleanControl.TheVariants as cleans
+use Rattle.nv_clean.specs.declared.batch.CleanRefusal.{CleanRefusal}
+use Rattle.nv_clean.specs.Answers.{BegunFor, BeginsWith, IsCleanOver, IsTold, answer_at, answered_as, refusal_in, retired_in, retires_in}
+use Rattle.nv_clean.specs.Cleaning.{CleanState, InBatch, IsOpen, IsUnderWay, control_at, is_over}
+use Rattle.nv_clean.specs.CleanSteps.{is_fault}
+use Rattle.nv_clean.proofs.AnswerLaws.{tells_all}
+use Rattle.nv_clean.proofs.BatchLaws.{batch_begins, batch_ends}
+use Rattle.nv_clean.proofs.TellLaws.{Tells, WasRefused, HasRetired}
+
+-- ---- its beginning
+
+abbrev pub new_machine : (most : ℕ) → CleanState
+new_machine most = record { batch = new_batch most; owned = []; control = cleans.Begin; refusal = None }
+
+pub new_way : (most : ℕ) (start : PassState) → IsIdle start → IsUnderWay (new_machine most) start start
+new_way most start idle = record { called = batch_begins start idle; apart = tt; fresh = λ at. (refl, refl, refl, refl) }
+
+pub new_told : (most : ℕ) (start : PassState) → IsTold most (new_machine most) start start
+new_told most start = record { steps = []; made = refl; own = tt; begun = (refl, refl); refused = refl; stops = refl; retired = λ over none. absurd (cc) }
+
+-- ---- its end
+
+pub over_at : (control : CleanControl) → is_over control ≡ true → control ≡ cleans.Over
+over_at cleans.Over is = refl
+over_at control is = absurd (cc)
+
+pub open_at : (control : CleanControl) → is_over control ≡ false → IsOpen control
+open_at cleans.Over is = absurd (cc)
+open_at control is = tt
+
+-- an idle pass owns nothing
+module _ (sizes : Sizes) (first : Values) (core : Core) (by : ℕ) (sound : Sound sizes first core) (idle : (core.passes by).control ≡ Idle) where
+  either_zero : (b : Bool) → ◌≡◌ {A = ℕ} (if b then 0 else 0) 0
+  either_zero true = refl
+  either_zero false = refl
+
+  owns : Ownership sizes (core.passes by)
+  owns = sound.ownership by
+
+  locks : HoldsLocks sizes (core.passes by) Idle
+  locks = subst (HoldsLocks sizes (core.passes by)) idle owns.locks
+
+  none : (cell : Word) → times cell (core.passes by).owned ≡ 0
+  none (ENTRY slot) = owns.none slot (λ number fills. absurd (subst (λ s. IsFilling s (core.passes by).first (core.passes by).entries number) idle fills)) (λ number held. absurd (subst (λ s. IsHeldEntry s number) idle held))
+  none (SIZE file) = locks (SIZE file) (λ slot e. cc) ∙ either_zero _
+  none (STORE file) = locks (STORE file) (λ slot e. cc) ∙ either_zero _
+  none cell = locks cell (λ slot e. cc)
+
+  pub idle_owns : (core.passes by).owned ≡ []
+  idle_owns = go (core.passes by).owned refl
+    where
+      go : (cells : List Word) → (core.passes by).owned ≡ cells → cells ≡ []
+      go [] is = refl
+      go (cell ∷ rest) is = let nothing = none cell in let same : times cell (core.passes by).owned ≡ times cell (cell ∷ rest) = ap (times cell) is in let here = times_here cell rest in absurd (omega (arith, nothing, same, here))
+
+module _ (sound : RunsAreSound) (m : CleanState) (start now : PassState) (mount : IsMount (mount_of now.view.opened)) (run : IsRunOf now.view.opened now.view.run) (way : IsUnderWay m start now) (over : m.control ≡ cleans.Over) where
+  control_is : (pass_of now.view).control ≡ Idle
+  control_is = way.called.control_is ∙ ap (control_at now.view.opened.sizes m.batch) over
+
+  owned_is : m.owned ≡ []
+  owned_is = sym way.called.owned_is ∙ idle_owns now.view.opened.sizes (mount_of now.view.opened).values (state_of now.view.opened now.view.run) now.view.number (sound (mount_of now.view.opened) now.view.run mount run) control_is
+
+  pub over_idle : IsIdle now
+  over_idle = batch_ends start now (subst (λ owned. InBatch Idle owned start now) owned_is (subst (λ c. InBatch c m.owned start now) (ap (control_at now.view.opened.sizes m.batch) over) way.called))
+
+begins_at : (most : ℕ) (m : CleanState) (control : CleanControl) → control ≡ cleans.Over → (steps : List PassStep) → BegunFor most m control steps → BeginsWith most steps
+begins_at most m cleans.Over is steps begun = begun
+begins_at most m control is steps begun = absurd (cc)
+
+begins_none : (most : ℕ) (steps : List PassStep) → BeginsWith most steps → steps ≡ [] → ⊥
+begins_none most [] begins none = begins
+begins_none most (step ∷ earlier) begins none = cc
+
+module _ (sound : RunsAreSound) (tell : OwnEventsTell) (most : ℕ) (m : CleanState) (start now : PassState) (mount : IsMount (mount_of start.view.opened)) (way : IsUnderWay m start now) (told : IsTold most m start now) (over : m.control ≡ cleans.Over) where
+  begins : BeginsWith most told.steps
+  begins = begins_at most m m.control over told.steps told.begun
+
+  stands : (pass_of now.view).control ≡ Idle
+  stands = way.called.control_is ∙ ap (control_at now.view.opened.sizes m.batch) over
+
+  ended : WasRefused start.view.opened.sizes told.steps ⊎ HasRetired start.view.opened.sizes told.steps
+  ended = (subst (λ c. Tells start.view.opened.sizes c told.steps) stands (tells_all sound tell start mount way.called.idle.control told.steps now told.made told.own (begins_none most told.steps begins))).0
+
+  not_both : (b : Bool) → b ≡ true → b ≡ false → ⊥
+  not_both b is is_not = cc
+
+  abbrev refusal : Option CleanRefusal
+  refusal = refusal_in start.view.opened.sizes told.steps
+
+  by_refusal : (r : Option CleanRefusal) → m.refusal ≡ r → IsCleanOver most start now (answer_at m.batch r)
+  by_refusal (Some why) is = record {
+    steps = told.steps;
+    made = told.made;
+    own = told.own;
+    begins = begins;
+    answer = ap (λ o. answered_as o (retired_in told.steps)) (sym told.refused ∙ is);
+    some = tt;
+    retires = go ended;
+    stops = told.stops ∙ ap is_fault is;
+  }
+    where
+      go : WasRefused start.view.opened.sizes told.steps ⊎ HasRetired start.view.opened.sizes told.steps → retires_in told.steps ≡ false
+      go (inl was) = was.2
+      go (inr had) = absurd (not_both (is_some refusal) (ap is_some (sym told.refused ∙ is)) had.told.0)
+  by_refusal None is = record {
+    steps = told.steps;
+    made = told.made;
+    own = told.own;
+    begins = begins;
+    answer = ap₂ answered_as (sym told.refused ∙ is) retired.0;
+    some = let more = retired.1 in omega (arith, more);
+    retires = go ended;
+    stops = told.stops ∙ ap is_fault is;
+  }
+    where
+      retired : (retired_in told.steps ≡ Some (m.batch.reached - m.batch.tail)) × (m.batch.tail < m.batch.reached)
+      retired = told.retired over is
+
+      go : WasRefused start.view.opened.sizes told.steps ⊎ HasRetired start.view.opened.sizes told.steps → retires_in told.steps ≡ true
+      go (inl was) = absurd (not_both (is_some refusal) was.0 (ap is_some (sym told.refused ∙ is)))
+      go (inr had) = had.told.2
+
+  pub over_told : IsCleanOver most start now (answer_at m.batch m.refusal)
+  over_told = by_refusal m.refusal refl
+
+  pub over_low : m.refusal ≡ None → m.batch.tail ≤ m.batch.reached
+  over_low none = let retired = (told.retired over none).1 in omega (arith, retired)

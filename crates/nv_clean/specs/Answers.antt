@@ -1,0 +1,154 @@
+-- Answers: what a batch is answered, by its steps.
+use Rattle.std.specs.Prelude.{◌≡◌, ℕ, ◌-◌, ◌<◌, ◌==◌, nat_lt, Bool, true, false, not, ◌&&◌, ◌||◌, if◌then◌else◌, List, [], ◌∷◌, Option, Some, None, Result, Ok, Err, is_ok, IfOk}
+use Rattle.nv_core.specs.state.Words.{Sizes, Word, STOP, HEAD, TAIL, CLEANER, ENTRY, kind_of, place, ready, slot_of_entry}
+use Rattle.nv_core.specs.state.Cleaner.{Batch, TakeCleaner, Clean, Free, MoveTail}
+use Rattle.nv_core.specs.state.Cleaner as cleaner
+use Rattle.nv_core.specs.steps.Ops.{Op, ByCleaner}
+use Rattle.nv_core.specs.steps.Order.{Work}
+use Rattle.nv_table.specs.state.States.{PassState}
+use Rattle.nv_mirror.specs.PassSteps.{PassStep, HasMade, either_of}
+use Rattle.nv_clean.specs.declared.batch.CleanRefusal.{CleanRefusal}
+use Rattle.nv_clean.specs.declared.batch.CleanRefusal.TheVariants.{Idle, Busy, Stopped}
+use Rattle.nv_clean.specs.declared.batch.CleanControl.{CleanControl}
+use Rattle.nv_clean.specs.declared.batch.CleanControl.TheVariants as cleans
+use Rattle.nv_clean.specs.declared.clean.Cleaned.{Cleaned}
+use Rattle.nv_clean.specs.Cleaning.{CleanState, calls_refusal}
+use Rattle.nv_clean.specs.CleanSteps.{is_fault}
+use Rattle.nv_clean.specs.OwnSteps.{AreOwn}
+
+-- ---- what some steps of a batch came to, the last of them first
+
+-- TAIL, as it was loaded
+abbrev pub tail_by : Op → (found tail : ℕ) → ℕ
+tail_by (ByCleaner (cleaner.Load TAIL)) found tail = found
+tail_by op found tail = tail
+
+abbrev pub tail_in : List PassStep → ℕ
+tail_in [] = 0
+tail_in (step ∷ earlier) = tail_by step.op step.found (tail_in earlier)
+
+-- whether an entry was cleaned: then the first group is
+abbrev pub is_clean : Op → Bool
+is_clean (ByCleaner (Clean number)) = true
+is_clean op = false
+
+abbrev pub cleans_in : List PassStep → Bool
+cleans_in [] = false
+cleans_in (step ∷ earlier) = is_clean step.op || cleans_in earlier
+
+-- whether an entry was freed, or TAIL moved
+abbrev pub is_retiring : Op → Bool
+is_retiring (ByCleaner (Free number)) = true
+is_retiring (ByCleaner (MoveTail tail)) = true
+is_retiring op = false
+
+abbrev pub retires_in : List PassStep → Bool
+retires_in [] = false
+retires_in (step ∷ earlier) = is_retiring step.op || retires_in earlier
+
+-- ---- why it cleaned nothing
+
+-- a lock that was found held
+abbrev pub busy_at : Sizes → Word → (found : ℕ) → Option CleanRefusal
+busy_at sizes cell found = if found == 0 then None else Some (Busy (place sizes cell))
+
+-- in its first group alone
+abbrev pub unless_cleaned : (cleaned : Bool) → Option CleanRefusal → Option CleanRefusal
+unless_cleaned cleaned refusal = if cleaned then None else refusal
+
+-- What a step refuses its batch for, if it does, where this loaded TAIL as it was and has cleaned its first group, or not: CLEANER that is found held, and HEADER, a CLEANUP or a STORE
+-- before the first group is cleaned; STOP that is found set; HEAD no higher than TAIL; the entry at the tail that isn't ready; and what came of the device calls before it, where STOP is set, or where
+-- an entry of the first group is returned as ready.
+abbrev pub refused_by : Sizes → (cleaned : Bool) (tail : ℕ) → List Work → Op → (found : ℕ) → Option CleanRefusal
+refused_by sizes cleaned tail works (ByCleaner (TakeCleaner most)) found = busy_at sizes CLEANER found
+refused_by sizes cleaned tail works (ByCleaner (cleaner.Take cell)) found = unless_cleaned cleaned (busy_at sizes cell found)
+refused_by sizes cleaned tail works (ByCleaner (cleaner.Load STOP)) found = if found == 0 then None else Some Stopped
+refused_by sizes cleaned tail works (ByCleaner (cleaner.Load HEAD)) found = if nat_lt tail found then None else Some (Idle tail)
+refused_by sizes cleaned tail works (ByCleaner (cleaner.Load (ENTRY slot))) found =
+    unless_cleaned cleaned (if slot == slot_of_entry sizes tail && not (kind_of found == ready) then Some (Idle tail) else None)
+refused_by sizes cleaned tail works (ByCleaner (cleaner.Return number)) found = unless_cleaned cleaned (calls_refusal works)
+refused_by sizes cleaned tail works (ByCleaner cleaner.Stop) found = calls_refusal works
+refused_by sizes cleaned tail works op found = None
+
+-- the first refusal among some steps
+abbrev pub refusal_in : Sizes → List PassStep → Option CleanRefusal
+refusal_in sizes [] = None
+refusal_in sizes (step ∷ earlier) = either_of (refusal_in sizes earlier) (refused_by sizes (cleans_in earlier) (tail_in earlier) step.works step.op step.found)
+
+-- ---- what it retired
+
+-- how far TAIL was moved
+abbrev pub retired_by : Op → (tail : ℕ) → Option ℕ
+retired_by (ByCleaner (MoveTail to)) tail = Some (to - tail)
+retired_by op tail = None
+
+abbrev pub retired_in : List PassStep → Option ℕ
+retired_in [] = None
+retired_in (step ∷ earlier) = either_of (retired_in earlier) (retired_by step.op (tail_in earlier))
+
+-- whether STOP was set
+abbrev pub is_stop : Op → Bool
+is_stop (ByCleaner cleaner.Stop) = true
+is_stop op = false
+
+abbrev pub stops_in : List PassStep → Bool
+stops_in [] = false
+stops_in (step ∷ earlier) = is_stop step.op || stops_in earlier
+
+-- ---- what it is answered
+
+abbrev pub answered_as : (refusal : Option CleanRefusal) → (retired : Option ℕ) → Option (Result Cleaned CleanRefusal)
+answered_as (Some refusal) retired = Some (Err refusal)
+answered_as None (Some count) = Some (Ok record { retired = count })
+answered_as None None = None
+
+abbrev pub clean_answer_in : Sizes → List PassStep → Option (Result Cleaned CleanRefusal)
+clean_answer_in sizes steps = answered_as (refusal_in sizes steps) (retired_in steps)
+
+-- the answer is that a device has failed
+abbrev pub tells_fault : Result Cleaned CleanRefusal → Bool
+tells_fault (Err refusal) = is_fault (Some refusal)
+tells_fault (Ok cleaned) = false
+
+-- they begin a batch of at most so many
+abbrev pub BeginsWith : (most : ℕ) → List PassStep → Type 0
+BeginsWith most [] = ⊥
+BeginsWith most (step ∷ []) = step.op ≡ ByCleaner (TakeCleaner most)
+BeginsWith most (step ∷ (other ∷ earlier)) = BeginsWith most (other ∷ earlier)
+
+-- A whole batch: its steps are its own, and the answer is what they came to. It has retired something, where it says so; an entry was freed, or TAIL moved, exactly where it does; and STOP was set
+-- by one of them exactly where the answer is that a device has failed.
+pub record IsCleanOver (batch : ℕ) (start now : PassState) (result : Result Cleaned CleanRefusal) : Type 0 where
+  pub steps : List PassStep
+  pub made : HasMade steps start now
+  pub own : AreOwn steps
+  pub begins : BeginsWith batch steps
+  pub answer : clean_answer_in start.view.opened.sizes steps ≡ Some result
+  pub some : IfOk result (λ cleaned. 0 < cleaned.retired)
+  pub retires : retires_in steps ≡ is_ok result
+  pub stops : stops_in steps ≡ tells_fault result
+
+-- ---- a machine, and what its steps came to so far
+
+-- it has made none yet, or began for at most so many
+abbrev pub BegunFor : (most : ℕ) → CleanState → CleanControl → List PassStep → Type 0
+BegunFor most m cleans.Begin steps = (steps ≡ []) × (m.batch.most ≡ most)
+BegunFor most m control steps = BeginsWith most steps
+
+-- Its refusal is theirs, and it has met a device fault where they set STOP; where it is over and not refused, it has retired what it cleaned.
+pub record IsTold (most : ℕ) (m : CleanState) (start now : PassState) : Type 0 where
+  pub steps : List PassStep
+  pub made : HasMade steps start now
+  pub own : AreOwn steps
+  pub begun : BegunFor most m m.control steps
+  pub refused : m.refusal ≡ refusal_in start.view.opened.sizes steps
+  pub stops : stops_in steps ≡ is_fault m.refusal
+  pub retired : m.control ≡ cleans.Over → m.refusal ≡ None → (retired_in steps ≡ Some (m.batch.reached - m.batch.tail)) × (m.batch.tail < m.batch.reached)
+
+-- what it is answered once it is over
+abbrev pub answer_at : Batch → Option CleanRefusal → Result Cleaned CleanRefusal
+answer_at batch (Some refusal) = Err refusal
+answer_at batch None = Ok record { retired = batch.reached - batch.tail }
+
+abbrev pub answer_of : CleanState → Result Cleaned CleanRefusal
+answer_of m = answer_at m.batch m.refusal
