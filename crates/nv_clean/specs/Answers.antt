@@ -5,14 +5,18 @@ use Rattle.nv_core.specs.state.Cleaner.{Batch, TakeCleaner, Clean, Free, MoveTai
 use Rattle.nv_core.specs.state.Cleaner as cleaner
 use Rattle.nv_core.specs.steps.Ops.{Op, ByCleaner}
 use Rattle.nv_core.specs.steps.Order.{Work}
+use Rattle.nv_table.specs.invariant.Idle.{IsIdle, IsLater}
 use Rattle.nv_table.specs.state.States.{PassState}
+use Rattle.nv_mirror.specs.Answers.{IsUnplaced}
 use Rattle.nv_mirror.specs.PassSteps.{PassStep, HasMade, either_of}
 use Rattle.nv_clean.specs.declared.batch.CleanRefusal.{CleanRefusal}
 use Rattle.nv_clean.specs.declared.batch.CleanRefusal.TheVariants.{Idle, Busy, Stopped}
 use Rattle.nv_clean.specs.declared.batch.CleanControl.{CleanControl}
 use Rattle.nv_clean.specs.declared.batch.CleanControl.TheVariants as cleans
+use Rattle.nv_clean.specs.declared.clean.CleanProgress.{CleanProgress}
+use Rattle.nv_clean.specs.declared.clean.CleanProgress.TheVariants.{More, Ended}
 use Rattle.nv_clean.specs.declared.clean.Cleaned.{Cleaned}
-use Rattle.nv_clean.specs.Cleaning.{CleanState, calls_refusal}
+use Rattle.nv_clean.specs.Cleaning.{CleanState, IsOpen, IsUnderWay, calls_refusal}
 use Rattle.nv_clean.specs.CleanSteps.{is_fault}
 use Rattle.nv_clean.specs.OwnSteps.{AreOwn}
 
@@ -152,3 +156,23 @@ answer_at batch None = Ok record { retired = batch.reached - batch.tail }
 
 abbrev pub answer_of : CleanState → Result Cleaned CleanRefusal
 answer_of m = answer_at m.batch m.refusal
+
+-- ---- a batch that makes one step at each advance
+
+-- It has made some steps since a start, at which its pass was idle.
+pub record IsBatchUnderWay (most : ℕ) (m : CleanState) (start now : PassState) : Type 0 where
+  pub way : IsUnderWay m start now
+  pub told : IsTold most m start now
+
+-- It has told what a whole batch tells.
+pub record HasEnded (most : ℕ) (start now : PassState) (result : Result Cleaned CleanRefusal) : Type 0 where
+  pub idle : IsIdle now
+  pub later : IsLater start now
+  pub spare : now.spare ≡ start.spare
+  pub kept : IsUnplaced start.view now.view
+  pub over : IsCleanOver most start now result
+
+-- it goes on, or has ended
+abbrev pub BatchGoes : (most : ℕ) → (start : PassState) → CleanState → (now : PassState) → CleanProgress → Type 0
+BatchGoes most start m now More = IsOpen m.control × IsBatchUnderWay most m start now
+BatchGoes most start m now (Ended result) = HasEnded most start now result

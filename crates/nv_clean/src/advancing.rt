@@ -1,4 +1,4 @@
-//! An advance of a batch: its next step, after the device calls that lie before it.
+//! The next step of a batch, after the device calls that lie before it.
 ghost use Rattle.std.specs.Prelude.{◌≡◌, ◌<◌, length};
 ghost use Rattle.nv_table.specs.state.States.{IsOf, PassState};
 ghost use Rattle.nv_clean.specs.CleanSteps.{HasMadeOne};
@@ -11,8 +11,8 @@ use nv_store::Backing;
 use nv_table::{Board, Pass};
 
 impl CleanMachine {
-    /// Makes the next step, after the device calls that lie before it. The piece of an entry that is written back lies in `piece` meanwhile, which is as long as a page.
-    pub fn advance<L: Lines, B: Backing>(
+    // Makes the next step, after the device calls that lie before it. The piece of an entry that is written back lies in `piece` meanwhile, which is as long as a page.
+    pub(crate) fn make_step<L: Lines, B: Backing>(
         &mut self,
         board: &Board<L, B>,
         pass: &mut Pass<L, B>,

@@ -1,9 +1,12 @@
 //! A batch as a call.
-ghost use Rattle.std.specs.Prelude.{◌≡◌, ◌≤◌, None, length};
+ghost use Rattle.std.specs.Prelude.{◌≡◌, ℕ, ◌<◌, ◌≤◌, None, length};
 ghost use Rattle.nv_table.specs.invariant.Idle.{IsIdle, IsLater};
-ghost use Rattle.nv_table.specs.state.States.{IsOf};
+ghost use Rattle.nv_table.specs.state.States.{IsOf, PassState};
 ghost use Rattle.nv_mirror.specs.Answers.{IsUnplaced};
-ghost use Rattle.nv_clean.specs.Answers.{IsCleanOver, answer_of};
+ghost use Rattle.nv_clean.specs.Answers.{BatchGoes, IsBatchUnderWay, IsCleanOver, answer_of};
+ghost use Rattle.nv_clean.specs.CleanSteps.{HasMadeOne};
+ghost use Rattle.nv_clean.specs.Cleaning.{IsOpen};
+ghost use Rattle.nv_clean.specs.Measures.{clean_measure};
 
 use crate::{CleanMachine, CleanRefusal};
 use nv_core::{passes_are_left_alone, runs_are_sound};
@@ -22,6 +25,15 @@ pub struct Cleaned {
     pub retired: u64,
 }
 
+/// What an advance of a batch came to.
+#[derive(Clone, Copy, Debug, PartialEq, Eq)]
+pub enum CleanProgress {
+    /// It has made one step, and goes on.
+    More,
+    /// It has made its last one, and is answered so.
+    Ended(Result<Cleaned, CleanRefusal>),
+}
+
 impl CleanMachine {
     // What it is answered, once it is over.
     fn answer(&self) -> Result<Cleaned, CleanRefusal>
@@ -33,6 +45,35 @@ impl CleanMachine {
             None => Ok(Cleaned {
                 retired: self.reached - self.tail,
             }),
+        }
+    }
+
+    /// Makes the next step, after the device calls that lie before it. The pass was idle before the first one, and has begun nothing else since. Takes no memory.
+    pub fn advance<L: Lines + Drop, B: Backing + Drop>(
+        &mut self,
+        mount: &Mount<L, B>,
+        pass: &mut Pass<L, B>,
+    ) -> CleanProgress
+        requires board { IsOf mount.now.board pass.old }
+        requires open { IsOpen self.old.control }
+        requires under_way { (most : ℕ) × (start : PassState) × IsBatchUnderWay most self.old start pass.old }
+        ensures board { IsOf mount.now.board pass.new }
+        ensures one { HasMadeOne mount.now.board.opened.sizes self.old self.new pass.old pass.new }
+        ensures falls { clean_measure mount.now.board.opened.sizes self.new < clean_measure mount.now.board.opened.sizes self.old }
+        ensures goes { (most : ℕ) (start : PassState) → IsBatchUnderWay most self.old start pass.old → BatchGoes most start self.new pass.new result }
+    {
+        runs_are_sound();
+        passes_are_left_alone();
+        pass.sees_a_run();
+        let board = mount.board();
+        let page = board.layout().page as usize;
+        let mut room = [0; MOST_PAGE];
+        self.make_step(board, pass, &mut room[..page]);
+        pass.sees_a_run();
+        if self.is_over() {
+            CleanProgress::Ended(self.answer())
+        } else {
+            CleanProgress::More
         }
     }
 }
@@ -59,7 +100,7 @@ fn run<L: Lines, B: Backing>(
     pass.sees_a_run();
     let mut machine = CleanMachine::new(batch);
     while !machine.is_over() {
-        machine.advance(board, pass, piece);
+        machine.make_step(board, pass, piece);
     }
     pass.sees_a_run();
     machine.answer()

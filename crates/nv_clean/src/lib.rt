@@ -14,5 +14,5 @@ mod telling;
 mod writing;
 
 pub use batch::{CleanControl, CleanMachine, CleanRefusal};
-pub use clean::{Cleaned, try_clean};
+pub use clean::{CleanProgress, Cleaned, try_clean};
 pub use owned::{Cell, MOST_CELLS, OwnedCells};

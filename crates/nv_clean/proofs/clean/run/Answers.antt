@@ -20,12 +20,12 @@ pub loop-machine-preserved : goal.loop-machine-preserved
 loop-machine-preserved g c =
     let start = c.args.pass.now in
     let m = c.loop-machine.machine in
-    let way = c.advance.ensures.way start c.loop-machine.invariant.2 in (
-      c.advance.ensures.board,
-      c.advance.auto.piece ∙ c.loop-machine.invariant.1,
+    let way = c.make_step.ensures.way start c.loop-machine.invariant.2 in (
+      c.make_step.ensures.board,
+      c.make_step.auto.piece ∙ c.loop-machine.invariant.1,
       way,
-      told_on c.runs_are_sound.ensures.runs c.passes_are_left_alone.ensures.own c.args.batch m c.advance.new.self start c.loop-machine.pass c.advance.new.pass c.args.board.now.opened.sizes c.advance.ensures.one
-          (ap (λ (o : Opened). o.sizes) (sym c.requires.board.same_mount)) c.sees_a_run.ensures.mount c.loop-machine.invariant.2 way c.advance.ensures.begun c.loop-machine.invariant.3
+      told_on c.runs_are_sound.ensures.runs c.passes_are_left_alone.ensures.own c.args.batch m c.make_step.new.self start c.loop-machine.pass c.make_step.new.pass c.args.board.now.opened.sizes c.make_step.ensures.one
+          (ap (λ (o : Opened). o.sizes) (sym c.requires.board.same_mount)) c.sees_a_run.ensures.mount c.loop-machine.invariant.2 way c.make_step.ensures.begun c.loop-machine.invariant.3
           (open_at m.control (sym c.is_over.ensures ∙ c.loop-machine-test.true)),
     )
 
