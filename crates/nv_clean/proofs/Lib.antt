@@ -15,3 +15,4 @@ mod ToldLaws
 mod AnswerLaws
 mod NotedLaws
 mod OverLaws
+mod StoredLaws

@@ -1,7 +1,7 @@
 -- Noted: a machine notes of its batch what the batch's steps came to.
-use Rattle.std.proofs.Common.{◌≡◌, ◌⊎◌, inl, inr, ℕ, zero, suc, ◌-◌, ◌<◌, ◌==◌, ◌||◌, Bool, true, false, if◌then◌else◌, List, [], ◌∷◌, refl, sym, ap, ap₂, subst, ◌∙◌, arith}
+use Rattle.std.proofs.Common.{◌≡◌, ◌⊎◌, inl, inr, ℕ, zero, suc, ◌-◌, ◌<◌, ◌==◌, ◌||◌, Bool, true, false, if◌then◌else◌, List, [], ◌∷◌, refl, sym, ap, ap₂, subst, ◌∙◌, arith, ◌+◌, ◌≤◌}
 use Rattle.std.specs.Prelude.{Option, Some, None, is_some}
-use Rattle.nv_core.specs.state.Words.{Sizes, CLEANER, place}
+use Rattle.nv_core.specs.state.Words.{Sizes, Word, CLEANER, HEADER, STORE, place}
 use Rattle.nv_core.specs.state.Cleaner.{Batch, CleanerControl, WriteBack, CleanEntry, RefusedReturnEntry, SyncStores, MoveHeaderTail, FreeEntry, AdvanceTail, SetStop, CleanerOp, TakeCleaner, MoveTail}
 use Rattle.nv_core.specs.state.Cleaner as cleaner
 use Rattle.nv_core.specs.state.Passes.{Control, Idle, Cleaning, Pass}
@@ -10,7 +10,10 @@ use Rattle.nv_core.specs.steps.Frames.{OwnEventsTell}
 use Rattle.nv_core.specs.steps.Opening.{IsMount}
 use Rattle.nv_core.specs.steps.Ops.{ByCleaner}
 use Rattle.nv_core.specs.steps.Order.{Work}
+use Rattle.nv_core.specs.invariant.ControlFacts.{FactsAt}
 use Rattle.nv_core.specs.invariant.InvariantLaws.{RunsAreSound}
+use Rattle.nv_core.specs.steps.PassSteps.{tail_after}
+use Rattle.nv_table.proofs.invariant.DrawnLaws.{calls_leave}
 use Rattle.nv_core.proofs.invariant.CleanerLocks.{cleaner_op_is}
 use Rattle.nv_table.specs.state.Opened.{Opened, mount_of}
 use Rattle.nv_table.specs.state.States.{PassState}
@@ -21,14 +24,14 @@ use Rattle.nv_clean.specs.declared.batch.CleanControl.{CleanControl}
 use Rattle.nv_clean.specs.declared.batch.CleanControl.TheVariants as cleans
 use Rattle.nv_clean.specs.declared.batch.CleanRefusal.{CleanRefusal}
 use Rattle.nv_clean.specs.declared.batch.CleanRefusal.TheVariants.{Idle as IdleRefusal, Busy, Stopped, RegionFault, StoreFault, NoMemory}
-use Rattle.nv_clean.specs.Answers.{BegunFor, BeginsWith, IsTold, cleans_in, is_stop, refusal_in, refused_by, retired_by, retired_in, stops_in, tail_in}
-use Rattle.nv_clean.specs.Cleaning.{CleanState, IsBegun, IsEnd, IsOpen, IsPlain, IsUnderWay, calls_refusal, control_at, control_of, inner_at}
+use Rattle.nv_clean.specs.Answers.{BegunFor, BeginsWith, IsTold, cleans_in, is_stop, refusal_in, refused_by, retired_by, retired_in, stops_in, tail_by, tail_in}
+use Rattle.nv_clean.specs.Cleaning.{CleanState, IsBegun, IsEnd, IsOpen, IsPlain, IsUnderWay, calls_refusal, control_at, control_of, files_from, inner_at}
 use Rattle.nv_clean.specs.CleanSteps.{HasMadeOne, is_fault, refusal_at, refusal_then}
 use Rattle.nv_clean.specs.OwnSteps.{AreOwn, comes_in_batch, is_own}
 use Rattle.nv_clean.proofs.AnswerLaws.{OpTold, amid, moves_at, op_told, shape, stops_at, tells_all, works_none}
 use Rattle.nv_clean.proofs.StepLaws.{plain_at, plain_free}
 use Rattle.nv_clean.proofs.TellLaws.{Amid, HasRetired, PendingAt, Tells, TellsAt, WasRefused, either_none, retired_at}
-use Rattle.nv_clean.proofs.ToldLaws.{IsMid, IsMidOf, behind_said, by_core, mid_pass, none_due, said_behind, same_said, works_mid}
+use Rattle.nv_clean.proofs.ToldLaws.{IsMid, IsMidOf, at_core, behind_said, by_core, is_made, mid_pass, none_due, said_behind, same_said, works_mid}
 
 some_is : {T : Type 0} (one other : T) → Some one ≡ Some other → other ≡ one
 some_is one other e = cc
@@ -53,6 +56,8 @@ module _ (sound : RunsAreSound) (tell : OwnEventsTell) (m : CleanState) (old new
     pub pending : PendingAt inner (calls_refusal works)
     pub said : refusal_then step_sizes m (calls_refusal works) found ≡ either_of m.refusal (refused_by step_sizes (cleans_in steps) (tail_in steps) works (ByCleaner op) found)
     pub count : (n : ℕ) → either_of (retired_in steps) (retired_by (ByCleaner op) (tail_in steps)) ≡ Some n → IsEnd m.control × (n ≡ m.batch.reached - m.batch.tail)
+    pub moved : ((n : ℕ) → retired_in steps ≡ Some n → tail_in steps + n ≤ (pass_of taken.before.view).tail)
+        → (n : ℕ) → either_of (retired_in steps) (retired_by (ByCleaner op) (tail_in steps)) ≡ Some n → tail_by (ByCleaner op) found (tail_in steps) + n ≤ tail_after pass_mid (ByCleaner op) found
 
   abbrev Counts : CleanControl → Type 0
   Counts control = (n : ℕ) → either_of (retired_in steps) (retired_by (ByCleaner op) (tail_in steps)) ≡ Some n → IsEnd control × (n ≡ m.batch.reached - m.batch.tail)
@@ -79,6 +84,36 @@ module _ (sound : RunsAreSound) (tell : OwnEventsTell) (m : CleanState) (old new
   count_plain cleans.Over plain at t told n is = absurd plain
   count_plain control plain at t told n is = none_counted n t.0.retired_is (told.moves (tail_in steps) refl) is
 
+  abbrev Moves : Type 0
+  Moves = ((n : ℕ) → retired_in steps ≡ Some n → tail_in steps + n ≤ (pass_of taken.before.view).tail)
+      → (n : ℕ) → either_of (retired_in steps) (retired_by (ByCleaner op) (tail_in steps)) ≡ Some n → tail_by (ByCleaner op) found (tail_in steps) + n ≤ tail_after pass_mid (ByCleaner op) found
+
+  -- it gives a lock back, with TAIL moved
+  gave_on : (cell : Word) → op ≡ cleaner.Give cell → retired_in steps ≡ Some (m.batch.reached - m.batch.tail) → Moves
+  gave_on cell gives told before n is =
+      let same = one_counted n told is in
+      let old = before (m.batch.reached - m.batch.tail) told in
+      let kept : pass_mid.tail ≡ (pass_of taken.before.view).tail = calls_leave (λ (p : Pass). p.tail) (λ sizes work p. refl) step_sizes taken.stepped.works (pass_of taken.before.view) in
+      subst (λ o. tail_by (ByCleaner o) found (tail_in steps) + n ≤ tail_after pass_mid (ByCleaner o) found) (sym gives) (omega (arith, same, old, kept))
+
+  moved_plain : (control : CleanControl) → IsPlain control → pass_mid.control ≡ Cleaning m.batch (inner_at step_sizes m.batch control) → TellsAt step_sizes m.batch (inner_at step_sizes m.batch control) steps → OpTold (inner_at step_sizes m.batch control) op → Moves
+  moved_plain (cleans.GiveStore file) plain at t told before n is =
+      gave_on (STORE file) (cleaner_op_is (cleaner.Give (STORE file)) op (by_core sound tell old new works op found taken mount m.batch (cleaner.GiveStores (file ∷ files_from step_sizes m.batch (file + 1))) at)) t.0.retired_is before n is
+  moved_plain cleans.GiveHeader plain at t told before n is = gave_on HEADER (cleaner_op_is (cleaner.Give HEADER) op (by_core sound tell old new works op found taken mount m.batch cleaner.GiveHeader at)) t.0.retired_is before n is
+  moved_plain cleans.GiveCleaner plain at t told before n is = gave_on CLEANER (cleaner_op_is (cleaner.Give CLEANER) op (by_core sound tell old new works op found taken mount m.batch cleaner.GiveCleaner at)) t.0.retired_is before n is
+  moved_plain cleans.AdvanceTail plain at t told before n is =
+      let moves = cleaner_op_is (MoveTail m.batch.reached) op (by_core sound tell old new works op found taken mount m.batch AdvanceTail at) in
+      let made = is_made sound tell old new works op found taken mount in
+      let more : m.batch.tail < m.batch.reached = subst (FactsAt step_sizes (made.core.passes taken.before.view.number)) (at_core sound tell old new works op found taken mount steps m.batch AdvanceTail at) (made.sound.control_facts taken.before.view.number).at in
+      let same = (count_plain cleans.AdvanceTail plain at t told n is).1 in
+      let tail = t.0.tail_is in
+      subst (λ o. tail_by (ByCleaner o) found (tail_in steps) + n ≤ tail_after pass_mid (ByCleaner o) found) (sym moves) (omega (arith, more, same, tail))
+  moved_plain cleans.Begin plain at t told before n is = absurd plain
+  moved_plain (cleans.WriteBack i) plain at t told before n is = absurd plain
+  moved_plain cleans.Retire plain at t told before n is = absurd plain
+  moved_plain cleans.Over plain at t told before n is = absurd plain
+  moved_plain control plain at t told before n is = none_counted n t.0.retired_is (told.moves (tail_in steps) refl) is
+
   mid_count : (inner : CleanerControl) → IsMid inner → (retired_at m.batch inner ≡ None) × (moves_at inner ≡ false)
   mid_count (cleaner.HoldEntry i) mid = (refl, refl)
   mid_count (cleaner.ReadPiece i) mid = (refl, refl)
@@ -102,6 +137,7 @@ module _ (sound : RunsAreSound) (tell : OwnEventsTell) (m : CleanState) (old new
           ∙ same_said sound tell old new works op found taken mount steps m.batch m.refusal control plain at told.0 none;
       count = λ n e. subst (λ c. IsEnd c × (n ≡ m.batch.reached - m.batch.tail)) (sym is)
           (count_plain control plain at told.0 (op_told step_sizes pass_mid.owned m.batch inner op (by_core sound tell old new works op found taken mount m.batch inner at)) n e);
+      moved = moved_plain control plain at told.0 (op_told step_sizes pass_mid.owned m.batch inner op (by_core sound tell old new works op found taken mount m.batch inner at));
     }
       where
         inner : CleanerControl
@@ -137,6 +173,7 @@ module _ (sound : RunsAreSound) (tell : OwnEventsTell) (m : CleanState) (old new
           pending = told.1;
           said = noted (calls_refusal works) ∙ behind_said sound tell old new works op found taken mount steps m.batch m.refusal inner here mid.1 t_here told.1 same;
           count = λ n e. none_counted n (t_here.0.retired_is ∙ (mid_count inner mid.1).0) (op_is.moves (tail_in steps) (mid_count inner mid.1).1) e;
+          moved = λ before n e. none_counted n (t_here.0.retired_is ∙ (mid_count inner mid.1).0) (op_is.moves (tail_in steps) (mid_count inner mid.1).1) e;
         }
           where
             here : pass_mid.control ≡ Cleaning m.batch inner
@@ -232,7 +269,8 @@ module _ (sound : RunsAreSound) (tell : OwnEventsTell) (most : ℕ) (m next : Cl
   -- what is so behind one more step, whatever came before
   module _ (own : is_own told.steps one.step.op ≡ true) (begins : BeginsWith most new_steps) (said : refusal_then sz m (calls_refusal one.step.works) one.step.found ≡ either_of m.refusal (Says sz))
       (stops : is_stop (ByCleaner one.op) ≡ is_fault (calls_refusal one.step.works))
-      (count : (n : ℕ) → either_of (retired_in told.steps) (retired_by (ByCleaner one.op) (tail_in told.steps)) ≡ Some n → IsEnd m.control × (n ≡ m.batch.reached - m.batch.tail)) where
+      (count : (n : ℕ) → either_of (retired_in told.steps) (retired_by (ByCleaner one.op) (tail_in told.steps)) ≡ Some n → IsEnd m.control × (n ≡ m.batch.reached - m.batch.tail))
+      (moved : (n : ℕ) → either_of (retired_in told.steps) (retired_by (ByCleaner one.op) (tail_in told.steps)) ≡ Some n → tail_by (ByCleaner one.op) one.step.found (tail_in told.steps) + n ≤ (pass_of new.view).tail) where
     refused_then : next.refusal ≡ refusal_in start_sizes new_steps
     refused_then =
         one.refusal ∙ ap (λ z. refusal_then z m (calls_refusal one.step.works) one.step.found) (same ∙ sym sz_is) ∙ said ∙ ap (λ r. either_of r (Says sz)) told.refused
@@ -277,6 +315,7 @@ module _ (sound : RunsAreSound) (tell : OwnEventsTell) (most : ℕ) (m next : Cl
       begun = begun_for most next new_steps next.control begun begins;
       refused = refused_then;
       stops = stops_then;
+      moved = λ n is. subst (λ o. tail_by o one.step.found (tail_in told.steps) + n ≤ (pass_of new.view).tail) (sym one.op_is) (moved n (ap (λ o. either_of (retired_in told.steps) (retired_by o (tail_in told.steps))) (sym one.op_is) ∙ is));
       retired = retired_then;
     }
 
@@ -285,6 +324,8 @@ module _ (sound : RunsAreSound) (tell : OwnEventsTell) (most : ℕ) (m next : Cl
   begun_told control is unended begun_before begins =
       goes_on_told (ap (is_own told.steps) one.op_is ∙ own_behind told.steps one.op (begins_some most told.steps begins) k.op_is.own) (begins_more most one.step told.steps begins) k.said
       (k.op_is.stops ∙ stop_pending k.inner (calls_refusal one.step.works) k.pending) k.count
+      (λ n is. subst (λ t. tail_by (ByCleaner one.op) one.step.found (tail_in told.steps) + n ≤ t) (sym (ap (λ (p : Pass). p.tail) taken_so.stepped.pass))
+      (k.moved (λ n is. subst (λ (v : PassView). tail_in told.steps + n ≤ (pass_of v).tail) (sym taken_so.between.view) (told.moved n is)) n is))
     where
       t_all : Tells start_sizes (pass_of old.view).control told.steps
       t_all = tells_all sound tell start mount way.called.idle.control told.steps old told.made told.own (begins_some most told.steps begins)
@@ -306,6 +347,7 @@ module _ (sound : RunsAreSound) (tell : OwnEventsTell) (most : ℕ) (m next : Cl
       ∙ busy_first (one.step.found == 0) (m.batch.reached == m.batch.tail) m.refusal (Busy (place sz CLEANER)) (ap (λ (b : Batch). b.reached == b.tail) fresh.1)
       ∙ sym (ap (λ o. either_of m.refusal (refused_by sz (cleans_in told.steps) (tail_in told.steps) one.step.works (ByCleaner o) one.step.found)) first))
       (ap (λ o. is_stop (ByCleaner o)) first ∙ sym (ap (λ w. is_fault (calls_refusal w)) unworked))
+      (λ n is. absurd (no_value n (sym (ap₂ (λ e o. either_of (retired_in e) (retired_by (ByCleaner o) (tail_in e))) none first) ∙ is)))
       (λ n is. absurd (no_value n (sym (ap₂ (λ e o. either_of (retired_in e) (retired_by (ByCleaner o) (tail_in e))) none first) ∙ is)))
     where
       first : one.op ≡ TakeCleaner m.batch.most

@@ -1,5 +1,5 @@
 -- Over: what a batch begins with, and what is so where it is over.
-use Rattle.std.proofs.Common.{◌≡◌, ◌⊎◌, inl, inr, ℕ, ◌-◌, ◌<◌, ◌≤◌, Bool, true, false, if◌then◌else◌, List, [], ◌∷◌, refl, sym, ap, ap₂, subst, ◌∙◌, arith}
+use Rattle.std.proofs.Common.{◌≡◌, ◌⊎◌, inl, inr, ℕ, ◌-◌, ◌<◌, ◌≤◌, Bool, true, false, if◌then◌else◌, List, [], ◌∷◌, refl, sym, ap, ap₂, subst, ◌∙◌, arith, ◌+◌}
 use Rattle.std.specs.Prelude.{Option, Some, None, is_some}
 use Rattle.nv_core.specs.state.Words.{Sizes, Word, SIZE, STORE, ENTRY}
 use Rattle.nv_core.specs.state.Core.{Core}
@@ -20,9 +20,10 @@ use Rattle.nv_mirror.specs.PassSteps.{PassStep}
 use Rattle.nv_clean.specs.declared.batch.CleanControl.{CleanControl}
 use Rattle.nv_clean.specs.declared.batch.CleanControl.TheVariants as cleans
 use Rattle.nv_clean.specs.declared.batch.CleanRefusal.{CleanRefusal}
-use Rattle.nv_clean.specs.Answers.{BegunFor, BeginsWith, IsCleanOver, IsTold, answer_at, answered_as, refusal_in, retired_in, retires_in}
+use Rattle.nv_clean.specs.Answers.{BegunFor, BeginsWith, IsCleanOver, IsTold, answer_at, answered_as, refusal_in, retired_in, retires_in, tail_in}
 use Rattle.nv_clean.specs.Cleaning.{CleanState, InBatch, IsOpen, IsUnderWay, control_at, is_over}
 use Rattle.nv_clean.specs.CleanSteps.{is_fault}
+use Rattle.nv_clean.specs.Stored.{IsStored}
 use Rattle.nv_clean.proofs.AnswerLaws.{tells_all}
 use Rattle.nv_clean.proofs.BatchLaws.{batch_begins, batch_ends}
 use Rattle.nv_clean.proofs.TellLaws.{Tells, WasRefused, HasRetired}
@@ -36,7 +37,7 @@ pub new_way : (most : ℕ) (start : PassState) → IsIdle start → IsUnderWay (
 new_way most start idle = record { called = batch_begins start idle; apart = tt; fresh = λ at. (refl, refl, refl, refl) }
 
 pub new_told : (most : ℕ) (start : PassState) → IsTold most (new_machine most) start start
-new_told most start = record { steps = []; made = refl; own = tt; begun = (refl, refl); refused = refl; stops = refl; retired = λ over none. absurd (cc) }
+new_told most start = record { steps = []; made = refl; own = tt; begun = (refl, refl); refused = refl; stops = refl; moved = λ n is. absurd (cc); retired = λ over none. absurd (cc) }
 
 -- ---- its end
 
@@ -107,14 +108,15 @@ module _ (sound : RunsAreSound) (tell : OwnEventsTell) (most : ℕ) (m : CleanSt
   abbrev refusal : Option CleanRefusal
   refusal = refusal_in start.view.opened.sizes told.steps
 
-  by_refusal : (r : Option CleanRefusal) → m.refusal ≡ r → IsCleanOver most start now (answer_at m.batch r)
-  by_refusal (Some why) is = record {
+  by_refusal : ((below : ℕ) → below ≤ (pass_of now.view).tail → IsStored now.view below) → (r : Option CleanRefusal) → m.refusal ≡ r → IsCleanOver most start now (answer_at m.batch r)
+  by_refusal store (Some why) is = record {
     steps = told.steps;
     made = told.made;
     own = told.own;
     begins = begins;
     answer = ap (λ o. answered_as o (retired_in told.steps)) (sym told.refused ∙ is);
     some = tt;
+    stored = tt;
     retires = go ended;
     stops = told.stops ∙ ap is_fault is;
   }
@@ -122,13 +124,14 @@ module _ (sound : RunsAreSound) (tell : OwnEventsTell) (most : ℕ) (m : CleanSt
       go : WasRefused start.view.opened.sizes told.steps ⊎ HasRetired start.view.opened.sizes told.steps → retires_in told.steps ≡ false
       go (inl was) = was.2
       go (inr had) = absurd (not_both (is_some refusal) (ap is_some (sym told.refused ∙ is)) had.told.0)
-  by_refusal None is = record {
+  by_refusal store None is = record {
     steps = told.steps;
     made = told.made;
     own = told.own;
     begins = begins;
     answer = ap₂ answered_as (sym told.refused ∙ is) retired.0;
     some = let more = retired.1 in omega (arith, more);
+    stored = store (tail_in told.steps + (m.batch.reached - m.batch.tail)) (told.moved (m.batch.reached - m.batch.tail) retired.0);
     retires = go ended;
     stops = told.stops ∙ ap is_fault is;
   }
@@ -140,8 +143,8 @@ module _ (sound : RunsAreSound) (tell : OwnEventsTell) (most : ℕ) (m : CleanSt
       go (inl was) = absurd (not_both (is_some refusal) was.0 (ap is_some (sym told.refused ∙ is)))
       go (inr had) = had.told.2
 
-  pub over_told : IsCleanOver most start now (answer_at m.batch m.refusal)
-  over_told = by_refusal m.refusal refl
+  pub over_told : ((below : ℕ) → below ≤ (pass_of now.view).tail → IsStored now.view below) → IsCleanOver most start now (answer_at m.batch m.refusal)
+  over_told store = by_refusal store m.refusal refl
 
   pub over_low : m.refusal ≡ None → m.batch.tail ≤ m.batch.reached
   over_low none = let retired = (told.retired over none).1 in omega (arith, retired)

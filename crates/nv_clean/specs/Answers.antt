@@ -1,5 +1,5 @@
 -- Answers: what a batch is answered, by its steps.
-use Rattle.std.specs.Prelude.{◌≡◌, ℕ, ◌-◌, ◌<◌, ◌==◌, nat_lt, Bool, true, false, not, ◌&&◌, ◌||◌, if◌then◌else◌, List, [], ◌∷◌, Option, Some, None, Result, Ok, Err, is_ok, IfOk}
+use Rattle.std.specs.Prelude.{◌≡◌, ℕ, ◌+◌, ◌-◌, ◌<◌, ◌≤◌, ◌==◌, nat_lt, Bool, true, false, not, ◌&&◌, ◌||◌, if◌then◌else◌, List, [], ◌∷◌, Option, Some, None, Result, Ok, Err, is_ok, IfOk}
 use Rattle.nv_core.specs.state.Words.{Sizes, Word, STOP, HEAD, TAIL, CLEANER, ENTRY, kind_of, place, ready, slot_of_entry}
 use Rattle.nv_core.specs.state.Cleaner.{Batch, TakeCleaner, Clean, Free, MoveTail}
 use Rattle.nv_core.specs.state.Cleaner as cleaner
@@ -7,6 +7,7 @@ use Rattle.nv_core.specs.steps.Ops.{Op, ByCleaner}
 use Rattle.nv_core.specs.steps.Order.{Work}
 use Rattle.nv_table.specs.invariant.Idle.{IsIdle, IsLater}
 use Rattle.nv_table.specs.state.States.{PassState}
+use Rattle.nv_table.specs.state.Views.{pass_of}
 use Rattle.nv_mirror.specs.Answers.{IsUnplaced}
 use Rattle.nv_mirror.specs.PassSteps.{PassStep, HasMade, either_of}
 use Rattle.nv_clean.specs.declared.batch.CleanRefusal.{CleanRefusal}
@@ -19,6 +20,7 @@ use Rattle.nv_clean.specs.declared.clean.Cleaned.{Cleaned}
 use Rattle.nv_clean.specs.Cleaning.{CleanState, IsOpen, IsUnderWay, calls_refusal}
 use Rattle.nv_clean.specs.CleanSteps.{is_fault}
 use Rattle.nv_clean.specs.OwnSteps.{AreOwn}
+use Rattle.nv_clean.specs.Stored.{IsStored}
 
 -- ---- what some steps of a batch came to, the last of them first
 
@@ -120,7 +122,7 @@ BeginsWith most [] = ⊥
 BeginsWith most (step ∷ []) = step.op ≡ ByCleaner (TakeCleaner most)
 BeginsWith most (step ∷ (other ∷ earlier)) = BeginsWith most (other ∷ earlier)
 
--- A whole batch: its steps are its own, and the answer is what they came to. It has retired something, where it says so; an entry was freed, or TAIL moved, exactly where it does; and STOP was set
+-- A whole batch: its steps are its own, and the answer is what they came to. It has retired something, where it says so, and that is stored; an entry was freed, or TAIL moved, exactly where it does; and STOP was set
 -- by one of them exactly where the answer is that a device has failed.
 pub record IsCleanOver (batch : ℕ) (start now : PassState) (result : Result Cleaned CleanRefusal) : Type 0 where
   pub steps : List PassStep
@@ -129,6 +131,7 @@ pub record IsCleanOver (batch : ℕ) (start now : PassState) (result : Result Cl
   pub begins : BeginsWith batch steps
   pub answer : clean_answer_in start.view.opened.sizes steps ≡ Some result
   pub some : IfOk result (λ cleaned. 0 < cleaned.retired)
+  pub stored : IfOk result (λ cleaned. IsStored now.view (tail_in steps + cleaned.retired))
   pub retires : retires_in steps ≡ is_ok result
   pub stops : stops_in steps ≡ tells_fault result
 
@@ -139,7 +142,7 @@ abbrev pub BegunFor : (most : ℕ) → CleanState → CleanControl → List Pass
 BegunFor most m cleans.Begin steps = (steps ≡ []) × (m.batch.most ≡ most)
 BegunFor most m control steps = BeginsWith most steps
 
--- Its refusal is theirs, and it has met a device fault where they set STOP; where it is over and not refused, it has retired what it cleaned.
+-- Its refusal is theirs, and it has met a device fault where they set STOP; its pass has seen TAIL past what they retired, and where it is over and not refused, that is what it cleaned.
 pub record IsTold (most : ℕ) (m : CleanState) (start now : PassState) : Type 0 where
   pub steps : List PassStep
   pub made : HasMade steps start now
@@ -147,6 +150,7 @@ pub record IsTold (most : ℕ) (m : CleanState) (start now : PassState) : Type 0
   pub begun : BegunFor most m m.control steps
   pub refused : m.refusal ≡ refusal_in start.view.opened.sizes steps
   pub stops : stops_in steps ≡ is_fault m.refusal
+  pub moved : (count : ℕ) → retired_in steps ≡ Some count → tail_in steps + count ≤ (pass_of now.view).tail
   pub retired : m.control ≡ cleans.Over → m.refusal ≡ None → (retired_in steps ≡ Some (m.batch.reached - m.batch.tail)) × (m.batch.tail < m.batch.reached)
 
 -- what it is answered once it is over

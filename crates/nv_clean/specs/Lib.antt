@@ -4,4 +4,5 @@ pub mod Cleaning
 pub mod CleanSteps
 pub mod Measures
 pub mod Retiring
+pub mod Stored
 pub mod Answers

@@ -9,7 +9,9 @@ ghost use Rattle.nv_clean.specs.Cleaning.{IsOpen};
 ghost use Rattle.nv_clean.specs.Measures.{clean_measure};
 
 use crate::{CleanMachine, CleanRefusal};
-use nv_core::{passes_are_left_alone, runs_are_sound};
+use nv_core::{
+    crashes_leave_whole_writes, passes_are_left_alone, runs_are_sound, runs_keep_the_log,
+};
 use nv_mount::Mount;
 use nv_pmem::Lines;
 use nv_store::Backing;
@@ -64,6 +66,8 @@ impl CleanMachine {
     {
         runs_are_sound();
         passes_are_left_alone();
+        runs_keep_the_log();
+        crashes_leave_whole_writes();
         pass.sees_a_run();
         let board = mount.board();
         let page = board.layout().page as usize;
@@ -97,6 +101,8 @@ fn run<L: Lines, B: Backing>(
 {
     runs_are_sound();
     passes_are_left_alone();
+    runs_keep_the_log();
+    crashes_leave_whole_writes();
     pass.sees_a_run();
     let mut machine = CleanMachine::new(batch);
     while !machine.is_over() {

@@ -1,10 +1,11 @@
 -- One step more of the batch, or its end.
-use Rattle.std.proofs.Common.{◌≡◌, ◌∙◌, sym, ap, subst}
+use Rattle.std.proofs.Common.{◌∙◌, sym, ap, subst}
 use Rattle.nv_core.specs.steps.Opening.{IsMount}
 use Rattle.nv_table.specs.state.Opened.{Opened, mount_of}
 use Rattle.nv_table.specs.state.States.{BoardState}
 use Rattle.nv_clean.specs.Answers.{IsCleanOver}
 use Rattle.nv_clean.proofs.NotedLaws.{told_on}
+use Rattle.nv_clean.proofs.StoredLaws.{seen_stored}
 use Rattle.nv_clean.proofs.OverLaws.{open_at, over_at, over_idle, over_low, over_told}
 use Rattle.nv_clean.proofs.batch.CleanMachine.advance.Goals as goal
 
@@ -40,7 +41,7 @@ returns-then-is_over-clause-goes g c most start under_way =
       over = subst (IsCleanOver most start new) (sym c.answer.ensures)
           (over_told c.runs_are_sound.ensures.runs c.passes_are_left_alone.ensures.own most next start new mount way_new
           (told_on c.runs_are_sound.ensures.runs c.passes_are_left_alone.ensures.own most m next start c.args.pass.now new c.board-board.result.now.opened.sizes c.make_step.ensures.one same mount way way_new c.make_step.ensures.begun
-          under_way.told c.requires.open) over);
+          under_way.told c.requires.open) over (seen_stored c.runs_are_sound.ensures.runs c.crashes_leave_whole_writes.ensures.runs c.crashes_leave_whole_writes.ensures.region c.runs_keep_the_log.ensures.runs new.view c.sees_a_run-2.ensures.mount c.sees_a_run-2.ensures.run));
     }
 
 pub returns-else-is_over-clause-goes : goal.returns-else-is_over-clause-goes
