@@ -3,6 +3,8 @@
 #![tactic(auto)]
 
 #[cfg(test)]
+mod benches;
+#[cfg(test)]
 mod boards;
 #[cfg(test)]
 mod descriptors;
@@ -16,5 +18,7 @@ mod mounts;
 mod reads;
 #[cfg(test)]
 mod syncs;
+#[cfg(test)]
+mod threads;
 #[cfg(test)]
 mod writes;

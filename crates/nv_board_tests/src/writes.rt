@@ -4,7 +4,7 @@ ghost use Rattle.nv_table.specs.invariant.Idle.{IsIdle, IsLater};
 ghost use Rattle.nv_table.specs.state.States.{IsOf};
 ghost use Rattle.nv_table.specs.state.Workspaces.{IsWorkspace};
 
-use crate::given::{region, region_failing, region_of, stores};
+use crate::given::{region, region_of, stores};
 use crate::syncs::{close, opened_over, split, take_in};
 use nv_calls::{Done, Refusal, pwrite, try_pread, try_pwrite};
 use nv_mount::Mount;
@@ -97,48 +97,6 @@ fn writes_are_refused_by_what_they_ask_for(rt: HostRuntime) -> Result<(), Fail> 
     );
     assert_eq!(rt; answers, refused);
     assert_eq!(rt; close(&rt, mount, pass).placed, 1);
-    Ok(())
-}
-
-// Whether a write of two pages is answered with a fault of the region, and the call after it that the mount is stopped, where the part of an entry fails at
-// the call of a number; or else both are done, or that is a call of the format.
-fn write_two_pages(rt: &impl Abort, alloc: Global, failing: u64, call: u64) -> Result<bool, Fail> {
-    let Some(region) = region_failing(alloc, failing, call)? else {
-        return Ok(false);
-    };
-    let stores = stores(alloc, &[], Fuse::new(alloc, &[])?)?;
-    let (mount, mut pass) = opened_over(alloc, region, stores)?;
-    let mut workspace = room(rt, alloc, &mount);
-    let first = try_pwrite(&mount, &mut pass, &mut workspace, 0, 60, &[1; 8]);
-    let later = try_pwrite(&mount, &mut pass, &mut workspace, 0, 0, &[2]);
-    close(rt, mount, pass);
-    match (first, later) {
-        (Err(Refusal::RegionFault), Err(Refusal::Stopped)) => Ok(true),
-        (Ok(Done { place: 0, len: 8 }), Ok(Done { place: 1, len: 1 })) => Ok(false),
-        _ => panic!(rt; "it is one or the other"),
-    }
-}
-
-// At how many calls of an entry's part a write of two pages fails.
-fn faults_of(rt: &impl Abort, alloc: Global, failing: u64) -> Result<u64, Fail> {
-    let mut faults = 0u64;
-    for call in 1..60 {
-        if write_two_pages(rt, alloc, failing, call)? {
-            faults = faults.wrapping_add(1);
-        }
-    }
-    Ok(faults)
-}
-
-#[test]
-fn a_write_fails_at_each_of_its_device_calls(rt: HostRuntime) -> Result<(), Fail> {
-    // Of the leader's part twelve calls are a write's, with the three of the commit, and of the follower's nine.
-    let faults = (
-        faults_of(&rt, rt.alloc(), 0)?,
-        faults_of(&rt, rt.alloc(), 1)?,
-        faults_of(&rt, rt.alloc(), 3)?,
-    );
-    assert_eq!(rt; faults, (12, 9, 0));
     Ok(())
 }
 
