@@ -93,7 +93,7 @@ pub(crate) fn power_off(
 }
 
 // The bytes of a store, and `#` behind them.
-fn contents(store: &mut MemStore) -> Result<[u8; 80], StoreFault> {
+pub(crate) fn contents(store: &mut MemStore) -> Result<[u8; 80], StoreFault> {
     let mut bytes = [b'#'; 80];
     store.pread(0, &mut bytes)?;
     Ok(bytes)

@@ -7,6 +7,8 @@ mod benches;
 #[cfg(test)]
 mod boards;
 #[cfg(test)]
+mod cleans;
+#[cfg(test)]
 mod descriptors;
 #[cfg(test)]
 mod given;

@@ -8,15 +8,17 @@ ghost use Rattle.nv_table.specs.state.Views.{made_of};
 ghost use Rattle.nv_table.specs.state.Workspaces.{IsWorkspace};
 
 use crate::benches::{new_bench, opened, power_off};
+use crate::given::{region, stores};
 use crate::syncs::{close, opened_over, split, take_in};
 use crate::writes::room;
 use nv_bench::MemBench;
 use nv_calls::{Done, Refusal, pread, pwrite};
+use nv_clean::{CleanRefusal, try_clean};
 use nv_mount::Mount;
 use nv_open::Opened;
 use nv_plain::{Bytes, FileCall, NoMemory, PlainFiles, Reply};
-use nv_pmem::{MemPart, Pick};
-use nv_store::MemStore;
+use nv_pmem::{Fuse, MemPart, Pick};
+use nv_store::{Backing, MemStore};
 use nv_table::{Pass, Workspace};
 use std::alloc::Global;
 use std::process::Abort;
@@ -89,6 +91,54 @@ fn call_once<R: Wait>(
     })
 }
 
+// The same, with a batch of the cleaner behind each try for which the log has no room, where this is wanted.
+fn call_until_done<R: Wait>(
+    rt: &R,
+    mount: &Mount<MemPart, MemStore>,
+    pass: &mut Pass<MemPart, MemStore>,
+    workspace: &mut Workspace<MemPart, MemStore>,
+    drawn: u64,
+    cleans: bool,
+) -> Result<Answered, Refusal>
+    requires board { IsOf mount.now.board pass.old }
+    requires idle { IsIdle pass.old }
+    requires workspace { IsWorkspace mount.now.board.opened.sizes workspace.old }
+    requires bare { workspace.old.parts.items ≡ [] }
+    ensures board { IsOf mount.now.board pass.new }
+    ensures idle { IsIdle pass.new }
+    ensures later { IsLater pass.old pass.new }
+    ensures workspace { IsWorkspace mount.now.board.opened.sizes workspace.new }
+    ensures bare { workspace.new.parts.items ≡ [] }
+{
+    for _i in 0..10_000_000u64 {
+        match call_once(rt, mount, pass, workspace, drawn) {
+            Err(Refusal::Again { .. }) if cleans => {
+                let _ = try_clean(mount, pass, 4);
+            }
+            answer => return answer,
+        }
+    }
+    Err(Refusal::Stopped)
+}
+
+// What a thread is to do.
+#[derive(Clone, Copy)]
+struct Task {
+    calls: u64,
+    cleans: bool,
+    seed: u64,
+}
+
+impl Task {
+    // The same with other calls.
+    fn other(self, by: u64) -> Task {
+        Task {
+            seed: self.seed ^ by,
+            ..self
+        }
+    }
+}
+
 // Calls until one is refused, at most so many; what was answered, or none where memory was wanting.
 fn call_often<R: Wait>(
     rt: &R,
@@ -96,7 +146,7 @@ fn call_often<R: Wait>(
     mount: &Mount<MemPart, MemStore>,
     pass: &mut Pass<MemPart, MemStore>,
     workspace: &mut Workspace<MemPart, MemStore>,
-    seed: u64,
+    task: Task,
 ) -> Result<Vec<Answered>, NoMemory>
     requires board { IsOf mount.now.board pass.old }
     requires idle { IsIdle pass.old }
@@ -107,11 +157,11 @@ fn call_often<R: Wait>(
     ensures later { IsLater pass.old pass.new }
 {
     let mut answered = Vec::new(alloc);
-    let mut drawn = seed;
-    for i in 0..2000u64 {
+    let mut drawn = task.seed;
+    for i in 0..task.calls {
         answered.reserve(1)?;
         drawn = next(drawn ^ i);
-        match call_once(rt, mount, pass, workspace, drawn) {
+        match call_until_done(rt, mount, pass, workspace, drawn, task.cleans) {
             Ok(call) => answered.push_reserved(call),
             Err(_full) => break,
         }
@@ -152,7 +202,7 @@ fn call_by_two<R: Threads + Wait + Sync>(
     mount: &Mount<MemPart, MemStore>,
     one: &mut Thread,
     two: &mut Thread,
-    seed: u64,
+    task: Task,
 ) -> Result<Vec<Answered>, NoMemory>
     requires one { IsOf mount.now.board one.old.pass × IsIdle one.old.pass × IsWorkspace mount.now.board.opened.sizes one.old.workspace × (one.old.workspace.parts.items ≡ []) }
     requires two { IsOf mount.now.board two.old.pass × IsIdle two.old.pass × IsWorkspace mount.now.board.opened.sizes two.old.workspace × (two.old.workspace.parts.items ≡ []) }
@@ -164,7 +214,7 @@ fn call_by_two<R: Threads + Wait + Sync>(
         &mut || -> Result<Vec<Answered>, NoMemory>
             requires { IsOf mount.now.board one.now.pass × IsIdle one.now.pass × IsWorkspace mount.now.board.opened.sizes one.now.workspace × (one.now.workspace.parts.items ≡ []) }
             ensures { IsOf mount.entry.now.board one.exit.now.pass × IsIdle one.exit.now.pass × IsLater one.entry.now.pass one.exit.now.pass }
-        { call_often(rt, alloc, mount, &mut one.pass, &mut one.workspace, seed) },
+        { call_often(rt, alloc, mount, &mut one.pass, &mut one.workspace, task) },
         &mut || -> Result<Vec<Answered>, NoMemory>
             requires { IsOf mount.now.board two.now.pass × IsIdle two.now.pass × IsWorkspace mount.now.board.opened.sizes two.now.workspace × (two.now.workspace.parts.items ≡ []) }
             ensures { IsOf mount.entry.now.board two.exit.now.pass × IsIdle two.exit.now.pass × IsLater two.entry.now.pass two.exit.now.pass }
@@ -175,7 +225,7 @@ fn call_by_two<R: Threads + Wait + Sync>(
                 mount,
                 &mut two.pass,
                 &mut two.workspace,
-                seed ^ 1,
+                task.other(1),
             )
         },
     );
@@ -191,7 +241,7 @@ fn call_by_four<R: Threads + Wait + Sync>(
     b: &mut Thread,
     c: &mut Thread,
     d: &mut Thread,
-    seed: u64,
+    task: Task,
 ) -> Result<Vec<Answered>, NoMemory>
     requires a { IsOf mount.now.board a.old.pass × IsIdle a.old.pass × IsWorkspace mount.now.board.opened.sizes a.old.workspace × (a.old.workspace.parts.items ≡ []) }
     requires b { IsOf mount.now.board b.old.pass × IsIdle b.old.pass × IsWorkspace mount.now.board.opened.sizes b.old.workspace × (b.old.workspace.parts.items ≡ []) }
@@ -207,11 +257,11 @@ fn call_by_four<R: Threads + Wait + Sync>(
         &mut || -> Result<Vec<Answered>, NoMemory>
             requires { IsOf mount.now.board a.now.pass × IsIdle a.now.pass × IsWorkspace mount.now.board.opened.sizes a.now.workspace × (a.now.workspace.parts.items ≡ []) × IsOf mount.now.board b.now.pass × IsIdle b.now.pass × IsWorkspace mount.now.board.opened.sizes b.now.workspace × (b.now.workspace.parts.items ≡ []) }
             ensures { IsOf mount.entry.now.board a.exit.now.pass × IsIdle a.exit.now.pass × IsLater a.entry.now.pass a.exit.now.pass × IsOf mount.entry.now.board b.exit.now.pass × IsIdle b.exit.now.pass × IsLater b.entry.now.pass b.exit.now.pass }
-        { call_by_two(rt, alloc, mount, a, b, seed) },
+        { call_by_two(rt, alloc, mount, a, b, task) },
         &mut || -> Result<Vec<Answered>, NoMemory>
             requires { IsOf mount.now.board c.now.pass × IsIdle c.now.pass × IsWorkspace mount.now.board.opened.sizes c.now.workspace × (c.now.workspace.parts.items ≡ []) × IsOf mount.now.board d.now.pass × IsIdle d.now.pass × IsWorkspace mount.now.board.opened.sizes d.now.workspace × (d.now.workspace.parts.items ≡ []) }
             ensures { IsOf mount.entry.now.board c.exit.now.pass × IsIdle c.exit.now.pass × IsLater c.entry.now.pass c.exit.now.pass × IsOf mount.entry.now.board d.exit.now.pass × IsIdle d.exit.now.pass × IsLater d.entry.now.pass d.exit.now.pass }
-        { call_by_two(rt, alloc, mount, c, d, seed ^ 2) },
+        { call_by_two(rt, alloc, mount, c, d, task.other(2)) },
     );
     both(first?, second?)
 }
@@ -263,7 +313,12 @@ fn round<R: Threads + Wait + Sync + Abort>(
         pass,
         workspace: room(rt, alloc, &mount),
     };
-    let answered = call_by_four(rt, alloc, &mount, &mut a, &mut b, &mut c, &mut d, seed);
+    let task = Task {
+        calls: 2000,
+        cleans: false,
+        seed,
+    };
+    let answered = call_by_four(rt, alloc, &mount, &mut a, &mut b, &mut c, &mut d, task);
     let mut pass = a.end();
     take_in(&mount, &mut pass, b.end());
     take_in(&mount, &mut pass, c.end());
@@ -329,5 +384,106 @@ fn four_threads_keep_one_history(rt: HostRuntime) -> Result<(), Fail> {
         assert!(rt; are_plain(&mut files, alloc, answered)?);
     }
     assert!(rt; calls >= 20_000);
+    Ok(())
+}
+
+// Batches of a cleaner, so many, one after another.
+fn clean_often(mount: &Mount<MemPart, MemStore>, pass: &mut Pass<MemPart, MemStore>, batches: u64)
+    requires board { IsOf mount.now.board pass.old }
+    requires idle { IsIdle pass.old }
+    ensures board { IsOf mount.now.board pass.new }
+    ensures idle { IsIdle pass.new }
+    ensures later { IsLater pass.old pass.new }
+{
+    for _i in 0..batches {
+        let _ = try_clean(mount, pass, 4);
+    }
+}
+
+// Four threads, and a cleaner beside them.
+fn call_beside_cleaner<R: Threads + Wait + Sync>(
+    rt: &R,
+    alloc: Global,
+    mount: &Mount<MemPart, MemStore>,
+    cleaner: &mut Pass<MemPart, MemStore>,
+    a: &mut Thread,
+    b: &mut Thread,
+    c: &mut Thread,
+    d: &mut Thread,
+    task: Task,
+) -> Result<Vec<Answered>, NoMemory>
+    requires cleaner { IsOf mount.now.board cleaner.old × IsIdle cleaner.old }
+    requires a { IsOf mount.now.board a.old.pass × IsIdle a.old.pass × IsWorkspace mount.now.board.opened.sizes a.old.workspace × (a.old.workspace.parts.items ≡ []) }
+    requires b { IsOf mount.now.board b.old.pass × IsIdle b.old.pass × IsWorkspace mount.now.board.opened.sizes b.old.workspace × (b.old.workspace.parts.items ≡ []) }
+    requires c { IsOf mount.now.board c.old.pass × IsIdle c.old.pass × IsWorkspace mount.now.board.opened.sizes c.old.workspace × (c.old.workspace.parts.items ≡ []) }
+    requires d { IsOf mount.now.board d.old.pass × IsIdle d.old.pass × IsWorkspace mount.now.board.opened.sizes d.old.workspace × (d.old.workspace.parts.items ≡ []) }
+    ensures cleaner { IsOf mount.now.board cleaner.new × IsIdle cleaner.new × IsLater cleaner.old cleaner.new }
+    ensures a { IsOf mount.now.board a.new.pass × IsIdle a.new.pass × IsLater a.old.pass a.new.pass }
+    ensures b { IsOf mount.now.board b.new.pass × IsIdle b.new.pass × IsLater b.old.pass b.new.pass }
+    ensures c { IsOf mount.now.board c.new.pass × IsIdle c.new.pass × IsLater c.old.pass c.new.pass }
+    ensures d { IsOf mount.now.board d.new.pass × IsIdle d.new.pass × IsLater d.old.pass d.new.pass }
+{
+    let (answered, ()) = join_mut(
+        rt,
+        &mut || -> Result<Vec<Answered>, NoMemory>
+            requires { IsOf mount.now.board a.now.pass × IsIdle a.now.pass × IsWorkspace mount.now.board.opened.sizes a.now.workspace × (a.now.workspace.parts.items ≡ []) × IsOf mount.now.board b.now.pass × IsIdle b.now.pass × IsWorkspace mount.now.board.opened.sizes b.now.workspace × (b.now.workspace.parts.items ≡ []) × IsOf mount.now.board c.now.pass × IsIdle c.now.pass × IsWorkspace mount.now.board.opened.sizes c.now.workspace × (c.now.workspace.parts.items ≡ []) × IsOf mount.now.board d.now.pass × IsIdle d.now.pass × IsWorkspace mount.now.board.opened.sizes d.now.workspace × (d.now.workspace.parts.items ≡ []) }
+            ensures { IsOf mount.entry.now.board a.exit.now.pass × IsIdle a.exit.now.pass × IsLater a.entry.now.pass a.exit.now.pass × IsOf mount.entry.now.board b.exit.now.pass × IsIdle b.exit.now.pass × IsLater b.entry.now.pass b.exit.now.pass × IsOf mount.entry.now.board c.exit.now.pass × IsIdle c.exit.now.pass × IsLater c.entry.now.pass c.exit.now.pass × IsOf mount.entry.now.board d.exit.now.pass × IsIdle d.exit.now.pass × IsLater d.entry.now.pass d.exit.now.pass }
+        { call_by_four(rt, alloc, mount, a, b, c, d, task) },
+        &mut || -> ()
+            requires { IsOf mount.now.board cleaner.now × IsIdle cleaner.now }
+            ensures { IsOf mount.entry.now.board cleaner.exit.now × IsIdle cleaner.exit.now × IsLater cleaner.entry.now cleaner.exit.now }
+        { clean_often(mount, cleaner, task.calls) },
+    );
+    answered
+}
+
+#[test]
+fn four_threads_and_a_cleaner_keep_one_history(rt: HostRuntime) -> Result<(), Fail> {
+    let alloc = rt.alloc();
+    let stores = stores(alloc, &[], Fuse::new(alloc, &[])?)?;
+    let (mount, mut pass) = opened_over(alloc, region(alloc)?, stores)?;
+    let mut b = new_thread(&rt, alloc, &mount, &mut pass);
+    let mut c = new_thread(&rt, alloc, &mount, &mut pass);
+    let mut d = new_thread(&rt, alloc, &mount, &mut pass);
+    let mut cleaner = split(&rt, alloc, &mount, &mut pass);
+    let mut a = Thread {
+        pass,
+        workspace: room(&rt, alloc, &mount),
+    };
+    let task = Task {
+        calls: 2_500,
+        cleans: true,
+        seed: 1,
+    };
+    let answered = call_beside_cleaner(
+        &rt,
+        alloc,
+        &mount,
+        &mut cleaner,
+        &mut a,
+        &mut b,
+        &mut c,
+        &mut d,
+        task,
+    );
+    let mut pass = a.end();
+    take_in(&mount, &mut pass, b.end());
+    take_in(&mount, &mut pass, c.end());
+    take_in(&mount, &mut pass, d.end());
+    take_in(&mount, &mut pass, cleaner);
+    // The log has at most 16 entries, and each batch takes one of them at least.
+    clean_often(&mount, &mut pass, 16);
+    let last = try_clean(&mount, &mut pass, 4);
+    let mut closed = close(&rt, mount, pass);
+    let answered = answered?;
+    assert_eq!(rt; answered.len(), 10_000);
+    let mut files = PlainFiles::new(alloc, 1)?;
+    assert!(rt; are_plain(&mut files, alloc, answered)?);
+    assert_eq!(rt; last, Err(CleanRefusal::Idle { at: closed.tail }));
+    let mut stored = [0; 4096];
+    if let Some(store) = closed.stores.first_mut() {
+        store.pread(0, &mut stored)?;
+    }
+    assert!(rt; Some(files.bytes(0)) == stored.get(..files.bytes(0).len()));
     Ok(())
 }
