@@ -1,7 +1,7 @@
 //! Reads of a mount.
 ghost use Rattle.nv_table.specs.invariant.Idle.{IsIdle, IsLater};
 ghost use Rattle.nv_table.specs.state.States.{IsOf, PassState};
-ghost use Rattle.nv_calls.specs.reads.Reads.{IsReadUnderWay};
+ghost use Rattle.nv_calls.specs.reads.ReadMachines.{IsReadUnderWay};
 
 use crate::syncs::{close, opened, split, take_in};
 use nv_calls::{Done, Kind, Progress, ReadMachine, Refusal, pread, try_pread};

@@ -8,9 +8,10 @@ ghost use Rattle.nv_pmem.specs.Rows.{RowTells};
 ghost use Rattle.nv_store.specs.MemStore.{store_history};
 ghost use Rattle.nv_store.specs.Store.{IsQuietStore};
 ghost use Rattle.nv_header.specs.Regions.{HasParts, IsBlankRow};
-ghost use Rattle.nv_table.specs.invariant.Idle.{IsIdle};
+ghost use Rattle.nv_table.specs.invariant.Idle.{IsIdle, IsLater};
 ghost use Rattle.nv_table.specs.state.Views.{made_of};
 ghost use Rattle.nv_table.specs.state.States.{IsOf};
+ghost use Rattle.nv_calls.specs.fsync.SyncMachines.{IsSyncUnderWay};
 
 use crate::given::{region, stores};
 use nv_calls::{Done, Kind, Progress, Refusal, SyncMachine, try_fsync};
@@ -132,6 +133,29 @@ pub(crate) fn close(
     }
 }
 
+// Advances a sync that has made no step to its end, and writes down the kinds of its steps, as it names them before.
+fn sync_slowly(
+    rt: &impl Abort,
+    alloc: Global,
+    mount: &Mount<MemPart, MemStore>,
+    pass: &mut Pass<MemPart, MemStore>,
+    sync: &mut SyncMachine,
+) -> (Vec<Kind>, Result<Done, Refusal>)
+    requires board { IsOf mount.now.board pass.old }
+    requires begun { IsSyncUnderWay mount.now.fds sync.old pass.old pass.old }
+    ensures board { IsOf mount.now.board pass.new }
+    ensures idle { IsIdle pass.new }
+    ensures later { IsLater pass.old pass.new }
+{
+    let mut kinds = Vec::new(alloc);
+    loop {
+        kinds.push(sync.next_kind()).expect(rt, "there is memory");
+        if let Progress::Ended(result) = sync.advance(mount, pass) {
+            return (kinds, result);
+        }
+    }
+}
+
 #[test]
 fn syncs_take_their_places(rt: HostRuntime) -> Result<(), Fail> {
     let (mount, mut pass) = opened(rt.alloc(), &[1, 2, 3], &[])?;
@@ -152,16 +176,14 @@ fn syncs_take_their_places(rt: HostRuntime) -> Result<(), Fail> {
 fn a_sync_is_three_advances(rt: HostRuntime) -> Result<(), Fail> {
     let (mount, mut pass) = opened(rt.alloc(), &[1, 2, 3], &[])?;
     let mut sync = SyncMachine::new(0);
-    assert_eq!(rt; sync.next_kind(), Kind::Load);
-    assert_eq!(rt; sync.advance(&mount, &mut pass), Progress::More);
-    assert_eq!(rt; sync.next_kind(), Kind::Load);
-    assert_eq!(rt; sync.advance(&mount, &mut pass), Progress::More);
-    assert_eq!(rt; sync.next_kind(), Kind::Place);
     assert_eq!(rt; sync.placed(), None);
+    let (kinds, ended) = sync_slowly(&rt, rt.alloc(), &mount, &mut pass, &mut sync);
     let done = Done { place: 0, len: 0 };
-    assert_eq!(rt; sync.advance(&mount, &mut pass), Progress::Ended(Ok(done)));
+    assert_eq!(rt; ended, Ok(done));
     assert_eq!(rt; sync.placed(), Some(done));
     assert!(rt; !sync.faulted());
+    let steps = [Kind::Load, Kind::Load, Kind::Place];
+    assert_eq!(rt; kinds[..], *steps.as_slice());
     assert_eq!(rt; close(&rt, mount, pass).placed, 1);
     Ok(())
 }

@@ -5,7 +5,7 @@ use Rattle.nv_mount.specs.declared.fds.Fd.{Fd}
 use Rattle.nv_calls.specs.declared.progress.Progress.{Progress}
 use Rattle.nv_calls.specs.declared.progress.Progress.TheVariants.{More}
 use Rattle.nv_calls.specs.declared.reading.ReadMachine.{ReadMachine}
-use Rattle.nv_calls.specs.reads.Reads.{IsReadUnderWay, ReadGoes}
+use Rattle.nv_calls.specs.reads.ReadMachines.{IsReadUnderWay, ReadGoes}
 use Rattle.nv_board_tests.proofs.reads.a_held_page_is_busy.Goals as goal
 
 -- a read with more to do is under way
