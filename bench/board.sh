@@ -14,7 +14,7 @@ else
 fi
 cd "$(dirname "$0")/.."
 rm -rf "$room"/crates/*/{src,specs,proofs}
-for crate in nv_plain nv_pmem nv_store nv_entry nv_header nv_recover nv_engine nv_core nv_table nv_pages nv_mount nv_op nv_mirror nv_ring nv_calls; do
+for crate in nv_plain nv_pmem nv_store nv_entry nv_header nv_recover nv_engine nv_core nv_table nv_pages nv_mount nv_op nv_mirror nv_cache nv_ring nv_calls; do
     mkdir -p "$room/crates/$crate"
     cp -r "crates/$crate/src" "crates/$crate/specs" "crates/$crate/proofs" "$room/crates/$crate"
 done
@@ -23,7 +23,7 @@ done
 done
 cp HANDLES "$room"
 {
-    grep -E "^nv_(plain|pmem|store|entry|header|recover|engine|core|table|pages|mount|op|mirror|ring|calls):" crates.txt
+    grep -E "^nv_(plain|pmem|store|entry|header|recover|engine|core|table|pages|mount|op|mirror|cache|ring|calls):" crates.txt
     echo "board: nv_plain nv_pmem nv_store nv_header nv_recover nv_engine nv_mount nv_calls nv_table thiserror"
 } > "$room/crates.txt"
 plain=$PWD/bench/board/plain/kind.rt.txt
