@@ -40,7 +40,7 @@ numbered (past ∷ pasts) number (inr later) = let found = numbered pasts number
 module _ (sound : RunsAreSound) (view : PassView) (mount : IsMount (mount_of view.opened)) (run : IsRunOf view.opened view.run) (zero_is : view.number ≡ 0)
     (taken : ended_of view ≡ numbers view.ended) (all : length view.ended ≡ made_of view) where
   -- each number of a pass that was made is that of one that was taken in
-  all_taken : (number : ℕ) → 1 ≤ number → number ≤ made_of view → (past : Past) × IsOneOf view.ended past × (past.number ≡ number)
+  pub all_taken : (number : ℕ) → 1 ≤ number → number ≤ made_of view → (past : Past) × IsOneOf view.ended past × (past.number ≡ number)
   all_taken number some within =
       let many : length (ended_of view) ≡ made_of view = ap length taken ∙ length-map view.ended (λ (past : Past). past.number) ∙ all in
       let there : IsOneOf (ended_of view) number =

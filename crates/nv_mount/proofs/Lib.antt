@@ -4,3 +4,4 @@ mod OpenLaws
 mod ClosedFilesLaws
 mod CountLaws
 mod StoppedLaws
+mod ClosedAtRestLaws

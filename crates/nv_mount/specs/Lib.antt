@@ -4,3 +4,4 @@ pub mod OneHistories
 pub mod Telling
 pub mod ClosedFiles
 pub mod RisenCounts
+pub mod ClosedAtRest

@@ -15,6 +15,7 @@ ghost use Rattle.nv_table.specs.state.Opened.{mount_of};
 ghost use Rattle.nv_table.specs.state.Views.{made_of};
 ghost use Rattle.nv_table.specs.state.States.{IsOf};
 ghost use Rattle.nv_mount.specs.Mounts.{AreLengths, HasLengthsCause, HasOpenCause, IsOpened};
+ghost use Rattle.nv_mount.specs.ClosedAtRest.{HasEmptiedLog, RestsWhereEmpty};
 ghost use Rattle.nv_mount.specs.ClosedFiles.{ReadAsFiles};
 ghost use Rattle.nv_mount.specs.OneHistories.{HasOneHistory};
 ghost use Rattle.nv_mount.specs.RisenCounts.{SawStop, failed_before};
@@ -22,8 +23,8 @@ ghost use Rattle.nv_mount.specs.Telling.{AllDevicesTell, StoresHave};
 
 use crate::{Fds, OpenError, PassesOut, Unopened};
 use nv_core::{
-    passes_are_left_alone, regions_at_rest_open, runs_are_sound, runs_keep_content,
-    runs_keep_the_log,
+    crashes_leave_whole_writes, empty_logs_rest, passes_are_left_alone, regions_at_rest_open,
+    runs_are_sound, runs_keep_content, runs_keep_the_log,
 };
 use nv_header::Region;
 use nv_pmem::{Lines, rows_have_states};
@@ -69,7 +70,7 @@ impl<L: Lines + Drop, B: Backing + Drop> Mount<L, B> {
     /// Mounts a region and its stores, one for each of its names, in their order; and gives pass 0, with which the first thread steps.
     /// Each file has 1 to 1,024 pages. There are as many buffers as pages, but at most `cache`, which is 1 to 16,384. It asks each store
     /// for its length, and takes all memory that the board needs. At an error region and stores come back. Where all stores tell, the mount
-    /// opens the files that they have, and where all parts of the region tell, its empty log.
+    /// opens the files that they have, and where all parts of the region tell, its empty log. So a mount that is closed at once leaves all at rest.
     pub fn open(
         alloc: Global,
         region: Region<L>,
@@ -93,6 +94,7 @@ impl<L: Lines + Drop, B: Backing + Drop> Mount<L, B> {
         ensures files { IfOk result (λ made. (files : Files) → StoresHave (map B.history stores.items) files → Opens (mount_of made.0.board.opened) files) }
         ensures log { IfOk result (λ made. AllDevicesTell (map L.history region.parts.items) → OpensLog (mount_of made.0.board.opened) region.next) }
         ensures region { IfOk result (λ made. AllDevicesTell (map L.history region.parts.items) → OpensRegion (mount_of made.0.board.opened) region.names) }
+        ensures empty { IfOk result (λ made. HasEmptiedLog made.1.view) }
         ensures counts { IfOk result (λ made. failed_before made.1 ≡ sum_by L.fault_count region.parts.items + sum_by B.fault_count stores.items) }
         ensures parts_back { IfErr result (λ failed. failed.region.parts.items ≡ region.parts.items) }
         ensures geometry_back { IfErr result (λ failed. failed.region.geometry ≡ region.geometry) }
@@ -141,8 +143,9 @@ impl<L: Lines + Drop, B: Backing + Drop> Mount<L, B> {
 
     /// Ends the mount by pass 0, whatever it is at: what it owns goes home first. Where it has made more passes than it has taken in,
     /// mount and pass come back unchanged. The calls of all passes have one history, as long as `placed` says. Where one of the passes saw STOP
-    /// set, the devices that come out have failed more often than when the mount was opened. No device call may have come since the pass's last
-    /// step. Takes no memory.
+    /// set, the devices that come out have failed more often than when the mount was opened. Where no pass holds a cell, the log is empty and
+    /// STOP is 0, over stores and parts that tell the stores have all files and are durable, and the parts are a region at rest. No device call
+    /// may have come since the pass's last step. Takes no memory.
     pub fn close(
         self,
         pass: Pass<L, B>,
@@ -156,6 +159,7 @@ impl<L: Lines + Drop, B: Backing + Drop> Mount<L, B> {
             self.board pass closed.parts.items closed.stores.items closed.placed closed.tail) }
         ensures history { IfOk result (λ closed. HasOneHistory pass.view closed.placed) }
         ensures files { IfOk result (λ closed. ReadAsFiles pass.view (map B.history closed.stores.items) closed.tail) }
+        ensures rest { IfOk result (λ closed. RestsWhereEmpty pass.view (map L.history closed.parts.items) (map B.history closed.stores.items) closed.tail) }
         ensures stopped { IfOk result (λ closed. SawStop pass.view → Rose (failed_before pass) (sum_by L.fault_count closed.parts.items + sum_by B.fault_count closed.stores.items)) }
         ensures out { IfErr result (λ failed. length pass.view.ended < made_of pass.view) }
         ensures mount_back { IfErr result (λ failed. failed.0 ≡ self) }
@@ -174,6 +178,9 @@ impl<L: Lines + Drop, B: Backing + Drop> Mount<L, B> {
         runs_keep_content();
         runs_keep_the_log();
         passes_are_left_alone();
+        crashes_leave_whole_writes();
+        empty_logs_rest();
+        rows_have_states();
         pass.sees_a_run();
         pass.has_taken_in();
         Ok(board.close(pass))

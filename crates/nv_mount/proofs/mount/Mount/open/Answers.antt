@@ -2,6 +2,7 @@ use Rattle.std.proofs.Common.{◌+◌, ◌≤◌, length, map, refl, arith}
 use Rattle.std.proofs.lemmas.Grind.{common_steps}
 use Rattle.std.proofs.lemmas.List.{length-map}
 use Rattle.nv_table.specs.ends.Begun.{begun_sizes}
+use Rattle.nv_mount.proofs.ClosedAtRestLaws.{begins_empty}
 use Rattle.nv_mount.proofs.OpenLaws.{opens_files, opens_log, opens_region}
 use Rattle.nv_mount.proofs.StoppedLaws.{counts_opened}
 use Rattle.nv_mount.proofs.mount.Mount.open.Goals as goal
@@ -45,3 +46,8 @@ returns-in-Ok-new-clause-counts g c =
     counts_opened g.L.Lines.device g.L.Lines.history g.L.Lines.fault_count g.L.Lines.room g.B.Backing.device g.B.Backing.history g.B.Backing.fault_count
     (begun_sizes region.geometry.page region.geometry.entries (length region.names) c.args.pages c.args.cache) region.next region.parts.items c.args.stores.items c.args.fds _ c.in-Ok-new.pass
     (returns-in-Ok-new-clause-opened g c)
+
+pub returns-in-Ok-new-clause-empty : goal.returns-in-Ok-new-clause-empty
+returns-in-Ok-new-clause-empty g c =
+    let begun = (returns-in-Ok-new-clause-opened g c).begun in
+    begins_empty c.in-Ok-new.pass.view _ begun.view
