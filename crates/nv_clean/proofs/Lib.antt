@@ -13,6 +13,7 @@ mod WriteLaws
 mod TellLaws
 mod ToldLaws
 mod AnswerLaws
+mod BoundLaws
 mod NotedLaws
 mod OverLaws
 mod StoredLaws

@@ -122,7 +122,7 @@ module _ (sizes : Sizes) where
           (omega (arith, w))
 
   -- a group that may be passed is the first one, or the batch has room for it
-  has_room : (batch : Batch) (found : ℕ) → may_pass batch found ≡ true → (batch.reached ≡ batch.tail) ⊎ (batch.reached + count_of found ≤ batch.tail + batch.most)
+  pub has_room : (batch : Batch) (found : ℕ) → may_pass batch found ≡ true → (batch.reached ≡ batch.tail) ⊎ (batch.reached + count_of found ≤ batch.tail + batch.most)
   has_room batch found passes = of_kind (kind_of found == ready) (batch.reached == batch.tail) (nat_le (batch.reached + count_of found) (batch.tail + batch.most)) refl refl passes
     where
       of_kind : (kind first room : Bool) → (batch.reached == batch.tail) ≡ first → nat_le (batch.reached + count_of found) (batch.tail + batch.most) ≡ room → (kind && (first || room)) ≡ true

@@ -25,6 +25,7 @@ use Rattle.nv_clean.specs.Cleaning.{CleanState, InBatch, IsOpen, IsUnderWay, con
 use Rattle.nv_clean.specs.CleanSteps.{is_fault}
 use Rattle.nv_clean.specs.Stored.{IsStored}
 use Rattle.nv_clean.proofs.AnswerLaws.{tells_all}
+use Rattle.nv_clean.proofs.BoundLaws.{Bounded, bounded_all}
 use Rattle.nv_clean.proofs.BatchLaws.{batch_begins, batch_ends}
 use Rattle.nv_clean.proofs.TellLaws.{Tells, WasRefused, HasRetired}
 
@@ -116,6 +117,7 @@ module _ (sound : RunsAreSound) (tell : OwnEventsTell) (most : ℕ) (m : CleanSt
     begins = begins;
     answer = ap (λ o. answered_as o (retired_in told.steps)) (sym told.refused ∙ is);
     some = tt;
+    bounded = tt;
     stored = tt;
     retires = go ended;
     stops = told.stops ∙ ap is_fault is;
@@ -131,6 +133,7 @@ module _ (sound : RunsAreSound) (tell : OwnEventsTell) (most : ℕ) (m : CleanSt
     begins = begins;
     answer = ap₂ answered_as (sym told.refused ∙ is) retired.0;
     some = let more = retired.1 in omega (arith, more);
+    bounded = (subst (λ c. Bounded start.view.opened.sizes most c told.steps) stands (bounded_all sound tell start mount way.called.idle.control most told.steps now told.made told.own begins)) (m.batch.reached - m.batch.tail) retired.0;
     stored = store (tail_in told.steps + (m.batch.reached - m.batch.tail)) (told.moved (m.batch.reached - m.batch.tail) retired.0);
     retires = go ended;
     stops = told.stops ∙ ap is_fault is;

@@ -1,8 +1,9 @@
 -- Answers: what a batch is answered, by its steps.
-use Rattle.std.specs.Prelude.{◌≡◌, ℕ, ◌+◌, ◌-◌, ◌<◌, ◌≤◌, ◌==◌, nat_lt, Bool, true, false, not, ◌&&◌, ◌||◌, if◌then◌else◌, List, [], ◌∷◌, Option, Some, None, Result, Ok, Err, is_ok, IfOk}
+use Rattle.std.specs.Prelude.{◌≡◌, ◌⊎◌, ℕ, ◌+◌, ◌-◌, ◌<◌, ◌≤◌, ◌==◌, nat_lt, Bool, true, false, not, ◌&&◌, ◌||◌, if◌then◌else◌, List, [], ◌∷◌, Option, Some, None, Result, Ok, Err, is_ok, IfOk}
 use Rattle.nv_core.specs.state.Words.{Sizes, Word, STOP, HEAD, TAIL, CLEANER, ENTRY, kind_of, place, ready, slot_of_entry}
 use Rattle.nv_core.specs.state.Cleaner.{Batch, TakeCleaner, Clean, Free, MoveTail}
 use Rattle.nv_core.specs.state.Cleaner as cleaner
+use Rattle.nv_core.specs.steps.CleanerSteps.{count_of}
 use Rattle.nv_core.specs.steps.Ops.{Op, ByCleaner}
 use Rattle.nv_core.specs.steps.Order.{Work}
 use Rattle.nv_table.specs.invariant.Idle.{IsIdle, IsLater}
@@ -92,6 +93,19 @@ abbrev pub retired_in : List PassStep → Option ℕ
 retired_in [] = None
 retired_in (step ∷ earlier) = either_of (retired_in earlier) (retired_by step.op (tail_in earlier))
 
+-- how many entries the first group has, as ENTRY of its leader said when it was loaded last, before anything was cleaned
+abbrev pub count_by : Sizes → (cleaned : Bool) (tail : ℕ) → Op → (found count : ℕ) → ℕ
+count_by sizes cleaned tail (ByCleaner (cleaner.Load (ENTRY slot))) found count = if not cleaned && slot == slot_of_entry sizes tail then count_of found else count
+count_by sizes cleaned tail op found count = count
+
+abbrev pub count_in : Sizes → List PassStep → ℕ
+count_in sizes [] = 0
+count_in sizes (step ∷ earlier) = count_by sizes (cleans_in earlier) (tail_in earlier) step.op step.found (count_in sizes earlier)
+
+-- no more than its bound, but where that is the first group alone
+abbrev pub KeepsTo : (most first retired : ℕ) → Type 0
+KeepsTo most first retired = (retired ≤ most) ⊎ (retired ≡ first)
+
 -- whether STOP was set
 abbrev pub is_stop : Op → Bool
 is_stop (ByCleaner cleaner.Stop) = true
@@ -122,8 +136,8 @@ BeginsWith most [] = ⊥
 BeginsWith most (step ∷ []) = step.op ≡ ByCleaner (TakeCleaner most)
 BeginsWith most (step ∷ (other ∷ earlier)) = BeginsWith most (other ∷ earlier)
 
--- A whole batch: its steps are its own, and the answer is what they came to. It has retired something, where it says so, and that is stored; an entry was freed, or TAIL moved, exactly where it does; and STOP was set
--- by one of them exactly where the answer is that a device has failed.
+-- A whole batch: its steps are its own, and the answer is what they came to. It has retired something, where it says so, no more entries than its bound, but where those are the first group
+-- alone; and that is stored. An entry was freed, or TAIL moved, exactly where it does; and STOP was set by one of them exactly where the answer is that a device has failed.
 pub record IsCleanOver (batch : ℕ) (start now : PassState) (result : Result Cleaned CleanRefusal) : Type 0 where
   pub steps : List PassStep
   pub made : HasMade steps start now
@@ -131,6 +145,7 @@ pub record IsCleanOver (batch : ℕ) (start now : PassState) (result : Result Cl
   pub begins : BeginsWith batch steps
   pub answer : clean_answer_in start.view.opened.sizes steps ≡ Some result
   pub some : IfOk result (λ cleaned. 0 < cleaned.retired)
+  pub bounded : IfOk result (λ cleaned. KeepsTo batch (count_in start.view.opened.sizes steps) cleaned.retired)
   pub stored : IfOk result (λ cleaned. IsStored now.view (tail_in steps + cleaned.retired))
   pub retires : retires_in steps ≡ is_ok result
   pub stops : stops_in steps ≡ tells_fault result
