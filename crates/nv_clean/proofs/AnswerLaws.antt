@@ -71,10 +71,10 @@ module _ (sizes : Sizes) (owned : List Word) (batch : Batch) where
 
 -- ---- a step
 
-none_next : {T : Type 0} {value : T} → None ≡ Some value → ⊥
+pub none_next : {T : Type 0} {value : T} → None ≡ Some value → ⊥
 none_next e = cc
 
-no_first : (op : CleanerOp) → comes_in_batch (ByCleaner op) ≡ true → IsBatchEntry (ByCleaner op) Idle → ⊥
+pub no_first : (op : CleanerOp) → comes_in_batch (ByCleaner op) ≡ true → IsBatchEntry (ByCleaner op) Idle → ⊥
 no_first (TakeCleaner most) own entry = cc
 no_first op own entry = entry
 
@@ -124,7 +124,7 @@ module _ (sound : RunsAreSound) (tell : OwnEventsTell) (old new : PassState) (wo
 
 -- ---- all steps of a batch
 
-own_is : (earlier : List PassStep) (op : Op) → is_own earlier op ≡ true → (one : CleanerOp) × (op ≡ ByCleaner one)
+pub own_is : (earlier : List PassStep) (op : Op) → is_own earlier op ≡ true → (one : CleanerOp) × (op ≡ ByCleaner one)
 own_is [] (ByCleaner one) own = (one, refl)
 own_is [] op own = absurd (cc)
 own_is (step ∷ earlier) (ByCleaner one) own = (one, refl)

@@ -17,3 +17,4 @@ mod BoundLaws
 mod NotedLaws
 mod OverLaws
 mod StoredLaws
+mod HeedLaws

@@ -1,6 +1,6 @@
 -- Over: what a batch begins with, and what is so where it is over.
 use Rattle.std.proofs.Common.{◌≡◌, ◌⊎◌, inl, inr, ℕ, ◌-◌, ◌<◌, ◌≤◌, Bool, true, false, if◌then◌else◌, List, [], ◌∷◌, refl, sym, ap, ap₂, subst, ◌∙◌, arith, ◌+◌}
-use Rattle.std.specs.Prelude.{Option, Some, None, is_some}
+use Rattle.std.specs.Prelude.{Option, Some, None, is_some, Err}
 use Rattle.nv_core.specs.state.Words.{Sizes, Word, SIZE, STORE, ENTRY}
 use Rattle.nv_core.specs.state.Core.{Core}
 use Rattle.nv_core.specs.state.Passes.{Idle, IsFilling, IsHeldEntry, times}
@@ -23,10 +23,12 @@ use Rattle.nv_clean.specs.declared.batch.CleanRefusal.{CleanRefusal}
 use Rattle.nv_clean.specs.Answers.{BegunFor, BeginsWith, IsCleanOver, IsTold, answer_at, answered_as, refusal_in, retired_in, retires_in, tail_in}
 use Rattle.nv_clean.specs.Cleaning.{CleanState, InBatch, IsOpen, IsUnderWay, control_at, is_over}
 use Rattle.nv_clean.specs.CleanSteps.{is_fault}
+use Rattle.nv_clean.specs.Heeds.{HasSeenStop, IsHeld}
 use Rattle.nv_clean.specs.Stored.{IsStored}
 use Rattle.nv_clean.proofs.AnswerLaws.{tells_all}
 use Rattle.nv_clean.proofs.BoundLaws.{Bounded, bounded_all}
 use Rattle.nv_clean.proofs.BatchLaws.{batch_begins, batch_ends}
+use Rattle.nv_clean.proofs.HeedLaws.{heeds_all, heeds_over}
 use Rattle.nv_clean.proofs.TellLaws.{Tells, WasRefused, HasRetired}
 
 -- ---- its beginning
@@ -109,6 +111,14 @@ module _ (sound : RunsAreSound) (tell : OwnEventsTell) (most : ℕ) (m : CleanSt
   abbrev refusal : Option CleanRefusal
   refusal = refusal_in start.view.opened.sizes told.steps
 
+  seen_on : HasSeenStop start → HasSeenStop now
+  seen_on seen = (heeds_all sound tell start mount way.called.idle.control most told.steps now told.made told.own begins seen).0
+
+  held_as : (r : Option CleanRefusal) → m.refusal ≡ r → HasSeenStop start → (why : CleanRefusal) × (answer_at m.batch r ≡ Err why) × IsHeld start.view.opened.sizes why
+  held_as r is seen =
+      let held = heeds_over sound tell start mount way.called.idle.control most told.steps now told.made told.own begins seen stands in
+      (held.0, ap (answer_at m.batch) (sym is ∙ told.refused ∙ held.1), held.2)
+
   by_refusal : ((below : ℕ) → below ≤ (pass_of now.view).tail → IsStored now.view below) → (r : Option CleanRefusal) → m.refusal ≡ r → IsCleanOver most start now (answer_at m.batch r)
   by_refusal store (Some why) is = record {
     steps = told.steps;
@@ -121,6 +131,8 @@ module _ (sound : RunsAreSound) (tell : OwnEventsTell) (most : ℕ) (m : CleanSt
     stored = tt;
     retires = go ended;
     stops = told.stops ∙ ap is_fault is;
+    stays = seen_on;
+    heeds = held_as (Some why) is;
   }
     where
       go : WasRefused start.view.opened.sizes told.steps ⊎ HasRetired start.view.opened.sizes told.steps → retires_in told.steps ≡ false
@@ -137,6 +149,8 @@ module _ (sound : RunsAreSound) (tell : OwnEventsTell) (most : ℕ) (m : CleanSt
     stored = store (tail_in told.steps + (m.batch.reached - m.batch.tail)) (told.moved (m.batch.reached - m.batch.tail) retired.0);
     retires = go ended;
     stops = told.stops ∙ ap is_fault is;
+    stays = seen_on;
+    heeds = held_as None is;
   }
     where
       retired : (retired_in told.steps ≡ Some (m.batch.reached - m.batch.tail)) × (m.batch.tail < m.batch.reached)

@@ -21,6 +21,7 @@ use Rattle.nv_clean.specs.declared.clean.Cleaned.{Cleaned}
 use Rattle.nv_clean.specs.Cleaning.{CleanState, IsOpen, IsUnderWay, calls_refusal}
 use Rattle.nv_clean.specs.CleanSteps.{is_fault}
 use Rattle.nv_clean.specs.OwnSteps.{AreOwn}
+use Rattle.nv_clean.specs.Heeds.{HasSeenStop, IsHeld}
 use Rattle.nv_clean.specs.Stored.{IsStored}
 
 -- ---- what some steps of a batch came to, the last of them first
@@ -137,7 +138,7 @@ BeginsWith most (step ∷ []) = step.op ≡ ByCleaner (TakeCleaner most)
 BeginsWith most (step ∷ (other ∷ earlier)) = BeginsWith most (other ∷ earlier)
 
 -- A whole batch: its steps are its own, and the answer is what they came to. It has retired something, where it says so, no more entries than its bound, but where those are the first group
--- alone; and that is stored. An entry was freed, or TAIL moved, exactly where it does; and STOP was set by one of them exactly where the answer is that a device has failed.
+-- alone; and that is stored. An entry was freed, or TAIL moved, exactly where it does; and STOP was set by one of them exactly where the answer is that a device has failed. A pass that had seen STOP set keeps that, and cleans nothing.
 pub record IsCleanOver (batch : ℕ) (start now : PassState) (result : Result Cleaned CleanRefusal) : Type 0 where
   pub steps : List PassStep
   pub made : HasMade steps start now
@@ -149,6 +150,8 @@ pub record IsCleanOver (batch : ℕ) (start now : PassState) (result : Result Cl
   pub stored : IfOk result (λ cleaned. IsStored now.view (tail_in steps + cleaned.retired))
   pub retires : retires_in steps ≡ is_ok result
   pub stops : stops_in steps ≡ tells_fault result
+  pub stays : HasSeenStop start → HasSeenStop now
+  pub heeds : HasSeenStop start → (refusal : CleanRefusal) × (result ≡ Err refusal) × IsHeld start.view.opened.sizes refusal
 
 -- ---- a machine, and what its steps came to so far
 

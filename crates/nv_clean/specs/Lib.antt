@@ -5,4 +5,5 @@ pub mod CleanSteps
 pub mod Measures
 pub mod Retiring
 pub mod Stored
+pub mod Heeds
 pub mod Answers
