@@ -3,10 +3,11 @@ ghost use Rattle.std.specs.Prelude.{◌≤◌};
 
 use crate::benches::{new_bench, opened, power_off};
 use crate::given::{region, region_of, stores};
-use crate::syncs::{close, opened_over};
+use crate::reads::{advance_by, read_slowly};
+use crate::syncs::{close, opened_over, split, take_in};
 use crate::writes::room;
 use nv_bench::Bench;
-use nv_calls::{Done, try_pread, try_pwrite};
+use nv_calls::{Done, ReadMachine, try_pread, try_pwrite};
 use nv_clean::{CleanRefusal, Cleaned, try_clean};
 use nv_open::Opened;
 use nv_pmem::{Fuse, MemPart, Pick};
@@ -127,6 +128,38 @@ fn a_group_is_cleaned_whole(rt: HostRuntime) -> Result<(), Fail> {
         )
     );
     assert_eq!(rt; close(&rt, mount, pass).tail, 5);
+    Ok(())
+}
+
+#[test]
+fn a_batch_ends_before_a_page_that_is_loaded(rt: HostRuntime) -> Result<(), Fail> {
+    let alloc = rt.alloc();
+    let stores = stores(alloc, &[0; 128], Fuse::new(alloc, &[])?)?;
+    let (mount, mut pass) = opened_over(alloc, region(alloc)?, stores)?;
+    let mut other = split(&rt, alloc, &mount, &mut pass);
+    let mut workspace = room(&rt, alloc, &mount);
+    let first = try_pwrite(&mount, &mut pass, &mut workspace, 0, 0, &[7]);
+    let second = try_pwrite(&mount, &mut pass, &mut workspace, 0, 64, &[8]);
+    // A read of page 1 has taken PAGE, and then CLEANUP, which is its second lock.
+    let mut read = ReadMachine::new(0, 64, 1);
+    let mut byte = [0; 1];
+    advance_by(&rt, &mount, &mut other, &mut read, &mut byte, 6);
+    let one = try_clean(&mount, &mut pass, 8);
+    let busy = try_clean(&mount, &mut pass, 8);
+    assert_eq!(rt;
+        (first, second, one, busy),
+        (
+            Ok(Done { place: 0, len: 1 }),
+            Ok(Done { place: 1, len: 1 }),
+            cleaned(1),
+            Err(CleanRefusal::Busy { cell: 34 })
+        )
+    );
+    let (_kinds, ended) = read_slowly(&rt, alloc, &mount, &mut other, &mut read, &mut byte);
+    assert_eq!(rt; (ended, byte), (Ok(Done { place: 2, len: 1 }), [8]));
+    take_in(&mount, &mut pass, other);
+    assert_eq!(rt; try_clean(&mount, &mut pass, 8), cleaned(1));
+    assert_eq!(rt; close(&rt, mount, pass).tail, 2);
     Ok(())
 }
 

@@ -3,10 +3,11 @@ ghost use Rattle.nv_table.specs.invariant.Idle.{IsIdle, IsLater};
 ghost use Rattle.nv_table.specs.state.States.{IsOf, PassState};
 ghost use Rattle.nv_calls.specs.reads.ReadMachines.{IsReadUnderWay};
 
-use crate::syncs::{close, opened, split, take_in};
+use crate::given::{region, stores};
+use crate::syncs::{close, opened, opened_with, split, take_in};
 use nv_calls::{Done, Kind, Progress, ReadMachine, Refusal, pread, try_pread};
 use nv_mount::Mount;
-use nv_pmem::MemPart;
+use nv_pmem::{Fuse, MemPart};
 use nv_store::{Backing, MemStore};
 use nv_table::Pass;
 use std::alloc::Global;
@@ -16,7 +17,7 @@ use std::test::Fail;
 use std::thread::{Threads, join_mut};
 
 // Advances a read to its end, and writes down the kinds of its steps, as it names them before.
-fn read_slowly(
+pub(crate) fn read_slowly(
     rt: &impl Abort,
     alloc: Global,
     mount: &Mount<MemPart, MemStore>,
@@ -35,6 +36,27 @@ fn read_slowly(
         kinds.push(read.next_kind()).expect(rt, "there is memory");
         if let Progress::Ended(result) = read.advance(mount, pass, list) {
             return (kinds, result);
+        }
+    }
+}
+
+// Advances a read that has made no step so often, which does not end it.
+pub(crate) fn advance_by(
+    rt: &impl Abort,
+    mount: &Mount<MemPart, MemStore>,
+    pass: &mut Pass<MemPart, MemStore>,
+    read: &mut ReadMachine,
+    list: &mut [u8],
+    advances: u64,
+)
+    requires board { IsOf mount.now.board pass.old }
+    requires begun { IsReadUnderWay mount.now.fds read.old list.old pass.old pass.old }
+    ensures board { IsOf mount.now.board pass.new }
+    ensures way { IsReadUnderWay mount.now.fds read.new list.new pass.old pass.new }
+{
+    for _i in 0..advances {
+        if let Progress::Ended(_result) = read.advance(mount, pass, list) {
+            panic!(rt; "it has more steps");
         }
     }
 }
@@ -108,6 +130,47 @@ fn a_page_without_a_buffer_gets_that_of_another(rt: HostRuntime) -> Result<(), F
     assert_eq!(rt; kinds.len(), 14);
     assert_eq!(rt; kinds.get(4..9), Some(search.as_slice()));
     assert_eq!(rt; close(&rt, mount, pass).placed, 1);
+    Ok(())
+}
+
+// How many steps a read of a byte makes, if it is done.
+fn steps_of(
+    rt: &impl Abort,
+    alloc: Global,
+    mount: &Mount<MemPart, MemStore>,
+    pass: &mut Pass<MemPart, MemStore>,
+    at: u64,
+) -> Option<usize>
+    requires board { IsOf mount.now.board pass.old }
+    requires idle { IsIdle pass.old }
+    ensures board { IsOf mount.now.board pass.new }
+    ensures idle { IsIdle pass.new }
+    ensures later { IsLater pass.old pass.new }
+{
+    let mut read = ReadMachine::new(0, at, 1);
+    let mut byte = [0; 1];
+    let (kinds, ended) = read_slowly(rt, alloc, mount, pass, &mut read, &mut byte);
+    if ended.is_ok() {
+        Some(kinds.len())
+    } else {
+        None
+    }
+}
+
+#[test]
+fn one_buffer_goes_from_page_to_page(rt: HostRuntime) -> Result<(), Fail> {
+    let alloc = rt.alloc();
+    let stores = stores(alloc, &[7; 128], Fuse::new(alloc, &[])?)?;
+    let (mount, mut pass) = opened_with(alloc, region(alloc)?, stores, 1)?;
+    let steps = (
+        steps_of(&rt, alloc, &mount, &mut pass, 0),
+        steps_of(&rt, alloc, &mount, &mut pass, 0),
+        steps_of(&rt, alloc, &mount, &mut pass, 64),
+        steps_of(&rt, alloc, &mount, &mut pass, 0),
+    );
+    // Page 0 is loaded, found in its buffer, robbed of it, and robs page 1 in turn.
+    assert_eq!(rt; steps, (Some(9), Some(6), Some(14), Some(14)));
+    assert_eq!(rt; close(&rt, mount, pass).placed, 4);
     Ok(())
 }
 

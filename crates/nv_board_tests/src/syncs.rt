@@ -1,5 +1,5 @@
 //! Syncs of a mount, and how its passes are made and taken in.
-ghost use Rattle.std.specs.Prelude.{◌≡◌, ◌≢◌, ◌+◌, ◌<◌, [], ◌∷◌, length, map, All, IfOk};
+ghost use Rattle.std.specs.Prelude.{◌≡◌, ◌≢◌, ◌+◌, ◌<◌, ◌≤◌, [], ◌∷◌, length, map, All, IfOk};
 ghost use Rattle.nv_plain.specs.Layouts.{version_1};
 ghost use Rattle.nv_plain.specs.declared.mode.Mode.TheVariants.{Rw, W};
 ghost use Rattle.nv_pmem.specs.MemPart.{part_history, part_room};
@@ -68,7 +68,29 @@ pub(crate) fn opened_over(
     ensures made { IfOk result (λ made. made_of made.1.view ≡ 0) }
     ensures ended { IfOk result (λ made. made.1.view.ended ≡ []) }
 {
-    match Mount::open(alloc, region, stores, fds(alloc)?, 64, 4) {
+    opened_with(alloc, region, stores, 4)
+}
+
+// With so many buffers.
+pub(crate) fn opened_with(
+    alloc: Global,
+    region: Region<MemPart>,
+    stores: Vec<MemStore>,
+    cache: u64,
+) -> Result<(Mount<MemPart, MemStore>, Pass<MemPart, MemStore>), Fail>
+    requires some { 1 ≤ cache }
+    requires few { cache ≤ 64 }
+    requires page { region.geometry.page ≡ 64 }
+    requires names { length region.names ≡ 1 }
+    requires one { length stores.items ≡ 1 }
+    requires quiet { All (λ store. Tells (store_history store) IsQuietStore) stores.items }
+    ensures board { IfOk result (λ made. IsOf made.0.board made.1) }
+    ensures idle { IfOk result (λ made. IsIdle made.1) }
+    ensures number { IfOk result (λ made. made.1.view.number ≡ 0) }
+    ensures made { IfOk result (λ made. made_of made.1.view ≡ 0) }
+    ensures ended { IfOk result (λ made. made.1.view.ended ≡ []) }
+{
+    match Mount::open(alloc, region, stores, fds(alloc)?, 64, cache) {
         Ok(made) => Ok(made),
         Err(unopened) => Err(unopened.error.into()),
     }
