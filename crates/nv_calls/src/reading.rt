@@ -53,7 +53,7 @@ fn progress(read: RunningRead) -> Progress
     }
 }
 
-// Makes the next step of a read that loads a page, with room for a piece of it.
+// Makes the next step of a read that loads a page, with room for a piece of it: in a frame of its own, which no other step pays for.
 #[inline(never)]
 fn advance_with_piece<L: Lines, B: Backing>(
     board: &Board<L, B>,

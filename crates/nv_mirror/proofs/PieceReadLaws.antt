@@ -19,7 +19,7 @@ use Rattle.nv_core.specs.steps.Opening.{IsMount}
 use Rattle.nv_core.specs.invariant.Rooms.{KeepsReady}
 use Rattle.nv_core.specs.invariant.Sound.{Sound}
 use Rattle.nv_core.specs.state.Core.{Core, control_worked, with_value}
-use Rattle.nv_core.specs.steps.Order.{Values, CallEnabled, CallMayEnd, CallMayLeave, IsFailing, CallDue, SaysPieceOf, SaysPiece}
+use Rattle.nv_core.specs.steps.Order.{CallEnabled, CallMayEnd, CallMayLeave, IsFailing, CallDue, SaysPieceOf, SaysPiece}
 use Rattle.nv_core.proofs.state.Changes.{by_word}
 use Rattle.nv_table.specs.passes.PassesMade.{IsShownStill}
 use Rattle.nv_table.specs.state.Limits.{MountIsWithinLimits}
@@ -32,7 +32,6 @@ use Rattle.nv_table.proofs.state.LayoutLaws.{cell_there}
 use Rattle.nv_pages.specs.Altered.{IsAltered}
 use Rattle.nv_pages.specs.PageWork.{OfKept, HasFailedCall, IsReadable, entry_slot}
 use Rattle.nv_mirror.specs.PieceReads.{piece_read, HasFailedPieceRead}
-use Rattle.nv_mirror.specs.PassSteps.{IsBetweenSteps}
 use Rattle.nv_mirror.proofs.OwnedLaws.{slot_still_owned}
 use Rattle.nv_core.proofs.steps.NextSteps.{steps_are_next}
 use Rattle.nv_table.specs.steps.SeatSteps.{values_before, pass_before}
@@ -143,12 +142,6 @@ some_piece sizes (ABuffer buffer) ready = absurd ready
 -- it sees what it saw
 pub to_mid : (old mid : PassState) → mid.view ≡ old.view → (D : PassState → Type 0) → D (record mid { view = old.view }) → D mid
 to_mid old mid same D there = subst (λ view. D (record mid { view = view })) (sym same) there
-
-pub from_mid : (old mid : PassState) → mid.view ≡ old.view → (D : PassState → Type 0) → D mid → D (record mid { view = old.view })
-from_mid old mid same D there = subst (λ view. D (record mid { view = view })) same there
-
-pub between_mid : (old mid : PassState) (change : Values → Values) → IsAltered change old mid → IsBetweenSteps old (record mid { view = old.view })
-between_mid old mid change altered = record { table = altered.table; view = refl; spare = altered.spare }
 
 -- ---- when the next step is due
 

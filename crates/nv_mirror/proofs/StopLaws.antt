@@ -1,13 +1,12 @@
--- Stops: the steps of a call set STOP exactly where it is refused for a device fault, and those of a read that is refused for another reason change nothing that stays.
+-- Stops: the steps of a call set STOP exactly where it is refused for a device fault.
 use Rattle.std.proofs.Common.{◌≡◌, ℕ, ◌==◌, nat_lt, ◌||◌, ◌⊎◌, ◌+◌, ◌^◌, Bool, true, false, if◌then◌else◌, List, [], ◌∷◌, inl, inr, refl, sym, ap, ap₂, subst, ◌∙◌}
 use Rattle.std.specs.Prelude.{Option, Some, None}
 use Rattle.nv_plain.specs.declared.call.FileCall.{FileCall}
-use Rattle.nv_plain.specs.declared.call.FileCall.TheVariants.{Read}
 use Rattle.nv_core.specs.invariant.InvariantLaws.{RunsAreSound}
 use Rattle.nv_core.specs.invariant.Ownership.{is_among}
 use Rattle.nv_core.specs.state.Cleaner.{TakeCleaner}
 use Rattle.nv_core.specs.state.Core.{control_worked, worked, values_worked}
-use Rattle.nv_core.specs.state.Passes.{Control, Pass, Idle, TakePage, LoadLength, TakeSize, LoadStop, LoadOrder, VisitPage, Search, NotFound, TakeVictim, Searching, TakeCleanup, TakeStore, ReadStore, GiveStore, ReadLoadHead, ReadLoadTail, LoadEntry, HoldEntry, ReadPiece, ReturnEntry, GiveCleanup, WriteLoadHead, WriteLoadTail, DrawNumbers, SeizeEntry, CommitGroup, PledgePage, ReadyEntry, TakePlace, GrowLength, GiveSize, GivePage, GiveBack, SetStopAfterRead, SetStopAfterPiece, SetStopAfterCommit, BreakEntry, Cleaning, is_read, is_write, first_page, end_page, page_count, without}
+use Rattle.nv_core.specs.state.Passes.{Control, Pass, Idle, TakePage, LoadLength, TakeSize, LoadStop, LoadOrder, VisitPage, Searching, TakeCleanup, TakeStore, ReadStore, GiveStore, ReadLoadHead, ReadLoadTail, LoadEntry, HoldEntry, ReadPiece, ReturnEntry, GiveCleanup, WriteLoadHead, WriteLoadTail, DrawNumbers, SeizeEntry, CommitGroup, PledgePage, ReadyEntry, TakePlace, GrowLength, GiveSize, GivePage, GiveBack, SetStopAfterRead, SetStopAfterPiece, SetStopAfterCommit, BreakEntry, Cleaning, is_read, is_write, first_page, end_page, page_count, without}
 use Rattle.nv_core.specs.state.Values.{CallEnding, Made, Failed, Refused}
 use Rattle.nv_core.specs.state.Words.{Sizes, Word, STOP, ORDER, HEAD, TAIL, LENGTH, STORE, ENTRY, HINT, PAGE, SIZE, CLEANUP, DIRTY, slot_of_entry, place}
 use Rattle.nv_core.specs.steps.ControlSteps.{control_after, first_control, leaving, giving, ending, ordered, scanning, after_give, after_head, after_load, after_look, after_page, after_return, after_stop, after_tail, after_hold, copying, hinted, refused}
@@ -26,8 +25,8 @@ use Rattle.nv_table.proofs.invariant.StepAt.{IsMadeAt, made_at}
 use Rattle.nv_table.proofs.steps.RunsOn.{IsPlain, step_of}
 use Rattle.nv_mirror.specs.declared.answers.Refusal.{Refusal}
 use Rattle.nv_mirror.specs.declared.answers.Refusal.TheVariants.{Busy, Stopped, Spent, Again, Raced, RegionFault, StoreFault}
-use Rattle.nv_mirror.specs.OwnSteps.{AreOwn, ArePassing, gives_back, is_own, is_passing}
-use Rattle.nv_mirror.specs.PassSteps.{PassStep, HasMade, HasTaken, busy_at, either_of, fault_at, fault_by, fault_in, head_in, if_own, is_fault, is_stop, place_by, place_in, refusal_in, refused_by, stops_in}
+use Rattle.nv_mirror.specs.OwnSteps.{AreOwn, gives_back, is_own}
+use Rattle.nv_mirror.specs.PassSteps.{PassStep, HasMade, HasTaken, busy_at, either_of, fault_at, fault_by, fault_in, head_in, if_own, is_fault, is_stop, refusal_in, refused_by, stops_in}
 
 -- ---- no device has failed
 
@@ -340,36 +339,3 @@ module _ (sizes : Sizes) (call : FileCall) where
         let was = stands (other ∷ earlier) all.0 all.1 own.2 in
         let refusal = refusal_in sizes call (other ∷ earlier) in
         next_sets step (other ∷ earlier) refusal refl (sets_stop (other ∷ earlier) all.0 all.1 own.2) own.1 (later_sets step all.0 now was.opened all.2 refusal own.1 own.0 was)
-
--- ---- a read that sets no STOP and takes no place
-
-passes_so : (file at len : ℕ) (refusal : Option Refusal) (op : Op) (found : ℕ) → is_own (Read file at len) refusal op ≡ true → is_stop op ≡ false → place_by op found ≡ None → is_passing op ≡ true
-passes_so file at len refusal (Load word) found own unset unplaced = refl
-passes_so file at len refusal (Take cell) found own unset unplaced = refl
-passes_so file at len refusal (Give cell) found own unset unplaced = refl
-passes_so file at len refusal (Hold number) found own unset unplaced = refl
-passes_so file at len refusal (Return number) found own unset unplaced = refl
-passes_so file at len refusal (Turn page) found own unset unplaced = refl
-passes_so file at len refusal (Hint buffer page) found own unset unplaced = refl
-passes_so file at len refusal (Place reply) found own unset unplaced = absurd (cc)
-passes_so file at len refusal Stop found own unset unplaced = absurd (cc)
-passes_so file at len None op found own unset unplaced = absurd (cc)
-passes_so file at len (Some refusal) op found own unset unplaced = absurd (cc)
-
-none_of : {T : Type 0} (one other : Option T) → either_of one other ≡ None → (one ≡ None) × (other ≡ None)
-none_of (Some one) other is = absurd (cc)
-none_of None other is = (refl, is)
-
-neither_of : (one other : Bool) → one || other ≡ false → (one ≡ false) × (other ≡ false)
-neither_of true other is = absurd (cc)
-neither_of false other is = (refl, is)
-
--- its steps change nothing that stays
-pub read_passes : (sizes : Sizes) (file at len : ℕ) (steps : List PassStep) → AreOwn sizes (Read file at len) steps → stops_in steps ≡ false → place_in steps ≡ None → ArePassing steps
-read_passes sizes file at len [] own unset unplaced = tt
-read_passes sizes file at len (step ∷ []) own unset unplaced =
-    (passes_so file at len None step.op step.found own.1 (neither_of false (is_stop step.op) unset).1 (none_of None (place_by step.op step.found) unplaced).1, tt)
-read_passes sizes file at len (step ∷ (other ∷ earlier)) own unset unplaced =
-    let calm = neither_of (stops_in (other ∷ earlier)) (is_stop step.op) unset in
-    let none = none_of (place_in (other ∷ earlier)) (place_by step.op step.found) unplaced in
-    (passes_so file at len (refusal_in sizes (Read file at len) (other ∷ earlier)) step.op step.found own.1 calm.1 none.1, read_passes sizes file at len (other ∷ earlier) own.2 calm.0 none.0)

@@ -1,6 +1,5 @@
 -- Entries: an entry that a read holds, and one that it returns.
-use Rattle.std.proofs.Common.{◌≡◌, ℕ, ◌+◌, ◌-◌, ◌%◌, ◌^◌, ◌<◌, ◌≤◌, ◌==◌, Bool, true, false, List, [], refl, sym, ap, ap₂, subst, ◌∙◌, arith, eqb-true}
-use Rattle.std.specs.Prelude.{None}
+use Rattle.std.proofs.Common.{◌≡◌, ℕ, ◌+◌, ◌-◌, ◌%◌, ◌^◌, ◌<◌, ◌≤◌, ◌==◌, Bool, true, false, List, [], refl, ap, ap₂, subst, ◌∙◌, arith, eqb-true}
 use Rattle.std.proofs.lemmas.Bool.{and_parts}
 use Rattle.std.proofs.lemmas.Nat.{mod_below}
 use Rattle.nv_plain.specs.Images.{lines_for}
@@ -9,25 +8,18 @@ use Rattle.nv_pmem.specs.Room.{Room}
 use Rattle.nv_core.specs.invariant.Rooms.{KeepsReady}
 use Rattle.nv_core.specs.state.Spares.{spares_of}
 use Rattle.nv_core.specs.state.Values.{APart, PageRead, Failed, called}
-use Rattle.nv_core.specs.state.Words.{Sizes, ENTRY, ready, held, kind_of, page_of, is_entry_of, place, slot_of_entry}
-use Rattle.nv_core.specs.state.Passes.{Pass, HoldEntry, ReturnEntry}
-use Rattle.nv_core.specs.steps.Ops.{Hold, Return}
+use Rattle.nv_core.specs.state.Words.{Sizes, ENTRY, ready, held, kind_of, page_of, is_entry_of, slot_of_entry}
+use Rattle.nv_core.specs.state.Passes.{HoldEntry, ReturnEntry}
 use Rattle.nv_core.specs.steps.Order.{Values}
 use Rattle.nv_core.specs.state.Core.{Core}
 use Rattle.nv_core.specs.invariant.Loaded.{LooksSound}
 use Rattle.nv_core.specs.invariant.LogWindow.{InWindow, entry_word_at}
 use Rattle.nv_core.specs.invariant.Sound.{Sound}
 use Rattle.nv_core.proofs.state.SparesLaws.{spares_tell}
-use Rattle.nv_core.proofs.steps.NextSteps.{next_steps_may_come}
 use Rattle.nv_table.specs.state.SlotValues.{present, part_value}
 use Rattle.nv_table.specs.state.Layout.{cell_of}
-use Rattle.nv_table.specs.steps.SeatSteps.{values_before, pass_before}
-use Rattle.nv_table.specs.state.Changes.{changed}
 use Rattle.nv_table.specs.state.Opened.{Opened}
-use Rattle.nv_table.specs.steps.StepContracts.{PreconditionAt}
 use Rattle.nv_table.specs.state.States.{BoardState, PassState, IsOf}
-use Rattle.nv_table.specs.steps.CallSteps.{Precondition}
-use Rattle.nv_table.specs.declared.acting.Change.TheVariants.{Add, Subtract}
 use Rattle.nv_table.proofs.state.LayoutLaws.{cell_there}
 use Rattle.nv_pages.specs.PageWork.{entry_slot}
 
@@ -54,47 +46,6 @@ module _ (sizes : Sizes) (first : Values) (core : Core) (by page number : ℕ) (
   returned_next failed control low =
       let looks : InWindow core number × (is_entry_of held page (entry_word_at sizes core number) ≡ true) = subst (LooksSound sizes core) control (sound.loaded.looks by) in
       falls (entry_word_at sizes core number) low (kind_is held page (entry_word_at sizes core number) looks.1)
-
--- ---- the word and the slot of a number's entry, as a pass of the board has them
-
-module _ (board : BoardState) (pass : PassState) (entry number : ℕ) (of : IsOf board pass) (same : entry ≡ number) where
-  pub entry_word : (word : ℕ) → word ≡ place board.opened.sizes (ENTRY (slot_of_entry board.opened.sizes entry)) → place pass.view.opened.sizes (ENTRY (slot_of_entry pass.view.opened.sizes number)) ≡ word
-  entry_word word is =
-      ap₂ (λ (opened : Opened) n. place opened.sizes (ENTRY (slot_of_entry opened.sizes n))) of.same_mount (sym same) ∙ sym is
-
-  pub entry_moves : (slot : ℕ) → slot ≡ entry_slot board.opened.sizes entry → entry_slot pass.view.opened.sizes number ≡ slot
-  entry_moves slot is = ap₂ (λ (opened : Opened) n. entry_slot opened.sizes n) of.same_mount (sym same) ∙ sym is
-
--- ---- a step that is due is ready
-
-module _ (pass : PassState) (number at : ℕ) (there : place pass.view.opened.sizes (ENTRY (slot_of_entry pass.view.opened.sizes number)) ≡ at) where
-  abbrev pub hold_ready : Precondition pass None (Hold number) → PreconditionAt pass None (Hold number) at (changed (Add 1))
-  hold_ready due = let by_kind = next_steps_may_come pass.view.opened.sizes (values_before pass.view due.works) (pass_before pass.view None due.works) (Hold number) due.may in record {
-    works = due.works;
-    next = record {
-      due = due.due;
-      begins = due.begins;
-      may = due.may;
-      staying = due.staying;
-      word = there;
-      value = λ core sound made is low. held_next pass.view.opened.sizes _ core pass.view.number by_kind.0 number sound (ap (λ (p : Pass). p.control) is ∙ by_kind.1) low;
-    };
-    holds = due.holds;
-  }
-
-  abbrev pub return_ready : Precondition pass None (Return number) → PreconditionAt pass None (Return number) at (changed (Subtract 1))
-  return_ready due = let by_kind = next_steps_may_come pass.view.opened.sizes (values_before pass.view due.works) (pass_before pass.view None due.works) (Return number) due.may in record {
-    works = due.works;
-    next = record {
-      due = due.due;
-      begins = due.begins;
-      may = due.may;
-      staying = due.staying;
-      word = there;
-      value = λ core sound made is low. returned_next pass.view.opened.sizes _ core pass.view.number by_kind.0 number sound by_kind.1 (ap (λ (p : Pass). p.control) is ∙ by_kind.2) low;
-    };
-    holds = due.holds;
-  }
 
 -- ---- the part of an entry, which was read
 

@@ -16,7 +16,8 @@ use Rattle.nv_mirror.specs.declared.answers.Refusal.{Refusal}
 use Rattle.nv_mirror.specs.Answers.{HasTold, IsReadPlaced, IsUnplaced, place_in_answer, refusal_in_answer}
 use Rattle.nv_mirror.specs.Controls.{IsOver}
 use Rattle.nv_mirror.specs.PassSteps.{is_fault}
-use Rattle.nv_mirror.proofs.StopLaws.{read_passes, sets_stop}
+use Rattle.nv_mirror.proofs.OwnLaws.{own_are_passing}
+use Rattle.nv_mirror.proofs.StopLaws.{sets_stop}
 use Rattle.nv_cache.specs.declared.read.RunningRead.TheVariants.{Over}
 use Rattle.nv_cache.specs.RunningReads.{IsUnderWay}
 use Rattle.nv_calls.specs.calls.Advances.{IsFewer}
@@ -36,7 +37,7 @@ done_of_file : RunsAreSound → OwnEventsTell → (file at : ℕ) (list : List �
 done_of_file sound tell file at list start now result mount over told =
     let sizes = start.view.opened.sizes in
     let stopped = sets_stop sizes (Read file at (length list)) sound tell start mount over.steps now over.made over.own ∙ ap is_fault over.refused in
-    record { over = over; stopped = stopped; alone = λ unplaced mild. read_passes sizes file at (length list) over.steps over.own (stopped ∙ mild) (over.placed ∙ unplaced); told = told }
+    record { over = over; stopped = stopped; alone = λ unplaced mild. own_are_passing file at (length list) sizes over.steps over.own (over.placed ∙ unplaced) (stopped ∙ mild); told = told }
 
 -- one that its descriptor's file was asked for
 pub over_by : RunsAreSound → OwnEventsTell → (fds : List Fd) (fd at : ℕ) (list room : List ℕ) (start now : PassState) (result : Result Done Refusal) → IsMount (mount_of start.view.opened) → (file : ℕ)
