@@ -67,6 +67,7 @@ use Rattle.nv_table.proofs.passes.BetweenLaws.{puts_opened}
 use Rattle.nv_table.proofs.passes.LeftLaws.{left_within}
 use Rattle.nv_table.proofs.state.LayoutLaws.{cell_there}
 use Rattle.nv_mount.specs.ClosedAtRest.{HasEmptiedLog, AreAtRest, RestsWhereEmpty, files_then}
+use Rattle.nv_mount.specs.LoneWords.{word_then}
 use Rattle.nv_mount.specs.Telling.{IsSeen, StoresHave}
 use Rattle.nv_mount.proofs.ClosedFilesLaws.{store_shown, part_shown}
 use Rattle.nv_mount.proofs.HistoryLaws.{all_taken}
@@ -140,8 +141,8 @@ pub begins_empty : (view : PassView) (opened : Opened) → view ≡ first_view o
 begins_empty view opened is = record {
   owned = ap (λ (v : PassView). (pass_of v).owned) is;
   taken = subst TakenHoldNothing (sym is) (λ past one. absurd one);
-  none = subst (λ (v : PassView). (state_of v.opened v.run).words TAIL ≡ (state_of v.opened v.run).words HEAD) (sym is) refl;
-  going = ap (λ (v : PassView). (state_of v.opened v.run).words STOP) is;
+  none = subst (λ (v : PassView). word_then v TAIL ≡ word_then v HEAD) (sym is) refl;
+  going = ap (λ (v : PassView). word_then v STOP) is;
 }
 
 -- ---- the run of a pass that is alone and holds nothing

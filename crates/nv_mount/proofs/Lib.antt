@@ -5,3 +5,4 @@ mod ClosedFilesLaws
 mod CountLaws
 mod StoppedLaws
 mod ClosedAtRestLaws
+mod LoneWordLaws

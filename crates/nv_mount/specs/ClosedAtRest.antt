@@ -18,14 +18,15 @@ use Rattle.nv_core.specs.log.LogContent.{OpensLog}
 use Rattle.nv_table.specs.invariant.Idle.{TakenHoldNothing}
 use Rattle.nv_table.specs.state.Opened.{mount_of, state_of}
 use Rattle.nv_table.specs.state.Views.{PassView, pass_of}
+use Rattle.nv_mount.specs.LoneWords.{word_then}
 use Rattle.nv_mount.specs.Telling.{StoresHave}
 
 -- A pass has left the log empty: no cell is held by it or by one that it took in, and after its last step TAIL is HEAD and STOP is 0.
 pub record HasEmptiedLog (view : PassView) : Type 0 where
   pub owned : (pass_of view).owned ≡ []
   pub taken : TakenHoldNothing view
-  pub none : (state_of view.opened view.run).words TAIL ≡ (state_of view.opened view.run).words HEAD
-  pub going : (state_of view.opened view.run).words STOP ≡ 0
+  pub none : word_then view TAIL ≡ word_then view HEAD
+  pub going : word_then view STOP ≡ 0
 
 -- The stores have these files, and are durable. The parts of the header and of the entries are a region at rest with these names, which goes on with
 -- this number: they are quiet, and no image of them has a committed number.

@@ -5,3 +5,4 @@ pub mod Telling
 pub mod ClosedFiles
 pub mod RisenCounts
 pub mod ClosedAtRest
+pub mod LoneWords

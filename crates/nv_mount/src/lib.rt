@@ -2,9 +2,11 @@
 #![tactic(auto)]
 
 mod fds;
+mod laws;
 mod mount;
 mod refusals;
 
 pub use fds::{Fd, FdError, Fds, MAX_FDS};
+pub use laws::words_stay_while_alone;
 pub use mount::Mount;
 pub use refusals::{OpenError, PassesOut, Unopened};
