@@ -1,8 +1,9 @@
 //! Which reads and writes are refused by what they ask for.
 ghost use Rattle.std.specs.Prelude.{◌≡◌};
+ghost use Rattle.nv_plain.specs.Modes.{can_read};
 ghost use Rattle.nv_table.specs.state.Keys.{sizes_of};
 ghost use Rattle.nv_calls.specs.calls.Accesses.{serves};
-ghost use Rattle.nv_calls.specs.calls.EarlyRefusals.{Admits, RangeIsAdmitted};
+ghost use Rattle.nv_calls.specs.calls.EarlyRefusals.{Admits, RangeIsAdmitted, early_refusal};
 
 use nv_entry::piece_count;
 use nv_mirror::Refusal;
@@ -64,4 +65,17 @@ pub(crate) fn admit<L: Lines + Drop, B: Backing + Drop>(
     }
     check_range(mount.board().layout(), at, len)?;
     Ok(open.file)
+}
+
+/// Why a read of so many bytes is refused before its first step, by what it asks for; if it is. So who makes the room for its bytes learns first whether
+/// it will be read into. Takes no memory.
+pub fn early_read_refusal<L: Lines + Drop, B: Backing + Drop>(
+    mount: &Mount<L, B>,
+    fd: u64,
+    at: u64,
+    len: u64,
+) -> Option<Refusal>
+    ensures { result ≡ early_refusal can_read mount.now.board.opened.sizes mount.now.fds fd at len }
+{
+    admit(mount, Access::Reads, fd, at, len).err()
 }

@@ -12,6 +12,7 @@ mod syncing;
 mod write;
 mod writing;
 
+pub use admit::early_read_refusal;
 pub use alone::a_read_alone_is_not_busy;
 pub use laws::{calls_are_complete, ended_calls_heed_stop, refused_writes_leave_words};
 pub use nv_mirror::{Done, Refusal};

@@ -33,11 +33,11 @@ use Rattle.nv_mirror.specs.PassSteps.{PassStep, HasMade, either_of, busy_at, if_
 -- ---- refusals that name no lock
 
 -- it is not that a lock was found held
-abbrev IsOther : Option Refusal → Type 0
+abbrev pub IsOther : Option Refusal → Type 0
 IsOther (Some (Busy cell)) = ⊥
 IsOther refusal = Unit {0}
 
-other_of : (refusal : Option Refusal) (cell : ℕ) → IsOther refusal → refusal ≡ Some (Busy cell) → ⊥
+pub other_of : (refusal : Option Refusal) (cell : ℕ) → IsOther refusal → refusal ≡ Some (Busy cell) → ⊥
 other_of refusal cell other is = subst IsOther is other
 
 choice : (b : Bool) (one two : Option Refusal) → IsOther one → IsOther two → IsOther (if b then one else two)
@@ -66,7 +66,7 @@ range_other sizes at len =
     choice (nat_lt (sizes.page * sizes.pages) (at + len)) (Some TooFar) (if nat_lt (min version_1.group_limit sizes.entries) (pages_touched at len sizes.page) then Some TooLong else None) tt
     (choice (nat_lt (min version_1.group_limit sizes.entries) (pages_touched at len sizes.page)) (Some TooLong) None tt tt)
 
-early_other : (sizes : Sizes) (fds : List Fd) (fd at len : ℕ) → IsOther (early_refusal can_read sizes fds fd at len)
+pub early_other : (sizes : Sizes) (fds : List Fd) (fd at len : ℕ) → IsOther (early_refusal can_read sizes fds fd at len)
 early_other sizes fds fd at len = by (slice_get fds fd)
   where
     by : (one : Option Fd) → IsOther (early_fd_refusal can_read sizes one at len)
