@@ -1,0 +1,19 @@
+-- The writes so far found no room in the log, and the cleaner's batches made some; nothing was placed.
+use Rattle.std.proofs.Common.{◌≡◌, []}
+use Rattle.nv_table.specs.invariant.Idle.{IsIdle, IsLater}
+use Rattle.nv_table.specs.state.States.{IsOf}
+use Rattle.nv_table.specs.state.Workspaces.{IsWorkspace}
+use Rattle.nv_mirror.specs.Answers.{IsUnplaced}
+use Rattle.nv_runner.proofs.make.make_write.Given as goal
+
+abbrev pub invariant-loop : goal.invariant-loop
+invariant-loop g l = record {
+  board : IsOf l.mount.board l.pass;
+  idle : IsIdle l.pass;
+  later : IsLater l.initial.pass l.pass;
+  unplaced : IsUnplaced l.initial.pass.view l.pass.view;
+  workspace : IsWorkspace l.mount.board.opened.sizes l.workspace;
+  bare : l.workspace.parts.items ≡ [];
+  next : (goal.iterator-loop g).can_next l.iterator';
+  finite : (goal.iterator-loop g).is_finite l.iterator';
+}

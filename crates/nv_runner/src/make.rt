@@ -1,0 +1,180 @@
+//! One call, made until it is answered for good.
+ghost use Rattle.std.specs.Prelude.{◌≡◌, ℕ, false, ◌&&◌, [], Option, is_some, IfOk, OnErr};
+ghost use Rattle.nv_table.specs.invariant.Idle.{IsIdle, IsLater};
+ghost use Rattle.nv_table.specs.state.States.{IsOf};
+ghost use Rattle.nv_table.specs.state.Workspaces.{IsWorkspace};
+ghost use Rattle.nv_mirror.specs.Answers.{IsUnplaced};
+ghost use Rattle.nv_runner.specs.declared.ask.Act.TheVariants as acts;
+ghost use Rattle.nv_runner.specs.Calls.{Tells, wants_room};
+
+use crate::{Act, Answer, Ask};
+use nv_calls::{Refusal, early_read_refusal, pread, pwrite, try_fsync};
+use nv_clean::try_clean;
+use nv_mount::Mount;
+use nv_plain::{Bytes, NoMemory, Reply};
+use nv_pmem::Lines;
+use nv_store::Backing;
+use nv_table::{Pass, Workspace};
+use std::alloc::Global;
+use std::sync::Wait;
+
+// A read, with room for its bytes; for none where it is refused by what it asks for.
+fn make_read<R: Wait, L: Lines + Drop, B: Backing + Drop>(
+    rt: &R,
+    alloc: Global,
+    mount: &Mount<L, B>,
+    pass: &mut Pass<L, B>,
+    fd: u64,
+    at: u64,
+    len: u64,
+) -> Result<Answer, NoMemory>
+    requires board { IsOf mount.now.board pass.old }
+    requires idle { IsIdle pass.old }
+    ensures board { IsOf mount.now.board pass.new }
+    ensures idle { IsIdle pass.new }
+    ensures later { IsLater pass.old pass.new }
+    ensures told { (worker : Option ℕ) → IfOk result (λ answer. Tells mount.now.fds worker (record { fd = fd; what = acts.Read at len }) pass.old pass.new answer) }
+    ensures memory { OnErr result (pass.new ≡ pass.old) }
+{
+    if let Some(refusal) = early_read_refusal(mount, fd, at, len) {
+        return Ok(Answer::Refused(refusal));
+    }
+    let mut bytes = vec![in alloc; 0; len as usize]?;
+    match pread(rt, mount, pass, fd, at, &mut bytes) {
+        Ok(done) => {
+            bytes.truncate(done.len as usize);
+            Ok(Answer::Placed {
+                place: done.place,
+                reply: Reply::Bytes(Bytes::from_vec(bytes)),
+            })
+        }
+        Err(refusal) => Ok(Answer::Refused(refusal)),
+    }
+}
+
+// Whether the log had no room for a write that was refused so, and a batch of the cleaner was run. Whatever came of it, the log is looked at again.
+fn makes_room<L: Lines + Drop, B: Backing + Drop>(
+    mount: &Mount<L, B>,
+    pass: &mut Pass<L, B>,
+    refusal: Refusal,
+    worker: Option<u64>,
+) -> bool
+    requires board { IsOf mount.now.board pass.old }
+    requires idle { IsIdle pass.old }
+    ensures board { IsOf mount.now.board pass.new }
+    ensures idle { IsIdle pass.new }
+    ensures later { IsLater pass.old pass.new }
+    ensures kept { IsUnplaced pass.old.view pass.new.view }
+    ensures none { result ≡ false → pass.new ≡ pass.old }
+    ensures ran { result ≡ wants_room refusal && is_some worker }
+{
+    if let (Refusal::Again { .. }, Some(batch)) = (refusal, worker) {
+        let _ = try_clean(mount, pass, batch);
+        return true;
+    }
+    false
+}
+
+// A write. Where the log has no room for it and a cleaner's batch may be run, one is, and it is made again.
+fn make_write<R: Wait, L: Lines + Drop, B: Backing + Drop>(
+    rt: &R,
+    mount: &Mount<L, B>,
+    pass: &mut Pass<L, B>,
+    workspace: &mut Workspace<L, B>,
+    fd: u64,
+    at: u64,
+    bytes: &[u8],
+    worker: Option<u64>,
+) -> Answer
+    requires board { IsOf mount.now.board pass.old }
+    requires idle { IsIdle pass.old }
+    requires workspace { IsWorkspace mount.now.board.opened.sizes workspace.old }
+    requires bare { workspace.old.parts.items ≡ [] }
+    ensures board { IsOf mount.now.board pass.new }
+    ensures idle { IsIdle pass.new }
+    ensures later { IsLater pass.old pass.new }
+    ensures workspace { IsWorkspace mount.now.board.opened.sizes workspace.new }
+    ensures bare { workspace.new.parts.items ≡ [] }
+    ensures told { Tells mount.now.fds worker (record { fd = fd; what = acts.Write at bytes.now }) pass.old pass.new result }
+{
+    for _ in rt.forever() {
+        match pwrite(rt, mount, pass, workspace, fd, at, bytes) {
+            Ok(done) => {
+                return Answer::Placed {
+                    place: done.place,
+                    reply: Reply::Count(done.len),
+                };
+            }
+            Err(refusal) => {
+                if !makes_room(mount, pass, refusal, worker) {
+                    return Answer::Refused(refusal);
+                }
+            }
+        }
+    }
+    unreachable!()
+}
+
+// A sync.
+fn make_sync<L: Lines + Drop, B: Backing + Drop>(
+    mount: &Mount<L, B>,
+    pass: &mut Pass<L, B>,
+    fd: u64,
+) -> Answer
+    requires board { IsOf mount.now.board pass.old }
+    requires idle { IsIdle pass.old }
+    ensures board { IsOf mount.now.board pass.new }
+    ensures idle { IsIdle pass.new }
+    ensures later { IsLater pass.old pass.new }
+    ensures told { (worker : Option ℕ) → Tells mount.now.fds worker (record { fd = fd; what = acts.Sync }) pass.old pass.new result }
+{
+    match try_fsync(mount, pass, fd) {
+        Ok(done) => Answer::Placed {
+            place: done.place,
+            reply: Reply::Done,
+        },
+        Err(refusal) => Answer::Refused(refusal),
+    }
+}
+
+/// Makes one call, again as long as a lock is found held or another write draws its numbers, and, where `worker` tells the most entries of a batch, runs a batch of the cleaner
+/// behind each try for which the log has no room. It may wait for ever, so it returns only where the others give their locks back, and the log gets room. The answer is the
+/// call's place in the history, with the reply that plain files give after the calls before it; or why it has none, which is none of these. A read's bytes lie in memory of `alloc`:
+/// where that is wanting nothing was done.
+pub fn make_call<R: Wait, L: Lines + Drop, B: Backing + Drop>(
+    rt: &R,
+    alloc: Global,
+    mount: &Mount<L, B>,
+    pass: &mut Pass<L, B>,
+    workspace: &mut Workspace<L, B>,
+    ask: &Ask,
+    worker: Option<u64>,
+) -> Result<Answer, NoMemory>
+    requires board { IsOf mount.now.board pass.old }
+    requires idle { IsIdle pass.old }
+    requires workspace { IsWorkspace mount.now.board.opened.sizes workspace.old }
+    requires bare { workspace.old.parts.items ≡ [] }
+    ensures board { IsOf mount.now.board pass.new }
+    ensures idle { IsIdle pass.new }
+    ensures later { IsLater pass.old pass.new }
+    ensures workspace { IsWorkspace mount.now.board.opened.sizes workspace.new }
+    ensures bare { workspace.new.parts.items ≡ [] }
+    ensures told { IfOk result (λ answer. Tells mount.now.fds worker ask.now pass.old pass.new answer) }
+    ensures memory { OnErr result (pass.new ≡ pass.old) }
+{
+    let fd = ask.fd;
+    match &ask.what {
+        Act::Read { at, len } => make_read(rt, alloc, mount, pass, fd, *at, *len),
+        Act::Write { at, bytes } => Ok(make_write(
+            rt,
+            mount,
+            pass,
+            workspace,
+            fd,
+            *at,
+            bytes.as_slice(),
+            worker,
+        )),
+        Act::Sync => Ok(make_sync(mount, pass, fd)),
+    }
+}
