@@ -34,3 +34,6 @@ pub mod CleanerEntries
 pub mod CleanerDirty
 pub mod HeaderRoom
 pub mod ShapeLaws
+pub mod DrawnSteps
+pub mod KeepsDraws
+pub mod HistoryLaws

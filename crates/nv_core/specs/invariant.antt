@@ -23,3 +23,5 @@ pub mod ForbiddenSteps
 pub mod Flights
 pub mod GoingBack
 pub mod Shapes
+pub mod Draws
+pub mod LaterHistories

@@ -5,6 +5,7 @@
 
 mod content_laws;
 mod crash_laws;
+mod draw_laws;
 mod fitting_laws;
 mod frame_laws;
 mod invariant_laws;
@@ -17,6 +18,7 @@ pub use content_laws::{pages_are_patched, runs_keep_content};
 pub use crash_laws::{
     crashes_leave_whole_writes, empty_logs_rest, images_by_hand, regions_at_rest_open,
 };
+pub use draw_laws::{heads_count_draws, histories_go_on};
 pub use fitting_laws::{held_pieces_fit, ready_pieces_fit};
 pub use frame_laws::passes_are_left_alone;
 pub use invariant_laws::{

@@ -28,7 +28,7 @@ use Rattle.nv_core.proofs.invariant.LockLaws.{only_holder, times_without_else}
 use Rattle.nv_core.proofs.invariant.WindowLaws.{OneEntry, slot_within}
 use Rattle.nv_core.proofs.invariant.OwnershipLaws.{among_in, among_below, among_above, among_more}
 use Rattle.nv_core.proofs.steps.WordLaws.{untouched, touches}
-use Rattle.nv_core.proofs.state.TotalLaws.{total_same, total_at, total_more}
+use Rattle.nv_core.proofs.state.TotalLaws.{total_same, total_at, total_changed, total_made}
 use Rattle.nv_core.proofs.invariant.KeepsWindow.{readies_one, pledged_alike}
 use Rattle.nv_core.proofs.invariant.KeepsLocks.{kind_is, locks_step, readying_next, entry_is}
 use Rattle.nv_core.proofs.invariant.KeepsLoaded.{held_by_one, holds_page, pledged_page}
@@ -66,11 +66,7 @@ owed_same core now page made same = ap (λ m. total (m + 1) (λ n. owed (now.pas
 owed_step : (sizes : Sizes) (first : Values) (by : ℕ) (core : Core) (op : Op) (found : ℕ) → Sound sizes first core → (IsCleaners op → ⊥) → FoundEnabledByKind sizes by core op found → (page : ℕ) → owed_by_all (after_step sizes by op found core) page ≡ owed_by_all core page
 owed_step sizes first by core (ByCleaner cleaner_op) found sound other may page = absurd (other tt)
 owed_step sizes first by core Split found sound other may page =
-    let e = total_more (core.made + 1) (λ n. owed ((after_step sizes by Split found core).passes n).control page) in
-    let f = total_same (core.made + 1) (λ n. owed (core.passes n).control page) (λ n. owed ((after_step sizes by Split found core).passes n).control page)
-    (λ n less. ap (λ (p : Pass). owed p.control page) (number_else core.passes (core.made + 1) (changed_pass sizes by core Split found) n (λ is. omega (arith, is, less)))) in
-    let g : owed ((after_step sizes by Split found core).passes (core.made + 1)).control page ≡ 0 = ap (λ (p : Pass). owed p.control page) (number_here core.passes (core.made + 1) (changed_pass sizes by core Split found)) in
-    omega (arith, e, f, g)
+    let made = total_made (core.made + 1) (λ (p : Pass). owed p.control page) core.passes (changed_pass sizes by core Split found) in omega (arith, made)
 owed_step sizes first by core (PutBack cell) found sound other may page = owed_same core (after_step sizes by (PutBack cell) found core) page refl
     (by_number (λ n (p : Pass). owed p.control page ≡ owed (core.passes n).control page) core.passes by (changed_pass sizes by core (PutBack cell) found) refl (λ n ne. refl))
 owed_step sizes first by core (Join number) found sound other may page = owed_same core (after_step sizes by (Join number) found core) page refl
@@ -510,10 +506,9 @@ owed_at : (sizes : Sizes) (first : Values) (by : ℕ) (core : Core) (cleaner_op 
     → owed_by_all (after_step sizes by (ByCleaner cleaner_op) found core) page + owed (Cleaning batch inner) page
     ≡ owed_by_all core page + owed (after_cleaner_op sizes (moved (cleaner_move sizes cleaner_op found) (core.passes by).owned) batch inner found) page
 owed_at sizes first by core cleaner_op found batch inner page sound at =
-    let e = total_at (core.made + 1) by (λ n. owed (core.passes n).control page) (λ n. owed ((after_step sizes by (ByCleaner cleaner_op) found core).passes n).control page) (cleaner_made sizes first by core batch inner sound at)
-    (λ n ne. ap (λ (p : Pass). owed p.control page) (number_else core.passes by (changed_pass sizes by core (ByCleaner cleaner_op) found) n ne)) in
-    let f : owed ((after_step sizes by (ByCleaner cleaner_op) found core).passes by).control page ≡ owed (after_cleaner_op sizes (moved (cleaner_move sizes cleaner_op found) (core.passes by).owned) batch inner found) page =
-    ap (λ (p : Pass). owed p.control page) (number_here core.passes by (changed_pass sizes by core (ByCleaner cleaner_op) found)) ∙ ap (λ s. owed (after_by_cleaner sizes (moved (cleaner_move sizes cleaner_op found) (core.passes by).owned) cleaner_op found s) page) at in
+    let e = total_changed (core.made + 1) by (λ (p : Pass). owed p.control page) core.passes (changed_pass sizes by core (ByCleaner cleaner_op) found) (cleaner_made sizes first by core batch inner sound at) in
+    let f : owed (changed_pass sizes by core (ByCleaner cleaner_op) found).control page ≡ owed (after_cleaner_op sizes (moved (cleaner_move sizes cleaner_op found) (core.passes by).owned) batch inner found) page =
+    ap (λ s. owed (after_by_cleaner sizes (moved (cleaner_move sizes cleaner_op found) (core.passes by).owned) cleaner_op found s) page) at in
     let g : owed (core.passes by).control page ≡ owed (Cleaning batch inner) page = ap (λ s. owed s page) at in
     omega (arith, e, f, g)
 

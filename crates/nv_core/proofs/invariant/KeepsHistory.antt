@@ -19,10 +19,10 @@ use Rattle.nv_core.proofs.steps.ByKind.{FoundEnabledByKind}
 use Rattle.nv_core.specs.invariant.OneHistory.{IsPrefix, calls_by, control_open, open_calls, open_count, OneHistory}
 use Rattle.nv_core.specs.invariant.FaultedWrites.{HasChecked, Broken}
 use Rattle.nv_core.specs.invariant.Sound.{Sound}
-use Rattle.nv_core.proofs.state.Changes.{by_number, number_here, number_else, word_here, number_self}
+use Rattle.nv_core.proofs.state.Changes.{by_number, number_here, word_here, number_self}
 use Rattle.nv_core.proofs.state.Choices.{if_both, when_true, when_false, leaving_both, IsGivingBack, gives_back}
 use Rattle.nv_core.proofs.steps.WordLaws.{untouched, touches}
-use Rattle.nv_core.proofs.state.TotalLaws.{total_same, total_at, total_more}
+use Rattle.nv_core.proofs.state.TotalLaws.{total_changed, total_made}
 use Rattle.nv_core.proofs.steps.Inherits.{inherits}
 use Rattle.nv_core.proofs.invariant.KeepsLoaded.{more_made}
 use Rattle.nv_core.proofs.invariant.ControlFactLaws.{worked_control}
@@ -32,7 +32,7 @@ use Rattle.nv_core.proofs.steps.SearchLaws.{turned_at, looked_at, tried_next, hi
 -- ---- lists
 
 -- a longer history begins with what the shorter one does
-begins_more : {T : Type 0} (first whole more : List T) → IsPrefix first whole → IsPrefix first (whole ++ more)
+pub begins_more : {T : Type 0} (first whole more : List T) → IsPrefix first whole → IsPrefix first (whole ++ more)
 begins_more first whole more begins = (begins.0 ++ more, ap (λ w. w ++ more) begins.1 ∙ append_assoc first begins.0 more)
 
 -- ---- how many calls are open
@@ -156,10 +156,7 @@ quiet sizes values pass found number history op is may = absurd may
 
 -- a pass's open calls change the count by as much
 count_at : (made by : ℕ) (passes : ℕ → Pass) (now : Pass) → by ≤ made → open_count made (with_number passes by now) + open_calls (passes by) ≡ open_count made passes + open_calls now
-count_at made by passes now here =
-    let e = total_at (made + 1) by (λ n. open_calls (passes n)) (λ n. open_calls (with_number passes by now n)) (omega arith) (λ n ne. ap open_calls (number_else passes by now n ne)) in
-    let f : open_calls (with_number passes by now by) ≡ open_calls now = ap open_calls (number_here passes by now) in
-    omega (arith, e, f)
+count_at made by passes now here = total_changed (made + 1) by open_calls passes now (omega arith)
 
 -- ---- ORDER and the open calls
 
@@ -205,11 +202,9 @@ few_step sizes by core found (Place reply) one broken here may =
     placed_open (VisitPage page) may = refl
     placed_open control may = absurd may
 few_step sizes by core found Split one broken here may =
-    let m = total_more (core.made + 1) (λ n. open_calls (with_number core.passes (core.made + 1) (changed_pass sizes by core Split found) n)) in
-    let s = total_same (core.made + 1) (λ n. open_calls (core.passes n)) (λ n. open_calls (with_number core.passes (core.made + 1) (changed_pass sizes by core Split found) n)) (λ n less. ap open_calls (number_else core.passes (core.made + 1) (changed_pass sizes by core Split found) n (λ e. omega (arith, e, less)))) in
-    let z : open_calls (with_number core.passes (core.made + 1) (changed_pass sizes by core Split found) (core.made + 1)) ≡ 0 = ap open_calls (number_here core.passes (core.made + 1) (changed_pass sizes by core Split found)) in
+    let m = total_made (core.made + 1) open_calls core.passes (changed_pass sizes by core Split found) in
     let w = untouched sizes by core Split found may ORDER refl in
-    one_more (core.words ORDER) (open_count core.made core.passes) _ _ core.made (2 ^ 60) one.few (omega (arith, m, s, z, w))
+    one_more (core.words ORDER) (open_count core.made core.passes) _ _ core.made (2 ^ 60) one.few (omega (arith, m, w))
   where
     one_more : (order count now_order now_count made limit : ℕ) → order + count ≤ limit + made → now_order + now_count ≤ order + count → now_order + now_count ≤ limit + (made + 1)
     one_more order count now_order now_count made limit old less = omega arith

@@ -1,8 +1,11 @@
 -- Totals: what a change in one place makes of them.
-use Rattle.std.proofs.Common.{◌≡◌, ◌≢◌, ℕ, zero, suc, ◌+◌, ◌<◌, ◌≤◌, Bool, inl, inr, refl, sym, subst, arith}
-use Rattle.std.proofs.lemmas.Bool.{cases_eq}
+use Rattle.std.proofs.Common.{◌≡◌, ◌≢◌, ℕ, zero, suc, ◌+◌, ◌<◌, ◌≤◌, ◌==◌, Bool, if◌then◌else◌, inl, inr, refl, sym, ap, subst, arith}
+use Rattle.std.proofs.lemmas.Bool.{cases_eq, ne_eqb}
 use Rattle.nv_core.specs.state.Totals.{total}
+use Rattle.nv_core.specs.state.Core.{with_number}
 use Rattle.nv_core.specs.invariant.Locks.{Keyed}
+use Rattle.nv_core.proofs.state.Changes.{number_here, number_else}
+use Rattle.nv_core.proofs.state.Choices.{when_false}
 use Rattle.nv_core.proofs.invariant.LockLaws.{only_holder}
 
 -- the same values have the same total
@@ -67,4 +70,42 @@ total_keyed (suc count) shut value keyed = elim (cases_eq (value count) 0) [
       let one = held.1 in
       let others = total_zeros count value (λ n below. held.2 n (λ same. omega (arith, same, below))) in
       omega (arith, one, others)
+]
+
+-- more numbers have no smaller total
+pub total_up_to : (few many : ℕ) (value : ℕ → ℕ) → few ≤ many → total few value ≤ total many value
+unfolding total
+total_up_to few zero value less = let none : few ≡ zero = omega (arith, less) in let same : total few value ≡ total zero value = ap (λ n. total n value) none in omega (arith, same)
+total_up_to few (suc many) value less = elim (cases_eq few (suc many)) [
+  | inl e ↦ let same : total few value ≡ total (suc many) value = ap (λ n. total n value) e in omega (arith, same)
+  | inr ne ↦ let again = total_up_to few many value (omega (arith, less, ne)) in omega (arith, again)
+]
+
+-- ---- what is summed of passes
+
+-- one of them changes
+pub total_changed : {T : Type 0} (count at : ℕ) (value : T → ℕ) (f : ℕ → T) (now : T) → at < count → total count (λ n. value (with_number f at now n)) + value (f at) ≡ total count (λ n. value (f n)) + value now
+total_changed count at value f now less =
+    let changed = total_at count at (λ n. value (f n)) (λ n. value (with_number f at now n)) less (λ n ne. ap value (number_else f at now n ne)) in
+    let here : value (with_number f at now at) ≡ value now = ap value (number_here f at now) in
+    omega (arith, changed, here)
+
+-- one more is made
+pub total_made : {T : Type 0} (count : ℕ) (value : T → ℕ) (f : ℕ → T) (now : T) → total (count + 1) (λ n. value (with_number f count now n)) ≡ total count (λ n. value (f n)) + value now
+total_made count value f now =
+    let more = total_more count (λ n. value (with_number f count now n)) in
+    let same = total_same count (λ n. value (f n)) (λ n. value (with_number f count now n)) (λ n less. ap value (number_else f count now n (λ e. omega (arith, e, less)))) in
+    let here : value (with_number f count now count) ≡ value now = ap value (number_here f count now) in
+    omega (arith, more, same, here)
+
+-- and one is told apart from the others
+pub total_apart : (count at : ℕ) (value : ℕ → ℕ) → total count value ≤ value at + total count (λ n. if n == at then 0 else value n)
+unfolding total
+total_apart zero at value = omega arith
+total_apart (suc count) at value = elim (cases_eq count at) [
+  | inl e ↦
+      let same = total_same count value (λ n. if n == at then 0 else value n) (λ n below. when_false (n == at) 0 (value n) (ne_eqb n at (λ is. omega (arith, is, e, below)))) in
+      let here : value count ≡ value at = ap value e in
+      omega (arith, same, here)
+  | inr ne ↦ let again = total_apart count at value in let here = when_false (count == at) 0 (value count) (ne_eqb count at ne) in omega (arith, again, here)
 ]

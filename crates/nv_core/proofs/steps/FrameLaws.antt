@@ -154,7 +154,7 @@ both_tell number core next later one other = record {
 }
 
 -- the first of some events that are all others'
-others_all : (number : ℕ) (event : Event) (later : List Event) → own number (event ∷ later) ≡ [] → (number ≢ event.by) × (own number later ≡ [])
+pub others_all : (number : ℕ) (event : Event) (later : List Event) → own number (event ∷ later) ≡ [] → (number ≢ event.by) × (own number later ≡ [])
 others_all number event later none = go (event.by == number) refl none
   where
     go : (b : Bool) → (event.by == number) ≡ b → (if b then event ∷ own number later else own number later) ≡ [] → (number ≢ event.by) × (own number later ≡ [])
