@@ -165,8 +165,9 @@ fn lines_in_no_form(rt: HostRuntime) -> Result<(), Fail> {
     for line in [
         "x",
         "0",
-        "round",
         "round 0",
+        "round ",
+        "0 round",
         "steps 0",
         "file",
         "file a b",
@@ -202,7 +203,6 @@ fn lines_in_no_form(rt: HostRuntime) -> Result<(), Fail> {
 #[test]
 fn fields_that_are_bad(rt: HostRuntime) -> Result<(), Fail> {
     for (line, why) in [
-        ("1 pwrite 0 0 ff", Why::Number),
         ("8 pwrite 0 0 ff", Why::Number),
         ("00 pwrite 0 0 ff", Why::Number),
         ("x pwrite 1 0 6", Why::Number),
@@ -227,7 +227,9 @@ fn fields_that_are_bad(rt: HostRuntime) -> Result<(), Fail> {
         ("0 pread 0 0 131073", Why::Number),
         ("0 pread 0 0 01", Why::Number),
         ("0 pread 0 0 -", Why::Number),
-        ("1 pread 0 0 4", Why::Number),
+        ("8 pread 0 0 4", Why::Number),
+        ("7 pread 1 0 4", Why::Unknown),
+        ("8 pfill 1 0 1 2", Why::Number),
         ("0 pfill 1 0 1 2", Why::Unknown),
         ("0 pfill 0 4611686018427387904 1 2", Why::Number),
         ("0 pfill 0 0 131073 0", Why::Number),
@@ -236,7 +238,7 @@ fn fields_that_are_bad(rt: HostRuntime) -> Result<(), Fail> {
         ("0 pfill 0 0 1 00", Why::Number),
         ("0 fsync 1", Why::Unknown),
         ("0 fsync 00", Why::Number),
-        ("1 fsync 0", Why::Number),
+        ("8 fsync 0", Why::Number),
         ("file a", Why::Repeat),
         ("file A", Why::Name),
         ("file .a", Why::Name),
@@ -318,18 +320,75 @@ fn a_fill_is_a_write(rt: HostRuntime) -> Result<(), Fail> {
 }
 
 #[test]
-fn declarations_behind_a_call(rt: HostRuntime) -> Result<(), Fail> {
-    for (line, why) in [
-        ("file b", Why::Late),
-        ("file A", Why::Late),
-        ("file", Why::Form),
-        ("fd 1 a rw", Why::Late),
-        ("fd x y z", Why::Late),
+fn declarations_behind_a_call_or_a_round(rt: HostRuntime) -> Result<(), Fail> {
+    for third in ["0 fsync 0\n", "round\n"] {
+        for (line, why) in [
+            ("file b", Why::Late),
+            ("file A", Why::Late),
+            ("file", Why::Form),
+            ("fd 1 a rw", Why::Late),
+            ("fd x y z", Why::Late),
+        ] {
+            let mut input = with_third(rt.alloc(), third.as_bytes(), line.as_bytes())?;
+            input.extend_from_slice(b"\n")?;
+            let refused = read(rt.alloc(), &input).err();
+            assert_eq!(rt; refused, Some(ReadError::Bad(bad(4, why))), "at {line}");
+        }
+    }
+    Ok(())
+}
+
+// Which third lines a form has.
+#[test]
+fn lines_of_each_form(rt: HostRuntime) -> Result<(), Fail> {
+    for (form, line, why) in [
+        (Form::Run, "7 pread 0 0 4", None),
+        (Form::Run, "8 pread 0 0 4", Some(Why::Number)),
+        (Form::Run, "round", None),
+        (Form::Run, "steps 0", Some(Why::Form)),
+        (Form::Sched, "7 pread 0 0 4", None),
+        (Form::Sched, "8 pread 0 0 4", Some(Why::Number)),
+        (Form::Sched, "round", Some(Why::Form)),
+        (Form::Sched, "steps 0", Some(Why::Form)),
+        (Form::Alone, "0 pread 0 0 4", None),
+        (Form::Alone, "1 pread 0 0 4", Some(Why::Number)),
+        (Form::Alone, "round", None),
+        (Form::Alone, "steps 0", Some(Why::Form)),
     ] {
-        let mut input = with_third(rt.alloc(), b"0 fsync 0\n", line.as_bytes())?;
-        input.extend_from_slice(b"\n")?;
-        let refused = read(rt.alloc(), &input).err();
-        assert_eq!(rt; refused, Some(ReadError::Bad(bad(4, why))), "at {line}");
+        let input = with_third(rt.alloc(), line.as_bytes(), b"\n")?;
+        let mut source = Pieces::new(&input, usize::MAX);
+        let refused = read_trace(rt.alloc(), form, &mut source).err();
+        let wanted = why.map(|why| ReadError::Bad(bad(3, why)));
+        assert_eq!(rt; refused, wanted, "at {line} in {form:?}");
+    }
+    Ok(())
+}
+
+#[test]
+fn threads_and_rounds_of_a_trace(rt: HostRuntime) -> Result<(), Fail> {
+    for (lines, threads, rounds) in [
+        ("", 1, 0),
+        ("0 fsync 0\n", 1, 0),
+        ("7 fsync 0\n", 8, 0),
+        ("2 fsync 0\n1 fsync 0\n", 3, 0),
+        ("round\n", 1, 1),
+        ("4 fsync 0\nround\nround\n0 fsync 0\n", 5, 2),
+    ] {
+        let trace = read(rt.alloc(), &with_third(rt.alloc(), lines.as_bytes(), b"")?)?;
+        let found = (trace.thread_count(), trace.rounds());
+        assert_eq!(rt; found, (threads, rounds), "at {lines}");
+    }
+    Ok(())
+}
+
+#[test]
+fn rounds_of_calls(rt: HostRuntime) -> Result<(), Fail> {
+    let lines = b"0 fsync 0\nround\n3 fsync 0\n#\n0 fsync 0\nround\nround\n1 fsync 0\n";
+    let trace = read(rt.alloc(), &with_third(rt.alloc(), lines, b"")?)?;
+    let wanted = [(3, 0, 0), (5, 1, 3), (7, 1, 0), (10, 3, 1)];
+    assert_eq!(rt; trace.calls().len(), wanted.len());
+    for (traced, wanted) in trace.calls().iter().zip(wanted) {
+        assert_eq!(rt; (traced.line, traced.round, traced.thread), wanted);
     }
     Ok(())
 }

@@ -1,9 +1,8 @@
--- A run goes on by one call, and the lines of a trace's calls rise.
-use Rattle.std.proofs.Common.{◌≡◌, ℕ, ◌+◌, ◌^◌, ◌<◌, ◌≤◌, ◌==◌, ◌&&◌, not, nat_lt, nat_le, Bool, true, false, cond, if◌then◌else◌, List, [], ◌∷◌, ◌++◌, length, map, filter, sum_by, take, get_or, All, Option, Some, None, Result, Ok, Err, MatchOption, IsPermutation, refl, sym, ap, subst, ◌∙◌, inl, inr, arith, append_assoc, append-nil, length-append}
+-- A run goes on by one call, which is after all those before it.
+use Rattle.std.proofs.Common.{◌≡◌, ℕ, ◌+◌, ◌^◌, ◌<◌, ◌≤◌, ◌==◌, ◌&&◌, not, nat_lt, Bool, true, cond, List, [], ◌∷◌, ◌++◌, length, map, filter, sum_by, take, get_or, All, Option, Some, None, MatchOption, IsPermutation, refl, sym, ap, subst, ◌∙◌, inl, inr, arith, append_assoc, append-nil, length-append}
 use Rattle.std.specs.List.Sorted.{IsStrictlyIncreasing}
-use Rattle.std.specs.List.{list_all}
-use Rattle.std.proofs.lemmas.Bool.{cases_lt, cases_Bool, and_right, not_from_false, le-ltb, cond-true}
-use Rattle.std.proofs.lemmas.List.{length-map, length_push, get_or_append_left, get_or-append-add, get_or_push, get_or-map, get_or-take, length-take, map_push}
+use Rattle.std.proofs.lemmas.Bool.{cases_Bool, and_right, not_from_false, le-ltb, cond-true}
+use Rattle.std.proofs.lemmas.List.{length-map, get_or_append_left, get_or-append-add, get_or-map, get_or-take, length-take, map_push}
 use Rattle.std.proofs.lemmas.List.Elements.{All-append, All-head, All-tail, All-push, All-map, All-filter, All-weaker, filter-append}
 use Rattle.std.proofs.lemmas.List.Kept.{AllPairs-from_increasing}
 use Rattle.std.proofs.lemmas.List.Sorted.{IsPermutation-refl, IsPermutation-sym, IsPermutation-trans, IsPermutation-cons, IsPermutation-middle, IsPermutation-to_front, IsPermutation-append_left, All-permutation}
@@ -12,17 +11,8 @@ use Rattle.nv_plain.specs.Calls.{reply_of, files_after}
 use Rattle.nv_plain.specs.Files.{Files}
 use Rattle.nv_plain.specs.Histories.{Answered, IsLegal, after}
 use Rattle.nv_plain.specs.declared.call.Reply.{Reply}
+use Rattle.nv_trace.proofs.Numbered.{IsStrictlyIncreasing-push}
 use Rattle.nv_trace.specs.declared.trace.Descriptor.{Descriptor}
-use Rattle.nv_trace.specs.Grammar.{and_then, is_printable}
-use Rattle.nv_trace.specs.Said.{said}
-use Rattle.nv_trace.specs.Lines.{ended_lines, fields_of, open_line}
-use Rattle.nv_trace.specs.Reading.{unless_bad, with_statement, is_skipped, longest_line, largest_input, after_line, Ending, Whole, Bad, Long, after_lines, long_unless_bad, ending_of}
-use Rattle.nv_trace.specs.Traced.{Traced, empty_trace}
-use Rattle.nv_trace.specs.declared.statement.Statement.{Statement}
-use Rattle.nv_trace.specs.declared.bad_line.Why.{Why}
-use Rattle.nv_trace.specs.declared.bad_line.Why.TheVariants.{Long as LongLine, Bytes as OddBytes}
-use Rattle.nv_trace.specs.declared.statement.Statement.TheVariants.{File, Opened, Call}
-use Rattle.nv_trace.specs.declared.trace.Form.{Form}
 use Rattle.nv_trace.specs.declared.trace_call.TracedCall.{TracedCall}
 use Rattle.nv_trace.specs.declared.report.Refusal.{Refusal}
 use Rattle.nv_trace.specs.declared.report.Refusal.TheVariants.{BadDescriptor, TooFar, TooLong, Stopped, Spent, Again, RegionFault, StoreFault}
@@ -45,16 +35,6 @@ filter_all p [] all = refl
 filter_all p (x ∷ xs) all =
     cond-true (p x) (x ∷ filter p xs) (filter p xs) (All-head (λ x. p x ≡ true) x xs all)
     ∙ ap (λ ys. x ∷ ys) (filter_all p xs (All-tail (λ x. p x ≡ true) x xs all))
-
--- a number above all others, at their end
-pub IsStrictlyIncreasing-push : (xs : List ℕ) (y : ℕ) → IsStrictlyIncreasing xs → All (λ x. x < y) xs → IsStrictlyIncreasing (xs ++ y ∷ [])
-IsStrictlyIncreasing-push xs y rises below k in_range =
-    let total = length_push xs y in
-    let this = get_or_append_left xs (y ∷ []) 0 k (omega arith) in
-    elim (cases_lt (k + 1) (length xs)) [
-      | inl inner ↦ omega (arith, this, get_or_append_left xs (y ∷ []) 0 (k + 1) inner, rises k inner)
-      | inr outer ↦ omega (arith, this, get_or_push xs y 0 (k + 1) (omega arith), below k 0 (omega arith))
-    ]
 
 -- the lines of a thread rise where those before it do, and the new one is after all
 lines_rise_on : (thread : ℕ) (calls : List TracedCall) (call : TracedCall) → IsStrictlyIncreasing (lines_of thread calls) → IsAfterAll calls call → IsStrictlyIncreasing (lines_of thread (calls ++ call ∷ []))
@@ -406,74 +386,3 @@ after_all_before calls i d rise in_range k e below =
     let before : k < i = omega (arith, length-take i calls) in
     let pair = AllPairs-from_increasing (map line calls) rise k i 0 before (omega (arith, length-map calls line)) in
     omega (arith, pair, get_or-map line calls k e 0 (omega arith), get_or-map line calls i d 0 in_range, ap line (get_or-take i calls k e before))
-
--- the lines of a trace's calls rise, and lie below the number of the next line
-record IsNumbered (trace : Traced) (number : ℕ) : Type 0 where
-  rise : IsStrictlyIncreasing (map (λ c. c.line) trace.calls)
-  below : All (λ c. c.line < number) trace.calls
-
-numbered_on : (trace : Traced) (number : ℕ) → IsNumbered trace number → IsNumbered trace (number + 1)
-numbered_on trace number numbered = record {
-  rise = numbered.rise;
-  below = All-weaker (λ c. c.line < number) (λ c. c.line < number + 1) (λ c below. omega arith) trace.calls numbered.below;
-}
-
-followed_numbered : (trace : Traced) (number : ℕ) (statement : Statement) → IsNumbered trace number → IsNumbered (with_statement trace number statement) (number + 1)
-followed_numbered trace number (File name) numbered = let on = numbered_on trace number numbered in record { rise = on.rise; below = on.below }
-followed_numbered trace number (Opened descriptor) numbered = let on = numbered_on trace number numbered in record { rise = on.rise; below = on.below }
-followed_numbered trace number (Call call) numbered =
-    let on = numbered_on trace number numbered in
-    let last : TracedCall = record { line = number; thread = 0; call = call } in
-    let line : TracedCall → ℕ = λ c. c.line in
-    record {
-      rise =
-          subst IsStrictlyIncreasing (sym (map_push line trace.calls last))
-          (IsStrictlyIncreasing-push (map line trace.calls) number numbered.rise (All-map (λ n. n < number) line trace.calls numbered.below));
-      below = All-push (λ c. c.line < number + 1) trace.calls last on.below (omega arith);
-    }
-
-line_numbered : (skipped long odd : Bool) (said : Result Statement Why) (trace next : Traced) (number : ℕ) → IsNumbered trace number
-    → (if skipped then Ok trace else if long then Err LongLine else if odd then Err OddBytes else and_then (λ statement. Ok (with_statement trace number statement)) said) ≡ Ok next
-    → IsNumbered next (number + 1)
-line_numbered true long odd said trace next number numbered is =
-    let same : trace ≡ next = cc in
-    subst (λ t. IsNumbered t (number + 1)) same (numbered_on trace number numbered)
-line_numbered false true odd said trace next number numbered is = absurd cc
-line_numbered false false true said trace next number numbered is = absurd cc
-line_numbered false false false (Err why) trace next number numbered is = absurd cc
-line_numbered false false false (Ok statement) trace next number numbered is =
-    let same : with_statement trace number statement ≡ next = cc in
-    subst (λ t. IsNumbered t (number + 1)) same (followed_numbered trace number statement numbered)
-
-after_line_numbered : (trace next : Traced) (number : ℕ) (line : List ℕ) → IsNumbered trace number → after_line trace number line ≡ Ok next → IsNumbered next (number + 1)
-unfolding after_line
-after_line_numbered trace next number line numbered is =
-    line_numbered (is_skipped line) (nat_lt longest_line (length line)) (not (list_all is_printable line)) (said trace (fields_of line)) trace next number numbered is
-
-next_of : (goes_on : Traced → Ending) (next : Result Traced Why) (number : ℕ) (whole : Traced) → unless_bad number goes_on next ≡ Whole whole
-    → (trace : Traced) × (next ≡ Ok trace) × (goes_on trace ≡ Whole whole)
-next_of goes_on (Err why) number whole is = absurd cc
-next_of goes_on (Ok trace) number whole is = (trace, refl, is)
-
-after_lines_rise : (lines : List (List ℕ)) (trace whole : Traced) (number : ℕ) → IsNumbered trace number → after_lines trace number lines ≡ Whole whole → IsStrictlyIncreasing (map (λ c. c.line) whole.calls)
-unfolding after_lines
-after_lines_rise [] trace whole number numbered is =
-    let same : trace ≡ whole = cc in
-    subst (λ t. IsStrictlyIncreasing (map (λ c. c.line) t.calls)) same numbered.rise
-after_lines_rise (line ∷ lines) trace whole number numbered is =
-    let next = next_of (λ next. after_lines next (number + 1) lines) (after_line trace number line) number whole is in
-    after_lines_rise lines next.0 whole (number + 1) (after_line_numbered trace next.0 number line numbered next.1) next.2
-
-whole_where_it_fits : (fits : Bool) (whole front : Ending) (trace : Traced) → (if fits then whole else long_unless_bad front) ≡ Whole trace → whole ≡ Whole trace
-whole_where_it_fits true whole front trace is = is
-whole_where_it_fits false whole (Whole other) trace is = absurd cc
-whole_where_it_fits false whole (Bad bad) trace is = absurd cc
-whole_where_it_fits false whole Long trace is = absurd cc
-
--- the lines of a trace's calls rise
-pub lines_rise : (form : Form) (input : List ℕ) (trace : Traced) → ending_of form input ≡ Whole trace → IsStrictlyIncreasing (map (λ c. c.line) trace.calls)
-unfolding ending_of
-lines_rise form input trace is =
-    after_lines_rise (ended_lines input ++ open_line input) (empty_trace form) trace 1
-    (record { rise = λ k below. absurd (omega arith); below = λ k d below. absurd (omega arith) })
-    (whole_where_it_fits (nat_le (length input) largest_input) _ (after_lines (empty_trace form) 1 (ended_lines (take largest_input input))) trace is)

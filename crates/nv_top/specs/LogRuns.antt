@@ -1,5 +1,5 @@
 -- Runs over a log: how far one has come, and what the log holds then.
-use Rattle.std.specs.Prelude.{◌≡◌, ℕ, List, [], map}
+use Rattle.std.specs.Prelude.{◌≡◌, ℕ, List, []}
 use Rattle.nv_pmem.specs.Steps as lines
 use Rattle.nv_store.specs.Steps as stores
 use Rattle.nv_engine.specs.Holding.{Holds}
@@ -34,10 +34,6 @@ pub record HasRun {L B : Type 0} (history : L → lines.PartHistory) (held : B �
   pub pieces : List LaidPiece
   pub holds : Holds history held log pieces basis.files
   pub made : AreMade failed basis descriptors calls log.head (laid basis.files pieces) (placed_outcomes outcome) (refused_calls outcome) (left_calls outcome)
-
--- the lines of a trace's calls
-abbrev pub lines_in : Traced → List ℕ
-lines_in trace = map (λ traced. traced.line) trace.calls
 
 -- the basis that a region is, with files of so many pages, and with these
 abbrev pub basis_over : {L : Type 0} {g : _} → Region L g → (pages : ℕ) → Files → Basis

@@ -9,7 +9,7 @@ use Rattle.nv_recover.specs.declared.error.RecoverError.{RecoverError}
 use Rattle.nv_recover.specs.declared.error.RecoverError.TheVariants as recover_errors
 use Rattle.nv_open.specs.declared.error.OpenError.TheVariants as open_errors
 use Rattle.nv_trace.specs.Reading.{ending_of, Bad, Long}
-use Rattle.nv_trace.specs.declared.trace.Form.TheVariants.{Run}
+use Rattle.nv_trace.specs.declared.trace.Form.TheVariants.{Alone}
 use Rattle.nv_trace.specs.declared.read_error.ReadError.{ReadError}
 use Rattle.nv_trace.specs.declared.read_error.ReadError.TheVariants as read_errors
 use Rattle.nv_top.specs.declared.words.WordsError.{WordsError}
@@ -84,8 +84,8 @@ CountHasCause before now (Err stop) = StopHasCause before now stop
 
 -- what a stop says of the input: it ends at a bad line, or is too long
 abbrev pub IsCauseOf : Stop → List ℕ → Type 0
-IsCauseOf (BadLine bad) input = ending_of Run input ≡ Bad bad
-IsCauseOf InputLong input = ending_of Run input ≡ Long
+IsCauseOf (BadLine bad) input = ending_of Alone input ≡ Bad bad
+IsCauseOf InputLong input = ending_of Alone input ≡ Long
 IsCauseOf Usage input = Unit {0}
 IsCauseOf Read input = Unit {0}
 IsCauseOf Device input = Unit {0}

@@ -13,7 +13,7 @@ ghost use Rattle.nv_trace.specs.Streams.{Appends};
 ghost use Rattle.nv_top.specs.Commands.{IsGivenBack, IsNotRun};
 ghost use Rattle.nv_top.specs.Endings.{IsErrorLine, AppendsFront, usage_line, read_line, device_line, memory_line, input_line, region_line, IsTrace};
 ghost use Rattle.nv_top.specs.Headline.{HasStopped, IsLeftBy, IsCommandRefused, IsShown, IsShownOf, command_over, expected_faults, possible};
-ghost use Rattle.nv_top.specs.LogRuns.{lines_in};
+ghost use Rattle.nv_trace.specs.Traced.{lines_in};
 ghost use Rattle.nv_top.specs.Stopping.{IsPoweredBack, IsSettledStop};
 ghost use Rattle.nv_top.specs.Stops.{IsCauseOf};
 ghost use Rattle.nv_top.specs.Words.{AreInLimits};
@@ -89,7 +89,7 @@ pub fn nv_main<R: Threads + Wait + Sync, I: Source, O: Sink, B: Bench, G: Gate +
     // With status 1, 2, 3, 5, 6 or 7 one line is written, and nothing else.
     ensures usage_said { result ≡ USAGE → Appends (O.written out.old) (O.written out.new) usage_line }
     ensures input_said { result ≡ BAD_INPUT → IfSome (I.left src.old) (λ input.
-        Appends (O.written out.old) (O.written out.new) (input_line (ending_of forms.Run input))) }
+        Appends (O.written out.old) (O.written out.new) (input_line (ending_of forms.Alone input))) }
     ensures read_said { result ≡ READ_FAULT → Appends (O.written out.old) (O.written out.new) read_line }
     ensures device_said { result ≡ DEVICE_FAULT → Appends (O.written out.old) (O.written out.new) device_line }
     ensures memory_said { result ≡ NO_MEMORY → Appends (O.written out.old) (O.written out.new) memory_line }
@@ -220,7 +220,7 @@ fn run_input<I: Source, B: Bench>(
     ensures report { IfOk result (λ text. IfSome (B.state bench.old).told (λ holding.
         IsShown (commands.Run options) (I.left src.old) (B.state bench.old) (B.state bench.new) holding text.items)) }
 {
-    let trace = read_trace(alloc, Form::Run, src)?;
+    let trace = read_trace(alloc, Form::Alone, src)?;
     run_trace(alloc, bench, options, &trace)
 }
 

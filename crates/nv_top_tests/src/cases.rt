@@ -268,6 +268,15 @@ where
     Ok(())
 }
 
+// While one thread makes the calls, rounds change nothing.
+const IN_ROUNDS: &str =
+    "file a\nfd 0 a rw\nround\n0 pwrite 0 0 68656c6c6f\nround\nround\n0 pread 0 0 16\nround\n";
+
+#[test]
+fn a_run_in_rounds(rt: HostRuntime) -> Result<(), Fail> {
+    expect(&rt, RUN, IN_ROUNDS, DONE, WHOLE.as_bytes())
+}
+
 #[test]
 fn reports_of_runs(rt: HostRuntime) -> Result<(), Fail> {
     // The law has no value to look at: that it can be called is all.
@@ -280,11 +289,13 @@ fn reports_of_runs(rt: HostRuntime) -> Result<(), Fail> {
 }
 
 // A line in the third place that is bad, and why.
-const BAD_LINES: [(&str, &str); 4] = [
+const BAD_LINES: [(&str, &str); 6] = [
     ("0 pwrite 0 0 6", "error line 3 hex\n"),
     ("0 pread 1 0 4", "error line 3 unknown\n"),
     ("0 pread 0 00 4", "error line 3 number\n"),
     ("x", "error line 3 form\n"),
+    ("1 pread 0 0 4", "error line 3 number\n"),
+    ("round\nfile b", "error line 4 late\n"),
 ];
 
 // What a run of `hello` answers where these reads, writes and device calls fail.

@@ -20,16 +20,16 @@ parts_are separator (byte ∷ rest) =
     ap (λ parts. cond (eqb byte separator) ([] ∷ parts) (list.onto_first byte parts)) (parts_are separator rest)
     ∙ ap (cond (eqb byte separator) ([] ∷ parts_between separator rest)) (onto_same byte (parts_between separator rest))
 
-pub no_form : (trace : Traced) (fields : List (List ℕ)) → length fields ≢ 2 → length fields ≢ 3 → length fields ≢ 4 → length fields ≢ 5 → length fields ≢ 6 → said_by trace fields ≡ Err Form
+pub no_form : (trace : Traced) (fields : List (List ℕ)) → length fields ≢ 1 → length fields ≢ 2 → length fields ≢ 3 → length fields ≢ 4 → length fields ≢ 5 → length fields ≢ 6 → said_by trace fields ≡ Err Form
 unfolding said_by
-no_form trace [] two three four five six = refl
-no_form trace (a ∷ []) two three four five six = refl
-no_form trace (a ∷ b ∷ []) two three four five six = absurd (two refl)
-no_form trace (a ∷ b ∷ c ∷ []) two three four five six = absurd (three refl)
-no_form trace (a ∷ b ∷ c ∷ d ∷ []) two three four five six = absurd (four refl)
-no_form trace (a ∷ b ∷ c ∷ d ∷ e ∷ []) two three four five six = absurd (five refl)
-no_form trace (a ∷ b ∷ c ∷ d ∷ e ∷ f ∷ []) two three four five six = absurd (six refl)
-no_form trace (a ∷ b ∷ c ∷ d ∷ e ∷ f ∷ g ∷ more) two three four five six = refl
+no_form trace [] one two three four five six = refl
+no_form trace (a ∷ []) one two three four five six = absurd (one refl)
+no_form trace (a ∷ b ∷ []) one two three four five six = absurd (two refl)
+no_form trace (a ∷ b ∷ c ∷ []) one two three four five six = absurd (three refl)
+no_form trace (a ∷ b ∷ c ∷ d ∷ []) one two three four five six = absurd (four refl)
+no_form trace (a ∷ b ∷ c ∷ d ∷ e ∷ []) one two three four five six = absurd (five refl)
+no_form trace (a ∷ b ∷ c ∷ d ∷ e ∷ f ∷ []) one two three four five six = absurd (six refl)
+no_form trace (a ∷ b ∷ c ∷ d ∷ e ∷ f ∷ g ∷ more) one two three four five six = refl
 
 pub any_mapped : {A B : Type 0} (test : B → Bool) (f : A → B) (xs : List A) → list_any (λ x. test (f x)) xs ≡ list_any test (map f xs)
 any_mapped test f [] = refl
@@ -39,7 +39,7 @@ pub many_fields : (trace : Traced) (fields : List (List ℕ)) → 6 < length fie
 unfolding said
 many_fields trace fields many =
     either (list_any (λ field. length field == 0) fields) (said_by trace fields)
-    (no_form trace fields (λ e. omega arith) (λ e. omega arith) (λ e. omega arith) (λ e. omega arith) (λ e. omega arith))
+    (no_form trace fields (λ e. omega arith) (λ e. omega arith) (λ e. omega arith) (λ e. omega arith) (λ e. omega arith) (λ e. omega arith))
   where
     either : (test : Bool) (read : Result Statement Why) → read ≡ Err Form → cond test (Err Form) read ≡ Err Form
     either true read is = refl

@@ -1,6 +1,7 @@
 mod Endings
 mod Fields
 mod Inputs
+pub mod Numbered
 mod Numbers
 mod Parts
 mod Refusals

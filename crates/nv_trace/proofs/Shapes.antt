@@ -1,20 +1,23 @@
 -- A trace keeps its shape when a statement that may follow is taken.
-use Rattle.std.proofs.Common.{◌≡◌, ◌≢◌, ◌<◌, ◌≤◌, ℕ, Bool, true, false, not, nat_eq, List, [], ◌∷◌, ◌++◌, length, get_or, inl, inr, refl, sym, ap, ◌∙◌, arith, eq-eqb, true≢false, ◌&&◌}
+use Rattle.std.proofs.Common.{◌≡◌, ◌≢◌, ◌<◌, ◌≤◌, ◌-◌, ◌^◌, ℕ, Bool, true, false, not, nat_eq, List, [], ◌∷◌, ◌++◌, length, get_or, inl, inr, refl, sym, ap, ◌∙◌, arith, eq-eqb, true≢false, ◌&&◌}
 use Rattle.std.specs.Prelude.{All}
 use Rattle.std.specs.List.{slice_index_or}
 use Rattle.std.proofs.lemmas.Bool.{cases_lt}
 use Rattle.std.proofs.lemmas.List.{length-append, get_or_append_left, get_or_push}
-use Rattle.std.proofs.lemmas.List.Elements.{All-append, All-cons, All-nil}
+use Rattle.std.proofs.lemmas.List.Elements.{All-append, All-cons, All-nil, All-push}
+use Rattle.std.proofs.lemmas.List.Sorted.{IsNonDecreasingBy-push}
 use Rattle.std.proofs.lemmas.List.Sums.{prefix_len-le-length, prefix_len_passes}
 use lib.Pointwise.{pointwise}
 use Rattle.nv_plain.specs.Layouts.{version_1}
 use Rattle.nv_plain.specs.Names.{is_name}
+use Rattle.nv_trace.specs.Forms.{has_rounds, last_thread}
 use Rattle.nv_trace.specs.Said.{said_place}
 use Rattle.nv_trace.specs.Shape.{IsCallWithin, IsWellFormed, MayFollow}
+use Rattle.nv_trace.specs.Streams.{counted}
 use Rattle.nv_trace.specs.Traced.{Traced}
 use Rattle.nv_trace.specs.Reading.{with_statement}
 use Rattle.nv_trace.specs.declared.statement.Statement.{Statement}
-use Rattle.nv_trace.specs.declared.statement.Statement.TheVariants.{File, Opened, Call}
+use Rattle.nv_trace.specs.declared.statement.Statement.TheVariants.{File, Opened, Call, Round}
 use Rattle.nv_trace.specs.declared.trace.Descriptor.{Descriptor}
 use Rattle.nv_trace.specs.declared.trace_call.TracedCall.{TracedCall}
 use Rattle.nv_trace.specs.declared.trace_call.TraceCall.{TraceCall}
@@ -57,6 +60,10 @@ with_name trace name may is =
       descriptors = is.descriptors;
       files = λ k d inside. omega (arith, long, is.files k d inside);
       calls = is.calls;
+      threads = is.threads;
+      rounds = is.rounds;
+      round_order = is.round_order;
+      no_rounds = is.no_rounds;
     }
 
 within_more : (count more : ℕ) (call : TraceCall) → count ≤ more → IsCallWithin count call → IsCallWithin more call
@@ -75,21 +82,44 @@ with_descriptor trace descriptor may is =
       descriptors = omega (arith, may.0, long);
       files = All-append (λ descriptor. descriptor.file < length trace.names) trace.descriptors (descriptor ∷ []) is.files (one (λ descriptor. descriptor.file < length trace.names) descriptor may.1);
       calls = λ k d inside. within_more (length trace.descriptors) (length (trace.descriptors ++ descriptor ∷ [])) (get_or trace.calls k d).call (omega (arith, long)) (is.calls k d inside);
+      threads = is.threads;
+      rounds = is.rounds;
+      round_order = is.round_order;
+      no_rounds = is.no_rounds;
     }
 
-with_call : (trace : Traced) (traced : TracedCall) → IsCallWithin (length trace.descriptors) traced.call → IsWellFormed trace
+with_call : (trace : Traced) (traced : TracedCall) → IsCallWithin (length trace.descriptors) traced.call → traced.thread ≤ last_thread trace.form → traced.round ≡ trace.rounds → IsWellFormed trace
     → IsWellFormed (record trace { calls = trace.calls ++ traced ∷ [] })
-with_call trace traced within is = record {
+with_call trace traced within thread round is = record {
   names = is.names;
   allowed = is.allowed;
   distinct = is.distinct;
   descriptors = is.descriptors;
   files = is.files;
-  calls = All-append (λ traced. IsCallWithin (length trace.descriptors) traced.call) trace.calls (traced ∷ []) is.calls (one (λ traced. IsCallWithin (length trace.descriptors) traced.call) traced within);
+  calls = All-push (λ traced. IsCallWithin (length trace.descriptors) traced.call) trace.calls traced is.calls within;
+  threads = All-push (λ traced. traced.thread ≤ last_thread trace.form) trace.calls traced is.threads thread;
+  rounds = All-push (λ traced. traced.round ≤ trace.rounds) trace.calls traced is.rounds (omega (arith, round));
+  round_order = IsNonDecreasingBy-push (λ traced. traced.round) trace.calls traced is.round_order (λ d some. omega (arith, round, is.rounds (length trace.calls - 1) d (omega arith)));
+  no_rounds = is.no_rounds;
 }
 
--- a statement that may follow leaves a trace well formed
-pub goes_on : (trace : Traced) (number : ℕ) (statement : Statement) → MayFollow trace statement → IsWellFormed trace → IsWellFormed (with_statement trace number statement)
-goes_on trace number (File name) may is = with_name trace name may is
-goes_on trace number (Opened descriptor) may is = with_descriptor trace descriptor may is
-goes_on trace number (Call call) may is = with_call trace (record { line = number; thread = 0; call = call }) may is
+with_round : (trace : Traced) (rounds : ℕ) → has_rounds trace.form ≡ true → trace.rounds ≤ rounds → IsWellFormed trace → IsWellFormed (record trace { rounds = rounds })
+with_round trace rounds has more is = record {
+  names = is.names;
+  allowed = is.allowed;
+  distinct = is.distinct;
+  descriptors = is.descriptors;
+  files = is.files;
+  calls = is.calls;
+  threads = is.threads;
+  rounds = λ k d inside. omega (arith, more, is.rounds k d inside);
+  round_order = is.round_order;
+  no_rounds = λ none. absurd (true≢false (sym has ∙ none));
+}
+
+-- a statement that may follow leaves a trace well formed, whose rounds are a u64
+pub goes_on : (trace : Traced) (number : ℕ) (statement : Statement) → MayFollow trace statement → trace.rounds < 2 ^ 64 → IsWellFormed trace → IsWellFormed (with_statement trace number statement)
+goes_on trace number (File name) may few is = with_name trace name may is
+goes_on trace number (Opened descriptor) may few is = with_descriptor trace descriptor may is
+goes_on trace number (Call thread call) may few is = with_call trace (record { line = number; round = trace.rounds; thread = thread; call = call }) may.1 may.0 refl is
+goes_on trace number Round may few is = with_round trace (counted trace.rounds) may (omega (arith, few)) is

@@ -1,6 +1,7 @@
 pub mod Streams
 pub mod Lines
 pub mod Grammar
+pub mod Forms
 pub mod Traced
 pub mod Reading
 pub mod Said

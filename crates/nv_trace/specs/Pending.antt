@@ -1,6 +1,7 @@
 -- How an input ends, by what is kept of its front and by the bytes that are still to come.
 use Rattle.std.specs.Prelude.{◌≡◌, ℕ, ◌+◌, ◌-◌, ◌≤◌, ◌==◌, nat_le, Bool, true, false, if◌then◌else◌, List, [], ◌∷◌, ◌++◌, length, take, slice_index}
 use Rattle.nv_trace.specs.Lines.{parts_between, onto_first, but_last, last_if_some}
+use Rattle.nv_trace.specs.Shape.{IsNumberedBelow}
 use Rattle.nv_trace.specs.Traced.{Traced}
 use Rattle.nv_trace.specs.Reading.{Ending, Bad, after_lines, long_unless_bad, largest_input, longest_line}
 use Rattle.nv_trace.specs.declared.read_error.LineError.{LineError}
@@ -40,10 +41,11 @@ ending_from trace number line taken rest =
 abbrev pub input_ends : LineReader → (rest : List ℕ) → Ending
 input_ends reader rest = ending_from reader.trace reader.number reader.line.items reader.taken rest
 
--- a reader has taken no more than the largest input, and a byte at least for each line
+-- a reader has taken no more than the largest input, a byte at least for each line, and the lines in their order
 pub record IsWithinLines (reader : LineReader) : Type 0 where
   pub taken : reader.taken ≤ largest_input
   pub number : reader.number ≤ reader.taken + 1
+  pub numbered : IsNumberedBelow reader.number reader.trace
 
 -- the lines end at this bad one; want of memory says nothing of them
 abbrev pub EndsAt : LineError → Ending → Type 0

@@ -4,12 +4,13 @@ use Rattle.std.specs.List.{list_all}
 use Rattle.nv_trace.specs.Lines.{ended_lines, fields_of, open_line}
 use Rattle.nv_trace.specs.Grammar.{and_then, is_printable}
 use Rattle.nv_trace.specs.Said.{said}
+use Rattle.nv_trace.specs.Streams.{counted}
 use Rattle.nv_trace.specs.Traced.{Traced, empty_trace}
 use Rattle.nv_trace.specs.declared.bad_line.BadLine.{BadLine}
 use Rattle.nv_trace.specs.declared.bad_line.Why.{Why}
 use Rattle.nv_trace.specs.declared.bad_line.Why.TheVariants.{Long as LongLine, Bytes as OddBytes}
 use Rattle.nv_trace.specs.declared.statement.Statement.{Statement}
-use Rattle.nv_trace.specs.declared.statement.Statement.TheVariants.{File, Opened, Call}
+use Rattle.nv_trace.specs.declared.statement.Statement.TheVariants.{File, Opened, Call, Round}
 use Rattle.nv_trace.specs.declared.trace.Form.{Form}
 
 -- the most bytes of a line that isn't skipped, and of an input
@@ -23,7 +24,9 @@ largest_input = 67108864
 abbrev pub with_statement : Traced → ℕ → Statement → Traced
 with_statement trace number (File name) = record trace { names = trace.names ++ name ∷ [] }
 with_statement trace number (Opened descriptor) = record trace { descriptors = trace.descriptors ++ descriptor ∷ [] }
-with_statement trace number (Call call) = record trace { calls = trace.calls ++ record { line = number; thread = 0; call = call } ∷ [] }
+with_statement trace number (Call thread call) =
+    record trace { calls = trace.calls ++ record { line = number; round = trace.rounds; thread = thread; call = call } ∷ [] }
+with_statement trace number Round = record trace { rounds = counted trace.rounds }
 
 -- an empty line, and one that begins with `#`
 abbrev pub is_skipped : List ℕ → Bool

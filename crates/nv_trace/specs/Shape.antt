@@ -1,13 +1,15 @@
 -- What each trace that was read keeps to.
-use Rattle.std.specs.Prelude.{◌≡◌, ◌≢◌, ℕ, ◌<◌, ◌≤◌, [], length, true, All}
+use Rattle.std.specs.Prelude.{◌≡◌, ◌≢◌, ℕ, ◌<◌, ◌≤◌, [], length, true, false, All}
 use Rattle.std.specs.List.{slice_index_or}
+use Rattle.std.specs.List.Sorted.{IsNonDecreasingBy, IsStrictlyIncreasing}
 use Rattle.nv_plain.specs.Layouts.{version_1}
 use Rattle.nv_plain.specs.Names.{is_name}
 use Rattle.nv_trace.specs.Grammar.{largest_offset, largest_count, most_files, most_descriptors}
+use Rattle.nv_trace.specs.Forms.{has_rounds, last_thread}
 use Rattle.nv_trace.specs.Said.{said_place}
-use Rattle.nv_trace.specs.Traced.{Traced}
+use Rattle.nv_trace.specs.Traced.{Traced, has_begun, lines_in}
 use Rattle.nv_trace.specs.declared.statement.Statement.{Statement}
-use Rattle.nv_trace.specs.declared.statement.Statement.TheVariants.{File, Opened, Call}
+use Rattle.nv_trace.specs.declared.statement.Statement.TheVariants.{File, Opened, Call, Round}
 use Rattle.nv_trace.specs.declared.trace_call.TraceCall.{TraceCall}
 use Rattle.nv_trace.specs.declared.trace_call.TraceCall.TheVariants.{Pread, Pwrite, Fsync}
 
@@ -17,15 +19,17 @@ IsCallWithin descriptors (Pread fd at len) = (fd < descriptors) × (at ≤ large
 IsCallWithin descriptors (Pwrite fd at bytes) = (fd < descriptors) × (at ≤ largest_offset) × (length bytes ≤ largest_count)
 IsCallWithin descriptors (Fsync fd) = fd < descriptors
 
--- a statement may follow: a name that is new, a descriptor of a file that is declared, a call on a descriptor
+-- a statement may follow: a name that is new, a descriptor of a file that is declared, a call on a descriptor, a new round
 abbrev pub MayFollow : Traced → Statement → Type 0
 MayFollow trace (File name) =
-    (length trace.names < most_files) × (is_name version_1.name_limit name ≡ true) × (said_place name trace.names ≡ length trace.names) × (length trace.calls ≡ 0)
+    (length trace.names < most_files) × (is_name version_1.name_limit name ≡ true) × (said_place name trace.names ≡ length trace.names) × (has_begun trace ≡ false)
 MayFollow trace (Opened descriptor) =
-    (length trace.descriptors < most_descriptors) × (descriptor.file < length trace.names) × (length trace.calls ≡ 0)
-MayFollow trace (Call call) = IsCallWithin (length trace.descriptors) call
+    (length trace.descriptors < most_descriptors) × (descriptor.file < length trace.names) × (has_begun trace ≡ false)
+MayFollow trace (Call thread call) = (thread ≤ last_thread trace.form) × IsCallWithin (length trace.descriptors) call
+MayFollow trace Round = has_rounds trace.form ≡ true
 
--- at most 16 files, whose names are allowed and differ; at most 64 descriptors of them; and calls on these
+-- At most 16 files, whose names are allowed and differ; at most 64 descriptors of them; calls on these, by the threads of its form;
+-- and rounds, where the form has them, which don't fall along the calls.
 pub record IsWellFormed (trace : Traced) : Type 0 where
   pub names : length trace.names ≤ most_files
   pub allowed : All (λ name. is_name version_1.name_limit name ≡ true) trace.names
@@ -33,3 +37,12 @@ pub record IsWellFormed (trace : Traced) : Type 0 where
   pub descriptors : length trace.descriptors ≤ most_descriptors
   pub files : All (λ descriptor. descriptor.file < length trace.names) trace.descriptors
   pub calls : All (λ traced. IsCallWithin (length trace.descriptors) traced.call) trace.calls
+  pub threads : All (λ traced. traced.thread ≤ last_thread trace.form) trace.calls
+  pub rounds : All (λ traced. traced.round ≤ trace.rounds) trace.calls
+  pub round_order : IsNonDecreasingBy (λ traced. traced.round) trace.calls
+  pub no_rounds : has_rounds trace.form ≡ false → trace.rounds ≡ 0
+
+-- the calls stand in the order of their lines, whose numbers are below this one
+pub record IsNumberedBelow (number : ℕ) (trace : Traced) : Type 0 where
+  pub line_order : IsStrictlyIncreasing (lines_in trace)
+  pub below : All (λ traced. traced.line < number) trace.calls

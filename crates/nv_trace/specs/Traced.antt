@@ -1,5 +1,5 @@
 -- A trace: what its lines have said so far.
-use Rattle.std.specs.Prelude.{ℕ, List, []}
+use Rattle.std.specs.Prelude.{ℕ, ◌+◌, ◌||◌, nat_lt, max, Bool, List, [], length, map, fold}
 use Rattle.nv_trace.specs.declared.trace.Form.{Form}
 use Rattle.nv_trace.specs.declared.trace.Descriptor.{Descriptor}
 use Rattle.nv_trace.specs.declared.trace_call.TracedCall.{TracedCall}
@@ -13,6 +13,24 @@ pub record Traced : Type 0 where
   pub descriptors : List Descriptor
   -- the calls, in the order of their lines
   pub calls : List TracedCall
+  -- how many `round` lines there were
+  pub rounds : ℕ
 
 abbrev pub empty_trace : Form → Traced
-empty_trace form = record { form = form; names = []; descriptors = []; calls = [] }
+empty_trace form = record { form = form; names = []; descriptors = []; calls = []; rounds = 0 }
+
+-- whether a line has come that declares nothing: a call or a `round` line
+abbrev pub has_begun : Traced → Bool
+has_begun trace = nat_lt 0 (length trace.calls) || nat_lt 0 trace.rounds
+
+-- the numbers of its calls' lines
+abbrev pub lines_in : Traced → List ℕ
+lines_in trace = map (λ traced. traced.line) trace.calls
+
+-- so many threads that this call's is among them too
+abbrev pub with_thread : ℕ → TracedCall → ℕ
+with_thread count traced = max count (traced.thread + 1)
+
+-- how many threads make its calls: one more than the largest of their numbers, and at least one
+abbrev pub thread_count : Traced → ℕ
+thread_count trace = fold with_thread 1 trace.calls

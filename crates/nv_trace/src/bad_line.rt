@@ -13,7 +13,7 @@ pub enum Why {
     Bytes,
     /// It is in no form of a line.
     Form,
-    /// It declares a file or a descriptor behind a call.
+    /// It declares a file or a descriptor behind a call or a `round` line.
     Late,
     /// A number is misspelt or out of its range, or a descriptor's is not the next one.
     Number,

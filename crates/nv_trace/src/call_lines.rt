@@ -1,8 +1,9 @@
 //! The lines of a trace that are calls.
 ghost use Rattle.std.specs.Prelude.{◌≡◌, ◌<◌, ◌≤◌, [], ◌∷◌, length, IfOk, Ok};
+ghost use Rattle.nv_trace.specs.Forms.{last_thread};
 ghost use Rattle.nv_trace.specs.Grammar as grammar;
 ghost use Rattle.nv_trace.specs.Said as said;
-ghost use Rattle.nv_trace.specs.Said.{IsRead, read_of, said_by, write_of};
+ghost use Rattle.nv_trace.specs.Said.{IsRead, made_by, read_of, said_by, write_of};
 ghost use Rattle.nv_trace.specs.Shape.{MayFollow};
 
 use crate::bad_line::{Unsaid, Why};
@@ -35,8 +36,12 @@ pub(crate) fn sync(trace: &Trace, thread: &[u8], word: &[u8], fd: &[u8]) -> Resu
     if is_keyword(thread) || !says(word, "fsync") {
         return Err(Why::Form);
     }
-    let fd = call_on(trace, thread, fd)?;
-    Ok(Statement::Call(TraceCall::Fsync { fd }))
+    let thread = thread_of(trace, thread)?;
+    let fd = call_on(trace, fd)?;
+    Ok(Statement::Call {
+        thread,
+        call: TraceCall::Fsync { fd },
+    })
 }
 
 /// `T pwrite FD OFF HEX` or `T pread FD OFF LEN`
@@ -71,23 +76,30 @@ struct CallPlace {
     at: u64,
 }
 
-/// The place of a call, of the one thread that there is.
-fn call_at(trace: &Trace, thread: &[u8], fd: &[u8], at: &[u8]) -> Result<CallPlace, Why>
-    ensures read { result ≡ said.call_at trace.now thread.now fd.now at.now }
+/// The place of a call.
+fn call_at(trace: &Trace, fd: &[u8], at: &[u8]) -> Result<CallPlace, Why>
+    ensures read { result ≡ said.call_at trace.now fd.now at.now }
     ensures within { IfOk result (λ place. (place.fd < length trace.now.descriptors) × (place.at ≤ grammar.largest_offset)) }
 {
-    let fd = call_on(trace, thread, fd)?;
+    let fd = call_on(trace, fd)?;
     let at = number(at, LARGEST_OFFSET)?;
     Ok(CallPlace { fd, at })
 }
 
+/// The number of a call's thread.
+fn thread_of(trace: &Trace, field: &[u8]) -> Result<u64, Why>
+    ensures read { result ≡ said.thread_of trace.now field.now }
+    ensures within { IfOk result (λ thread. thread ≤ last_thread trace.now.form) }
+{
+    number(field, trace.form().last_thread())
+}
+
 /// The descriptor of a call.
 #[tactic(auto, unfolding(crate::specs::Said::call_on))]
-fn call_on(trace: &Trace, thread: &[u8], fd: &[u8]) -> Result<u64, Why>
-    ensures read { result ≡ said.call_on trace.now thread.now fd.now }
+fn call_on(trace: &Trace, fd: &[u8]) -> Result<u64, Why>
+    ensures read { result ≡ said.call_on trace.now fd.now }
     ensures declared { IfOk result (λ fd. fd < length trace.now.descriptors) }
 {
-    number(thread, 0)?;
     let fd = number(fd, LAST_DESCRIPTOR)?;
     if fd < trace.descriptors().len() as u64 {
         Ok(fd)
@@ -96,17 +108,21 @@ fn call_on(trace: &Trace, thread: &[u8], fd: &[u8]) -> Result<u64, Why>
     }
 }
 
-/// A read, by how many bytes.
+/// A read of a thread, by how many bytes.
 fn read(trace: &Trace, thread: &[u8], fd: &[u8], at: &[u8], len: &[u8]) -> Result<Statement, Why>
-    ensures read { result ≡ read_of trace.now thread.now fd.now at.now len.now }
+    ensures read { result ≡ made_by trace.now thread.now (read_of trace.now fd.now at.now len.now) }
     ensures follows { IfOk result (MayFollow trace.now) }
 {
-    let CallPlace { fd, at } = call_at(trace, thread, fd, at)?;
+    let thread = thread_of(trace, thread)?;
+    let CallPlace { fd, at } = call_at(trace, fd, at)?;
     let len = number(len, LARGEST_COUNT)?;
-    Ok(Statement::Call(TraceCall::Pread { fd, at, len }))
+    Ok(Statement::Call {
+        thread,
+        call: TraceCall::Pread { fd, at, len },
+    })
 }
 
-/// A write, by its bytes.
+/// A write of a thread, by its bytes.
 fn write(
     alloc: Global,
     trace: &Trace,
@@ -115,12 +131,16 @@ fn write(
     at: &[u8],
     hex: &[u8],
 ) -> Result<Statement, Unsaid>
-    ensures read { IsRead result (write_of trace.now thread.now fd.now at.now hex.now) }
+    ensures read { IsRead result (made_by trace.now thread.now (write_of trace.now fd.now at.now hex.now)) }
     ensures follows { IfOk result (MayFollow trace.now) }
 {
-    let CallPlace { fd, at } = call_at(trace, thread, fd, at)?;
+    let thread = thread_of(trace, thread)?;
+    let CallPlace { fd, at } = call_at(trace, fd, at)?;
     let bytes = bytes_of(alloc, hex)?;
-    Ok(Statement::Call(TraceCall::Pwrite { fd, at, bytes }))
+    Ok(Statement::Call {
+        thread,
+        call: TraceCall::Pwrite { fd, at, bytes },
+    })
 }
 
 /// `T pfill FD OFF LEN BYTE`
@@ -141,13 +161,17 @@ pub(crate) fn fill(
     if is_keyword(thread) || !says(word, "pfill") {
         return Err(Unsaid::Bad(Why::Form));
     }
-    let CallPlace { fd, at } = call_at(trace, thread, fd, at)?;
+    let thread = thread_of(trace, thread)?;
+    let CallPlace { fd, at } = call_at(trace, fd, at)?;
     let len = number(len, LARGEST_COUNT)?;
     let byte = number(byte, 255)?;
     let bytes = vec![in alloc; byte as u8; len as usize]?;
-    Ok(Statement::Call(TraceCall::Pwrite {
-        fd,
-        at,
-        bytes: Bytes::from_vec(bytes),
-    }))
+    Ok(Statement::Call {
+        thread,
+        call: TraceCall::Pwrite {
+            fd,
+            at,
+            bytes: Bytes::from_vec(bytes),
+        },
+    })
 }

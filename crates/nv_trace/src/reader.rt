@@ -1,11 +1,14 @@
 //! The reading of a trace.
 ghost use Rattle.std.specs.List.{list_all};
+ghost use Rattle.std.specs.List.Sorted.{IsStrictlyIncreasing};
 ghost use Rattle.std.specs.Prelude.{◌≡◌, ◌≢◌, ℕ, ◌+◌, ◌^◌, ◌<◌, ◌≤◌, Bool, List, [], ◌∷◌, ◌++◌, length, slice_index, Ok, Err, IfOk, IfErr, IfSome, IfNone, OnOk, OnErr, vec_len};
 ghost use Rattle.nv_plain.specs.Faults.{Rose};
 ghost use Rattle.nv_trace.specs.Reading as reading;
 ghost use Rattle.nv_trace.specs.Reading.{after_line, ending_of, Whole};
 ghost use Rattle.nv_trace.specs.Grammar.{is_printable};
 ghost use Rattle.nv_trace.specs.Said.{IsUnsaid};
+ghost use Rattle.nv_trace.specs.Shape.{IsNumberedBelow};
+ghost use Rattle.nv_trace.specs.Traced.{lines_in};
 ghost use Rattle.nv_trace.specs.Refused.{IsBadLine, IsRefusedAs, RefusalTells};
 ghost use Rattle.nv_trace.specs.Pending.{input_ends, lines_end, room_for, IsWithinLines, EndsAt};
 ghost use Rattle.nv_trace.specs.declared.read_error.ReadError.TheVariants as read_errors;
@@ -33,6 +36,8 @@ pub fn read_line(trace: &mut Trace, number: u64, line: &[u8]) -> Result<(), Line
     ensures read { OnOk result (after_line trace.old number line.now ≡ Ok trace.new) }
     ensures bad { IfErr result (IsBadLine trace.old number line.now) }
     ensures unchanged { OnErr result (trace.new ≡ trace.old) }
+    ensures form { trace.new.form ≡ trace.old.form }
+    ensures numbered { OnOk result (IsNumberedBelow number trace.old → IsNumberedBelow (number + 1) trace.new) }
 {
     match take_line(trace, number, line) {
         Ok(()) => Ok(()),
@@ -47,6 +52,8 @@ fn take_line(trace: &mut Trace, number: u64, line: &[u8]) -> Result<(), Unsaid>
     ensures read { OnOk result (after_line trace.old number line.now ≡ Ok trace.new) }
     ensures bad { IfErr result (IsUnsaid (after_line trace.old number line.now)) }
     ensures unchanged { OnErr result (trace.new ≡ trace.old) }
+    ensures form { trace.new.form ≡ trace.old.form }
+    ensures numbered { OnOk result (IsNumberedBelow number trace.old → IsNumberedBelow (number + 1) trace.new) }
 {
     if is_skipped(line) {
         return Ok(());
@@ -88,6 +95,8 @@ fn is_skipped(line: &[u8]) -> bool
 /// only from the source.
 pub fn read_trace<I: Source>(alloc: Global, form: Form, src: &mut I) -> Result<Trace, ReadError>
     ensures whole { IfOk result (λ trace. IfSome (I.left src.old) (λ input. ending_of form input ≡ Whole trace)) }
+    ensures form { IfOk result (λ trace. trace.form ≡ form) }
+    ensures line_order { IfOk result (λ trace. IsStrictlyIncreasing (lines_in trace)) }
     ensures at_end { OnOk result (IfSome (I.left src.old) (λ _. I.left src.new ≡ Some [])) }
     ensures refused { IfErr result (λ error. IfSome (I.left src.old) (IsRefusedAs form error)) }
     ensures failed { result ≡ Err read_errors.Failed → Rose (I.fault_count src.old) (I.fault_count src.new) }
@@ -122,6 +131,7 @@ impl LineReader {
     fn new(alloc: Global, form: Form) -> Self
         ensures start { (input : List ℕ) → input_ends result input ≡ ending_of form input }
         ensures within { IsWithinLines result }
+        ensures form { result.trace.form ≡ form }
     {
         LineReader {
             trace: Trace::new(alloc, form),
@@ -136,6 +146,7 @@ impl LineReader {
         requires { IsWithinLines self.old }
         ensures goes_on { OnOk result ((rest : List ℕ) → input_ends self.new rest ≡ input_ends self.old (bytes.now ++ rest)) }
         ensures within { OnOk result (IsWithinLines self.new) }
+        ensures form { self.new.trace.form ≡ self.old.trace.form }
         ensures taken { OnOk result (self.new.taken ≡ self.old.taken + length bytes.now) }
         ensures refused { IfErr result (λ error. (rest : List ℕ) → RefusalTells error (input_ends self.old (bytes.now ++ rest))) }
         ensures no_fault { result ≢ Err read_errors.Failed }
@@ -156,6 +167,8 @@ impl LineReader {
         requires { self.old.number + length bytes.now < 2 ^ 64 }
         ensures goes_on { OnOk result ((whole : Bool) (rest : List ℕ) → lines_end whole self.new rest ≡ lines_end whole self.old (bytes.now ++ rest)) }
         ensures few { OnOk result (self.new.number ≤ self.old.number + length bytes.now) }
+        ensures numbered { OnOk result (IsNumberedBelow self.old.number self.old.trace → IsNumberedBelow self.new.number self.new.trace) }
+        ensures form { self.new.trace.form ≡ self.old.trace.form }
         ensures taken { self.new.taken ≡ self.old.taken }
         ensures bad { IfErr result (λ error. (whole : Bool) (rest : List ℕ) → EndsAt error (lines_end whole self.old (bytes.now ++ rest))) }
     {
@@ -173,7 +186,7 @@ impl LineReader {
     fn keep(&mut self, part: &[u8]) -> Result<(), NoMemory>
         requires { (k : ℕ) → k < length part.now → slice_index part.now k ≢ 10 }
         ensures goes_on { OnOk result ((whole : Bool) (rest : List ℕ) → lines_end whole self.new rest ≡ lines_end whole self.old (part.now ++ rest)) }
-        ensures same { (self.new.number ≡ self.old.number) × (self.new.taken ≡ self.old.taken) }
+        ensures same { (self.new.trace ≡ self.old.trace) × (self.new.number ≡ self.old.number) × (self.new.taken ≡ self.old.taken) }
     {
         let count = part.len().min(room(&self.line, part));
         self.line.extend_from_slice(&part[..count])?;
@@ -185,6 +198,8 @@ impl LineReader {
         requires { self.old.number + 1 < 2 ^ 64 }
         ensures goes_on { OnOk result ((whole : Bool) (rest : List ℕ) → lines_end whole self.new rest ≡ lines_end whole self.old (10 ∷ rest)) }
         ensures number { OnOk result (self.new.number ≡ self.old.number + 1) }
+        ensures numbered { OnOk result (IsNumberedBelow self.old.number self.old.trace → IsNumberedBelow self.new.number self.new.trace) }
+        ensures form { self.new.trace.form ≡ self.old.trace.form }
         ensures taken { self.new.taken ≡ self.old.taken }
         ensures bad { IfErr result (λ error. (whole : Bool) (rest : List ℕ) → EndsAt error (lines_end whole self.old (10 ∷ rest))) }
     {
@@ -198,6 +213,8 @@ impl LineReader {
     fn finish(mut self) -> Result<Trace, ReadError>
         requires { IsWithinLines self }
         ensures whole { IfOk result (λ trace. input_ends self [] ≡ Whole trace) }
+        ensures form { IfOk result (λ trace. trace.form ≡ self.trace.form) }
+        ensures line_order { IfOk result (λ trace. IsStrictlyIncreasing (lines_in trace)) }
         ensures refused { IfErr result (λ error. RefusalTells error (input_ends self [])) }
         ensures no_fault { result ≢ Err read_errors.Failed }
     {

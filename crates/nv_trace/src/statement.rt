@@ -40,8 +40,10 @@ pub enum Statement {
     File(Bytes),
     /// `fd N NAME MODE`
     Opened(Descriptor),
-    /// A call.
-    Call(TraceCall),
+    /// A call of a thread.
+    Call { thread: u64, call: TraceCall },
+    /// `round`
+    Round,
 }
 
 /// What a line says behind those of a trace.
@@ -83,12 +85,26 @@ fn by_fields(alloc: Global, trace: &Trace, fields: &[&[u8]]) -> Result<Statement
     ensures follows { IfOk result (MayFollow trace.now) }
 {
     match fields {
+        [word] => Ok(round(trace, word)?),
         [word, name] => file(alloc, trace, word, name),
         [thread, word, fd] => Ok(sync(trace, thread, word, fd)?),
         [word, number, name, mode] => Ok(descriptor(trace, word, number, name, mode)?),
         [thread, word, fd, at, last] => read_or_write(alloc, trace, thread, word, fd, at, last),
         [thread, word, fd, at, len, byte] => fill(alloc, trace, thread, word, fd, at, len, byte),
         _ => Err(Unsaid::Bad(Why::Form)),
+    }
+}
+
+/// `round`
+#[tactic(auto, unfolding(crate::specs::Said::said_by))]
+fn round(trace: &Trace, word: &[u8]) -> Result<Statement, Why>
+    ensures read { result ≡ said_by trace.now (word.now ∷ []) }
+    ensures follows { IfOk result (MayFollow trace.now) }
+{
+    if says(word, "round") && trace.form().has_rounds() {
+        Ok(Statement::Round)
+    } else {
+        Err(Why::Form)
     }
 }
 
@@ -112,7 +128,7 @@ fn check_new(trace: &Trace, name: &[u8]) -> Result<(), Why>
     ensures follows { OnOk result (MayFollow trace.now (statement.File name.now)) }
     ensures name { OnOk result (new_name trace.now name.now ≡ Ok name.now) }
 {
-    if !trace.calls().is_empty() {
+    if trace.has_begun() {
         Err(Why::Late)
     } else if trace.names().len() >= MOST_FILES {
         Err(Why::Many)
@@ -140,7 +156,7 @@ fn descriptor(
     if !says(word, "fd") {
         return Err(Why::Form);
     }
-    if !trace.calls().is_empty() {
+    if trace.has_begun() {
         return Err(Why::Late);
     }
     if trace.descriptors().len() >= MOST_DESCRIPTORS {

@@ -1,7 +1,8 @@
 //! Traces, as data.
-ghost use Rattle.std.specs.Prelude.{◌≡◌, OnErr, OnOk};
+ghost use Rattle.std.specs.Prelude.{◌≡◌, ◌+◌, ◌≤◌, OnErr, OnOk};
+ghost use Rattle.nv_trace.specs.Forms.{has_rounds, last_thread};
 ghost use Rattle.nv_trace.specs.Shape.{IsWellFormed, MayFollow};
-ghost use Rattle.nv_trace.specs.Traced.{empty_trace};
+ghost use Rattle.nv_trace.specs.Traced.{empty_trace, has_begun, thread_count};
 ghost use Rattle.nv_trace.specs.Reading.{with_statement};
 
 use crate::statement::Statement;
@@ -13,10 +14,34 @@ use std::marker::Model;
 /// What a trace is read for: some lines are in one of the forms alone.
 #[derive(Clone, Copy, Debug, PartialEq, Eq)]
 pub enum Form {
-    /// To make its calls, thread by thread.
+    /// To make its calls, round by round, each thread its own.
     Run,
     /// To make their steps in a given order.
     Sched,
+    /// To make its calls by thread 0 alone, where rounds change nothing.
+    Alone,
+}
+
+impl Form {
+    /// The largest number of a thread.
+    pub(crate) fn last_thread(self) -> u64
+        ensures { result ≡ last_thread self }
+    {
+        match self {
+            Form::Run | Form::Sched => 7,
+            Form::Alone => 0,
+        }
+    }
+
+    /// Whether `round` is a line.
+    pub(crate) fn has_rounds(self) -> bool
+        ensures { result ≡ has_rounds self }
+    {
+        match self {
+            Form::Run | Form::Alone => true,
+            Form::Sched => false,
+        }
+    }
 }
 
 /// A descriptor: its file, by its place among the names of the trace, and the mode in which it is open.
@@ -26,7 +51,7 @@ pub struct Descriptor {
     pub mode: Mode,
 }
 
-/// What the lines of a trace say: the files' names, the descriptors, and the calls in their order.
+/// What the lines of a trace say: the files' names, the descriptors, the calls in their order, and how many rounds end before the last.
 #[derive(Drop)]
 pub struct Trace {
     alloc: Global,
@@ -34,6 +59,8 @@ pub struct Trace {
     names: Vec<Bytes>,
     descriptors: Vec<Descriptor>,
     calls: Vec<TracedCall>,
+    /// How many `round` lines there were, standing still at 2^64 - 1.
+    rounds: u64,
 }
 
 impl Model for Trace {
@@ -41,11 +68,11 @@ impl Model for Trace {
 
     ghost Value = { Traced };
 
-    ghost view = { λ t. record { form = t.form; names = t.names.items; descriptors = t.descriptors.items; calls = t.calls.items } };
+    ghost view = { λ t. record { form = t.form; names = t.names.items; descriptors = t.descriptors.items; calls = t.calls.items; rounds = t.rounds } };
 
     ghost use Rattle.nv_trace.specs.Shape.{IsWellFormed};
 
-    ghost invariant = { λ t. IsWellFormed (record { form = t.form; names = t.names.items; descriptors = t.descriptors.items; calls = t.calls.items }) };
+    ghost invariant = { λ t. IsWellFormed (record { form = t.form; names = t.names.items; descriptors = t.descriptors.items; calls = t.calls.items; rounds = t.rounds }) };
 }
 
 impl Trace {
@@ -59,6 +86,7 @@ impl Trace {
             names: Vec::new(alloc),
             descriptors: Vec::new(alloc),
             calls: Vec::new(alloc),
+            rounds: 0,
         }
     }
 
@@ -84,6 +112,39 @@ impl Trace {
         &self.calls
     }
 
+    /// How many `round` lines there were.
+    pub fn rounds(&self) -> u64
+        ensures { result ≡ self.now.rounds }
+    {
+        self.rounds
+    }
+
+    /// How many threads make its calls: one more than the largest of their numbers, and at least one.
+    pub fn thread_count(&self) -> u64
+        ensures count { result ≡ thread_count self.now }
+        ensures few { result ≤ last_thread self.now.form + 1 }
+    {
+        let mut count: u64 = 1;
+        for traced in &self.calls {
+            count = count.max(traced.thread + 1);
+        }
+        count
+    }
+
+    /// What it is read for.
+    pub(crate) fn form(&self) -> Form
+        ensures { result ≡ self.now.form }
+    {
+        self.form
+    }
+
+    /// Whether a line has come that declares nothing: a call or a `round` line.
+    pub(crate) fn has_begun(&self) -> bool
+        ensures { result ≡ has_begun self.now }
+    {
+        !self.calls.is_empty() || self.rounds > 0
+    }
+
     /// What it takes memory from.
     pub(crate) fn alloc(&self) -> Global {
         self.alloc
@@ -98,11 +159,13 @@ impl Trace {
         match statement {
             Statement::File(name) => self.names.push(name)?,
             Statement::Opened(descriptor) => self.descriptors.push(descriptor)?,
-            Statement::Call(call) => self.calls.push(TracedCall {
+            Statement::Call { thread, call } => self.calls.push(TracedCall {
                 line: number,
-                thread: 0,
+                round: self.rounds,
+                thread,
                 call,
             })?,
+            Statement::Round => self.rounds = self.rounds.saturating_add(1),
         }
         Ok(())
     }

@@ -10,10 +10,12 @@ pub enum TraceCall {
     Fsync { fd: u64 },
 }
 
-/// A call of a trace, with the number of its line, counted from 1, and its thread.
+/// A call of a trace, with the number of its line, counted from 1, its round, counted from 0, and its thread.
 #[derive(Debug, Drop)]
 pub struct TracedCall {
     pub line: u64,
+    /// How many `round` lines stand before it.
+    pub round: u64,
     pub thread: u64,
     pub call: TraceCall,
 }

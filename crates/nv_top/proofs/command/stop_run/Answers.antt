@@ -14,7 +14,8 @@ use Rattle.nv_recover.specs.Standing.{files_of}
 use Rattle.nv_top.specs.Commands.{IsBasis, IsNotRun}
 use Rattle.nv_trace.specs.Said.{said_place}
 use Rattle.nv_top.specs.Headline.{HasStopped}
-use Rattle.nv_top.specs.LogRuns.{basis_over, lines_in}
+use Rattle.nv_trace.specs.Traced.{lines_in}
+use Rattle.nv_top.specs.LogRuns.{basis_over}
 use Rattle.nv_top.specs.Stopping.{HasStoppedOn, IsAway}
 use Rattle.nv_top.specs.Stops.{stop_of_opening}
 use Rattle.nv_top.specs.declared.ending.Stop.TheVariants.{Region}

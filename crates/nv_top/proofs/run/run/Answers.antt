@@ -7,7 +7,8 @@ use Rattle.nv_pmem.specs.RowStates.{AreNow}
 use Rattle.nv_store.specs.Store.{Store}
 use Rattle.nv_recover.specs.Standing.{files_of}
 use Rattle.nv_top.specs.Commands.{HasRunOn, IsBasis}
-use Rattle.nv_top.specs.LogRuns.{HasRunOver, basis_over, lines_in}
+use Rattle.nv_trace.specs.Traced.{lines_in}
+use Rattle.nv_top.specs.LogRuns.{HasRunOver, basis_over}
 use Rattle.nv_top.proofs.CommandLemmas.{if_told, leaves, told_at}
 use Rattle.nv_open.specs.Adding.{all_names}
 use Rattle.nv_trace.specs.Said.{said_place}

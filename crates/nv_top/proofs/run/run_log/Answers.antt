@@ -7,7 +7,8 @@ use Rattle.nv_engine.specs.Laid.{LaidPiece, laid}
 use Rattle.nv_trace.specs.declared.trace_call.TracedCall.{TracedCall}
 use Rattle.nv_top.specs.Faithful.{Basis, descriptors_in}
 use Rattle.nv_top.specs.Leaving.{AreLeft}
-use Rattle.nv_top.specs.LogRuns.{HasRun, HasRunOver, IsFirstRun, lines_in}
+use Rattle.nv_trace.specs.Traced.{lines_in}
+use Rattle.nv_top.specs.LogRuns.{HasRun, HasRunOver, IsFirstRun}
 use Rattle.nv_top.specs.Outcomes.{report_of}
 use Rattle.nv_top.specs.Reports.{report_text}
 use Rattle.nv_top.proofs.LogRunLemmas.{run_over}

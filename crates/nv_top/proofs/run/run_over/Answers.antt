@@ -7,7 +7,8 @@ use Rattle.nv_store.specs.Store.{Store}
 use Rattle.nv_recover.specs.Standing.{files_of}
 use Rattle.nv_trace.specs.declared.trace.Descriptor.{Descriptor}
 use Rattle.nv_top.specs.Faithful.{Basis, descriptors_in}
-use Rattle.nv_top.specs.LogRuns.{HasRunOver, IsFirstRun, basis_over, lines_in}
+use Rattle.nv_trace.specs.Traced.{lines_in}
+use Rattle.nv_top.specs.LogRuns.{HasRunOver, IsFirstRun, basis_over}
 use Rattle.nv_top.proofs.LogRunLemmas.{begins}
 use Rattle.nv_top.proofs.NameLemmas.{descriptors_known}
 use Rattle.nv_top.proofs.run.run_over.Goals as goal

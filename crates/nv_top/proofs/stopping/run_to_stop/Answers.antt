@@ -9,7 +9,8 @@ use Rattle.nv_recover.specs.Standing.{files_of}
 use Rattle.nv_trace.specs.declared.trace.Descriptor.{Descriptor}
 use Rattle.nv_top.specs.Answers.{log_faults}
 use Rattle.nv_top.specs.Faithful.{Basis, descriptors_in}
-use Rattle.nv_top.specs.LogRuns.{IsFirstRun, basis_over, lines_in}
+use Rattle.nv_trace.specs.Traced.{lines_in}
+use Rattle.nv_top.specs.LogRuns.{IsFirstRun, basis_over}
 use Rattle.nv_top.specs.Stopping.{HasStoppedOn, IsAway}
 use Rattle.nv_top.proofs.LogRunLemmas.{begins}
 use Rattle.nv_top.proofs.NameLemmas.{descriptors_known}

@@ -8,7 +8,8 @@ use Rattle.nv_trace.specs.declared.trace_call.TracedCall.{TracedCall}
 use Rattle.nv_top.specs.Answers.{log_faults}
 use Rattle.nv_top.specs.Attempts.{HasRunTo}
 use Rattle.nv_top.specs.Faithful.{Basis, descriptors_in}
-use Rattle.nv_top.specs.LogRuns.{IsFirstRun, lines_in}
+use Rattle.nv_trace.specs.Traced.{lines_in}
+use Rattle.nv_top.specs.LogRuns.{IsFirstRun}
 use Rattle.nv_top.specs.Stopping.{HasStoppedOn, IsAway, ShowsRecovered}
 use Rattle.nv_top.proofs.StoppingLemmas.{at_some, count_grows, given_home, if_some, none_unless, quiet_after, rose_home, run_while, stopped_on}
 use Rattle.nv_top.proofs.UnrefusedLemmas.{never_refused}

@@ -12,6 +12,7 @@ loop-buffer-init g c = record {
   faults = refl;
   room = c.in_ok-buffer.ensures;
   within = c.new-reader.ensures.within;
+  form = c.new-reader.ensures.form;
 }
 
 pub returns-in_err-count-clause-refused : goal.returns-in_err-count-clause-refused
@@ -58,6 +59,7 @@ loop-buffer-preserved g c =
       faults = c.in_ok-count.ensures.cause ∙ c.loop-buffer.invariant.faults;
       room = c.loop-buffer.invariant.room;
       within = c.in_ok-take.ensures.within;
+      form = c.take.ensures.form ∙ c.loop-buffer.invariant.form;
     }
 
 pub returns-in_err-take-clause-refused : goal.returns-in_err-take-clause-refused

@@ -10,6 +10,7 @@ invariant-loop-buffer g l = record {
   faults : g.I.Source.fault_count l.src ≡ g.I.Source.fault_count l.fn.src;
   room : vec_len l.buffer ≡ 65536;
   within : IsWithinLines l.reader;
+  form : l.reader.trace.form ≡ l.fn.form;
 }
 
 abbrev pub decreases-loop-buffer : goal.decreases-loop-buffer
