@@ -1,5 +1,5 @@
 -- What a recovery gives of parts and stores that tell.
-use Rattle.std.proofs.Common.{◌≡◌, ℕ, ◌≤◌, List, ◌∷◌, length, map, refl, sym, ap, ◌∙◌, subst, arith}
+use Rattle.std.proofs.Common.{◌≡◌, ℕ, suc, ◌≤◌, List, [], ◌∷◌, length, map, refl, sym, ap, ◌∙◌, subst, arith}
 use Rattle.std.proofs.lemmas.List.{length-map}
 use Rattle.nv_plain.specs.Layouts.{version_1}
 use Rattle.nv_plain.specs.Recovered.{region_files}
@@ -105,6 +105,13 @@ unwritten_log old new (recovery.BadEntry number) why good same bad unfit =
 unwritten_log old new recovery.RegionFault why good same bad unfit = cc
 unwritten_log old new recovery.StoreFault why good same bad unfit = cc
 unwritten_log old new recovery.NoMemory why good same bad unfit = cc
+
+-- a row has a present state for each of its devices
+pub states_many : {S : Type 0} (row : List (List S)) (states : List S) → AreNow row states → length states ≡ length row
+states_many [] [] are = refl
+states_many [] (now ∷ states) are = absurd are
+states_many (history ∷ row) [] are = absurd are
+states_many (history ∷ row) (now ∷ states) are = ap suc (states_many row states are.1)
 
 -- devices that are in their places are as many
 pub as_many : {Y : Type 0} (device : Y → ℕ) (old new : List Y) → map device new ≡ map device old → length new ≡ length old

@@ -38,6 +38,7 @@ pub(crate) fn add_names<L: Lines + Drop>(
     ensures names { IfOk result (λ added. added.names ≡ region.names ++ names.now) }
     ensures geometry { IfOk result (λ added. added.geometry ≡ region.geometry) }
     ensures next { IfOk result (λ added. added.next ≡ region.next) }
+    ensures many { IfOk result (λ added. length added.parts.items ≡ length region.parts.items) }
     ensures tell { AllTell (map L.history region.parts.items) → IfOk result (λ added. AllTell (map L.history added.parts.items)) }
     ensures never { (why : _) → IfErr result (λ failed. ¬ (failed.1 ≡ error.Refused why)) }
     ensures cause { RegionHasCause (sum_by L.fault_count region.parts.items) (sum_by L.fault_count (parts_after_format result)) result }

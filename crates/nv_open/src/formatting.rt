@@ -1,5 +1,5 @@
 //! A blank region of a bench is formatted.
-ghost use Rattle.std.specs.Prelude.{◌≡◌, All, true, map, sum_by, IfOk, IfErr};
+ghost use Rattle.std.specs.Prelude.{◌≡◌, All, true, length, map, sum_by, IfOk, IfErr};
 ghost use Rattle.nv_plain.specs.Layouts.{version_1};
 ghost use Rattle.nv_plain.specs.Faults.{HasCause};
 ghost use Rattle.nv_pmem.specs.Rows.{RowTells, AreOnlyRead};
@@ -28,6 +28,7 @@ pub(crate) fn format_parts<L: Lines + Drop>(
     requires blank { RowTells (map L.history parts.items) IsBlankRow }
     requires spare { All HasSpare (map L.room parts.items) }
     ensures formatted { IfOk result (λ region. IsFormatted geometry region.geometry.page region.geometry.entries region.names region.next) }
+    ensures many { IfOk result (λ region. length region.parts.items ≡ length parts.items) }
     ensures tell { AllTell (map L.history parts.items) → IfOk result (λ region. AllTell (map L.history region.parts.items)) }
     ensures short { (why : _) → IfErr result (λ failed. failed.1 ≡ error.Refused why
         → RowTells (map L.history parts.items) (λ told. ¬ HasLines version_1 geometry.page geometry.entries (rooms_of told))) }

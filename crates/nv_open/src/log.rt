@@ -50,6 +50,7 @@ pub(crate) fn recover_log<L: Lines + Drop, B: Backing>(
         → IfOk result (λ done. RowTells (map L.history parts.items) (λ told.
         HoldFiles (map B.history stores.new.items) (region_files (row_words told) (files_of was)))) }
     ensures quiet { IfOk result (λ done. All (λ store. Tells (B.history store) IsQuietStore) stores.new.items) }
+    ensures many { IfOk result (λ done. length done.0.parts.items ≡ length parts.items) }
     ensures tell { AllTell (map L.history parts.items) → AllTell (map B.history stores.old.items)
         → IfOk result (λ done. AllTell (map L.history done.0.parts.items)) }
     ensures refused { (why : _) → answer_of result ≡ Err (error.Refused why)

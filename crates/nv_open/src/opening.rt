@@ -1,12 +1,12 @@
 //! The opening of a region of a bench.
-ghost use Rattle.std.specs.Prelude.{◌≡◌, ℕ, List, ◌+◌, ◌<◌, ◌++◌, [], false, true, length, map, sum_by, All, None, Err, IfOk, IfErr, IfSome};
+ghost use Rattle.std.specs.Prelude.{◌≡◌, ℕ, List, ◌+◌, ◌<◌, ◌++◌, [], false, true, length, map, sum_by, All, None, Some, Err, IfOk, IfErr, IfSome};
 ghost use Rattle.nv_plain.specs.Faults.{saturated};
 ghost use Rattle.nv_plain.specs.Layouts.{version_1};
 ghost use Rattle.nv_pmem.specs.Moments.{Tells};
 ghost use Rattle.nv_pmem.specs.Rows.{RowTells, AreQuiet};
 ghost use Rattle.nv_bench.specs.Benches.{with_faults};
 ghost use Rattle.nv_bench.specs.Holding.{IsQuietHolding};
-ghost use Rattle.nv_bench.specs.Opening.{is_blank};
+ghost use Rattle.nv_bench.specs.Opening.{is_blank, opened as opened_parts};
 ghost use Rattle.nv_store.specs.Store.{IsQuietStore};
 ghost use Rattle.nv_header.specs.Changes.{parts_after_format};
 ghost use Rattle.nv_header.specs.Laws.{HasSpare};
@@ -56,6 +56,7 @@ pub fn open<T: Bench>(
         opened.region.geometry.page opened.region.geometry.entries opened.region.names opened.region.next (map T.Store.history opened.stores.items))) }
     ensures quiet { IfOk result (λ opened. All (λ store. Tells (T.Store.history store) IsQuietStore) opened.stores.items) }
     ensures tell { IfOk result (λ opened. IfSome (T.state bench.old).told (λ holding. AllTell (map T.Part.history opened.region.parts.items))) }
+    ensures many { IfOk result (λ opened. IfSome (T.state bench.old).told (λ holding. length opened.region.parts.items ≡ length (opened_parts (Some geometry) holding.parts))) }
     ensures counts { IfOk result (λ opened. (T.state bench.old).faults ≡ saturated ((T.state bench.new).faults
         + sum_by T.Part.fault_count opened.region.parts.items + sum_by T.Store.fault_count opened.stores.items)) }
 
@@ -111,6 +112,7 @@ fn open_parts<T: Bench>(
         IsRegionOpened (record { parts = told; stores = holding.stores }) geometry wanted.now region.geometry.page region.geometry.entries region.names region.next (map T.Store.history stores.new.items)))) }
     ensures quiet { IfOk result (λ region. All (λ store. Tells (T.Store.history store) IsQuietStore) stores.new.items) }
     ensures told { IfOk result (λ region. IfSome (T.state bench.old).told (λ holding. AllTell (map T.Part.history region.parts.items))) }
+    ensures many { IfOk result (λ region. length region.parts.items ≡ length parts.items) }
     ensures refused { (why : _) → IfErr result (λ failed. failed.1 ≡ error.Refused why
         → IfSome (T.state bench.old).told (λ holding. RowTells (map T.Part.history parts.items) (λ told. IsNotOpened told geometry wanted.now why))) }
     ensures unwritten { (why : _) → IfErr result (λ failed. failed.1 ≡ error.Refused why → ¬ (why ≡ refusal.TooManyFiles)
@@ -152,6 +154,7 @@ fn begin<T: Bench>(
         HoldFiles (map T.Store.history stores.new.items) (files_named told region.names holding.stores)))) }
     ensures quiet { IfOk result (λ region. All (λ store. Tells (T.Store.history store) IsQuietStore) stores.new.items) }
     ensures told { IfOk result (λ region. IfSome (T.state bench.old).told (λ holding. AllTell (map T.Part.history region.parts.items))) }
+    ensures many { IfOk result (λ region. length region.parts.items ≡ length parts.items) }
     ensures refused { (why : _) → IfErr result (λ failed. failed.1 ≡ error.Refused why
         → IfSome (T.state bench.old).told (λ holding. RowTells (map T.Part.history parts.items) (λ told. (is_blank told ≡ false) × IsRefusedFor told why))) }
     ensures unwritten { (why : _) → IfErr result (λ failed. failed.1 ≡ error.Refused why
@@ -197,6 +200,7 @@ fn add_wanted<T: Bench>(
     ensures quiet { All (λ store. Tells (T.Store.history store) IsQuietStore) stores.old.items
         → IfOk result (λ added. All (λ store. Tells (T.Store.history store) IsQuietStore) stores.new.items) }
     ensures tell { AllTell (map T.Part.history region.parts.items) → IfOk result (λ added. AllTell (map T.Part.history added.parts.items)) }
+    ensures many { IfOk result (λ added. length added.parts.items ≡ length region.parts.items) }
     ensures refused { (why : _) → IfErr result (λ failed. failed.1 ≡ error.Refused why
         → (why ≡ refusal.TooManyFiles) × (version_1.file_limit < length (all_names region.names wanted.now))) }
 {

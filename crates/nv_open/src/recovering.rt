@@ -45,6 +45,7 @@ pub fn recover_region<T: Bench>(
         (files_named holding.parts done.0.region.names holding.stores))) }
     ensures quiet { IfOk result (λ done. All (λ store. Tells (T.Store.history store) IsQuietStore) done.0.stores.items) }
     ensures tell { IfOk result (λ done. IfSome (T.state bench.old).told (λ holding. AllTell (map T.Part.history done.0.region.parts.items))) }
+    ensures many { IfOk result (λ done. IfSome (T.state bench.old).told (λ holding. length done.0.region.parts.items ≡ length holding.parts)) }
     ensures counts { IfOk result (λ done. (T.state bench.old).faults ≡ saturated ((T.state bench.new).faults
         + sum_by T.Part.fault_count done.0.region.parts.items + sum_by T.Store.fault_count done.0.stores.items)) }
 
@@ -101,6 +102,7 @@ pub(crate) fn recover_parts<T: Bench>(
         HoldFiles (map T.Store.history stores.new.items) (files_named told done.0.names holding.stores)))) }
     ensures quiet { IfOk result (λ done. All (λ store. Tells (T.Store.history store) IsQuietStore) stores.new.items) }
     ensures told { IfOk result (λ done. IfSome (T.state bench.old).told (λ holding. AllTell (map T.Part.history done.0.parts.items))) }
+    ensures many { IfOk result (λ done. length done.0.parts.items ≡ length parts.items) }
 
     // Where the region is refused.
     ensures refused { (why : _) → answer_of result ≡ Err (error.Refused why)

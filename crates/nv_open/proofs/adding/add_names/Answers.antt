@@ -3,6 +3,7 @@ use Rattle.nv_open.proofs.NewNames.{not_refused}
 use Rattle.nv_open.proofs.Openings.{item_at}
 use Rattle.std.proofs.Common.{map}
 use Rattle.std.proofs.lemmas.Grind.{common_steps}
+use Rattle.nv_open.proofs.LogLaws.{as_many}
 use Rattle.nv_open.proofs.Tells.{did_tells}
 use Rattle.nv_open.proofs.adding.add_names.Goals as goal
 
@@ -21,6 +22,7 @@ loop-name-preserved g c = record {
   tell = λ told.
       did_tells _ (map g.L.Lines.history c.loop-name.region.parts.items) (map g.L.Lines.history c.in-Ok.added.parts.items) c.in-Ok.ensures.done
       (c.loop-name.invariant.tell told);
+  many = as_many g.L.Lines.device c.loop-name.region.parts.items c.in-Ok.added.parts.items c.in-Ok.ensures.changed.devices ∙ c.loop-name.invariant.many;
   next = c.in-Ok.ensures.next ∙ c.loop-name.invariant.next;
   faults = c.in-Ok.ensures.cause ∙ c.loop-name.invariant.faults;
 }

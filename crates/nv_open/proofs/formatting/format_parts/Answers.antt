@@ -4,6 +4,7 @@ use Rattle.nv_pmem.specs.RowStates.{row_tells_from}
 use Rattle.nv_header.specs.Needs.{HasLines}
 use Rattle.nv_open.specs.Refusals.{rooms_of}
 use Rattle.nv_open.proofs.LineCounts.{told_counts, has_lines_same}
+use Rattle.nv_open.proofs.LogLaws.{as_many}
 use Rattle.nv_open.proofs.Tells.{did_tells}
 use Rattle.nv_open.proofs.formatting.format_parts.Goals as goal
 
@@ -24,3 +25,6 @@ format-requires-clause-parts g c =
 
 pub returns-in-Ok-clause-tell : goal.returns-in-Ok-clause-tell
 returns-in-Ok-clause-tell g c tell = did_tells _ (map g.L.Lines.history c.args.parts.items) (map g.L.Lines.history c.in-Ok.region.parts.items) c.in-Ok.ensures.done tell
+
+pub returns-in-Ok-clause-many : goal.returns-in-Ok-clause-many
+returns-in-Ok-clause-many g c = as_many g.L.Lines.device c.args.parts.items c.in-Ok.region.parts.items c.in-Ok.ensures.changed.devices

@@ -37,3 +37,6 @@ returns-in-Err-clause-stores_kept g c why is =
 
 pub returns-in-Err-clause-count : goal.returns-in-Err-clause-count
 returns-in-Err-clause-count g c = as_many g.B.Backing.device c.args.stores.now.items c.recover.new.stores.items c.recover.ensures.kept.stores
+
+pub returns-in-Ok-clause-many : goal.returns-in-Ok-clause-many
+returns-in-Ok-clause-many g c = as_many g.L.Lines.device c.args.parts.items c.in-Ok.done.0.parts.items c.in-Ok.ensures.kept.devices

@@ -1,9 +1,13 @@
-use Rattle.std.proofs.Common.{Some, Err, length, map, refl}
+use Rattle.std.proofs.Common.{◌≡◌, ◌∙◌, List, Some, Err, length, map, refl, sym}
+use Rattle.std.proofs.lemmas.List.{length-map}
+use Rattle.nv_pmem.specs.Part.{Part}
+use Rattle.nv_pmem.specs.RowStates.{AreNow}
 use Rattle.nv_bench.specs.Holding.{Holding}
 use Rattle.nv_bench.specs.Opening.{opened}
 use Rattle.nv_open.specs.Begun.{IsRegionOpened, IsNotOpened}
 use Rattle.nv_open.proofs.HeadLaws.{error_is}
 use Rattle.nv_open.proofs.AsHeld.{given_long, given_kept, some_map, opened_before, not_opened_before}
+use Rattle.nv_open.proofs.LogLaws.{states_many}
 use Rattle.nv_open.proofs.Regions.{given_quiet, given_spare, given_tell, lent_told, quiet_parts, some_stores, still_untold, returned_told}
 use Rattle.nv_open.proofs.Sized.{quiet_opened}
 use Rattle.nv_open.proofs.opening.open.Goals as goal
@@ -75,3 +79,11 @@ returns-in-Err-clause-unwritten g c why is other =
     (given_kept geometry old.told row wanted why other c.in_ok-parts.ensures.told not)
     (c.in-Err.ensures.unwritten why same other) c.give_back.ensures.told
     (λ none. c.give_back.ensures.untold (still_untold (length c.open_parts.new.stores.items) old mid (g.T.Bench.state c.open_parts.new.bench) c.in_ok-parts.ensures.lent c.in-Err.ensures.lent none))
+
+pub returns-in-Ok-clause-many : goal.returns-in-Ok-clause-many
+returns-in-Ok-clause-many g c =
+    let history = g.T.Part.Lines.history in
+    let parts = c.in_ok-parts.parts.items in
+    let given : Holding → List Part = λ holding. opened (Some c.args.geometry) holding.parts in
+    some_map (g.T.Bench.state c.args.bench.now).told (λ holding. AreNow (map history parts) (given holding)) (λ holding. length c.in-Ok.region.parts.items ≡ length (given holding))
+    (λ holding are. c.in-Ok.ensures.many ∙ sym (states_many (map history parts) (given holding) are ∙ length-map parts history)) c.in_ok-parts.ensures.told

@@ -1,8 +1,12 @@
-use Rattle.std.proofs.Common.{Err, length, map, refl, ap}
+use Rattle.std.proofs.Common.{◌≡◌, ◌∙◌, Err, length, map, refl, sym, ap}
+use Rattle.std.proofs.lemmas.List.{length-map}
+use Rattle.nv_pmem.specs.RowStates.{AreNow}
 use Rattle.nv_bench.specs.Holding.{Holding}
 use Rattle.nv_open.specs.Held.{HoldFiles, IsRecovered, files_named}
 use Rattle.nv_open.specs.Refusals.{IsRefusedFor}
 use Rattle.nv_open.proofs.HeadLaws.{error_is}
+use Rattle.nv_open.proofs.AsHeld.{some_map}
+use Rattle.nv_open.proofs.LogLaws.{states_many}
 use Rattle.nv_open.proofs.Regions.{given_quiet, given_spare, given_tell, lent_told, quiet_parts, some_told, some_stores, still_untold, returned_told}
 use Rattle.nv_open.proofs.recovering.recover_region.Goals as goal
 
@@ -51,3 +55,10 @@ returns-in-Err-clause-unwritten g c why is =
     c.in_ok-parts.parts.items c.in-Err.parts.items c.recover_parts.new.stores.items c.in_ok-parts.ensures.lent c.requires.home refl c.in_ok-parts.ensures.told
     (c.in-Err.ensures.unwritten why (ap Err (error_is (Err c.in-Err.error) _ _ refl is))) c.give_back.ensures.told
     (λ none. c.give_back.ensures.untold (still_untold (length c.recover_parts.new.stores.items) old mid (g.T.Bench.state c.recover_parts.new.bench) c.in_ok-parts.ensures.lent c.in-Err.ensures.lent none))
+
+pub returns-in-Ok-clause-many : goal.returns-in-Ok-clause-many
+returns-in-Ok-clause-many g c =
+    let history = g.T.Part.Lines.history in
+    let parts = c.in_ok-parts.parts.items in
+    some_map (g.T.Bench.state c.args.bench.now).told (λ holding. AreNow (map history parts) holding.parts) (λ holding. length c.in-Ok.region.parts.items ≡ length holding.parts)
+    (λ holding are. c.in-Ok.ensures.many ∙ sym (states_many (map history parts) holding.parts are ∙ length-map parts history)) c.in_ok-parts.ensures.told
