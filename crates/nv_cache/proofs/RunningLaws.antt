@@ -13,11 +13,13 @@ use Rattle.nv_table.specs.state.States.{PassState}
 use Rattle.nv_table.specs.steps.StepContracts.{Postcondition}
 use Rattle.nv_op.specs.Ops.{call_asked, core_op_of}
 use Rattle.nv_mirror.specs.declared.answers.Refusal.{Refusal}
+use Rattle.nv_mirror.specs.declared.front.FrontControl.{FrontControl}
 use Rattle.nv_mirror.specs.declared.front.FrontMachine.{FrontMachine}
 use Rattle.nv_mirror.specs.declared.front.FrontControl.TheVariants as fronts
 use Rattle.nv_mirror.specs.declared.load.LoadMachine.{LoadMachine}
 use Rattle.nv_mirror.specs.declared.pageless.PagelessMachine.{PagelessMachine}
 use Rattle.nv_mirror.specs.declared.pageless.PagelessControl.TheVariants as controls
+use Rattle.nv_mirror.specs.declared.release.ReleaseControl.{ReleaseControl}
 use Rattle.nv_mirror.specs.declared.release.ReleaseMachine.{ReleaseMachine}
 use Rattle.nv_mirror.specs.declared.release.ReleaseControl.TheVariants as releases
 use Rattle.nv_mirror.specs.declared.visit.VisitMachine.{VisitMachine}
@@ -46,6 +48,24 @@ use Rattle.nv_cache.specs.Searches.{Keeps, search_call_of}
 use Rattle.nv_cache.specs.Ways.{search_for, load_of as after_search}
 use Rattle.nv_cache.proofs.EndLaws.{stepped_same}
 use Rattle.nv_cache.proofs.WaysLaws.{bytes_kept, search_begins}
+
+-- ---- a part is over nowhere else
+
+pub open_front : (control : FrontControl) → (control ≡ fronts.Passed → ⊥) → ((refusal : Refusal) → control ≡ fronts.Over refusal → ⊥) → front.IsOpen control
+open_front fronts.Passed passed over = absurd (passed refl)
+open_front (fronts.Over refusal) passed over = absurd (over refusal refl)
+open_front fronts.Begin passed over = tt
+open_front fronts.TakePage passed over = tt
+open_front fronts.LoadLength passed over = tt
+open_front fronts.TakeSize passed over = tt
+open_front fronts.LoadStop passed over = tt
+open_front fronts.LoadOrder passed over = tt
+open_front (fronts.GiveBack size refusal) passed over = tt
+
+pub open_release : (control : ReleaseControl) → (control ≡ releases.Over → ⊥) → release.IsOpen control
+open_release releases.Over over = absurd (over refl)
+open_release releases.GiveSize over = tt
+open_release (releases.GivePage given) over = tt
 
 -- ---- a step goes on with the same call
 

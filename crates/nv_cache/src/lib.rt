@@ -3,9 +3,11 @@
 
 mod read;
 mod read_parts;
+mod read_run;
 mod read_told;
 mod search;
 mod ways;
 
 pub use read::RunningRead;
+pub use read_run::MOST_PAGE;
 pub use search::{Buffer, SearchControl, SearchMachine, find_buffer};

@@ -50,6 +50,7 @@ pub enum RunningRead {
 
 impl RunningRead {
     /// A read that is allowed, and has made no step yet.
+    #[inline(always)]
     pub fn new(layout: Layout, file: u64, at: u64, len: u64) -> Self
         requires allowed { IsAllowed (sizes_of layout) (Read file at len) }
         ensures begins { (list room : List ℕ) (pass : PassState) → length list ≡ len → pass.view.opened.sizes ≡ sizes_of layout → IsIdle pass → IsUnderWay (Read file at len) result list room pass pass }

@@ -29,7 +29,8 @@ fn empty_answer(over: Result<u64, Refusal>) -> Result<Done, Refusal>
 
 impl RunningRead {
     // A read at its pages looks at them, and goes on with a search, with a load, or with its place.
-    fn looked<L: Lines, B: Backing>(
+    #[inline(always)]
+    pub(crate) fn looked<L: Lines, B: Backing>(
         mut visit: VisitMachine,
         board: &Board<L, B>,
         pass: &mut Pass<L, B>,

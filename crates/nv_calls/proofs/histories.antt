@@ -1,5 +1,6 @@
 -- Histories: what the steps of a call tell.
 pub mod CompleteLaws
+pub mod FaultLaws
 pub mod HeedsLaws
 pub mod SinceLaws
 pub mod UnmovedLaws

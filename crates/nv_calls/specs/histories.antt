@@ -1,5 +1,6 @@
 -- Histories: what a pass has done in a call, and what came of it.
 pub mod Complete
+pub mod Faults
 pub mod Heeds
 pub mod Tries
 pub mod Unmoved

@@ -1,5 +1,6 @@
 //! Laws of calls that are over.
 ghost use Rattle.nv_calls.specs.histories.Complete.{ReadsAreComplete, SyncsAreComplete};
+ghost use Rattle.nv_calls.specs.histories.Faults.{ReadsOpenNothing, SyncsOpenNothing, WritesOpen};
 ghost use Rattle.nv_calls.specs.histories.Heeds.{ReadsHeedStop, SyncsHeedStop};
 ghost use Rattle.nv_calls.specs.writes.WriteLaws.{RefusedWritesLeaveWords, WritesAreComplete, WritesHeedStop};
 
@@ -11,6 +12,17 @@ pub fn ended_calls_heed_stop()
     ensures reads { ReadsHeedStop }
     ensures writes { WritesHeedStop }
     ensures syncs { SyncsHeedStop }
+{
+    runs_are_sound();
+    passes_are_left_alone();
+}
+
+/// A write that a device fault ended is kept by its pass, as its last open one: nothing that it asked for bars it, and it has drawn numbers. No other call adds any, nor one that is to be made
+/// again.
+pub fn faults_open_writes()
+    ensures writes { WritesOpen }
+    ensures reads { ReadsOpenNothing }
+    ensures syncs { SyncsOpenNothing }
 {
     runs_are_sound();
     passes_are_left_alone();

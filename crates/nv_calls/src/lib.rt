@@ -14,12 +14,15 @@ mod writing;
 
 pub use admit::early_read_refusal;
 pub use alone::a_read_alone_is_not_busy;
-pub use laws::{calls_are_complete, ended_calls_heed_stop, refused_writes_leave_words};
+pub use laws::{
+    calls_are_complete, ended_calls_heed_stop, faults_open_writes, refused_writes_leave_words,
+};
+pub use nv_cache::MOST_PAGE;
 pub use nv_mirror::{Done, Refusal};
 pub use nv_op::Kind;
 pub use progress::Progress;
 pub use read::{pread, try_pread};
-pub use reading::{MOST_PAGE, ReadControl, ReadMachine};
+pub use reading::{ReadControl, ReadMachine};
 pub use sync::try_fsync;
 pub use syncing::{SyncControl, SyncMachine};
 pub use write::{pwrite, try_pwrite};

@@ -1,9 +1,7 @@
 //! Reads of files.
-ghost use Rattle.std.specs.Prelude.{◌≡◌, ◌≢◌, ◌<◌, ℕ, [], false, true, IfOk, OnErr};
-ghost use Rattle.nv_plain.specs.declared.call.FileCall.{FileCall};
+ghost use Rattle.std.specs.Prelude.{◌≡◌, ◌≢◌, ℕ, IfOk, OnErr};
 ghost use Rattle.nv_table.specs.invariant.Idle.{IsIdle, IsLater};
 ghost use Rattle.nv_table.specs.state.States.{IsOf, PassState};
-ghost use Rattle.nv_cache.specs.RunningReads.{IsSettled, IsUnderWay, holds_page, needs_rooms, read_measure};
 ghost use Rattle.nv_mirror.specs.Answers.{IsReadPlaced, IsUnplaced};
 ghost use Rattle.nv_calls.specs.fsync.SyncRuns.{file_of_fd};
 ghost use Rattle.nv_calls.specs.histories.Complete.{IsCompleteRead};
@@ -13,47 +11,15 @@ ghost use Rattle.nv_calls.specs.histories.Tries.{IsTried};
 ghost use Rattle.nv_mirror.specs.declared.answers.Refusal.TheVariants.{Busy};
 
 use crate::admit::{Access, admit};
-use crate::{MOST_PAGE, calls_are_complete, ended_calls_heed_stop};
+use crate::{calls_are_complete, ended_calls_heed_stop};
 use nv_cache::RunningRead;
 use nv_core::{passes_are_left_alone, runs_are_sound};
 use nv_mirror::{Done, Refusal};
 use nv_mount::Mount;
 use nv_pmem::Lines;
 use nv_store::Backing;
-use nv_table::{Board, Pass};
+use nv_table::Pass;
 use std::sync::Wait;
-
-// The advances of a read from the load of a page on, with rooms for that, until it needs none.
-#[inline(never)]
-fn load_in_rooms<L: Lines, B: Backing>(
-    board: &Board<L, B>,
-    pass: &mut Pass<L, B>,
-    read: &mut RunningRead,
-    list: &mut [u8],
-)
-    requires board { IsOf board.now pass.old }
-    requires settled { IsSettled read.old }
-    requires needs { needs_rooms read.old ≡ true }
-    requires bare { holds_page read.old ≡ false }
-    requires way { (call : FileCall) × (start : PassState) × IsUnderWay call read.old list.old [] start pass.old }
-    ensures board { IsOf board.now pass.new }
-    ensures settled { IsSettled read.new }
-    ensures bare { holds_page read.new ≡ false }
-    ensures falls { read_measure board.now.opened.sizes read.new < read_measure board.now.opened.sizes read.old }
-    ensures way { (call : FileCall) (start : PassState) → IsUnderWay call read.old list.old [] start pass.old → IsUnderWay call read.new list.new [] start pass.new }
-{
-    let page = board.layout().page as usize;
-    let mut room = [0; MOST_PAGE];
-    let mut piece = [0; MOST_PAGE];
-    read.takes_any_room();
-    loop {
-        read.advance(board, pass, &mut room[..page], &mut piece[..page], list);
-        if !read.needs_rooms() {
-            read.takes_any_room();
-            return;
-        }
-    }
-}
 
 /// Reads from the file of a descriptor (POSIX.1-2017, pread): the bytes from the offset `at` on, as many as `buf` has, or fewer where the file ends
 /// before, come to the front of `buf`, and the answer tells how many they are, and the call's place in the history, which is how many calls stand
@@ -88,17 +54,7 @@ pub fn try_pread<L: Lines + Drop, B: Backing + Drop>(
     let len = buf.len() as u64;
     let file = admit(mount, Access::Reads, fd, at, len)?;
     let board = mount.board();
-    let mut read = RunningRead::new(board.layout(), file, at, len);
-    loop {
-        if let RunningRead::Over(result) = read {
-            return result;
-        }
-        if read.needs_rooms() {
-            load_in_rooms(board, pass, &mut read, buf);
-        } else {
-            read.advance(board, pass, &mut [], &mut [], buf);
-        }
-    }
+    RunningRead::new(board.layout(), file, at, len).run(board, pass, buf)
 }
 
 /// The same, made again as long as a lock is found held. It may wait for ever, so it returns only where the others give their locks back; then it is

@@ -11,7 +11,7 @@ ghost use Rattle.nv_calls.specs.reads.ReadMachines.{IsBegun, IsReadUnderWay, IsS
 
 use crate::Progress;
 use crate::admit::{Access, admit};
-use nv_cache::RunningRead;
+use nv_cache::{MOST_PAGE, RunningRead};
 use nv_core::{passes_are_left_alone, runs_are_sound};
 use nv_mirror::{Done, Refusal};
 use nv_mount::Mount;
@@ -19,9 +19,6 @@ use nv_op::Kind;
 use nv_pmem::Lines;
 use nv_store::Backing;
 use nv_table::{Board, Pass};
-
-/// How many bytes a page has at most.
-pub const MOST_PAGE: usize = 4096;
 
 /// Where it stands.
 #[derive(Clone, Copy, Debug, PartialEq, Eq)]

@@ -1,4 +1,4 @@
--- Histories: what a pass has seen is a first part of the history, which only grows.
+-- Histories: what a pass has seen is a first part of the history, and of each later one.
 use Rattle.std.proofs.Common.{ℕ, Bool, true, false, if◌then◌else◌, List, [], ◌∷◌, ◌++◌, length, nat_lt, refl, sym, subst, append-nil}
 use Rattle.nv_core.specs.state.Words.{Sizes}
 use Rattle.nv_core.specs.state.Passes.{Pass}
@@ -10,18 +10,15 @@ use Rattle.nv_core.specs.invariant.OneHistory.{IsPrefix}
 use Rattle.nv_core.proofs.state.Changes.{by_number}
 use Rattle.nv_core.proofs.steps.Inherits.{inherits}
 use Rattle.nv_core.proofs.steps.RunLaws.{after_parts}
+use Rattle.nv_core.proofs.invariant.HistoryLaws.{begins_all, grown}
 use Rattle.nv_core.specs.steps.Opening.{opening}
 use Rattle.nv_table.specs.state.Opened.{Opened, mount_of, state_of}
-use Rattle.nv_table.proofs.state.ViewLaws.{begins_on, begins_self}
+use Rattle.nv_table.proofs.state.ViewLaws.{begins_on}
 
 -- one of two
 chosen : {T : Type 0} (P : T → Type 0) (b : Bool) (one other : T) → P one → P other → P (if b then one else other)
 chosen P true one other here there = here
 chosen P false one other here there = there
-
--- what begins a first part begins the whole
-begins_all : {T : Type 0} (first middle whole : List T) → IsPrefix first middle → IsPrefix middle whole → IsPrefix first whole
-begins_all first middle whole one other = subst (IsPrefix first) (sym other.1) (begins_on first middle other.0 one)
 
 -- each pass has seen a first part
 abbrev AllSeen : Core → Type 0
@@ -48,19 +45,6 @@ seen_act sizes by core (CallsDevice work) all = by_number (λ n (p : Pass). IsPr
 seen_after_all : (sizes : Sizes) (core : Core) (run : List Event) → AllSeen core → AllSeen (after_run sizes core run)
 seen_after_all sizes core [] all = all
 seen_after_all sizes core (event ∷ later) all = seen_after_all sizes (after_event sizes event core) later (seen_act sizes event.by core event.act all)
-
--- ---- the history grows
-
-grown_act : (sizes : Sizes) (by : ℕ) (core : Core) (act : Act) → IsPrefix core.history (after_act sizes by act core).history
-grown_act sizes by core (BeginsCall call op found) = (added by ((after_begin sizes by call core).passes by) op, refl)
-grown_act sizes by core (TakesStep op found) = (added by (core.passes by) op, refl)
-grown_act sizes by core (CallsDevice work) = begins_self core.history
-
-grown : (sizes : Sizes) (core : Core) (run : List Event) → IsPrefix core.history (after_run sizes core run).history
-grown sizes core [] = begins_self core.history
-grown sizes core (event ∷ later) =
-    let next = after_event sizes event core in
-    begins_all core.history next.history (after_run sizes next later).history (grown_act sizes event.by core event.act) (grown sizes next later)
 
 -- ---- what a pass has seen begins the history of each longer run
 

@@ -50,6 +50,7 @@ pub struct FrontMachine<'a> {
 
 impl<'a> FrontMachine<'a> {
     /// The front of a call that is allowed and asks for some bytes. It has made no step yet.
+    #[inline(always)]
     pub fn new(layout: Layout, asked: Asked<'a>) -> Self
         requires allowed { IsAllowed (sizes_of layout) (call_asked asked) }
         requires some { 0 < len_of (call_asked asked) }
@@ -79,6 +80,7 @@ impl<'a> FrontMachine<'a> {
     }
 
     // The next step.
+    #[inline(always)]
     fn next(self, layout: Layout) -> Op
         requires { Fits (sizes_of layout) self }
         ensures { result ≡ front_op self.entry }
@@ -117,6 +119,7 @@ impl<'a> FrontMachine<'a> {
     }
 
     // And the call that it begins, if it does.
+    #[inline(always)]
     fn opens(self) -> Option<Asked<'a>>
         ensures { result ≡ front_opens self.entry }
     {
@@ -127,6 +130,7 @@ impl<'a> FrontMachine<'a> {
     }
 
     // It gives back so much.
+    #[inline(always)]
     fn refuse(self, size: bool, held: u64, refusal: Refusal) -> FrontMachine<'a>
         ensures { result ≡ refuse self.entry size held refusal }
     {
@@ -143,6 +147,7 @@ impl<'a> FrontMachine<'a> {
     }
 
     // It goes on there.
+    #[inline(always)]
     fn at(self, control: FrontControl) -> FrontMachine<'a>
         ensures { result ≡ record self.entry { control = control } }
     {
@@ -150,6 +155,7 @@ impl<'a> FrontMachine<'a> {
     }
 
     // It has one page more.
+    #[inline(always)]
     fn with_page(self, layout: Layout) -> FrontMachine<'a>
         requires { self.first + self.held < self.last }
         ensures { result ≡ locked (sizes_of layout) self.entry true }
@@ -168,6 +174,7 @@ impl<'a> FrontMachine<'a> {
     }
 
     // It has loaded LENGTH.
+    #[inline(always)]
     fn measured(self, layout: Layout, found: u64) -> FrontMachine<'a>
         ensures { result ≡ front_after_at (sizes_of layout) self.entry fronts.LoadLength found }
     {
@@ -185,6 +192,7 @@ impl<'a> FrontMachine<'a> {
     }
 
     // What it is after it.
+    #[inline(always)]
     fn after(self, layout: Layout, found: u64) -> FrontMachine<'a>
         requires { Fits (sizes_of layout) self }
         ensures { result ≡ front_after (sizes_of layout) self.entry found }
@@ -220,6 +228,7 @@ impl<'a> FrontMachine<'a> {
     }
 
     /// Makes the next step.
+    #[inline(always)]
     pub fn advance<L: Lines, B: Backing>(&mut self, board: &Board<L, B>, pass: &mut Pass<L, B>)
         requires board { IsOf board.now pass.old }
         requires open { IsOpen self.old.control }

@@ -36,6 +36,7 @@ fn put_part(list: &mut [u8], place: usize, room: &[u8], from: usize, size: usize
 
 impl FrontMachine<'_> {
     /// A read whose front is over, at its pages. Its list has as many bytes as it asks for.
+    #[inline(always)]
     pub fn visit(self, layout: Layout) -> VisitMachine
         requires passed { self.control ≡ fronts.Passed }
         requires fits { FitsFront (sizes_of layout) self }

@@ -35,6 +35,7 @@ pub struct ReleaseMachine<'a> {
 
 impl<'a> ReleaseMachine<'a> {
     // The next step.
+    #[inline(always)]
     fn next(self, layout: Layout) -> Op
         requires { Fits (sizes_of layout) self }
         ensures { result ≡ release_op self.entry }
@@ -57,6 +58,7 @@ impl<'a> ReleaseMachine<'a> {
     }
 
     // What it is after it.
+    #[inline(always)]
     fn after(self, layout: Layout) -> ReleaseMachine<'a>
         requires { Fits (sizes_of layout) self }
         ensures { result ≡ release_after self.entry }
@@ -74,6 +76,7 @@ impl<'a> ReleaseMachine<'a> {
     }
 
     /// Makes the next step.
+    #[inline(always)]
     pub fn advance<L: Lines, B: Backing>(&mut self, board: &Board<L, B>, pass: &mut Pass<L, B>)
         requires board { IsOf board.now pass.old }
         requires open { IsOpen self.old.control }

@@ -63,6 +63,7 @@ pub struct VisitMachine {
 
 // Where the buffer of a page that the pass owns is valid, copies its bytes from the offset `at` on into a list, from a place on, and no more than
 // `size`; and tells how many.
+#[inline(always)]
 fn copy_part<L: Lines, B: Backing>(
     board: &Board<L, B>,
     pass: &mut Pass<L, B>,
@@ -85,6 +86,7 @@ fn copy_part<L: Lines, B: Backing>(
 
 impl VisitMachine {
     // How many bytes there are to read.
+    #[inline(always)]
     pub(crate) fn covered(self) -> u64
         ensures { result ≡ covered (visit_call_of self) self.length }
     {
@@ -92,6 +94,7 @@ impl VisitMachine {
     }
 
     // Where one of its pages begins in its file: by products alone, since its first page is known.
+    #[inline(always)]
     fn begin_of(self, layout: Layout, page: u64) -> u64
         requires fits { Fits (sizes_of layout) self }
         requires own { self.first ≤ page }
@@ -102,6 +105,7 @@ impl VisitMachine {
     }
 
     // Whether a page has bytes of the reply.
+    #[inline(always)]
     fn has_bytes(self, layout: Layout, page: u64) -> bool
         requires fits { Fits (sizes_of layout) self }
         requires own { self.first ≤ page }
@@ -113,6 +117,7 @@ impl VisitMachine {
     }
 
     // Which bytes of a page belong to the reply: their offset in the page, and how many they are.
+    #[inline(always)]
     pub(crate) fn part_of(self, layout: Layout, page: u64) -> (usize, usize)
         requires fits { Fits (sizes_of layout) self }
         requires own { self.first ≤ page }
@@ -129,6 +134,7 @@ impl VisitMachine {
 
     // Copies what the buffers of pages have, from the first on whose bytes aren't in the list, as long as these are valid. The result is the first whose buffer isn't,
     // or the one behind the last that has bytes of the reply; and how many bytes are in front of the list then.
+    #[inline(always)]
     fn copy_on<L: Lines, B: Backing>(
         self,
         board: &Board<L, B>,
@@ -158,6 +164,7 @@ impl VisitMachine {
     }
 
     // Whether its page lacks a buffer, and there is one to be searched.
+    #[inline(always)]
     fn lacks<L: Lines, B: Backing>(self, board: &Board<L, B>, pass: &mut Pass<L, B>) -> bool
         requires board { IsOf board.now pass.old }
         requires way { (list : List ℕ) × (start : PassState) × Fits pass.old.view.opened.sizes self × IsInCall self visits.Look list start pass.old }
@@ -174,6 +181,7 @@ impl VisitMachine {
     }
 
     // What comes next, where the bytes of all pages before its own are in the list.
+    #[inline(always)]
     fn next_at<L: Lines, B: Backing>(
         self,
         board: &Board<L, B>,
@@ -200,6 +208,7 @@ impl VisitMachine {
 
     /// Looks at its pages: copies what their buffers have to the list, up to the first that isn't valid, and finds what comes next. That is no step. The list has as
     /// many bytes as the read asks for, the same at each call.
+    #[inline(always)]
     pub fn look<L: Lines, B: Backing>(
         &mut self,
         board: &Board<L, B>,
@@ -220,6 +229,7 @@ impl VisitMachine {
     }
 
     // What it gives back first.
+    #[inline(always)]
     fn first_given(self) -> ReleaseControl
         ensures { result ≡ (if self.sized then releases.GiveSize else releases.GivePage 0) }
     {
@@ -231,6 +241,7 @@ impl VisitMachine {
     }
 
     // The end of a read that has this place.
+    #[inline(always)]
     fn released(self, place: u64) -> ReleaseMachine<'static>
         ensures { result ≡ read_released self place }
     {
@@ -250,6 +261,7 @@ impl VisitMachine {
     }
 
     /// Takes the read's place in the history, with the reply that is in front of the list. What it holds is given back next.
+    #[inline(always)]
     pub fn take_place<L: Lines, B: Backing>(
         self,
         board: &Board<L, B>,

@@ -13,6 +13,7 @@ pub enum Asked<'a> {
 
 impl Asked<'_> {
     /// Its file.
+    #[inline(always)]
     pub fn file(self) -> u64
         ensures { result ≡ file_of (call_asked self.entry) }
     {
@@ -22,6 +23,7 @@ impl Asked<'_> {
     }
 
     /// Its offset in bytes; 0 for a sync.
+    #[inline(always)]
     pub fn at(self) -> u64
         ensures { result ≡ at_of (call_asked self.entry) }
     {
@@ -32,6 +34,7 @@ impl Asked<'_> {
     }
 
     /// How many bytes it asks for; 0 for a sync.
+    #[inline(always)]
     pub fn size(self) -> u64
         ensures { result ≡ len_of (call_asked self.entry) }
     {

@@ -48,6 +48,7 @@ pub enum Op {
 
 impl Op {
     // The word that it is made on.
+    #[inline(always)]
     fn word(self, layout: Layout) -> Word
         ensures { result ≡ word_of_op (sizes_of layout) self }
     {
@@ -73,6 +74,7 @@ impl Op {
     }
 
     // And its place.
+    #[inline(always)]
     pub(crate) fn place(self, layout: Layout) -> u64
         requires { IsWord (sizes_of layout) (core_word (word_of_op (sizes_of layout) self)) }
         ensures { result ≡ place (sizes_of layout) (core_word (word_of_op (sizes_of layout) self)) }
@@ -81,6 +83,7 @@ impl Op {
     }
 
     // What it makes of the word.
+    #[inline(always)]
     pub(crate) fn change(self) -> Change
         requires { SumIsSmall self }
         ensures { result ≡ change_of self }
@@ -103,6 +106,7 @@ impl Op {
     }
 
     // What it makes of the numbers that its pass has drawn.
+    #[inline(always)]
     pub(crate) fn marks(self, opens: Option<Asked<'_>>) -> Marks
         ensures { result ≡ marks_for opens.entry self }
     {
@@ -115,14 +119,16 @@ impl Op {
     }
 
     // The slot of the word's cell, if it keeps something.
+    #[inline(always)]
     fn slot(self, layout: Layout) -> Option<usize>
         requires { IsWord (sizes_of layout) (core_word (word_of_op (sizes_of layout) self)) }
         ensures { result ≡ slot_of_cell (sizes_of layout) (core_word (word_of_op (sizes_of layout) self)) }
     {
-        layout.slot(self.place(layout))
+        self.word(layout).slot(layout)
     }
 
     // And how it moves.
+    #[inline(always)]
     pub(crate) fn moves(self, layout: Layout) -> Moves
         requires { IsWord (sizes_of layout) (core_word (word_of_op (sizes_of layout) self)) }
         ensures { result ≡ moves_for self (slot_of_cell (sizes_of layout) (core_word (word_of_op (sizes_of layout) self))) }

@@ -14,6 +14,7 @@ use nv_table::{Board, Pass, Says, StepSpec, step};
 use std::marker::Brand;
 
 // A step, with what is so of the device calls before it.
+#[inline(always)]
 fn perform_by<E: StepSpec, L: Lines, B: Backing>(
     board: &Board<L, B>,
     pass: &mut Pass<L, B>,
@@ -43,6 +44,7 @@ fn perform_by<E: StepSpec, L: Lines, B: Backing>(
 
 /// Makes the step of an operation, where that is the pass's next one. A call begins by its first step, with what it asks for. The result is what
 /// the word was found at.
+#[inline(always)]
 pub fn perform<L: Lines, B: Backing>(
     board: &Board<L, B>,
     pass: &mut Pass<L, B>,

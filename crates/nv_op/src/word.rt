@@ -2,6 +2,7 @@
 ghost use Rattle.std.specs.Prelude.{◌≡◌};
 ghost use Rattle.nv_core.specs.state.Words.{IsWord, place};
 ghost use Rattle.nv_table.specs.state.Keys.{sizes_of};
+ghost use Rattle.nv_table.specs.state.Layout.{slot_of_cell};
 ghost use Rattle.nv_op.specs.Words.{core_word};
 
 use nv_table::{CLEANER, HAND, HEAD, HEADER, Layout, ORDER, STOP, TAIL};
@@ -28,6 +29,7 @@ pub enum Word {
 
 impl Word {
     // Where it stands.
+    #[inline(always)]
     pub(crate) fn place(self, layout: Layout) -> u64
         requires { IsWord (sizes_of layout) (core_word self) }
         ensures { result ≡ place (sizes_of layout) (core_word self) }
@@ -49,5 +51,21 @@ impl Word {
             Word::Cleanup { page } => layout.cleanup(page),
             Word::Dirty { page } => layout.dirty(page),
         }
+    }
+
+    // The slot of its cell, if that keeps something.
+    #[inline(always)]
+    pub(crate) fn slot(self, layout: Layout) -> Option<usize>
+        requires { IsWord (sizes_of layout) (core_word self) }
+        ensures { result ≡ slot_of_cell (sizes_of layout) (core_word self) }
+    {
+        let slot = match self {
+            Word::Header => 0,
+            Word::Entry { slot } => 1 + slot,
+            Word::Store { file } => 1 + layout.entries + file,
+            Word::Page { page } => 1 + layout.entries + layout.files + page,
+            _ => return None,
+        };
+        Some(slot as usize)
     }
 }

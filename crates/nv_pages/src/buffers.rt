@@ -16,6 +16,7 @@ use nv_store::Backing;
 use nv_table::{Board, PageBuffer, Pass, Slot, exchange};
 
 // Copies the bytes of a slot's buffer from an offset on, where it is valid.
+#[inline(always)]
 fn copy_from<L: Lines, B: Backing>(held: &Slot<L, B>, at: usize, into: &mut [u8]) -> Option<usize>
     ensures { IsCopied (slot_value (part_value L.device L.history L.fault_count L.room) (store_value B.device B.history B.fault_count) held.now) at into.old into.new result }
 {
@@ -32,6 +33,7 @@ fn copy_from<L: Lines, B: Backing>(held: &Slot<L, B>, at: usize, into: &mut [u8]
 }
 
 // Whether a slot is a place for a buffer, and holds none.
+#[inline(always)]
 fn is_empty_place<L: Lines, B: Backing>(held: &Slot<L, B>) -> bool
     ensures { result ≡ lacks (slot_value (part_value L.device L.history L.fault_count L.room) (store_value B.device B.history B.fault_count) held.now) }
 {
@@ -98,6 +100,7 @@ fn rob<L: Lines, B: Backing>(victim: &mut Slot<L, B>, page: &mut Slot<L, B>)
 
 /// Where the buffer of a page that the pass owns is valid, copies its bytes from the offset `at` on to the front of `into`, as many as
 /// there are and as there is room for, and tells how many. Else nothing is copied.
+#[inline(always)]
 pub fn copy_page<L: Lines, B: Backing>(
     board: &Board<L, B>,
     pass: &mut Pass<L, B>,
@@ -119,6 +122,7 @@ pub fn copy_page<L: Lines, B: Backing>(
 }
 
 /// Whether a page that the pass owns lacks a buffer.
+#[inline(always)]
 pub fn lacks_buffer<L: Lines, B: Backing>(
     board: &Board<L, B>,
     pass: &mut Pass<L, B>,

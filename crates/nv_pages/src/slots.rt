@@ -14,6 +14,7 @@ use nv_store::Backing;
 use nv_table::{Board, Pass, Slot, exchange};
 
 // The slot of a page's buffer.
+#[inline(always)]
 pub(crate) fn slot_of_page<L: Lines, B: Backing>(board: &Board<L, B>, page: u64) -> usize
     requires { page < page_total board.now.opened.sizes }
     ensures { result ≡ page_slot board.now.opened.sizes page }
@@ -40,6 +41,7 @@ pub(crate) fn slot_of_entry<L: Lines, B: Backing>(board: &Board<L, B>, number: u
 }
 
 // Puts something into a slot that the pass owns, whose content is away.
+#[inline(always)]
 pub(crate) fn put<L: Lines, B: Backing>(
     board: &Board<L, B>,
     pass: &mut Pass<L, B>,

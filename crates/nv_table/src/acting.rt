@@ -56,6 +56,7 @@ impl<E: StepSpec, S: Shown> Play<S, View> for Acting<E, S> {
 }
 
 /// One step of a kind on the word at a place.
+#[inline(always)]
 pub(crate) fn act<E: StepSpec, S: Shown>(
     shared: &Shared<S, View, Snapshot<Opening<S>>, TableInvariantRule<S>>,
     seat: &mut Seat<S, View>,

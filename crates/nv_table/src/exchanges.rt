@@ -11,6 +11,7 @@ use nv_store::Backing;
 
 /// Takes what a slot holds that the pass owns, and puts something else into it: a device is called while its slot holds
 /// `Slot::Away`, and then comes back. No step is made, and no memory taken.
+#[inline(always)]
 pub fn exchange<L: Lines, B: Backing>(
     board: &Board<L, B>,
     pass: &mut Pass<L, B>,

@@ -1,5 +1,5 @@
 //! The passes: each thread's own, with which it steps.
-ghost use Rattle.std.specs.Prelude.{◌≡◌, ◌≢◌, ℕ, ◌<◌, ◌≤◌, ◌++◌, [], take, drop, length, slice_index, Some};
+ghost use Rattle.std.specs.Prelude.{◌≡◌, ◌≢◌, ℕ, ◌<◌, ◌≤◌, ◌++◌, [], take, drop, length, slice_index, vec_capacity, Some};
 ghost use Rattle.nv_core.specs.steps.Opening.{IsMount};
 ghost use Rattle.nv_table.specs.steps.SeatSteps.{IsFirst};
 ghost use Rattle.nv_table.specs.passes.PassesMade.{IsShownStill};
@@ -67,6 +67,7 @@ pub(crate) fn or_else(one: Option<u64>, other: Option<u64>) -> Option<u64>
 }
 
 // Where a slot first stands among some; behind the last where it doesn't.
+#[inline(always)]
 fn place_of(held: &[usize], slot: usize) -> usize
     ensures within { result ≤ length held.now }
     ensures found { result < length held.now → slice_index held.now result ≡ slot }
@@ -80,6 +81,7 @@ fn place_of(held: &[usize], slot: usize) -> usize
 }
 
 // The slots stand in the same order, from a later one on.
+#[inline(always)]
 fn turn<S>(seat: &mut Seat<S, View>, count: usize)
     requires { count ≤ length seat.old.me.1 }
     ensures table { seat.new.table_id ≡ seat.old.table_id }
@@ -88,6 +90,18 @@ fn turn<S>(seat: &mut Seat<S, View>, count: usize)
 {
     for _ in 0..count {
         seat.turn();
+    }
+}
+
+// The numbers of the slots that a pass owns turn likewise. Mostly it owns one, and nothing moves.
+#[inline(always)]
+pub(crate) fn turn_held(held: &mut Vec<usize>, count: usize)
+    requires { count ≤ length held.old.items }
+    ensures items { held.new.items ≡ drop count held.old.items ++ take count held.old.items }
+    ensures capacity { vec_capacity held.new ≡ vec_capacity held.old }
+{
+    if count > 0 && count < held.len() {
+        held.rotate_left(count);
     }
 }
 
@@ -131,6 +145,7 @@ impl<L: Lines, B: Backing> Pass<L, B> {
     }
 
     // A slot that it owns comes to the front.
+    #[inline(always)]
     pub(crate) fn bring(&mut self, slot: usize)
         requires { slot_times slot self.old.now ≡ 1 }
         ensures same { SameButTurned self.old self.new }
@@ -138,6 +153,6 @@ impl<L: Lines, B: Backing> Pass<L, B> {
     {
         let place = place_of(&self.held, slot);
         turn(&mut self.seat, place);
-        self.held.rotate_left(place);
+        turn_held(&mut self.held, place);
     }
 }

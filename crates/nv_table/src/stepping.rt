@@ -11,6 +11,7 @@ ghost use Rattle.nv_table.specs.declared.stepping.Moves.TheVariants.{Goes};
 
 use crate::acting::act;
 use crate::laws::laws_of_the_core;
+use crate::pass::turn_held;
 use crate::{Board, Change, Pass, Slot, StepSpec};
 use nv_pmem::Lines;
 use nv_store::Backing;
@@ -30,6 +31,7 @@ pub enum Moves {
 
 impl Moves {
     // The slot that comes, where the word was found so.
+    #[inline(always)]
     fn coming(self, found: u64) -> Option<usize>
         ensures { comes_by (shift_said self found) ≡ result }
     {
@@ -56,6 +58,7 @@ pub enum Marks {
 
 impl Marks {
     // The first number of the open write of its pass then, or else of its faulted one.
+    #[inline(always)]
     fn drawn(self, change: Change, found: u64, drawn: Option<u64>, lost: Option<u64>) -> Option<u64>
         ensures { result ≡ drawn_then self change found drawn lost }
     {
@@ -67,6 +70,7 @@ impl Marks {
     }
 
     // And that of its faulted one alone.
+    #[inline(always)]
     fn lost(self, drawn: Option<u64>, lost: Option<u64>) -> Option<u64>
         ensures { result ≡ lost_then self drawn lost }
     {
@@ -78,6 +82,7 @@ impl Marks {
 }
 
 /// One step of a kind, on the word at a place, which moves a slot or none, and marks what its pass has drawn.
+#[inline(always)]
 pub fn step<E: StepSpec, L: Lines, B: Backing>(
     board: &Board<L, B>,
     pass: &mut Pass<L, B>,
@@ -104,7 +109,7 @@ pub fn step<E: StepSpec, L: Lines, B: Backing>(
             let (drawn, lost) = (pass.drawn, pass.lost);
             pass.drawn = marks.drawn(change, found, drawn, lost);
             pass.lost = marks.lost(drawn, lost);
-            pass.held.rotate_left(1);
+            turn_held(&mut pass.held, 1);
             pass.held.pop();
             found
         }
@@ -116,7 +121,7 @@ pub fn step<E: StepSpec, L: Lines, B: Backing>(
             if let Some(slot) = moves.coming(found) {
                 let len = pass.held.len();
                 pass.held.push_reserved(slot);
-                pass.held.rotate_left(len);
+                turn_held(&mut pass.held, len);
             }
             found
         }

@@ -106,7 +106,7 @@ made_stays (step ∷ earlier) start now made seen = taken_stays step made.0 now 
 taken_opened : (step : PassStep) (old new : PassState) → HasTaken step old new → new.view.opened ≡ old.view.opened
 taken_opened step old new taken = ap (λ (view : PassView). view.opened) (taken.stepped.steps.is) ∙ ap (λ (view : PassView). view.opened) taken.between.view
 
-made_opened : (steps : List PassStep) (start now : PassState) → HasMade steps start now → now.view.opened ≡ start.view.opened
+pub made_opened : (steps : List PassStep) (start now : PassState) → HasMade steps start now → now.view.opened ≡ start.view.opened
 made_opened [] start now same = ap (λ (p : PassState). p.view.opened) same
 made_opened (step ∷ earlier) start now made = taken_opened step made.0 now made.2 ∙ made_opened earlier start made.0 made.1
 
@@ -213,7 +213,7 @@ range_tells sizes at len =
     let long = nat_lt (min version_1.group_limit sizes.entries) (pages_touched at len sizes.page) in
     tells_neither (nat_lt (sizes.page * sizes.pages) (at + len)) (Some TooFar) (if long then Some TooLong else None) refl (tells_neither long (Some TooLong) None refl refl)
 
-early_tells : (may : Mode → Bool) (sizes : Sizes) (fd : Option Fd) (at len : ℕ) → refusal_tells (early_fd_refusal may sizes fd at len) ≡ false
+pub early_tells : (may : Mode → Bool) (sizes : Sizes) (fd : Option Fd) (at len : ℕ) → refusal_tells (early_fd_refusal may sizes fd at len) ≡ false
 early_tells may sizes None at len = refl
 early_tells may sizes (Some one) at len = tells_neither (may one.mode) (early_range_refusal sizes at len) (Some BadFd) (range_tells sizes at len) refl
 
@@ -222,7 +222,7 @@ stopped_is (Ok done) is = absurd (cc)
 stopped_is (Err refusal) is = let same : refusal ≡ Stopped = cc in ap Err same
 
 -- a refusal that tells nothing of STOP is no device fault
-untold_mild : (refusal : Option Refusal) → refusal_tells refusal ≡ false → is_fault refusal ≡ false
+pub untold_mild : (refusal : Option Refusal) → refusal_tells refusal ≡ false → is_fault refusal ≡ false
 untold_mild (Some RegionFault) silent = absurd (cc)
 untold_mild (Some StoreFault) silent = absurd (cc)
 untold_mild refusal silent = refl

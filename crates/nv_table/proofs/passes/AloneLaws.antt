@@ -141,7 +141,7 @@ module _ (sound : RunsAreSound) (tell : OwnEventsTell) where
   -- ---- locks
 
   -- in what pass 0 has seen no other pass holds a cell
-  nobody_holds : (view : PassView) → IsMount (mount_of view.opened) → KnowsTaken view → IsAlone view → IsRunOf view.opened view.run
+  pub nobody_holds : (view : PassView) → IsMount (mount_of view.opened) → KnowsTaken view → IsAlone view → IsRunOf view.opened view.run
       → (cell : Word) (number : ℕ) → number ≢ 0 → times cell ((state_of view.opened view.run).passes number).owned ≡ 0
   nobody_holds view mount knows alone run cell number ne = elim (cases_lt (made_of view) number) [
     | inl high ↦ ap (times cell) ((sound (mount_of view.opened) view.run mount run).numbers.unborn number high).owned
@@ -153,7 +153,7 @@ module _ (sound : RunsAreSound) (tell : OwnEventsTell) where
   ]
 
   -- nor where the step is made
-  none_holds : (old new : PassState) (opens : Option FileCall) (op : Op) (found : ℕ) → IsMount (mount_of old.view.opened) → KnowsTaken old.view → IsAlone old.view
+  pub none_holds : (old new : PassState) (opens : Option FileCall) (op : Op) (found : ℕ) → IsMount (mount_of old.view.opened) → KnowsTaken old.view → IsAlone old.view
       → (stepped : Postcondition old opens op found new) → (at : IsMadeAt old.view stepped.steps.run stepped.works opens op found) → (cell : Word) (number : ℕ) → number ≢ old.view.number
       → times cell (at.core.passes number).owned ≡ 0
   none_holds old new opens op found mount knows alone stepped at cell number ne =

@@ -64,7 +64,7 @@ pub invariant_of-pass : goal.invariant_of-pass
 invariant_of-pass g c =
     let inside = c.pass-in-Goes.inside in
     let shown = slot_value (part_value g.L.Lines.device g.L.Lines.history g.L.Lines.fault_count g.L.Lines.room) (store_value g.B.Backing.device g.B.Backing.history g.B.Backing.fault_count) in
-    rw (c.drawn-pass-inside.ensures, c.lost-pass-inside.ensures, c.pop.ensures.rest, c.pop.ensures.capacity, c.rotate_left.new.self.ok.0, c.rotate_left.ensures.items, c.rotate_left.ensures.capacity, struck_out inside.held.items) (
+    rw (c.drawn-pass-inside.ensures, c.lost-pass-inside.ensures, c.pop.ensures.rest, c.pop.ensures.capacity, c.turn_held.new.held.ok.0, c.turn_held.ensures.items, c.turn_held.ensures.capacity, struck_out inside.held.items) (
       step_keeps c.args.pass.now inside.seat.me inside.number inside.made inside.joined inside.held.items (vec_capacity inside.held) g.E.StepSpec.opens g.E.StepSpec.op
           (ap (λ (p : PassState). p.view) c.pass-in-Goes.view_is ∙ c.bring.ensures.same.view) c.pass-in-Goes.invariant.0 c.laws_of_the_core.ensures shown c.args.place c.args.change c.args.marks c.act-found.result c.act-found.new.seat.me (Out c.in-Goes.slot)
           c.requires.next.0 c.requires.marks c.requires.head c.act-found.ensures.acted.0 (goes_out c.in-Goes.is c.requires.moves c.act-found.result),
@@ -128,8 +128,8 @@ invariant_of-pass-in-Some g c =
     rw (
       c.drawn-pass-inside-in_default.ensures,
       c.lost-pass-inside-in_default.ensures,
-      c.rotate_left-in-Some.ensures.items,
-      c.rotate_left-in-Some.ensures.capacity,
+      c.turn_held-in-Some.ensures.items,
+      c.turn_held-in-Some.ensures.capacity,
       c.push_reserved.ensures.items,
       c.push_reserved.ensures.capacity,
       written_first c.pass-in_default.inside.held.items c.in-Some.slot c.len-len.result (c.len-len.ensures ∙ c.pass-in_default.inside.held.ok.0),

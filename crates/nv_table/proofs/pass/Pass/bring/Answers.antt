@@ -17,7 +17,7 @@ turn-requires g c =
 
 pub invariant_of-self : goal.invariant_of-self
 invariant_of-self g c =
-    rw (c.turn.ensures.slots, c.rotate_left.ensures.items, c.rotate_left.ensures.capacity) (
+    rw (c.turn.ensures.slots, c.turn_held.ensures.items, c.turn_held.ensures.capacity) (
       pass_turned c.self.inside.seat.me.0 c.self.inside.seat.me.1 c.self.inside.number c.self.inside.made c.self.inside.joined c.self.inside.held.items
           (Rattle.std.specs.Vec.vec_capacity c.self.inside.held) c.place_of-place.result c.self.invariant.0,
       c.self.invariant.1,

@@ -3,7 +3,7 @@ use Rattle.std.proofs.Common.{◌≡◌, ◌≤◌, [], length, take, true}
 use Rattle.nv_plain.specs.declared.call.FileCall.{FileCall}
 use Rattle.nv_table.specs.state.States.{IsOf, PassState}
 use Rattle.nv_cache.specs.RunningReads.{IsSettled, IsUnderWay, needs_rooms, read_measure}
-use Rattle.nv_calls.proofs.read.load_in_rooms.Given as goal
+use Rattle.nv_cache.proofs.read_run.load_in_rooms.Given as goal
 
 abbrev pub invariant-loop-room : goal.invariant-loop-room
 invariant-loop-room g l = record {
