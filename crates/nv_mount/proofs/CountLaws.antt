@@ -29,7 +29,7 @@ risen before now more more_now rose rest =
     let b = rose.more in
     record { never_falls = omega (arith, a, rest); more = omega (arith, a, b, rest) }
 
-sums_rise : (xs ys : List Value) → ((i : ℕ) → i < length xs → faults_of (get_or xs i Bare) ≤ faults_of (get_or ys i Bare)) → sum_by faults_of xs ≤ sum_by faults_of ys
+pub sums_rise : (xs ys : List Value) → ((i : ℕ) → i < length xs → faults_of (get_or xs i Bare) ≤ faults_of (get_or ys i Bare)) → sum_by faults_of xs ≤ sum_by faults_of ys
 sums_rise [] ys each = omega arith
 sums_rise (x ∷ xs) [] each =
     let first = each 0 (omega arith) in

@@ -26,13 +26,15 @@ use Rattle.nv_core.specs.crash.CrashImages.{StoresQuiet, OpensRegion}
 use Rattle.nv_core.specs.crash.RegionsAtRest.{KeepRow, RegionsAtRestOpen}
 use Rattle.nv_table.specs.declared.slot.PageBuffer.{PageBuffer}
 use Rattle.nv_table.specs.state.SlotValues.{present, part_value, store_value, buffer_value, slot_value}
-use Rattle.nv_table.specs.state.Opened.{Opened, mount_of}
+use Rattle.nv_table.specs.state.Opened.{Opened, held_in, mount_of}
 use Rattle.nv_table.specs.ends.OpeningSlots.{IsFreshBuffer, AreOpeningSlots}
 use Rattle.nv_table.specs.state.States.{PassState}
+use Rattle.nv_core.proofs.log.ImageLaws.{part_one}
+use Rattle.nv_table.proofs.state.LayoutLaws.{slot_there}
 use Rattle.nv_table.proofs.state.ShapeLaws.{each_held, held_part, held_store, no_store}
 use Rattle.nv_mount.specs.declared.fds.Fd.{Fd}
 use Rattle.nv_mount.specs.Mounts.{MountState, AreLengths, IsOpened}
-use Rattle.nv_mount.specs.Telling.{IsSeen, StoresHave}
+use Rattle.nv_mount.specs.Telling.{HasLongParts, IsSeen, StoresHave}
 
 -- ---- what stores tell
 
@@ -216,3 +218,11 @@ module _ {L B : Type 0} (device : L → ℕ) (history : L → PartHistory) (faul
         let both = opens (mount_of opened) names states at_rest keep_row (names_many ∙ sym (ap (λ (s : Sizes). s.files) is.begun.sizes_are))
         (omega (arith, pages, few_pages)) (stores_quiet quiet) in
         both.1
+
+    pub has_long_parts : HasLongParts (mount_of opened)
+    has_long_parts slot one least is =
+        let place = slot_there opened.sizes slot (omega (arith, least)) in
+        let here : IsPart (get_or opened.slots slot Bare) one = subst (λ place. IsPart (held_in opened.slots place) one) place.0 is in
+        let same = part_one (get_or opened.slots slot Bare) (get_or states slot []) one (part_at slot least) here in
+        let enough = lines slot least in
+        omega (arith, enough, ap (λ (p : Part). length p) same)

@@ -26,7 +26,7 @@ use Rattle.nv_table.proofs.passes.BetweenLaws.{puts_opened, puts_ended}
 use Rattle.nv_mount.specs.declared.fds.Fd.{Fd}
 use Rattle.nv_mount.specs.Mounts.{MountState, IsOpened}
 use Rattle.nv_mount.specs.RisenCounts.{SawStop, failed_before}
-use Rattle.nv_mount.proofs.CountLaws.{risen, sum_rose, parts_count, slots_count, grew, stopped_risen}
+use Rattle.nv_mount.proofs.CountLaws.{risen, sum_rose, sums_rise, parts_count, slots_count, grew, stopped_risen}
 
 puts_stopped : (cells : List (Word × ℕ)) (old new : PassView) → PutsBack cells old new → (pass_of new).stopped ≡ (pass_of old).stopped
 puts_stopped [] old new back = ap (λ (v : PassView). (pass_of v).stopped) back
@@ -100,13 +100,23 @@ module _ {L B : Type 0} (device : L → ℕ) (history : L → PartHistory) (faul
     each : (slot : ℕ) → slot < slot_total pass.view.opened.sizes → get_or held slot Bare ≡ core.values (cell_of pass.view.opened.sizes slot)
     each = subst (λ (o : Opened). (slot : ℕ) → slot < slot_total o.sizes → get_or held slot Bare ≡ (state_of o closed.whole.run).values (cell_of o.sizes slot)) same closed.whole.each
 
+    -- what each slot held then has failed no less often than what it held at opening
+    each_grew : (slot : ℕ) → slot < length pass.view.opened.slots → faults_of (get_or pass.view.opened.slots slot Bare) ≤ faults_of (get_or held slot Bare)
+    each_grew slot less =
+        subst (λ v. faults_of (get_or pass.view.opened.slots slot Bare) ≤ faults_of v) (sym (each slot (omega (arith, many, less))))
+        (grew sound others words pass.view.opened mount closed.whole.run is_run many slot (omega (arith, many, less)))
+
+    pub counts_grew : failed_before pass ≤ sum_by faults parts + sum_by store_faults stores
+    counts_grew =
+        let slots = sums_rise pass.view.opened.slots held each_grew in
+        let all = counted (1 + board.opened.sizes.entries) parts stores closed.buffers held pass.spare refl closed.same_spare in
+        omega (arith, slots, all)
+
     pub counts_rose : SawStop pass.view → Rose (failed_before pass) (sum_by faults parts + sum_by store_faults stores)
     counts_rose saw =
         let one = stopped_risen sound others words pass.view.opened mount closed.whole.run is_run many (is_stopped saw) in
         let slots = sum_rose pass.view.opened.slots held
-        (λ i less. subst (λ v. faults_of (get_or pass.view.opened.slots i Bare) ≤ faults_of v) (sym (each i (omega (arith, many, less))))
-        (grew sound others words pass.view.opened mount closed.whole.run is_run many i (omega (arith, many, less))))
-        one.slot (omega (arith, many, one.within))
+        each_grew one.slot (omega (arith, many, one.within))
         (subst (λ v. Rose (faults_of (get_or pass.view.opened.slots one.slot Bare)) (faults_of v)) (sym (each one.slot one.within)) one.rose) in
         subst (Rose (failed_before pass)) (counted (1 + board.opened.sizes.entries) parts stores closed.buffers held pass.spare refl closed.same_spare)
         (risen (sum_by faults_of pass.view.opened.slots) (sum_by faults_of held) (sum_by faults_of pass.spare) (sum_by faults_of pass.spare) slots (omega arith))

@@ -16,10 +16,11 @@ use Rattle.nv_core.specs.crash.CrashImages.{OpensRegion}
 use Rattle.nv_core.specs.log.LivePieces.{calls_of}
 use Rattle.nv_core.specs.log.LogContent.{OpensLog}
 use Rattle.nv_table.specs.invariant.Idle.{TakenHoldNothing}
-use Rattle.nv_table.specs.state.Opened.{mount_of, state_of}
+use Rattle.nv_table.specs.state.Opened.{mount_of}
 use Rattle.nv_table.specs.state.Views.{PassView, pass_of}
 use Rattle.nv_mount.specs.LoneWords.{word_then}
 use Rattle.nv_mount.specs.Telling.{StoresHave}
+use Rattle.nv_mount.specs.WholeRuns.{history_then}
 
 -- A pass has left the log empty: no cell is held by it or by one that it took in, and after its last step TAIL is HEAD and STOP is 0.
 pub record HasEmptiedLog (view : PassView) : Type 0 where
@@ -38,7 +39,7 @@ pub record AreAtRest (sizes : Sizes) (names : List (List ℕ)) (files : Files) (
 
 -- the files after the history as a pass saw it last
 abbrev pub files_then : PassView → Files → Files
-files_then view files = after_calls (calls_of (state_of view.opened view.run).history) files
+files_then view files = after_calls (calls_of (history_then view)) files
 
 -- Where pass 0 has left the log of a mount empty, the stores that come out have the files after the history, and stores and parts are at rest.
 abbrev pub RestsWhereEmpty : PassView → (parts : List PartHistory) (stores : List StoreHistory) (tail : ℕ) → Type 0

@@ -6,3 +6,5 @@ pub mod ClosedFiles
 pub mod RisenCounts
 pub mod ClosedAtRest
 pub mod LoneWords
+pub mod WholeRuns
+pub mod WholeWrites

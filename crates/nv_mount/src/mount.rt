@@ -19,12 +19,14 @@ ghost use Rattle.nv_mount.specs.ClosedAtRest.{HasEmptiedLog, RestsWhereEmpty};
 ghost use Rattle.nv_mount.specs.ClosedFiles.{ReadAsFiles};
 ghost use Rattle.nv_mount.specs.OneHistories.{HasOneHistory};
 ghost use Rattle.nv_mount.specs.RisenCounts.{SawStop, failed_before};
-ghost use Rattle.nv_mount.specs.Telling.{AllDevicesTell, StoresHave};
+ghost use Rattle.nv_mount.specs.Telling.{AllDevicesTell, DevicesGoOnTelling, HasLongParts, IsTelling, KeepLines, StoresHave};
+ghost use Rattle.nv_mount.specs.WholeRuns.{IsWholeRun};
+ghost use Rattle.nv_mount.specs.WholeWrites.{CrashesLeaveWholeWrites};
 
 use crate::{Fds, OpenError, PassesOut, Unopened};
 use nv_core::{
     crashes_leave_whole_writes, empty_logs_rest, passes_are_left_alone, regions_at_rest_open,
-    runs_are_sound, runs_keep_content, runs_keep_the_log,
+    runs_are_sound, runs_keep_content, runs_keep_the_log, writes_in_flight_keep_apart,
 };
 use nv_header::Region;
 use nv_pmem::{Lines, rows_have_states};
@@ -95,6 +97,8 @@ impl<L: Lines + Drop, B: Backing + Drop> Mount<L, B> {
         ensures log { IfOk result (λ made. AllDevicesTell (map L.history region.parts.items) → OpensLog (mount_of made.0.board.opened) region.next) }
         ensures region { IfOk result (λ made. AllDevicesTell (map L.history region.parts.items) → OpensRegion (mount_of made.0.board.opened) region.names) }
         ensures empty { IfOk result (λ made. HasEmptiedLog made.1.view) }
+        ensures long { IfOk result (λ made. AllDevicesTell (map L.history region.parts.items) → HasLongParts (mount_of made.0.board.opened)) }
+        ensures spare { IfOk result (λ made. AllDevicesTell (map L.history region.parts.items) → All IsTelling made.1.spare) }
         ensures counts { IfOk result (λ made. failed_before made.1 ≡ sum_by L.fault_count region.parts.items + sum_by B.fault_count stores.items) }
         ensures parts_back { IfErr result (λ failed. failed.region.parts.items ≡ region.parts.items) }
         ensures geometry_back { IfErr result (λ failed. failed.region.geometry ≡ region.geometry) }
@@ -142,10 +146,13 @@ impl<L: Lines + Drop, B: Backing + Drop> Mount<L, B> {
     }
 
     /// Ends the mount by pass 0, whatever it is at: what it owns goes home first. Where it has made more passes than it has taken in,
-    /// mount and pass come back unchanged. The calls of all passes have one history, as long as `placed` says. Where one of the passes saw STOP
-    /// set, the devices that come out have failed more often than when the mount was opened. Where no pass holds a cell, the log is empty and
-    /// STOP is 0, over stores and parts that tell the stores have all files and are durable, and the parts are a region at rest. No device call
-    /// may have come since the pass's last step. Takes no memory.
+    /// mount and pass come back unchanged. What the pass has seen is the whole run then, and what comes out is told over it: the calls of
+    /// all passes have one history, as long as `placed` says. The devices that come out have failed no less often than when the mount was
+    /// opened, and more often where one of the passes saw STOP set; and where all devices told then, all that come out tell,
+    /// and no part has more or fewer lines. Over stores and parts that tell, whatever a power failure leaves of them recovers to the
+    /// files after the history and then some of the writes in flight, each whole; where no pass holds a cell, these are writes that faults
+    /// ended, and where the log is empty and STOP is 0 too, the stores have all files and are durable, and the parts are a region at rest.
+    /// No device call may have come since the pass's last step. Takes no memory.
     pub fn close(
         self,
         pass: Pass<L, B>,
@@ -157,10 +164,16 @@ impl<L: Lines + Drop, B: Backing + Drop> Mount<L, B> {
         ensures closed { IfOk result (λ closed. IsClosed L.device B.device
             (slot_value (part_value L.device L.history L.fault_count L.room) (store_value B.device B.history B.fault_count))
             self.board pass closed.parts.items closed.stores.items closed.placed closed.tail) }
+        ensures whole { IfOk result (λ closed. IsWholeRun pass.view (map (part_value L.device L.history L.fault_count L.room) closed.parts.items)
+            (map (store_value B.device B.history B.fault_count) closed.stores.items) closed.placed closed.tail) }
         ensures history { IfOk result (λ closed. HasOneHistory pass.view closed.placed) }
         ensures files { IfOk result (λ closed. ReadAsFiles pass.view (map B.history closed.stores.items) closed.tail) }
         ensures rest { IfOk result (λ closed. RestsWhereEmpty pass.view (map L.history closed.parts.items) (map B.history closed.stores.items) closed.tail) }
+        ensures crash { IfOk result (λ closed. CrashesLeaveWholeWrites pass.view (map L.history closed.parts.items) (map B.history closed.stores.items)) }
+        ensures telling { IfOk result (λ closed. DevicesGoOnTelling pass (map L.history closed.parts.items) (map B.history closed.stores.items)) }
+        ensures lines { IfOk result (λ closed. KeepLines pass.view (map L.history closed.parts.items)) }
         ensures stopped { IfOk result (λ closed. SawStop pass.view → Rose (failed_before pass) (sum_by L.fault_count closed.parts.items + sum_by B.fault_count closed.stores.items)) }
+        ensures grew { IfOk result (λ closed. failed_before pass ≤ sum_by L.fault_count closed.parts.items + sum_by B.fault_count closed.stores.items) }
         ensures out { IfErr result (λ failed. length pass.view.ended < made_of pass.view) }
         ensures mount_back { IfErr result (λ failed. failed.0 ≡ self) }
         ensures pass_back { IfErr result (λ failed. failed.1 ≡ pass) }
@@ -179,6 +192,7 @@ impl<L: Lines + Drop, B: Backing + Drop> Mount<L, B> {
         runs_keep_the_log();
         passes_are_left_alone();
         crashes_leave_whole_writes();
+        writes_in_flight_keep_apart();
         empty_logs_rest();
         rows_have_states();
         pass.sees_a_run();

@@ -1,0 +1,75 @@
+-- Whole writes: what a power failure leaves of the parts and stores that come out of a mount that is closed.
+use Rattle.std.specs.Prelude.{◌≡◌, ℕ, ◌≤◌, ◌==◌, ◌&&◌, ◌||◌, nat_lt, Bool, true, List, [], ◌∷◌, ◌++◌, map, filter, IsPermutation}
+use Rattle.std.specs.List.{flat_map, list_any}
+use Rattle.nv_plain.specs.Files.{Files}
+use Rattle.nv_plain.specs.Images.{Image}
+use Rattle.nv_plain.specs.Layouts.{version_1}
+use Rattle.nv_plain.specs.Recovered.{Fits, recovered}
+use Rattle.nv_plain.specs.declared.call.FileCall.{FileCall}
+use Rattle.nv_pmem.specs.Rows.{RowTells, InEachRowImage}
+use Rattle.nv_pmem.specs.Steps.{PartHistory}
+use Rattle.nv_store.specs.Steps.{StoreHistory}
+use Rattle.nv_header.specs.Regions.{ReadsAs}
+use Rattle.nv_recover.specs.Standing.{AreStoreImages}
+use Rattle.nv_core.specs.state.Passes.{Control, SeizeEntry, CommitGroup, PledgePage, ReadyEntry, TakePlace, SetStopAfterCommit, Fault, Pass, IsOneOf, is_write}
+use Rattle.nv_core.specs.steps.PassSteps.{fault_of}
+use Rattle.nv_core.specs.content.Content.{Opens}
+use Rattle.nv_core.specs.crash.CommutingWrites.{after_calls}
+use Rattle.nv_core.specs.crash.CrashImages.{OpensRegion}
+use Rattle.nv_core.specs.log.LogContent.{OpensLog}
+use Rattle.nv_table.specs.invariant.Idle.{TakenHoldNothing}
+use Rattle.nv_table.specs.passes.Seats.{past_of}
+use Rattle.nv_table.specs.state.Opened.{mount_of}
+use Rattle.nv_table.specs.state.Views.{PassView, pass_of, past_pass}
+use Rattle.nv_mount.specs.ClosedAtRest.{files_then}
+
+-- The call that a pass has at hand where it is in flight, past its draw and neither placed nor ended by a fault, as a fault would keep it. One that is
+-- placed next may be no write; it counts for nothing then.
+abbrev pub at_hand : Pass → Control → List Fault
+at_hand pass (SeizeEntry number) = fault_of pass ∷ []
+at_hand pass (CommitGroup calls) = fault_of pass ∷ []
+at_hand pass (PledgePage page) = fault_of pass ∷ []
+at_hand pass (ReadyEntry number) = fault_of pass ∷ []
+at_hand pass TakePlace = fault_of pass ∷ []
+at_hand pass SetStopAfterCommit = fault_of pass ∷ []
+at_hand pass control = []
+
+-- the calls that faults ended, of pass 0 and then of each pass that it took in
+abbrev pub faults_then : PassView → List Fault
+faults_then view = flat_map (λ past. (past_pass view.opened past).faulted) (past_of view ∷ view.ended)
+
+-- the calls in flight: those too that passes have at hand
+abbrev pub flights_then : PassView → List Fault
+flights_then view =
+    flat_map (λ past. at_hand (past_pass view.opened past) (past_pass view.opened past).control ++ (past_pass view.opened past).faulted) (past_of view ∷ view.ended)
+
+-- A write in flight is kept where its first number lies below the first one that recovery finds, or is among its groups.
+abbrev pub is_kept : (first : ℕ) (groups : List ℕ) → Fault → Bool
+is_kept first groups fault = is_write fault.call && (nat_lt fault.first first || list_any (λ leader. leader == fault.first) groups)
+
+-- those of some writes in flight that are kept, as calls, in their order
+abbrev pub kept_writes : (first : ℕ) (groups : List ℕ) → List Fault → List FileCall
+kept_writes first groups faults = map (λ fault. fault.call) (filter (is_kept first groups) faults)
+
+-- An image recovers to some files and then those of some calls that are kept, each whole, in any order that one likes.
+abbrev pub RecoversTo : Files → List Fault → Image → (bytes : Files) → Type 0
+RecoversTo files calls image bytes =
+    (order : List Fault) → IsPermutation calls order
+    → (recovered image bytes).files ≡ after_calls (kept_writes (recovered image bytes).first (recovered image bytes).groups order) files
+
+-- The header reads as this region's, and the image fits. It recovers to the files after the history and then the writes in flight that are kept;
+-- where neither pass 0 nor one that it took in holds a cell, these are writes that faults ended. None of the latter has its first number below the
+-- first one that recovery finds.
+pub record LeavesWholeWrites (view : PassView) (files : Files) (names : List (List ℕ)) (image : Image) (bytes : Files) : Type 0 where
+  pub header : ReadsAs version_1 view.opened.sizes.page view.opened.sizes.entries names (recovered image bytes).first image
+  pub fits : Fits version_1 image
+  pub flights : RecoversTo (files_then view files) (flights_then view) image bytes
+  pub faults : (pass_of view).owned ≡ [] → TakenHoldNothing view → RecoversTo (files_then view files) (faults_then view) image bytes
+  pub low : (fault : Fault) → IsOneOf (faults_then view) fault → is_write fault.call ≡ true → (recovered image bytes).first ≤ fault.first
+
+-- Whatever a power failure leaves of parts and stores that tell does so.
+abbrev pub CrashesLeaveWholeWrites : PassView → (parts : List PartHistory) (stores : List StoreHistory) → Type 0
+CrashesLeaveWholeWrites view parts stores =
+    (files : Files) (names : List (List ℕ)) → OpensLog (mount_of view.opened) view.opened.next → Opens (mount_of view.opened) files
+    → OpensRegion (mount_of view.opened) names
+    → RowTells parts (InEachRowImage (λ image. RowTells stores (λ held. (bytes : Files) → AreStoreImages held bytes → LeavesWholeWrites view files names image bytes)))
