@@ -130,7 +130,7 @@ own_is [] op own = absurd (cc)
 own_is (step ∷ earlier) (ByCleaner one) own = (one, refl)
 own_is (step ∷ earlier) op own = absurd (cc)
 
-first_is : (op : CleanerOp) → is_own [] (ByCleaner op) ≡ true → (most : ℕ) × (op ≡ TakeCleaner most)
+pub first_is : (op : CleanerOp) → is_own [] (ByCleaner op) ≡ true → (most : ℕ) × (op ≡ TakeCleaner most)
 first_is (TakeCleaner most) own = (most, refl)
 first_is op own = absurd (cc)
 

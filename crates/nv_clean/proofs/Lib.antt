@@ -2,6 +2,7 @@ pub mod BatchLaws
 mod BehindLaws
 pub mod CleanStepLaws
 mod FactLaws
+mod FaultLaws
 mod FileLaws
 mod MeasureLaws
 mod OwnedLaws
@@ -18,3 +19,5 @@ mod NotedLaws
 mod OverLaws
 mod StoredLaws
 mod HeedLaws
+mod LoneStepLaws
+mod AloneLaws

@@ -28,6 +28,7 @@ use Rattle.nv_clean.specs.Stored.{IsStored}
 use Rattle.nv_clean.proofs.AnswerLaws.{tells_all}
 use Rattle.nv_clean.proofs.BoundLaws.{Bounded, bounded_all}
 use Rattle.nv_clean.proofs.BatchLaws.{batch_begins, batch_ends}
+use Rattle.nv_clean.proofs.FaultLaws.{no_faults}
 use Rattle.nv_clean.proofs.HeedLaws.{heeds_all, heeds_over}
 use Rattle.nv_clean.proofs.TellLaws.{Tells, WasRefused, HasRetired}
 
@@ -91,7 +92,7 @@ begins_at : (most : ℕ) (m : CleanState) (control : CleanControl) → control �
 begins_at most m cleans.Over is steps begun = begun
 begins_at most m control is steps begun = absurd (cc)
 
-begins_none : (most : ℕ) (steps : List PassStep) → BeginsWith most steps → steps ≡ [] → ⊥
+pub begins_none : (most : ℕ) (steps : List PassStep) → BeginsWith most steps → steps ≡ [] → ⊥
 begins_none most [] begins none = begins
 begins_none most (step ∷ earlier) begins none = cc
 
@@ -133,6 +134,7 @@ module _ (sound : RunsAreSound) (tell : OwnEventsTell) (most : ℕ) (m : CleanSt
     stops = told.stops ∙ ap is_fault is;
     stays = seen_on;
     heeds = held_as (Some why) is;
+    faults = no_faults told.steps start now told.made told.own;
   }
     where
       go : WasRefused start.view.opened.sizes told.steps ⊎ HasRetired start.view.opened.sizes told.steps → retires_in told.steps ≡ false
@@ -151,6 +153,7 @@ module _ (sound : RunsAreSound) (tell : OwnEventsTell) (most : ℕ) (m : CleanSt
     stops = told.stops ∙ ap is_fault is;
     stays = seen_on;
     heeds = held_as None is;
+    faults = no_faults told.steps start now told.made told.own;
   }
     where
       retired : (retired_in told.steps ≡ Some (m.batch.reached - m.batch.tail)) × (m.batch.tail < m.batch.reached)

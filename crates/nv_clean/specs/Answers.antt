@@ -138,7 +138,7 @@ BeginsWith most (step ∷ []) = step.op ≡ ByCleaner (TakeCleaner most)
 BeginsWith most (step ∷ (other ∷ earlier)) = BeginsWith most (other ∷ earlier)
 
 -- A whole batch: its steps are its own, and the answer is what they came to. It has retired something, where it says so, no more entries than its bound, but where those are the first group
--- alone; and that is stored. An entry was freed, or TAIL moved, exactly where it does; and STOP was set by one of them exactly where the answer is that a device has failed. A pass that had seen STOP set keeps that, and cleans nothing.
+-- alone; and that is stored. An entry was freed, or TAIL moved, exactly where it does; and STOP was set by one of them exactly where the answer is that a device has failed. A pass that had seen STOP set keeps that, and cleans nothing. It is no call, so its pass keeps no fault of it.
 pub record IsCleanOver (batch : ℕ) (start now : PassState) (result : Result Cleaned CleanRefusal) : Type 0 where
   pub steps : List PassStep
   pub made : HasMade steps start now
@@ -152,6 +152,7 @@ pub record IsCleanOver (batch : ℕ) (start now : PassState) (result : Result Cl
   pub stops : stops_in steps ≡ tells_fault result
   pub stays : HasSeenStop start → HasSeenStop now
   pub heeds : HasSeenStop start → (refusal : CleanRefusal) × (result ≡ Err refusal) × IsHeld start.view.opened.sizes refusal
+  pub faults : (pass_of now.view).faulted ≡ (pass_of start.view).faulted
 
 -- ---- a machine, and what its steps came to so far
 

@@ -7,3 +7,4 @@ pub mod Retiring
 pub mod Stored
 pub mod Heeds
 pub mod Answers
+pub mod Alone

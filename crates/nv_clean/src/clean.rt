@@ -1,14 +1,17 @@
 //! A batch as a call.
 ghost use Rattle.std.specs.Prelude.{◌≡◌, ℕ, ◌<◌, ◌≤◌, None, length};
+ghost use Rattle.nv_table.specs.invariant.BetweenSteps.{KnowsTaken};
 ghost use Rattle.nv_table.specs.invariant.Idle.{IsIdle, IsLater};
+ghost use Rattle.nv_table.specs.passes.Alone.{IsAlone};
 ghost use Rattle.nv_table.specs.state.States.{IsOf, PassState};
 ghost use Rattle.nv_mirror.specs.Answers.{IsUnplaced};
+ghost use Rattle.nv_clean.specs.Alone.{IsAnsweredAlone};
 ghost use Rattle.nv_clean.specs.Answers.{BatchGoes, IsBatchUnderWay, IsCleanOver, answer_of};
 ghost use Rattle.nv_clean.specs.CleanSteps.{HasMadeOne};
 ghost use Rattle.nv_clean.specs.Cleaning.{IsOpen};
 ghost use Rattle.nv_clean.specs.Measures.{clean_measure};
 
-use crate::{CleanMachine, CleanRefusal};
+use crate::{CleanMachine, CleanRefusal, batches_alone_are_answered_by_the_log};
 use nv_core::{
     crashes_leave_whole_writes, passes_are_left_alone, runs_are_sound, runs_keep_the_log,
 };
@@ -116,7 +119,7 @@ fn run<L: Lines, B: Backing>(
 /// `batch` is 0. The pieces are written to the stores, which are synced; then the persistent tail moves past the entries, and they are free. Refused where there is nothing to clean: TAIL was HEAD, or the entry at the tail not
 /// ready; where CLEANER or HEADER was found held, or before the first group was cleaned a CLEANUP of its pages or its file's STORE; where STOP was found set; where a store refused a write of the first
 /// group for want of memory; and after a device fault, which sets STOP. It takes no place in the history, and a refused one has freed no entry and not moved TAIL. Its pass holds nothing then. Takes no
-/// memory, and waits for nobody.
+/// memory, and waits for nobody. While no other pass is out no lock is found held, and a batch is answered that there is nothing to clean exactly where STOP was 0 and the log empty.
 pub fn try_clean<L: Lines + Drop, B: Backing + Drop>(
     mount: &Mount<L, B>,
     pass: &mut Pass<L, B>,
@@ -130,7 +133,10 @@ pub fn try_clean<L: Lines + Drop, B: Backing + Drop>(
     ensures spare { pass.new.spare ≡ pass.old.spare }
     ensures kept { IsUnplaced pass.old.view pass.new.view }
     ensures over { IsCleanOver batch pass.old pass.new result }
+    ensures alone { KnowsTaken pass.old.view → IsAlone pass.old.view → IsAnsweredAlone pass.old.view pass.new.view result }
 {
+    batches_alone_are_answered_by_the_log();
+    pass.sees_a_run();
     let board = mount.board();
     let page = board.layout().page as usize;
     let mut room = [0; MOST_PAGE];

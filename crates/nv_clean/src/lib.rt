@@ -3,6 +3,7 @@
 #![tactic(auto)]
 
 mod advancing;
+mod alone;
 mod batch;
 mod clean;
 mod following;
@@ -13,6 +14,7 @@ mod retiring;
 mod telling;
 mod writing;
 
+pub use alone::batches_alone_are_answered_by_the_log;
 pub use batch::{CleanControl, CleanMachine, CleanRefusal};
 pub use clean::{CleanProgress, Cleaned, try_clean};
 pub use owned::{Cell, MOST_CELLS, OwnedCells};
