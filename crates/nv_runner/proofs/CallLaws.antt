@@ -1,24 +1,36 @@
 -- Calls: what the answer of a call tells that is over.
 use Rattle.std.proofs.Common.{◌≡◌, ℕ, List, length, replicate, refl, sym, ap, subst, ◌∙◌}
 use Rattle.std.proofs.lemmas.List.{length-replicate}
-use Rattle.std.specs.Prelude.{Option, Some, Err}
-use Rattle.nv_plain.specs.Modes.{can_read}
+use Rattle.std.specs.Prelude.{true, Option, Some, None, Result, Ok, Err, IfOk, OnOk}
+use Rattle.nv_plain.specs.Modes.{can_read, can_write}
+use Rattle.nv_plain.specs.declared.call.FileCall.TheVariants.{Write}
+use Rattle.nv_plain.specs.declared.memory.NoMemory.{NoMemory}
+use Rattle.nv_core.specs.state.Words.{Sizes}
+use Rattle.nv_table.specs.invariant.Idle.{IsLater}
 use Rattle.nv_table.specs.state.Opened.{Opened}
 use Rattle.nv_table.specs.state.States.{PassState}
 use Rattle.nv_mount.specs.declared.fds.Fd.{Fd}
+use Rattle.nv_mirror.specs.declared.answers.Done.{Done}
 use Rattle.nv_mirror.specs.declared.answers.Refusal.{Refusal}
+use Rattle.nv_mirror.specs.Controls.{IsOver}
 use Rattle.nv_mirror.specs.Answers.{IsUnplaced}
 use Rattle.nv_calls.specs.calls.EarlyRefusals.{early_refusal}
 use Rattle.nv_calls.specs.calls.EndedCalls.{IsOverBy}
 use Rattle.nv_calls.specs.fsync.SyncRuns.{file_of_fd}
-use Rattle.nv_calls.specs.reads.Reads.{IsReadDone}
+use Rattle.nv_calls.specs.reads.Reads.{IsReadDone, IsReadOver}
+use Rattle.nv_calls.specs.writes.Writes.{IsWriteTried}
 use Rattle.nv_calls.proofs.reads.AloneLaws.{early_other, other_of}
-use Rattle.nv_runner.specs.declared.ask.Act.TheVariants.{Read}
-use Rattle.nv_runner.specs.Calls.{IsRefused}
+use Rattle.nv_trace.specs.declared.trace_call.TraceCall.TheVariants.{Pread}
+use Rattle.nv_calls.specs.histories.Heeds.{HasSeenStop}
+use Rattle.nv_trace.specs.declared.trace_call.TraceCall.{TraceCall}
+use Rattle.nv_runner.specs.declared.answer.Answer.{Answer}
+use Rattle.nv_runner.specs.Calls.{IsAdmitted, IsAnswered, IsRefused, OpensAs, Tells, says_stop}
+use Rattle.nv_runner.specs.Runs.{GoesOn, entries_drawn, entries_taken}
+use Rattle.nv_runner.proofs.TryLaws.{answer_on}
 
 -- a read that is refused by what it asks for made no step, whatever its list
 pub read_refused_early : (fds : List Fd) (worker : Option ℕ) (fd at len : ℕ) (opened : Opened) (start : PassState) (refusal : Refusal) → start.view.opened ≡ opened
-    → early_refusal can_read opened.sizes fds fd at len ≡ Some refusal → IsRefused fds worker (record { fd = fd; what = Read at len }) start start refusal
+    → early_refusal can_read opened.sizes fds fd at len ≡ Some refusal → IsRefused fds worker (Pread fd at len) start start refusal
 read_refused_early fds worker fd at len opened start refusal same is =
     let list : List ℕ = replicate len 0 in
     let size : length list ≡ len = length-replicate len 0 in
@@ -38,3 +50,45 @@ read_refused_early fds worker fd at len opened start refusal same is =
         subst (λ e. IsOverBy e (file_of_fd fds fd) (λ file. IsReadDone file at list start start (Err refusal)) start start (Err refusal)) (sym early) (refl, refl),
       );
     }
+
+-- ---- a call that has its place was not barred
+
+admitted_over : (early : Option Refusal) (file : Option ℕ) (IsDone : ℕ → Type 0) (last now : PassState) (done : Done) → ((one : ℕ) → IsDone one → now.view.opened ≡ last.view.opened)
+    → IsOverBy early file IsDone last now (Ok done) → (early ≡ None) × (now.view.opened ≡ last.view.opened)
+admitted_over (Some bar) file IsDone last now done same over = absurd (differ over.0)
+  where
+    differ : ◌≡◌ {A = Result Done Refusal} (Ok done) (Err bar) → ⊥
+    differ is = cc
+admitted_over None file IsDone last now done same over = (refl, same over.0 over.2)
+
+pub read_admitted : (fds : List Fd) (fd at len : ℕ) (list : List ℕ) (last now : PassState) (done : Done) → length list ≡ len → IsReadOver fds fd at list last now (Ok done)
+    → early_refusal can_read now.view.opened.sizes fds fd at len ≡ None
+read_admitted fds fd at len list last now done size over =
+    let early = early_refusal can_read last.view.opened.sizes fds fd at (length list) in
+    let both = admitted_over early (file_of_fd fds fd) (λ file. IsReadDone file at list last now (Ok done)) last now done (λ one is. is.over.mount) over in
+    ap (λ (o : Opened). early_refusal can_read o.sizes fds fd at len) both.1 ∙ ap (early_refusal can_read last.view.opened.sizes fds fd at) (sym size) ∙ both.0
+
+pub write_admitted : (fds : List Fd) (fd at : ℕ) (bytes : List ℕ) (start now : PassState) (done : Done) → IsWriteTried fds fd at bytes start now (Ok done)
+    → early_refusal can_write now.view.opened.sizes fds fd at (length bytes) ≡ None
+write_admitted fds fd at bytes start now done tried =
+    let last = tried.last in
+    let early = early_refusal can_write last.view.opened.sizes fds fd at (length bytes) in
+    let Over : ℕ → Type 0 = λ file. IsOver (Write file at bytes) None (Some done.place) last now in
+    let both = admitted_over early (file_of_fd fds fd) Over last now done (λ one is. is.mount) tried.over in
+    ap (λ (o : Opened). early_refusal can_write o.sizes fds fd at (length bytes)) both.1 ∙ both.0
+
+-- ---- an answered call, by its parts
+
+pub ok_answered : (fds : List Fd) (worker : Option ℕ) (call : TraceCall) (start now : PassState) (result : Result Answer NoMemory) → now.view.opened ≡ start.view.opened → IsLater start now
+    → IfOk result (λ answer. Tells fds worker call start now answer) → (HasSeenStop start → HasSeenStop now) → IfOk result (λ answer. says_stop answer ≡ true → HasSeenStop now)
+    → IfOk result (λ answer. OpensAs fds call start now answer) → IfOk result (λ answer. GoesOn worker (entries_drawn now.view.opened.sizes call answer) start now)
+    → IfOk result (λ answer. IsAdmitted now.view.opened.sizes fds call answer)
+    → IfOk result (λ answer. IsAnswered fds worker call start now answer)
+ok_answered fds worker call start now (Ok answer) opened later told stays stop opens on admitted = record { opened = opened; later = later; told = told; stays = stays; stop = stop; opens = opens; on = on; admitted = admitted }
+ok_answered fds worker call start now (Err error) opened later told stays stop opens on admitted = tt
+
+-- what draws nothing, whatever its answer
+pub ok_on : (worker : Option ℕ) (sizes : Sizes) (call : TraceCall) (start now : PassState) (result : Result Answer NoMemory) → entries_taken sizes call ≡ 0 → OnOk result (GoesOn None 0 start now)
+    → IfOk result (λ answer. GoesOn worker (entries_drawn sizes call answer) start now)
+ok_on worker sizes call start now (Ok answer) none on = answer_on worker sizes call answer start now none on
+ok_on worker sizes call start now (Err error) none on = tt

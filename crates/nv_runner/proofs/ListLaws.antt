@@ -1,70 +1,94 @@
 -- Lists: the calls of a pass, one more of them at a time.
-use Rattle.std.proofs.Common.{◌≡◌, ℕ, ◌+◌, ◌<◌, List, [], ◌∷◌, ◌++◌, length, drop, get_or, sym, ap, subst, ◌∙◌}
+use Rattle.std.proofs.Common.{◌≡◌, ◌≢◌, ℕ, ◌+◌, ◌<◌, cond, List, [], ◌∷◌, ◌++◌, length, drop, get_or, refl, sym, ap, subst, ◌∙◌, eq-eqb, ne_eqb}
 use Rattle.std.specs.Prelude.{Option}
-use Rattle.std.proofs.lemmas.List.{append_assoc, append-nil, drop_more}
+use Rattle.std.proofs.lemmas.List.{append_assoc, append-nil, at_drop_more, map-append}
+use Rattle.nv_plain.specs.Histories.{Answered}
 use Rattle.nv_core.specs.invariant.OneHistory.{IsPrefix}
 use Rattle.nv_table.specs.state.Views.{pass_of}
 use Rattle.nv_table.specs.state.States.{PassState}
 use Rattle.nv_mount.specs.declared.fds.Fd.{Fd}
-use Rattle.nv_runner.specs.declared.ask.Ask.{Ask}
+use Rattle.nv_trace.specs.declared.trace_call.TracedCall.{TracedCall}
+use Rattle.nv_trace.specs.declared.trace_call.TraceCall.{TraceCall}
 use Rattle.nv_runner.specs.declared.answer.Answer.{Answer}
-use Rattle.nv_runner.specs.declared.answer.Answer.TheVariants.{Placed, Refused}
+use Rattle.nv_runner.specs.declared.answer.Answer.TheVariants.{Placed, Refused, Open}
 use Rattle.nv_runner.specs.Calls.{IsAnswered, Tells}
-use Rattle.nv_runner.specs.Lists.{Made, PlacedAreMine, PlacedStand, Stand, as_placed, placed, placed_by, placed_on}
+use Rattle.nv_runner.specs.Lists.{AreMade, MadeCall, PlacedAreMine, PlacedStand, Stand, StandsAs, as_placed, calls_made, placed, placed_by, placed_on}
+use Rattle.nv_runner.specs.Shifts.{calls_of_thread}
 
--- What is made of the calls from one on makes all of them, behind those before it, which were answered so.
-abbrev pub MadeUpTo : List Fd → (worker : Option ℕ) → (asks : List Ask) → (done : ℕ) → List Answer → (start now : PassState) → Type 0
-MadeUpTo fds worker asks done answers start now =
-    (more : List Answer) (last : PassState) → Made fds worker (drop done asks) more now last → Made fds worker asks (answers ++ more) start last
+-- one more call was made behind the others
+pub made_on : (fds : List Fd) (worker : Option ℕ) (made : List MadeCall) (m : MadeCall) (start old new : PassState) → AreMade fds worker made start old
+    → IsAnswered fds worker m.call.call old new m.answer → AreMade fds worker (made ++ m ∷ []) start new
+made_on fds worker [] m start old new before told = (new, subst (λ (p : PassState). IsAnswered fds worker m.call.call p new m.answer) before told, refl)
+made_on fds worker (first ∷ made) m start old new before told = (before.0, before.1, made_on fds worker made m before.0 old new before.2 told)
 
-pub made_on : (fds : List Fd) (worker : Option ℕ) (asks : List Ask) (done : ℕ) (answers : List Answer) (start old new : PassState) (ask : Ask) (answer : Answer) → done < length asks
-    → ask ≡ get_or asks done ask → IsAnswered fds worker ask old new answer → MadeUpTo fds worker asks done answers start old → MadeUpTo fds worker asks (done + 1) (answers ++ answer ∷ []) start new
-made_on fds worker asks done answers start old new ask answer within is told so_far more last rest =
-    let left : drop done asks ≡ ask ∷ drop (done + 1) asks = drop_more asks done ask within ∙ ap (λ a. a ∷ drop (done + 1) asks) (sym is) in
-    subst (λ l. Made fds worker asks l start last) (sym (append_assoc answers (answer ∷ []) more))
-    (so_far (answer ∷ more) last (subst (λ l. Made fds worker l (answer ∷ more) old last) (sym left) (new, told, rest)))
+-- one more of a thread's calls was made, of all those from one on
+pub listed_on : (thread : ℕ) (calls : List TracedCall) (i : ℕ) (call : TracedCall) (made : List MadeCall) (answer : Answer) → i < length calls → call ≡ get_or calls i call → call.thread ≡ thread
+    → calls_made made ++ calls_of_thread thread (drop i calls) ≡ calls_of_thread thread calls
+    → calls_made (made ++ record { call = call; answer = answer } ∷ []) ++ calls_of_thread thread (drop (i + 1) calls) ≡ calls_of_thread thread calls
+listed_on thread calls i call made answer within is here before =
+    let rest = calls_of_thread thread (drop (i + 1) calls) in
+    let next : calls_of_thread thread (drop i calls) ≡ call ∷ rest =
+    at_drop_more (calls_of_thread thread) calls i call within ∙ ap (λ c. calls_of_thread thread (c ∷ drop (i + 1) calls)) (sym is) ∙ ap (λ b. cond b (call ∷ rest) rest) (eq-eqb call.thread thread here) in
+    ap (λ l. l ++ rest) (map-append (λ (m : MadeCall). m.call) made (record { call = call; answer = answer } ∷ [])) ∙ append_assoc (calls_made made) (call ∷ []) rest
+    ∙ ap (λ l. calls_made made ++ l) (sym next) ∙ before
+
+-- the next of all calls is another thread's
+pub listed_past : (thread : ℕ) (calls : List TracedCall) (i : ℕ) (call : TracedCall) (done : List TracedCall) → i < length calls → call ≡ get_or calls i call → call.thread ≢ thread
+    → done ++ calls_of_thread thread (drop i calls) ≡ calls_of_thread thread calls → done ++ calls_of_thread thread (drop (i + 1) calls) ≡ calls_of_thread thread calls
+listed_past thread calls i call done within is other before =
+    let rest = calls_of_thread thread (drop (i + 1) calls) in
+    let next : calls_of_thread thread (drop i calls) ≡ rest =
+    at_drop_more (calls_of_thread thread) calls i call within ∙ ap (λ c. calls_of_thread thread (c ∷ drop (i + 1) calls)) (sym is) ∙ ap (λ b. cond b (call ∷ rest) rest) (ne_eqb call.thread thread other) in
+    ap (λ l. done ++ l) (sym next) ∙ before
 
 -- ---- the pass's own calls
 
 -- one call's
-one_mine : (fds : List Fd) (worker : Option ℕ) (ask : Ask) (answer : Answer) (start now : PassState) → Tells fds worker ask start now answer
-    → (pass_of now.view).mine ≡ (pass_of start.view).mine ++ placed_by fds start.view.number ask answer
-one_mine fds worker ask (Placed place reply) start now told =
-    told.2.mine ∙ ap (λ file. (pass_of start.view).mine ++ placed_on file start.view.number ask reply) (sym told.1)
-one_mine fds worker ask (Refused refusal) start now told = told.kept.mine ∙ sym (append-nil (pass_of start.view).mine)
+one_mine : (fds : List Fd) (worker : Option ℕ) (call : TraceCall) (answer : Answer) (start now : PassState) → Tells fds worker call start now answer
+    → (pass_of now.view).mine ≡ (pass_of start.view).mine ++ placed_by fds start.view.number call answer
+one_mine fds worker call (Placed place reply) start now told =
+    told.2.mine ∙ ap (λ file. (pass_of start.view).mine ++ placed_on file start.view.number call reply) (sym told.1)
+one_mine fds worker call (Refused refusal) start now told = told.kept.mine ∙ sym (append-nil (pass_of start.view).mine)
+one_mine fds worker call (Open number) start now told = told.kept.mine ∙ sym (append-nil (pass_of start.view).mine)
 
 pub made_mine : PlacedAreMine
-made_mine fds worker asks [] start now made = ap (λ (p : PassState). (pass_of p.view).mine) made ∙ sym (append-nil (pass_of start.view).mine)
-made_mine fds worker [] (answer ∷ answers) start now made = absurd made
-made_mine fds worker (ask ∷ asks) (answer ∷ answers) start now made =
+made_mine fds worker [] start now made = ap (λ (p : PassState). (pass_of p.view).mine) made ∙ sym (append-nil (pass_of start.view).mine)
+made_mine fds worker (m ∷ later) start now made =
     let middle = made.0 in
     let number = start.view.number in
     let mine = (pass_of start.view).mine in
-    made_mine fds worker asks answers middle now made.2
-    ∙ ap (λ n. (pass_of middle.view).mine ++ placed fds n asks answers) made.1.later.number
-    ∙ ap (λ l. l ++ placed fds number asks answers) (one_mine fds worker ask answer start middle made.1.told)
-    ∙ append_assoc mine (placed_by fds number ask answer) (placed fds number asks answers)
+    made_mine fds worker later middle now made.2
+    ∙ ap (λ n. (pass_of middle.view).mine ++ placed fds n later) made.1.later.number
+    ∙ ap (λ l. l ++ placed fds number later) (one_mine fds worker m.call.call m.answer start middle made.1.told)
+    ∙ append_assoc mine (placed_by fds number m.call.call m.answer) (placed fds number later)
 
 -- ---- the history
 
-pub made_stand : PlacedStand
-made_stand fds worker asks [] start now made history seen = subst (λ (p : PassState). IsPrefix (pass_of p.view).seen history) made seen
-made_stand fds worker [] (answer ∷ answers) start now made history seen = absurd made
-made_stand fds worker (ask ∷ asks) (Placed place reply ∷ answers) start now made history seen =
-    let middle = made.0 in
-    let file = made.1.told.0 in
-    let at = made.1.told.2 in
+-- the calls behind one that has its place, or has none, stand behind it
+stand_on : (fds : List Fd) (number : ℕ) (call : TraceCall) (answer : Answer) (worker : Option ℕ) (start middle : PassState) (later : List MadeCall) (history : List Answered)
+    → number ≡ start.view.number → Tells fds worker call start middle answer → Stand fds number (pass_of middle.view).seen later history
+    → StandsAs fds number (pass_of start.view).seen call answer (λ upto. Stand fds number upto later history)
+stand_on fds number call (Placed place reply) worker start middle later history same told stand =
+    let file = told.0 in
+    let at = told.2 in
     let between = at.begins.0 in
-    let number = start.view.number in
     let before : at.before ≡ (pass_of start.view).seen ++ between = at.begins.1 in (
-      file,
-      made.1.told.1,
-      between,
-      at.at ∙ ap length before,
-      subst (λ l. Stand fds number l asks answers history) (at.seen ∙ ap (λ l. l ++ as_placed number ask file reply ∷ []) before)
-          (subst (λ n. Stand fds n (pass_of middle.view).seen asks answers history) made.1.later.number (made_stand fds worker asks answers middle now made.2 history seen)),
+      (pass_of middle.view).seen,
+      record {
+        file = file;
+        file_is = told.1;
+        between = between;
+        at = at.at ∙ ap length before;
+        upto_is = at.seen ∙ ap (λ l. l ++ as_placed start.view.number call file reply ∷ []) before ∙ ap (λ n. ((pass_of start.view).seen ++ between) ++ as_placed n call file reply ∷ []) (sym same);
+      },
+      stand,
     )
-made_stand fds worker (ask ∷ asks) (Refused refusal ∷ answers) start now made history seen =
+stand_on fds number call (Refused refusal) worker start middle later history same told stand = subst (λ l. Stand fds number l later history) told.kept.seen stand
+stand_on fds number call (Open first) worker start middle later history same told stand = subst (λ l. Stand fds number l later history) told.kept.seen stand
+
+pub made_stand : PlacedStand
+made_stand fds worker [] start now made history seen = subst (λ (p : PassState). IsPrefix (pass_of p.view).seen history) made seen
+made_stand fds worker (m ∷ later) start now made history seen =
     let middle = made.0 in
-    subst (λ l. Stand fds start.view.number l asks answers history) made.1.told.kept.seen
-    (subst (λ n. Stand fds n (pass_of middle.view).seen asks answers history) made.1.later.number (made_stand fds worker asks answers middle now made.2 history seen))
+    stand_on fds start.view.number m.call.call m.answer worker start middle later history refl made.1.told
+    (subst (λ n. Stand fds n (pass_of middle.view).seen later history) made.1.later.number (made_stand fds worker later middle now made.2 history seen))

@@ -2,13 +2,40 @@
 #![tactic(auto)]
 
 mod answer;
-mod ask;
+mod cleaner;
+mod cleaning;
+mod closing;
+mod crew;
+mod gate;
+mod hiring;
 mod laws;
 mod list;
 mod make;
+mod plan;
+mod round;
+mod rounds;
+mod run_error;
+mod running;
+mod shown;
+mod sorted;
+mod worker;
+mod zero;
 
-pub use answer::Answer;
-pub use ask::{Act, Ask};
-pub use laws::made_calls_stand_in_order;
+pub use answer::{Answer, AnsweredCall};
+pub use gate::{Gate, OpenGate, Point};
+pub use laws::{
+    calls_stand_behind_what_was_seen, history_of_threads_is_legal, lines_keep_order,
+    made_calls_stand_in_order, newcomers_begin_behind, open_answers_are_faults,
+    open_calls_are_the_faults, refusals_have_causes, refusals_in_runs_have_causes,
+    runs_are_faithful, runs_are_told, sorted_calls_are_the_history, tries_go_on,
+    unstopped_runs_leave_nothing_open,
+};
 pub use list::make_all;
 pub use make::make_call;
+pub use plan::Plan;
+pub use round::run_round;
+pub use rounds::run_rounds;
+pub use run_error::RunError;
+pub use running::{Ended, run_calls};
+pub use shown::{Shown, show_refusal, show_refusals};
+pub use sorted::{Open, Placed, Refused, SortedCalls, sort_out};

@@ -1,45 +1,57 @@
 //! The calls of one thread.
-ghost use Rattle.std.specs.Prelude.{◌≡◌, [], IfOk, OnErr};
+ghost use Rattle.std.specs.Prelude.{◌≡◌, [], OnOk, OnErr};
 ghost use Rattle.nv_table.specs.invariant.Idle.{IsIdle, IsLater};
 ghost use Rattle.nv_table.specs.state.States.{IsOf};
 ghost use Rattle.nv_table.specs.state.Workspaces.{IsWorkspace};
-ghost use Rattle.nv_runner.specs.Lists.{AllWereMade, SomeWereMade};
+ghost use Rattle.nv_runner.specs.Lists.{AllWereMade, SomeWereMade, made_calls};
+ghost use Rattle.nv_runner.specs.Shifts.{calls_of_thread};
 
-use crate::{Answer, Ask, make_call};
+use crate::{AnsweredCall, Gate, Point, make_call};
 use nv_mount::Mount;
 use nv_plain::NoMemory;
 use nv_pmem::Lines;
 use nv_store::Backing;
 use nv_table::{Pass, Workspace};
+use nv_trace::TracedCall;
 use std::alloc::Global;
 use std::sync::Wait;
 
-/// Makes some calls one after another, each as `make_call` does. The answers are theirs, in their order. Where memory is wanting some first ones of them were made, and not all.
-pub fn make_all<R: Wait, L: Lines + Drop, B: Backing + Drop>(
+/// Makes those of some calls that are of this thread, one after another, each as `make_call` does. What they are answered goes to the end of `answered`, in their order. Where
+/// memory is wanting some first ones of them were made. The thread passes the gate before each call, and once it is answered, by the number of the call's line.
+pub fn make_all<'a, R: Wait, G: Gate, L: Lines + Drop, B: Backing + Drop>(
     rt: &R,
     alloc: Global,
+    gate: &G,
     mount: &Mount<L, B>,
     pass: &mut Pass<L, B>,
     workspace: &mut Workspace<L, B>,
-    asks: &[Ask],
+    calls: &'a [TracedCall],
+    thread: u64,
     worker: Option<u64>,
-) -> Result<Vec<Answer>, NoMemory>
+    answered: &mut Vec<AnsweredCall<'a>>,
+) -> Result<(), NoMemory>
     requires board { IsOf mount.now.board pass.old }
     requires idle { IsIdle pass.old }
     requires workspace { IsWorkspace mount.now.board.opened.sizes workspace.old }
     requires bare { workspace.old.parts.items ≡ [] }
+    requires none { answered.old.items ≡ [] }
     ensures board { IsOf mount.now.board pass.new }
     ensures idle { IsIdle pass.new }
     ensures later { IsLater pass.old pass.new }
     ensures workspace { IsWorkspace mount.now.board.opened.sizes workspace.new }
     ensures bare { workspace.new.parts.items ≡ [] }
-    ensures made { IfOk result (λ answers. AllWereMade mount.now.fds worker asks.now answers.items pass.old pass.new) }
-    ensures memory { OnErr result (SomeWereMade mount.now.fds worker asks.now pass.old pass.new) }
+    ensures made { OnOk result (AllWereMade mount.now.fds worker (calls_of_thread thread calls.now) (made_calls answered.new.items) pass.old pass.new) }
+    ensures memory { OnErr result (SomeWereMade mount.now.fds worker (calls_of_thread thread calls.now) (made_calls answered.new.items) pass.old pass.new) }
 {
-    let mut answers = Vec::new(alloc);
-    for ask in asks {
-        answers.reserve(1)?;
-        answers.push_reserved(make_call(rt, alloc, mount, pass, workspace, ask, worker)?);
+    for call in calls {
+        if call.thread != thread {
+            continue;
+        }
+        answered.reserve(1)?;
+        gate.at(thread, call.line, Point::Before);
+        let answer = make_call(rt, alloc, mount, pass, workspace, &call.call, worker)?;
+        gate.at(thread, call.line, Point::Answered);
+        answered.push_reserved(AnsweredCall { call, answer });
     }
-    Ok(answers)
+    Ok(())
 }

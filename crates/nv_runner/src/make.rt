@@ -1,20 +1,27 @@
 //! One call, made until it is answered for good.
-ghost use Rattle.std.specs.Prelude.{◌≡◌, ℕ, false, ◌&&◌, [], Option, is_some, IfOk, OnErr};
+ghost use Rattle.std.specs.Prelude.{◌≡◌, ℕ, true, false, ◌&&◌, [], Option, None, is_some, IfOk, OnOk, OnErr};
 ghost use Rattle.nv_table.specs.invariant.Idle.{IsIdle, IsLater};
 ghost use Rattle.nv_table.specs.state.States.{IsOf};
 ghost use Rattle.nv_table.specs.state.Workspaces.{IsWorkspace};
 ghost use Rattle.nv_mirror.specs.Answers.{IsUnplaced};
-ghost use Rattle.nv_runner.specs.declared.ask.Act.TheVariants as acts;
-ghost use Rattle.nv_runner.specs.Calls.{Tells, wants_room};
+ghost use Rattle.nv_trace.specs.declared.trace_call.TraceCall.TheVariants as calls;
+ghost use Rattle.nv_table.specs.invariant.Drawn.{drawn_by};
+ghost use Rattle.nv_calls.specs.histories.Faults.{open_writes};
+ghost use Rattle.nv_calls.specs.histories.Heeds.{HasSeenStop};
+ghost use Rattle.nv_runner.specs.Calls.{IsAdmitted, IsAnswered, OpensAs, Tells, says_stop, wants_room};
+ghost use Rattle.nv_runner.specs.OpenWrites.{without_place as answer_without_place};
+ghost use Rattle.nv_runner.specs.Runs.{GoesOn, entries_drawn};
 
-use crate::{Act, Answer, Ask};
-use nv_calls::{Refusal, early_read_refusal, pread, pwrite, try_fsync};
+use crate::Answer;
+use crate::laws::tries_go_on;
+use nv_calls::{Refusal, early_read_refusal, faults_open_writes, pread, pwrite, try_fsync};
 use nv_clean::try_clean;
 use nv_mount::Mount;
 use nv_plain::{Bytes, NoMemory, Reply};
 use nv_pmem::Lines;
 use nv_store::Backing;
 use nv_table::{Pass, Workspace};
+use nv_trace::TraceCall;
 use std::alloc::Global;
 use std::sync::Wait;
 
@@ -33,9 +40,17 @@ fn make_read<R: Wait, L: Lines + Drop, B: Backing + Drop>(
     ensures board { IsOf mount.now.board pass.new }
     ensures idle { IsIdle pass.new }
     ensures later { IsLater pass.old pass.new }
-    ensures told { (worker : Option ℕ) → IfOk result (λ answer. Tells mount.now.fds worker (record { fd = fd; what = acts.Read at len }) pass.old pass.new answer) }
+    ensures told { (worker : Option ℕ) → IfOk result (λ answer. Tells mount.now.fds worker (calls.Pread fd at len) pass.old pass.new answer) }
+    ensures stays { HasSeenStop pass.old → HasSeenStop pass.new }
+    ensures stop { IfOk result (λ answer. says_stop answer ≡ true → HasSeenStop pass.new) }
+    ensures opens { IfOk result (λ answer. OpensAs mount.now.fds (calls.Pread fd at len) pass.old pass.new answer) }
+    ensures on { OnOk result (GoesOn None 0 pass.old pass.new) }
+    ensures admitted { IfOk result (λ answer. IsAdmitted pass.new.view.opened.sizes mount.now.fds (calls.Pread fd at len) answer) }
     ensures memory { OnErr result (pass.new ≡ pass.old) }
 {
+    faults_open_writes();
+    tries_go_on();
+    pass.sees_a_run();
     if let Some(refusal) = early_read_refusal(mount, fd, at, len) {
         return Ok(Answer::Refused(refusal));
     }
@@ -65,14 +80,28 @@ fn makes_room<L: Lines + Drop, B: Backing + Drop>(
     ensures idle { IsIdle pass.new }
     ensures later { IsLater pass.old pass.new }
     ensures kept { IsUnplaced pass.old.view pass.new.view }
+    ensures stays { HasSeenStop pass.old → HasSeenStop pass.new }
+    ensures on { GoesOn worker 0 pass.old pass.new }
     ensures none { result ≡ false → pass.new ≡ pass.old }
     ensures ran { result ≡ wants_room refusal && is_some worker }
+    ensures opens { open_writes pass.new ≡ open_writes pass.old }
 {
+    tries_go_on();
     if let (Refusal::Again { .. }, Some(batch)) = (refusal, worker) {
         let _ = try_clean(mount, pass, batch);
         return true;
     }
     false
+}
+
+// What a write is answered that has no place and isn't made again: it is open where a device fault ended it, from the first number on that its pass drew.
+fn without_place<L: Lines + Drop, B: Backing + Drop>(pass: &Pass<L, B>, refusal: Refusal) -> Answer
+    ensures { result ≡ answer_without_place refusal (drawn_by pass.now.view) }
+{
+    match (refusal, pass.drawn()) {
+        (Refusal::RegionFault | Refusal::StoreFault, Some(number)) => Answer::Open { number },
+        _ => Answer::Refused(refusal),
+    }
 }
 
 // A write. Where the log has no room for it and a cleaner's batch may be run, one is, and it is made again.
@@ -95,9 +124,17 @@ fn make_write<R: Wait, L: Lines + Drop, B: Backing + Drop>(
     ensures later { IsLater pass.old pass.new }
     ensures workspace { IsWorkspace mount.now.board.opened.sizes workspace.new }
     ensures bare { workspace.new.parts.items ≡ [] }
-    ensures told { Tells mount.now.fds worker (record { fd = fd; what = acts.Write at bytes.now }) pass.old pass.new result }
+    ensures told { Tells mount.now.fds worker (calls.Pwrite fd at bytes.now) pass.old pass.new result }
+    ensures stays { HasSeenStop pass.old → HasSeenStop pass.new }
+    ensures stop { says_stop result ≡ true → HasSeenStop pass.new }
+    ensures opens { OpensAs mount.now.fds (calls.Pwrite fd at bytes.now) pass.old pass.new result }
+    ensures on { GoesOn worker (entries_drawn pass.new.view.opened.sizes (calls.Pwrite fd at bytes.now) result) pass.old pass.new }
+    ensures admitted { IsAdmitted pass.new.view.opened.sizes mount.now.fds (calls.Pwrite fd at bytes.now) result }
 {
+    faults_open_writes();
+    tries_go_on();
     for _ in rt.forever() {
+        pass.sees_a_run();
         match pwrite(rt, mount, pass, workspace, fd, at, bytes) {
             Ok(done) => {
                 return Answer::Placed {
@@ -107,7 +144,7 @@ fn make_write<R: Wait, L: Lines + Drop, B: Backing + Drop>(
             }
             Err(refusal) => {
                 if !makes_room(mount, pass, refusal, worker) {
-                    return Answer::Refused(refusal);
+                    return without_place(pass, refusal);
                 }
             }
         }
@@ -126,8 +163,16 @@ fn make_sync<L: Lines + Drop, B: Backing + Drop>(
     ensures board { IsOf mount.now.board pass.new }
     ensures idle { IsIdle pass.new }
     ensures later { IsLater pass.old pass.new }
-    ensures told { (worker : Option ℕ) → Tells mount.now.fds worker (record { fd = fd; what = acts.Sync }) pass.old pass.new result }
+    ensures told { (worker : Option ℕ) → Tells mount.now.fds worker (calls.Fsync fd) pass.old pass.new result }
+    ensures stays { HasSeenStop pass.old → HasSeenStop pass.new }
+    ensures stop { says_stop result ≡ true → HasSeenStop pass.new }
+    ensures opens { OpensAs mount.now.fds (calls.Fsync fd) pass.old pass.new result }
+    ensures on { GoesOn None 0 pass.old pass.new }
+    ensures admitted { IsAdmitted pass.new.view.opened.sizes mount.now.fds (calls.Fsync fd) result }
 {
+    faults_open_writes();
+    tries_go_on();
+    pass.sees_a_run();
     match try_fsync(mount, pass, fd) {
         Ok(done) => Answer::Placed {
             place: done.place,
@@ -139,7 +184,7 @@ fn make_sync<L: Lines + Drop, B: Backing + Drop>(
 
 /// Makes one call, again as long as a lock is found held or another write draws its numbers, and, where `worker` tells the most entries of a batch, runs a batch of the cleaner
 /// behind each try for which the log has no room. It may wait for ever, so it returns only where the others give their locks back, and the log gets room. The answer is the
-/// call's place in the history, with the reply that plain files give after the calls before it; or why it has none, which is none of these. A read's bytes lie in memory of `alloc`:
+/// call's place in the history, with the reply that plain files give after the calls before it; or why it has none, which is none of these; and a write that a device fault ended is open. A read's bytes lie in memory of `alloc`:
 /// where that is wanting nothing was done.
 pub fn make_call<R: Wait, L: Lines + Drop, B: Backing + Drop>(
     rt: &R,
@@ -147,7 +192,7 @@ pub fn make_call<R: Wait, L: Lines + Drop, B: Backing + Drop>(
     mount: &Mount<L, B>,
     pass: &mut Pass<L, B>,
     workspace: &mut Workspace<L, B>,
-    ask: &Ask,
+    call: &TraceCall,
     worker: Option<u64>,
 ) -> Result<Answer, NoMemory>
     requires board { IsOf mount.now.board pass.old }
@@ -159,22 +204,21 @@ pub fn make_call<R: Wait, L: Lines + Drop, B: Backing + Drop>(
     ensures later { IsLater pass.old pass.new }
     ensures workspace { IsWorkspace mount.now.board.opened.sizes workspace.new }
     ensures bare { workspace.new.parts.items ≡ [] }
-    ensures told { IfOk result (λ answer. Tells mount.now.fds worker ask.now pass.old pass.new answer) }
+    ensures answered { IfOk result (λ answer. IsAnswered mount.now.fds worker call.now pass.old pass.new answer) }
     ensures memory { OnErr result (pass.new ≡ pass.old) }
 {
-    let fd = ask.fd;
-    match &ask.what {
-        Act::Read { at, len } => make_read(rt, alloc, mount, pass, fd, *at, *len),
-        Act::Write { at, bytes } => Ok(make_write(
+    match call {
+        TraceCall::Pread { fd, at, len } => make_read(rt, alloc, mount, pass, *fd, *at, *len),
+        TraceCall::Pwrite { fd, at, bytes } => Ok(make_write(
             rt,
             mount,
             pass,
             workspace,
-            fd,
+            *fd,
             *at,
             bytes.as_slice(),
             worker,
         )),
-        Act::Sync => Ok(make_sync(mount, pass, fd)),
+        TraceCall::Fsync { fd } => Ok(make_sync(mount, pass, *fd)),
     }
 }

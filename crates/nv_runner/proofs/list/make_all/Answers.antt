@@ -1,59 +1,46 @@
 -- The calls that were made are one more.
-use Rattle.std.proofs.Common.{◌≡◌, ◌+◌, [], ◌∷◌, ◌++◌, length, refl, sym, ap, subst, ◌∙◌, append-nil, arith, rules}
+use Rattle.std.proofs.Common.{◌≡◌, ◌+◌, List, [], ◌∷◌, ◌++◌, drop, map, sym, ap, subst, ◌∙◌}
+use Rattle.std.proofs.lemmas.List.{map-append}
 use Rattle.nv_pages.proofs.StoreLaws.{on_err}
+use Rattle.nv_table.specs.state.States.{PassState}
 use Rattle.nv_table.proofs.steps.CallLaws.{later_on}
-use Rattle.nv_runner.specs.Lists.{Made, SomeWereMade}
-use Rattle.nv_runner.proofs.ListLaws.{MadeUpTo, made_on}
+use Rattle.nv_runner.specs.Lists.{AreMade, MadeCall, SomeWereMade, calls_made, made_call, made_calls}
+use Rattle.nv_runner.specs.Shifts.{calls_of_thread}
+use Rattle.nv_runner.proofs.ListLaws.{listed_on, made_on}
 use Rattle.nv_runner.proofs.list.make_all.Goals as goal
 
-pub loop-ask-init : goal.loop-ask-init
-loop-ask-init g c = record {
-  board = c.requires.board;
-  idle = c.requires.idle;
-  later = record { number = refl; ended = refl; made = λ zero. refl };
-  workspace = c.requires.workspace;
-  bare = c.requires.bare;
-  count = ap length c.new-answers.ensures.items;
-  made = λ more last made. subst (λ l. Made c.args.mount.now.fds c.args.worker c.args.asks.now (l ++ more) c.args.pass.now last) (sym c.new-answers.ensures.items) made;
-}
-
-pub loop-ask-preserved : goal.loop-ask-preserved
-loop-ask-preserved g c =
-    let old = c.loop-ask.pass in
+pub loop-call-preserved : goal.loop-call-preserved
+loop-call-preserved g c =
+    let fds = c.args.mount.now.fds in
+    let worker = c.args.worker in
+    let calls = c.args.calls.now in
+    let thread = c.args.thread in
+    let start = c.args.pass.now in
+    let old = c.loop-call.pass in
     let new = c.make_call.new.pass in
-    let answer = c.in_ok-make_call.field-0 in
-    let done = c.loop-ask.ask-index in
-    let items : c.push_reserved.new.self.items ≡ c.loop-ask.answers.items ++ answer ∷ [] = c.push_reserved.ensures.items ∙ ap (λ l. l ++ answer ∷ []) c.reserve.ensures.items in
+    let made : List MadeCall = made_calls c.loop-call.answered.items in
+    let m : MadeCall = record { call = c.call-item.result; answer = c.in_ok-answer.answer } in
+    let items : made_calls c.push_reserved.new.self.items ≡ made ++ m ∷ [] =
+    ap made_calls c.push_reserved.ensures.items ∙ map-append made_call c.reserve.new.self.items _ ∙ ap (λ l. map made_call l ++ m ∷ []) c.reserve.ensures.items in
     record {
       board = c.make_call.ensures.board;
       idle = c.make_call.ensures.idle;
-      later = later_on c.args.pass.now old new c.loop-ask.invariant.later c.make_call.ensures.later;
+      later = later_on start old new c.loop-call.invariant.later c.make_call.ensures.later;
       workspace = c.make_call.ensures.workspace;
       bare = c.make_call.ensures.bare;
-      count = search rules;
-      made = subst (λ l. MadeUpTo c.args.mount.now.fds c.args.worker c.args.asks.now (done + 1) l c.args.pass.now new) (sym items)
-          (made_on c.args.mount.now.fds c.args.worker c.args.asks.now done c.loop-ask.answers.items c.args.pass.now old new c.ask-item.result answer (omega arith) c.ask-item.is
-          (record { opened = c.make_call.ensures.board.same_mount ∙ sym c.loop-ask.invariant.board.same_mount; later = c.make_call.ensures.later; told = c.in_ok-make_call.ensures.told }) c.loop-ask.invariant.made);
+      listed = subst (λ l. calls_made l ++ calls_of_thread thread (drop (c.loop-call.call-index + 1) calls) ≡ calls_of_thread thread calls) (sym items)
+          (listed_on thread calls c.loop-call.call-index c.call-item.result made m.answer c.loop-call-test.true c.call-item.is c.if-call-thread.false c.loop-call.invariant.listed);
+      each = subst (λ l. AreMade fds worker l start new) (sym items) (made_on fds worker made m start old new c.loop-call.invariant.each c.in_ok-answer.ensures.answered);
     }
 
-pub returns-in_err-reserve-clause-memory : goal.returns-in_err-reserve-clause-memory
-returns-in_err-reserve-clause-memory g c = on_err c.from_residual.result (SomeWereMade c.args.mount.now.fds c.args.worker c.args.asks.now c.args.pass.now c.loop-ask.pass) record {
-  answers = c.loop-ask.answers.items;
-  few = omega arith;
-  made = subst (λ l. Made c.args.mount.now.fds c.args.worker c.args.asks.now l c.args.pass.now c.loop-ask.pass) (append-nil c.loop-ask.answers.items) (c.loop-ask.invariant.made [] c.loop-ask.pass refl);
-}
-
-pub returns-in_err-make_call-clause-memory : goal.returns-in_err-make_call-clause-memory
-returns-in_err-make_call-clause-memory g c = on_err c.from_residual-in_err-make_call.result (SomeWereMade c.args.mount.now.fds c.args.worker c.args.asks.now c.args.pass.now c.make_call.new.pass) record {
-  answers = c.loop-ask.answers.items;
-  few = omega arith;
-  made = subst (λ l. Made c.args.mount.now.fds c.args.worker c.args.asks.now l c.args.pass.now c.make_call.new.pass) (append-nil c.loop-ask.answers.items)
-      (c.loop-ask.invariant.made [] c.make_call.new.pass c.in_err-make_call.ensures.memory);
-}
-
-pub returns-clause-made : goal.returns-clause-made
-returns-clause-made g c = record {
-  all = omega (arith, c.loop-ask.invariant.count);
-  made = subst (λ l. Made c.args.mount.now.fds c.args.worker c.args.asks.now l c.args.pass.now c.loop-ask.pass) (append-nil c.loop-ask.answers.items)
-      (c.loop-ask.invariant.made [] c.loop-ask.pass (search rules));
-}
+pub returns-in_err-answer-clause-memory : goal.returns-in_err-answer-clause-memory
+returns-in_err-answer-clause-memory g c =
+    let fds = c.args.mount.now.fds in
+    let worker = c.args.worker in
+    let all = calls_of_thread c.args.thread c.args.calls.now in
+    let start = c.args.pass.now in
+    let some : SomeWereMade fds worker all (made_calls c.loop-call.answered.items) start c.loop-call.pass =
+    record { left = calls_of_thread c.args.thread (drop c.loop-call.call-index c.args.calls.now); some = c.loop-call.invariant.listed; each = c.loop-call.invariant.each } in
+    on_err c.from_residual-in_err-answer.result (SomeWereMade fds worker all (made_calls c.reserve.new.self.items) start c.make_call.new.pass)
+    (subst (λ l. SomeWereMade fds worker all (made_calls l) start c.make_call.new.pass) (sym c.reserve.ensures.items)
+    (subst (λ (p : PassState). SomeWereMade fds worker all (made_calls c.loop-call.answered.items) start p) (sym c.in_err-answer.ensures.memory) some))

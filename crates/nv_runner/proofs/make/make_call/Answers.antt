@@ -1,23 +1,31 @@
 -- What the call told is told of what was asked.
-use Rattle.std.proofs.Common.{sym, subst}
+use Rattle.std.proofs.Common.{refl, sym, subst, ◌∙◌}
 use Rattle.std.specs.Prelude.{IfOk}
-use Rattle.nv_runner.specs.declared.ask.Act.{Act}
-use Rattle.nv_runner.specs.declared.ask.Act.TheVariants as acts
-use Rattle.nv_runner.specs.Calls.{Tells}
+use Rattle.nv_trace.specs.declared.trace_call.TraceCall.{TraceCall}
+use Rattle.nv_trace.specs.declared.trace_call.TraceCall.TheVariants as calls
+use Rattle.nv_runner.specs.Calls.{IsAnswered}
+use Rattle.nv_runner.proofs.CallLaws.{ok_answered, ok_on}
+use Rattle.nv_runner.proofs.TryLaws.{answer_on}
 use Rattle.nv_runner.proofs.make.make_call.Goals as goal
 
-pub returns-in-Read-clause-told : goal.returns-in-Read-clause-told
-returns-in-Read-clause-told g c =
-    subst (λ (what : Act). IfOk c.make_read.result (λ answer. Tells c.args.mount.now.fds c.args.worker (record { fd = c.args.ask.now.fd; what = what }) c.args.pass.now c.make_read.new.pass answer))
-    (sym c.in-Read.is) (c.make_read.ensures.told c.args.worker)
+pub returns-in-Pread-clause-answered : goal.returns-in-Pread-clause-answered
+returns-in-Pread-clause-answered g c =
+    subst (λ (call : TraceCall). IfOk c.make_read.result (λ answer. IsAnswered c.args.mount.now.fds c.args.worker call c.args.pass.now c.make_read.new.pass answer)) (sym c.in-Pread.is)
+    (ok_answered c.args.mount.now.fds c.args.worker (calls.Pread c.in-Pread.fd c.in-Pread.at c.in-Pread.len) c.args.pass.now c.make_read.new.pass c.make_read.result
+    (c.make_read.ensures.board.same_mount ∙ sym c.requires.board.same_mount) c.make_read.ensures.later (c.make_read.ensures.told c.args.worker) c.make_read.ensures.stays c.make_read.ensures.stop c.make_read.ensures.opens
+    (ok_on c.args.worker c.make_read.new.pass.view.opened.sizes (calls.Pread c.in-Pread.fd c.in-Pread.at c.in-Pread.len) c.args.pass.now c.make_read.new.pass c.make_read.result refl c.make_read.ensures.on)
+    c.make_read.ensures.admitted)
 
-pub returns-in-Write-clause-told : goal.returns-in-Write-clause-told
-returns-in-Write-clause-told g c =
-    subst (λ (what : Act). Tells c.args.mount.now.fds c.args.worker (record { fd = c.args.ask.now.fd; what = what }) c.args.pass.now c.make_write.new.pass c.make_write.result) (sym c.in-Write.is)
-    (subst (λ bytes. Tells c.args.mount.now.fds c.args.worker (record { fd = c.args.ask.now.fd; what = acts.Write c.in-Write.at bytes }) c.args.pass.now c.make_write.new.pass c.make_write.result)
-    c.as_slice.ensures c.make_write.ensures.told)
-
-pub returns-in-Sync-clause-told : goal.returns-in-Sync-clause-told
-returns-in-Sync-clause-told g c =
-    subst (λ (what : Act). Tells c.args.mount.now.fds c.args.worker (record { fd = c.args.ask.now.fd; what = what }) c.args.pass.now c.make_sync.new.pass c.make_sync.result) (sym c.in-Sync.is)
-    (c.make_sync.ensures.told c.args.worker)
+pub returns-in-Fsync-clause-answered : goal.returns-in-Fsync-clause-answered
+returns-in-Fsync-clause-answered g c =
+    subst (λ (call : TraceCall). IsAnswered c.args.mount.now.fds c.args.worker call c.args.pass.now c.make_sync.new.pass c.make_sync.result) (sym c.in-Fsync.is)
+    record {
+      opened = c.make_sync.ensures.board.same_mount ∙ sym c.requires.board.same_mount;
+      later = c.make_sync.ensures.later;
+      told = c.make_sync.ensures.told c.args.worker;
+      stays = c.make_sync.ensures.stays;
+      stop = c.make_sync.ensures.stop;
+      opens = c.make_sync.ensures.opens;
+      on = answer_on c.args.worker c.make_sync.new.pass.view.opened.sizes (calls.Fsync c.in-Fsync.fd) c.make_sync.result c.args.pass.now c.make_sync.new.pass refl c.make_sync.ensures.on;
+      admitted = c.make_sync.ensures.admitted;
+    }

@@ -4,7 +4,7 @@ use Rattle.std.specs.Prelude.{Result, Err}
 use Rattle.nv_mirror.specs.declared.answers.Done.{Done}
 use Rattle.nv_mirror.specs.declared.answers.Refusal.{Refusal}
 use Rattle.nv_calls.specs.reads.Reads.{IsReadOver}
-use Rattle.nv_runner.proofs.CallLaws.{read_refused_early}
+use Rattle.nv_runner.proofs.CallLaws.{read_admitted, read_refused_early}
 use Rattle.nv_runner.proofs.make.make_read.Goals as goal
 
 pub returns-in-Some-clause-told : goal.returns-in-Some-clause-told
@@ -30,3 +30,11 @@ returns-in-Err-clause-told g c =
         subst (λ (r : Result Done Refusal). IsReadOver c.args.mount.now.fds c.args.fd c.args.at list over.0 c.pread.new.pass r) c.in-Err.is over.2,
       );
     }
+
+pub returns-in-Ok-clause-admitted : goal.returns-in-Ok-clause-admitted
+returns-in-Ok-clause-admitted g c =
+    let list = c.pread.new.buf in
+    let size : length list ≡ c.args.len = search rules in
+    let over = c.pread.ensures.over in
+    read_admitted c.args.mount.now.fds c.args.fd c.args.at c.args.len list over.0 c.pread.new.pass c.in-Ok.done size
+    (subst (λ (r : Result Done Refusal). IsReadOver c.args.mount.now.fds c.args.fd c.args.at list over.0 c.pread.new.pass r) c.in-Ok.is over.2)

@@ -1,0 +1,254 @@
+-- Refusing steps: what the first refusal among the steps of a call tells of what its pass has seen.
+use Rattle.std.proofs.Common.{◌≡◌, ◌≢◌, ◌⊎◌, ℕ, ◌+◌, ◌^◌, ◌<◌, ◌≤◌, ◌==◌, nat_lt, nat_le, not, ◌&&◌, ◌||◌, Bool, true, false, if◌then◌else◌, List, [], ◌∷◌, length, inl, inr, refl, sym, ap, subst, ◌∙◌, arith, le_trans}
+use Rattle.std.specs.Prelude.{Option, Some, None}
+use Rattle.std.proofs.lemmas.Bool.{and_parts, ltb-false, leb-false, true≢false}
+use Rattle.nv_plain.specs.declared.call.FileCall.{FileCall}
+use Rattle.nv_plain.specs.declared.call.FileCall.TheVariants.{Read, Write, Sync}
+use Rattle.nv_core.specs.state.Words.{Sizes, Word, STOP, ORDER, HEAD, TAIL, PAGE, place}
+use Rattle.nv_core.specs.state.Passes.{Pass, page_count, is_write}
+use Rattle.nv_core.specs.steps.Frames.{OwnEventsTell}
+use Rattle.nv_core.specs.steps.Ops.{Op, Load, Take, Stop, Draw, ByCleaner}
+use Rattle.nv_core.specs.steps.Order.{Work}
+use Rattle.nv_core.specs.steps.Opening.{IsMount}
+use Rattle.nv_core.specs.invariant.Draws.{entries_of}
+use Rattle.nv_core.proofs.state.Choices.{if_both}
+use Rattle.nv_table.specs.steps.SeatSteps.{pass_before, pass_worked, with_call}
+use Rattle.nv_table.specs.steps.StepContracts.{Postcondition}
+use Rattle.nv_table.specs.state.Opened.{Opened, IsRunOf, mount_of, state_of}
+use Rattle.nv_table.specs.state.States.{PassState}
+use Rattle.nv_table.specs.state.Views.{PassView, pass_of}
+use Rattle.nv_table.proofs.invariant.DrawnLaws.{calls_leave}
+use Rattle.nv_mirror.specs.declared.answers.Refusal.{Refusal}
+use Rattle.nv_mirror.specs.declared.answers.Refusal.TheVariants.{BadFd, TooFar, TooLong, Busy, Stopped, Spent, Again, Raced, RegionFault, StoreFault}
+use Rattle.nv_mirror.specs.OwnSteps.{AreOwn, is_own}
+use Rattle.nv_mirror.specs.PassSteps.{PassStep, HasMade, HasTaken, busy_at, either_of, fault_in, head_by, head_in, if_own, is_fault, is_stop, refusal_in, refused_by, stops_in, unless_room}
+use Rattle.nv_mirror.proofs.StopLaws.{IsFault, faults_are, sets_stop}
+use Rattle.nv_runner.specs.Refusals.{word_seen}
+use Rattle.nv_runner.specs.Runs.{entries_if, is_cleaning_op}
+use Rattle.nv_runner.proofs.RefusalWords.{WordLaws, SeesNoLower, load_found, step_sees, tail_least}
+use Rattle.nv_runner.proofs.RunLaws.{Went, between_went, step_went, went_as, went_both, went_nowhere}
+
+-- ---- what a refusal tells
+
+abbrev pub IsWriteOfFile : FileCall → Type 0
+IsWriteOfFile (Write file at bytes) = Unit {0}
+IsWriteOfFile call = ⊥
+
+-- What the pass of a call has seen that is refused so, or for nothing. Only a write draws numbers.
+abbrev pub Shows : Sizes → FileCall → (now : PassState) → Option Refusal → Type 0
+Shows sizes call now (Some BadFd) = ⊥
+Shows sizes call now (Some TooFar) = ⊥
+Shows sizes call now (Some TooLong) = ⊥
+Shows sizes call now (Some (Spent found)) =
+    ((2 ^ 60 ≤ found) × (found ≤ word_seen now ORDER)) ⊎ ((is_write call ≡ true) × (2 ^ 60 < found + page_count sizes call) × (found ≤ word_seen now HEAD))
+Shows sizes call now (Some (Again head tail)) = (is_write call ≡ true) × (tail + sizes.entries < head + page_count sizes call) × (head ≤ word_seen now HEAD) × (now.view.opened.next ≤ tail) × (tail ≤ word_seen now TAIL)
+Shows sizes call now (Some (Raced seen found)) = IsWriteOfFile call
+Shows sizes call now refusal = Unit {0}
+
+-- it still has, later
+shows_later : (sizes : Sizes) (call : FileCall) (old new : PassState) (refusal : Option Refusal) → SeesNoLower old new → Shows sizes call old refusal → Shows sizes call new refusal
+shows_later sizes call old new (Some (Spent found)) later shown = elim shown [
+  | inl order ↦ inl (order.0, le_trans order.1 later.order)
+  | inr numbers ↦ inr (numbers.0, numbers.1, le_trans numbers.2 later.head)
+]
+shows_later sizes call old new (Some (Again head tail)) later shown = (shown.0, shown.1, le_trans shown.2 later.head, (let least = shown.3 in let same = later.next in omega (arith, least, same)), le_trans shown.4 later.tail)
+shows_later sizes call old new (Some BadFd) later shown = shown
+shows_later sizes call old new (Some TooFar) later shown = shown
+shows_later sizes call old new (Some TooLong) later shown = shown
+shows_later sizes call old new (Some (Raced seen found)) later shown = shown
+shows_later sizes call old new refusal later shown = tt
+
+-- ---- one step
+
+-- what a draw's call is
+draws_write : (call : FileCall) (before : Option Refusal) → is_own call before Draw ≡ true → IsWriteOfFile call
+draws_write (Write file at bytes) before own = tt
+draws_write (Read file at len) None own = absurd (cc)
+draws_write (Read file at len) (Some refusal) own = absurd (cc)
+draws_write (Sync file) None own = absurd (cc)
+draws_write (Sync file) (Some refusal) own = absurd (cc)
+
+-- a device fault
+fault_shows : (sizes : Sizes) (call : FileCall) (now : PassState) (fault : Option Refusal) → IsFault fault → Shows sizes call now fault
+fault_shows sizes call now (Some RegionFault) is = tt
+fault_shows sizes call now (Some StoreFault) is = tt
+fault_shows sizes call now (Some refusal) is = absurd is
+fault_shows sizes call now None is = tt
+
+-- the first of two, or the other
+either_shows : (sizes : Sizes) (call : FileCall) (now : PassState) (one other : Option Refusal) → Shows sizes call now one → (one ≡ None → Shows sizes call now other) → Shows sizes call now (either_of one other)
+either_shows sizes call now (Some refusal) other first last = first
+either_shows sizes call now None other first last = last refl
+
+module _ (sizes : Sizes) (call : FileCall) (now : PassState) where
+  room_shows : (room : Bool) (refusal : Refusal) → (is_write call ≡ true → room ≡ false → Shows sizes call now (Some refusal)) → Shows sizes call now (unless_room call room refusal)
+  room_shows room refusal wants =
+      if_both (Shows sizes call now) (is_write call && not room) (Some refusal) None (λ both. let parts = and_parts (is_write call) (not room) both in wants parts.0 (shut room parts.1)) (λ _. tt)
+    where
+      shut : (room : Bool) → not room ≡ true → room ≡ false
+      shut true is = absurd (cc)
+      shut false is = refl
+
+  busy_shows : (cell : Word) (found : ℕ) → Shows sizes call now (busy_at sizes cell found)
+  busy_shows cell found = if_both (Shows sizes call now) (found == 0) None (Some (Busy (place sizes cell))) (λ _. tt) (λ _. tt)
+
+  -- a step that refuses its call, where the words that it loaded are as it found them
+  shows_by : (before : Option Refusal) (head : ℕ) (works : List Work) (op : Op) (found : ℕ) → is_own call before op ≡ true → head ≤ word_seen now HEAD
+      → now.view.opened.next ≤ word_seen now TAIL → ((word : Word) → op ≡ Load word → word_seen now word ≡ found)
+      → Shows sizes call now (refused_by sizes call head works op found)
+  shows_by before head works (Take (PAGE page)) found own low least is =
+      if_both (Shows sizes call now) (found == 0) None (if_own sizes call page (busy_at sizes (PAGE page) found)) (λ _. tt)
+      (λ _. if_both (Shows sizes call now) _ (busy_at sizes (PAGE page) found) None (λ _. busy_shows (PAGE page) found) (λ _. tt))
+  shows_by before head works (Take cell) found own low least is = busy_shows cell found
+  shows_by before head works (Load STOP) found own low least is = if_both (Shows sizes call now) (found == 0) None (Some Stopped) (λ _. tt) (λ _. tt)
+  shows_by before head works (Load ORDER) found own low least is =
+      if_both (Shows sizes call now) (nat_lt found (2 ^ 60)) None (Some (Spent found)) (λ _. tt)
+      (λ many. let order = is ORDER refl in let high = ltb-false found (2 ^ 60) many in inl (omega (arith, high), omega (arith, order)))
+  shows_by before head works (Load HEAD) found own low least is =
+      room_shows (nat_le (found + page_count sizes call) (2 ^ 60)) (Spent found)
+      (λ write many. let there = is HEAD refl in let high = leb-false (found + page_count sizes call) (2 ^ 60) many in inr (write, omega (arith, high), omega (arith, there)))
+  shows_by before head works (Load TAIL) found own low least is =
+      room_shows (nat_le (head + page_count sizes call) (found + sizes.entries)) (Again head found)
+      (λ write many. let there = is TAIL refl in let high = leb-false (head + page_count sizes call) (found + sizes.entries) many in (write, omega (arith, high), low, omega (arith, there, least), omega (arith, there)))
+  shows_by before head works Draw found own low least is = if_both (Shows sizes call now) (found == head) None (Some (Raced head found)) (λ _. tt) (λ _. draws_write call before own)
+  shows_by before head works Stop found own low least is = fault_shows sizes call now (fault_in works) (faults_are works)
+  shows_by before head works op found own low least is = tt
+
+-- HEAD as a call loaded it last
+head_low : (op : Op) (found head most : ℕ) → (op ≡ Load HEAD → found ≤ most) → head ≤ most → head_by op found head ≤ most
+head_low (Load HEAD) found head most here before = here refl
+head_low op found head most here before = before
+
+-- ---- some steps
+
+-- those of a call, or none yet
+abbrev AreOwnIfAny : Sizes → FileCall → List PassStep → Type 0
+AreOwnIfAny sizes call [] = Unit {0}
+AreOwnIfAny sizes call (step ∷ earlier) = AreOwn sizes call (step ∷ earlier)
+
+pub own_any : (sizes : Sizes) (call : FileCall) (steps : List PassStep) → AreOwn sizes call steps → AreOwnIfAny sizes call steps
+own_any sizes call [] own = absurd own
+own_any sizes call (step ∷ earlier) own = own
+
+-- the last of them: it begins the call, or comes behind others
+abbrev IsLastOwn : Sizes → FileCall → PassStep → List PassStep → Type 0
+IsLastOwn sizes call step earlier =
+    (is_own call (refusal_in sizes call earlier) step.op ≡ true) × ((step.opens ≡ Some call) ⊎ ((step.opens ≡ None) × (earlier ≢ []))) × AreOwnIfAny sizes call earlier
+
+some_steps : (step : PassStep) (earlier : List PassStep) → step ∷ earlier ≢ []
+some_steps step earlier is = let long = ap length is in omega (arith, long)
+
+last_own : (sizes : Sizes) (call : FileCall) (step : PassStep) (earlier : List PassStep) → AreOwn sizes call (step ∷ earlier) → IsLastOwn sizes call step earlier
+last_own sizes call step [] own = (own.1, inl own.0, tt)
+last_own sizes call step (other ∷ earlier) own = (own.1, inr (own.0, some_steps other earlier), own.2)
+
+-- what is so of a pass behind some
+pub record Stands (sizes : Sizes) (call : FileCall) (start : PassState) (steps : List PassStep) (now : PassState) : Type 0 where
+  pub opened : now.view.opened ≡ start.view.opened
+  pub head : head_in steps ≤ word_seen now HEAD
+  pub why : Shows sizes call now (refusal_in sizes call steps)
+  pub makes : steps ≢ [] → (pass_of now.view).call ≡ call
+  pub went : Went true (entries_if (stops_in steps) (entries_of start.view.opened.sizes call)) start now
+
+-- a step of a call is none of a cleaner
+own_calls : (call : FileCall) (refusal : Option Refusal) (op : Op) → is_own call refusal op ≡ true → is_cleaning_op op ≡ false
+own_calls call None (ByCleaner cleaner_op) own = absurd (cc)
+own_calls call (Some refusal) (ByCleaner cleaner_op) own = absurd (cc)
+own_calls call refusal op own = refl
+
+-- and behind a fault none sets STOP
+no_stop_again : (call : FileCall) (refusal : Option Refusal) (op : Op) → is_fault refusal ≡ true → is_own call refusal op ≡ true → is_stop op ≡ false
+no_stop_again call None op fault own = absurd (cc)
+no_stop_again call (Some refusal) Stop fault own = absurd (cc)
+no_stop_again call (Some refusal) op fault own = refl
+
+stops_once : (before sets : Bool) (entries : ℕ) → (before ≡ true → sets ≡ false) → entries_if before entries + (if sets then entries else 0) ≡ entries_if (before || sets) entries
+stops_once true true entries once = absurd (true≢false (once refl))
+stops_once true false entries once = omega arith
+stops_once false true entries once = omega arith
+stops_once false false entries once = omega arith
+
+module _ (laws : WordLaws) (tell : OwnEventsTell) (sizes : Sizes) (call : FileCall) (start : PassState) (mount : IsMount (mount_of start.view.opened)) where
+  -- a step behind some, with the pass as it finds it
+  module _ (step : PassStep) (earlier : List PassStep) (middle now : PassState) (was : Stands sizes call start earlier middle) (taken : HasTaken step middle now) (own : IsLastOwn sizes call step earlier)
+      (stopped : stops_in earlier ≡ is_fault (refusal_in sizes call earlier)) where
+    abbrev seen : PassView
+    seen = taken.before.view
+
+    abbrev works : List Work
+    works = taken.stepped.works
+
+    abbrev there : Pass
+    there = pass_before seen step.opens works
+
+    seen_opened : seen.opened ≡ start.view.opened
+    seen_opened = ap (λ (v : PassView). v.opened) taken.between.view ∙ was.opened
+
+    seen_mount : IsMount (mount_of seen.opened)
+    seen_mount = subst (λ (o : Opened). IsMount (mount_of o)) (sym seen_opened) mount
+
+    opened_with : (opens : Option FileCall) → step.opens ≡ opens → there ≡ with_call seen.opened.sizes opens (pass_worked seen.opened.sizes works (pass_of seen))
+    opened_with opens is = ap (λ o. with_call seen.opened.sizes o (pass_worked seen.opened.sizes works (pass_of seen))) is
+
+    there_makes : there.call ≡ call
+    there_makes = elim own.1 [
+      | inl first ↦ ap (λ (p : Pass). p.call) (opened_with (Some call) first)
+      | inr later ↦
+          ap (λ (p : Pass). p.call) (opened_with None later.0) ∙ calls_leave (λ (p : Pass). p.call) (λ sizes work p. refl) seen.opened.sizes works (pass_of seen)
+          ∙ ap (λ (v : PassView). (pass_of v).call) taken.between.view ∙ was.makes later.1
+    ]
+
+    finds : (word : Word) → step.op ≡ Load word → word_seen now word ≡ step.found
+    finds word is = load_found taken.before now step.opens word step.found (subst (λ op. Postcondition taken.before step.opens op step.found now) is taken.stepped)
+
+    later_sees : SeesNoLower middle now
+    later_sees =
+        let next = step_sees laws taken.before now step.opens step.op step.found seen_mount taken.stepped in
+        let order = next.order in
+        let head = next.head in
+        let tail = next.tail in
+        let same : (word : Word) → word_seen taken.before word ≡ word_seen middle word = λ word. ap (λ (v : PassView). (state_of v.opened v.run).words word) taken.between.view in
+        let a = same ORDER in let b = same HEAD in let c = same TAIL in
+        record { next = next.next ∙ ap (λ (v : PassView). v.opened.next) taken.between.view; order = omega (arith, order, a); head = omega (arith, head, b); tail = omega (arith, tail, c) }
+
+    now_mount : IsMount (mount_of now.view.opened)
+    now_mount = subst (λ (v : PassView). IsMount (mount_of v.opened)) (sym taken.stepped.steps.is) seen_mount
+
+    now_run : IsRunOf now.view.opened now.view.run
+    now_run = subst (λ (v : PassView). IsRunOf v.opened v.run) (sym taken.stepped.steps.is) taken.stepped.steps.is_run
+
+    -- what faults ended meanwhile: the call itself, where it sets STOP
+    there_faults : entries_if (stops_in earlier) (entries_of start.view.opened.sizes call) + (if is_stop step.op then entries_of seen.opened.sizes there.call else 0)
+        ≡ entries_if (stops_in (step ∷ earlier)) (entries_of start.view.opened.sizes call)
+    there_faults =
+        ap (λ n. entries_if (stops_in earlier) (entries_of start.view.opened.sizes call) + (if is_stop step.op then n else 0))
+        (ap (λ (o : Opened). entries_of o.sizes there.call) seen_opened ∙ ap (entries_of start.view.opened.sizes) there_makes)
+        ∙ stops_once (stops_in earlier) (is_stop step.op) (entries_of start.view.opened.sizes call) (λ before. no_stop_again call (refusal_in sizes call earlier) step.op (sym stopped ∙ before) own.0)
+
+    went_on : Went true (entries_if (stops_in (step ∷ earlier)) (entries_of start.view.opened.sizes call)) start now
+    went_on =
+        went_as true _ _ start now there_faults
+        (went_both true (entries_if (stops_in earlier) (entries_of start.view.opened.sizes call)) _ start middle now was.went
+        (between_went true _ middle taken.before now taken.between.view (step_went true taken.before now step.opens step.op step.found (λ only. own_calls call (refusal_in sizes call earlier) step.op own.0) taken.stepped)))
+
+    pub stands_on : Stands sizes call start (step ∷ earlier) now
+    stands_on = record {
+      opened = ap (λ (v : PassView). v.opened) taken.stepped.steps.is ∙ seen_opened;
+      head = head_low step.op step.found (head_in earlier) (word_seen now HEAD) (λ is. let same = finds HEAD is in omega (arith, same)) (le_trans was.head later_sees.head);
+      why = either_shows sizes call now (refusal_in sizes call earlier) _ (shows_later sizes call middle now (refusal_in sizes call earlier) later_sees was.why)
+          (λ _. shows_by sizes call now (refusal_in sizes call earlier) (head_in earlier) step.works step.op step.found own.0 (le_trans was.head later_sees.head) (tail_least laws now now_mount now_run) finds);
+      makes = λ _. ap (λ (p : Pass). p.call) taken.stepped.pass ∙ there_makes;
+      went = went_on;
+    }
+
+  -- where STOP is set the call is refused for that
+  stopped_so : (steps : List PassStep) (now : PassState) → HasMade steps start now → AreOwnIfAny sizes call steps → stops_in steps ≡ is_fault (refusal_in sizes call steps)
+  stopped_so [] now all own = refl
+  stopped_so (step ∷ earlier) now all own = sets_stop sizes call laws.sound tell start mount (step ∷ earlier) now all own
+
+  pub stands : (steps : List PassStep) (now : PassState) → HasMade steps start now → AreOwnIfAny sizes call steps → Stands sizes call start steps now
+  stands [] now all own =
+      record { opened = ap (λ (p : PassState). p.view.opened) all; head = omega arith; why = tt; makes = λ some. absurd (some refl); went = went_nowhere true start now all }
+  stands (step ∷ earlier) now all own =
+      let last = last_own sizes call step earlier own in
+      stands_on step earlier all.0 now (stands earlier all.0 all.1 last.2) all.2 last (stopped_so earlier all.0 all.1 last.2)

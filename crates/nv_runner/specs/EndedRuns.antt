@@ -1,0 +1,97 @@
+-- Ended runs: a mount over which calls of a trace were made, and what it tells when pass 0 closes it.
+use Rattle.std.specs.Prelude.{◌≡◌, ℕ, ◌+◌, ◌≤◌, true, false, List, length, is_none, IsPermutation, Option, Some, None, Result, Ok, Err, IfOk, OnOk, if◌then◌else◌}
+use Rattle.std.specs.List.{flat_map}
+use Rattle.nv_plain.specs.Faults.{Rose}
+use Rattle.nv_plain.specs.declared.call.Reply.{Reply}
+use Rattle.nv_pmem.specs.Steps.{PartHistory}
+use Rattle.nv_store.specs.Steps.{StoreHistory}
+use Rattle.nv_core.specs.state.Passes.{IsOneOf}
+use Rattle.nv_core.specs.state.Values.{Value}
+use Rattle.nv_core.specs.state.Words.{ORDER, HEAD, TAIL}
+use Rattle.nv_table.specs.invariant.BetweenSteps.{KnowsTaken}
+use Rattle.nv_table.specs.invariant.Idle.{IsIdle}
+use Rattle.nv_table.specs.passes.Alone.{IsAlone}
+use Rattle.nv_table.specs.state.States.{PassState}
+use Rattle.nv_mount.specs.ClosedAtRest.{HasEmptiedLog, RestsWhereEmpty}
+use Rattle.nv_mount.specs.OneHistories.{HasOneHistory}
+use Rattle.nv_mount.specs.RisenCounts.{SawStop, failed_before}
+use Rattle.nv_mount.specs.Telling.{DevicesGoOnTelling, KeepLines}
+use Rattle.nv_mount.specs.WholeRuns.{IsWholeRun, history_then}
+use Rattle.nv_mount.specs.WholeWrites.{CrashesLeaveWholeWrites, faults_then}
+use Rattle.nv_mount.specs.declared.fds.Fd.{Fd}
+use Rattle.nv_mirror.specs.Answers.{IsUnplaced}
+use Rattle.nv_mirror.specs.declared.answers.Refusal.{Refusal}
+use Rattle.nv_calls.specs.histories.Faults.{open_in}
+use Rattle.nv_calls.specs.histories.Heeds.{HasSeenStop}
+use Rattle.nv_trace.specs.declared.trace_call.TracedCall.{TracedCall}
+use Rattle.nv_runner.specs.declared.plan.Plan.{Plan}
+use Rattle.nv_runner.specs.declared.run_error.RunError.{RunError}
+use Rattle.nv_runner.specs.declared.run_error.RunError.TheVariants.{Fault, NoMemory}
+use Rattle.nv_runner.specs.declared.sorted.SortedCalls.{SortedCalls}
+use Rattle.nv_runner.specs.declared.answer.Answer.TheVariants.{Placed, Refused, Open}
+use Rattle.nv_runner.specs.Faithful.{not_later}
+use Rattle.nv_runner.specs.Lists.{MadeCall, calls_made}
+use Rattle.nv_runner.specs.OpenRuns.{open_of}
+use Rattle.nv_runner.specs.Refusals.{HasCause, IsOpenWrite, early_of_call, word_seen}
+use Rattle.nv_runner.specs.RunRefusals.{drawing_calls, entries_of_calls}
+use Rattle.nv_runner.specs.Shifts.{HasRun}
+use Rattle.nv_runner.specs.Sorted.{AreSortedOut, OpenedCall, opened_calls}
+
+-- the entries of a batch, where a worker runs any
+abbrev pub batch_of : Plan → Option ℕ
+batch_of plan = if plan.worker then Some plan.batch else None
+
+-- Pass 0 was new at the start. Since then passes have made these calls; it has taken all of them in, is between calls, and has made none itself.
+pub record HasRunOut (fds : List Fd) (worker : Option ℕ) (made : List MadeCall) (start zero : PassState) : Type 0 where
+  pub mount : zero.view.opened ≡ start.view.opened
+  pub spare : zero.spare ≡ start.spare
+  pub run : HasRun fds worker made zero
+  pub idle : IsIdle zero
+  pub unplaced : IsUnplaced start.view zero.view
+  pub taken : KnowsTaken zero.view
+  pub alone : IsAlone zero.view
+
+-- What a mount that pass 0 has closed so tells: its whole run, the one history of all calls, the stores and the region where its log is empty, and what a power failure leaves; and that devices have
+-- failed where a pass saw STOP set, and never less often than before; and all devices tell where all told, and keep their lines.
+pub record IsClosedBy (zero : PassState) (part_values store_values : List Value) (parts : List PartHistory) (stores : List StoreHistory) (faults placed tail : ℕ) : Type 0 where
+  pub whole : IsWholeRun zero.view part_values store_values placed tail
+  pub history : HasOneHistory zero.view placed
+  pub rest : RestsWhereEmpty zero.view parts stores tail
+  pub crash : CrashesLeaveWholeWrites zero.view parts stores
+  pub stopped : SawStop zero.view → Rose (failed_before zero) faults
+  pub grew : failed_before zero ≤ faults
+  pub telling : DevicesGoOnTelling zero parts stores
+  pub lines : KeepLines zero.view parts
+
+-- A call of a run was refused, by such a cause. Its pass had seen HEAD no higher than the first number and what the calls drew that don't come later than it; ORDER no higher than there are placed
+-- calls; and TAIL as it was at opening, where no batch may be run.
+pub record IsRefusedSo (fds : List Fd) (worker : Option ℕ) (made : List MadeCall) (zero : PassState) (call : TracedCall) (refusal : Refusal) : Type 0 where
+  pub now : PassState
+  pub opened : now.view.opened ≡ zero.view.opened
+  pub cause : HasCause fds worker call.call now refusal
+  pub seen : HasSeenStop now → SawStop zero.view
+  pub order : word_seen now ORDER ≤ length (history_then zero.view)
+  pub head : word_seen now HEAD ≤ zero.view.opened.next + entries_of_calls zero.view.opened.sizes (not_later call (drawing_calls made))
+  pub tail : worker ≡ None → word_seen now TAIL ≡ zero.view.opened.next
+
+-- What became of the calls of a trace: passes made them, and pass 0 came to this. All of them were made, and are sorted out, where the run was brought to its end; then the log is empty, unless the
+-- run is one that is stopped. A fault is answered only where a pass has seen STOP set. Each refusal has its cause; the writes that faults ended are the calls that were left open, which came only where
+-- a pass has seen STOP set; and without a worker the calls drew no more numbers than the log has entries.
+pub record HasOutcome (fds : List Fd) (plan : Plan) (calls : List TracedCall) (start : PassState) (outcome : Result SortedCalls RunError) (zero : PassState) : Type 0 where
+  pub made : List MadeCall
+  pub run_out : HasRunOut fds (batch_of plan) made start zero
+  pub sorted : IfOk outcome (λ sorted. AreSortedOut made sorted × IsPermutation calls (calls_made made))
+  pub emptied : is_none plan.stop ≡ true → OnOk outcome (HasEmptiedLog zero.view)
+  pub fault : outcome ≡ Err Fault → SawStop zero.view
+  pub causes : (call : TracedCall) (refusal : Refusal) → IsOneOf made (record { call = call; answer = Refused refusal }) → IsRefusedSo fds (batch_of plan) made zero call refusal
+  pub not_barred : (call : TracedCall) (place : ℕ) (reply : Reply) → IsOneOf made (record { call = call; answer = Placed place reply }) → early_of_call zero.view.opened.sizes fds call.call ≡ None
+  pub left_open : (left : List OpenedCall) → IsPermutation (opened_calls made) left → IsPermutation (flat_map (open_of fds) left) (open_in (faults_then zero.view))
+  pub open_stopped : (call : TracedCall) (number : ℕ) → IsOneOf made (record { call = call; answer = Open number }) → SawStop zero.view × IsOpenWrite zero.view.opened.sizes fds call.call
+  pub room : plan.worker ≡ false → entries_of_calls zero.view.opened.sizes (drawing_calls made) ≤ zero.view.opened.sizes.entries
+
+-- What is answered of a run that came to this: its error; or its calls, sorted out, or that memory was wanting for that.
+abbrev pub IsOutcomeOf : {T : Type 0} → Result T RunError → List MadeCall → Result SortedCalls RunError → Type 0
+IsOutcomeOf (Ok done) made (Ok sorted) = AreSortedOut made sorted
+IsOutcomeOf (Ok done) made (Err error) = error ≡ NoMemory
+IsOutcomeOf (Err error) made (Ok sorted) = ⊥
+IsOutcomeOf (Err error) made (Err other) = other ≡ error

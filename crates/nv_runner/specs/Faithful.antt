@@ -1,0 +1,214 @@
+-- Faithful reports: what a run of a trace begins with, and when a report of it is right.
+use Rattle.std.specs.Prelude.{◌≡◌, ℕ, ◌+◌, ◌*◌, ◌^◌, ◌<◌, ◌≤◌, ◌==◌, ◌&&◌, ◌||◌, not, nat_lt, min, if◌then◌else◌, Bool, true, false, List, [], ◌++◌, length, map, filter, sum_by, fold, All, Option, Some, None, MatchOption, slice_index_or, IsPermutation}
+use Rattle.std.specs.List.{zip}
+use Rattle.std.specs.List.Sorted.{IsStrictlyIncreasing}
+use Rattle.nv_plain.specs.declared.call.FileCall.{FileCall}
+use Rattle.nv_plain.specs.declared.call.FileCall.TheVariants.{Read, Write, Sync}
+use Rattle.nv_plain.specs.Calls.{files_after}
+use Rattle.nv_plain.specs.Files.{Files}
+use Rattle.nv_plain.specs.Histories.{Answered, IsLegal, after}
+use Rattle.nv_plain.specs.Modes.{can_read, can_write}
+use Rattle.nv_plain.specs.declared.mode.Mode.TheVariants.{R}
+use Rattle.nv_plain.specs.Layouts.{version_1}
+use Rattle.nv_plain.specs.Pieces.{pages_touched}
+use Rattle.nv_trace.specs.declared.trace_call.TraceCall.{TraceCall}
+use Rattle.nv_trace.specs.declared.trace_call.TraceCall.TheVariants.{Pread, Pwrite, Fsync}
+use Rattle.nv_trace.specs.declared.trace_call.TracedCall.{TracedCall}
+use Rattle.nv_trace.specs.declared.report.Fate.{Fate}
+use Rattle.nv_trace.specs.declared.report.Fate.TheVariants.{Kept, Lost}
+use Rattle.nv_trace.specs.declared.report.Refusal.{Refusal}
+use Rattle.nv_trace.specs.declared.report.Refusal.TheVariants.{BadDescriptor, TooFar, TooLong, Stopped, Spent, Again, RegionFault, StoreFault}
+use Rattle.nv_trace.specs.Said.{said_place}
+use Rattle.nv_trace.specs.Traced.{Traced}
+use Rattle.nv_trace.specs.declared.trace.Descriptor.{Descriptor}
+use Rattle.nv_runner.specs.Histories.{KeepOrder, PlacedCall}
+use Rattle.nv_runner.specs.Reports.{NamedFile, OpenCall, Report}
+
+-- the sizes of a run: bytes of a page, entries of the log, pages of a file
+pub record RunSizes : Type 0 where
+  pub page : ℕ
+  pub entries : ℕ
+  pub pages : ℕ
+
+-- What a run begins with: its sizes; all files of its region, by their names in the header's order and by their bytes; and the
+-- number that its log begins with.
+pub record Basis : Type 0 where
+  pub sizes : RunSizes
+  pub names : List (List ℕ)
+  pub files : Files
+  pub next : ℕ
+
+-- ---- calls on files
+
+-- a descriptor of a trace, its file by the place of its name among all names
+abbrev pub placed_in : List (List ℕ) → Traced → Descriptor → Descriptor
+placed_in names trace descriptor = record { file = said_place (slice_index_or trace.names descriptor.file []) names; mode = descriptor.mode }
+
+-- the descriptors of a trace, each file by the place of its name among all names
+abbrev pub descriptors_in : List (List ℕ) → Traced → List Descriptor
+descriptors_in names trace = map (placed_in names trace) trace.descriptors
+
+-- a descriptor, by its number; each call of a trace has one that is there
+abbrev pub descriptor_at : List Descriptor → ℕ → Descriptor
+descriptor_at descriptors fd = slice_index_or descriptors fd (record { file = 0; mode = R })
+
+-- a descriptor's call, as a call on its file
+abbrev pub file_call : List Descriptor → TraceCall → FileCall
+file_call descriptors (Pread fd at len) = Read (descriptor_at descriptors fd).file at len
+file_call descriptors (Pwrite fd at bytes) = Write (descriptor_at descriptors fd).file at bytes
+file_call descriptors (Fsync fd) = Sync (descriptor_at descriptors fd).file
+
+-- the history of placed calls
+abbrev pub history_of : List Descriptor → List PlacedCall → List Answered
+history_of descriptors placed =
+    map (λ p. record { caller = p.call.thread; call = file_call descriptors p.call.call; reply = p.reply }) placed
+
+-- the files after a call of this fate: a kept one is whole in them, and nothing of a lost one is
+abbrev pub after_fate : FileCall → Files → Fate → Files
+after_fate call files Kept = files_after call files
+after_fate call files Lost = files
+
+-- the files after some open calls, the first of them first
+abbrev pub after_open : List Descriptor → List OpenCall → Files → Files
+after_open descriptors open_calls files =
+    fold (λ files o. after_fate (file_call descriptors o.call.call) files o.fate) files open_calls
+
+-- names with the files' bytes
+abbrev pub named : List (List ℕ) → Files → List NamedFile
+named names files = map (λ pair. record { name = pair.0; bytes = pair.1 }) (zip names files.contents)
+
+-- ---- refusals and their causes
+
+-- why a call that moves so many bytes can't be made, where it may touch so many pages
+abbrev pub barred_by : RunSizes → (most at len : ℕ) → Option Refusal
+barred_by sizes most at len =
+    if nat_lt (sizes.page * sizes.pages) (at + len) then Some TooFar
+    else if nat_lt most (pages_touched at len sizes.page) then Some TooLong
+    else None
+
+-- why a call is barred by where it reads or writes: it ends too far, or touches more pages than a group may have entries, or than the log has
+abbrev pub barred_there : RunSizes → TraceCall → Option Refusal
+barred_there sizes (Pread fd at len) = barred_by sizes (min version_1.group_limit sizes.entries) at len
+barred_there sizes (Pwrite fd at bytes) = barred_by sizes (min version_1.group_limit sizes.entries) at (length bytes)
+barred_there sizes (Fsync fd) = None
+
+-- a call's descriptor was opened in a mode that allows the call
+abbrev pub is_allowed : List Descriptor → TraceCall → Bool
+is_allowed descriptors (Pread fd at len) = can_read (descriptor_at descriptors fd).mode
+is_allowed descriptors (Pwrite fd at bytes) = can_write (descriptor_at descriptors fd).mode
+is_allowed descriptors (Fsync fd) = true
+
+-- why a call can't be made, whatever the log holds
+abbrev pub barred : RunSizes → List Descriptor → TraceCall → Option Refusal
+barred sizes descriptors call = if is_allowed descriptors call then barred_there sizes call else Some BadDescriptor
+
+-- how many entries a call takes
+abbrev pub entries_taken : RunSizes → TraceCall → ℕ
+entries_taken sizes (Pread fd at len) = 0
+entries_taken sizes (Pwrite fd at bytes) = pages_touched at (length bytes) sizes.page
+entries_taken sizes (Fsync fd) = 0
+
+-- and some calls
+abbrev pub entries_of : RunSizes → List TracedCall → ℕ
+entries_of sizes calls = sum_by (λ traced. entries_taken sizes traced.call) calls
+
+-- a call comes later than another: it stands in a later line of its thread, or is of a later round
+abbrev pub is_later : TracedCall → (other : TracedCall) → Bool
+is_later call other = (other.thread == call.thread && nat_lt call.line other.line) || nat_lt call.round other.round
+
+-- some calls but those that come later than this one
+abbrev pub not_later : TracedCall → List TracedCall → List TracedCall
+not_later call calls = filter (λ other. not (is_later call other)) calls
+
+-- a number that a call may find as the next: at most the first one, and what the calls drew that don't come later than it
+abbrev pub MayBeDrawn : Basis → (drew : List TracedCall) → TracedCall → ℕ → Type 0
+MayBeDrawn basis drew call head = head ≤ basis.next + entries_of basis.sizes (not_later call drew)
+
+-- The log had no room for a call that takes entries: nothing was retired.
+pub record HadNoRoom (basis : Basis) (drew : List TracedCall) (call : TracedCall) (head tail : ℕ) : Type 0 where
+  pub takes : 0 < entries_taken basis.sizes call.call
+  pub retired : tail ≡ basis.next
+  pub full : tail + basis.sizes.entries < head + entries_taken basis.sizes call.call
+  pub drawn : MayBeDrawn basis drew call head
+
+-- The numbers were used up for a call that takes entries.
+pub record HadNoNumber (basis : Basis) (drew : List TracedCall) (call : TracedCall) (found : ℕ) : Type 0 where
+  pub takes : 0 < entries_taken basis.sizes call.call
+  pub spent : 2 ^ 60 < found + entries_taken basis.sizes call.call
+  pub drawn : MayBeDrawn basis drew call found
+
+abbrev pub IsReadCall : TraceCall → Type 0
+IsReadCall (Pread fd at len) = Unit {0}
+IsReadCall (Pwrite fd at bytes) = ⊥
+IsReadCall (Fsync fd) = ⊥
+
+abbrev pub IsWrite : TraceCall → Type 0
+IsWrite (Pread fd at len) = ⊥
+IsWrite (Pwrite fd at bytes) = Unit {0}
+IsWrite (Fsync fd) = ⊥
+
+-- Why a call was refused that its arguments don't bar: no number was left, or no room in the log, where no worker makes any; or, where devices failed, it was
+-- made after that, or was the read that met it.
+abbrev pub WasRefused : (failed : Type 0) → (worker : Bool) → Basis → (drew : List TracedCall) → TracedCall → Refusal → Type 0
+WasRefused failed worker basis drew call BadDescriptor = ⊥
+WasRefused failed worker basis drew call TooFar = ⊥
+WasRefused failed worker basis drew call TooLong = ⊥
+WasRefused failed worker basis drew call Stopped = failed
+WasRefused failed worker basis drew call (Spent found) = HadNoNumber basis drew call found
+WasRefused failed worker basis drew call (Again head tail) = (worker ≡ false) × HadNoRoom basis drew call head tail
+WasRefused failed worker basis drew call RegionFault = IsReadCall call.call × failed
+WasRefused failed worker basis drew call StoreFault = IsReadCall call.call × failed
+
+-- A refusal that may be shown: the one that bars the call, or, where none does, one that has such a cause.
+abbrev pub IsAllowedRefusal : (failed : Type 0) → (worker : Bool) → Basis → List Descriptor → (drew : List TracedCall) → TracedCall → Refusal → Type 0
+IsAllowedRefusal failed worker basis descriptors drew call refusal =
+    MatchOption (barred basis.sizes descriptors call.call) (WasRefused failed worker basis drew call refusal) (λ cause. refusal ≡ cause)
+
+-- a call that may be left open: a write that nothing bars, where devices failed
+pub record IsLeftOpen (failed : Type 0) (basis : Basis) (descriptors : List Descriptor) (call : TracedCall) : Type 0 where
+  pub is_write : IsWrite call.call
+  pub failed_so : failed
+  pub not_barred : barred basis.sizes descriptors call.call ≡ None
+
+-- ---- reports
+
+abbrev pub placed_calls : Report → List TracedCall
+placed_calls report = map (λ p. p.call) report.history
+
+abbrev pub open_calls_of : Report → List TracedCall
+open_calls_of report = map (λ o. o.call) report.open_calls
+
+-- the calls that drew entries
+abbrev pub drawing_calls : Report → List TracedCall
+drawing_calls report = placed_calls report ++ open_calls_of report
+
+-- all calls that a report lists
+abbrev pub listed_calls : Report → List TracedCall
+listed_calls report = placed_calls report ++ map (λ r. r.call) report.refused ++ open_calls_of report
+
+-- the files after the history of a report, and then the kept ones of its open calls, each whole
+abbrev pub files_shown : Basis → Traced → Report → Files
+files_shown basis trace report =
+    after_open (descriptors_in basis.names trace) report.open_calls
+    (after (history_of (descriptors_in basis.names trace) report.history) basis.files)
+
+-- A report is faithful to a trace whose threads' calls were made from this basis, with a worker beside them or not; devices of the run failed only where this says so.
+pub record IsFaithful (failed : Type 0) (worker : Bool) (basis : Basis) (trace : Traced) (report : Report) : Type 0 where
+  -- its history is one of plain files, from those of the basis
+  pub legal : IsLegal (history_of (descriptors_in basis.names trace) report.history) basis.files
+  -- each call of the trace stands in it once, in the history, among the refused or among the open ones, and no other call
+  pub each_once : IsPermutation (listed_calls report) trace.calls
+  -- the history keeps the order of each thread's lines, and that of the rounds
+  pub in_order : KeepOrder (placed_calls report)
+  -- the refused and the open ones stand in the order of their lines
+  pub refused_in_order : IsStrictlyIncreasing (map (λ r. r.call.line) report.refused)
+  pub open_in_order : IsStrictlyIncreasing (map (λ call. call.line) (open_calls_of report))
+  -- a refusal has its cause, and what is barred is refused
+  pub allowed : All (λ r. IsAllowedRefusal failed worker basis (descriptors_in basis.names trace) (drawing_calls report) r.call r.refusal) report.refused
+  pub not_barred : All (λ call. barred basis.sizes (descriptors_in basis.names trace) call.call ≡ None) (placed_calls report)
+  -- only a write is left open, where a device failed
+  pub left_open : All (IsLeftOpen failed basis (descriptors_in basis.names trace)) (open_calls_of report)
+  -- without a worker a write for which the log has no entry left is refused
+  pub room : worker ≡ false → entries_of basis.sizes (drawing_calls report) ≤ basis.sizes.entries
+  -- the files are those after the history and then the kept writes, each whole
+  pub files : report.files ≡ named basis.names (files_shown basis trace report)

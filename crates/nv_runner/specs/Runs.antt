@@ -1,0 +1,60 @@
+-- Runs: how the run that a pass has seen goes on, and what the pass draws of the log meanwhile.
+use Rattle.std.specs.Prelude.{◌≡◌, ℕ, ◌+◌, Bool, true, false, List, ◌++◌, length, All, Option, None}
+use Rattle.nv_plain.specs.Pieces.{pages_touched}
+use Rattle.nv_core.specs.state.Words.{Sizes}
+use Rattle.nv_core.specs.steps.Ops.{Op, ByCleaner}
+use Rattle.nv_core.specs.steps.Events.{Act, BeginsCall, TakesStep, Event}
+use Rattle.nv_core.specs.invariant.Draws.{drawn_of}
+use Rattle.nv_table.specs.state.States.{PassState}
+use Rattle.nv_table.specs.state.Views.{pass_of}
+use Rattle.nv_trace.specs.declared.trace_call.TraceCall.{TraceCall}
+use Rattle.nv_trace.specs.declared.trace_call.TraceCall.TheVariants.{Pread, Pwrite, Fsync}
+use Rattle.nv_runner.specs.declared.answer.Answer.{Answer}
+use Rattle.nv_runner.specs.declared.answer.Answer.TheVariants.{Placed, Refused, Open}
+
+-- ---- entries
+
+-- how many entries of the log a call takes
+abbrev pub entries_taken : Sizes → TraceCall → ℕ
+entries_taken sizes (Pread fd at len) = 0
+entries_taken sizes (Pwrite fd at bytes) = pages_touched at (length bytes) sizes.page
+entries_taken sizes (Fsync fd) = 0
+
+-- A call has drawn these where it has its place, or was left open.
+abbrev pub has_drawn : Answer → Bool
+has_drawn (Placed place reply) = true
+has_drawn (Refused refusal) = false
+has_drawn (Open number) = true
+
+abbrev pub entries_if : (drew : Bool) → (entries : ℕ) → ℕ
+entries_if true entries = entries
+entries_if false entries = 0
+
+-- how many it has drawn
+abbrev pub entries_drawn : Sizes → TraceCall → Answer → ℕ
+entries_drawn sizes call answer = entries_if (has_drawn answer) (entries_taken sizes call)
+
+-- ---- batches
+
+-- a step is one of a cleaner
+abbrev pub is_cleaning_op : Op → Bool
+is_cleaning_op (ByCleaner cleaner_op) = true
+is_cleaning_op op = false
+
+abbrev pub is_cleaning : Act → Bool
+is_cleaning (BeginsCall call op found) = is_cleaning_op op
+is_cleaning (TakesStep op found) = is_cleaning_op op
+is_cleaning act = false
+
+-- none of a pass's own events among some is one of a cleaner
+abbrev pub CleansNothing : (number : ℕ) → List Event → Type 0
+CleansNothing number events = All (λ event. event.by ≡ number → is_cleaning event.act ≡ false) events
+
+-- ---- how a run goes on
+
+-- A pass has seen a run go on, and has drawn so many numbers of the log meanwhile. It made no cleaner's step where no batch may be run.
+pub record GoesOn (worker : Option ℕ) (many : ℕ) (old new : PassState) : Type 0 where
+  pub more : List Event
+  pub run : new.view.run ≡ old.view.run ++ more
+  pub drawn : drawn_of new.view.opened.sizes (pass_of new.view) ≡ drawn_of old.view.opened.sizes (pass_of old.view) + many
+  pub calls : worker ≡ None → CleansNothing old.view.number more

@@ -1,0 +1,123 @@
+//! All rounds of a trace, one behind the other.
+ghost use Rattle.std.specs.Prelude.{◌≡◌, ◌<◌, ◌≤◌, [], All, IsPermutation, OnOk, length};
+ghost use Rattle.nv_table.specs.state.Views.{AreDistinctNumbers, made_of, numbers};
+ghost use Rattle.nv_runner.specs.Lists.{calls_made, made_calls};
+ghost use Rattle.nv_runner.specs.Rounds.{AreCallsOf, AreInLineOrder, AreInRoundOrder, IsRoundLong};
+ghost use Rattle.nv_runner.specs.Shifts.{HasRun};
+ghost use Rattle.nv_runner.specs.Workers.{IsZero, IsZeroStill};
+
+use crate::{AnsweredCall, Gate, run_round};
+use nv_mount::Mount;
+use nv_plain::NoMemory;
+use nv_pmem::Lines;
+use nv_store::Backing;
+use nv_table::Pass;
+use nv_trace::TracedCall;
+use std::alloc::Global;
+use std::sync::Wait;
+use std::thread::Threads;
+
+// How many first ones are of the round of the first.
+fn round_len(calls: &[TracedCall]) -> usize
+    requires some { 0 < length calls.now }
+    requires round_order { AreInRoundOrder calls.now }
+    ensures { IsRoundLong calls.now result }
+{
+    let round = calls[0].round;
+    for place in 1..calls.len() {
+        if calls[place].round != round {
+            return place;
+        }
+    }
+    calls.len()
+}
+
+/// Makes the calls of a trace, by so many threads, round by round: each round begins when the one before it has been taken in. Where `batch` tells the most entries of a batch, a
+/// cleaner runs beside the threads. What the calls are answered is in `answered` then, in no order. Where memory is wanting, the calls of the rounds so far were made, and some
+/// first ones of each thread's of one round. Pass 0 has taken in all passes that it made, and made no call.
+pub fn run_rounds<
+    'a,
+    R: Threads + Wait + Sync,
+    G: Gate + Sync,
+    L: Lines + Drop + Send,
+    B: Backing + Drop + Send,
+>(
+    rt: &R,
+    alloc: Global,
+    gate: &G,
+    mount: &Mount<L, B>,
+    zero: &mut Pass<L, B>,
+    calls: &'a [TracedCall],
+    threads: u64,
+    batch: Option<u64>,
+    answered: &mut Vec<AnsweredCall<'a>>,
+) -> Result<(), NoMemory>
+    requires zero { IsZero mount.now zero.old }
+    requires new { zero.old.view.ended ≡ [] }
+    requires none_made { made_of zero.old.view ≡ 0 }
+    requires none { answered.old.items ≡ [] }
+    requires threads { threads ≤ 8 }
+    requires few { length calls.now ≤ 67108864 }
+    requires below { All (λ call. call.thread < threads) calls.now }
+    requires line_order { AreInLineOrder calls.now }
+    requires round_order { AreInRoundOrder calls.now }
+    ensures zero { IsZero mount.now zero.new }
+    ensures still { IsZeroStill zero.old zero.new }
+    ensures all_in { length zero.new.view.ended ≡ made_of zero.new.view }
+    ensures distinct { AreDistinctNumbers (numbers zero.new.view.ended) }
+    ensures run { HasRun mount.now.fds batch (made_calls answered.new.items) zero.new }
+    ensures within { AreCallsOf calls.now (made_calls answered.new.items) }
+    ensures all { OnOk result (IsPermutation (calls_made (made_calls answered.new.items)) calls.now) }
+{
+    let result = run_all(
+        rt, alloc, gate, mount, zero, calls, threads, batch, answered,
+    );
+    zero.sees_a_run();
+    zero.has_taken_in();
+    result
+}
+
+// The same, but for what only the numbers of passes tell.
+fn run_all<
+    'a,
+    R: Threads + Wait + Sync,
+    G: Gate + Sync,
+    L: Lines + Drop + Send,
+    B: Backing + Drop + Send,
+>(
+    rt: &R,
+    alloc: Global,
+    gate: &G,
+    mount: &Mount<L, B>,
+    zero: &mut Pass<L, B>,
+    calls: &'a [TracedCall],
+    threads: u64,
+    batch: Option<u64>,
+    answered: &mut Vec<AnsweredCall<'a>>,
+) -> Result<(), NoMemory>
+    requires zero { IsZero mount.now zero.old }
+    requires new { zero.old.view.ended ≡ [] }
+    requires none_made { made_of zero.old.view ≡ 0 }
+    requires none { answered.old.items ≡ [] }
+    requires threads { threads ≤ 8 }
+    requires few { length calls.now ≤ 67108864 }
+    requires below { All (λ call. call.thread < threads) calls.now }
+    requires line_order { AreInLineOrder calls.now }
+    requires round_order { AreInRoundOrder calls.now }
+    ensures zero { IsZero mount.now zero.new }
+    ensures still { IsZeroStill zero.old zero.new }
+    ensures all_in { length zero.new.view.ended ≡ made_of zero.new.view }
+    ensures run { HasRun mount.now.fds batch (made_calls answered.new.items) zero.new }
+    ensures within { AreCallsOf calls.now (made_calls answered.new.items) }
+    ensures all { OnOk result (IsPermutation (calls_made (made_calls answered.new.items)) calls.now) }
+{
+    let mut rest = calls;
+    while !rest.is_empty() {
+        let (round, later) = rest.split_at(round_len(rest));
+        run_round(
+            rt, alloc, gate, mount, zero, round, threads, batch, answered,
+        )?;
+        rest = later;
+    }
+    Ok(())
+}
