@@ -19,6 +19,8 @@ mod mounts;
 #[cfg(test)]
 mod reads;
 #[cfg(test)]
+mod runs;
+#[cfg(test)]
 mod syncs;
 #[cfg(test)]
 mod threads;

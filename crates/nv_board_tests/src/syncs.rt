@@ -9,7 +9,7 @@ ghost use Rattle.nv_store.specs.MemStore.{store_history};
 ghost use Rattle.nv_store.specs.Store.{IsQuietStore};
 ghost use Rattle.nv_header.specs.Regions.{HasParts, IsBlankRow};
 ghost use Rattle.nv_table.specs.invariant.Idle.{IsIdle, IsLater};
-ghost use Rattle.nv_table.specs.state.Views.{made_of};
+ghost use Rattle.nv_table.specs.state.Views.{first_view, made_of};
 ghost use Rattle.nv_table.specs.state.States.{IsOf};
 ghost use Rattle.nv_calls.specs.fsync.SyncMachines.{IsSyncUnderWay};
 
@@ -47,6 +47,8 @@ pub(crate) fn opened(
     ensures number { IfOk result (λ made. made.1.view.number ≡ 0) }
     ensures made { IfOk result (λ made. made_of made.1.view ≡ 0) }
     ensures ended { IfOk result (λ made. made.1.view.ended ≡ []) }
+    ensures view { IfOk result (λ made. made.1.view ≡ first_view made.0.board.opened) }
+    ensures bare { IfOk result (λ made. made.1.now ≡ []) }
 {
     let stores = stores(alloc, bytes, Fuse::new(alloc, fails)?)?;
     opened_over(alloc, region(alloc)?, stores)
@@ -67,6 +69,8 @@ pub(crate) fn opened_over(
     ensures number { IfOk result (λ made. made.1.view.number ≡ 0) }
     ensures made { IfOk result (λ made. made_of made.1.view ≡ 0) }
     ensures ended { IfOk result (λ made. made.1.view.ended ≡ []) }
+    ensures view { IfOk result (λ made. made.1.view ≡ first_view made.0.board.opened) }
+    ensures bare { IfOk result (λ made. made.1.now ≡ []) }
 {
     opened_with(alloc, region, stores, 4)
 }
@@ -89,6 +93,8 @@ pub(crate) fn opened_with(
     ensures number { IfOk result (λ made. made.1.view.number ≡ 0) }
     ensures made { IfOk result (λ made. made_of made.1.view ≡ 0) }
     ensures ended { IfOk result (λ made. made.1.view.ended ≡ []) }
+    ensures view { IfOk result (λ made. made.1.view ≡ first_view made.0.board.opened) }
+    ensures bare { IfOk result (λ made. made.1.now ≡ []) }
 {
     match Mount::open(alloc, region, stores, fds(alloc)?, 64, cache) {
         Ok(made) => Ok(made),
