@@ -1,7 +1,10 @@
 -- Counts of faults, beside others: a cause in one of them is one in the sum.
-use Rattle.std.proofs.Common.{◌≡◌, ℕ, ◌+◌, Result, Ok, Err, arith}
+use Rattle.std.proofs.Common.{◌≡◌, ℕ, ◌+◌, ◌≤◌, Result, Ok, Err, refl, sym, ap, subst, arith}
 use Rattle.nv_plain.specs.Faults.{Rose, saturated}
-use Rattle.nv_top.specs.Stops.{CountHasCause, StopHasCause}
+use Rattle.nv_open.specs.declared.error.Refusal.{Refusal}
+use Rattle.nv_runner.specs.declared.run_error.RunError.{RunError}
+use Rattle.nv_runner.specs.declared.run_error.RunError.TheVariants.{Fault, NoMemory as RunNoMemory}
+use Rattle.nv_top.specs.Stops.{CountHasCause, MayEndRun, RunHasCause, StopHasCause, stop_of_run}
 use Rattle.nv_top.specs.declared.ending.Stop.{Stop}
 use Rattle.nv_top.specs.declared.ending.Stop.TheVariants.{Usage, BadLine, InputLong, Read, Device, Region, NoMemory}
 
@@ -32,3 +35,28 @@ pub cause_saturated : {T : Type 0} (other before now first last : ℕ) (result :
 cause_saturated other before now first last result a b =
     cause_with before now first last result (λ same. omega (arith, a, b, same))
     (λ rose. record { never_falls = omega (arith, a, b, rose.never_falls); more = omega (arith, a, b, rose.more) })
+
+-- ---- what ends a run
+
+may_end : (first parts mid last : ℕ) (stop : Stop) → first ≤ parts + mid → ((why : Refusal) → stop ≡ Region why → ⊥) → StopHasCause mid last stop → MayEndRun first (parts + last) stop
+may_end first parts mid last Usage grew never cause = cause
+may_end first parts mid last (BadLine bad) grew never cause = cause
+may_end first parts mid last InputLong grew never cause = cause
+may_end first parts mid last Read grew never cause = cause
+may_end first parts mid last Device grew never cause = record { never_falls = omega (arith, grew, cause.never_falls); more = omega (arith, grew, cause.never_falls, cause.more) }
+may_end first parts mid last (Region refusal) grew never cause = never refusal refl
+may_end first parts mid last NoMemory grew never cause = omega (arith, grew, cause)
+
+-- a run that was told of its stores, whose count is part of one that didn't fall
+pub told_cause : {T : Type 0} (first parts mid last : ℕ) (result : Result T Stop) → first ≤ parts + mid → ((why : Refusal) → result ≡ Err (Region why) → ⊥) → CountHasCause mid last result
+    → RunHasCause first (parts + last) result
+told_cause first parts mid last (Ok value) grew never cause = omega (arith, grew, cause)
+told_cause first parts mid last (Err stop) grew never cause = may_end first parts mid last stop grew (λ why is. never why (ap Err is)) cause
+
+-- a run that wasn't brought to its end
+pub ended_cause : {T : Type 0} (first now : ℕ) (error : RunError) (stop : Stop) (result : Result T Stop) → result ≡ Err stop → stop ≡ stop_of_run error → first ≤ now → (error ≡ Fault → Rose first now)
+    → RunHasCause first now result
+ended_cause {T} first now error stop result is of grew rose = subst (λ (r : Result T Stop). RunHasCause first now r) (sym is) (subst (λ (s : Stop). MayEndRun first now s) (sym of) (by_error error grew rose)) where
+  by_error : (error : RunError) → first ≤ now → (error ≡ Fault → Rose first now) → MayEndRun first now (stop_of_run error)
+  by_error Fault grew rose = rose refl
+  by_error RunNoMemory grew rose = grew

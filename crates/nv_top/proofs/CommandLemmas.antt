@@ -1,5 +1,6 @@
 -- Commands over a bench: what it holds when all is given back.
-use Rattle.std.proofs.Common.{◌≡◌, ℕ, List, [], ◌++◌, map, Option, Some, None, refl, ap, subst, ◌∙◌}
+use Rattle.std.proofs.Common.{◌≡◌, ℕ, List, [], ◌++◌, length, map, Option, Some, None, refl, ap, subst, ◌∙◌}
+use Rattle.std.proofs.lemmas.List.{length-map}
 use Rattle.std.specs.Prelude.{IfSome, option_map}
 use Rattle.nv_pmem.specs.Part.{Part}
 use Rattle.nv_pmem.specs.Steps as lines
@@ -8,9 +9,12 @@ use Rattle.nv_store.specs.Store.{Store}
 use Rattle.nv_plain.specs.Files.{Files}
 use Rattle.nv_bench.specs.Benches.{BenchState, told_back, with_faults}
 use Rattle.nv_bench.specs.Holding.{Holding, NamedStore, named_stores}
+use Rattle.nv_bench.specs.Opening.{opened}
+use Rattle.nv_pmem.specs.declared.geometry.Geometry.{Geometry}
 use Rattle.nv_open.specs.Held.{files_named}
 use Rattle.nv_open.specs.Lending.{all_lent, without_named, without_stores}
 use Rattle.nv_pmem.specs.RowStates.{AreNow}
+use Rattle.nv_open.proofs.LogLaws.{states_many}
 use Rattle.nv_top.specs.Leaving.{AreLeft, Leaves}
 
 -- what holds of what a bench tells, where it tells it
@@ -39,11 +43,12 @@ module _ (old mid : BenchState) (names : List (List ℕ)) (holding : Holding) (l
       ap (λ (one : Option Holding). option_map (back mid.lent) one) mid_told
       ∙ ap (λ lent. Some (back lent (record { parts = []; stores = without_stores names holding.stores }))) mid_lent
 
-  pub leaves : {X Y : Type 0} (history : X → lines.PartHistory) (held : Y → stores.StoreHistory) (files : Files) (parts : List X) (backing : List Y) (then : Option Holding)
+  pub leaves : {X Y : Type 0} (want : Option Geometry) (history : X → lines.PartHistory) (held : Y → stores.StoreHistory) (files : Files) (parts : List X) (backing : List Y) (then : Option Holding)
+      → length parts ≡ length (opened want holding.parts)
       → AreLeft history held names files parts backing
       → ((now : List Part) (disks : List Store) → AreNow (map history parts) now → AreNow (map held backing) disks → then ≡ told_back now disks mid)
-      → Leaves names files holding then
-  leaves history held files parts backing then left back = record {
+      → Leaves want names files holding then
+  leaves want history held files parts backing then many left back = record {
     now = record { parts = left.now; stores = without_stores names holding.stores ++ named_stores names left.disks };
     told_is = back left.now left.disks left.now_are left.disks_are ∙ back_is left.now left.disks;
     left = record {
@@ -51,6 +56,7 @@ module _ (old mid : BenchState) (names : List (List ℕ)) (holding : Holding) (l
       entries = left.entries;
       next = left.next;
       rest = left.rest;
+      many = states_many (map history parts) left.now left.now_are ∙ length-map parts history ∙ many;
       disks = left.disks;
       stores_are = refl;
       files_are = left.files_are;
@@ -59,8 +65,8 @@ module _ (old mid : BenchState) (names : List (List ℕ)) (holding : Holding) (l
   }
 
 -- a bench that is left with the files of some names is so with those of the same names
-pub leaves_by : {names other : List (List ℕ)} {holding : Holding} {then : Option Holding} (parts : List Part) (backing : List NamedStore) → names ≡ other
-    → Leaves names (files_named parts names backing) holding then → Leaves other (files_named parts other backing) holding then
-leaves_by {names} {other} {holding} {then} parts backing same left =
-    let LeftWith : List (List ℕ) → Type 0 = λ by. Leaves by (files_named parts by backing) holding then in
+pub leaves_by : {want : Option Geometry} {names other : List (List ℕ)} {holding : Holding} {then : Option Holding} (parts : List Part) (backing : List NamedStore) → names ≡ other
+    → Leaves want names (files_named parts names backing) holding then → Leaves want other (files_named parts other backing) holding then
+leaves_by {want} {names} {other} {holding} {then} parts backing same left =
+    let LeftWith : List (List ℕ) → Type 0 = λ by. Leaves want by (files_named parts by backing) holding then in
     subst LeftWith same left

@@ -1,143 +1,116 @@
--- What a recovery makes of the write that was left open, and so of the files.
-use Rattle.std.proofs.Common.{◌≡◌, ℕ, ◌+◌, ◌≤◌, ◌==◌, ◌||◌, ◌++◌, [], ◌∷◌, suc, Bool, true, false, if◌then◌else◌, All, List, map, length, refl, sym, ap, subst, ◌∙◌, inl, inr, arith, eq-eqb, ne_eqb}
-use Rattle.std.specs.List.{list_any}
-use Rattle.std.proofs.lemmas.Bool.{le-ltb}
-use Rattle.std.proofs.lemmas.List.Sums.{fold_push}
-use Rattle.nv_plain.specs.Calls.{files_after}
+-- What a recovery makes of the writes that were left open, and so of the files.
+use Rattle.std.proofs.Common.{◌≡◌, ℕ, zero, suc, ◌<◌, ◌≤◌, ◌==◌, ◌||◌, nat_lt, Bool, true, false, if◌then◌else◌, All, List, [], ◌∷◌, ◌++◌, length, map, Some, option_map, refl, sym, ap, ◌∙◌, arith, inl, inr, IsPermutation}
+use Rattle.std.specs.Prelude.{filter}
+use Rattle.std.specs.List.{flat_map, list_any, slice_get}
+use Rattle.std.proofs.lemmas.List.{length-map}
+use Rattle.std.proofs.lemmas.List.Elements.{All-nil, All-cons, All-head, All-tail}
+use Rattle.std.proofs.lemmas.List.Sorted.{All-permutation, IsPermutation-sym}
 use Rattle.nv_plain.specs.Files.{Files}
-use Rattle.nv_plain.specs.Images.{Image}
-use Rattle.nv_plain.specs.Layouts.{version_1}
-use Rattle.nv_pmem.specs.Part.{Part}
-use Rattle.nv_pmem.specs.RowStates.{AreNow, IsNow}
-use Rattle.nv_pmem.specs.Rows.{IsRowImage}
-use Rattle.nv_pmem.specs.Steps as lines
-use Rattle.nv_store.specs.Steps as stores
-use Rattle.nv_recover.specs.Recovering.{HasFoundAll}
-use Rattle.nv_recover.specs.declared.recovering.Recovered as recover
-use Rattle.nv_engine.specs.Laid.{LaidPiece, all_entries, entries_of_piece, leaders_from, laid, with_laid_piece}
-use Rattle.nv_engine.specs.Logged.{AreFitting, HasLog, LoggedImagesRecover, RecoversTo}
-use Rattle.nv_engine.specs.declared.log.Log.{Log}
+use Rattle.nv_plain.specs.declared.call.FileCall.{FileCall}
+use Rattle.nv_core.specs.state.Passes.{Fault, IsOneOf, is_write}
+use Rattle.nv_core.specs.crash.CommutingWrites.{after_calls}
+use Rattle.nv_mount.specs.declared.fds.Fd.{Fd}
+use Rattle.nv_calls.specs.fsync.SyncRuns.{file_of_fd}
+use Rattle.nv_calls.specs.histories.Faults.{OpenWrite, open_in}
+use Rattle.nv_trace.specs.Shape.{IsCallWithin}
 use Rattle.nv_trace.specs.declared.trace.Descriptor.{Descriptor}
 use Rattle.nv_trace.specs.declared.trace_call.TraceCall.{TraceCall}
 use Rattle.nv_trace.specs.declared.trace_call.TraceCall.TheVariants.{Pread, Pwrite, Fsync}
-use Rattle.nv_trace.specs.declared.report.Fate.{Fate}
 use Rattle.nv_trace.specs.declared.report.Fate.TheVariants.{Kept, Lost}
-use Rattle.nv_top.specs.Attempts.{IsHeld, piece_of_call}
-use Rattle.nv_top.specs.Faithful.{IsWrite, after_fate, file_call}
-use Rattle.nv_top.specs.Fates.{fate_of, RecoversAsFated}
-use Rattle.nv_top.specs.Outcomes.{left_call}
-use Rattle.nv_top.specs.declared.outcome.Left as outcome
-use Rattle.nv_top.proofs.AnswerLemmas.{pages_some}
+use Rattle.nv_runner.specs.declared.sorted.Open.{Open}
+use Rattle.nv_runner.specs.Calls.{fd_of, opened_on}
+use Rattle.nv_runner.specs.Faithful.{after_fate, after_open, file_call}
+use Rattle.nv_runner.specs.FaithfulRuns.{as_fd}
+use Rattle.nv_runner.specs.Histories.{CallsOnFiles}
+use Rattle.nv_runner.specs.OpenRuns.{open_of}
+use Rattle.nv_runner.specs.OpenWrites.{is_kept_open, kept_open}
+use Rattle.nv_runner.specs.Sorted.{opened_call}
+use Rattle.nv_top.specs.Fates.{fated}
 
--- ---- numbers one after another
+-- ---- the calls that were left open, as writes of their files
 
--- each of some pieces has a byte
-abbrev HaveBytes : List LaidPiece → Type 0
-HaveBytes pieces = All (λ piece. 1 ≤ length piece.bytes) pieces
+-- a call of a trace is on a descriptor that is there
+within_fds : (call : TraceCall) (count : ℕ) → IsCallWithin count call → fd_of call < count
+within_fds (Pread fd at len) count is = is.0
+within_fds (Pwrite fd at bytes) count is = is.0
+within_fds (Fsync fd) count is = is
 
-none_from : (page tail : ℕ) (pieces : List LaidPiece) (number : ℕ) → HaveBytes pieces → tail + all_entries page pieces ≤ number → list_any (λ leader. leader == number) (leaders_from page tail pieces) ≡ false
-none_from page tail [] number some beyond = refl
-none_from page tail (piece ∷ pieces) number some beyond =
-    let takes = pages_some piece.at (length piece.bytes) page (some 0 piece (omega arith)) in
-    ap (λ is. is || list_any (λ leader. leader == number) (leaders_from page (tail + entries_of_piece page piece) pieces)) (ne_eqb tail number (λ same. omega (arith, same, beyond, takes)))
-    ∙ none_from page (tail + entries_of_piece page piece) pieces number (λ i none below. some (suc i) none (omega arith)) (omega (arith, beyond))
+got : {X : Type 0} (xs : List X) (k : ℕ) → k < length xs → (x : X) × (slice_get xs k ≡ Some x)
+got [] k less = absurd (omega arith)
+got (x ∷ xs) zero less = (x, refl)
+got (x ∷ xs) (suc k) less = got xs k (omega arith)
 
-or_true : (is : Bool) → (is || true) ≡ true
-or_true true = refl
-or_true false = refl
+abbrev pub open_write : List Descriptor → Open → OpenWrite
+open_write descriptors one = record { call = file_call descriptors one.call.now.call; first = one.number }
 
-last_is : (page tail : ℕ) (pieces : List LaidPiece) (more : LaidPiece) (number : ℕ) → number ≡ tail + all_entries page pieces → list_any (λ leader. leader == number) (leaders_from page tail (pieces ++ more ∷ [])) ≡ true
-last_is page tail [] more number last = ap (λ is. is || false) (eq-eqb tail number (omega (arith, last)))
-last_is page tail (piece ∷ pieces) more number last =
-    ap (λ is. (tail == number) || is) (last_is page (tail + entries_of_piece page piece) pieces more number (omega (arith, last))) ∙ or_true (tail == number)
+abbrev pub AreWithin : List Descriptor → List Open → Type 0
+AreWithin descriptors open_calls = All (λ (o : Open). IsCallWithin (length descriptors) o.call.now.call) open_calls
 
-fate_from : (first number : ℕ) (groups : List ℕ) (is : Bool) → first ≤ number → list_any (λ leader. leader == number) groups ≡ is → fate_of first groups number ≡ (if is then Kept else Lost)
-fate_from first number groups is from any =
-    ap (λ below. if below || list_any (λ leader. leader == number) groups then Kept else Lost) (le-ltb number first from)
-    ∙ ap (λ is. if is then Kept else Lost) any
+module _ (descriptors : List Descriptor) (fds : List Fd) (fds_are : fds ≡ map as_fd descriptors) (files_so : CallsOnFiles fds (file_call descriptors)) where
+  one_write : (one : Open) → IsCallWithin (length descriptors) one.call.now.call → open_of fds (opened_call one) ≡ open_write descriptors one ∷ []
+  one_write one within =
+      let call = one.call.now.call in
+      let long : length fds ≡ length descriptors = ap (λ (these : List Fd). length these) fds_are ∙ length-map descriptors as_fd in
+      let less : fd_of call < length fds = let low = within_fds call (length descriptors) within in omega (arith, long, low) in
+      let at = got fds (fd_of call) less in
+      let is : file_of_fd fds (fd_of call) ≡ Some at.0.file = ap (option_map (λ (fd : Fd). fd.file)) at.1 in
+      ap (λ file. opened_on file call one.number) is
+      ∙ ap (λ call. record { call = call; first = one.number } ∷ []) (sym (files_so call at.0.file is))
 
--- the first number past the groups of some pieces is lost, and the last number of them is kept
-past_is_lost : (page tail : ℕ) (pieces : List LaidPiece) (number : ℕ) → HaveBytes pieces → number ≡ tail + all_entries page pieces → fate_of tail (leaders_from page tail pieces) number ≡ Lost
-past_is_lost page tail pieces number some is =
-    fate_from tail number (leaders_from page tail pieces) false (omega (arith, is)) (none_from page tail pieces number some (omega (arith, is)))
+  pub open_writes_are : (open_calls : List Open) → AreWithin descriptors open_calls → flat_map (open_of fds) (map opened_call open_calls) ≡ map (open_write descriptors) open_calls
+  open_writes_are [] within = refl
+  open_writes_are (one ∷ later) within =
+      let Within : Open → Type 0 = λ o. IsCallWithin (length descriptors) o.call.now.call in
+      ap (λ writes. writes ++ flat_map (open_of fds) (map opened_call later)) (one_write one (All-head Within one later within))
+      ∙ ap (λ writes. open_write descriptors one ∷ writes) (open_writes_are later (All-tail Within one later within))
 
-last_is_kept : (page tail : ℕ) (pieces : List LaidPiece) (more : LaidPiece) (number : ℕ) → number ≡ tail + all_entries page pieces → fate_of tail (leaders_from page tail (pieces ++ more ∷ [])) number ≡ Kept
-last_is_kept page tail pieces more number is =
-    fate_from tail number (leaders_from page tail (pieces ++ more ∷ [])) true (omega (arith, is)) (last_is page tail pieces more number is)
+-- ---- the files after them
 
--- ---- rows have one state
-
-same_now : {S : Type 0} (history : List S) (one other : S) → IsNow history one → IsNow history other → one ≡ other
-same_now history one other a b =
-    let same : one ∷ a.past ≡ other ∷ b.past = sym a.is ∙ b.is in
-    heads one other a.past b.past same
+-- those that are kept of some writes, one after another, are those whose fate is to be kept
+pub after_fates : (descriptors : List Descriptor) (first : ℕ) (groups : List ℕ) (open_calls : List Open) (files : Files)
+    → after_calls (kept_open first groups (map (open_write descriptors) open_calls)) files ≡ after_open descriptors (map (fated first groups) open_calls) files
+after_fates descriptors first groups [] files = refl
+after_fates descriptors first groups (one ∷ later) files =
+    by (nat_lt one.number first || list_any (λ leader. leader == one.number) groups) (λ files. after_fates descriptors first groups later files)
   where
-    heads : {S : Type 0} (x y : S) (xs ys : List S) → x ∷ xs ≡ y ∷ ys → x ≡ y
-    heads x y xs ys is = cc
+    call : FileCall
+    call = file_call descriptors one.call.now.call
 
-pub one_state : {S : Type 0} (row : List (List S)) (one other : List S) → AreNow row one → AreNow row other → one ≡ other
-one_state [] [] [] a b = refl
-one_state [] [] (y ∷ other) a b = absurd b
-one_state [] (x ∷ one) other a b = absurd a
-one_state (history ∷ row) [] other a b = absurd a
-one_state (history ∷ row) (x ∷ one) [] a b = absurd b
-one_state (history ∷ row) (x ∷ one) (y ∷ other) a b =
-    ap (λ x. x ∷ one) (same_now history x y a.0 b.0) ∙ ap (λ others. y ∷ others) (one_state row one other a.1 b.1)
+    rest : List OpenWrite
+    rest = filter (is_kept_open first groups) (map (open_write descriptors) later)
 
--- ---- the files after it
+    by : (kept : Bool) → ((files : Files) → after_calls (map (λ (w : OpenWrite). w.call) rest) files ≡ after_open descriptors (map (fated first groups) later) files)
+        → after_calls (map (λ (w : OpenWrite). w.call) (if kept then open_write descriptors one ∷ rest else rest)) files
+        ≡ after_open descriptors (map (fated first groups) later) (after_fate call files (if kept then Kept else Lost))
+    by true same = same (after_fate call files Kept)
+    by false same = same files
 
--- the piece of a write makes of files what the write makes of them
-as_written : (descriptors : List Descriptor) (call : TraceCall) (files : Files) → IsWrite call → with_laid_piece files (piece_of_call descriptors call) ≡ files_after (file_call descriptors call) files
-as_written descriptors (Pread fd at len) files is = absurd is
-as_written descriptors (Pwrite fd at bytes) files is = refl
-as_written descriptors (Fsync fd) files is = absurd is
+-- ---- their numbers
 
-module _ {L B : Type 0} (recover_so : LoggedImagesRecover) (history : L → lines.PartHistory) (held : B → stores.StoreHistory) (descriptors : List Descriptor) (log : Log L B) (files : Files)
-    (parts : List Part) (now : AreNow (map history log.parts.items) parts) (image : Image) (left_so : IsRowImage parts image) (found : recover.Recovered) (all : HasFoundAll image found) where
-  recovered_to : (pieces : List LaidPiece) → HasLog version_1 log.geometry.page log.geometry.entries log.names log.tail pieces image
-      → AreFitting version_1 log.geometry.page log.geometry.entries (length log.names) log.tail pieces → RecoversTo log.geometry.page log.tail pieces files image
-  recovered_to pieces logged fitting =
-      recover_so version_1 log.geometry.page log.geometry.entries log.names log.tail pieces image files logged fitting
+not_below : (first : ℕ) (faults : List Fault) → ((fault : Fault) → IsOneOf faults fault → is_write fault.call ≡ true → first ≤ fault.first) → All (λ (w : OpenWrite). first ≤ w.first) (open_in faults)
+not_below first [] low = All-nil (λ (w : OpenWrite). first ≤ w.first)
+not_below first (fault ∷ before) low = by (is_write fault.call) refl (not_below first before (λ other one write. low other (inr one) write))
+  where
+    one : OpenWrite
+    one = record { call = fault.call; first = fault.first }
 
-  -- the fate, by what was found
-  fate_at : (pieces : List LaidPiece) (number : ℕ) (fate : Fate) → RecoversTo log.geometry.page log.tail pieces files image → fate_of log.tail (leaders_from log.geometry.page log.tail pieces) number ≡ fate
-      → fate_of found.first found.groups number ≡ fate
-  fate_at pieces number fate recovers is =
-      ap (λ first. fate_of first found.groups number) (all.first files ∙ recovers.first)
-      ∙ ap (λ groups. fate_of log.tail groups number) (all.groups files ∙ recovers.groups)
-      ∙ is
+    by : (write : Bool) → is_write fault.call ≡ write → All (λ (w : OpenWrite). first ≤ w.first) (open_in before)
+        → All (λ (w : OpenWrite). first ≤ w.first) (if write then one ∷ open_in before else open_in before)
+    by true is rest = All-cons (λ (w : OpenWrite). first ≤ w.first) one (open_in before) (low fault (inl refl) is) rest
+    by false is rest = rest
 
-  -- the log is as it was: the write is lost
-  as_lost : (pieces : List LaidPiece) (one : outcome.Left) → HaveBytes pieces → one.number ≡ log.tail + all_entries log.geometry.page pieces → RecoversTo log.geometry.page log.tail pieces files image
-      → RecoversAsFated descriptors image files found (one ∷ []) (laid files pieces)
-  as_lost pieces one some number_is recovers =
-      let fate = fate_at pieces one.number Lost recovers (past_is_lost log.geometry.page log.tail pieces one.number some number_is) in
-      recovers.files ∙ ap (after_fate (file_call descriptors one.call.now.call) (laid files pieces)) (sym fate)
-
-  -- it has the piece more: the write is kept
-  as_kept : (pieces : List LaidPiece) (one : outcome.Left) → IsWrite one.call.now.call → one.number ≡ log.tail + all_entries log.geometry.page pieces
-      → RecoversTo log.geometry.page log.tail (pieces ++ piece_of_call descriptors one.call.now.call ∷ []) files image
-      → RecoversAsFated descriptors image files found (one ∷ []) (laid files pieces)
-  as_kept pieces one is_write number_is recovers =
-      let piece = piece_of_call descriptors one.call.now.call in
-      let fate = fate_at (pieces ++ piece ∷ []) one.number Kept recovers (last_is_kept log.geometry.page log.tail pieces piece one.number number_is) in
-      recovers.files ∙ fold_push with_laid_piece files pieces piece ∙ as_written descriptors one.call.now.call (laid files pieces) is_write
-      ∙ ap (after_fate (file_call descriptors one.call.now.call) (laid files pieces)) (sym fate)
-
-  pub recovers_as_fated : (pieces : List LaidPiece) (next : ℕ) (left : List outcome.Left) → All (λ call. IsWrite call.call) (map left_call left)
-      → IsHeld history held descriptors log pieces next files left → RecoversAsFated descriptors image files found left (laid files pieces)
-  recovers_as_fated pieces next [] writes here =
-      let same = one_state (map history log.parts.items) parts here.0.parts now here.0.parts_are in
-      let image_of : IsRowImage here.0.parts image = subst (λ parts. IsRowImage parts image) same left_so in
-      (recovered_to pieces (here.0.has.logs image image_of) here.0.has.fitting).files
-  recovers_as_fated pieces next (one ∷ []) writes here =
-      let same = one_state (map history log.parts.items) parts here.0.parts now here.0.parts_are in
-      let image_of : IsRowImage here.0.parts image = subst (λ parts. IsRowImage parts image) same left_so in
-      let piece = piece_of_call descriptors one.call.now.call in
-      elim (here.0.logs image image_of) [
-        | inl logged ↦
-            let fitting = here.0.fitting_before in
-            as_lost pieces one (λ i none below. (fitting.each i none below).some) here.2 (recovered_to pieces logged fitting)
-        | inr logged ↦ as_kept pieces one (writes 0 one.call.now (omega arith)) here.2 (recovered_to (pieces ++ piece ∷ []) logged here.0.fitting)
-      ]
-  recovers_as_fated pieces next (one ∷ two ∷ more) writes here = absurd here
+-- nor does one of the calls that these are
+pub numbers_low : (descriptors : List Descriptor) (first : ℕ) (faults : List Fault) (open_calls : List Open)
+    → ((fault : Fault) → IsOneOf faults fault → is_write fault.call ≡ true → first ≤ fault.first) → IsPermutation (map (open_write descriptors) open_calls) (open_in faults)
+    → All (λ (o : Open). first ≤ o.number) open_calls
+numbers_low descriptors first faults open_calls low moved =
+    go open_calls
+    (All-permutation (λ (w : OpenWrite). first ≤ w.first) (open_in faults) (map (open_write descriptors) open_calls) (IsPermutation-sym (map (open_write descriptors) open_calls) (open_in faults) moved)
+    (not_below first faults low))
+  where
+    go : (these : List Open) → All (λ (w : OpenWrite). first ≤ w.first) (map (open_write descriptors) these) → All (λ (o : Open). first ≤ o.number) these
+    go [] all = All-nil (λ (o : Open). first ≤ o.number)
+    go (one ∷ later) all =
+        let Low : OpenWrite → Type 0 = λ w. first ≤ w.first in
+        All-cons (λ (o : Open). first ≤ o.number) one later (All-head Low (open_write descriptors one) (map (open_write descriptors) later) all)
+        (go later (All-tail Low (open_write descriptors one) (map (open_write descriptors) later) all))

@@ -1,7 +1,6 @@
 -- What a command shows and why it is refused, from what its run does.
 use Rattle.std.proofs.Common.{◌≡◌, ◌++◌, ℕ, ◌≤◌, Bool, true, false, List, [], ◌∷◌, if◌then◌else◌, Option, Some, None, refl, ap, subst, ◌∙◌}
 use Rattle.std.specs.Prelude.{All, IfSome, option_map}
-use Rattle.std.specs.List.Sorted.{IsStrictlyIncreasing}
 use Rattle.std.proofs.lemmas.List.{append-nil}
 use Rattle.std.proofs.lemmas.List.Elements.{All-nil, All-cons, All-head, All-tail}
 use Rattle.nv_bench.specs.Benches.{BenchState}
@@ -17,7 +16,7 @@ use Rattle.nv_pmem.specs.Laws.{BlankIsQuiet}
 use Rattle.nv_store.specs.Store.{IsQuietStore}
 use Rattle.nv_trace.specs.Reading.{ending_of, Whole}
 use Rattle.nv_trace.specs.declared.trace.Form.TheVariants as forms
-use Rattle.nv_trace.specs.Traced.{Traced, lines_in}
+use Rattle.nv_trace.specs.Traced.{Traced}
 use Rattle.nv_top.specs.Commands.{IsNotRun}
 use Rattle.nv_top.specs.Headline.{IsCommandRefused, IsShown, IsShownOf, IsRegionUnwritten, command_over, may_stop, possible}
 use Rattle.nv_top.specs.Words.{AreInLimits, command_of}
@@ -63,23 +62,23 @@ run_limits images words options run = run_in_limits words options (run_over imag
 
 -- ---- what is shown, and refused
 
-pub shown_from : (options : RunOptions) (left : Option (List ℕ)) (old new : BenchState) (trace : Traced) (text : List ℕ) → IsStrictlyIncreasing (lines_in trace)
-    → IfSome left (λ input. ending_of forms.Alone input ≡ Whole trace)
-    → (IsStrictlyIncreasing (lines_in trace) → IfSome old.told (λ holding. IsShownOf options.stop options old new holding trace text))
+pub shown_from : (options : RunOptions) (left : Option (List ℕ)) (old new : BenchState) (trace : Traced) (text : List ℕ)
+    → IfSome left (λ input. ending_of forms.Run input ≡ Whole trace)
+    → IfSome old.told (λ holding. IsShownOf options.stop options old new holding trace text)
     → IfSome old.told (λ holding. IsShown (Run options) left old new holding text)
-shown_from options None old new trace text rise whole ran = if_told old.told (λ holding. IsShown (Run options) None old new holding text) (λ holding told. tt)
-shown_from options (Some input) old new trace text rise whole ran =
+shown_from options None old new trace text whole ran = if_told old.told (λ holding. IsShown (Run options) None old new holding text) (λ holding told. tt)
+shown_from options (Some input) old new trace text whole ran =
     if_told old.told (λ holding. IsShown (Run options) (Some input) old new holding text) (λ holding told.
-    (trace, whole, told_at old.told (λ holding. IsShownOf options.stop options old new holding trace text) holding told (ran rise)))
+    (trace, whole, told_at old.told (λ holding. IsShownOf options.stop options old new holding trace text) holding told ran))
 
-pub refused_from : (options : RunOptions) (left : Option (List ℕ)) (old new : BenchState) (trace : Traced) (why : Refusal) → IsStrictlyIncreasing (lines_in trace)
-    → IfSome left (λ input. ending_of forms.Alone input ≡ Whole trace)
-    → (IsStrictlyIncreasing (lines_in trace) → IfSome old.told (λ holding. IsNotRun options holding trace.names why × IsRegionUnwritten old new why))
+pub refused_from : (options : RunOptions) (left : Option (List ℕ)) (old new : BenchState) (trace : Traced) (why : Refusal)
+    → IfSome left (λ input. ending_of forms.Run input ≡ Whole trace)
+    → IfSome old.told (λ holding. IsNotRun options holding trace.names why × IsRegionUnwritten old new why)
     → IfSome old.told (λ holding. IsCommandRefused (Run options) left old new holding why)
-refused_from options None old new trace why rise whole refused = if_told old.told (λ holding. IsCommandRefused (Run options) None old new holding why) (λ holding told. tt)
-refused_from options (Some input) old new trace why rise whole refused =
+refused_from options None old new trace why whole refused = if_told old.told (λ holding. IsCommandRefused (Run options) None old new holding why) (λ holding told. tt)
+refused_from options (Some input) old new trace why whole refused =
     if_told old.told (λ holding. IsCommandRefused (Run options) (Some input) old new holding why) (λ holding told.
-    let both = told_at old.told (λ holding. IsNotRun options holding trace.names why × IsRegionUnwritten old new why) holding told (refused rise) in
+    let both = told_at old.told (λ holding. IsNotRun options holding trace.names why × IsRegionUnwritten old new why) holding told refused in
     (trace, whole, both.0, both.1))
 
 pub both_told : (options : RunOptions) (old new : BenchState) (names : List (List ℕ)) (why : Refusal) → IfSome old.told (λ holding. IsNotRun options holding names why)
@@ -91,10 +90,10 @@ both_told options old new names why refused unwritten =
       λ other. told_at old.told (λ holding. new.told ≡ told_after why old.told) holding told (unwritten other),
     ))
 
-pub unarmed_from : (left : Option (List ℕ)) (old new : BenchState) (trace : Traced) → IsStrictlyIncreasing (lines_in trace) → IfSome left (λ input. ending_of forms.Alone input ≡ Whole trace)
-    → (IsStrictlyIncreasing (lines_in trace) → IfSome old.told (λ holding. new.arms ≡ old.arms)) → IfSome left (λ input. IfSome old.told (λ holding. new.arms ≡ old.arms))
-unarmed_from None old new trace rise whole unarmed = tt
-unarmed_from (Some input) old new trace rise whole unarmed = unarmed rise
+pub unarmed_from : (left : Option (List ℕ)) (old new : BenchState) (trace : Traced) → IfSome left (λ input. ending_of forms.Run input ≡ Whole trace)
+    → IfSome old.told (λ holding. new.arms ≡ old.arms) → IfSome left (λ input. IfSome old.told (λ holding. new.arms ≡ old.arms))
+unarmed_from None old new trace whole unarmed = tt
+unarmed_from (Some input) old new trace whole unarmed = unarmed
 
 -- what holds of a bench that wasn't armed
 pub where_unarmed : (old new : BenchState) (P : Holding → Type 0) → IfSome old.told (λ holding. new.arms ≡ old.arms) → (new.arms ≡ old.arms → IfSome old.told P) → IfSome old.told P

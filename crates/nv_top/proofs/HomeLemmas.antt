@@ -1,8 +1,8 @@
 -- Stores at home: which one a name finds, before power goes off and after it.
-use Rattle.std.proofs.Common.{◌≡◌, ◌≢◌, ℕ, ◌<◌, Bool, true, false, cond, zero, suc, All, List, [], ◌∷◌, ◌++◌, length, map, get_or, slice_index, slice_index_or, refl, ap, ◌∙◌, arith}
+use Rattle.std.proofs.Common.{◌≡◌, ◌≢◌, ℕ, ◌<◌, Bool, true, false, cond, zero, suc, All, List, [], ◌∷◌, ◌++◌, length, map, get_or, slice_index, slice_index_or, refl, sym, ap, subst, ◌∙◌, arith}
 use Rattle.std.specs.Prelude.{nat_eq}
 use Rattle.std.specs.Cmp.Lexicographic.{same_text, other_text}
-use Rattle.std.proofs.lemmas.List.{ext_get_or}
+use Rattle.std.proofs.lemmas.List.{ext_get_or, length-map}
 use Rattle.std.proofs.lemmas.List.Elements.{All-nil, All-cons, All-head, All-tail}
 use lib.Pointwise.{pointwise}
 use Rattle.nv_store.specs.Images.{IsStoreImage}
@@ -10,7 +10,7 @@ use Rattle.nv_store.specs.Store.{Store, IsQuietStore}
 use Rattle.nv_bench.specs.Holding.{Holding, NamedStore, is_named, named_stores, store_of}
 use Rattle.nv_bench.specs.Laws.{IsHoldingImage}
 use Rattle.nv_open.specs.Lending.{stores_named}
-use Rattle.nv_recover.specs.Standing.{files_of}
+use Rattle.nv_recover.specs.Standing.{AreStoreImages, files_of}
 
 true_unless : (b : Bool) → ¬ (false ≡ b) → b ≡ true
 true_unless true never = refl
@@ -118,3 +118,45 @@ files_again names home stores was now back long distinct away image quiet =
     ap (λ (contents : List (List ℕ)). record { contents = contents }) (all_again names was.stores now.stores (record { names = image.names; images = image.stores }) quiet)
     ∙ ap (λ (stores : List NamedStore). files_of (stores_named names stores)) back
     ∙ ap files_of (all_behind names home (named_stores names stores) away ∙ own_stores names stores long distinct)
+
+-- ---- an image of stores that may not be quiet
+
+either_image : (is : Bool) (now was now_rest was_rest : Store) → IsStoreImage was now.seen → IsStoreImage was_rest now_rest.seen → IsStoreImage (cond is was was_rest) (cond is now now_rest).seen
+either_image true now was now_rest was_rest one others = one
+either_image false now was now_rest was_rest one others = others
+
+found_image : (name : List ℕ) (was now : List NamedStore) → AreImagesOf was now → IsStoreImage (store_of name was) (store_of name now).seen
+found_image name [] [] images = record { no_shorter = omega arith; no_longer = omega arith; synced = λ i not. refl }
+found_image name [] (n ∷ now) images = let never = images.names in absurd cc
+found_image name (w ∷ was) [] images = let never = images.names in absurd cc
+found_image name (w ∷ was) (n ∷ now) images =
+    let Names = map (λ (named : NamedStore). named.name) in
+    let same : n.name ≡ w.name = same_head n.name w.name (Names now) (Names was) images.names in
+    let rest : AreImagesOf was now = record {
+      names = same_tail n.name w.name (Names now) (Names was) images.names;
+      images = λ i none inside. images.images (suc i) none (omega arith);
+    } in
+    subst (λ known. IsStoreImage (store_of name (w ∷ was)) (cond (pointwise nat_eq known name) n.store (store_of name now)).seen) (sym same)
+    (either_image (pointwise nat_eq w.name name) n.store w.store (store_of name now) (store_of name was) (images.images zero w (omega arith)) (found_image name was now rest))
+
+images_named : (names : List (List ℕ)) (was now : List NamedStore) → AreImagesOf was now → (i : ℕ) (none : Store) → i < length (stores_named names was)
+    → IsStoreImage (get_or (stores_named names was) i none) (get_or (map (λ (store : Store). store.seen) (stores_named names now)) i [])
+images_named [] was now images i none inside = absurd (omega arith)
+images_named (name ∷ names) was now images zero none inside = found_image name was now images
+images_named (name ∷ names) was now images (suc i) none inside = images_named names was now images i none (omega arith)
+
+-- After power went off the stores of these names hold an image of those that came back.
+pub images_again : (names : List (List ℕ)) (home : List NamedStore) (stores : List Store) (was now : Holding) → was.stores ≡ home ++ named_stores names stores → length names ≡ length stores
+    → ((i j : ℕ) → i < j → j < length names → slice_index_or names i [] ≢ slice_index_or names j [])
+    → All (λ name. All (λ named. is_named name named ≡ false) home) names
+    → IsHoldingImage was now → AreStoreImages stores (files_of (stores_named names now.stores))
+images_again names home stores was now back long distinct away image =
+    let same : stores_named names was.stores ≡ stores =
+    ap (stores_named names) back ∙ all_behind names home (named_stores names stores) away ∙ own_stores names stores long distinct in
+    let images : AreImagesOf was.stores now.stores = record { names = image.names; images = image.stores } in
+    let Images : List Store → Type 0 = λ these. (i : ℕ) (none : Store) → i < length these
+    → IsStoreImage (get_or these i none) (get_or (map (λ (store : Store). store.seen) (stores_named names now.stores)) i []) in
+    record {
+      count = length-map (stores_named names now.stores) (λ (store : Store). store.seen) ∙ length-map names (λ name. store_of name now.stores) ∙ long;
+      each = subst Images same (images_named names was.stores now.stores images);
+    }

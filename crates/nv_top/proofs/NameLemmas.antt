@@ -7,11 +7,14 @@ use Rattle.std.proofs.lemmas.Bool.{cases_Bool, cond-true}
 use Rattle.std.proofs.lemmas.List.Folds.{list_any-append}
 use Rattle.std.proofs.lemmas.List.Elements.{All-cons, All-head, All-tail, All-map, All-weaker}
 use Rattle.std.proofs.lemmas.List.Sums.{AllPass-from_list_all}
+use Rattle.std.proofs.lemmas.List.{get_or_default}
+use Rattle.nv_plain.specs.Layouts.{version_1}
 use Rattle.nv_plain.specs.Names.{is_name, is_name_byte}
+use Rattle.nv_header.specs.FileNames.{AreFileNames}
 use Rattle.nv_open.specs.Adding.{all_names, is_known}
 use Rattle.nv_trace.specs.Shape.{IsWellFormed}
 use Rattle.nv_trace.specs.Traced.{Traced}
-use Rattle.nv_top.specs.Faithful.{descriptors_in, named, placed_in}
+use Rattle.nv_runner.specs.Faithful.{descriptors_in, named, placed_in}
 use Rattle.nv_trace.specs.Said.{said_place}
 use Rattle.nv_top.specs.Readings.{IsPlainByte, HavePlainNames}
 
@@ -29,6 +32,12 @@ plain_name : (most : ℕ) (name : List ℕ) → is_name most name ≡ true → A
 plain_name most name named k d inside =
     plain_byte (get_or name k d) (AllPass-from_list_all is_name_byte name
     (second (nat_le 1 (length name) && nat_le (length name) most && not (slice_index name 0 == 46)) (list_all is_name_byte name) named) k d inside)
+
+-- the names of a region's files are allowed
+pub each_allowed : (names : List (List ℕ)) → AreFileNames version_1 names → All (λ name. is_name version_1.name_limit name ≡ true) names
+each_allowed names are k d inside =
+    let May : List ℕ → Type 0 = λ name. is_name version_1.name_limit name ≡ true in
+    subst May (get_or_default names k [] d inside) (are.allowed k inside)
 
 -- files of names that are allowed have plain names
 pub names_plain : (most : ℕ) (names contents : List (List ℕ)) → All (λ name. is_name most name ≡ true) names → HavePlainNames (named names (record { contents = contents }))

@@ -17,7 +17,9 @@ use Rattle.nv_trace.specs.declared.report.Refusal.{Refusal}
 use Rattle.nv_trace.specs.declared.report.Refusal.TheVariants.{BadDescriptor, TooFar, TooLong, Stopped, Spent, Again, RegionFault, StoreFault}
 use Rattle.nv_trace.specs.Lines.{onto_first, parts_between, but_last, fields_of, ended_lines}
 use Rattle.nv_trace.specs.Report.{spaced, line_text, hex_text, call_fields, reply_text, refusal_text, fate_text, history_text, refused_text, open_text, recovered_text, file_text, end_text}
-use Rattle.nv_top.specs.Reports.{PlacedCall, RefusedCall, OpenCall, NamedFile, Report, RecoveryReport, history_lines, refused_lines, open_lines, file_lines, report_text, recovery_text}
+use Rattle.nv_runner.specs.Histories.{PlacedCall}
+use Rattle.nv_runner.specs.Reports.{NamedFile, OpenCall, Report, ShownRefusal}
+use Rattle.nv_top.specs.Reports.{RecoveryReport, history_lines, refused_lines, open_lines, file_lines, report_text, recovery_text}
 use Rattle.nv_top.specs.Readings.{behind_last, refusal_fields, placed_fields, history_listing, refused_fields, open_fields, recovered_fields, file_fields, end_fields, listing, recovery_listing, IsPlainByte, HavePlainNames}
 
 abbrev IsPlain : List ℕ → Type 0
@@ -178,7 +180,7 @@ history_text_is place (placed ∷ later) =
     ap (λ text. text ++ history_lines (place + 1) later) (placed_line place placed.call.thread placed.call.call placed.reply)
     ∙ ap (λ text. line_text (placed_fields place placed) ++ text) (history_text_is (place + 1) later)
 
-refused_text_is : (refused : List RefusedCall) → refused_lines refused ≡ lines_text (map refused_fields refused)
+refused_text_is : (refused : List ShownRefusal) → refused_lines refused ≡ lines_text (map refused_fields refused)
 refused_text_is [] = refl
 refused_text_is (first ∷ rest) =
     ap (λ text. text ++ refused_lines rest) (refused_line first.call.thread first.call.call first.refusal)
@@ -315,7 +317,7 @@ placed_plain place placed = (
   ),
 )
 
-refused_plain : (refused : RefusedCall) → IsLine (refused_fields refused)
+refused_plain : (refused : ShownRefusal) → IsLine (refused_fields refused)
 refused_plain refused = (
   word (codes "refused") refl,
   (
@@ -352,7 +354,7 @@ history_plain : (place : ℕ) (history : List PlacedCall) → Each IsLine (histo
 history_plain place [] = tt
 history_plain place (placed ∷ later) = (placed_plain place placed, history_plain (place + 1) later)
 
-all_refused_plain : (refused : List RefusedCall) → Each IsLine (map refused_fields refused)
+all_refused_plain : (refused : List ShownRefusal) → Each IsLine (map refused_fields refused)
 all_refused_plain [] = tt
 all_refused_plain (first ∷ rest) = (refused_plain first, all_refused_plain rest)
 

@@ -1,13 +1,14 @@
 -- Rows of devices: the present states of all.
-use Rattle.std.proofs.Common.{◌≡◌, ℕ, ◌<◌, List, [], ◌∷◌, ◌++◌, All, length, take, drop, map, refl, ap, arith}
+use Rattle.std.proofs.Common.{◌≡◌, ℕ, ◌<◌, List, [], ◌∷◌, ◌++◌, All, length, take, drop, map, refl, sym, ap, subst, arith}
 use Rattle.std.proofs.lemmas.List.{take_at}
 use Rattle.std.proofs.lemmas.List.Elements.{All-cons, All-head, All-tail}
 use Rattle.nv_pmem.specs.Moments.{Tells}
-use Rattle.nv_pmem.specs.RowStates.{AreNow, row_tells_from, tells_at}
+use Rattle.nv_pmem.specs.RowStates.{AreNow, IsNow, row_tells_from, tells_at}
 use Rattle.nv_pmem.specs.Rows.{RowTells}
 use Rattle.nv_store.specs.Steps.{StoreHistory}
 use Rattle.nv_store.specs.Store.{IsQuietStore, Store}
-use Rattle.nv_recover.specs.Standing.{AreQuietStores}
+use Rattle.nv_recover.specs.Standing.{AreQuietStores, files_of}
+use Rattle.nv_mount.specs.Telling.{IsSeen, StoresHave}
 
 -- ---- rows that tell
 
@@ -47,3 +48,14 @@ all_quiet history (store ∷ stores) (now ∷ states) quiet are =
 
 pub quiet_row : {Y : Type 0} (history : Y → StoreHistory) (stores : List Y) → All (λ store. Tells (history store) IsQuietStore) stores → RowTells (map history stores) AreQuietStores
 quiet_row history stores quiet = row_tells_from (map history stores) AreQuietStores (λ states are. all_quiet history stores states quiet are)
+
+-- ---- the files that stores have
+
+seen_now : (history : StoreHistory) (now : Store) → IsNow history now → IsSeen history now.seen
+seen_now history now is = subst (λ these. IsSeen these now.seen) (sym is.is) refl
+
+pub stores_have : (row : List StoreHistory) (now : List Store) → AreNow row now → StoresHave row (files_of now)
+stores_have [] [] are = tt
+stores_have [] (store ∷ now) are = absurd are
+stores_have (history ∷ row) [] are = absurd are
+stores_have (history ∷ row) (store ∷ now) are = (seen_now history store are.0, stores_have row now are.1)

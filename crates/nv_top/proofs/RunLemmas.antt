@@ -1,388 +1,309 @@
--- A run goes on by one call, which is after all those before it.
-use Rattle.std.proofs.Common.{◌≡◌, ℕ, ◌+◌, ◌^◌, ◌<◌, ◌≤◌, ◌==◌, ◌&&◌, not, nat_lt, Bool, true, cond, List, [], ◌∷◌, ◌++◌, length, map, filter, sum_by, take, get_or, All, Option, Some, None, MatchOption, IsPermutation, refl, sym, ap, subst, ◌∙◌, inl, inr, arith, append_assoc, append-nil, length-append}
+-- A run over a mount: what it leaves when it is closed, and the report of one that nothing stopped.
+use Rattle.std.proofs.Common.{◌≡◌, ℕ, zero, suc, ◌+◌, ◌-◌, ◌<◌, ◌≤◌, All, List, [], ◌∷◌, length, get_or, map, take, drop, inl, inr, refl, sym, ap, subst, ◌∙◌, arith}
+use Rattle.std.specs.Prelude.{None, Some, Ok, Option, is_none, sum_by, true}
+use Rattle.std.proofs.Math.ListN.{get_or-eq_default}
+use Rattle.std.specs.List.{AllZip}
 use Rattle.std.specs.List.Sorted.{IsStrictlyIncreasing}
-use Rattle.std.proofs.lemmas.Bool.{cases_Bool, and_right, not_from_false, le-ltb, cond-true}
-use Rattle.std.proofs.lemmas.List.{length-map, get_or_append_left, get_or-append-add, get_or-map, get_or-take, length-take, map_push}
-use Rattle.std.proofs.lemmas.List.Elements.{All-append, All-head, All-tail, All-push, All-map, All-filter, All-weaker, filter-append}
-use Rattle.std.proofs.lemmas.List.Kept.{AllPairs-from_increasing}
-use Rattle.std.proofs.lemmas.List.Sorted.{IsPermutation-refl, IsPermutation-sym, IsPermutation-trans, IsPermutation-cons, IsPermutation-middle, IsPermutation-to_front, IsPermutation-append_left, All-permutation}
-use Rattle.std.proofs.lemmas.List.Sums.{sum_by-append}
-use Rattle.nv_plain.specs.Calls.{reply_of, files_after}
+use Rattle.std.proofs.lemmas.Bool.{cases_lt}
+use Rattle.std.proofs.lemmas.List.{get_or-drop, get_or_default, length-drop, length-map}
+use Rattle.std.proofs.lemmas.List.Elements.{All-cons, All-head, All-tail}
 use Rattle.nv_plain.specs.Files.{Files}
-use Rattle.nv_plain.specs.Histories.{Answered, IsLegal, after}
-use Rattle.nv_plain.specs.declared.call.Reply.{Reply}
-use Rattle.nv_trace.proofs.Numbered.{IsStrictlyIncreasing-push}
-use Rattle.nv_trace.specs.declared.trace.Descriptor.{Descriptor}
-use Rattle.nv_trace.specs.declared.trace_call.TracedCall.{TracedCall}
-use Rattle.nv_trace.specs.declared.report.Refusal.{Refusal}
-use Rattle.nv_trace.specs.declared.report.Refusal.TheVariants.{BadDescriptor, TooFar, TooLong, Stopped, Spent, Again, RegionFault, StoreFault}
-use Rattle.nv_top.specs.Faithful.{Basis, RunSizes, IsAllowedRefusal, MayBeDrawn, IsLeftOpen, IsReadCall, WasRefused, barred, entries_of, entries_taken, file_call, history_of, lines_of, not_later}
-use Rattle.nv_top.specs.Reports.{PlacedCall, RefusedCall}
-use Rattle.nv_top.specs.Runs.{AreMade, IsAfterAll, drawing, listed}
+use Rattle.nv_plain.specs.Histories.{Answered, after}
+use Rattle.nv_plain.specs.Layouts.{version_1}
+use Rattle.nv_pmem.specs.Images.{IsQuietPart}
+use Rattle.nv_pmem.specs.Part.{Part, part_word}
+use Rattle.nv_pmem.specs.Room.{Room}
+use Rattle.nv_pmem.specs.Moments.{Tells}
+use Rattle.nv_pmem.specs.RowStates.{AreNow, IsNow, row_tells_at, tells_at}
+use Rattle.nv_pmem.specs.Steps.{PartHistory}
+use Rattle.nv_pmem.proofs.ImageLaws.{image_of_now, quiet_blank}
+use Rattle.nv_store.specs.Steps.{StoreHistory}
+use Rattle.nv_store.specs.Store.{IsQuietStore, Store}
+use Rattle.nv_header.specs.FileNames.{AreFileNames}
+use Rattle.nv_header.specs.Regions.{IsAtRest}
+use Rattle.nv_recover.specs.Standing.{AreQuietStores, files_of}
+use Rattle.nv_core.specs.crash.CommutingWrites.{after_calls}
+use Rattle.nv_core.specs.crash.CrashImages.{OpensRegion, RunsKeepRegion}
+use Rattle.nv_core.specs.crash.EmptyLog.{EmptyLogsRest, HasAllInStores}
+use Rattle.nv_core.specs.invariant.InvariantLaws.{RunsAreSound}
+use Rattle.nv_core.specs.log.LivePieces.{calls_of}
+use Rattle.nv_core.specs.log.LogContent.{OpensLog, RunsKeepTheLog}
+use Rattle.nv_core.specs.log.Written.{IsPart}
+use Rattle.nv_core.specs.state.Core.{Core}
+use Rattle.nv_core.specs.state.Values.{Bare, Value}
+use Rattle.nv_core.specs.state.Words.{ENTRY, HEADER, Sizes}
+use Rattle.nv_plain.specs.Images.{Image}
+use Rattle.nv_core.specs.steps.Frames.{OwnEventsTell}
+use Rattle.nv_core.specs.steps.Opening.{IsMount}
+use Rattle.nv_core.proofs.crash.CrashGroups.{some_entries}
+use Rattle.nv_core.proofs.crash.CrashHeader.{header_tells}
+use Rattle.nv_core.proofs.crash.CrashRegions.{region_is, region_of}
+use Rattle.nv_table.specs.ends.Closing.{IsClosed}
+use Rattle.nv_table.specs.state.Layout.{cell_of}
+use Rattle.nv_table.specs.state.Opened.{Opened, mount_of, state_of}
+use Rattle.nv_table.specs.state.SlotValues.{part_value, present, slot_value, store_value}
+use Rattle.nv_table.specs.state.States.{BoardState, PassState}
+use Rattle.nv_table.specs.state.Views.{first_view, values_of}
+use Rattle.nv_table.proofs.state.LayoutLaws.{cell_there}
+use Rattle.nv_mount.specs.ClosedAtRest.{AreAtRest, HasEmptiedLog, files_then}
+use Rattle.nv_mount.specs.RisenCounts.{SawStop}
+use Rattle.nv_mount.specs.Telling.{IsSeen}
+use Rattle.nv_mount.specs.WholeRuns.{history_then}
+use Rattle.nv_mount.specs.declared.fds.Fd.{Fd}
+use Rattle.nv_mount.proofs.LastStateLaws.{LastLog, last_log, none_hold}
+use Rattle.nv_mount.proofs.WholeRunLaws.{there}
+use Rattle.nv_trace.specs.Shape.{IsWellFormed}
+use Rattle.nv_trace.specs.Traced.{Traced, lines_in}
+use Rattle.nv_runner.specs.declared.plan.Plan.{Plan}
+use Rattle.nv_runner.specs.declared.sorted.Open.{Open}
+use Rattle.nv_runner.specs.declared.sorted.SortedCalls.{SortedCalls}
+use Rattle.nv_runner.specs.EndedRuns.{HasOutcome, IsClosedBy}
+use Rattle.nv_runner.specs.Faithful.{Basis, IsFaithful, descriptors_in, file_call, files_shown, named}
+use Rattle.nv_runner.specs.FaithfulRuns.{IsMountOf, UnstoppedRunsLeaveNothingOpen}
+use Rattle.nv_runner.specs.Reports.{Report}
+use Rattle.nv_runner.specs.Sorted.{OpenedCall, opened_call, placed_call}
+use Rattle.nv_runner.proofs.FaithfulLaws.{calls_on_files, faithful_where}
+use Rattle.nv_runner.proofs.HistoryThreads.{threads_are_legal}
+use Rattle.nv_runner.proofs.ToldLaws.{runs_are_told}
+use Rattle.nv_open.proofs.LogLaws.{states_many}
+use Rattle.nv_top.specs.Outcomes.{shown_report}
+use Rattle.nv_top.specs.Reports.{report_text}
+use Rattle.nv_top.specs.Runs.{HasRunOver, IsQuietSpare}
+use Rattle.nv_top.proofs.NameLemmas.{each_allowed, names_plain}
+use Rattle.nv_top.proofs.RestLemmas.{all_rest, first_states, is_longer, now_of, same_state, state_at}
+use Rattle.nv_top.proofs.RowLemmas.{Present, present as present_states}
 
--- what holds of a list's elements holds of those of its parts
-pub All-front : {X : Type 0} (P : X → Type 0) (xs ys : List X) → All P (xs ++ ys) → All P xs
-All-front P xs ys all k d below =
-    subst P (get_or_append_left xs ys d k below) (all k d (omega (arith, length-append xs ys)))
+-- ---- files
 
-pub All-back : {X : Type 0} (P : X → Type 0) (xs ys : List X) → All P (xs ++ ys) → All P ys
-All-back P xs ys all k d below =
-    subst P (get_or-append-add xs ys k d) (all (length xs + k) d (omega (arith, length-append xs ys)))
+-- what a history leaves is what its calls leave
+after_is : (history : List Answered) (files : Files) → after history files ≡ after_calls (calls_of history) files
+after_is [] files = refl
+after_is (answered ∷ later) files = after_is later _
 
--- a filter keeps what passes
-filter_all : {X : Type 0} (p : X → Bool) (xs : List X) → All (λ x. p x ≡ true) xs → filter p xs ≡ xs
-filter_all p [] all = refl
-filter_all p (x ∷ xs) all =
-    cond-true (p x) (x ∷ filter p xs) (filter p xs) (All-head (λ x. p x ≡ true) x xs all)
-    ∙ ap (λ ys. x ∷ ys) (filter_all p xs (All-tail (λ x. p x ≡ true) x xs all))
+-- stores that read as files, and tell, hold them
+seen_files : (row : List StoreHistory) (states : List Store) (contents : List (List ℕ)) → AreNow row states → AllZip IsSeen row contents → (files_of states).contents ≡ contents
+seen_files [] [] [] are have = refl
+seen_files [] [] (bytes ∷ contents) are have = absurd have
+seen_files [] (now ∷ states) contents are have = absurd are
+seen_files (history ∷ row) [] contents are have = absurd are
+seen_files (history ∷ row) (now ∷ states) [] are have = absurd have
+seen_files (history ∷ row) (now ∷ states) (bytes ∷ contents) are have =
+    let first : now.seen ≡ bytes = subst (λ (h : StoreHistory). IsSeen h bytes) are.0.is have.0 in
+    ap (λ (b : List ℕ). b ∷ (files_of states).contents) first ∙ ap (λ (rest : List (List ℕ)). bytes ∷ rest) (seen_files row states contents are.1 have.1)
 
--- the lines of a thread rise where those before it do, and the new one is after all
-lines_rise_on : (thread : ℕ) (calls : List TracedCall) (call : TracedCall) → IsStrictlyIncreasing (lines_of thread calls) → IsAfterAll calls call → IsStrictlyIncreasing (lines_of thread (calls ++ call ∷ []))
-lines_rise_on thread calls call rises after_all =
-    let mine : TracedCall → Bool = λ other. other.thread == thread in
-    let line : TracedCall → ℕ = λ other. other.line in
-    let below = All-map (λ n. n < call.line) line (filter mine calls) (All-filter mine (λ other. other.line < call.line) calls after_all) in
-    let pushed = IsStrictlyIncreasing-push (lines_of thread calls) call.line rises below in
-    let joined : map line (filter mine (calls ++ call ∷ [])) ≡ map line (filter mine calls ++ filter mine (call ∷ [])) = ap (map line) (filter-append mine calls (call ∷ [])) in
-    elim (cases_Bool (mine call)) [
-      | inl is_mine ↦
-          let last : filter mine (call ∷ []) ≡ call ∷ [] = cond-true (mine call) (call ∷ []) [] is_mine in
-          subst IsStrictlyIncreasing (sym (joined ∙ ap (λ xs. map line (filter mine calls ++ xs)) last ∙ map_push line (filter mine calls) call)) pushed
-      | inr is_other ↦
-          let last : filter mine (call ∷ []) ≡ [] = ap (λ b. cond b (call ∷ []) []) is_other in
-          subst IsStrictlyIncreasing (sym (joined ∙ ap (λ xs. map line (filter mine calls ++ xs)) last ∙ ap (map line) (append-nil (filter mine calls)))) rises
-    ]
+seen_tell : (row : List StoreHistory) (contents : List (List ℕ)) → AllZip IsSeen row contents → All (λ history. 0 < length history) row
+seen_tell [] contents have = λ k d inside. absurd (omega arith)
+seen_tell (history ∷ row) [] have = absurd have
+seen_tell ([] ∷ row) (bytes ∷ contents) have = absurd have.0
+seen_tell ((now ∷ past) ∷ row) (bytes ∷ contents) have = All-cons (λ history. 0 < length history) (now ∷ past) row (omega arith) (seen_tell row contents have.1)
 
--- ---- how many entries some calls drew, beside the later ones of a call's own thread
+quiet_states : (row : List StoreHistory) (states : List Store) → AreNow row states → All (λ history. Tells history IsQuietStore) row → AreQuietStores states
+quiet_states [] [] are quiet = λ k d inside. absurd (omega arith)
+quiet_states [] (now ∷ states) are quiet = absurd are
+quiet_states (history ∷ row) [] are quiet = absurd are
+quiet_states (history ∷ row) (now ∷ states) are quiet =
+    All-cons IsQuietStore now states (tells_at history IsQuietStore now are.0 (All-head (λ history. Tells history IsQuietStore) history row quiet))
+    (quiet_states row states are.1 (All-tail (λ history. Tells history IsQuietStore) history row quiet))
 
-drawn_by : RunSizes → TracedCall → List TracedCall → ℕ
-drawn_by sizes call calls = entries_of sizes (not_later call calls)
+-- ---- what goes in
 
-drawn-append : (sizes : RunSizes) (call : TracedCall) (some more : List TracedCall) → drawn_by sizes call (some ++ more) ≡ drawn_by sizes call some + drawn_by sizes call more
-unfolding drawn_by
-drawn-append sizes call some more =
-    let test : TracedCall → Bool = λ other. not (other.thread == call.thread && nat_lt call.line other.line) in
-    let taken : TracedCall → ℕ = λ traced. entries_taken sizes traced.call in
-    ap (sum_by taken) (filter-append test some more) ∙ sum_by-append taken (filter test some) (filter test more)
+-- the parts of a quiet row behind the first so many show that they are quiet
+pub quiet_behind : {L : Type 0} (device : L → ℕ) (history : L → PartHistory) (faults : L → ℕ) (room : L → Room) (n : ℕ) (parts : List L) (states : List Part)
+    → AreNow (map history parts) states → ((i : ℕ) → IsQuietPart (get_or states i [])) → All IsQuietSpare (map (part_value device history faults room) (drop n parts))
+quiet_behind device history faults room zero [] states are quiet = λ k d inside. absurd (omega (arith, inside))
+quiet_behind device history faults room (suc n) [] states are quiet = λ k d inside. absurd (omega (arith, inside))
+quiet_behind device history faults room n (part ∷ parts) [] are quiet = absurd are
+quiet_behind device history faults room zero (part ∷ parts) (state ∷ states) are quiet =
+    let value = part_value device history faults room in
+    let first : present (history part) ≡ Some state = ap (λ (h : PartHistory). present h) are.0.is in
+    All-cons IsQuietSpare (value part) (map value parts) (state, first, quiet 0) (quiet_behind device history faults room zero parts states are.1 (λ i. quiet (suc i)))
+quiet_behind device history faults room (suc n) (part ∷ parts) (state ∷ states) are quiet = quiet_behind device history faults room n parts states are.1 (λ i. quiet (suc i))
 
--- they are no fewer where more calls drew
-drawn_grows : (basis : Basis) (drew more : List TracedCall) (call : TracedCall) (head : ℕ) → drawn_by basis.sizes call drew ≤ drawn_by basis.sizes call more
-    → MayBeDrawn basis drew call head → MayBeDrawn basis more call head
-unfolding drawn_by
-drawn_grows basis drew more call head grows drawn = omega (arith, grows, drawn)
+-- ---- what comes out
 
-refused_on : (failed : Type 0) (basis : Basis) (drew more : List TracedCall) (call : TracedCall) (refusal : Refusal) → drawn_by basis.sizes call drew ≤ drawn_by basis.sizes call more
-    → WasRefused failed basis drew call refusal → WasRefused failed basis more call refusal
-refused_on failed basis drew more call BadDescriptor grows was = was
-refused_on failed basis drew more call TooFar grows was = was
-refused_on failed basis drew more call TooLong grows was = was
-refused_on failed basis drew more call Stopped grows was = was
-refused_on failed basis drew more call (Spent found) grows was =
-    record { takes = was.takes; spent = was.spent; drawn = drawn_grows basis drew more call found grows was.drawn }
-refused_on failed basis drew more call (Again head tail) grows was =
-    record { takes = was.takes; retired = was.retired; full = was.full; drawn = drawn_grows basis drew more call head grows was.drawn }
-refused_on failed basis drew more call RegionFault grows was = was
-refused_on failed basis drew more call StoreFault grows was = was
+module _ {L B : Type 0} (device : L → ℕ) (history : L → PartHistory) (faults : L → ℕ) (room : L → Room) (store_device : B → ℕ) (store_history : B → StoreHistory) (store_faults : B → ℕ)
+    (basis : Basis) (trace : Traced) (fds : List Fd) (plan : Plan) (start ended : PassState) (sorted : SortedCalls) (board : BoardState) (parts : List L) (stores : List B) (placed tail : ℕ)
+    (sound : RunsAreSound) (tell : OwnEventsTell) (keeps : RunsKeepTheLog) (region_stays : RunsKeepRegion) (rests : EmptyLogsRest) (unstopped : UnstoppedRunsLeaveNothingOpen)
+    (same_board : ended.view.opened ≡ board.opened) (new : start.view ≡ first_view start.view.opened) (mount : IsMount (mount_of ended.view.opened)) (stop : plan.stop ≡ None)
+    (formed : IsWellFormed trace) (few : length trace.calls ≤ 67108864) (lines : IsStrictlyIncreasing (lines_in trace)) (allowed : AreFileNames version_1 basis.names)
+    (is : IsMountOf basis trace start.view.opened fds) (region : OpensRegion (mount_of ended.view.opened) basis.names) (spare : All IsQuietSpare ended.spare)
+    (out : HasOutcome fds plan trace.calls start (Ok sorted) ended)
+    (closed : IsClosed device store_device (slot_value (part_value device history faults room) (store_value store_device store_history store_faults)) board ended parts stores placed tail)
+    (by : IsClosedBy ended (map (part_value device history faults room) parts) (map (store_value store_device store_history store_faults) stores) (map history parts) (map store_history stores)
+    (sum_by faults parts + sum_by store_faults stores) placed tail) where
+  abbrev sizes : Sizes
+  sizes = ended.view.opened.sizes
 
--- a fact of a call that nothing bars, beside what bars another
-where_not_barred : (P Q : Type 0) (cause : Option Refusal) (refusal : Refusal) → (P → Q) → MatchOption cause P (λ cause. refusal ≡ cause) → MatchOption cause Q (λ cause. refusal ≡ cause)
-where_not_barred P Q None refusal on p = on p
-where_not_barred P Q (Some cause) refusal on is = is
+  abbrev at_last : Core
+  at_last = state_of ended.view.opened ended.view.run
 
--- more calls that drew take no refusal's cause away
-allowed_on : (failed : Type 0) (basis : Basis) (descriptors : List Descriptor) (drew more : List TracedCall) (call : TracedCall) (refusal : Refusal) → drawn_by basis.sizes call drew ≤ drawn_by basis.sizes call more
-    → IsAllowedRefusal failed basis descriptors drew call refusal → IsAllowedRefusal failed basis descriptors more call refusal
-allowed_on failed basis descriptors drew more call refusal grows =
-    where_not_barred (WasRefused failed basis drew call refusal) (WasRefused failed basis more call refusal) (barred basis.sizes descriptors call.call) refusal
-    (refused_on failed basis drew more call refusal grows)
+  here : IsMountOf basis trace ended.view.opened fds
+  here = subst (λ (o : Opened). IsMountOf basis trace o fds) (sym out.run_out.mount) is
 
--- nor does a weaker word of what failed
-refused_while : (failed more : Type 0) (basis : Basis) (drew : List TracedCall) (call : TracedCall) (refusal : Refusal) → (failed → more)
-    → WasRefused failed basis drew call refusal → WasRefused more basis drew call refusal
-refused_while failed more basis drew call BadDescriptor on was = was
-refused_while failed more basis drew call TooFar on was = was
-refused_while failed more basis drew call TooLong on was = was
-refused_while failed more basis drew call Stopped on was = on was
-refused_while failed more basis drew call (Spent found) on was = was
-refused_while failed more basis drew call (Again head tail) on was = was
-refused_while failed more basis drew call RegionFault on was = (was.0, on was.1)
-refused_while failed more basis drew call StoreFault on was = (was.0, on was.1)
+  log : OpensLog (mount_of ended.view.opened) ended.view.opened.next
+  log = here.log
 
--- where no call has a later line, none is left out
-none_later : (calls : List TracedCall) (call : TracedCall) → IsAfterAll calls call → not_later call calls ≡ calls
-none_later calls call after_all =
-    let test : TracedCall → Bool = λ other. not (other.thread == call.thread && nat_lt call.line other.line) in
-    filter_all test calls
-    (All-weaker (λ earlier. earlier.line < call.line) (λ earlier. test earlier ≡ true)
-    (λ earlier below. not_from_false (earlier.thread == call.thread && nat_lt call.line earlier.line)
-    (and_right (earlier.thread == call.thread) (nat_lt call.line earlier.line)
-    (le-ltb call.line earlier.line (omega arith)))) calls after_all)
+  none_stops : is_none plan.stop ≡ true
+  none_stops = ap (λ (s : Option ℕ). is_none s) stop
 
--- one more element, at the end of a list, and at the end of what it is together with another
-joins_first : {X : Type 0} (xs ys zs : List X) (x : X) → IsPermutation (xs ++ ys) zs → IsPermutation ((xs ++ x ∷ []) ++ ys) (zs ++ x ∷ [])
-joins_first xs ys zs x same =
-    let in_front = IsPermutation-trans (xs ++ x ∷ ys) (x ∷ (xs ++ ys)) (x ∷ zs) (IsPermutation-middle xs x ys) (IsPermutation-cons x (xs ++ ys) zs same) in
-    let behind = IsPermutation-sym (zs ++ x ∷ []) (x ∷ zs) (IsPermutation-to_front zs x) in
-    subst (λ ws. IsPermutation ws (zs ++ x ∷ [])) (sym (append_assoc xs (x ∷ []) ys))
-    (IsPermutation-trans (xs ++ x ∷ ys) (x ∷ zs) (zs ++ x ∷ []) in_front behind)
+  emptied : HasEmptiedLog ended.view
+  emptied = out.emptied none_stops
 
-all_from_map : {X Y : Type 0} (P : X → Type 0) (f : Y → X) (ys : List Y) → All P (map f ys) → All (λ y. P (f y)) ys
-all_from_map P f ys all k d below =
-    subst P (get_or-map f ys k d (f d) below) (all k (f d) (omega (arith, length-map ys f)))
+  nothing : (SawStop ended.view → ⊥) × (sorted.open_calls.items ≡ [])
+  nothing = unstopped fds plan trace.calls start ended sorted mount by.whole.is_run out none_stops
 
--- ---- a history goes on
+  rest : AreAtRest sizes basis.names (files_then ended.view basis.files) (map history parts) (map store_history stores) tail
+  rest = by.rest basis.files basis.names log here.files region emptied
 
-after_push : (earlier : List Answered) (answered : Answered) (files : Files) → after (earlier ++ answered ∷ []) files ≡ files_after answered.call (after earlier files)
-after_push [] answered files = refl
-after_push (first ∷ later) answered files = after_push later answered (files_after first.call files)
+  many : 1 + sizes.entries ≤ length parts
+  many = let n = ap (λ (o : Opened). o.sizes.entries) same_board in let m = closed.many_parts in omega (arith, n, m)
 
-legal_push : (earlier : List Answered) (answered : Answered) (files : Files) → IsLegal earlier files → answered.reply ≡ reply_of answered.call (after earlier files)
-    → IsLegal (earlier ++ answered ∷ []) files
-legal_push [] answered files legal replied = (replied, tt)
-legal_push (first ∷ later) answered files legal replied = (legal.0, legal_push later answered (files_after first.call files) legal.1 replied)
+  -- ---- the parts
 
--- ---- a run goes on
+  last : LastLog ended.view basis.files basis.names
+  last = last_log sound keeps region_stays ended.view mount by.whole.is_run basis.files basis.names log here.files region
 
--- nothing was made yet
-pub made_nothing : (failed : Type 0) (basis : Basis) (descriptors : List Descriptor) → AreMade failed basis descriptors [] basis.next basis.files [] [] []
-made_nothing failed basis descriptors = record {
-  legal = tt;
-  files = refl;
-  each_once = IsPermutation-refl [];
-  in_order = λ thread k below. absurd (omega arith);
-  refused_in_order = λ k below. absurd (omega arith);
-  open_in_order = λ k below. absurd (omega arith);
-  allowed = λ k d below. absurd (omega arith);
-  not_barred = λ k d below. absurd (omega arith);
-  left_open = λ k d below. absurd (omega arith);
-  drawn = omega arith;
-  room = omega arith;
-}
-
--- What was made stays so where more is known of what failed.
-pub made_while : (failed more : Type 0) (basis : Basis) (descriptors : List Descriptor) (calls : List TracedCall) (head : ℕ) (now : Files) (placed : List PlacedCall) (refused : List RefusedCall) (left : List TracedCall)
-    → (failed → more) → AreMade failed basis descriptors calls head now placed refused left → AreMade more basis descriptors calls head now placed refused left
-made_while failed more basis descriptors calls head now placed refused left on made = record {
-  legal = made.legal;
-  files = made.files;
-  each_once = made.each_once;
-  in_order = made.in_order;
-  refused_in_order = made.refused_in_order;
-  open_in_order = made.open_in_order;
-  allowed =
-      All-weaker (λ r. IsAllowedRefusal failed basis descriptors (drawing placed left) r.call r.refusal) (λ r. IsAllowedRefusal more basis descriptors (drawing placed left) r.call r.refusal)
-      (λ r. where_not_barred (WasRefused failed basis (drawing placed left) r.call r.refusal) (WasRefused more basis (drawing placed left) r.call r.refusal)
-      (barred basis.sizes descriptors r.call.call) r.refusal (refused_while failed more basis (drawing placed left) r.call r.refusal on)) refused made.allowed;
-  not_barred = made.not_barred;
-  left_open =
-      All-weaker (IsLeftOpen failed basis descriptors) (IsLeftOpen more basis descriptors)
-      (λ call is. record { is_write = is.is_write; failed_so = on is.failed_so; not_barred = is.not_barred }) left made.left_open;
-  drawn = made.drawn;
-  room = made.room;
-}
-
--- A run goes on by a call that is after all others.
-module _ (failed : Type 0) (basis : Basis) (descriptors : List Descriptor) (calls : List TracedCall) (head : ℕ) (now : Files) (placed : List PlacedCall) (refused : List RefusedCall)
-    (left : List TracedCall) (call : TracedCall)
-    (made : AreMade failed basis descriptors calls head now placed refused left) (after_all : IsAfterAll calls call) where
-  placed_ones : List TracedCall
-  placed_ones = map (λ p. p.call) placed
-
-  refused_ones : List TracedCall
-  refused_ones = map (λ r. r.call) refused
-
-  all_earlier : IsAfterAll (listed placed refused left) call
-  all_earlier =
-      All-permutation (λ earlier. earlier.line < call.line) calls (listed placed refused left)
-      (IsPermutation-sym (listed placed refused left) calls made.each_once) after_all
-
-  answered_earlier : IsAfterAll (map (λ p. p.call) placed ++ map (λ r. r.call) refused) call
-  answered_earlier = All-front (λ earlier. earlier.line < call.line) (map (λ p. p.call) placed ++ map (λ r. r.call) refused) left all_earlier
-
-  placed_earlier : IsAfterAll (map (λ p. p.call) placed) call
-  placed_earlier = All-front (λ earlier. earlier.line < call.line) (map (λ p. p.call) placed) (map (λ r. r.call) refused) answered_earlier
-
-  refused_earlier : IsAfterAll (map (λ r. r.call) refused) call
-  refused_earlier = All-back (λ earlier. earlier.line < call.line) (map (λ p. p.call) placed) (map (λ r. r.call) refused) answered_earlier
-
-  left_earlier : IsAfterAll left call
-  left_earlier = All-back (λ earlier. earlier.line < call.line) (map (λ p. p.call) placed ++ map (λ r. r.call) refused) left all_earlier
-
-  drawing_earlier : IsAfterAll (drawing placed left) call
-  drawing_earlier = All-append (λ earlier. earlier.line < call.line) (map (λ p. p.call) placed) left placed_earlier left_earlier
-
-  -- the number that the log goes on with is one that the call may find
-  head_drawn : MayBeDrawn basis (drawing placed left) call head
-  head_drawn = omega (arith, made.drawn, ap (entries_of basis.sizes) (none_later (drawing placed left) call drawing_earlier))
-
-  -- the call was answered
-  pub made_placed : (reply : Reply) (new_head : ℕ) (new_now : Files)
-      → barred basis.sizes descriptors call.call ≡ None
-      → reply ≡ reply_of (file_call descriptors call.call) now
-      → new_now ≡ files_after (file_call descriptors call.call) now
-      → new_head ≡ head + entries_taken basis.sizes call.call
-      → new_head ≤ basis.next + basis.sizes.entries
-      → AreMade failed basis descriptors (calls ++ call ∷ []) new_head new_now (placed ++ record { call = call; reply = reply } ∷ []) refused left
-  made_placed reply new_head new_now may replied written drew fits =
-      let last : PlacedCall = record { call = call; reply = reply } in
-      let answered_of : PlacedCall → Answered = λ p. record { caller = p.call.thread; call = file_call descriptors p.call.call; reply = p.reply } in
-      let history : history_of descriptors (placed ++ last ∷ []) ≡ history_of descriptors placed ++ answered_of last ∷ [] = map_push answered_of placed last in
-      let one_of : PlacedCall → TracedCall = λ p. p.call in
-      let ones : map one_of (placed ++ last ∷ []) ≡ map one_of placed ++ call ∷ [] = map_push one_of placed last in
-      let taken : TracedCall → ℕ = λ traced. entries_taken basis.sizes traced.call in
-      let others = map (λ r. r.call) refused in
+  in_stores : HasAllInStores sizes basis.files last.tails at_last
+  in_stores =
+      rests sizes (mount_of ended.view.opened).values basis.files basis.names last.tails last.log last.placed at_last (sound (mount_of ended.view.opened) ended.view.run mount by.whole.is_run) last.content last.region
       record {
-        legal =
-            subst (λ h. IsLegal h basis.files) (sym history)
-            (legal_push (history_of descriptors placed) (answered_of last) basis.files made.legal
-            (replied ∙ ap (reply_of (file_call descriptors call.call)) made.files));
-        files =
-            written ∙ ap (files_after (file_call descriptors call.call)) made.files
-            ∙ sym (after_push (history_of descriptors placed) (answered_of last) basis.files)
-            ∙ ap (λ h. after h basis.files) (sym history);
-        each_once =
-            subst (λ xs. IsPermutation (xs ++ others ++ left) (calls ++ call ∷ [])) (sym ones)
-            (subst (λ xs. IsPermutation xs (calls ++ call ∷ [])) (sym (append_assoc (map one_of placed ++ call ∷ []) others left))
-            (joins_first (map one_of placed) (others ++ left) calls call
-            (subst (λ xs. IsPermutation xs calls) (append_assoc (map one_of placed) others left) made.each_once)));
-        in_order = λ thread.
-            subst (λ xs. IsStrictlyIncreasing (lines_of thread xs)) (sym ones)
-            (lines_rise_on thread (map one_of placed) call (made.in_order thread) placed_earlier);
-        refused_in_order = made.refused_in_order;
-        open_in_order = made.open_in_order;
-        allowed =
-            All-weaker (λ r. IsAllowedRefusal failed basis descriptors (drawing placed left) r.call r.refusal) (λ r. IsAllowedRefusal failed basis descriptors (drawing (placed ++ last ∷ []) left) r.call r.refusal)
-            (λ r. allowed_on failed basis descriptors (drawing placed left) (drawing (placed ++ last ∷ []) left) r.call r.refusal
-            (omega (
-              arith,
-              drawn-append basis.sizes r.call (map one_of placed) left,
-              ap (drawn_by basis.sizes r.call) (ap (λ xs. xs ++ left) ones),
-              drawn-append basis.sizes r.call (map one_of placed ++ call ∷ []) left,
-              drawn-append basis.sizes r.call (map one_of placed) (call ∷ []),
-            ))) refused made.allowed;
-        not_barred =
-            subst (All (λ call. barred basis.sizes descriptors call.call ≡ None)) (sym ones)
-            (All-push (λ call. barred basis.sizes descriptors call.call ≡ None) (map one_of placed) call made.not_barred may);
-        left_open = made.left_open;
-        drawn = omega (
-          arith,
-          drew,
-          made.drawn,
-          sum_by-append taken (map one_of placed) left,
-          ap (λ xs. sum_by taken (xs ++ left)) ones,
-          sum_by-append taken (map one_of placed ++ call ∷ []) left,
-          sum_by-append taken (map one_of placed) (call ∷ []),
-        );
-        room = fits;
+        none = emptied.none;
+        going = emptied.going;
+        idle = none_hold sound ended.view mount by.whole.is_run out.run_out.alone.zero out.run_out.taken out.run_out.alone.all tell emptied.owned emptied.taken;
       }
 
-  -- the call was refused, as it may be
-  made_refused : (refusal : Refusal) → IsAllowedRefusal failed basis descriptors (drawing placed left) call refusal
-      → AreMade failed basis descriptors (calls ++ call ∷ []) head now placed (refused ++ record { call = call; refusal = refusal } ∷ []) left
-  made_refused refusal may =
-      let last : RefusedCall = record { call = call; refusal = refusal } in
-      let one_of : RefusedCall → TracedCall = λ r. r.call in
-      let line_of : RefusedCall → ℕ = λ r. r.call.line in
-      let ones : map one_of (refused ++ last ∷ []) ≡ map one_of refused ++ call ∷ [] = map_push one_of refused last in
-      let earlier = all_from_map (λ earlier. earlier.line < call.line) one_of refused refused_earlier in
-      let before = map (λ p. p.call) placed in
-      record {
-        legal = made.legal;
-        files = made.files;
-        each_once =
-            subst (λ xs. IsPermutation (before ++ xs ++ left) (calls ++ call ∷ [])) (sym ones)
-            (subst (λ xs. IsPermutation (xs ++ left) (calls ++ call ∷ [])) (append_assoc before (map one_of refused) (call ∷ []))
-            (joins_first (before ++ map one_of refused) left calls call made.each_once));
-        in_order = made.in_order;
-        refused_in_order =
-            subst IsStrictlyIncreasing (sym (map_push line_of refused last))
-            (IsStrictlyIncreasing-push (map line_of refused) call.line made.refused_in_order (All-map (λ n. n < call.line) line_of refused earlier));
-        open_in_order = made.open_in_order;
-        allowed = All-push (λ r. IsAllowedRefusal failed basis descriptors (drawing placed left) r.call r.refusal) refused last made.allowed may;
-        not_barred = made.not_barred;
-        left_open = made.left_open;
-        drawn = made.drawn;
-        room = made.room;
-      }
+  abbrev image : Image
+  image = region_of part_word at_last.values
 
-  -- its arguments bar it
-  pub made_barred : (refusal : Refusal) → barred basis.sizes descriptors call.call ≡ Some refusal
-      → AreMade failed basis descriptors (calls ++ call ∷ []) head now placed (refused ++ record { call = call; refusal = refusal } ∷ []) left
-  made_barred refusal is = made_refused refusal (barred_at (barred basis.sizes descriptors call.call) is)
+  some : 1 ≤ sizes.entries
+  some = some_entries sizes basis.names (image 0 1 0) image (last.region.header image (region_is sizes part_word image_of_now at_last.values))
+
+  -- the header's part tells, and that of each entry
+  part_told : (i : ℕ) → i ≤ sizes.entries → (state : Part) × IsPart (values_of ended.view (cell_of sizes i)) state
+  part_told zero least =
+      let told = header_tells sizes basis.names last.tails last.log at_last last.region image (region_is sizes part_word image_of_now at_last.values) in
+      (told.0, subst (λ cell. IsPart (at_last.values cell) told.0) (sym (cell_there sizes HEADER 0 tt refl).1) told.1)
+  part_told (suc slot) least =
+      let blank = in_stores.entries slot (omega (arith, least)) in
+      let next : suc slot ≡ 1 + slot = omega arith in
+      let at : cell_of sizes (suc slot) ≡ ENTRY slot = ap (cell_of sizes) next ∙ (cell_there sizes (ENTRY slot) (1 + slot) (omega (arith, least)) refl).1 in
+      (blank.part, subst (λ cell. IsPart (at_last.values cell) blank.part) (sym at) blank.is)
+
+  part_now : (i : ℕ) → i ≤ sizes.entries → (state : Part) × IsNow (get_or (map history parts) i []) state
+  part_now i least =
+      let one = there (part_value device history faults room) history Bare [] parts i (omega (arith, many, least)) in
+      let told = part_told i least in
+      let has : present (history one.0) ≡ Some told.0 = subst (λ v. IsPart v told.0) (sym (by.whole.parts_show i least) ∙ one.2) told.1 in
+      (told.0, subst (λ h. IsNow h told.0) (sym one.3) (now_of (history one.0) told.0 has))
+
+  spare_is : map (part_value device history faults room) (drop (1 + sizes.entries) parts) ≡ ended.spare
+  spare_is = subst (λ (o : Opened). map (part_value device history faults room) (drop (1 + o.sizes.entries) parts) ≡ ended.spare) (sym same_board) closed.same_spare
+
+  spare_now : (j : ℕ) → 1 + sizes.entries + j < length parts → (state : Part) × IsNow (get_or (map history parts) (1 + sizes.entries + j) []) state × IsQuietPart state
+  spare_now j less =
+      let one = there (part_value device history faults room) history Bare [] parts (1 + sizes.entries + j) less in
+      let left = length-drop (1 + sizes.entries) parts in
+      let two = there (part_value device history faults room) history Bare [] (drop (1 + sizes.entries) parts) j (omega (arith, less, left)) in
+      let same : two.0 ≡ one.0 = sym (two.1 two.0) ∙ get_or-drop (1 + sizes.entries) parts j two.0 ∙ one.1 two.0 in
+      let long = length-map (drop (1 + sizes.entries) parts) (part_value device history faults room) in
+      let shown = subst (λ (values : List Value). All IsQuietSpare values) (sym spare_is) spare j Bare (omega (arith, less, left, long)) in
+      let told = subst IsQuietSpare two.2 shown in
+      let has : present (history one.0) ≡ Some told.0 = subst (λ x. present (history x) ≡ Some told.0) same told.1 in
+      (told.0, subst (λ h. IsNow h told.0) (sym one.3) (now_of (history one.0) told.0 has), told.2)
+
+  parts_tell : All (λ h. 0 < length h) (map history parts)
+  parts_tell k d inside =
+      let long = length-map parts history in
+      subst (λ (h : PartHistory). 0 < length h) (get_or_default (map history parts) k [] d inside) (elim (cases_lt k (1 + sizes.entries)) [
+        | inl less ↦ let now = part_now k (omega (arith, less)) in is_longer (get_or (map history parts) k []) now.0 now.1
+        | inr past ↦
+            let at : 1 + sizes.entries + (k - (1 + sizes.entries)) ≡ k = omega (arith, past) in
+            let now = spare_now (k - (1 + sizes.entries)) (omega (arith, past, inside, long)) in
+            subst (λ i. 0 < length (get_or (map history parts) i [])) at (is_longer (get_or (map history parts) (1 + sizes.entries + (k - (1 + sizes.entries))) []) now.0 now.1)
+      ])
+
+  abbrev part_states : Present (map history parts)
+  part_states = present_states (map history parts) parts_tell
+
+  others_quiet : (i : ℕ) → 1 + sizes.entries ≤ i → IsQuietPart (get_or part_states.states i [])
+  others_quiet i past =
+      let long = length-map parts history in
+      let as_long = states_many (map history parts) part_states.states part_states.are in
+      elim (cases_lt i (length parts)) [
+        | inl less ↦
+            let at : 1 + sizes.entries + (i - (1 + sizes.entries)) ≡ i = omega (arith, past) in
+            let now = spare_now (i - (1 + sizes.entries)) (omega (arith, past, less)) in
+            let there_now = subst (λ k. IsNow (get_or (map history parts) k []) now.0) at now.1 in
+            let held = state_at (map history parts) part_states.states i [] part_states.are (omega (arith, less, long)) in
+            subst IsQuietPart (same_state (get_or (map history parts) i []) now.0 (get_or part_states.states i []) there_now held) now.2
+        | inr behind ↦ subst IsQuietPart (sym (get_or-eq_default part_states.states [] (omega (arith, behind, long, as_long)))) (record { lines = λ line. quiet_blank })
+      ]
+
+  all_at_rest : IsAtRest version_1 sizes.page sizes.entries basis.names tail part_states.states
+  all_at_rest =
+      all_rest sizes basis.names tail part_states.states some
+      (row_tells_at (take (1 + sizes.entries) (map history parts)) (IsAtRest version_1 sizes.page sizes.entries basis.names tail) (take (1 + sizes.entries) part_states.states)
+      (first_states (1 + sizes.entries) (map history parts) part_states.states part_states.are) rest.region)
+      others_quiet
+
+  -- ---- the stores
+
+  abbrev store_states : Present (map store_history stores)
+  store_states = present_states (map store_history stores) (seen_tell (map store_history stores) (files_then ended.view basis.files).contents rest.have)
+
+  stores_hold : files_of store_states.states ≡ files_then ended.view basis.files
+  stores_hold =
+      ap (λ (contents : List (List ℕ)). the_files contents) (seen_files (map store_history stores) store_states.states (files_then ended.view basis.files).contents store_states.are rest.have)
     where
-      barred_at : (cause : Option Refusal) → cause ≡ Some refusal → MatchOption cause (WasRefused failed basis (drawing placed left) call refusal) (λ cause. refusal ≡ cause)
-      barred_at None is = absurd cc
-      barred_at (Some cause) is = cc
+      the_files : List (List ℕ) → Files
+      the_files contents = record { contents = contents }
 
-  -- nothing bars it, and there is another cause
-  made_otherwise : (refusal : Refusal) → barred basis.sizes descriptors call.call ≡ None → WasRefused failed basis (drawing placed left) call refusal
-      → AreMade failed basis descriptors (calls ++ call ∷ []) head now placed (refused ++ record { call = call; refusal = refusal } ∷ []) left
-  made_otherwise refusal may was = made_refused refusal (otherwise_at (barred basis.sizes descriptors call.call) may)
-    where
-      otherwise_at : (cause : Option Refusal) → cause ≡ None → MatchOption cause (WasRefused failed basis (drawing placed left) call refusal) (λ cause. refusal ≡ cause)
-      otherwise_at None is = was
-      otherwise_at (Some cause) is = absurd cc
+  -- ---- the report
 
-  -- the log has no entry left for it
-  pub made_again : barred basis.sizes descriptors call.call ≡ None → 0 < entries_taken basis.sizes call.call → basis.next + basis.sizes.entries < head + entries_taken basis.sizes call.call
-      → AreMade failed basis descriptors (calls ++ call ∷ []) head now placed (refused ++ record { call = call; refusal = Again head basis.next } ∷ []) left
-  made_again may takes full =
-      made_otherwise (Again head basis.next) may (record { takes = takes; retired = refl; full = full; drawn = head_drawn })
+  abbrev report : Report
+  report = shown_report sorted [] basis.names (files_of store_states.states)
 
-  -- no number is left for it
-  pub made_spent : barred basis.sizes descriptors call.call ≡ None → 0 < entries_taken basis.sizes call.call → 2 ^ 60 < head + entries_taken basis.sizes call.call
-      → AreMade failed basis descriptors (calls ++ call ∷ []) head now placed (refused ++ record { call = call; refusal = Spent head } ∷ []) left
-  made_spent may takes spent = made_otherwise (Spent head) may (record { takes = takes; spent = spent; drawn = head_drawn })
+  shown_is : files_then ended.view basis.files ≡ files_shown basis trace report
+  shown_is =
+      let told = runs_are_told fds plan trace.calls start ended sorted (map (part_value device history faults room) parts) (map (store_value store_device store_history store_faults) stores) (map history parts)
+      (map store_history stores) (sum_by faults parts + sum_by store_faults stores) placed tail new out by lines formed.round_order in
+      let legal = by.history.legal basis.files ended.view.opened.next log here.files in
+      let same = threads_are_legal fds (file_call (descriptors_in basis.names trace)) (map placed_call sorted.placed.items) (history_then ended.view) basis.files (calls_on_files basis trace ended.view.opened fds here) told.placed legal in
+      sym (same.2 ∙ after_is (history_then ended.view) basis.files)
 
-  -- a device failed before
-  pub made_stopped : barred basis.sizes descriptors call.call ≡ None → failed
-      → AreMade failed basis descriptors (calls ++ call ∷ []) head now placed (refused ++ record { call = call; refusal = Stopped } ∷ []) left
-  made_stopped may because = made_otherwise Stopped may because
+  files_are : files_of store_states.states ≡ files_shown basis trace report
+  files_are = stores_hold ∙ shown_is
 
-  -- a part failed while it read
-  pub made_region_fault : barred basis.sizes descriptors call.call ≡ None → IsReadCall call.call → failed
-      → AreMade failed basis descriptors (calls ++ call ∷ []) head now placed (refused ++ record { call = call; refusal = RegionFault } ∷ []) left
-  made_region_fault may reads because = made_otherwise RegionFault may (reads, because)
-
-  -- a store failed while it read
-  pub made_store_fault : barred basis.sizes descriptors call.call ≡ None → IsReadCall call.call → failed
-      → AreMade failed basis descriptors (calls ++ call ∷ []) head now placed (refused ++ record { call = call; refusal = StoreFault } ∷ []) left
-  made_store_fault may reads because = made_otherwise StoreFault may (reads, because)
-
-  -- it is a write that was left open
-  pub made_open : (new_head : ℕ) → IsLeftOpen failed basis descriptors call
-      → new_head ≡ head + entries_taken basis.sizes call.call
-      → new_head ≤ basis.next + basis.sizes.entries
-      → AreMade failed basis descriptors (calls ++ call ∷ []) new_head now placed refused (left ++ call ∷ [])
-  made_open new_head may drew fits =
-      let taken : TracedCall → ℕ = λ traced. entries_taken basis.sizes traced.call in
-      let line_of : TracedCall → ℕ = λ traced. traced.line in
-      let before = map (λ p. p.call) placed in
+  is_faithful : IsFaithful ⊥ plan.worker basis trace report
+  is_faithful =
+      faithful_where ⊥ basis trace fds plan start ended sorted (map (part_value device history faults room) parts) (map (store_value store_device store_history store_faults) stores) (map history parts)
+      (map store_history stores) (sum_by faults parts + sum_by store_faults stores) placed tail report formed (omega (arith, few)) lines is new out by
       record {
-        legal = made.legal;
-        files = made.files;
-        each_once =
-            subst (λ xs. IsPermutation xs (calls ++ call ∷ [])) (append_assoc (before ++ map (λ r. r.call) refused) left (call ∷ []))
-            (IsPermutation-append_left (call ∷ []) (listed placed refused left) calls made.each_once);
-        in_order = made.in_order;
-        refused_in_order = made.refused_in_order;
-        open_in_order =
-            subst IsStrictlyIncreasing (sym (map_push line_of left call))
-            (IsStrictlyIncreasing-push (map line_of left) call.line made.open_in_order (All-map (λ n. n < call.line) line_of left left_earlier));
-        allowed =
-            All-weaker (λ r. IsAllowedRefusal failed basis descriptors (drawing placed left) r.call r.refusal) (λ r. IsAllowedRefusal failed basis descriptors (drawing placed (left ++ call ∷ [])) r.call r.refusal)
-            (λ r. allowed_on failed basis descriptors (drawing placed left) (drawing placed (left ++ call ∷ [])) r.call r.refusal
-            (omega (arith, drawn-append basis.sizes r.call before left, drawn-append basis.sizes r.call before (left ++ call ∷ []), drawn-append basis.sizes r.call left (call ∷ [])))) refused made.allowed;
-        not_barred = made.not_barred;
-        left_open = All-push (IsLeftOpen failed basis descriptors) left call made.left_open may;
-        drawn = omega (arith, drew, made.drawn, sum_by-append taken before left, sum_by-append taken before (left ++ call ∷ []), sum_by-append taken left (call ∷ []));
-        room = fits;
+        history = refl;
+        refused = refl;
+        open_calls = sym (ap (λ (l : List Open). map (λ (o : OpenedCall). o.call) (map opened_call l)) nothing.1);
+        files = ap (named basis.names) files_are;
       }
+      nothing.0
 
--- where lines rise, each call is after all those before it
-pub after_all_before : (calls : List TracedCall) (i : ℕ) (d : TracedCall) → IsStrictlyIncreasing (map (λ c. c.line) calls) → i < length calls → IsAfterAll (take i calls) (get_or calls i d)
-after_all_before calls i d rise in_range k e below =
-    let line : TracedCall → ℕ = λ c. c.line in
-    let before : k < i = omega (arith, length-take i calls) in
-    let pair = AllPairs-from_increasing (map line calls) rise k i 0 before (omega (arith, length-map calls line)) in
-    omega (arith, pair, get_or-map line calls k e 0 (omega arith), get_or-map line calls i d 0 in_range, ap line (get_or-take i calls k e before))
+  pub has_run : (text : List ℕ) (backing : List B) → map store_history backing ≡ map store_history stores
+      → ((now : List Store) → AreNow (map store_history stores) now → text ≡ report_text (shown_report sorted [] basis.names (files_of now)))
+      → HasRunOver history store_history plan.worker basis trace text parts backing
+  has_run text backing same text_of = record {
+    report = report;
+    faithful = is_faithful;
+    plain = names_plain version_1.name_limit basis.names (files_of store_states.states).contents (each_allowed basis.names allowed);
+    text_is = text_of store_states.states store_states.are;
+    left = record {
+      page = sizes.page;
+      entries = sizes.entries;
+      next = tail;
+      now = part_states.states;
+      now_are = part_states.are;
+      rest = all_at_rest;
+      disks = store_states.states;
+      disks_are = subst (λ (row : List StoreHistory). AreNow row store_states.states) (sym same) store_states.are;
+      files_are = files_are;
+      synced = quiet_states (map store_history stores) store_states.states store_states.are rest.durable;
+    };
+  }

@@ -1,60 +1,84 @@
 -- A run that was stopped, after power went off and the region was recovered: its report is faithful.
-use Rattle.std.proofs.Common.{◌<◌, ◌≡◌, ℕ, ◌+◌, ◌≤◌, All, List, [], ◌∷◌, ◌++◌, Option, Some, None, IfSome, Result, Ok, Err, option_map, map, length, true, refl, sym, ap, subst, ◌∙◌, inl, inr, arith}
+use Rattle.std.proofs.Common.{◌<◌, ◌≡◌, ◌^◌, ℕ, ◌+◌, ◌≤◌, All, List, [], ◌∷◌, ◌++◌, Option, Some, None, IfSome, Result, Ok, Err, option_map, map, length, sum_by, true, refl, sym, ap, subst, ◌∙◌, arith, IsPermutation}
+use Rattle.std.specs.Prelude.{MatchOption}
+use Rattle.std.specs.List.{AllZip, flat_map}
+use Rattle.std.specs.List.Sorted.{IsStrictlyIncreasing}
 use Rattle.std.proofs.lemmas.List.{get_or_default, length-map}
-use Rattle.std.proofs.lemmas.List.Elements.{All-nil, All-cons, All-head, All-tail, All-append, All-weaker}
-use Rattle.std.proofs.lemmas.List.Sums.{sum_by-append}
+use Rattle.std.proofs.lemmas.List.Elements.{All-nil, All-cons, All-head, All-tail, All-weaker}
+use Rattle.std.proofs.lemmas.List.Sorted.{All-permutation}
 use Rattle.nv_plain.specs.Faults.{Rose, saturated}
 use Rattle.nv_plain.specs.Files.{Files}
+use Rattle.nv_plain.specs.Histories.{after}
 use Rattle.nv_plain.specs.Images.{Image, header_of}
 use Rattle.nv_plain.specs.Layouts.{version_1}
 use Rattle.nv_plain.specs.Names.{is_name}
 use Rattle.nv_plain.specs.Recovered.{recovered}
 use Rattle.nv_pmem.specs.Part.{Part}
 use Rattle.nv_pmem.specs.RowStates.{AreNow, row_tells_at}
-use Rattle.nv_pmem.specs.Rows.{IsRowImage, RowTells, row_words}
-use Rattle.nv_pmem.specs.Room.{Room}
+use Rattle.nv_pmem.specs.Rows.{InEachRowImage, IsRowImage, RowTells, row_words}
 use Rattle.nv_pmem.specs.Steps as lines
 use Rattle.nv_pmem.specs.declared.picker.Pick.{Pick}
 use Rattle.nv_store.specs.Steps as stores
-use Rattle.nv_store.specs.Store.{Store, IsQuietStore}
+use Rattle.nv_store.specs.Store.{Store}
 use Rattle.nv_bench.specs.Benches.{BenchState, armed_with, told_back, with_faults}
-use Rattle.nv_bench.specs.Holding.{Holding, IsQuietHolding, NamedStore, named_stores}
+use Rattle.nv_bench.specs.Holding.{Holding, IsQuietHolding, named_stores}
 use Rattle.nv_bench.specs.Laws.{AreWholeStores, PowerLeavesAnImage}
 use Rattle.nv_bench.specs.Powered.{powered}
 use Rattle.nv_header.specs.FileNames.{AreFileNames}
 use Rattle.nv_header.specs.Heads.{first_names}
-use Rattle.nv_header.specs.Regions.{IsAtRest, ReadsAs}
+use Rattle.nv_header.specs.Regions.{IsAtRest}
 use Rattle.nv_open.specs.Held.{HoldFiles, IsRecovered, files_named, header_names}
 use Rattle.nv_open.specs.Lending.{all_lent, stores_named, without_named, without_stores}
-use Rattle.nv_recover.specs.Standing.{AreQuietStores, ReadableStandsForRecovered, files_of}
+use Rattle.nv_recover.specs.Standing.{AreStoreImages, ReadableStandsForRecovered, files_of}
 use Rattle.nv_recover.specs.Recovering.{HasFoundAll}
 use Rattle.nv_recover.specs.declared.recovering.Recovered as recover
-use Rattle.nv_engine.specs.Keeping.{IsLog}
-use Rattle.nv_engine.specs.Laid.{LaidPiece, laid}
-use Rattle.nv_engine.specs.Logged.{AreFitting, HasLog, LoggedImagesRecover}
-use Rattle.nv_engine.specs.declared.log.Log.{Log}
+use Rattle.nv_core.specs.content.Content.{Opens}
+use Rattle.nv_core.specs.crash.CommutingWrites.{after_calls}
+use Rattle.nv_core.specs.crash.CrashImages.{OpensRegion}
+use Rattle.nv_core.specs.log.LogContent.{OpensLog}
+use Rattle.nv_core.specs.state.Values.{Value, faults_of}
+use Rattle.nv_core.proofs.content.PatchLaws.{history_after}
+use Rattle.nv_table.specs.state.Opened.{Opened, mount_of}
+use Rattle.nv_table.specs.state.States.{PassState}
+use Rattle.nv_table.specs.state.Views.{PassView, first_view}
+use Rattle.nv_mount.specs.ClosedAtRest.{files_then}
+use Rattle.nv_mount.specs.Mounts.{MountState}
+use Rattle.nv_mount.specs.RisenCounts.{SawStop, failed_before}
+use Rattle.nv_mount.specs.Telling.{AllDevicesTell, IsTelling}
+use Rattle.nv_mount.specs.WholeRuns.{history_then}
+use Rattle.nv_mount.specs.WholeWrites.{LeavesWholeWrites, faults_then}
+use Rattle.nv_mount.specs.declared.fds.Fd.{Fd}
+use Rattle.nv_calls.specs.histories.Faults.{open_in}
+use Rattle.nv_trace.specs.Shape.{IsCallWithin, IsWellFormed}
+use Rattle.nv_trace.specs.Traced.{Traced, lines_in}
+use Rattle.nv_trace.specs.declared.report.Refusal.{Refusal}
+use Rattle.nv_trace.specs.declared.report.Refusal.TheVariants as shown
 use Rattle.nv_trace.specs.declared.trace.Descriptor.{Descriptor}
-use Rattle.nv_trace.specs.Traced.{Traced}
 use Rattle.nv_trace.specs.declared.trace_call.TracedCall.{TracedCall}
-use Rattle.nv_top.specs.Attempts.{HasRunTo, IsHeld, piece_of_call}
-use Rattle.nv_top.specs.Faithful.{Basis, IsLeftOpen, IsWrite, after_open, descriptors_in, entries_of, entries_taken, named}
-use Rattle.nv_top.specs.Fates.{fate_of, fated, fated_report, RecoversAsFated}
-use Rattle.nv_top.specs.Outcomes.{left_call, left_calls, placed_outcomes, refused_calls}
-use Rattle.nv_top.specs.Reports.{OpenCall, report_text}
-use Rattle.nv_top.specs.Runs.{AreMade}
-use Rattle.nv_top.specs.Stopping.{HasStoppedOn, IsAway, IsFatedCall, RestsWith, ShowsRecovered, fate_in}
+use Rattle.nv_runner.specs.declared.plan.Plan.{Plan}
+use Rattle.nv_runner.specs.declared.sorted.Open.{Open}
+use Rattle.nv_runner.specs.declared.sorted.SortedCalls.{SortedCalls}
+use Rattle.nv_runner.specs.EndedRuns.{HasOutcome, IsClosedBy}
+use Rattle.nv_runner.specs.Faithful.{Basis, IsAllowedRefusal, IsFaithful, IsLeftOpen, WasRefused, after_open, barred, descriptors_in, drawing_calls, file_call, files_shown, history_of, named, open_calls_of, placed_in}
+use Rattle.nv_runner.specs.FaithfulRuns.{IsMountOf, RunsAreFaithful, as_fd}
+use Rattle.nv_runner.specs.Histories.{CallsOnFiles, ThreadsAreLegal}
+use Rattle.nv_runner.specs.OpenRuns.{LeftOpenAreKept, open_of}
+use Rattle.nv_runner.specs.OpenWrites.{kept_open}
+use Rattle.nv_runner.specs.Reports.{OpenCall, Report, ShownRefusal}
+use Rattle.nv_runner.specs.Sorted.{OpenedCall, opened_call, placed_call, refused_call}
+use Rattle.nv_runner.specs.Told.{AreTold, DescriptorsSayFiles, RunsAreTold}
+use Rattle.nv_top.specs.Fates.{fate_of, fated, fated_report}
+use Rattle.nv_top.specs.Reports.{report_text}
+use Rattle.nv_top.specs.Runs.{BeginsMount}
+use Rattle.nv_top.specs.Stopping.{HasFate, HasStoppedOn, IsAway, RestsWith, ShowsRecovered}
 use Rattle.nv_top.specs.Stops.{CountHasCause, StopHasCause}
 use Rattle.nv_top.specs.declared.ending.Stop.{Stop}
 use Rattle.nv_top.specs.declared.ending.Stop.TheVariants.{Usage, BadLine, InputLong, Read, Device, Region, NoMemory}
-use Rattle.nv_top.specs.declared.outcome.Left as outcome
-use Rattle.nv_top.specs.declared.outcome.Outcome.{Outcome}
-use Rattle.nv_top.proofs.FaithfulLemmas.{made_faithful}
-use Rattle.nv_top.proofs.FateLemmas.{one_state, recovers_as_fated}
-use Rattle.nv_top.proofs.HomeLemmas.{files_again}
+use Rattle.nv_top.proofs.FateLemmas.{after_fates, numbers_low, open_write, open_writes_are}
+use Rattle.nv_top.proofs.HomeLemmas.{images_again}
 use Rattle.nv_top.proofs.NameLemmas.{names_plain}
-use Rattle.nv_store.proofs.RowReads.{length_now}
 use Rattle.nv_top.proofs.RowLemmas.{present}
-use Rattle.nv_top.proofs.RunLemmas.{made_while}
+use Rattle.nv_store.proofs.RowReads.{length_now}
 
 -- ---- what a bench may tell
 
@@ -88,16 +112,16 @@ told_again old lent holding names now disks told_is home lent_is =
     ∙ ap (λ (lent : List (List ℕ)). Some (record { parts = now; stores = without_stores names holding.stores ++ named_stores (lent ++ names) disks })) home
 
 -- a recovery's report shows what the bench stood for
-pub shows : (old lent : BenchState) (new_told : Option Holding) (holding : Holding) (outcome : Outcome) (text : List ℕ) (found : recover.Recovered) (page entries next : ℕ) (names shown : List (List ℕ))
+pub shows : (old lent : BenchState) (new_told : Option Holding) (holding : Holding) (sorted : SortedCalls) (text : List ℕ) (found : recover.Recovered) (page entries next : ℕ) (names shown : List (List ℕ))
     (parts_row : List lines.PartHistory) (row : List stores.StoreHistory)
     → old.told ≡ Some holding → old.lent ≡ [] → lent ≡ with_faults lent.faults (all_lent names old) → names ≡ shown
-    → ((now : List Store) → AreNow row now → text ≡ report_text (fated_report outcome found shown (files_of now)))
+    → ((now : List Store) → AreNow row now → text ≡ report_text (fated_report sorted found shown (files_of now)))
     → IsRecovered holding.parts page entries names next found
     → HoldFiles row (files_named holding.parts names holding.stores)
     → All (λ history. 0 < length history) parts_row → RowTells parts_row (IsAtRest version_1 page entries names next)
     → ((now : List Part) (disks : List Store) → AreNow parts_row now → AreNow row disks → new_told ≡ told_back now disks lent)
-    → ShowsRecovered holding outcome new_told text
-shows old lent new_told holding outcome text found page entries next names shown parts_row row told_is home lent_is same text_of recovered holds tell rest gives =
+    → ShowsRecovered holding sorted new_told text
+shows old lent new_told holding sorted text found page entries next names shown parts_row row told_is home lent_is same text_of recovered holds tell rest gives =
     let now = present parts_row tell in
     let Rests : List (List ℕ) → Type 0 = λ names. RestsWith names (files_named holding.parts names holding.stores) new_told in
     record {
@@ -105,9 +129,9 @@ shows old lent new_told holding outcome text found page entries next names shown
       log = recovered.log;
       text_is =
           text_of holds.held holds.are
-          ∙ ap (λ names. report_text (fated_report outcome found names (files_of holds.held))) (sym same)
-          ∙ ap (λ files. report_text (fated_report outcome found names files)) holds.files_are
-          ∙ ap (λ names. report_text (fated_report outcome found names (files_named holding.parts names holding.stores))) recovered.names_are;
+          ∙ ap (λ names. report_text (fated_report sorted found names (files_of holds.held))) (sym same)
+          ∙ ap (λ files. report_text (fated_report sorted found names files)) holds.files_are
+          ∙ ap (λ names. report_text (fated_report sorted found names (files_named holding.parts names holding.stores))) recovered.names_are;
       left = subst Rests recovered.names_are (record {
         now = record { parts = now.states; stores = without_stores names holding.stores ++ named_stores names holds.held };
         told_is = gives now.states holds.held now.are holds.are ∙ told_again old lent holding names now.states holds.held told_is home lent_is;
@@ -123,72 +147,69 @@ shows old lent new_told holding outcome text found page entries next names shown
       });
     }
 
--- ---- what a stopped run left
+-- ---- a report is as faithful where less is said of what failed
 
--- the states of a log's devices
-pub record HasDevices {L B : Type 0} (history : L → lines.PartHistory) (held : B → stores.StoreHistory) (log : Log L B) (files : Files) : Type 0 where
-  pub parts : List Part
-  pub parts_are : AreNow (map history log.parts.items) parts
-  pub stores : List Store
-  pub stores_are : AreNow (map held log.stores.items) stores
-  pub synced : AreQuietStores stores
-  pub files_are : files_of stores ≡ files
+refused_while : (failed more : Type 0) (worker : _) (basis : Basis) (drew : List TracedCall) (call : TracedCall) (refusal : Refusal) → (failed → more)
+    → WasRefused failed worker basis drew call refusal → WasRefused more worker basis drew call refusal
+refused_while failed more worker basis drew call shown.BadDescriptor on was = was
+refused_while failed more worker basis drew call shown.TooFar on was = was
+refused_while failed more worker basis drew call shown.TooLong on was = was
+refused_while failed more worker basis drew call shown.Stopped on was = on was
+refused_while failed more worker basis drew call (shown.Spent found) on was = was
+refused_while failed more worker basis drew call (shown.Again head tail) on was = was
+refused_while failed more worker basis drew call shown.RegionFault on was = (was.0, on was.1)
+refused_while failed more worker basis drew call shown.StoreFault on was = (was.0, on was.1)
 
-pub devices_held : {L B : Type 0} (history : L → lines.PartHistory) (held : B → stores.StoreHistory) (descriptors : List Descriptor) (log : Log L B) (pieces : List LaidPiece) (next : ℕ) (files : Files) (left : List outcome.Left)
-    → IsHeld history held descriptors log pieces next files left → HasDevices history held log files
-devices_held history held descriptors log pieces next files [] here = record {
-  parts = here.0.parts;
-  parts_are = here.0.parts_are;
-  stores = here.0.stores;
-  stores_are = here.0.stores_are;
-  synced = here.0.synced;
-  files_are = here.0.files_are;
+allowed_while : (failed more : Type 0) (worker : _) (basis : Basis) (descriptors : List Descriptor) (drew : List TracedCall) (call : TracedCall) (refusal : Refusal) → (failed → more)
+    → IsAllowedRefusal failed worker basis descriptors drew call refusal → IsAllowedRefusal more worker basis descriptors drew call refusal
+allowed_while failed more worker basis descriptors drew call refusal on is = go (barred basis.sizes descriptors call.call) is
+  where
+    go : (cause : Option Refusal) → MatchOption cause (WasRefused failed worker basis drew call refusal) (λ cause. refusal ≡ cause) → MatchOption cause (WasRefused more worker basis drew call refusal) (λ cause. refusal ≡ cause)
+    go None was = refused_while failed more worker basis drew call refusal on was
+    go (Some cause) is = is
+
+pub faithful_while : (failed more : Type 0) (worker : _) (basis : Basis) (trace : Traced) (report : Report) → (failed → more) → IsFaithful failed worker basis trace report → IsFaithful more worker basis trace report
+faithful_while failed more worker basis trace report on is = record {
+  legal = is.legal;
+  each_once = is.each_once;
+  in_order = is.in_order;
+  refused_in_order = is.refused_in_order;
+  open_in_order = is.open_in_order;
+  allowed =
+      let descriptors = descriptors_in basis.names trace in
+      All-weaker (λ (r : ShownRefusal). IsAllowedRefusal failed worker basis descriptors (drawing_calls report) r.call r.refusal)
+      (λ (r : ShownRefusal). IsAllowedRefusal more worker basis descriptors (drawing_calls report) r.call r.refusal)
+      (λ r allowed. allowed_while failed more worker basis descriptors (drawing_calls report) r.call r.refusal on allowed) report.refused is.allowed;
+  not_barred = is.not_barred;
+  left_open =
+      let descriptors = descriptors_in basis.names trace in
+      All-weaker (IsLeftOpen failed basis descriptors) (IsLeftOpen more basis descriptors)
+      (λ call is_open. record { is_write = is_open.is_write; failed_so = on is_open.failed_so; not_barred = is_open.not_barred }) (open_calls_of report) is.left_open;
+  room = is.room;
+  files = is.files;
 }
-devices_held history held descriptors log pieces next files (one ∷ []) here = record {
-  parts = here.0.parts;
-  parts_are = here.0.parts_are;
-  stores = here.0.stores;
-  stores_are = here.0.stores_are;
-  synced = here.0.synced;
-  files_are = here.0.files_are;
-}
-devices_held history held descriptors log pieces next files (one ∷ two ∷ more) here = absurd here
 
-calls_of_left : (first : ℕ) (groups : List ℕ) (left : List outcome.Left) → map left_call left ≡ map (λ (o : OpenCall). o.call) (map (fated first groups) left)
-calls_of_left first groups [] = refl
-calls_of_left first groups (one ∷ left) = ap (λ calls. one.call.now ∷ calls) (calls_of_left first groups left)
+-- ---- lists
 
--- at most one write is left open
-at_most_one : {L B : Type 0} (history : L → lines.PartHistory) (held : B → stores.StoreHistory) (descriptors : List Descriptor) (log : Log L B) (pieces : List LaidPiece) (next : ℕ) (files : Files) (left : List outcome.Left)
-    → IsHeld history held descriptors log pieces next files left → length left ≤ 1
-at_most_one history held descriptors log pieces next files [] here = omega arith
-at_most_one history held descriptors log pieces next files (one ∷ []) here = omega arith
-at_most_one history held descriptors log pieces next files (one ∷ two ∷ more) here = absurd here
+pub all_right : {X : Type 0} (P : X → Type 0) (xs ys : List X) → All P (xs ++ ys) → All P ys
+all_right P [] ys all = all
+all_right P (x ∷ xs) ys all = all_right P xs ys (All-tail P x (xs ++ ys) all)
 
--- it drew the number behind those of the placed calls, so what the parts recover to says its fate
-fates_in : (basis : Basis) (parts : List Part) (found : recover.Recovered) (next : ℕ) (placed : List TracedCall) (left : List outcome.Left) → HasFoundAll (row_words parts) found
-    → All (λ one. next ≡ one.number + entries_taken basis.sizes one.call.now.call) left → next ≡ basis.next + entries_of basis.sizes (placed ++ map left_call left) → length left ≤ 1
-    → All (λ (o : OpenCall). o.fate ≡ fate_in parts basis.files (basis.next + entries_of basis.sizes placed)) (map (fated found.first found.groups) left)
-fates_in basis parts found next placed [] all drew drawn few = All-nil (λ (o : OpenCall). o.fate ≡ fate_in parts basis.files (basis.next + entries_of basis.sizes placed))
-fates_in basis parts found next placed (one ∷ []) all drew drawn few =
-    let Has : OpenCall → Type 0 = λ o. o.fate ≡ fate_in parts basis.files (basis.next + entries_of basis.sizes placed) in
-    let taken : TracedCall → ℕ = λ traced. entries_taken basis.sizes traced.call in
-    let number : one.number ≡ basis.next + entries_of basis.sizes placed = omega (arith, drew 0 one (omega arith), drawn, sum_by-append taken placed (left_call one ∷ [])) in
-    All-cons Has (fated found.first found.groups one) []
-    (ap (λ first. fate_of first found.groups one.number) (all.first basis.files)
-    ∙ ap (λ groups. fate_of (recovered (row_words parts) basis.files).first groups one.number) (all.groups basis.files)
-    ∙ ap (λ number. fate_in parts basis.files number) number) (All-nil Has)
-fates_in basis parts found next placed (one ∷ two ∷ more) all drew drawn few = absurd (omega (arith, few))
+within_open : (count : ℕ) (open_calls : List Open) → All (λ (call : TracedCall). IsCallWithin count call.call) (map (λ (o : OpenedCall). o.call) (map opened_call open_calls))
+    → All (λ (o : Open). IsCallWithin count o.call.now.call) open_calls
+within_open count [] all = All-nil (λ (o : Open). IsCallWithin count o.call.now.call)
+within_open count (one ∷ later) all =
+    let Within : TracedCall → Type 0 = λ call. IsCallWithin count call.call in
+    let rest = map (λ (o : OpenedCall). o.call) (map opened_call later) in
+    All-cons (λ (o : Open). IsCallWithin count o.call.now.call) one later (All-head Within one.call.now rest all) (within_open count later (All-tail Within one.call.now rest all))
 
-is_fated : {L B : Type 0} (history : L → lines.PartHistory) (held : B → stores.StoreHistory) (failed : Type 0) (basis : Basis) (descriptors : List Descriptor) (calls : List TracedCall) (log : Log L B) (outcome : Outcome)
-    (parts : List Part) (found : recover.Recovered) (names : List (List ℕ)) (files : Files)
-    → HasRunTo history held failed basis descriptors calls log outcome → HasFoundAll (row_words parts) found → IsFatedCall basis parts (fated_report outcome found names files)
-is_fated history held failed basis descriptors calls log outcome parts found names files run all =
-    let few = at_most_one history held descriptors log run.pieces run.next basis.files outcome.left.items run.here in
-    record {
-      fates = fates_in basis parts found run.next (map (λ p. p.call) (placed_outcomes outcome)) outcome.left.items all run.drew_last run.made.drawn few;
-      at_most_one = omega (arith, few, length-map outcome.left.items (fated found.first found.groups));
-    }
+same_files : (descriptors : List Descriptor) → map (λ (fd : Fd). fd.file) (map as_fd descriptors) ≡ map (λ (d : Descriptor). d.file) descriptors
+same_files [] = refl
+same_files (one ∷ later) = ap (λ files. one.file ∷ files) (same_files later)
+
+calls_again : (first : ℕ) (groups : List ℕ) (open_calls : List Open) → map (λ (o : OpenCall). o.call) (map (fated first groups) open_calls) ≡ map (λ (o : OpenedCall). o.call) (map opened_call open_calls)
+calls_again first groups [] = refl
+calls_again first groups (one ∷ later) = ap (λ calls. one.call.now ∷ calls) (calls_again first groups later)
 
 each_allowed : (names : List (List ℕ)) → AreFileNames version_1 names → All (λ name. is_name version_1.name_limit name ≡ true) names
 each_allowed names are k d inside =
@@ -196,144 +217,227 @@ each_allowed names are k d inside =
     subst May (get_or_default names k [] d inside) (are.allowed k inside)
 
 -- the names that the header says of parts are those that their words say
-names_read : (parts : List Part) → header_names parts ≡ first_names version_1 (row_words parts) (header_of (row_words parts)).files
+pub names_read : (parts : List Part) → header_names parts ≡ first_names version_1 (row_words parts) (header_of (row_words parts)).files
 unfolding first_names
 names_read parts = refl
 
-pub faithful_after : {L B : Type 0} (recover_so : LoggedImagesRecover) (stand_so : ReadableStandsForRecovered) (history : L → lines.PartHistory) (held : B → stores.StoreHistory) (failed : Type 0)
-    (basis : Basis) (trace : Traced) (descriptors : List Descriptor) (log : Log L B) (outcome : Outcome) (bench : BenchState) (text : List ℕ) (after : Holding)
-    (run : HasRunTo history held failed basis descriptors trace.calls log outcome) (devices : HasDevices history held log basis.files)
-    → descriptors ≡ descriptors_in basis.names trace → log.names ≡ basis.names → AreFileNames version_1 log.names
-    → IsRowImage devices.parts (row_words after.parts)
-    → ReadsAs version_1 log.geometry.page log.geometry.entries log.names log.tail (row_words after.parts)
-    → files_of (stores_named log.names after.stores) ≡ files_of devices.stores
-    → ShowsRecovered after outcome bench.told text → bench.left ≡ Some after.parts
-    → HasStoppedOn failed basis trace bench text
-faithful_after recover_so stand_so history held failed basis trace descriptors log outcome bench text after run devices same_descriptors same_names allowed image reads stores_again shown power_left =
-    let files = laid basis.files run.pieces in
-    let left = outcome.left.items in
-    let found = shown.found in
-    let image_now = row_words after.parts in
-    let open_calls = map (fated found.first found.groups) left in
-    let names_so : header_names after.parts ≡ log.names = names_read after.parts ∙ reads.names_are in
-    let writes : All (λ (call : TracedCall). IsWrite call.call) (left_calls outcome) =
-    All-weaker (IsLeftOpen failed basis descriptors) (λ (call : TracedCall). IsWrite call.call) (λ call is. is.is_write) (left_calls outcome) run.made.left_open in
-    let fated_so : RecoversAsFated descriptors image_now basis.files found left files =
-    recovers_as_fated recover_so history held descriptors log basis.files devices.parts devices.parts_are image_now image found shown.log run.pieces run.next left writes run.here in
-    let files_so : files_named after.parts (header_names after.parts) after.stores ≡ after_open (descriptors_in basis.names trace) open_calls files =
-    ap (λ names. files_named after.parts names after.stores) names_so
-    ∙ stand_so version_1 version_1.header_lines image_now (files_of (stores_named log.names after.stores)) reads.readable
-    ∙ ap (λ bytes. (recovered image_now bytes).files) (stores_again ∙ devices.files_are)
-    ∙ fated_so
-    ∙ ap (λ descriptors. after_open descriptors open_calls files) same_descriptors in
-    let Of : List Descriptor → Type 0 = λ descriptors. AreMade failed basis descriptors trace.calls run.next files (placed_outcomes outcome) (refused_calls outcome) (left_calls outcome) in
-    let Left : List TracedCall → Type 0 = λ left. AreMade failed basis (descriptors_in basis.names trace) trace.calls run.next files (placed_outcomes outcome) (refused_calls outcome) left in
-    let made = subst Left (calls_of_left found.first found.groups left) (subst Of same_descriptors run.made) in
-    let shown_files = files_named after.parts (header_names after.parts) after.stores in
-    let named_so : named basis.names shown_files ≡ named basis.names (after_open (descriptors_in basis.names trace) open_calls files) = ap (named basis.names) files_so in
-    let Named : List (List ℕ) → Type 0 = λ names. AreFileNames version_1 names in
-    let NamesRest : List (List ℕ) → Type 0 = λ names. RestsWith names shown_files bench.told in
-    let FilesRest : Files → Type 0 = λ files. RestsWith basis.names files bench.told in
-    let shown_so = files_so ∙ ap (after_open (descriptors_in basis.names trace) open_calls) made.files in
-    record {
-      parts = after.parts;
-      power_left = power_left;
-      fated = is_fated history held failed basis descriptors trace.calls log outcome after.parts found basis.names shown_files run shown.log;
-      rests = subst FilesRest shown_so (subst NamesRest (names_so ∙ same_names) shown.left);
-      report = fated_report outcome found basis.names shown_files;
-      faithful = made_faithful failed basis trace run.next files (placed_outcomes outcome) (refused_calls outcome) open_calls (named basis.names shown_files) made named_so;
-      plain = names_plain version_1.name_limit basis.names shown_files.contents (each_allowed basis.names (subst Named same_names allowed));
-      text_is = shown.text_is ∙ ap (λ names. report_text (fated_report outcome found names shown_files)) (names_so ∙ same_names);
-    }
+-- ---- fates
 
--- ---- the whole
+-- each drew a number, and has its fate by what was found
+have_fates : (parts : List Part) (files : Files) (found : recover.Recovered) (open_calls : List Open) → HasFoundAll (row_words parts) found → All (λ (o : Open). found.first ≤ o.number) open_calls
+    → AllZip (HasFate parts files) (map (λ (o : Open). o.number) open_calls) (map (fated found.first found.groups) open_calls)
+have_fates parts files found [] all low = tt
+have_fates parts files found (one ∷ later) all low =
+    let Low : Open → Type 0 = λ o. found.first ≤ o.number in (
+      (
+        subst (λ first. first ≤ one.number) (all.first files) (All-head Low one later low),
+        ap (λ first. fate_of first found.groups one.number) (all.first files) ∙ ap (λ groups. fate_of (recovered (row_words parts) files).first groups one.number) (all.groups files),
+      ),
+      have_fates parts files found later all (All-tail Low one later low),
+    )
 
--- what is known of what failed may be weaker
-pub run_while : {L B : Type 0} (history : L → lines.PartHistory) (held : B → stores.StoreHistory) (failed more : Type 0) (basis : Basis) (descriptors : List Descriptor) (calls : List TracedCall) (log : Log L B) (outcome : Outcome)
-    → (failed → more) → HasRunTo history held failed basis descriptors calls log outcome → HasRunTo history held more basis descriptors calls log outcome
-run_while history held failed more basis descriptors calls log outcome on run = record {
-  sizes_are = run.sizes_are;
-  next_is = run.next_is;
-  stopped_so = λ is. on (run.stopped_so is);
-  pieces = run.pieces;
-  next = run.next;
-  here = run.here;
-  drew_last = run.drew_last;
-  made = made_while failed more basis descriptors calls run.next (laid basis.files run.pieces) (placed_outcomes outcome) (refused_calls outcome) (left_calls outcome) on run.made;
-}
+-- ---- what a run tells whose mount was closed
 
--- what an image has of a log's parts: pieces that the log may have
-pub record HasFitting {L B : Type 0} (log : Log L B) (image : Image) : Type 0 where
-  pub pieces : List LaidPiece
-  pub logged : HasLog version_1 log.geometry.page log.geometry.entries log.names log.tail pieces image
-  pub fitting : AreFitting version_1 log.geometry.page log.geometry.entries (length log.names) log.tail pieces
+-- a run of a trace over a mount that was opened from its basis was brought to its end, and the mount closed
+pub record HasRunToClose (basis : Basis) (trace : Traced) (mount : MountState) (pass zero : PassState) (plan : Plan) (sorted : SortedCalls) (part_values store_values : List Value)
+    (parts : List lines.PartHistory) (held : List stores.StoreHistory) (faults placed tail : ℕ) : Type 0 where
+  pub begins : BeginsMount basis trace mount pass
+  pub new : pass.view ≡ first_view mount.board.opened
+  pub well_formed : IsWellFormed trace
+  pub few : length trace.calls < 2 ^ 60
+  pub rise : IsStrictlyIncreasing (lines_in trace)
+  pub out : HasOutcome mount.fds plan trace.calls pass (Ok sorted) zero
+  pub closed : IsClosedBy zero part_values store_values parts held faults placed tail
 
-pub fitting_at : {L B : Type 0} (history : L → lines.PartHistory) (held : B → stores.StoreHistory) (descriptors : List Descriptor) (log : Log L B) (pieces : List LaidPiece) (next : ℕ) (files : Files) (left : List outcome.Left)
-    (parts : List Part) (image : Image) → AreNow (map history log.parts.items) parts → IsRowImage parts image
-    → IsHeld history held descriptors log pieces next files left → HasFitting log image
-fitting_at history held descriptors log pieces next files [] parts image now is here =
-    let same = one_state (map history log.parts.items) parts here.0.parts now here.0.parts_are in
-    let image_of : IsRowImage here.0.parts image = subst (λ parts. IsRowImage parts image) same is in
-    record { pieces = pieces; logged = here.0.has.logs image image_of; fitting = here.0.has.fitting }
-fitting_at history held descriptors log pieces next files (one ∷ []) parts image now is here =
-    let same = one_state (map history log.parts.items) parts here.0.parts now here.0.parts_are in
-    let image_of : IsRowImage here.0.parts image = subst (λ parts. IsRowImage parts image) same is in
-    elim (here.0.logs image image_of) [
-      | inl logged ↦ record { pieces = pieces; logged = logged; fitting = here.0.fitting_before }
-      | inr logged ↦ record { pieces = pieces ++ piece_of_call descriptors one.call.now.call ∷ []; logged = logged; fitting = here.0.fitting }
-    ]
-fitting_at history held descriptors log pieces next files (one ∷ two ∷ more) parts image now is here = absurd here
+module _ (basis : Basis) (trace : Traced) (mount : MountState) (pass zero : PassState) (plan : Plan) (sorted : SortedCalls) (part_values store_values : List Value)
+    (parts : List lines.PartHistory) (held : List stores.StoreHistory) (faults placed tail : ℕ)
+    (run : HasRunToClose basis trace mount pass zero plan sorted part_values store_values parts held faults placed tail) where
+  abbrev descriptors : List Descriptor
+  descriptors = descriptors_in basis.names trace
 
-named_quiet : (names : List (List ℕ)) (stores : List Store) → All IsQuietStore stores → All (λ (named : NamedStore). IsQuietStore named.store) (named_stores names stores)
-named_quiet [] stores quiet = All-nil (λ (named : NamedStore). IsQuietStore named.store)
-named_quiet (name ∷ names) [] quiet = All-nil (λ (named : NamedStore). IsQuietStore named.store)
-named_quiet (name ∷ names) (store ∷ stores) quiet =
-    All-cons (λ (named : NamedStore). IsQuietStore named.store) (record { name = name; store = store }) (named_stores names stores) (All-head IsQuietStore store stores quiet)
-    (named_quiet names stores (All-tail IsQuietStore store stores quiet))
+  abbrev items : List Open
+  items = sorted.open_calls.items
+
+  pub same_opened : zero.view.opened ≡ mount.board.opened
+  same_opened = run.out.run_out.mount ∙ ap (λ (v : PassView). v.opened) run.new
+
+  opens_log : OpensLog (mount_of zero.view.opened) zero.view.opened.next
+  opens_log = subst (λ (o : Opened). OpensLog (mount_of o) o.next) (sym same_opened) run.begins.is_mount.log
+
+  opens_files : Opens (mount_of zero.view.opened) basis.files
+  opens_files = subst (λ (o : Opened). Opens (mount_of o) basis.files) (sym same_opened) run.begins.is_mount.files
+
+  opens_region : OpensRegion (mount_of zero.view.opened) basis.names
+  opens_region = subst (λ (o : Opened). OpensRegion (mount_of o) basis.names) (sym same_opened) run.begins.region
+
+  pub all_told : AllDevicesTell parts × AllDevicesTell held
+  all_told = run.closed.telling basis.files opens_log opens_files (subst (λ values. All IsTelling values) (sym run.out.run_out.spare) run.begins.spare)
+
+  -- whatever power leaves of them
+  pub leaves : (states : List Part) (disks : List Store) → AreNow parts states → AreNow held disks → (image : Image) (bytes : Files) → IsRowImage states image → AreStoreImages disks bytes
+      → LeavesWholeWrites zero.view basis.files basis.names image bytes
+  leaves states disks are stand image bytes is images =
+      row_tells_at held (λ disks. (bytes : Files) → AreStoreImages disks bytes → LeavesWholeWrites zero.view basis.files basis.names image bytes) disks stand
+      (row_tells_at parts (InEachRowImage (λ image. RowTells held (λ disks. (bytes : Files) → AreStoreImages disks bytes → LeavesWholeWrites zero.view basis.files basis.names image bytes)))
+      states are (run.closed.crash basis.files basis.names opens_log opens_files opens_region) image is) bytes images
+
+  begins_so : pass.view ≡ first_view pass.view.opened
+  begins_so = run.new ∙ ap first_view (sym (ap (λ (v : PassView). v.opened) run.new))
+
+  module _ (told_so : RunsAreTold) (threads_so : ThreadsAreLegal) (files_so : DescriptorsSayFiles) (kept_so : LeftOpenAreKept) where
+    on_files : CallsOnFiles mount.fds (file_call descriptors)
+    on_files = files_so mount.fds descriptors (ap (map (λ (fd : Fd). fd.file)) run.begins.is_mount.fds_are ∙ same_files descriptors)
+
+    told : AreTold mount.fds trace.calls sorted (history_then zero.view)
+    told = told_so mount.fds plan trace.calls pass zero sorted part_values store_values parts held faults placed tail begins_so run.out run.closed run.rise run.well_formed.round_order
+
+    within : All (λ (o : Open). IsCallWithin (length descriptors) o.call.now.call) items
+    within =
+        let Within : TracedCall → Type 0 = λ call. IsCallWithin (length trace.descriptors) call.call in
+        let long : length descriptors ≡ length trace.descriptors = length-map trace.descriptors (placed_in basis.names trace) in
+        let ones = map (λ p. p.call) (map placed_call sorted.placed.items) in
+        let others = map (λ r. r.call) (map refused_call sorted.refused.items) in
+        let left = map (λ (o : OpenedCall). o.call) (map opened_call items) in
+        subst (λ count. All (λ (o : Open). IsCallWithin count o.call.now.call) items) (sym long)
+        (within_open (length trace.descriptors) items
+        (all_right Within (ones ++ others) left (All-permutation Within trace.calls ((ones ++ others) ++ left) told.listed run.well_formed.calls)))
+
+    writes : flat_map (open_of mount.fds) (map opened_call items) ≡ map (open_write descriptors) items
+    writes = open_writes_are descriptors mount.fds run.begins.is_mount.fds_are on_files items within
+
+    moved : IsPermutation (flat_map (open_of mount.fds) (map opened_call items)) (open_in (faults_then zero.view))
+    moved = run.out.left_open (map opened_call items) run.out.sorted.0.left_open
+
+    -- the files after the history
+    history_files : after (history_of descriptors (map placed_call sorted.placed.items)) basis.files ≡ files_then zero.view basis.files
+    history_files =
+        (threads_so mount.fds (file_call descriptors) (map placed_call sorted.placed.items) (history_then zero.view) basis.files on_files told.placed
+        (run.closed.history.legal basis.files zero.view.opened.next opens_log opens_files)).2
+        ∙ sym (history_after (history_then zero.view) basis.files)
+
+    module _ (image : Image) (bytes : Files) (left : LeavesWholeWrites zero.view basis.files basis.names image bytes) (found : recover.Recovered) (all : HasFoundAll image found) where
+      -- and then those that are kept of the calls that were left open
+      recovered_files : (recovered image bytes).files ≡ after_open descriptors (map (fated found.first found.groups) items) (files_then zero.view basis.files)
+      recovered_files =
+          let first = (recovered image bytes).first in
+          let groups = (recovered image bytes).groups in
+          let files = files_then zero.view basis.files in
+          kept_so mount.fds (map opened_call items) (faults_then zero.view) files image bytes moved (left.faults run.out.run_out.idle.owned run.out.run_out.idle.taken)
+          ∙ ap (λ writes. after_calls (kept_open first groups writes) files) writes
+          ∙ after_fates descriptors first groups items files
+          ∙ ap (λ first. after_open descriptors (map (fated first groups) items) files) (sym (all.first bytes))
+          ∙ ap (λ groups. after_open descriptors (map (fated found.first groups) items) files) (sym (all.groups bytes))
+
+      low : All (λ (o : Open). found.first ≤ o.number) items
+      low =
+          let Low : ℕ → Type 0 = λ first. All (λ (o : Open). first ≤ o.number) items in
+          subst Low (sym (all.first bytes))
+          (numbers_low descriptors (recovered image bytes).first (faults_then zero.view) items left.low (subst (λ l. IsPermutation l (open_in (faults_then zero.view))) writes moved))
+
+    -- ---- the report
+
+    module _ (faithful_so : RunsAreFaithful) (stand_so : ReadableStandsForRecovered) (failed : Type 0) (saw : SawStop zero.view → failed) (allowed : AreFileNames version_1 basis.names)
+        (bench : BenchState) (text : List ℕ) (after_power : Holding) (shows_so : ShowsRecovered after_power sorted bench.told text) (power_left : bench.left ≡ Some after_power.parts)
+        (left : LeavesWholeWrites zero.view basis.files basis.names (row_words after_power.parts) (files_of (stores_named basis.names after_power.stores))) where
+      abbrev found : recover.Recovered
+      found = shows_so.found
+
+      abbrev image : Image
+      image = row_words after_power.parts
+
+      abbrev shown_files : Files
+      shown_files = files_named after_power.parts (header_names after_power.parts) after_power.stores
+
+      abbrev report : Report
+      report = fated_report sorted found basis.names shown_files
+
+      names_so : header_names after_power.parts ≡ basis.names
+      names_so = names_read after_power.parts ∙ left.header.names_are
+
+      files_are : shown_files ≡ files_shown basis trace report
+      files_are =
+          ap (λ names. files_named after_power.parts names after_power.stores) names_so
+          ∙ stand_so version_1 version_1.header_lines image (files_of (stores_named basis.names after_power.stores)) left.header.readable
+          ∙ recovered_files image (files_of (stores_named basis.names after_power.stores)) left found shows_so.log
+          ∙ ap (after_open descriptors (map (fated found.first found.groups) items)) (sym history_files)
+
+      is_faithful : IsFaithful failed plan.worker basis trace report
+      is_faithful =
+          faithful_while (SawStop zero.view) failed plan.worker basis trace report saw
+          (faithful_so basis trace mount.fds plan pass zero sorted part_values store_values parts held faults placed tail report run.well_formed run.few run.rise
+          (subst (λ (o : Opened). IsMountOf basis trace o mount.fds) (sym (ap (λ (v : PassView). v.opened) run.new)) run.begins.is_mount) begins_so run.out run.closed
+          record { history = refl; refused = refl; open_calls = calls_again found.first found.groups items; files = ap (named basis.names) files_are })
+
+      pub has_stopped : HasStoppedOn failed plan.worker basis trace bench text
+      has_stopped =
+          let NamesRest : List (List ℕ) → Type 0 = λ names. RestsWith names shown_files bench.told in
+          let FilesRest : Files → Type 0 = λ files. RestsWith basis.names files bench.told in
+          record {
+            report = report;
+            faithful = is_faithful;
+            plain = names_plain version_1.name_limit basis.names shown_files.contents (each_allowed basis.names allowed);
+            text_is = shows_so.text_is ∙ ap (λ names. report_text (fated_report sorted found names shown_files)) names_so;
+            parts = after_power.parts;
+            power_left = power_left;
+            fated = record {
+              numbers = map (λ (o : Open). o.number) items;
+              each = have_fates after_power.parts basis.files found items shows_so.log (low image (files_of (stores_named basis.names after_power.stores)) left found shows_so.log);
+            };
+            rests = subst FilesRest files_are (subst NamesRest names_so shows_so.left);
+          }
+
+-- ---- the bench
 
 -- what a bench holds to which parts and stores came back
 abbrev pub home_with : Holding → List (List ℕ) → List Part → List Store → Holding
 home_with left names parts stores = record { parts = parts; stores = left.stores ++ named_stores names stores }
 
--- what a bench holds to which the parts and the stores of a log came back
-pub given_home : {L B : Type 0} (history : L → lines.PartHistory) (held : B → stores.StoreHistory) (log : Log L B) (k : ℕ) (start armed : BenchState) (home : Option Holding) (left : Holding) (parts : List L) (backing : List B)
-    → ((now : List Part) (disks : List Store) → AreNow (map history parts) now → AreNow (map held backing) disks → home ≡ told_back now disks armed)
-    → parts ≡ log.parts.items → backing ≡ log.stores.items → armed ≡ armed_with k start → start.told ≡ Some left → start.lent ≡ log.names
-    → (now : List Part) (disks : List Store) → AreNow (map history log.parts.items) now → AreNow (map held log.stores.items) disks → home ≡ Some (home_with left log.names now disks)
-given_home history held log k start armed home left parts backing gives same_parts same_stores armed_is told_is lent now disks now_are disks_are =
-    let PartsNow : List _ → Type 0 = λ these. AreNow (map history these) now in
-    let StoresNow : List _ → Type 0 = λ these. AreNow (map held these) disks in
-    gives now disks (subst PartsNow (sym same_parts) now_are) (subst StoresNow (sym same_stores) disks_are)
+pub given_home : (k : ℕ) (start armed : BenchState) (home : Option Holding) (left : Holding) (parts : List lines.PartHistory) (held : List stores.StoreHistory)
+    → ((now : List Part) (disks : List Store) → AreNow parts now → AreNow held disks → home ≡ told_back now disks armed)
+    → armed ≡ armed_with k start → start.told ≡ Some left
+    → (now : List Part) (disks : List Store) → AreNow parts now → AreNow held disks → home ≡ Some (home_with left start.lent now disks)
+given_home k start armed home left parts held gives armed_is told_is now disks now_are disks_are =
+    gives now disks now_are disks_are
     ∙ ap (λ (s : BenchState). told_back now disks s) armed_is
     ∙ ap (λ (told : Option Holding). option_map (λ (holding : Holding). home_with holding start.lent now disks) told) told_is
-    ∙ ap (λ names. Some (home_with left names now disks)) lent
 
-pub stopped_on : {L B : Type 0} (recover_so : LoggedImagesRecover) (stand_so : ReadableStandsForRecovered) (power_so : PowerLeavesAnImage) (history : L → lines.PartHistory) (room : L → Room) (held : B → stores.StoreHistory)
-    (failed : Type 0) (basis : Basis) (trace : Traced) (descriptors : List Descriptor) (log : Log L B) (outcome : Outcome) (bench : BenchState) (text : List ℕ) (pick : Pick) (left : Holding) (given off : Option Holding)
-    → HasRunTo history held failed basis descriptors trace.calls log outcome
-    → descriptors ≡ descriptors_in basis.names trace → log.names ≡ basis.names → IsLog history room held log
-    → ((parts : List Part) (stores : List Store) → AreNow (map history log.parts.items) parts → AreNow (map held log.stores.items) stores → given ≡ Some (home_with left log.names parts stores))
-    → off ≡ option_map (powered pick) given → bench.left ≡ option_map (λ (holding : Holding). (powered pick holding).parts) given
-    → ((holding : Holding) → given ≡ Some holding → AreWholeStores holding)
-    → All (λ (named : NamedStore). IsQuietStore named.store) left.stores → IsAway log.names left
-    → IfSome off (λ holding. ShowsRecovered holding outcome bench.told text)
-    → HasStoppedOn failed basis trace bench text
-stopped_on recover_so stand_so power_so history room held failed basis trace descriptors log outcome bench text pick left given off run same_descriptors same_names is_log gives powers leaves whole quiet away shown =
-    let devices = devices_held history held descriptors log run.pieces run.next basis.files outcome.left.items run.here in
-    let before = home_with left log.names devices.parts devices.stores in
-    let after = powered pick before in
-    let given_is : given ≡ Some before = gives devices.parts devices.stores devices.parts_are devices.stores_are in
-    let off_is : off ≡ Some after = powers ∙ ap (option_map (powered pick)) given_is in
-    let image = (power_so pick before (whole before given_is)).0 in
-    let long : length log.names ≡ length devices.stores =
-    omega (arith, is_log.store_each, length_now (map held log.stores.items) devices.stores devices.stores_are, length-map log.stores.items held) in
-    let all_quiet : All (λ (named : NamedStore). IsQuietStore named.store) before.stores =
-    All-append (λ (named : NamedStore). IsQuietStore named.store) left.stores (named_stores log.names devices.stores) quiet (named_quiet log.names devices.stores devices.synced) in
-    faithful_after recover_so stand_so history held failed basis trace descriptors log outcome bench text after run devices same_descriptors same_names is_log.names_are image.parts
-    (fitting_at history held descriptors log run.pieces run.next basis.files outcome.left.items devices.parts (row_words after.parts) devices.parts_are image.parts run.here).logged.header
-    (files_again log.names left.stores devices.stores before after refl long is_log.names_are.distinct away image all_quiet)
-    (at_some off (λ holding. ShowsRecovered holding outcome bench.told text) after off_is shown)
-    (leaves ∙ ap (option_map (λ (holding : Holding). (powered pick holding).parts)) given_is)
+-- what power leaves of a run whose devices all came back
+pub record IsLeftBehind (basis : Basis) (zero : PassState) (parts : List lines.PartHistory) (pick : Pick) (given off : Option Holding) : Type 0 where
+  pub before : Holding
+  pub parts_are : AreNow parts before.parts
+  pub given_is : given ≡ Some before
+  pub after : Holding
+  pub after_is : after ≡ powered pick before
+  pub off_is : off ≡ Some after
+  pub whole : LeavesWholeWrites zero.view basis.files basis.names (row_words after.parts) (files_of (stores_named basis.names after.stores))
+
+module _ (basis : Basis) (trace : Traced) (mount : MountState) (pass zero : PassState) (plan : Plan) (sorted : SortedCalls) (part_values store_values : List Value)
+    (parts : List lines.PartHistory) (held : List stores.StoreHistory) (faults placed tail : ℕ)
+    (run : HasRunToClose basis trace mount pass zero plan sorted part_values store_values parts held faults placed tail)
+    (power_so : PowerLeavesAnImage) (many : length held ≡ mount.board.opened.sizes.files) (named_so : AreFileNames version_1 basis.names) (pick : Pick) (left : Holding) (given off : Option Holding)
+    (gives : (now : List Part) (disks : List Store) → AreNow parts now → AreNow held disks → given ≡ Some (home_with left basis.names now disks))
+    (powers : off ≡ option_map (powered pick) given) (whole : (holding : Holding) → given ≡ Some holding → AreWholeStores holding) (away : IsAway basis.names left) where
+  pub left_behind : IsLeftBehind basis zero parts pick given off
+  left_behind =
+      let tell = all_told basis trace mount pass zero plan sorted part_values store_values parts held faults placed tail run in
+      let states = present parts tell.0 in
+      let disks = present held tell.1 in
+      let before = home_with left basis.names states.states disks.states in
+      let after = powered pick before in
+      let given_is : given ≡ Some before = gives states.states disks.states states.are disks.are in
+      let image = (power_so pick before (whole before given_is)).0 in
+      let long : length basis.names ≡ length disks.states = run.begins.is_mount.names ∙ sym many ∙ sym (length_now held disks.states disks.are) in
+      record {
+        before = before;
+        parts_are = states.are;
+        given_is = given_is;
+        after = after;
+        after_is = refl;
+        off_is = powers ∙ ap (option_map (powered pick)) given_is;
+        whole = leaves basis trace mount pass zero plan sorted part_values store_values parts held faults placed tail run states.states disks.states states.are disks.are
+            (row_words after.parts) (files_of (stores_named basis.names after.stores)) image.parts
+            (images_again basis.names left.stores disks.states before after refl long named_so.distinct away image);
+      }
 
 -- ---- counts
 
@@ -349,6 +453,11 @@ stop_grows before now NoMemory cause = omega (arith, cause)
 pub count_grows : {T : Type 0} (before now : ℕ) (result : Result T Stop) → CountHasCause before now result → before ≤ now
 count_grows before now (Ok value) cause = omega (arith, cause)
 count_grows before now (Err stop) cause = stop_grows before now stop cause
+
+-- the counts are those of the mount when it was opened
+pub failed_same : (start zero : PassState) → zero.view.opened ≡ start.view.opened → zero.spare ≡ start.spare → failed_before zero ≡ failed_before start
+failed_same start zero opened spare =
+    ap (λ (o : Opened). sum_by faults_of o.slots + sum_by faults_of zero.spare) opened ∙ ap (λ these. sum_by faults_of start.view.opened.slots + sum_by faults_of these) spare
 
 -- what rose while it was lent, rose at home
 pub rose_home : (home before lent now : ℕ) → saturated (home + lent) ≤ now → Rose before lent → Rose (saturated (home + before)) now

@@ -1,44 +1,81 @@
--- A log that power was lost of isn't refused: its header can be read, its lines are there, and its groups are whole.
-use Rattle.std.proofs.Common.{◌≡◌, ℕ, ◌≤◌, List, [], ◌∷◌, Option, Some, IfSome, option_map, length, map, refl, sym, ap, subst, ◌∙◌, inl, inr}
+-- A region that power was lost of isn't refused: its header can be read, its lines are there, and its groups are whole.
+use Rattle.std.proofs.Common.{◌≡◌, ℕ, suc, ◌+◌, ◌<◌, ◌≤◌, All, List, [], ◌∷◌, Option, Some, IfSome, option_map, length, map, get_or, refl, sym, ap, subst, ◌∙◌, inl, inr, arith}
+use Rattle.std.proofs.lemmas.List.{get_or-map, get_or-take, length-map, length-take}
+use Rattle.std.proofs.lemmas.List.Elements.{All-nil, All-cons, All-head, All-tail}
 use Rattle.nv_plain.specs.Images.{header_of}
 use Rattle.nv_plain.specs.Layouts.{version_1}
-use Rattle.nv_pmem.specs.Draws.{Draws}
+use Rattle.nv_plain.specs.Recovered.{Fits}
+use Rattle.nv_pmem.specs.Draws.{Draws, draws_of}
+use Rattle.nv_pmem.specs.Limits.{entry_lines}
 use Rattle.nv_pmem.specs.Part.{Part}
 use Rattle.nv_pmem.specs.Picked.{picked}
 use Rattle.nv_pmem.specs.Room.{Room}
-use Rattle.nv_pmem.specs.RowStates.{AreNow, row_tells_at}
+use Rattle.nv_pmem.specs.RowStates.{AreNow, EachPartHasOne}
 use Rattle.nv_pmem.specs.Rows.{row_words}
 use Rattle.nv_pmem.specs.Steps as lines
 use Rattle.nv_pmem.specs.declared.picker.Pick.{Pick}
-use Rattle.nv_pmem.specs.Draws.{draws_of}
 use Rattle.nv_pmem.proofs.PickedLaws.{length-picked}
+use Rattle.nv_store.specs.Images.{IsStoreImage}
 use Rattle.nv_store.specs.Steps as stores
-use Rattle.nv_store.specs.Store.{Store}
-use Rattle.nv_bench.specs.Holding.{Holding}
+use Rattle.nv_store.specs.Store.{IsWholeStore, Store}
+use Rattle.nv_store.proofs.RowReads.{length_now}
+use Rattle.nv_bench.specs.Holding.{Holding, NamedStore, named_stores}
 use Rattle.nv_bench.specs.Laws.{AreWholeStores, PowerLeavesAnImage}
 use Rattle.nv_bench.specs.Powered.{powered, powered_parts}
 use Rattle.nv_header.specs.Needs.{HasLines, header_lines_in}
 use Rattle.nv_header.specs.Refusals.{ReadIsNotRefused, SpeaksOfImage}
+use Rattle.nv_header.specs.Regions.{ReadsAs, part_lines}
 use Rattle.nv_header.specs.declared.head.HeadError.{HeadError}
 use Rattle.nv_header.specs.declared.head.HeadError.TheVariants as head
 use Rattle.nv_recover.specs.Groups.{FittingHasNoBad}
-use Rattle.nv_engine.specs.Logged.{LoggedImagesFit}
-use Rattle.nv_engine.specs.declared.log.Log.{Log}
+use Rattle.nv_recover.specs.Standing.{AreStoreImages}
+use Rattle.nv_core.specs.state.Values.{Value}
+use Rattle.nv_table.specs.state.Opened.{Opened, mount_of}
+use Rattle.nv_table.specs.state.States.{PassState}
+use Rattle.nv_mount.specs.Mounts.{MountState}
+use Rattle.nv_mount.specs.Telling.{HasLongParts}
 use Rattle.nv_open.specs.Refusals.{AreLong, CanBeRead, IsHeadRefused, IsRefusedFor, head_image, header_part, rooms_of}
 use Rattle.nv_open.specs.declared.error.Refusal.{Refusal}
 use Rattle.nv_open.specs.declared.error.Refusal.TheVariants.{Truncated, BadMagic, BadVersion, BadGeometry, BadName, BadEntry, TooManyFiles}
-use Rattle.nv_trace.specs.declared.trace.Descriptor.{Descriptor}
-use Rattle.nv_trace.specs.declared.trace_call.TracedCall.{TracedCall}
-use Rattle.nv_top.specs.Attempts.{HasRunTo, IsLong}
-use Rattle.nv_top.specs.Faithful.{Basis}
-use Rattle.nv_top.specs.declared.outcome.Outcome.{Outcome}
-use Rattle.nv_top.proofs.LineLemmas.{room_with}
-use Rattle.nv_top.proofs.StoppingLemmas.{HasFitting, at_some, devices_held, fitting_at, home_with}
+use Rattle.nv_trace.specs.Traced.{Traced}
+use Rattle.nv_runner.specs.declared.plan.Plan.{Plan}
+use Rattle.nv_runner.specs.declared.sorted.SortedCalls.{SortedCalls}
+use Rattle.nv_runner.specs.Faithful.{Basis}
+use Rattle.nv_top.proofs.RowLemmas.{present}
+use Rattle.nv_top.proofs.StoppingLemmas.{HasRunToClose, all_right, all_told, at_some, home_with, leaves, same_opened}
 
--- ---- parts that hold a log
+-- the room of so many lines, as far as it is their count
+abbrev room_with : ℕ → Room
+room_with count = record { lines = count; spare = λ line. 0; after_fence = λ line. 0 }
 
-module _ {L B : Type 0} (fits_so : LoggedImagesFit) (good_so : FittingHasNoBad) (read_so : ReadIsNotRefused) (log : Log L B) (parts : List Part)
-    (has : HasFitting log (row_words parts)) (long : HasLines version_1 log.geometry.page log.geometry.entries (rooms_of parts)) where
+abbrev room_of : Part → Room
+room_of part = room_with (length part)
+
+-- parts that have their lines
+pub have_lines : (page entries : ℕ) (parts : List Part) → 1 + entries ≤ length parts → ((slot : ℕ) → slot ≤ entries → part_lines version_1 page slot ≤ length (get_or parts slot []))
+    → HasLines version_1 page entries (rooms_of parts)
+have_lines page entries [] many each = absurd (omega (arith, many))
+have_lines page entries (part ∷ others) many each = record {
+  header = each 0 (omega arith);
+  count = let long = length-map (part ∷ others) room_of in omega (arith, many, long);
+  each = λ k none inside.
+      let below : k < entries = omega (arith, inside, length-take entries (rooms_of others)) in
+      let there : k < length others = omega (arith, many, below) in
+      let Long : Room → Type 0 = λ room. entry_lines page ≤ room.lines in
+      subst Long (sym (get_or-take entries (rooms_of others) k none below ∙ get_or-map room_of others k [] none there)) (each (suc k) (omega (arith, below)));
+}
+
+-- power leaves each part as many lines
+pub powered_rooms : (draws : Draws) (parts : List Part) → rooms_of (powered_parts draws parts).0 ≡ rooms_of parts
+unfolding powered_parts
+powered_rooms draws [] = refl
+powered_rooms draws (part ∷ parts) =
+    let one = picked draws part in
+    ap (λ count. room_with count ∷ rooms_of (powered_parts one.1 parts).0) (length-picked draws part)
+    ∙ ap (λ rooms. room_with (length part) ∷ rooms) (powered_rooms one.1 parts)
+
+module _ (good_so : FittingHasNoBad) (read_so : ReadIsNotRefused) (page entries first : ℕ) (names : List (List ℕ)) (parts : List Part)
+    (header : ReadsAs version_1 page entries names first (row_words parts)) (fits : Fits version_1 (row_words parts)) (long : HasLines version_1 page entries (rooms_of parts)) where
   long_first : (parts : List Part) → version_1.header_lines ≤ header_lines_in (rooms_of parts) → version_1.header_lines ≤ length (header_part parts)
   long_first [] enough = enough
   long_first (part ∷ parts) enough = enough
@@ -46,20 +83,20 @@ module _ {L B : Type 0} (fits_so : LoggedImagesFit) (good_so : FittingHasNoBad) 
   can_be_read : CanBeRead parts
   can_be_read = record {
     long_enough = long_first parts long.header;
-    fields = has.logged.header.readable.fields;
-    names = λ i below. let good = has.logged.header.readable.names i below in record { whole = good.whole; new = good.new };
+    fields = header.readable.fields;
+    names = λ i below. let good = header.readable.names i below in record { whole = good.whole; new = good.new };
   }
 
   are_long : AreLong parts
   are_long =
       let Long : ℕ → ℕ → Type 0 = λ page entries. HasLines version_1 page entries (rooms_of parts) in
       let Of : ℕ → Type 0 = λ page. Long page (header_of (head_image parts)).entries in
-      subst Of (sym has.logged.header.page_is) (subst (Long log.geometry.page) (sym has.logged.header.entries_is) long)
+      subst Of (sym header.page_is) (subst (Long page) (sym header.entries_is) long)
 
   good_head : (refusal : HeadError) → SpeaksOfImage refusal → ¬ (IsHeadRefused parts refusal)
   good_head refusal speaks = read_so version_1 (length (header_part parts)) (head_image parts) refusal can_be_read speaks
 
-  not_refused : (why : Refusal) → ¬ (IsRefusedFor parts why)
+  pub not_refused : (why : Refusal) → ¬ (IsRefusedFor parts why)
   not_refused (Truncated found wanted) is = elim is [
     | inl short ↦ good_head (head.Truncated found wanted) tt short
     | inr lacks ↦ lacks.short are_long
@@ -68,41 +105,63 @@ module _ {L B : Type 0} (fits_so : LoggedImagesFit) (good_so : FittingHasNoBad) 
   not_refused (BadVersion found) is = good_head (head.BadVersion found) tt is
   not_refused (BadGeometry field found) is = good_head (head.BadGeometry field found) tt is
   not_refused (BadName i) is = good_head (head.BadName i) tt is
-  not_refused (BadEntry number) is =
-      good_so version_1 (row_words parts) number
-      (fits_so version_1 log.geometry.page log.geometry.entries log.names log.tail has.pieces (row_words parts) has.logged has.fitting) is.2
+  not_refused (BadEntry number) is = good_so version_1 (row_words parts) number fits is.2
   not_refused TooManyFiles is = is
 
--- ---- parts after power went off
+-- ---- an image that stores may be left with
 
-powered_rooms : (draws : Draws) (parts : List Part) → rooms_of (powered_parts draws parts).0 ≡ rooms_of parts
-unfolding powered_parts
-powered_rooms draws [] = refl
-powered_rooms draws (part ∷ parts) =
-    let one = picked draws part in
-    ap (λ count. room_with count ∷ rooms_of (powered_parts one.1 parts).0) (length-picked draws part)
-    ∙ ap (λ rooms. room_with (length part) ∷ rooms) (powered_rooms one.1 parts)
+durable_images : (disks : List Store) → All IsWholeStore disks → AreStoreImages disks (record { contents = map (λ (store : Store). store.durable) disks })
+durable_images disks whole = record {
+  count = length-map disks (λ (store : Store). store.durable);
+  each = λ i none less.
+      subst (λ bytes. IsStoreImage (get_or disks i none) bytes) (sym (get_or-map (λ (store : Store). store.durable) disks i none [] less))
+      record { no_shorter = omega arith; no_longer = (whole i none less).no_longer; synced = λ j not. refl };
+}
 
-pub never_refused : {L B : Type 0} (fits_so : LoggedImagesFit) (good_so : FittingHasNoBad) (read_so : ReadIsNotRefused) (power_so : PowerLeavesAnImage)
-    (history : L → lines.PartHistory) (held : B → stores.StoreHistory) (failed : Type 0) (basis : Basis) (descriptors : List Descriptor) (calls : List TracedCall) (log : Log L B) (outcome : Outcome)
-    (pick : Pick) (left : Holding) (given off : Option Holding) (why : Refusal)
-    → HasRunTo history held failed basis descriptors calls log outcome → IsLong history log
-    → ((parts : List Part) (stores : List Store) → AreNow (map history log.parts.items) parts → AreNow (map held log.stores.items) stores → given ≡ Some (home_with left log.names parts stores))
-    → off ≡ option_map (powered pick) given
-    → ((holding : Holding) → given ≡ Some holding → AreWholeStores holding)
-    → ¬ (IfSome off (λ holding. IsRefusedFor holding.parts why))
-never_refused fits_so good_so read_so power_so history held failed basis descriptors calls log outcome pick left given off why run long gives powers whole refused =
-    let left_open = outcome.left.items in
-    let devices = devices_held history held descriptors log run.pieces run.next basis.files left_open run.here in
-    let before = home_with left log.names devices.parts devices.stores in
-    let after = powered pick before in
-    let given_is : given ≡ Some before = gives devices.parts devices.stores devices.parts_are devices.stores_are in
-    let off_is : off ≡ Some after = powers ∙ ap (option_map (powered pick)) given_is in
-    let image = (power_so pick before (whole before given_is)).0 in
-    let Long : List Room → Type 0 = λ rooms. HasLines version_1 log.geometry.page log.geometry.entries rooms in
-    let long_before : Long (rooms_of devices.parts) =
-    row_tells_at (map history log.parts.items) (λ parts. HasLines version_1 log.geometry.page log.geometry.entries (rooms_of parts)) devices.parts devices.parts_are long in
-    not_refused fits_so good_so read_so log after.parts
-    (fitting_at history held descriptors log run.pieces run.next basis.files left_open devices.parts (row_words after.parts) devices.parts_are image.parts run.here)
-    (subst Long (sym (powered_rooms (draws_of pick) devices.parts)) long_before)
-    why (at_some off (λ holding. IsRefusedFor holding.parts why) after off_is refused)
+whole_named : (names : List (List ℕ)) (disks : List Store) → length names ≡ length disks → All (λ (named : NamedStore). IsWholeStore named.store) (named_stores names disks) → All IsWholeStore disks
+whole_named names [] long all = All-nil IsWholeStore
+whole_named [] (store ∷ disks) long all = absurd (omega (arith, long))
+whole_named (name ∷ names) (store ∷ disks) long all =
+    let Whole : NamedStore → Type 0 = λ named. IsWholeStore named.store in
+    let first : NamedStore = record { name = name; store = store } in
+    All-cons IsWholeStore store disks (All-head Whole first (named_stores names disks) all) (whole_named names disks (omega (arith, long)) (All-tail Whole first (named_stores names disks) all))
+
+-- ---- a run that was stopped
+
+module _ (basis : Basis) (trace : Traced) (mount : MountState) (pass zero : PassState) (plan : Plan) (sorted : SortedCalls) (part_values store_values : List Value)
+    (parts : List lines.PartHistory) (held : List stores.StoreHistory) (faults placed tail : ℕ)
+    (run : HasRunToClose basis trace mount pass zero plan sorted part_values store_values parts held faults placed tail)
+    (power_so : PowerLeavesAnImage) (good_so : FittingHasNoBad) (read_so : ReadIsNotRefused) (each_so : EachPartHasOne)
+    (many_parts : 1 + mount.board.opened.sizes.entries ≤ length parts) (many : length held ≡ mount.board.opened.sizes.files) (pick : Pick) (left : Holding) (given off : Option Holding)
+    (gives : (now : List Part) (disks : List Store) → AreNow parts now → AreNow held disks → given ≡ Some (home_with left basis.names now disks))
+    (powers : off ≡ option_map (powered pick) given) (whole : (holding : Holding) → given ≡ Some holding → AreWholeStores holding) where
+  slots_long : (states : List Part) → AreNow parts states → HasLines version_1 zero.view.opened.sizes.page zero.view.opened.sizes.entries (rooms_of states)
+  slots_long states are =
+      let same : zero.view.opened.sizes.entries ≡ mount.board.opened.sizes.entries =
+      ap (λ (o : Opened). o.sizes.entries) (same_opened basis trace mount pass zero plan sorted part_values store_values parts held faults placed tail run) in
+      let long : HasLongParts (mount_of zero.view.opened) =
+      subst (λ (o : Opened). HasLongParts (mount_of o)) (sym (same_opened basis trace mount pass zero plan sorted part_values store_values parts held faults placed tail run)) run.begins.long in
+      have_lines zero.view.opened.sizes.page zero.view.opened.sizes.entries states (omega (arith, many_parts, same, length_now parts states are))
+      (λ slot least. run.closed.lines long slot (get_or states slot []) least (each_so parts states slot are (omega (arith, many_parts, same, least))))
+
+  pub never_refused : (why : Refusal) → ¬ (IfSome off (λ holding. IsRefusedFor holding.parts why))
+  never_refused why refused =
+      let tell = all_told basis trace mount pass zero plan sorted part_values store_values parts held faults placed tail run in
+      let states = present parts tell.0 in
+      let disks = present held tell.1 in
+      let before = home_with left basis.names states.states disks.states in
+      let after = powered pick before in
+      let given_is : given ≡ Some before = gives states.states disks.states states.are disks.are in
+      let off_is : off ≡ Some after = powers ∙ ap (option_map (powered pick)) given_is in
+      let all_whole = whole before given_is in
+      let image = (power_so pick before all_whole).0 in
+      let long : length basis.names ≡ length disks.states = run.begins.is_mount.names ∙ sym many ∙ sym (length_now held disks.states disks.are) in
+      let each_whole : All IsWholeStore disks.states =
+      whole_named basis.names disks.states long (all_right (λ (named : NamedStore). IsWholeStore named.store) left.stores (named_stores basis.names disks.states) all_whole) in
+      let left_whole =
+      leaves basis trace mount pass zero plan sorted part_values store_values parts held faults placed tail run states.states disks.states states.are disks.are
+      (row_words after.parts) (record { contents = map (λ (store : Store). store.durable) disks.states }) image.parts (durable_images disks.states each_whole) in
+      let Long : List Room → Type 0 = λ rooms. HasLines version_1 zero.view.opened.sizes.page zero.view.opened.sizes.entries rooms in
+      not_refused good_so read_so zero.view.opened.sizes.page zero.view.opened.sizes.entries _ basis.names after.parts left_whole.header left_whole.fits
+      (subst Long (sym (powered_rooms (draws_of pick) states.states)) (slots_long states.states states.are))
+      why (at_some off (λ holding. IsRefusedFor holding.parts why) after off_is refused)

@@ -100,6 +100,8 @@ options_allowed rows options is =
     let pages = and_then_some _ (number_or 64 1 1024 (first_of (codes "pages") rows)) options batch.2 in
     let stop = and_then_some _ (stop_in (first_of (codes "stop") rows)) options pages.2 in
     let image = map_some _ (image_in (first_of (codes "image") rows)) options stop.2 in
+    let cached = option_between 4 1 16384 (first_of (codes "cache") rows) cache.0 (omega arith) (omega arith) cache.1 in
+    let batched = option_between 4 1 1024 (first_of (codes "batch") rows) batch.0 (omega arith) (omega arith) batch.1 in
     let files = option_between 64 1 1024 (first_of (codes "pages") rows) pages.0 (omega arith) (omega arith) pages.1 in
     let Allowed : RunOptions → Type 0 = λ options. AreInLimits options × IfSome options.stop (λ k. 1 ≤ k) in
     subst Allowed image.2 (
@@ -108,6 +110,10 @@ options_allowed rows options is =
         entries = entries_allowed (first_of (codes "entries") rows) entries.0 entries.1;
         some_pages = files.0;
         few_pages = files.1;
+        some_cache = cached.0;
+        few_cache = cached.1;
+        some_batch = batched.0;
+        few_batch = batched.1;
       },
       stop_counts (first_of (codes "stop") rows) stop.0 stop.1,
     )

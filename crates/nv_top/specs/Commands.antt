@@ -1,5 +1,5 @@
 -- Commands: what each makes of a bench.
-use Rattle.std.specs.Prelude.{◌≡◌, ℕ, Bool, true, false, List, [], length, Option}
+use Rattle.std.specs.Prelude.{◌≡◌, ℕ, Bool, true, false, List, [], length, Option, Some, None}
 use Rattle.nv_plain.specs.Layouts.{version_1}
 use Rattle.nv_plain.specs.Recovered.{Fits, recovered}
 use Rattle.nv_pmem.specs.Rows.{row_words}
@@ -15,10 +15,11 @@ use Rattle.nv_open.specs.Looking.{ShowsFiles, ShowsRegion, names_until, told_by}
 use Rattle.nv_open.specs.Refusals.{AreLong, CanBeRead, IsBadHeader, IsRefusedFor}
 use Rattle.nv_recover.specs.Standing.{files_of}
 use Rattle.nv_trace.specs.Traced.{Traced}
-use Rattle.nv_top.specs.Faithful.{Basis, IsFaithful, files_shown, named}
+use Rattle.nv_runner.specs.Faithful.{Basis, IsFaithful, files_shown, named}
+use Rattle.nv_runner.specs.Reports.{Report}
 use Rattle.nv_top.specs.Leaving.{Leaves}
 use Rattle.nv_top.specs.Readings.{HavePlainNames}
-use Rattle.nv_top.specs.Reports.{RecoveryReport, Report, recovery_text, report_text}
+use Rattle.nv_top.specs.Reports.{RecoveryReport, recovery_text, report_text}
 use Rattle.nv_top.specs.declared.words.RunOptions.{RunOptions}
 
 -- the bench is as it was, but for what it holds and its count of faults
@@ -51,10 +52,10 @@ pub record HasRunOn (options : RunOptions) (holding : Holding) (told : Option Ho
   pub basis : Basis
   pub begun : IsBasis options holding trace.names basis
   pub report : Report
-  pub faithful : IsFaithful ⊥ basis trace report
+  pub faithful : IsFaithful ⊥ options.worker basis trace report
   pub plain : HavePlainNames report.files
   pub text_is : text ≡ report_text report
-  pub left : Leaves basis.names (files_shown basis trace report) holding told
+  pub left : Leaves (Some begun.geometry) basis.names (files_shown basis trace report) holding told
 
 -- ---- a recovery
 
@@ -79,7 +80,7 @@ pub record HasRecovered (holding : Holding) (told : Option Holding) (text : List
   pub fits : Fits version_1 (row_words holding.parts)
   pub plain : HavePlainNames (recovery_of holding).files
   pub text_is : text ≡ recovery_text (recovery_of holding)
-  pub left : Leaves (header_names holding.parts) (files_named holding.parts (header_names holding.parts) holding.stores) holding told
+  pub left : Leaves None (header_names holding.parts) (files_named holding.parts (header_names holding.parts) holding.stores) holding told
 
 -- ---- a look
 

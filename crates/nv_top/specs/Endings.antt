@@ -6,7 +6,7 @@ use Rattle.nv_top.specs.RegionTexts.{region_text}
 use Rattle.nv_trace.specs.declared.bad_line.BadLine.{BadLine}
 use Rattle.nv_trace.specs.declared.bad_line.Why.{Why}
 use Rattle.nv_trace.specs.declared.bad_line.Why.TheVariants.{Long as LongLine, Bytes, Form, Late, Number, Name, Mode, Hex, Many, Repeat, Unknown}
-use Rattle.nv_trace.specs.declared.trace.Form.TheVariants.{Alone}
+use Rattle.nv_trace.specs.declared.trace.Form.TheVariants.{Run}
 use Rattle.nv_trace.specs.Streams.{Appends}
 use Rattle.nv_trace.specs.Traced.{Traced}
 use Rattle.nv_trace.specs.Reading.{Ending, Whole, Bad, Long, ending_of}
@@ -60,7 +60,7 @@ input_line Long = long_line
 
 -- an input that is a trace
 abbrev pub IsTrace : List ℕ → Type 0
-IsTrace input = (trace : Traced) × (ending_of Alone input ≡ Whole trace)
+IsTrace input = (trace : Traced) × (ending_of Run input ≡ Whole trace)
 
 -- a line that says why there is no report
 abbrev pub IsErrorLine : List ℕ → Type 0

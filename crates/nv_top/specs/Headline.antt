@@ -12,7 +12,7 @@ use Rattle.nv_trace.specs.Reading.{ending_of, Whole}
 use Rattle.nv_trace.specs.declared.trace.Form.TheVariants as forms
 use Rattle.nv_trace.specs.Traced.{Traced}
 use Rattle.nv_top.specs.Commands.{HasLooked, HasRecovered, HasRunOn, IsBasis, IsGivenBack, IsLookedAt, IsNotRun, IsNotShown}
-use Rattle.nv_top.specs.Faithful.{Basis}
+use Rattle.nv_runner.specs.Faithful.{Basis}
 use Rattle.nv_top.specs.Stopping.{HasStoppedOn, IsPoweredBack}
 use Rattle.nv_top.specs.Words.{command_of}
 use Rattle.nv_top.specs.declared.words.Command.{Command}
@@ -53,7 +53,7 @@ expected_faults old new = max old.faults new.settled
 pub record HasStopped (failed : Type 0) (options : RunOptions) (holding : Holding) (bench : BenchState) (trace : Traced) (text : List ℕ) : Type 0 where
   pub basis : Basis
   pub begun : IsBasis options holding trace.names basis
-  pub stopped : HasStoppedOn failed basis trace bench text
+  pub stopped : HasStoppedOn failed options.worker basis trace bench text
 
 -- what the report of a run of a trace, stopped or not, shows of a bench that held this
 abbrev pub IsShownOf : (stop : Option ℕ) → RunOptions → (old new : BenchState) → Holding → Traced → (text : List ℕ) → Type 0
@@ -63,7 +63,7 @@ IsShownOf (Some k) options old new holding trace text = HasStopped (Rose old.fau
 -- what the report of a command shows of a bench that held this, and of the input that it had
 abbrev pub IsShown : Command → (input : Option (List ℕ)) → (old new : BenchState) → Holding → (text : List ℕ) → Type 0
 IsShown (Run options) input old new holding text =
-    IfSome input (λ input. (trace : Traced) × (ending_of forms.Alone input ≡ Whole trace) × IsShownOf options.stop options old new holding trace text)
+    IfSome input (λ input. (trace : Traced) × (ending_of forms.Run input ≡ Whole trace) × IsShownOf options.stop options old new holding trace text)
 IsShown Recover input old new holding text = HasRecovered holding new.told text
 IsShown (Look files) input old new holding text = HasLooked files holding text
 
@@ -74,6 +74,6 @@ IsRegionUnwritten old new why = ¬ (why ≡ refusals.TooManyFiles) → new.told 
 -- why a command is refused by the region of a bench that held this, and what it leaves of it
 abbrev pub IsCommandRefused : Command → (input : Option (List ℕ)) → (old new : BenchState) → Holding → Refusal → Type 0
 IsCommandRefused (Run options) input old new holding why =
-    IfSome input (λ input. (trace : Traced) × (ending_of forms.Alone input ≡ Whole trace) × IsNotRun options holding trace.names why × IsRegionUnwritten old new why)
+    IfSome input (λ input. (trace : Traced) × (ending_of forms.Run input ≡ Whole trace) × IsNotRun options holding trace.names why × IsRegionUnwritten old new why)
 IsCommandRefused Recover input old new holding why = IsRefusedFor holding.parts why × IsRegionUnwritten old new why
 IsCommandRefused (Look files) input old new holding why = IsNotShown files holding why

@@ -1,11 +1,13 @@
 -- Leaving: what a command leaves on its devices.
-use Rattle.std.specs.Prelude.{◌≡◌, ℕ, List, ◌++◌, map, Option, Some}
+use Rattle.std.specs.Prelude.{◌≡◌, ℕ, List, ◌++◌, length, map, Option, Some}
 use Rattle.nv_plain.specs.Files.{Files}
 use Rattle.nv_plain.specs.Layouts.{version_1}
 use Rattle.nv_pmem.specs.Part.{Part}
 use Rattle.nv_pmem.specs.RowStates.{AreNow}
 use Rattle.nv_pmem.specs.Steps as lines
+use Rattle.nv_pmem.specs.declared.geometry.Geometry.{Geometry}
 use Rattle.nv_bench.specs.Holding.{Holding, named_stores}
+use Rattle.nv_bench.specs.Opening.{opened}
 use Rattle.nv_header.specs.Regions.{IsAtRest}
 use Rattle.nv_open.specs.Lending.{without_stores}
 use Rattle.nv_store.specs.Steps as stores
@@ -25,20 +27,21 @@ pub record AreLeft {X Y : Type 0} (history : X → lines.PartHistory) (held : Y 
   pub files_are : files_of disks ≡ files
   pub synced : AreQuietStores disks
 
--- What a bench holds at the end: a region with these names, at rest with an empty log; the stores of these names, which hold these
--- files, durable; and the other stores, as they were.
-pub record IsLeft (names : List (List ℕ)) (files : Files) (was now : Holding) : Type 0 where
+-- What a bench holds at the end: a region with these names, at rest with an empty log, which has as many parts as it had when it was opened,
+-- where this geometry was wanted of a blank one; the stores of these names, which hold these files, durable; and the other stores, as they were.
+pub record IsLeft (want : Option Geometry) (names : List (List ℕ)) (files : Files) (was now : Holding) : Type 0 where
   pub page : ℕ
   pub entries : ℕ
   pub next : ℕ
   pub rest : IsAtRest version_1 page entries names next now.parts
+  pub many : length now.parts ≡ length (opened want was.parts)
   pub disks : List Store
   pub stores_are : now.stores ≡ without_stores names was.stores ++ named_stores names disks
   pub files_are : files_of disks ≡ files
   pub synced : AreQuietStores disks
 
 -- a bench tells that it holds that
-pub record Leaves (names : List (List ℕ)) (files : Files) (was : Holding) (told : Option Holding) : Type 0 where
+pub record Leaves (want : Option Geometry) (names : List (List ℕ)) (files : Files) (was : Holding) (told : Option Holding) : Type 0 where
   pub now : Holding
   pub told_is : told ≡ Some now
-  pub left : IsLeft names files was now
+  pub left : IsLeft want names files was now

@@ -1,15 +1,10 @@
 pub mod Words
 pub mod RegionTexts
-pub mod Early
 pub mod Endings
 pub mod Reports
 pub mod Readings
-pub mod Faithful
 pub mod Runs
-pub mod Answers
 pub mod Leaving
-pub mod LogRuns
-pub mod Attempts
 pub mod Fates
 pub mod Outcomes
 pub mod Stopping

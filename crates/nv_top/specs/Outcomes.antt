@@ -1,44 +1,33 @@
 -- Outcomes: what contracts see of the calls of a run.
 use Rattle.std.specs.Prelude.{ℕ, List, map}
-use Rattle.nv_trace.specs.declared.trace_call.TracedCall.{TracedCall}
-use Rattle.nv_top.specs.Faithful.{named}
-use Rattle.nv_top.specs.Reports.{PlacedCall, RefusedCall, OpenCall, Report}
-use Rattle.nv_top.specs.declared.outcome.Placed.{Placed}
-use Rattle.nv_top.specs.declared.outcome.Refused.{Refused}
-use Rattle.nv_top.specs.declared.outcome.Left.{Left}
-use Rattle.nv_top.specs.declared.outcome.Open.{Open}
-use Rattle.nv_top.specs.declared.outcome.Outcome.{Outcome}
+use Rattle.nv_plain.specs.Files.{Files}
+use Rattle.nv_runner.specs.declared.shown.Shown.{Shown}
+use Rattle.nv_runner.specs.declared.sorted.Placed.{Placed}
+use Rattle.nv_runner.specs.declared.sorted.SortedCalls.{SortedCalls}
+use Rattle.nv_runner.specs.Faithful.{named}
+use Rattle.nv_runner.specs.FaithfulRuns.{shown_call, shown_refusals}
+use Rattle.nv_runner.specs.Reports.{OpenCall, Report}
+use Rattle.nv_runner.specs.Sorted.{placed_call, refused_call}
+use Rattle.nv_top.specs.declared.outcome.Fated.{Fated}
 
--- a placed call, without where it lies in memory
-abbrev pub placed_call : Placed → PlacedCall
-placed_call placed = record { call = placed.call.now; reply = placed.reply }
+-- a call that was left open with its fate, without where it lies in memory
+abbrev pub fated_call : Fated → OpenCall
+fated_call fated = record { call = fated.call.now; fate = fated.fate }
 
-abbrev pub placed_outcomes : Outcome → List PlacedCall
-placed_outcomes outcome = map placed_call outcome.placed.items
-
--- a refused call, without where it lies in memory
-abbrev pub refused_call : Refused → RefusedCall
-refused_call refused = record { call = refused.call.now; refusal = refused.refusal }
-
-abbrev pub refused_calls : Outcome → List RefusedCall
-refused_calls outcome = map refused_call outcome.refused.items
-
--- a call that was left open
-abbrev pub left_call : Left → TracedCall
-left_call left = left.call.now
-
-abbrev pub left_calls : Outcome → List TracedCall
-left_calls outcome = map left_call outcome.left.items
-
--- an open call, without where it lies in memory
-abbrev pub open_call : Open → OpenCall
-open_call o = record { call = o.call.now; fate = o.fate }
-
--- the report of a run
-abbrev pub report_of : Outcome → List Open → (names contents : List (List ℕ)) → Report
-report_of outcome unanswered names contents = record {
-  history = placed_outcomes outcome;
-  refused = refused_calls outcome;
-  open_calls = map open_call unanswered;
+-- the report that lists these
+abbrev pub report_of : List Placed → List Shown → List Fated → (names contents : List (List ℕ)) → Report
+report_of placed shown fated names contents = record {
+  history = map placed_call placed;
+  refused = map shown_call shown;
+  open_calls = map fated_call fated;
   files = named names (record { contents = contents });
+}
+
+-- the report of the sorted calls of a run, of which those that were left open have these fates, and these files
+abbrev pub shown_report : SortedCalls → List OpenCall → (names : List (List ℕ)) → Files → Report
+shown_report sorted open_calls names files = record {
+  history = map placed_call sorted.placed.items;
+  refused = shown_refusals (map refused_call sorted.refused.items);
+  open_calls = open_calls;
+  files = named names files;
 }

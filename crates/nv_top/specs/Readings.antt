@@ -4,7 +4,9 @@ use Rattle.std.specs.Fmt.{decimal}
 use Rattle.nv_trace.specs.declared.report.Refusal.{Refusal}
 use Rattle.nv_trace.specs.declared.report.Refusal.TheVariants.{BadDescriptor, TooFar, TooLong, Stopped, Spent, Again, RegionFault, StoreFault}
 use Rattle.nv_trace.specs.Report.{call_fields, reply_text, fate_text, hex_text}
-use Rattle.nv_top.specs.Reports.{PlacedCall, RefusedCall, OpenCall, NamedFile, Report, RecoveryReport, report_text, recovery_text}
+use Rattle.nv_runner.specs.Histories.{PlacedCall}
+use Rattle.nv_runner.specs.Reports.{NamedFile, OpenCall, Report, ShownRefusal}
+use Rattle.nv_top.specs.Reports.{RecoveryReport, report_text, recovery_text}
 
 -- a text behind the last of some fields
 abbrev pub behind_last : List (List ℕ) → List ℕ → List (List ℕ)
@@ -34,7 +36,7 @@ history_listing place [] = []
 history_listing place (placed ∷ later) = placed_fields place placed ∷ history_listing (place + 1) later
 
 -- the fields of a refused call's line
-abbrev pub refused_fields : RefusedCall → List (List ℕ)
+abbrev pub refused_fields : ShownRefusal → List (List ℕ)
 refused_fields refused =
     codes "refused" ∷ decimal refused.call.thread
     ∷ (behind_last (call_fields refused.call.call) (codes ":") ++ refusal_fields refused.refusal)

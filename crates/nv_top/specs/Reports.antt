@@ -1,38 +1,9 @@
--- Reports: what one lists, and its text.
+-- Reports: the text of one, and what that of a recovery lists.
 use Rattle.std.specs.Prelude.{ℕ, ◌+◌, List, [], ◌∷◌, ◌++◌, length}
 use Rattle.std.specs.List.{flat_map}
-use Rattle.nv_plain.specs.declared.call.Reply.{Reply}
-use Rattle.nv_trace.specs.declared.trace_call.TracedCall.{TracedCall}
-use Rattle.nv_trace.specs.declared.report.Fate.{Fate}
-use Rattle.nv_trace.specs.declared.report.Refusal.{Refusal}
 use Rattle.nv_trace.specs.Report.{history_text, refused_text, open_text, recovered_text, file_text, end_text}
-
--- a call of the trace in its place, with its reply
-pub record PlacedCall : Type 0 where
-  pub call : TracedCall
-  pub reply : Reply
-
--- a call of the trace that was refused, and why
-pub record RefusedCall : Type 0 where
-  pub call : TracedCall
-  pub refusal : Refusal
-
--- a call of the trace that was left open, and what the recovery after it made of it
-pub record OpenCall : Type 0 where
-  pub call : TracedCall
-  pub fate : Fate
-
--- a file's name and bytes
-pub record NamedFile : Type 0 where
-  pub name : List ℕ
-  pub bytes : List ℕ
-
--- What the report of a run lists: the placed calls in the order of their places, the refused ones, those left open, and the files.
-pub record Report : Type 0 where
-  pub history : List PlacedCall
-  pub refused : List RefusedCall
-  pub open_calls : List OpenCall
-  pub files : List NamedFile
+use Rattle.nv_runner.specs.Histories.{PlacedCall}
+use Rattle.nv_runner.specs.Reports.{NamedFile, OpenCall, Report, ShownRefusal}
 
 -- What the report of a recovery lists: its first number, the one that the region goes on with, how many groups, and the files.
 pub record RecoveryReport : Type 0 where
@@ -47,7 +18,7 @@ history_lines place [] = []
 history_lines place (placed ∷ later) =
     history_text place placed.call.thread placed.call.call placed.reply ++ history_lines (place + 1) later
 
-abbrev pub refused_lines : List RefusedCall → List ℕ
+abbrev pub refused_lines : List ShownRefusal → List ℕ
 refused_lines refused = flat_map (λ r. refused_text r.call.thread r.call.call r.refusal) refused
 
 abbrev pub open_lines : List OpenCall → List ℕ

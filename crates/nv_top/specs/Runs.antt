@@ -1,37 +1,51 @@
--- Runs: how far a run has come.
-use Rattle.std.specs.Prelude.{◌≡◌, ℕ, ◌+◌, ◌<◌, ◌≤◌, List, ◌++◌, map, All, None, IsPermutation}
-use Rattle.std.specs.List.Sorted.{IsStrictlyIncreasing}
+-- Runs: what one over a region begins with, and what it leaves.
+use Rattle.std.specs.Prelude.{◌≡◌, ℕ, Bool, List, All}
+use Rattle.nv_pmem.specs.Images.{IsQuietPart}
+use Rattle.nv_pmem.specs.Part.{Part}
+use Rattle.nv_pmem.specs.Steps as lines
+use Rattle.nv_store.specs.Steps as stores
+use Rattle.nv_header.specs.declared.region.Region.{Region}
 use Rattle.nv_plain.specs.Files.{Files}
-use Rattle.nv_plain.specs.Histories.{IsLegal, after}
-use Rattle.nv_trace.specs.declared.trace.Descriptor.{Descriptor}
-use Rattle.nv_trace.specs.declared.trace_call.TracedCall.{TracedCall}
-use Rattle.nv_top.specs.Faithful.{Basis, IsAllowedRefusal, IsLeftOpen, barred, entries_of, history_of, lines_of}
-use Rattle.nv_top.specs.Reports.{PlacedCall, RefusedCall}
+use Rattle.nv_core.specs.crash.CrashImages.{OpensRegion}
+use Rattle.nv_core.specs.log.Written.{IsPart}
+use Rattle.nv_core.specs.state.Values.{Value}
+use Rattle.nv_table.specs.state.Opened.{mount_of}
+use Rattle.nv_table.specs.state.States.{PassState}
+use Rattle.nv_mount.specs.Mounts.{MountState}
+use Rattle.nv_mount.specs.Telling.{HasLongParts, IsTelling}
+use Rattle.nv_trace.specs.Traced.{Traced}
+use Rattle.nv_runner.specs.Faithful.{Basis, IsFaithful, files_shown}
+use Rattle.nv_runner.specs.FaithfulRuns.{IsMountOf}
+use Rattle.nv_runner.specs.Reports.{Report}
+use Rattle.nv_top.specs.Leaving.{AreLeft}
+use Rattle.nv_top.specs.Readings.{HavePlainNames}
+use Rattle.nv_top.specs.Reports.{report_text}
 
--- the calls that drew entries: those in their places, and those left open
-abbrev pub drawing : List PlacedCall → (left : List TracedCall) → List TracedCall
-drawing placed left = map (λ p. p.call) placed ++ left
+-- the basis that a region is, with files of so many pages, and with these
+abbrev pub basis_over : {L : Type 0} {g : _} → Region L g → (pages : ℕ) → Files → Basis
+basis_over region pages files = record {
+  sizes = record { page = region.geometry.page; entries = region.geometry.entries; pages = pages };
+  names = region.names;
+  files = files;
+  next = region.next;
+}
 
--- all calls that were made
-abbrev pub listed : List PlacedCall → List RefusedCall → (left : List TracedCall) → List TracedCall
-listed placed refused left = map (λ p. p.call) placed ++ map (λ r. r.call) refused ++ left
+-- it shows a part that tells, and is quiet
+abbrev pub IsQuietSpare : Value → Type 0
+IsQuietSpare value = (part : Part) × IsPart value part × IsQuietPart part
 
--- How far a run from a basis has come: these calls were made, by one thread, on descriptors of these files. The log goes on with
--- this number, and these are the files now. Devices failed only where this says so.
-pub record AreMade (failed : Type 0) (basis : Basis) (descriptors : List Descriptor) (calls : List TracedCall) (head : ℕ) (now : Files) (placed : List PlacedCall)
-    (refused : List RefusedCall) (left : List TracedCall) : Type 0 where
-  pub legal : IsLegal (history_of descriptors placed) basis.files
-  pub files : now ≡ after (history_of descriptors placed) basis.files
-  pub each_once : IsPermutation (listed placed refused left) calls
-  pub in_order : (thread : ℕ) → IsStrictlyIncreasing (lines_of thread (map (λ p. p.call) placed))
-  pub refused_in_order : IsStrictlyIncreasing (map (λ r. r.call.line) refused)
-  pub open_in_order : IsStrictlyIncreasing (map (λ call. call.line) left)
-  pub allowed : All (λ r. IsAllowedRefusal failed basis descriptors (drawing placed left) r.call r.refusal) refused
-  pub not_barred : All (λ call. barred basis.sizes descriptors call.call ≡ None) (map (λ p. p.call) placed)
-  pub left_open : All (IsLeftOpen failed basis descriptors) left
-  pub drawn : head ≡ basis.next + entries_of basis.sizes (drawing placed left)
-  pub room : head ≤ basis.next + basis.sizes.entries
+-- A mount and its pass 0 begin a run of the trace from this basis, whose names are those of the region. All devices tell, and the parts of the header and of the entries have their lines.
+pub record BeginsMount (basis : Basis) (trace : Traced) (mount : MountState) (pass : PassState) : Type 0 where
+  pub is_mount : IsMountOf basis trace mount.board.opened mount.fds
+  pub region : OpensRegion (mount_of mount.board.opened) basis.names
+  pub spare : All IsTelling pass.spare
+  pub long : HasLongParts (mount_of mount.board.opened)
 
--- a call's line comes after those of all of these
-abbrev pub IsAfterAll : List TracedCall → TracedCall → Type 0
-IsAfterAll calls call = All (λ earlier. earlier.line < call.line) calls
+-- A trace was run from a basis, with a worker or not, by which no device failed: the text is that of a faithful report, and the devices
+-- are left with the files that it shows.
+pub record HasRunOver {X Y : Type 0} (history : X → lines.PartHistory) (held : Y → stores.StoreHistory) (worker : Bool) (basis : Basis) (trace : Traced) (text : List ℕ) (parts : List X) (backing : List Y) : Type 0 where
+  pub report : Report
+  pub faithful : IsFaithful ⊥ worker basis trace report
+  pub plain : HavePlainNames report.files
+  pub text_is : text ≡ report_text report
+  pub left : AreLeft history held basis.names (files_shown basis trace report) parts backing

@@ -1,5 +1,6 @@
 -- Stopping: a run that is stopped at a device call, and what it leaves.
-use Rattle.std.specs.Prelude.{◌≡◌, ℕ, ◌+◌, ◌≤◌, false, List, [], ◌++◌, length, All, Option, Some, Result, Ok, Err}
+use Rattle.std.specs.Prelude.{◌≡◌, ℕ, ◌+◌, ◌≤◌, Bool, false, List, [], ◌++◌, All, Option, Some, Result, Ok, Err}
+use Rattle.std.specs.List.{AllZip}
 use Rattle.nv_plain.specs.Faults.{Rose}
 use Rattle.nv_plain.specs.Files.{Files}
 use Rattle.nv_plain.specs.Layouts.{version_1}
@@ -16,13 +17,14 @@ use Rattle.nv_recover.specs.Recovering.{HasFoundAll}
 use Rattle.nv_recover.specs.declared.recovering.Recovered as recover
 use Rattle.nv_trace.specs.Traced.{Traced}
 use Rattle.nv_trace.specs.declared.report.Fate.{Fate}
-use Rattle.nv_top.specs.Faithful.{Basis, IsFaithful, entries_of, files_shown, placed_calls}
+use Rattle.nv_runner.specs.Faithful.{Basis, IsFaithful, files_shown}
 use Rattle.nv_top.specs.Fates.{fate_of, fated_report}
 use Rattle.nv_top.specs.Readings.{HavePlainNames}
-use Rattle.nv_top.specs.Reports.{Report, report_text}
+use Rattle.nv_runner.specs.Reports.{OpenCall, Report}
+use Rattle.nv_top.specs.Reports.{report_text}
 use Rattle.nv_top.specs.declared.ending.Stop.{Stop}
 use Rattle.nv_top.specs.declared.ending.Stop.TheVariants.{Usage, BadLine, InputLong, Read, Device, Region, NoMemory}
-use Rattle.nv_top.specs.declared.outcome.Outcome.{Outcome}
+use Rattle.nv_runner.specs.declared.sorted.SortedCalls.{SortedCalls}
 
 -- the bench is as it was, but for what it tells and its count of faults
 abbrev pub IsBack : (old new : BenchState) → Type 0
@@ -81,16 +83,12 @@ pub record RestsWith (names : List (List ℕ)) (files : Files) (told : Option Ho
   pub synced : AreQuietStores disks
 
 -- The text is that of a report of what a recovery made of a bench that held this, and the bench rests with the files shown.
-pub record ShowsRecovered (holding : Holding) (outcome : Outcome) (told : Option Holding) (text : List ℕ) : Type 0 where
+pub record ShowsRecovered (holding : Holding) (sorted : SortedCalls) (told : Option Holding) (text : List ℕ) : Type 0 where
   pub found : recover.Recovered
   pub log : HasFoundAll (row_words holding.parts) found
-  pub text_is : text ≡ report_text (fated_report outcome found (header_names holding.parts)
+  pub text_is : text ≡ report_text (fated_report sorted found (header_names holding.parts)
       (files_named holding.parts (header_names holding.parts) holding.stores))
   pub left : RestsWith (header_names holding.parts) (files_named holding.parts (header_names holding.parts) holding.stores) told
-
--- the number that a write drew which was left open: the first one of the run that no placed call took
-abbrev pub open_number : Basis → Report → ℕ
-open_number basis report = basis.next + entries_of basis.sizes (placed_calls report)
 
 -- the fate of a write that drew this number, by what the log recovers to that stands in these parts
 abbrev pub fate_in : List Part → Files → ℕ → Fate
@@ -98,19 +96,23 @@ fate_in parts files number =
     let log = recovered (row_words parts) files in
     fate_of log.first log.groups number
 
--- At most one write was left open, and it is kept or lost as the log says that stands in these parts.
-pub record IsFatedCall (basis : Basis) (parts : List Part) (report : Report) : Type 0 where
-  pub fates : All (λ o. o.fate ≡ fate_in parts basis.files (open_number basis report)) report.open_calls
-  pub at_most_one : length report.open_calls ≤ 1
+-- a number that a write drew, and its fate: it is no lower than the first number that the log recovers to that stands in these parts, which says what became of the write
+abbrev pub HasFate : List Part → Files → ℕ → OpenCall → Type 0
+HasFate parts files number o = ((recovered (row_words parts) files).first ≤ number) × (o.fate ≡ fate_in parts files number)
+
+-- Each write that was left open drew a number, by which it is kept or lost as the log says that stands in these parts.
+pub record HaveFates (basis : Basis) (parts : List Part) (report : Report) : Type 0 where
+  pub numbers : List ℕ
+  pub each : AllZip (HasFate parts basis.files) numbers report.open_calls
 
 -- The text is that of a faithful report of a run of the trace, whose fates are those of the parts as power left them, and the bench rests
 -- with the files that it shows.
-pub record HasStoppedOn (failed : Type 0) (basis : Basis) (trace : Traced) (bench : BenchState) (text : List ℕ) : Type 0 where
+pub record HasStoppedOn (failed : Type 0) (worker : Bool) (basis : Basis) (trace : Traced) (bench : BenchState) (text : List ℕ) : Type 0 where
   pub report : Report
-  pub faithful : IsFaithful failed basis trace report
+  pub faithful : IsFaithful failed worker basis trace report
   pub plain : HavePlainNames report.files
   pub text_is : text ≡ report_text report
   pub parts : List Part
   pub power_left : bench.left ≡ Some parts
-  pub fated : IsFatedCall basis parts report
+  pub fated : HaveFates basis parts report
   pub rests : RestsWith basis.names (files_shown basis trace report) bench.told

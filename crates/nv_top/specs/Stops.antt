@@ -1,15 +1,17 @@
 -- Stops: the status and the line of each.
-use Rattle.std.specs.Prelude.{◌≡◌, ◌⊎◌, ℕ, List, Result, Ok, Err}
+use Rattle.std.specs.Prelude.{◌≡◌, ◌⊎◌, ◌≤◌, ℕ, List, Result, Ok, Err}
 use Rattle.nv_plain.specs.Faults.{Rose}
-use Rattle.nv_engine.specs.declared.error.OpenError.{OpenError as LogError}
-use Rattle.nv_engine.specs.declared.error.OpenError.TheVariants as log_errors
+use Rattle.nv_mount.specs.declared.refusals.OpenError.{OpenError as MountError}
+use Rattle.nv_mount.specs.declared.refusals.OpenError.TheVariants as mount_errors
+use Rattle.nv_runner.specs.declared.run_error.RunError.{RunError}
+use Rattle.nv_runner.specs.declared.run_error.RunError.TheVariants as run_errors
 use Rattle.nv_open.specs.declared.error.OpenError.{OpenError}
 use Rattle.nv_open.specs.declared.error.Refusal.TheVariants as refusals
 use Rattle.nv_recover.specs.declared.error.RecoverError.{RecoverError}
 use Rattle.nv_recover.specs.declared.error.RecoverError.TheVariants as recover_errors
 use Rattle.nv_open.specs.declared.error.OpenError.TheVariants as open_errors
 use Rattle.nv_trace.specs.Reading.{ending_of, Bad, Long}
-use Rattle.nv_trace.specs.declared.trace.Form.TheVariants.{Alone}
+use Rattle.nv_trace.specs.declared.trace.Form.TheVariants.{Run}
 use Rattle.nv_trace.specs.declared.read_error.ReadError.{ReadError}
 use Rattle.nv_trace.specs.declared.read_error.ReadError.TheVariants as read_errors
 use Rattle.nv_top.specs.declared.words.WordsError.{WordsError}
@@ -55,10 +57,15 @@ stop_of_opening (open_errors.Refused refusal) = Region refusal
 stop_of_opening open_errors.Fault = Device
 stop_of_opening open_errors.NoMemory = NoMemory
 
--- why a log that wasn't opened stops it
-abbrev pub stop_of_log : LogError → Stop
-stop_of_log log_errors.StoreFault = Device
-stop_of_log log_errors.NoMemory = NoMemory
+-- why a mount that wasn't opened stops it
+abbrev pub stop_of_mount : MountError → Stop
+stop_of_mount mount_errors.StoreFault = Device
+stop_of_mount mount_errors.NoMemory = NoMemory
+
+-- why a run that wasn't brought to its end stops it
+abbrev pub stop_of_run : RunError → Stop
+stop_of_run run_errors.Fault = Device
+stop_of_run run_errors.NoMemory = NoMemory
 
 -- why a recovery that wasn't finished stops it
 abbrev pub stop_of_recovery : RecoverError → Stop
@@ -82,10 +89,24 @@ abbrev pub CountHasCause : {T : Type 0} → (before now : ℕ) → Result T Stop
 CountHasCause before now (Ok _) = now ≡ before
 CountHasCause before now (Err stop) = StopHasCause before now stop
 
+-- What a run may end for, while the count of faults doesn't fall: a device's fault, only where it rose, or want of memory.
+abbrev pub MayEndRun : (before now : ℕ) → Stop → Type 0
+MayEndRun before now Usage = ⊥
+MayEndRun before now (BadLine bad) = ⊥
+MayEndRun before now InputLong = ⊥
+MayEndRun before now Read = ⊥
+MayEndRun before now Device = Rose before now
+MayEndRun before now (Region refusal) = ⊥
+MayEndRun before now NoMemory = before ≤ now
+
+abbrev pub RunHasCause : {T : Type 0} → (before now : ℕ) → Result T Stop → Type 0
+RunHasCause before now (Ok _) = before ≤ now
+RunHasCause before now (Err stop) = MayEndRun before now stop
+
 -- what a stop says of the input: it ends at a bad line, or is too long
 abbrev pub IsCauseOf : Stop → List ℕ → Type 0
-IsCauseOf (BadLine bad) input = ending_of Alone input ≡ Bad bad
-IsCauseOf InputLong input = ending_of Alone input ≡ Long
+IsCauseOf (BadLine bad) input = ending_of Run input ≡ Bad bad
+IsCauseOf InputLong input = ending_of Run input ≡ Long
 IsCauseOf Usage input = Unit {0}
 IsCauseOf Read input = Unit {0}
 IsCauseOf Device input = Unit {0}

@@ -1,5 +1,5 @@
 -- Words: which words are which command.
-use Rattle.std.specs.Prelude.{ℕ, ◌≤◌, ◌-◌, ◌^◌, ◌%◌, Bool, ◌&&◌, ◌==◌, fold, length, if◌then◌else◌, List, [], ◌∷◌, Option, Some, None, option_map, option_and_then, codes, true, false}
+use Rattle.std.specs.Prelude.{ℕ, ◌≤◌, ◌-◌, ◌^◌, ◌%◌, Bool, ◌&&◌, ◌==◌, fold, length, if◌then◌else◌, List, [], ◌∷◌, Option, Some, None, option_map, option_and_then, codes, true, false, not}
 use Rattle.std.specs.List.{list_any}
 use Rattle.std.specs.Str.{bytes_eq}
 use Rattle.std.specs.Str.Parse.{digits_value, without_leading_plus}
@@ -17,9 +17,9 @@ use Rattle.nv_top.specs.declared.words.RunOptions.{RunOptions}
 
 -- ---- the options of a run, as `clap` reads them
 
--- `--noworker`, which has no value, and is needed
+-- `--noworker`, which has no value
 abbrev pub noworker_rule : Rule
-noworker_rule = record (new_rule (codes "noworker")) { long = Some (codes "noworker"); action = Some SetTrue; required = true }
+noworker_rule = record (new_rule (codes "noworker")) { long = Some (codes "noworker"); action = Some SetTrue }
 
 -- an option with a value, as `--stop 3` or `--stop=3`
 abbrev pub option_rule : List ℕ → Rule
@@ -58,6 +58,11 @@ if_lines page = if page % 64 == 0 then Some page else None
 abbrev pub page_of_words : List Row → Option ℕ
 page_of_words rows = option_and_then if_lines (number_or 64 64 4096 (first_of (codes "page") rows))
 
+-- a worker cleans the log meanwhile, unless `--noworker` is there
+abbrev pub worker_in : Option (List ℕ) → Bool
+worker_in None = true
+worker_in (Some text) = not (bytes_eq text (codes "true"))
+
 -- which device call a run is stopped at, if at all
 abbrev pub stop_in : Option (List ℕ) → Option (Option ℕ)
 stop_in None = Some None
@@ -77,7 +82,7 @@ abbrev pub options_in : List Row → Option RunOptions
 options_in rows =
     option_and_then (λ page. option_and_then (λ entries. option_and_then (λ cache. option_and_then (λ batch. option_and_then (λ pages.
     option_and_then (λ stop. option_map (λ image.
-    record { page = page; entries = entries; cache = cache; batch = batch; pages = pages; stop = stop; image = image })
+    record { page = page; entries = entries; cache = cache; batch = batch; pages = pages; worker = worker_in (first_of (codes "noworker") rows); stop = stop; image = image })
     (image_in (first_of (codes "image") rows)))
     (stop_in (first_of (codes "stop") rows)))
     (number_or 64 1 1024 (first_of (codes "pages") rows)))
@@ -86,12 +91,16 @@ options_in rows =
     (number_or 16 2 1024 (first_of (codes "entries") rows)))
     (page_of_words rows)
 
--- The sizes of a run are within the limits of a region and of a file.
+-- The sizes of a run are within the limits of a region and of a file, of a cache and of a batch.
 pub record AreInLimits (options : RunOptions) : Type 0 where
   pub page : IsPageSize options.page
   pub entries : IsEntryCount options.entries
   pub some_pages : 1 ≤ options.pages
   pub few_pages : options.pages ≤ version_1.page_limit
+  pub some_cache : 1 ≤ options.cache
+  pub few_cache : options.cache ≤ 16384
+  pub some_batch : 1 ≤ options.batch
+  pub few_batch : options.batch ≤ 1024
 
 -- ---- commands
 

@@ -24,7 +24,6 @@ ghost use Rattle.nv_top.specs.declared.words.Command.TheVariants as commands;
 ghost use Rattle.nv_top.specs.declared.words.WordsError.TheVariants as words_errors;
 
 use crate::ending::{DONE, Stop, say, say_stop};
-use crate::gate::Gate;
 use crate::looking::look;
 use crate::names::copy_names;
 use crate::recovery::recover;
@@ -34,6 +33,7 @@ use crate::words::{Command, RunOptions, WordsError, parse_command};
 use nv_bench::Bench;
 use nv_open::open;
 use nv_pmem::{Geometry, images_follow_calls};
+use nv_runner::Gate;
 use nv_trace::{Form, Sink, Source, Trace, read_trace};
 use std::alloc::Global;
 use std::sync::Wait;
@@ -89,7 +89,7 @@ pub fn nv_main<R: Threads + Wait + Sync, I: Source, O: Sink, B: Bench, G: Gate +
     // With status 1, 2, 3, 5, 6 or 7 one line is written, and nothing else.
     ensures usage_said { result ≡ USAGE → Appends (O.written out.old) (O.written out.new) usage_line }
     ensures input_said { result ≡ BAD_INPUT → IfSome (I.left src.old) (λ input.
-        Appends (O.written out.old) (O.written out.new) (input_line (ending_of forms.Alone input))) }
+        Appends (O.written out.old) (O.written out.new) (input_line (ending_of forms.Run input))) }
     ensures read_said { result ≡ READ_FAULT → Appends (O.written out.old) (O.written out.new) read_line }
     ensures device_said { result ≡ DEVICE_FAULT → Appends (O.written out.old) (O.written out.new) device_line }
     ensures memory_said { result ≡ NO_MEMORY → Appends (O.written out.old) (O.written out.new) memory_line }
@@ -114,21 +114,20 @@ pub fn nv_main<R: Threads + Wait + Sync, I: Source, O: Sink, B: Bench, G: Gate +
         (text : List ℕ) × IsShown command (I.left src.old) (B.state bench.old) (B.state bench.new) holding text
         × Appends (O.written out.old) (O.written out.new) text) }
 {
-    // They serve the threads of a run; there is one thread yet, and it is this one.
-    let _ = rt;
-    let _ = gate;
-    match report(alloc, words, src, bench) {
+    match report(rt, alloc, words, src, bench, gate) {
         Ok(text) => say(out, DONE, &text),
         Err(stop) => say_stop(alloc, out, &stop),
     }
 }
 
 // The report of a command, or why there is none.
-fn report<I: Source, B: Bench>(
+fn report<R: Threads + Wait + Sync, I: Source, B: Bench, G: Gate + Sync>(
+    rt: &R,
     alloc: Global,
     words: &[String],
     src: &mut I,
     bench: &mut B,
+    gate: &G,
 ) -> Result<Vec<u8>, Stop>
     requires closed { (B.state bench.old).is_open ≡ false }
     requires home { (B.state bench.old).lent ≡ [] }
@@ -164,7 +163,7 @@ fn report<I: Source, B: Bench>(
 {
     let command = command_over::<B>(alloc, words)?;
     match command {
-        Command::Run(options) => run_input(alloc, src, bench, options),
+        Command::Run(options) => run_input(rt, alloc, gate, src, bench, options),
         Command::Recover => recover(alloc, bench),
         Command::Look { files } => look(alloc, bench, files),
     }
@@ -190,8 +189,10 @@ fn command_on(command: Command, images: bool) -> Option<Command>
 }
 
 // The report of a run of the trace that the source gives.
-fn run_input<I: Source, B: Bench>(
+fn run_input<R: Threads + Wait + Sync, I: Source, B: Bench, G: Gate + Sync>(
+    rt: &R,
     alloc: Global,
+    gate: &G,
     src: &mut I,
     bench: &mut B,
     options: RunOptions,
@@ -220,13 +221,15 @@ fn run_input<I: Source, B: Bench>(
     ensures report { IfOk result (λ text. IfSome (B.state bench.old).told (λ holding.
         IsShown (commands.Run options) (I.left src.old) (B.state bench.old) (B.state bench.new) holding text.items)) }
 {
-    let trace = read_trace(alloc, Form::Alone, src)?;
-    run_trace(alloc, bench, options, &trace)
+    let trace = read_trace(alloc, Form::Run, src)?;
+    run_trace(rt, alloc, gate, bench, options, &trace)
 }
 
 // The report of a run of a trace, which may be stopped.
-fn run_trace<T: Bench>(
+fn run_trace<R: Threads + Wait + Sync, T: Bench, G: Gate + Sync>(
+    rt: &R,
     alloc: Global,
+    gate: &G,
     bench: &mut T,
     options: RunOptions,
     trace: &Trace,
@@ -239,27 +242,29 @@ fn run_trace<T: Bench>(
     requires limits { AreInLimits options }
     requires stop { IfSome options.stop (λ k. (1 ≤ k) × (T.can_lose_power ≡ true)) }
     requires well_formed { IsWellFormed trace.now }
+    requires lines { IsStrictlyIncreasing (lines_in trace.now) }
     ensures back { IsLeftBy (commands.Run options) (T.state bench.old) (T.state bench.new) }
     ensures cause { IsSettledStop (expected_faults (T.state bench.old) (T.state bench.new)) (T.state bench.new).faults result }
-    ensures ran { IfOk result (λ text. IsStrictlyIncreasing (lines_in trace.now) → IfSome (T.state bench.old).told (λ holding.
+    ensures ran { IfOk result (λ text. IfSome (T.state bench.old).told (λ holding.
         IsShownOf options.stop options (T.state bench.old) (T.state bench.new) holding trace.now text.items)) }
     ensures refused { (why : _) → result ≡ Err (stops.Region why)
-        → IsStrictlyIncreasing (lines_in trace.now) → IfSome (T.state bench.old).told (λ holding. IsNotRun options holding trace.now.names why) }
+        → IfSome (T.state bench.old).told (λ holding. IsNotRun options holding trace.now.names why) }
     ensures unwritten { (why : _) → result ≡ Err (stops.Region why) → ¬ (why ≡ refusals.TooManyFiles)
-        → IsStrictlyIncreasing (lines_in trace.now)
         → IfSome (T.state bench.old).told (λ holding. (T.state bench.new).told ≡ told_after why (T.state bench.old).told) }
-    ensures unarmed { (why : _) → result ≡ Err (stops.Region why) → IsStrictlyIncreasing (lines_in trace.now)
+    ensures unarmed { (why : _) → result ≡ Err (stops.Region why)
         → IfSome (T.state bench.old).told (λ holding. (T.state bench.new).arms ≡ (T.state bench.old).arms) }
 {
     match options.stop {
-        None => run(alloc, bench, options, trace),
-        Some(k) => stop_run(alloc, bench, options, trace, k),
+        None => run(rt, alloc, gate, bench, options, trace),
+        Some(k) => stop_run(rt, alloc, gate, bench, options, trace, k),
     }
 }
 
 // The report of a run of a trace that is stopped at a device call.
-fn stop_run<T: Bench>(
+fn stop_run<R: Threads + Wait + Sync, T: Bench, G: Gate + Sync>(
+    rt: &R,
     alloc: Global,
+    gate: &G,
     bench: &mut T,
     options: RunOptions,
     trace: &Trace,
@@ -274,15 +279,16 @@ fn stop_run<T: Bench>(
     requires limits { AreInLimits options }
     requires k { 1 ≤ k }
     requires well_formed { IsWellFormed trace.now }
+    requires lines { IsStrictlyIncreasing (lines_in trace.now) }
     ensures back { IsPoweredBack k (T.state bench.old) (T.state bench.new) ⊎ IsGivenBack (T.state bench.old) (T.state bench.new) }
     ensures cause { IsSettledStop (expected_faults (T.state bench.old) (T.state bench.new)) (T.state bench.new).faults result }
-    ensures ran { IfOk result (λ text. IsStrictlyIncreasing (lines_in trace.now) → IfSome (T.state bench.old).told (λ holding.
+    ensures ran { IfOk result (λ text. IfSome (T.state bench.old).told (λ holding.
         HasStopped (Rose (T.state bench.old).faults (T.state bench.new).faults) options holding (T.state bench.new) trace.now text.items)) }
     ensures refused { (why : _) → result ≡ Err (stops.Region why) → (T.state bench.new).arms ≡ (T.state bench.old).arms
         → IfSome (T.state bench.old).told (λ holding. IsNotRun options holding trace.now.names why) }
     ensures unwritten { (why : _) → result ≡ Err (stops.Region why) → (T.state bench.new).arms ≡ (T.state bench.old).arms
         → ¬ (why ≡ refusals.TooManyFiles) → (T.state bench.new).told ≡ told_after why (T.state bench.old).told }
-    ensures unarmed { (why : _) → result ≡ Err (stops.Region why) → IsStrictlyIncreasing (lines_in trace.now)
+    ensures unarmed { (why : _) → result ≡ Err (stops.Region why)
         → IfSome (T.state bench.old).told (λ holding. (T.state bench.new).arms ≡ (T.state bench.old).arms) }
 {
     images_follow_calls();
@@ -292,5 +298,5 @@ fn stop_run<T: Bench>(
     };
     let wanted = copy_names(alloc, trace.names())?;
     let opened = open(alloc, bench, geometry, &wanted)?;
-    run_to_stop(alloc, bench, opened, options, trace, k)
+    run_to_stop(rt, alloc, gate, bench, opened, options, trace, k)
 }

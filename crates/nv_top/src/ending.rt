@@ -4,14 +4,15 @@ ghost use Rattle.nv_plain.specs.Faults.{Rose};
 ghost use Rattle.nv_trace.specs.Streams.{Appends};
 ghost use Rattle.nv_top.specs.declared.ending.Stop.TheVariants as stops;
 ghost use Rattle.nv_top.specs.Endings.{memory_line, bad_line, region_line, why_text, IsErrorLine, AppendsFront};
-ghost use Rattle.nv_top.specs.Stops.{SaidAs, TakesMemory, stop_status, stop_line, stop_of_log, stop_of_opening, stop_of_read, stop_of_recovery, stop_of_words};
+ghost use Rattle.nv_top.specs.Stops.{SaidAs, TakesMemory, stop_status, stop_line, stop_of_mount, stop_of_opening, stop_of_read, stop_of_recovery, stop_of_run, stop_of_words};
 
 use crate::region_text::region_line_of;
 use crate::words::WordsError;
-use nv_engine::OpenError as LogError;
+use nv_mount::OpenError as MountError;
 use nv_open::{OpenError, Refusal};
 use nv_plain::NoMemory;
 use nv_recover::RecoverError;
+use nv_runner::RunError;
 use nv_store::StoreFault;
 use nv_trace::{BadLine, ReadError, Sink, Why, write_all};
 use std::alloc::{AllocError, AllocFailed, Global};
@@ -88,13 +89,24 @@ impl From<OpenError> for Stop {
     }
 }
 
-impl From<LogError> for Stop {
-    ghost from_gives = { λ error stop. stop ≡ stop_of_log error };
+impl From<MountError> for Stop {
+    ghost from_gives = { λ error stop. stop ≡ stop_of_mount error };
 
-    fn from(error: LogError) -> Self {
+    fn from(error: MountError) -> Self {
         match error {
-            LogError::StoreFault => Stop::Device,
-            LogError::NoMemory => Stop::NoMemory,
+            MountError::StoreFault => Stop::Device,
+            MountError::NoMemory => Stop::NoMemory,
+        }
+    }
+}
+
+impl From<RunError> for Stop {
+    ghost from_gives = { λ error stop. stop ≡ stop_of_run error };
+
+    fn from(error: RunError) -> Self {
+        match error {
+            RunError::Fault => Stop::Device,
+            RunError::NoMemory => Stop::NoMemory,
         }
     }
 }

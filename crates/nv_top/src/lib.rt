@@ -1,16 +1,13 @@
 //! The top call of NVCache: words and a trace in, a report and a status out.
 #![tactic(auto)]
 
-mod attempts;
-mod calls;
 mod command;
-mod early;
 mod ending;
 mod fates;
 mod files;
-mod gate;
 mod laws;
 mod looking;
+mod mounting;
 mod names;
 mod outcome;
 mod program;
@@ -25,6 +22,6 @@ pub use command::nv_main;
 pub use ending::{
     BAD_INPUT, BAD_REGION, DEVICE_FAULT, DONE, NO_MEMORY, READ_FAULT, USAGE, WRITE_FAULT, say,
 };
-pub use gate::{Gate, OpenGate, Point};
 pub use laws::report_has_one_reading;
+pub use nv_runner::{Gate, OpenGate, Point};
 pub use program::program_words;

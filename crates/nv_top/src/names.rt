@@ -1,33 +1,44 @@
 //! The descriptors of a trace, by the names of a region.
-ghost use Rattle.std.specs.Prelude.{◌≡◌, ◌<◌, length, IfOk};
+ghost use Rattle.std.specs.Prelude.{◌≡◌, ◌+◌, ◌<◌, ◌++◌, [], ◌∷◌, length, map, IfOk, OnOk};
+ghost use Rattle.nv_mount.specs.Fds.{max_fds};
 ghost use Rattle.nv_trace.specs.Shape.{IsWellFormed};
-ghost use Rattle.nv_top.specs.Faithful as faithful;
+ghost use Rattle.nv_runner.specs.Faithful.{descriptors_in, placed_in};
+ghost use Rattle.nv_runner.specs.FaithfulRuns.{as_fd};
 
 use nv_header::Names;
+use nv_mount::{FdError, Fds};
 use nv_plain::{Bytes, NoMemory};
 use nv_trace::{Descriptor, Trace, place_of};
 use std::alloc::Global;
 
-/// The descriptors of a trace, each file by the place of its name among all names.
-pub(crate) fn descriptors_in(
-    alloc: Global,
-    names: &[Bytes],
-    trace: &Trace,
-) -> Result<Vec<Descriptor>, NoMemory>
+/// The descriptors of a trace, each of the file that has the place of its name among all names.
+pub(crate) fn open_fds(alloc: Global, names: &[Bytes], trace: &Trace) -> Result<Fds, NoMemory>
     requires { IsWellFormed trace.now }
-    ensures { IfOk result (λ descriptors. descriptors.items ≡ faithful.descriptors_in names.now trace.now) }
+    ensures { IfOk result (λ fds. fds ≡ map as_fd (descriptors_in names.now trace.now)) }
 {
-    let mut descriptors = Vec::new(alloc);
+    let mut fds = Fds::new(alloc);
     for descriptor in trace.descriptors() {
-        descriptors.push(placed_in(names, trace, descriptor))?;
+        open_fd(&mut fds, placed_in(names, trace, descriptor))?;
     }
-    Ok(descriptors)
+    Ok(fds)
+}
+
+// Opens one more, where there is room for it.
+fn open_fd(fds: &mut Fds, descriptor: Descriptor) -> Result<(), NoMemory>
+    requires { length fds.old < max_fds }
+    ensures { OnOk result (fds.new ≡ fds.old ++ as_fd descriptor ∷ []) }
+{
+    match fds.open(descriptor.file, descriptor.mode) {
+        Ok(_number) => Ok(()),
+        Err(FdError::NoMemory) => Err(NoMemory),
+        Err(FdError::TooManyFds) => unreachable!(),
+    }
 }
 
 // A descriptor of a trace, its file by the place of its name among all names.
 fn placed_in(names: &[Bytes], trace: &Trace, descriptor: &Descriptor) -> Descriptor
     requires { descriptor.now.file < length trace.now.names }
-    ensures { result ≡ faithful.placed_in names.now trace.now descriptor.now }
+    ensures { result ≡ placed_in names.now trace.now descriptor.now }
 {
     let name = &trace.names()[descriptor.file as usize];
     Descriptor {

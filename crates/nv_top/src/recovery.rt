@@ -7,7 +7,7 @@ ghost use Rattle.nv_recover.specs.Standing.{files_of};
 ghost use Rattle.nv_open.specs.Held.{told_after};
 ghost use Rattle.nv_open.specs.Refusals.{IsRefusedFor};
 ghost use Rattle.nv_top.specs.Commands.{HasRecovered, IsGivenBack};
-ghost use Rattle.nv_top.specs.Faithful.{named};
+ghost use Rattle.nv_runner.specs.Faithful.{named};
 ghost use Rattle.nv_top.specs.Reports.{recovery_text};
 ghost use Rattle.nv_top.specs.Stops.{CountHasCause};
 ghost use Rattle.nv_top.specs.declared.ending.Stop.TheVariants as stops;

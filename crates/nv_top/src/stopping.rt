@@ -2,49 +2,62 @@
 ghost use Rattle.std.specs.Prelude.{◌≡◌, ◌⊎◌, ◌+◌, ◌-◌, ◌^◌, ◌<◌, ◌≤◌, [], List, true, false, length, map, sum_by, All, None, Err, IfOk, IfSome, OnOk};
 ghost use Rattle.std.specs.List.Sorted.{IsStrictlyIncreasing};
 ghost use Rattle.nv_plain.specs.Faults.{Rose, saturated};
+ghost use Rattle.nv_plain.specs.Layouts.{version_1};
+ghost use Rattle.nv_pmem.specs.Moments.{Tells};
 ghost use Rattle.nv_pmem.specs.Part.{Part};
 ghost use Rattle.nv_pmem.specs.RowStates.{AreNow};
-ghost use Rattle.nv_pmem.specs.Rows.{RowTells};
-ghost use Rattle.nv_store.specs.Store.{Store};
+ghost use Rattle.nv_store.specs.Store.{IsQuietStore, Store};
 ghost use Rattle.nv_bench.specs.Holding.{IsQuietHolding};
-ghost use Rattle.nv_engine.specs.Keeping.{IsLog};
+ghost use Rattle.nv_header.specs.FileNames.{AreFileNames};
 ghost use Rattle.nv_open.specs.Refusals.{IsRefusedFor};
-ghost use Rattle.nv_recover.specs.Standing.{AreQuietStores, files_of};
-ghost use Rattle.nv_trace.specs.Shape.{IsWellFormed};
-ghost use Rattle.nv_top.specs.Answers.{log_faults};
+ghost use Rattle.nv_recover.specs.Standing.{files_of};
+ghost use Rattle.nv_table.specs.state.States.{IsOf};
+ghost use Rattle.nv_table.specs.state.Views.{first_view};
+ghost use Rattle.nv_mount.specs.RisenCounts.{failed_before};
 ghost use Rattle.nv_trace.specs.Said.{said_place};
-ghost use Rattle.nv_top.specs.Faithful.{Basis, descriptors_in};
-ghost use Rattle.nv_top.specs.Fates.{fated_report};
+ghost use Rattle.nv_trace.specs.Shape.{IsWellFormed};
 ghost use Rattle.nv_trace.specs.Traced.{lines_in};
-ghost use Rattle.nv_top.specs.LogRuns.{IsFirstRun, basis_over};
+ghost use Rattle.nv_runner.specs.Faithful.{Basis};
+ghost use Rattle.nv_top.specs.Fates.{fated_report};
 ghost use Rattle.nv_top.specs.Reports.{report_text};
+ghost use Rattle.nv_top.specs.Runs.{BeginsMount, basis_over};
 ghost use Rattle.nv_top.specs.Stopping.{HasStoppedOn, IsAway, IsBack, IsBackUnarmed, IsPoweredBack, IsSettledStop, ShowsRecovered};
 ghost use Rattle.nv_top.specs.Stops.{CountHasCause};
 ghost use Rattle.nv_top.specs.Words.{AreInLimits};
 ghost use Rattle.nv_top.specs.declared.ending.Stop.TheVariants as stops;
 
-use crate::attempts::make_calls_on;
 use crate::ending::Stop;
 use crate::fates::fates;
 use crate::files::read_files;
-use crate::names::descriptors_in;
-use crate::outcome::Outcome;
+use crate::mounting::{Unmounted, mount_over};
 use crate::text::text_of;
 use crate::words::RunOptions;
 use nv_bench::{Bench, power_leaves_an_image};
-use nv_engine::{Log, logs_have_one_meaning};
 use nv_header::{Names, a_header_has_one_answer};
+use nv_mount::Mount;
 use nv_open::{Opened, recover_region};
-use nv_pmem::Pick;
+use nv_pmem::rows_have_states;
 use nv_recover::{Recovered, images_stand_for_files};
+use nv_runner::{
+    Gate, Plan, SortedCalls, history_of_threads_is_legal, open_calls_are_the_faults, run_calls,
+    runs_are_faithful, runs_are_told, show_refusals,
+};
 use nv_store::Backing;
-use nv_trace::{Descriptor, Trace};
+use nv_table::Pass;
+use nv_trace::Trace;
 use std::alloc::Global;
+use std::sync::Wait;
+use std::thread::Threads;
+
+/// The most calls of a trace that is run.
+const MOST_CALLS: usize = 67_108_864;
 
 /// Runs a trace over a region whose log is empty, with a store for each of its names, that are lent by a bench: it is armed once the
-/// log is open, makes the calls, gives all back, powers off, recovers, and shows what became of each call, and the files.
-pub(crate) fn run_to_stop<T: Bench>(
+/// mount is open, makes the calls, gives all back, powers off, recovers, and shows what became of each call, and the files.
+pub(crate) fn run_to_stop<R: Threads + Wait + Sync, T: Bench, G: Gate + Sync>(
+    rt: &R,
     alloc: Global,
+    gate: &G,
     bench: &mut T,
     opened: Opened<T::Part, T::Store>,
     options: RunOptions,
@@ -59,8 +72,9 @@ pub(crate) fn run_to_stop<T: Bench>(
     requires lent { (T.state bench.old).lent ≡ opened.region.names }
     requires quiet { IfSome (T.state bench.old).told IsQuietHolding }
     requires stores { length opened.stores.items ≡ length opened.region.names }
-    requires synced { RowTells (map T.Store.history opened.stores.items) AreQuietStores }
+    requires synced { All (λ store. Tells (T.Store.history store) IsQuietStore) opened.stores.items }
     requires well_formed { IsWellFormed trace.now }
+    requires lines { IsStrictlyIncreasing (lines_in trace.now) }
     requires known { All (λ name. said_place name opened.region.names < length opened.region.names) trace.now.names }
     ensures back { IsPoweredBack k (T.state bench.old) (T.state bench.new) ⊎ IsBackUnarmed (T.state bench.old) (T.state bench.new) }
     ensures armed { OnOk result (IsPoweredBack k (T.state bench.old) (T.state bench.new)) }
@@ -71,94 +85,115 @@ pub(crate) fn run_to_stop<T: Bench>(
     ensures refused { (why : _) → result ≡ Err (stops.Region why) → IsPoweredBack k (T.state bench.old) (T.state bench.new) }
     ensures never { (why : _) → result ≡ Err (stops.Region why) → (parts : List Part) (now : List Store)
         → AreNow (map T.Part.history opened.region.parts.items) parts → AreNow (map T.Store.history opened.stores.items) now
-        → IsStrictlyIncreasing (lines_in trace.now) → (T.state bench.old).told ≡ None }
+        → (T.state bench.old).told ≡ None }
     ensures no_less { (T.state bench.new).arms ≡ (T.state bench.old).arms + 1 → saturated ((T.state bench.old).faults
         + (sum_by T.Part.fault_count opened.region.parts.items + sum_by T.Store.fault_count opened.stores.items)) ≤ (T.state bench.new).settled }
     ensures ran { IfOk result (λ text. (parts : List Part) (now : List Store)
         → AreNow (map T.Part.history opened.region.parts.items) parts → AreNow (map T.Store.history opened.stores.items) now
-        → IsStrictlyIncreasing (lines_in trace.now) → IfSome (T.state bench.old).told (λ left. IsAway opened.region.names left
+        → IfSome (T.state bench.old).told (λ left. IsAway opened.region.names left
         → HasStoppedOn (Rose (saturated ((T.state bench.old).faults
         + (sum_by T.Part.fault_count opened.region.parts.items + sum_by T.Store.fault_count opened.stores.items))) (T.state bench.new).faults)
-        (basis_over opened.region options.pages (files_of now)) trace.now (T.state bench.new) text.items)) }
+        options.worker (basis_over opened.region options.pages (files_of now)) trace.now (T.state bench.new) text.items)) }
 {
     let Opened { region, stores } = opened;
-    let Ok(descriptors) = descriptors_in(alloc, region.names().as_slice(), trace) else {
+    if trace.calls().len() > MOST_CALLS {
         bench.give_back(region.into_parts(), stores);
         return Err(Stop::NoMemory);
+    }
+    let plan = Plan {
+        batch: options.batch,
+        worker: options.worker,
+        stop: Some(k),
+        image: options.image,
     };
-    match Log::new(alloc, region, stores, options.pages) {
-        Ok(log) => stop_log(alloc, bench, log, &descriptors, trace, k, options.image),
-        Err((parts, stores, error)) => {
+    match mount_over(alloc, region, stores, options, trace) {
+        Ok((mount, pass)) => stop_mount(rt, alloc, gate, bench, mount, pass, plan, trace, k),
+        Err(
+            Unmounted {
+                parts,
+                stores,
+                stop,
+            },
+        ) => {
             bench.give_back(parts, stores);
-            Err(error.into())
+            Err(stop)
         }
     }
 }
 
-// Makes the calls of a trace on a log that has no piece yet, whose parts and stores are lent by a bench that is armed first; gives
-// all back, powers off, recovers, and shows what became of each call, and the files.
-fn stop_log<T: Bench>(
+// Runs a trace over a mount whose parts and stores are lent by a bench that is armed first; gives all back, powers off, recovers, and
+// shows what became of the calls, and the files.
+fn stop_mount<R: Threads + Wait + Sync, T: Bench, G: Gate + Sync>(
+    rt: &R,
     alloc: Global,
+    gate: &G,
     bench: &mut T,
-    log: Log<T::Part, T::Store>,
-    descriptors: &[Descriptor],
+    mount: Mount<T::Part, T::Store>,
+    pass: Pass<T::Part, T::Store>,
+    plan: Plan,
     trace: &Trace,
     k: u64,
-    pick: Pick,
 ) -> Result<Vec<u8>, Stop>
     requires images { T.can_lose_power ≡ true }
     requires k { 1 ≤ k }
     requires arms { (T.state bench.old).arms < 2 ^ 64 - 1 }
     requires open { (T.state bench.old).is_open ≡ true }
-    requires lent { (T.state bench.old).lent ≡ log.names }
     requires quiet { IfSome (T.state bench.old).told IsQuietHolding }
-    requires log { IsLog T.Part.history T.Part.room T.Store.history log }
-    requires running { log.stopped ≡ false }
+    requires board { IsOf mount.board pass }
+    requires new { pass.view ≡ first_view mount.board.opened }
+    requires bare { pass.now ≡ [] }
+    requires names { AreFileNames version_1 (T.state bench.old).lent }
+    requires lent { length (T.state bench.old).lent ≡ mount.board.opened.sizes.files }
     requires well_formed { IsWellFormed trace.now }
-    requires descriptors { descriptors.now ≡ descriptors_in log.names trace.now }
-    requires files { All (λ descriptor. descriptor.file < length log.names) descriptors.now }
+    requires lines { IsStrictlyIncreasing (lines_in trace.now) }
+    requires few { length trace.now.calls ≤ 67108864 }
     ensures back { IsPoweredBack k (T.state bench.old) (T.state bench.new) }
     ensures settled { IsSettledStop (T.state bench.new).settled (T.state bench.new).faults result }
-    ensures never { (why : _) → result ≡ Err (stops.Region why) → (basis : Basis) → IsFirstRun T.Part.history T.Store.history basis log
-        → IsStrictlyIncreasing (lines_in trace.now) → (T.state bench.old).told ≡ None }
-    ensures no_less { saturated ((T.state bench.old).faults + log_faults T.Part.fault_count T.Store.fault_count log) ≤ (T.state bench.new).settled }
-    ensures ran { IfOk result (λ text. (basis : Basis) → IsFirstRun T.Part.history T.Store.history basis log → basis.names ≡ log.names
-        → IsStrictlyIncreasing (lines_in trace.now) → IfSome (T.state bench.old).told (λ left. IsAway log.names left
-        → HasStoppedOn (Rose (saturated ((T.state bench.old).faults + log_faults T.Part.fault_count T.Store.fault_count log)) (T.state bench.new).faults)
-        basis trace.now (T.state bench.new) text.items)) }
+    ensures never { (why : _) → result ≡ Err (stops.Region why) → (basis : Basis) → BeginsMount basis trace.now mount pass
+        → basis.names ≡ (T.state bench.old).lent → (T.state bench.old).told ≡ None }
+    ensures no_less { saturated ((T.state bench.old).faults + failed_before pass) ≤ (T.state bench.new).settled }
+    ensures ran { IfOk result (λ text. (basis : Basis) → BeginsMount basis trace.now mount pass → basis.names ≡ (T.state bench.old).lent
+        → IfSome (T.state bench.old).told (λ left. IsAway basis.names left
+        → HasStoppedOn (Rose (saturated ((T.state bench.old).faults + failed_before pass)) (T.state bench.new).faults)
+        plan.worker basis trace.now (T.state bench.new) text.items)) }
 {
-    logs_have_one_meaning();
     images_stand_for_files();
     a_header_has_one_answer();
     power_leaves_an_image();
-    let mut log = log;
+    rows_have_states();
+    history_of_threads_is_legal();
+    open_calls_are_the_faults();
+    runs_are_told();
+    runs_are_faithful();
     bench.arm(k);
-    let made = make_calls_on(alloc, &mut log, descriptors, trace.calls());
-    let (parts, stores) = log.into_devices();
-    bench.give_back(parts, stores);
-    bench.power(pick)?;
-    let outcome = made?;
-    show_recovered(alloc, bench, &outcome)
+    let ended = run_calls(rt, alloc, gate, mount, pass, trace, plan);
+    bench.give_back(ended.closed.parts, ended.closed.stores);
+    bench.power(plan.image)?;
+    // A run that is to be stopped is given up for want of memory alone: what its devices refuse is in its report.
+    let Ok(sorted) = ended.outcome else {
+        return Err(Stop::NoMemory);
+    };
+    show_recovered(alloc, bench, sorted)
 }
 
 // Recovers the region of a bench, shows what became of the calls of a run, and the files, and gives all back.
 fn show_recovered<T: Bench>(
     alloc: Global,
     bench: &mut T,
-    outcome: &Outcome<'_>,
+    sorted: SortedCalls<'_>,
 ) -> Result<Vec<u8>, Stop>
     requires closed { (T.state bench.old).is_open ≡ false }
     requires home { (T.state bench.old).lent ≡ [] }
     requires quiet { IfSome (T.state bench.old).told IsQuietHolding }
     ensures back { IsBack (T.state bench.old) (T.state bench.new) }
-    ensures shown { IfOk result (λ text. IfSome (T.state bench.old).told (λ holding. ShowsRecovered holding outcome.now (T.state bench.new).told text.items)) }
+    ensures shown { IfOk result (λ text. IfSome (T.state bench.old).told (λ holding. ShowsRecovered holding sorted.entry (T.state bench.new).told text.items)) }
     ensures refused { (why : _) → result ≡ Err (stops.Region why) → IfSome (T.state bench.old).told (λ holding. IsRefusedFor holding.parts why) }
     ensures cause { CountHasCause (T.state bench.old).faults (T.state bench.new).faults result }
 {
     let (opened, found) = recover_region(alloc, bench)?;
     let Opened { region, stores } = opened;
     let mut stores = stores;
-    let report = show_fates(alloc, outcome, region.names(), &found, &mut stores);
+    let report = show_fates(alloc, sorted, region.names(), &found, &mut stores);
     bench.give_back(region.into_parts(), stores);
     report
 }
@@ -166,20 +201,28 @@ fn show_recovered<T: Bench>(
 // The report of a run whose writes that were left open a recovery met, and whose files the stores hold.
 fn show_fates<B: Backing>(
     alloc: Global,
-    outcome: &Outcome<'_>,
+    sorted: SortedCalls<'_>,
     names: &Names,
     found: &Recovered,
     stores: &mut Vec<B>,
 ) -> Result<Vec<u8>, Stop>
     requires { length stores.old.items ≡ length names.now }
     ensures text { IfOk result (λ text. (now : List Store) → AreNow (map B.history stores.old.items) now
-        → text.items ≡ report_text (fated_report outcome.now found.now names.now (files_of now))) }
+        → text.items ≡ report_text (fated_report sorted.entry found.now names.now (files_of now))) }
     ensures histories { map B.history stores.new.items ≡ map B.history stores.old.items }
     ensures never { (why : _) → ¬ (result ≡ Err (stops.Region why)) }
     ensures cause { CountHasCause (sum_by B.fault_count stores.old.items) (sum_by B.fault_count stores.new.items) result }
 {
     let files = read_files(alloc, stores)?;
-    let unanswered = fates(alloc, &outcome.left, found)?;
-    let text = text_of(alloc, outcome, &unanswered, names.as_slice(), &files)?;
+    let fated = fates(alloc, &sorted.open_calls, found)?;
+    let shown = show_refusals(alloc, sorted.refused)?;
+    let text = text_of(
+        alloc,
+        &sorted.placed,
+        &shown,
+        &fated,
+        names.as_slice(),
+        &files,
+    )?;
     Ok(text)
 }

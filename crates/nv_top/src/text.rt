@@ -1,36 +1,39 @@
 //! Reports, as text.
 ghost use Rattle.std.specs.Prelude.{◌≡◌, ◌++◌, ◌+◌, length, map, IfOk, OnOk};
-ghost use Rattle.nv_top.specs.Faithful.{named};
-ghost use Rattle.nv_top.specs.Outcomes.{placed_call, refused_call, open_call, report_of};
+ghost use Rattle.nv_runner.specs.Faithful.{named};
+ghost use Rattle.nv_runner.specs.FaithfulRuns.{shown_call};
+ghost use Rattle.nv_runner.specs.Sorted.{placed_call};
+ghost use Rattle.nv_top.specs.Outcomes.{fated_call, report_of};
 ghost use Rattle.nv_top.specs.Reports.{history_lines, refused_lines, open_lines, file_lines, report_text, recovery_text};
 
-use crate::outcome::{Open, Outcome, Placed, Refused};
+use crate::outcome::Fated;
 use nv_plain::{Bytes, NoMemory};
 use nv_recover::Recovered;
+use nv_runner::{Placed, Shown};
 use nv_trace::{end_line, file_line, history_line, open_line, recovered_line, refused_line};
 use std::alloc::Global;
 
 /// The text of a run's report: its calls, those that were left open with what became of them, and the files by their names.
 pub(crate) fn text_of(
     alloc: Global,
-    outcome: &Outcome<'_>,
-    unanswered: &[Open<'_>],
+    placed: &[Placed<'_>],
+    refused: &[Shown<'_>],
+    fated: &[Fated<'_>],
     names: &[Bytes],
     files: &[Bytes],
 ) -> Result<Vec<u8>, NoMemory>
     requires files { length files.now ≡ length names.now }
-    ensures { IfOk result (λ text. text.items ≡ report_text (report_of outcome.now unanswered.now names.now files.now)) }
+    ensures { IfOk result (λ text. text.items ≡ report_text (report_of placed.now refused.now fated.now names.now files.now)) }
 {
     let mut text = Vec::new(alloc);
-    push_history(alloc, &mut text, &outcome.placed)?;
-    push_refused(alloc, &mut text, &outcome.refused)?;
-    push_open(alloc, &mut text, unanswered)?;
+    push_history(alloc, &mut text, placed)?;
+    push_refused(alloc, &mut text, refused)?;
+    push_open(alloc, &mut text, fated)?;
     push_files(alloc, &mut text, names, files)?;
-    let placed = outcome.placed.len() as u64;
-    let refused = outcome.refused.len() as u64;
+    let (placed, refused) = (placed.len() as u64, refused.len() as u64);
     push(
         &mut text,
-        &end_line(alloc, placed, refused, unanswered.len() as u64)?,
+        &end_line(alloc, placed, refused, fated.len() as u64)?,
     )?;
     Ok(text)
 }
@@ -72,8 +75,8 @@ fn push_history(alloc: Global, text: &mut Vec<u8>, placed: &[Placed<'_>]) -> Res
     Ok(())
 }
 
-fn push_refused(alloc: Global, text: &mut Vec<u8>, refused: &[Refused<'_>]) -> Result<(), NoMemory>
-    ensures { OnOk result (text.new.items ≡ text.old.items ++ refused_lines (map refused_call refused.now)) }
+fn push_refused(alloc: Global, text: &mut Vec<u8>, refused: &[Shown<'_>]) -> Result<(), NoMemory>
+    ensures { OnOk result (text.new.items ≡ text.old.items ++ refused_lines (map shown_call refused.now)) }
 {
     for r in refused {
         push(
@@ -84,10 +87,10 @@ fn push_refused(alloc: Global, text: &mut Vec<u8>, refused: &[Refused<'_>]) -> R
     Ok(())
 }
 
-fn push_open(alloc: Global, text: &mut Vec<u8>, unanswered: &[Open<'_>]) -> Result<(), NoMemory>
-    ensures { OnOk result (text.new.items ≡ text.old.items ++ open_lines (map open_call unanswered.now)) }
+fn push_open(alloc: Global, text: &mut Vec<u8>, fated: &[Fated<'_>]) -> Result<(), NoMemory>
+    ensures { OnOk result (text.new.items ≡ text.old.items ++ open_lines (map fated_call fated.now)) }
 {
-    for o in unanswered {
+    for o in fated {
         push(
             text,
             &open_line(alloc, o.call.thread, &o.call.call, o.fate)?,

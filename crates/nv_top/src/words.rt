@@ -2,7 +2,7 @@
 ghost use Rattle.std.specs.Prelude.{◌≡◌, ◌≢◌, ◌&&◌, false, nat_le, [], Some, None, Err, IfOk, codes, map, string_bytes, option_map, if◌then◌else◌};
 ghost use Rattle.std.specs.List.{list_any};
 ghost use Rattle.clap.specs.Words.{app_of, fault_of, first_of, found_of, rows_of, matches_of as rows_in, rule_of, with_rule};
-ghost use Rattle.nv_top.specs.Words.{command_of, image_in, is_dashes, look_in, noworker_rule, number_in, number_or, option_rule, options_in, page_of_words, run_app, run_in, stop_in};
+ghost use Rattle.nv_top.specs.Words.{command_of, image_in, is_dashes, look_in, noworker_rule, number_in, number_or, option_rule, options_in, page_of_words, run_app, run_in, stop_in, worker_in};
 ghost use Rattle.nv_top.specs.declared.words.WordsError.TheVariants.{Usage, NoMemory as NoRoom};
 
 use clap::error::ErrorKind;
@@ -37,6 +37,8 @@ pub(crate) struct RunOptions {
     pub(crate) batch: u64,
     /// Pages of a file.
     pub(crate) pages: u64,
+    /// A worker cleans the log while the calls are made.
+    pub(crate) worker: bool,
     /// The device call to stop at.
     pub(crate) stop: Option<u64>,
     /// The image that power leaves where the run is stopped.
@@ -137,14 +139,13 @@ fn run_parser<'a>(alloc: Global) -> Result<Parser<'a>, AllocError>
     Ok(parser.disable_help_flag(true))
 }
 
-// The option without a value, which is needed.
+// The option without a value.
 fn noworker_arg<'a>(alloc: Global) -> Arg<'a>
     ensures rule { rule_of result ≡ noworker_rule }
     ensures local { result.global ≡ false }
 {
     Arg::new(alloc, "noworker")
         .long("noworker")
-        .required(true)
         .action(ArgAction::SetTrue)
 }
 
@@ -168,6 +169,7 @@ fn options_of(matches: &ArgMatches<'_>) -> Option<RunOptions>
     let cache = number_of(matches, "cache", 4, 1, 16384)?;
     let batch = number_of(matches, "batch", 4, 1, 1024)?;
     let pages = number_of(matches, "pages", 64, 1, 1024)?;
+    let worker = worker_of(matches);
     let stop = stop_of(matches)?;
     let image = image_of(matches)?;
     Some(RunOptions {
@@ -176,6 +178,7 @@ fn options_of(matches: &ArgMatches<'_>) -> Option<RunOptions>
         cache,
         batch,
         pages,
+        worker,
         stop,
         image,
     })
@@ -187,6 +190,16 @@ fn page_of(matches: &ArgMatches<'_>) -> Option<u64>
 {
     let page = number_of(matches, "page", 64, 64, 4096)?;
     if page % 64 == 0 { Some(page) } else { None }
+}
+
+// A worker is wanted, unless its option says otherwise.
+fn worker_of(matches: &ArgMatches<'_>) -> bool
+    ensures { result ≡ worker_in (first_of (codes "noworker") (rows_of (found_of matches.now))) }
+{
+    match value_of(matches, "noworker") {
+        None => true,
+        Some(text) => text != "true",
+    }
 }
 
 // The device call to stop at, where the option is there; none where its value isn't one.

@@ -7,15 +7,15 @@ use Rattle.nv_top.proofs.HeadlineLemmas.{where_unarmed}
 use Rattle.nv_top.proofs.command.run_trace.Goals as goal
 
 pub returns-in-Some-clause-refused : goal.returns-in-Some-clause-refused
-returns-in-Some-clause-refused g c why is rise =
+returns-in-Some-clause-refused g c why is =
     let old = g.T.Bench.state c.args.bench.now in
     let new = g.T.Bench.state c.stop_run.new.bench in
-    where_unarmed old new (λ holding. IsNotRun c.args.options holding c.args.trace.now.names why) (c.stop_run.ensures.unarmed why is rise) (λ arms. c.stop_run.ensures.refused why is arms)
+    where_unarmed old new (λ holding. IsNotRun c.args.options holding c.args.trace.now.names why) (c.stop_run.ensures.unarmed why is) (λ arms. c.stop_run.ensures.refused why is arms)
 
 pub returns-in-Some-clause-unwritten : goal.returns-in-Some-clause-unwritten
-returns-in-Some-clause-unwritten g c why is other rise =
+returns-in-Some-clause-unwritten g c why is other =
     let old = g.T.Bench.state c.args.bench.now in
     let new = g.T.Bench.state c.stop_run.new.bench in
     let Unwritten : Holding → Type 0 = λ holding. new.told ≡ told_after why old.told in
-    where_unarmed old new Unwritten (c.stop_run.ensures.unarmed why is rise)
+    where_unarmed old new Unwritten (c.stop_run.ensures.unarmed why is)
     (λ arms. if_told old.told Unwritten (λ holding told. c.stop_run.ensures.unwritten why is arms other))

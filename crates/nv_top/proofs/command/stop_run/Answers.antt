@@ -1,6 +1,5 @@
 use Rattle.std.proofs.Common.{◌≡◌, ◌<◌, ◌+◌, ◌∙◌, [], ℕ, List, All, Err, None, Some, length, map, refl, sym, ap, subst, sum_by, arith}
 use Rattle.std.specs.Prelude.{IfSome}
-use Rattle.std.specs.List.Sorted.{IsStrictlyIncreasing}
 use Rattle.std.proofs.lemmas.Result.{IfOk-weaker}
 use Rattle.nv_plain.specs.Faults.{Rose, saturated}
 use Rattle.nv_pmem.specs.Part.{Part}
@@ -14,15 +13,14 @@ use Rattle.nv_recover.specs.Standing.{files_of}
 use Rattle.nv_top.specs.Commands.{IsBasis, IsNotRun}
 use Rattle.nv_trace.specs.Said.{said_place}
 use Rattle.nv_top.specs.Headline.{HasStopped}
-use Rattle.nv_trace.specs.Traced.{lines_in}
-use Rattle.nv_top.specs.LogRuns.{basis_over}
+use Rattle.nv_top.specs.Runs.{basis_over}
 use Rattle.nv_top.specs.Stopping.{HasStoppedOn, IsAway}
 use Rattle.nv_top.specs.Stops.{stop_of_opening}
 use Rattle.nv_top.specs.declared.ending.Stop.TheVariants.{Region}
 use Rattle.nv_top.proofs.CommandLemmas.{if_told, mid_told, told_at}
 use Rattle.nv_top.proofs.HeadlineLemmas.{all_away, home_distinct, quiet_left}
 use Rattle.nv_top.proofs.NameLemmas.{wanted_known}
-use Rattle.nv_top.proofs.RowLemmas.{present, quiet_row}
+use Rattle.nv_top.proofs.RowLemmas.{present}
 use Rattle.nv_top.proofs.StopLemmas.{err_has, opening_refused}
 use Rattle.nv_top.proofs.command.stop_run.Goals as goal
 
@@ -47,9 +45,6 @@ run_to_stop-requires-clause-quiet g c κs within =
     let With : BenchState → Type 0 = λ bench. IfSome bench.told IsQuietHolding in
     subst With (sym c.in_ok-opened.ensures.lent) (quiet_left c.images_follow_calls.ensures.blank c.in_ok-opened.opened.region.names old.told c.requires.quiet)
 
-pub run_to_stop-requires-clause-synced : goal.run_to_stop-requires-clause-synced
-run_to_stop-requires-clause-synced g c κs within = quiet_row g.T.Store.Backing.history c.in_ok-opened.opened.stores.items c.in_ok-opened.ensures.quiet
-
 pub run_to_stop-requires-clause-known : goal.run_to_stop-requires-clause-known
 run_to_stop-requires-clause-known g c κs within =
     let known = c.in_ok-opened.ensures.known in
@@ -70,17 +65,17 @@ returns-clause-ran g c =
     let backing = c.in_ok-opened.opened.stores.items in
     let lent = saturated (mid.faults + (sum_by g.T.Part.Lines.fault_count region.parts.items + sum_by g.T.Store.Backing.fault_count backing)) in
     IfOk-weaker c.run_to_stop.result
-    (λ text. (parts : List Part) (now : List Store) → AreNow (map history region.parts.items) parts → AreNow (map held backing) now → IsStrictlyIncreasing (lines_in trace)
-    → IfSome mid.told (λ left. IsAway region.names left → HasStoppedOn (Rose lent new.faults) (basis_over region c.args.options.pages (files_of now)) trace new text.items))
-    (λ text. IsStrictlyIncreasing (lines_in trace) → IfSome old.told (λ holding. HasStopped (Rose old.faults new.faults) c.args.options holding new trace text.items))
-    (λ text ran rise.
+    (λ text. (parts : List Part) (now : List Store) → AreNow (map history region.parts.items) parts → AreNow (map held backing) now
+    → IfSome mid.told (λ left. IsAway region.names left → HasStoppedOn (Rose lent new.faults) c.args.options.worker (basis_over region c.args.options.pages (files_of now)) trace new text.items))
+    (λ text. IfSome old.told (λ holding. HasStopped (Rose old.faults new.faults) c.args.options holding new trace text.items))
+    (λ text ran.
     if_told old.told (λ holding. HasStopped (Rose old.faults new.faults) c.args.options holding new trace text.items) (λ holding told.
     let opened = told_at old.told _ holding told made.opened in
     let parts = present (map history region.parts.items) (told_at old.told _ holding told made.tell) in
     let basis = basis_over region c.args.options.pages (files_of opened.files.held) in
     let left : Holding = record { parts = []; stores = without_stores region.names holding.stores } in
-    let Stopped : Holding → Type 0 = λ left. IsAway region.names left → HasStoppedOn (Rose lent new.faults) basis trace new text.items in
-    let Over : ℕ → Type 0 = λ count. HasStoppedOn (Rose count new.faults) basis trace new text.items in
+    let Stopped : Holding → Type 0 = λ left. IsAway region.names left → HasStoppedOn (Rose lent new.faults) c.args.options.worker basis trace new text.items in
+    let Over : ℕ → Type 0 = λ count. HasStoppedOn (Rose count new.faults) c.args.options.worker basis trace new text.items in
     let same : lent ≡ old.faults = omega (arith, made.counts) in
     let With : List (List ℕ) → Type 0 = λ wanted. IsBasis c.args.options holding wanted basis in
     record {
@@ -97,13 +92,13 @@ returns-clause-ran g c =
       });
       stopped = subst Over same
           (told_at mid.told Stopped left (mid_told old mid region.names holding made.lent c.requires.home told)
-          (ran parts.states opened.files.held parts.are opened.files.are rise)
+          (ran parts.states opened.files.held parts.are opened.files.are)
           (all_away region.names holding.stores (home_distinct old holding (g.met.T.Bench.named c.args.bench.now) told c.requires.home)));
     }))
     c.run_to_stop.ensures.ran
 
 pub returns-clause-unarmed : goal.returns-clause-unarmed
-returns-clause-unarmed g c why is rise =
+returns-clause-unarmed g c why is =
     let old = g.T.Bench.state c.args.bench.now in
     let mid = g.T.Bench.state c.open.new.bench in
     let new = g.T.Bench.state c.run_to_stop.new.bench in
@@ -113,7 +108,7 @@ returns-clause-unarmed g c why is rise =
     let opened = told_at old.told _ holding told made.opened in
     let parts = present (map g.T.Part.Lines.history region.parts.items) (told_at old.told _ holding told made.tell) in
     let some = mid_told old mid region.names holding made.lent c.requires.home told in
-    let none = c.run_to_stop.ensures.never why is parts.states opened.files.held parts.are opened.files.are rise in
+    let none = c.run_to_stop.ensures.never why is parts.states opened.files.held parts.are opened.files.are in
     absurd (not_both (sym some ∙ none)))
   where
     not_both : {holding : Holding} → Some holding ≡ None → ⊥

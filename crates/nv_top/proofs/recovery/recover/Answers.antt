@@ -1,4 +1,4 @@
-use Rattle.std.proofs.Common.{◌≡◌, ◌∙◌, ℕ, List, length, map, sym, ap, subst}
+use Rattle.std.proofs.Common.{◌≡◌, ◌∙◌, ℕ, List, None, length, map, sym, ap, subst}
 use Rattle.std.specs.Prelude.{IfSome}
 use Rattle.std.proofs.lemmas.Result.{IfOk-weaker}
 use Rattle.nv_plain.specs.Files.{Files}
@@ -13,13 +13,12 @@ use Rattle.nv_recover.specs.Standing.{files_of}
 use Rattle.nv_open.specs.Held.{files_named, header_names}
 use Rattle.nv_open.specs.Lending.{stores_named}
 use Rattle.nv_top.specs.Commands.{HasRecovered}
-use Rattle.nv_top.specs.Faithful.{named}
+use Rattle.nv_runner.specs.Faithful.{named}
 use Rattle.nv_top.specs.Leaving.{AreLeft}
 use Rattle.nv_top.specs.Readings.{HavePlainNames}
 use Rattle.nv_top.specs.Reports.{recovery_text}
 use Rattle.nv_top.proofs.CommandLemmas.{if_told, leaves, leaves_by, told_at}
-use Rattle.nv_top.proofs.LogRunLemmas.{each_allowed}
-use Rattle.nv_top.proofs.NameLemmas.{names_plain}
+use Rattle.nv_top.proofs.NameLemmas.{each_allowed, names_plain}
 use Rattle.nv_top.proofs.RowLemmas.{present}
 use Rattle.nv_top.proofs.recovery.recover.Goals as goal
 
@@ -79,6 +78,6 @@ returns-clause-recovered g c =
           ∙ ap (λ next. recovery_text (record { first = log.first; next = next; groups = length found.groups; files = shown_names })) (recovery.log.next base)
           ∙ ap (λ (groups : List ℕ). recovery_text (record { first = log.first; next = log.next; groups = length groups; files = shown_names })) (recovery.log.groups base);
       left = leaves_by holding.parts holding.stores recovery.names_are
-          (leaves old mid region.names holding made.lent c.requires.home told history held (files_named holding.parts region.names holding.stores) parts_back stores_back _ left c.give_back.ensures.told);
+          (leaves old mid region.names holding made.lent c.requires.home told None history held (files_named holding.parts region.names holding.stores) parts_back stores_back _ (ap length same_parts ∙ told_at old.told _ holding told made.many) left c.give_back.ensures.told);
     }))
     c.show-report.ensures.text

@@ -1,32 +1,26 @@
-use Rattle.std.proofs.Common.{◌≡◌, ◌<◌, ◌∙◌, ℕ, List, All, length, map, refl, sym, ap, subst}
+use Rattle.std.proofs.Common.{◌≡◌, ◌<◌, ◌∙◌, ℕ, List, All, Some, length, map, refl, sym, ap, subst}
 use Rattle.std.specs.Prelude.{IfSome}
-use Rattle.std.specs.List.Sorted.{IsStrictlyIncreasing}
 use Rattle.std.proofs.lemmas.Result.{IfOk-weaker}
 use Rattle.nv_pmem.specs.Part.{Part}
 use Rattle.nv_pmem.specs.RowStates.{AreNow}
 use Rattle.nv_store.specs.Store.{Store}
 use Rattle.nv_recover.specs.Standing.{files_of}
 use Rattle.nv_top.specs.Commands.{HasRunOn, IsBasis}
-use Rattle.nv_trace.specs.Traced.{lines_in}
-use Rattle.nv_top.specs.LogRuns.{HasRunOver, basis_over}
+use Rattle.nv_top.specs.Runs.{HasRunOver, basis_over}
 use Rattle.nv_top.proofs.CommandLemmas.{if_told, leaves, told_at}
 use Rattle.nv_open.specs.Adding.{all_names}
 use Rattle.nv_trace.specs.Said.{said_place}
 use Rattle.nv_top.proofs.NameLemmas.{wanted_known}
-use Rattle.nv_top.proofs.RowLemmas.{present, quiet_row}
+use Rattle.nv_top.proofs.RowLemmas.{present}
 use Rattle.std.proofs.Common.{Err}
-use Rattle.nv_open.specs.Held.{told_after}
 use Rattle.nv_top.specs.Commands.{IsNotRun}
 use Rattle.nv_top.specs.Stops.{stop_of_opening}
 use Rattle.nv_top.specs.declared.ending.Stop.TheVariants.{Region}
 use Rattle.nv_top.proofs.StopLemmas.{err_has, opening_refused}
 use Rattle.nv_top.proofs.run.run.Goals as goal
 
-pub run_over-ended-requires-clause-quiet : goal.run_over-ended-requires-clause-quiet
-run_over-ended-requires-clause-quiet g c = quiet_row g.T.Store.Backing.history c.in_ok-region.field-0.stores.items c.in_ok-region.ensures.quiet
-
-pub run_over-ended-requires-clause-known : goal.run_over-ended-requires-clause-known
-run_over-ended-requires-clause-known g c =
+pub run_over-parts-requires-clause-known : goal.run_over-parts-requires-clause-known
+run_over-parts-requires-clause-known g c κs within =
     let known = c.in_ok-region.ensures.known in
     let Known : List (List ℕ) → Type 0 = λ names. All (λ name. said_place name names < length names) c.args.trace.now.names in
     let In : List (List ℕ) → Type 0 = λ wanted. All (λ name. said_place name (all_names known.0 wanted) < length (all_names known.0 wanted)) wanted in
@@ -44,17 +38,17 @@ returns-clause-ran g c =
     let made = c.in_ok-region.ensures in
     let region = c.in_ok-region.field-0.region in
     let stores = c.in_ok-region.field-0.stores.items in
-    let ended = c.run_over-ended.result in
+    let ended = c.run_over-parts.result in
     let wanted = c.in_ok-wanted.wanted in
     IfOk-weaker ended.report
-    (λ text. (parts : List Part) (now : List Store) → AreNow (map history region.parts.items) parts → AreNow (map held stores) now → IsStrictlyIncreasing (lines_in trace)
-    → HasRunOver history held (basis_over region c.args.options.pages (files_of now)) trace text.items ended.parts.items ended.stores.items)
-    (λ text. IsStrictlyIncreasing (lines_in trace) → IfSome old.told (λ holding. HasRunOn c.args.options holding after_it.told trace text.items))
-    (λ text ran rise.
+    (λ text. (parts : List Part) (now : List Store) → AreNow (map history region.parts.items) parts → AreNow (map held stores) now
+    → HasRunOver history held c.args.options.worker (basis_over region c.args.options.pages (files_of now)) trace text.items ended.parts.items ended.stores.items)
+    (λ text. IfSome old.told (λ holding. HasRunOn c.args.options holding after_it.told trace text.items))
+    (λ text ran.
     if_told old.told (λ holding. HasRunOn c.args.options holding after_it.told trace text.items) (λ holding told.
     let opened = told_at old.told _ holding told made.opened in
     let parts = present (map history region.parts.items) (told_at old.told _ holding told made.tell) in
-    let over = ran parts.states opened.files.held parts.are opened.files.are rise in
+    let over = ran parts.states opened.files.held parts.are opened.files.are in
     let With : List (List ℕ) → Type 0 = λ wanted. IsBasis c.args.options holding wanted (basis_over region c.args.options.pages (files_of opened.files.held)) in
     record {
       basis = basis_over region c.args.options.pages (files_of opened.files.held);
@@ -72,12 +66,12 @@ returns-clause-ran g c =
       faithful = over.faithful;
       plain = over.plain;
       text_is = over.text_is;
-      left = leaves old mid region.names holding made.lent c.requires.home told history held _ ended.parts.items ended.stores.items after_it.told over.left c.give_back.ensures.told;
+      left = leaves old mid region.names holding made.lent c.requires.home told (Some _) history held _ ended.parts.items ended.stores.items after_it.told (c.run_over-parts.ensures.many ∙ told_at old.told _ holding told made.many) over.left c.give_back.ensures.told;
     }))
-    c.run_over-ended.ensures.ran
+    c.run_over-parts.ensures.ran
 
 pub returns-in_err-region-clause-refused : goal.returns-in_err-region-clause-refused
-returns-in_err-region-clause-refused g c why is rise =
+returns-in_err-region-clause-refused g c why is =
     let old = g.T.Bench.state c.args.bench.now in
     let error = c.in_err-region.field-0.0 in
     let trace = c.args.trace.now in
@@ -90,22 +84,3 @@ returns-in_err-region-clause-refused g c why is rise =
       entries_are = refl;
       not_opened = told_at old.told _ holding told (c.in_err-region.ensures.refused why (ap Err (opening_refused error why (sym stop))));
     }))
-
--- A region that was opened is whole.
-pub returns-clause-refused : goal.returns-clause-refused
-returns-clause-refused g c why is rise =
-    let old = g.T.Bench.state c.args.bench.now in
-    let made = c.in_ok-region.ensures in
-    if_told old.told (λ holding. IsNotRun c.args.options holding c.args.trace.now.names why) (λ holding told.
-    let opened = told_at old.told _ holding told made.opened in
-    let parts = present (map g.T.Part.Lines.history c.in_ok-region.field-0.region.parts.items) (told_at old.told _ holding told made.tell) in
-    absurd (c.run_over-ended.ensures.whole why is rise parts.states opened.files.held parts.are opened.files.are))
-
-pub returns-clause-unwritten : goal.returns-clause-unwritten
-returns-clause-unwritten g c why is other rise =
-    let old = g.T.Bench.state c.args.bench.now in
-    let made = c.in_ok-region.ensures in
-    if_told old.told (λ holding. (g.T.Bench.state c.give_back.new.self).told ≡ told_after why old.told) (λ holding told.
-    let opened = told_at old.told _ holding told made.opened in
-    let parts = present (map g.T.Part.Lines.history c.in_ok-region.field-0.region.parts.items) (told_at old.told _ holding told made.tell) in
-    absurd (c.run_over-ended.ensures.whole why is rise parts.states opened.files.held parts.are opened.files.are))

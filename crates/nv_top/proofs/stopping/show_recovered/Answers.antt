@@ -16,7 +16,7 @@ pub returns-clause-shown : goal.returns-clause-shown
 returns-clause-shown g c =
     let history = g.T.Part.Lines.history in
     let held = g.T.Store.Backing.history in
-    let outcome = c.args.outcome.now in
+    let sorted = c.args.sorted in
     let found = c.in_ok-opened.found in
     let region = c.in_ok-opened.opened.region in
     let backing = c.in_ok-opened.opened.stores.items in
@@ -27,13 +27,13 @@ returns-clause-shown g c =
     let parts_now = c.into_parts.result.items in
     let same_parts : parts_now ≡ region.parts.items = ap (λ (parts : _). parts.items) c.into_parts.ensures.parts in
     IfOk-weaker c.show_fates-report.result
-    (λ text. (now : List Store) → AreNow (map held backing) now → text.items ≡ report_text (fated_report outcome found c.names.result.now (files_of now)))
-    (λ text. IfSome old.told (λ holding. ShowsRecovered holding outcome new_told text.items))
+    (λ text. (now : List Store) → AreNow (map held backing) now → text.items ≡ report_text (fated_report sorted found c.names.result.now (files_of now)))
+    (λ text. IfSome old.told (λ holding. ShowsRecovered holding sorted new_told text.items))
     (λ text text_of.
-    if_some old.told (λ holding. ShowsRecovered holding outcome new_told text.items)
+    if_some old.told (λ holding. ShowsRecovered holding sorted new_told text.items)
     (λ holding told_is.
     let Told : List _ → Type 0 = λ parts. AllTell (map history parts) in
-    shows old lent new_told holding outcome text.items found region.geometry.page region.geometry.entries region.next region.names c.names.result.now (map history parts_now) (map held backing)
+    shows old lent new_told holding sorted text.items found region.geometry.page region.geometry.entries region.next region.names c.names.result.now (map history parts_now) (map held backing)
     told_is c.requires.home opened.lent (sym c.names.ensures) text_of
     (at_some old.told (λ holding. IsRecovered holding.parts region.geometry.page region.geometry.entries region.names region.next found) holding told_is opened.recovered)
     (at_some old.told (λ holding. HoldFiles (map held backing) (files_named holding.parts region.names holding.stores)) holding told_is opened.files)

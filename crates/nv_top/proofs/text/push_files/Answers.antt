@@ -1,7 +1,7 @@
 use Rattle.std.proofs.Common.{◌≡◌, ◌++◌, ◌+◌, ◌<◌, ◌∷◌, ℕ, [], List, length, drop, ap, ◌∙◌, sym, arith}
 use Rattle.std.proofs.lemmas.List.{drop_all, append-nil}
 use Rattle.nv_trace.specs.Report.{file_text}
-use Rattle.nv_top.specs.Faithful.{named}
+use Rattle.nv_runner.specs.Faithful.{named}
 use Rattle.nv_top.specs.Reports.{file_lines}
 use Rattle.nv_look.proofs.TextLemmas.{drop-at, goes_on}
 use Rattle.nv_top.proofs.text.push_files.Goals as goal

@@ -1,5 +1,5 @@
 use Rattle.std.proofs.Common.{◌≡◌, ◌++◌, drop}
-use Rattle.nv_top.specs.Faithful.{named}
+use Rattle.nv_runner.specs.Faithful.{named}
 use Rattle.nv_top.specs.Reports.{file_lines}
 use Rattle.nv_top.proofs.text.push_files.Given as goal
 

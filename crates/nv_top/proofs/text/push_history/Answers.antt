@@ -1,8 +1,8 @@
 use Rattle.std.proofs.Common.{◌≡◌, ◌++◌, ◌+◌, ◌∷◌, [], List, map, drop, ap, ◌∙◌, sym}
 use Rattle.std.proofs.lemmas.List.{drop_all, append-nil}
 use Rattle.nv_top.specs.Reports.{history_lines}
-use Rattle.nv_top.specs.Outcomes.{placed_call}
-use Rattle.nv_top.specs.declared.outcome.Placed.{Placed}
+use Rattle.nv_runner.specs.Sorted.{placed_call}
+use Rattle.nv_runner.specs.declared.sorted.Placed.{Placed}
 use Rattle.nv_look.proofs.TextLemmas.{drop-at, goes_on}
 use Rattle.nv_top.proofs.text.push_history.Goals as goal
 

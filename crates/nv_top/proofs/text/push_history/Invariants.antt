@@ -1,6 +1,6 @@
 use Rattle.std.proofs.Common.{◌≡◌, ◌++◌, map, drop}
 use Rattle.nv_top.specs.Reports.{history_lines}
-use Rattle.nv_top.specs.Outcomes.{placed_call}
+use Rattle.nv_runner.specs.Sorted.{placed_call}
 use Rattle.nv_top.proofs.text.push_history.Given as goal
 
 -- what is there and what is to come are all

@@ -1,6 +1,6 @@
 use Rattle.std.proofs.Common.{◌≡◌, ◌++◌, ◌∙◌, ap, length}
 use Rattle.nv_trace.specs.Report.{recovered_text}
-use Rattle.nv_top.specs.Faithful.{named}
+use Rattle.nv_runner.specs.Faithful.{named}
 use Rattle.nv_top.specs.Reports.{file_lines, recovery_text}
 use Rattle.nv_top.proofs.text.recovery_text_of.Goals as goal
 

@@ -1,0 +1,106 @@
+use Rattle.std.proofs.Common.{◌≡◌, ◌+◌, ◌≤◌, ◌∙◌, ℕ, List, [], All, Ok, Err, length, map, sym, ap, subst, sum_by}
+use Rattle.std.specs.Prelude.{IfOk}
+use Rattle.std.proofs.lemmas.List.{length-map}
+use Rattle.std.proofs.lemmas.Result.{IfOk-weaker}
+use Rattle.nv_plain.specs.Faults.{Rose}
+use Rattle.nv_plain.specs.Layouts.{version_1}
+use Rattle.nv_pmem.specs.RowStates.{AreNow}
+use Rattle.nv_store.specs.Store.{Store}
+use Rattle.nv_recover.specs.Standing.{files_of}
+use Rattle.nv_header.specs.FileNames.{AreFileNames}
+use Rattle.nv_core.specs.crash.CrashImages.{OpensRegion}
+use Rattle.nv_core.specs.state.Values.{Value}
+use Rattle.nv_core.specs.steps.Opening.{IsMount}
+use Rattle.nv_table.specs.state.Opened.{Opened, mount_of}
+use Rattle.nv_table.specs.state.Views.{first_view}
+use Rattle.nv_mount.specs.RisenCounts.{failed_before}
+use Rattle.nv_runner.specs.EndedRuns.{HasOutcome}
+use Rattle.nv_runner.specs.Faithful.{Basis}
+use Rattle.nv_runner.specs.FaithfulRuns.{IsMountOf}
+use Rattle.nv_top.specs.Outcomes.{shown_report}
+use Rattle.nv_top.specs.Reports.{report_text}
+use Rattle.nv_top.specs.Runs.{BeginsMount, HasRunOver, IsQuietSpare}
+use Rattle.nv_top.specs.Stops.{RunHasCause}
+use Rattle.nv_top.proofs.CauseLemmas.{ended_cause, told_cause}
+use Rattle.nv_top.proofs.RunLemmas.{has_run}
+use Rattle.nv_top.proofs.StoppingLemmas.{failed_same}
+use Rattle.nv_top.proofs.run.run_mount.Goals as goal
+use Rattle.nv_top.proofs.run.run_mount.Goals.{in-Ok, in-Err}
+
+pub returns-clause-count : goal.returns-clause-count
+returns-clause-count g c =
+    let held = g.B.Backing.history in
+    let came = c.run_calls-ended.result.closed in
+    let many = c.run_calls-ended.ensures.ran.2.many_stores in
+    elim c.match-ended.branch [
+      | in-Ok w ↦
+          ap (λ stores. length stores.items) w.stores-is ∙ sym (length-map w.show-report.new.stores.items held) ∙ ap (λ row. length row) w.show-report.ensures.histories
+          ∙ length-map came.stores.items held ∙ many
+      | in-Err w ↦ ap (λ stores. length stores.items) w.stores-is ∙ many
+    ]
+
+pub returns-clause-ran : goal.returns-clause-ran
+returns-clause-ran g c =
+    let history = g.L.Lines.history in
+    let held = g.B.Backing.history in
+    let mount = c.args.mount in
+    let pass = c.args.pass in
+    let plan = c.args.plan in
+    let trace = c.args.trace.now in
+    let names = c.args.names.now in
+    let came = c.run_calls-ended.result.closed in
+    let ran = c.run_calls-ended.ensures.ran in
+    let zero = ran.0 in
+    elim c.match-ended.branch [
+      | in-Ok w ↦
+          let sorted = w.in-Ok.sorted in
+          let shown = w.show-report in
+          let out : HasOutcome mount.fds plan trace.calls pass (Ok sorted) zero = subst (λ outcome. HasOutcome mount.fds plan trace.calls pass outcome zero) w.in-Ok.is ran.1 in
+          let same_board = out.run_out.mount ∙ c.requires.board.same_mount in
+          subst (λ report. IfOk report (λ text. (basis : Basis) → BeginsMount basis trace mount pass → basis.names ≡ names → All IsQuietSpare pass.spare
+          → HasRunOver history held plan.worker basis trace text.items came.parts.items c.match-ended.stores.items)) (sym w.report-is)
+          (IfOk-weaker shown.result
+          (λ text. (now : List Store) → AreNow (map held came.stores.items) now → text.items ≡ report_text (shown_report sorted [] names (files_of now)))
+          (λ text. (basis : Basis) → BeginsMount basis trace mount pass → basis.names ≡ names → All IsQuietSpare pass.spare
+          → HasRunOver history held plan.worker basis trace text.items came.parts.items c.match-ended.stores.items)
+          (λ text says basis begins named spare.
+          has_run g.L.Lines.device history g.L.Lines.fault_count g.L.Lines.room g.B.Backing.device held g.B.Backing.fault_count
+          basis trace mount.fds plan pass zero sorted mount.board came.parts.items came.stores.items came.placed came.tail
+          c.runs_are_sound.ensures.runs c.passes_are_left_alone.ensures.own c.runs_keep_the_log.ensures.runs c.crashes_leave_whole_writes.ensures.region c.empty_logs_rest.ensures.rest
+          c.unstopped_runs_leave_nothing_open.ensures
+          same_board (c.requires.new ∙ ap first_view (sym c.requires.board.same_mount)) (subst (λ (o : Opened). IsMount (mount_of o)) (sym out.run_out.mount) c.sees_a_run.ensures.mount) c.requires.stop
+          c.requires.well_formed c.requires.few c.requires.lines (subst (λ these. AreFileNames version_1 these) (sym named) c.requires.names)
+          (subst (λ (o : Opened). IsMountOf basis trace o mount.fds) (sym c.requires.board.same_mount) begins.is_mount)
+          (subst (λ (o : Opened). OpensRegion (mount_of o) basis.names) (sym same_board) begins.region)
+          (subst (λ (values : List Value). All IsQuietSpare values) (sym out.run_out.spare) spare)
+          out ran.2 ran.3 text.items c.match-ended.stores.items
+          (ap (λ stores. map held stores.items) w.stores-is ∙ shown.ensures.histories)
+          (λ now are. subst (λ these. text.items ≡ report_text (shown_report sorted [] these (files_of now))) (sym named) (says now are)))
+          (subst (λ these. IfOk shown.result (λ text. (now : List Store) → AreNow (map held came.stores.items) now → text.items ≡ report_text (shown_report these [] names (files_of now))))
+          w.in-Ok.sorted-is shown.ensures.text))
+      | in-Err w ↦
+          subst (λ report. IfOk report (λ text. (basis : Basis) → BeginsMount basis trace mount pass → basis.names ≡ names → All IsQuietSpare pass.spare
+          → HasRunOver history held plan.worker basis trace text.items came.parts.items c.match-ended.stores.items)) (sym w.report-is) tt
+    ]
+
+pub returns-clause-cause : goal.returns-clause-cause
+returns-clause-cause g c =
+    let pass = c.args.pass in
+    let came = c.run_calls-ended.result.closed in
+    let ran = c.run_calls-ended.ensures.ran in
+    let by = ran.3 in
+    let parts = sum_by g.L.Lines.fault_count came.parts.items in
+    let mid = sum_by g.B.Backing.fault_count came.stores.items in
+    let before : failed_before ran.0 ≡ failed_before pass = failed_same pass ran.0 ran.1.run_out.mount ran.1.run_out.spare in
+    let grew : failed_before pass ≤ parts + mid = subst (λ (n : ℕ). n ≤ parts + mid) before by.grew in
+    elim c.match-ended.branch [
+      | in-Ok w ↦
+          let shown = w.show-report in
+          let told = told_cause (failed_before pass) parts mid (sum_by g.B.Backing.fault_count shown.new.stores.items) shown.result grew shown.ensures.never shown.ensures.cause in
+          subst (λ report. RunHasCause (failed_before pass) (parts + sum_by g.B.Backing.fault_count c.match-ended.stores.items) report) (sym w.report-is)
+          (subst (λ stores. RunHasCause (failed_before pass) (parts + sum_by g.B.Backing.fault_count stores.items) shown.result) (sym w.stores-is) told)
+      | in-Err w ↦
+          subst (λ stores. RunHasCause (failed_before pass) (parts + sum_by g.B.Backing.fault_count stores.items) c.match-ended.report) (sym w.stores-is)
+          (ended_cause (failed_before pass) (parts + mid) w.in-Err.error w.into.result c.match-ended.report w.report-is w.into.ensures grew
+          (λ fault. subst (λ (n : ℕ). Rose n (parts + mid)) before (by.stopped (ran.1.fault (w.in-Err.is ∙ ap Err fault)))))
+    ]
