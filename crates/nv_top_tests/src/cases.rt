@@ -1,5 +1,5 @@
 //! The commands that tests run, with what they print.
-use crate::commands::{RECOVER, RUN, call, filled, lose_power, new_bench};
+use crate::commands::{RECOVER, RUN, SIX_WRITES, WITH_WORKER, call, filled, lose_power, new_bench};
 use nv_pmem::Pick;
 use nv_top::{
     BAD_INPUT, BAD_REGION, DEVICE_FAULT, DONE, READ_FAULT, USAGE, WRITE_FAULT,
@@ -65,6 +65,15 @@ const THREE_WRITES: &str = "file a\nfd 0 a rw\n0 pwrite 0 0 01\n0 pwrite 0 1 02\
 const LOG_FULL: &str =
     "0 0 pwrite 0 0 1 = 1\n1 0 pwrite 0 1 1 = 1\nrefused 0 pwrite 0 2 1: again 2 0\nfile a 2 0102\nend 2 1 0\n";
 
+const ROOM_MADE: &str =
+    "0 0 pwrite 0 0 1 = 1\n1 0 pwrite 0 1 1 = 1\n2 0 pwrite 0 2 1 = 1\n3 0 pwrite 0 3 1 = 1\n4 0 pwrite 0 4 1 = 1\n5 0 pwrite 0 5 1 = 1\nfile a 6 000102030405\nend 6 0 0\n";
+
+const ONE_BUFFER: &str =
+    "file a\nfd 0 a rw\n0 pfill 0 0 128 1\n0 pread 0 0 2\n0 pwrite 0 1 0a0b\n0 pread 0 64 1\n0 pwrite 0 2 0c\n0 pread 0 0 5\n";
+
+const THROUGH_ONE_BUFFER: &str =
+    "0 0 pwrite 0 0 128 = 128\n1 0 pread 0 0 2 = 0101\n2 0 pwrite 0 1 2 = 2\n3 0 pread 0 64 1 = 01\n4 0 pwrite 0 2 1 = 1\n5 0 pread 0 0 5 = 010a0c0101\nfile a 128 010a0c";
+
 // A write whose bytes are there already is kept or lost by its number, whatever the file shows.
 const TWICE: &str = "file a\nfd 0 a rw\n0 pwrite 0 0 09\n0 pwrite 0 0 09\n";
 
@@ -78,9 +87,10 @@ const TWICE_KEPT: &str =
 // and a tail. A write of at most 64 bytes takes 12 device calls, of which the last is the fence of its commit, and the 13th is the
 // read's. Of a group each entry of one line of data takes 9, and the commit word 3: the 19th is the first of the third entry, and the
 // 30th the fence of the commit word.
-const RUNS: [(&[&str], &str, &str, &str, u64, &str); 26] = [
+const RUNS: [(&[&str], &str, &str, &str, u64, &str); 28] = [
     (RUN, HELLO, WHOLE, "", 0, ""),
-    (RUN, "", "end 0 0 0\n", "", 0, ""),
+    // Empty input.
+    (WITH_WORKER, "", "end 0 0 0\n", "", 0, ""),
     (RUN, BOUNDS, OUT_OF_BOUNDS, "", 0, ""),
     (
         RUN,
@@ -90,16 +100,18 @@ const RUNS: [(&[&str], &str, &str, &str, u64, &str); 26] = [
         0,
         "",
     ),
+    // Calls of no bytes.
     (
-        RUN,
+        WITH_WORKER,
         NO_BYTES,
         "0 0 pwrite 0 0 2 = 2\n1 0 pread 0 9 0 = -\n2 0 pwrite 0 9 0 = 0\n3 0 fsync 0 = 0\nfile a 2 0102\nend 4 0 0\n",
         "",
         0,
         "",
     ),
+    // A read-only descriptor.
     (
-        RUN,
+        WITH_WORKER,
         "file a\nfd 0 a r\n0 pwrite 0 0 01\n",
         "refused 0 pwrite 0 0 1: bad descriptor\nfile a 0 -\nend 0 1 0\n",
         "",
@@ -122,7 +134,8 @@ const RUNS: [(&[&str], &str, &str, &str, u64, &str); 26] = [
         0,
         "",
     ),
-    (RUN, GAP, GAP_READ, "00", 100, "ff\nend 3 0 0\n"),
+    // Gap and end of file.
+    (WITH_WORKER, GAP, GAP_READ, "00", 100, "ff\nend 3 0 0\n"),
     // Bytes 62 and 63 are the last ones of a page, and the next two lie behind it.
     (
         RUN,
@@ -133,14 +146,16 @@ const RUNS: [(&[&str], &str, &str, &str, u64, &str); 26] = [
         "01020304\nend 2 0 0\n",
     ),
     (RUN, MANY_PAGES, SIXTEEN, "07", 1024, "\nend 1 2 0\n"),
+    // The file limit.
     (
-        &["run", "--noworker", "--pages", "2"],
+        &["run", "--pages", "2"],
         AT_THE_LIMIT,
         UP_TO_THE_LIMIT,
         "00",
         127,
         "09\nend 3 3 0\n",
     ),
+    // A full log, and a worker that makes room in it.
     (
         &["run", "--noworker", "--entries", "2"],
         THREE_WRITES,
@@ -148,6 +163,16 @@ const RUNS: [(&[&str], &str, &str, &str, u64, &str); 26] = [
         "",
         0,
         "",
+    ),
+    (&["run", "--entries", "2"], SIX_WRITES, ROOM_MADE, "", 0, ""),
+    // One buffer.
+    (
+        &["run", "--noworker", "--cache", "1"],
+        ONE_BUFFER,
+        THROUGH_ONE_BUFFER,
+        "01",
+        125,
+        "\nend 6 0 0\n",
     ),
     (
         &["run", "--noworker", "--stop", "12", "--image", "old"],
@@ -268,7 +293,7 @@ where
     Ok(())
 }
 
-// While one thread makes the calls, rounds change nothing.
+// Where one thread makes the calls, rounds change nothing.
 const IN_ROUNDS: &str =
     "file a\nfd 0 a rw\nround\n0 pwrite 0 0 68656c6c6f\nround\nround\n0 pread 0 0 16\nround\n";
 
@@ -294,7 +319,7 @@ const BAD_LINES: [(&str, &str); 6] = [
     ("0 pread 1 0 4", "error line 3 unknown\n"),
     ("0 pread 0 00 4", "error line 3 number\n"),
     ("x", "error line 3 form\n"),
-    ("1 pread 0 0 4", "error line 3 number\n"),
+    ("8 pread 0 0 4", "error line 3 number\n"),
     ("round\nfile b", "error line 4 late\n"),
 ];
 
@@ -420,9 +445,8 @@ const BAD_VALUES: [(&str, &[&str]); 7] = [
     ),
 ];
 
-const NO_COMMANDS: [&[&str]; 36] = [
+const NO_COMMANDS: [&[&str]; 34] = [
     &[],
-    &["run"],
     &["run", "--help"],
     &["run", "--page", "65"],
     &["--noworker"],
@@ -434,7 +458,6 @@ const NO_COMMANDS: [&[&str]; 36] = [
     &["help"],
     &["--version"],
     &["-V"],
-    &["run", "--page=64"],
     &["run", "--noworker", "--help"],
     &["run", "--noworker", "-h"],
     &["run", "--noworker", "help"],

@@ -15,11 +15,17 @@ use std::thread::Threads;
 
 pub(crate) const RUN: &[&str] = &["run", "--noworker"];
 
+pub(crate) const WITH_WORKER: &[&str] = &["run"];
+
 pub(crate) const RECOVER: &[&str] = &["recover"];
 
 pub(crate) const LOOK: &[&str] = &["look"];
 
 pub(crate) const LOOK_AT_FILES: &[&str] = &["look", "--files"];
+
+// A trace of six writes of one byte, each behind the one before.
+pub(crate) const SIX_WRITES: &str =
+    "file a\nfd 0 a rw\n0 pwrite 0 0 00\n0 pwrite 0 1 01\n0 pwrite 0 2 02\n0 pwrite 0 3 03\n0 pwrite 0 4 04\n0 pwrite 0 5 05\n";
 
 pub(crate) fn strings(alloc: Global, words: &[&str]) -> Result<Vec<String>, Fail> {
     let mut strings = Vec::new(alloc);

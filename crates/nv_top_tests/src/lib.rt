@@ -11,3 +11,5 @@ mod folders;
 mod regions;
 #[cfg(test)]
 mod stops;
+#[cfg(test)]
+mod threads;

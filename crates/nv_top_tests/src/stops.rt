@@ -1,5 +1,5 @@
 //! Tests of runs that are stopped.
-use crate::commands::{RECOVER, RUN, call, filled, lose_power, new_bench};
+use crate::commands::{RECOVER, RUN, SIX_WRITES, call, filled, lose_power, new_bench};
 use nv_pmem::Pick;
 use nv_top::{DEVICE_FAULT, DONE};
 use std::process::Abort;
@@ -106,9 +106,6 @@ fn a_full_group_stopped_at_every_call(rt: HostRuntime) -> Result<(), Fail> {
     }
     Ok(())
 }
-
-const SIX_WRITES: &str =
-    "file a\nfd 0 a rw\n0 pwrite 0 0 00\n0 pwrite 0 1 01\n0 pwrite 0 2 02\n0 pwrite 0 3 03\n0 pwrite 0 4 04\n0 pwrite 0 5 05\n";
 
 // The reports of a later run that makes no call, after some of the writes.
 const FRONTS: [&[u8]; 7] = [
