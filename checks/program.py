@@ -15,6 +15,10 @@ REPORT = b"0 0 pwrite 0 0 5 = 5\n1 0 pread 0 0 16 = 68656c6c6f\nfile a 5 68656c6
 USAGE = (b"error usage\n", 1)
 READ = (b"error read\n", 3)
 RUN = [b"run", b"--noworker"]
+IN_ROUNDS = b"file a\nfd 0 a rw\n0 pwrite 0 0 01\nround\n1 pread 0 0 8\nround\n0 pwrite 0 1 02\n"
+IN_TURN = b"0 0 pwrite 0 0 1 = 1\n1 1 pread 0 0 8 = 01\n2 0 pwrite 0 1 1 = 1\nfile a 2 0102\nend 3 0 0\n"
+SIX_WRITES = b"file a\nfd 0 a rw\n" + b"".join(b"0 pwrite 0 %d 0%d\n" % (k, k) for k in range(6))
+ROOM_MADE = b"".join(b"%d 0 pwrite 0 %d 1 = 1\n" % (k, k) for k in range(6)) + b"file a 6 000102030405\nend 6 0 0\n"
 STOPPED = b"refused 0 pread 0 0 16: stopped\nopen 0 pwrite 0 0 5: %s\nfile a %s\nend 0 1 1\n"
 
 
@@ -25,6 +29,10 @@ def line(number, why):
 # What the words and the input make of the program. No byte of the input is read where the words are no command.
 TABLE = [
     ("hello", RUN, HELLO, (REPORT, 0)),
+    ("the command alone", [b"run"], HELLO, (REPORT, 0)),
+    ("two threads in rounds", [b"run"], IN_ROUNDS, (IN_TURN, 0)),
+    ("two threads in rounds and no worker", RUN, IN_ROUNDS, (IN_TURN, 0)),
+    ("a worker that makes room", [b"run", b"--entries", b"2"], SIX_WRITES, (ROOM_MADE, 0)),
     ("no line feed at the end", RUN, HELLO[:-1], (REPORT, 0)),
     ("an empty input", RUN, b"", (b"end 0 0 0\n", 0)),
     ("stopped, the write lost", RUN + [b"--stop", b"12"], HELLO, (STOPPED % (b"lost", b"0 -"), 0)),
@@ -43,7 +51,6 @@ TABLE = [
     ("an option of a look", [b"look", b"--noworker"], HELLO, USAGE),
     ("the option of a look twice", [b"look", b"--files", b"--files"], HELLO, USAGE),
     ("no words", [], HELLO, USAGE),
-    ("the command alone", [b"run"], HELLO, USAGE),
     ("the option alone", [b"--noworker"], HELLO, USAGE),
     ("words exchanged", [b"--noworker", b"run"], HELLO, USAGE),
     ("the option twice", RUN + [b"--noworker"], HELLO, USAGE),
@@ -59,6 +66,7 @@ TABLE = [
     ("a bad first line", RUN, b"x\n" + HELLO, line(1, b"form")),
     ("a bad second line", RUN, b"file a\nx\n", line(2, b"form")),
     ("a bad last line that no line feed ends", RUN, HELLO + b"0 pread 0 0", line(5, b"form")),
+    ("a ninth thread", RUN, HELLO + b"8 fsync 0\n", line(5, b"number")),
     ("a byte that no line has", RUN, HELLO + b"\xff\n", line(5, b"bytes")),
     ("an input of the limit", RUN, b"#" * 67_108_864, (b"end 0 0 0\n", 0)),
     ("an input past the limit", RUN, b"#" * 67_108_865, (b"error input long\n", 2)),
