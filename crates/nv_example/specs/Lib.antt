@@ -1,0 +1,2 @@
+-- Ready: what each call asks of its pass, and leaves so.
+pub mod Ready

@@ -1,0 +1,89 @@
+//! The library by an example. Ann and Bob, two threads, write records to one file through a mount over a folder, which the first
+//! word names, and read them back; then the log is carried to the file, and the mount is closed.
+#![tactic(auto)]
+
+ghost use Rattle.std.specs.Prelude.{◌≡◌, ◌<◌, [], false, IfSome};
+ghost use Rattle.nv_bench.specs.Holding.{IsQuietHolding};
+ghost use Rattle.nv_table.specs.passes.Alone.{IsAlone};
+ghost use Rattle.nv_table.specs.state.Views.{made_of};
+ghost use Rattle.nv_example.specs.Ready.{IsReady};
+
+mod calls;
+
+use anyhow::Context;
+use calls::{clean, keep_both, show};
+use nv_bench::{Bench, FolderBench};
+use nv_header::Names;
+use nv_mount::{Fds, Mount};
+use nv_open::{Opened, open};
+use nv_plain::{Bytes, Mode};
+use nv_pmem::{Geometry, Lines};
+use nv_store::Backing;
+use nv_table::{Pass, Workspace, join_pass, passes_stay_between_calls, split_pass};
+use std::alloc::Global;
+use std::env;
+use std::sync::Wait;
+use std::thread::Threads;
+
+fn main(rt: HostRuntime) -> anyhow::Result<()> {
+    let alloc = rt.alloc();
+    let folder = env::args(&rt)?.nth(1).context("usage: nv_example FOLDER")?;
+    let mut bench = FolderBench::new(rt, alloc, folder.as_str())?;
+    run(&rt, alloc, &mut bench)
+}
+
+// Opens the region of a bench, with the file `records`, and a mount over it; and ends both.
+fn run<R: Threads + Wait + Print + Sync, T: Bench>(
+    rt: &R,
+    alloc: Global,
+    bench: &mut T,
+) -> anyhow::Result<()>
+    requires closed { (T.state bench.old).is_open ≡ false }
+    requires home { (T.state bench.old).lent ≡ [] }
+    requires quiet { IfSome (T.state bench.old).told IsQuietHolding }
+{
+    let mut names = Names::new(alloc);
+    names.push(Bytes::from_vec(Vec::from_slice(alloc, b"records")?))?;
+    let Opened { region, stores } = open(alloc, bench, Geometry::new(4096, 64)?, &names)?;
+    let mut known = region.names().as_slice().iter();
+    let file = known.position(|name| name.as_slice() == b"records".as_slice());
+    let mut fds = Fds::new(alloc);
+    let fd = fds.open(file.context("the file isn't there")? as u64, Mode::Rw)?;
+    let (mount, mut ann) = match Mount::open(alloc, region, stores, fds, 16, 8) {
+        Ok(made) => made,
+        Err(unopened) => return Err(unopened.error.into()),
+    };
+    let result = call(rt, alloc, &mount, &mut ann, fd);
+    ann.bare_is_still();
+    match mount.close(ann) {
+        Ok(closed) => bench.give_back(closed.parts, closed.stores),
+        Err(_passes_are_out) => unreachable!(),
+    }
+    result
+}
+
+// Ann calls by pass 0, which makes a pass for Bob and takes it in.
+fn call<R: Threads + Wait + Print + Sync, L: Lines + Drop + Send, B: Backing + Drop + Send>(
+    rt: &R,
+    alloc: Global,
+    mount: &Mount<L, B>,
+    ann: &mut Pass<L, B>,
+    fd: u64,
+) -> anyhow::Result<()>
+    requires ready { IsReady mount.now.board ann.old }
+    requires alone { IsAlone ann.old.view }
+    requires few { made_of ann.old.view < 10 }
+    ensures ready { IsReady mount.now.board ann.new }
+    ensures alone { IsAlone ann.new.view }
+{
+    passes_stay_between_calls();
+    let mut ann_desk = Workspace::new(alloc, mount.board().layout())?;
+    let mut bob_desk = Workspace::new(alloc, mount.board().layout())?;
+    let mut bob = split_pass(alloc, mount.board(), ann)?;
+    let kept = keep_both(rt, mount, ann, &mut ann_desk, &mut bob, &mut bob_desk, fd);
+    bob.bare_is_still();
+    join_pass(mount.board(), ann, bob);
+    kept?;
+    show(rt, mount, ann, fd)?;
+    clean(rt, mount, ann)
+}
