@@ -1,6 +1,7 @@
 #!/usr/bin/env bash
-# Prints how long `nv_sim run` takes for a trace of 200,000 calls, or of as many as the first word says, by one thread and by four, with a worker beside them and without: three writes of 64 bytes to one
-# read of 64, over 64 pages; the middle one of five runs, less that of a trace of no calls; and the peak memory in bytes a byte of the trace. For short calls it prints the bytes a call.
+# Prints how long `nv_sim run` takes for a trace of 200,000 calls, or of as many as the first word says, by one thread and by four, with a worker beside them: three writes of 64 bytes to one read of 64,
+# over 64 pages; the middle one of five runs, and a call's part less the run of a trace of no calls; and the peak memory in bytes a byte of the trace. For reads of no bytes, without a worker, it
+# prints the bytes of memory a call.
 set -eu
 cd "$(dirname "$0")/../crates/nv_sim"
 [ -x out/nv_sim ] || rt run -- run --noworker < stdin > /dev/null
