@@ -1,12 +1,10 @@
-//! Tests of regions and logs by their public calls. As `nv_device_tests`, it has no code of its own.
+//! Tests of regions by their public calls. As `nv_device_tests`, it has no code of its own.
 #![tactic(auto)]
 
 #[cfg(test)]
 mod given;
 #[cfg(test)]
 mod headers;
-#[cfg(test)]
-mod logs;
 #[cfg(test)]
 mod openings;
 #[cfg(test)]
